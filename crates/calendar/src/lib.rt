@@ -1,0 +1,2 @@
+//! calendar.
+#![tactic(auto)]

@@ -1,0 +1,2 @@
+//! calendar_clock.
+#![tactic(auto)]

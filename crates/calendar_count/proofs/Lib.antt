@@ -1,0 +1,5 @@
+pub mod Signed
+pub mod CountLemmas
+pub mod ViewLemmas
+pub mod MarchLemmas
+pub mod TheDayLemmas

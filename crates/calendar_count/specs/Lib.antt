@@ -1,0 +1,9 @@
+pub mod Range
+pub mod Calendar
+pub mod TheDay
+pub mod Closed
+pub mod Place
+pub mod Month
+pub mod Weekday
+pub mod March
+pub mod ComponentRange

@@ -1,0 +1,114 @@
+//! Years, months and days by division.
+ghost use Rattle.std.specs.Prelude.{◌≡◌, ◌+◌, ◌-◌, ◌<◌, ◌≤◌, pos, ◌+ℤ◌, ◌↔◌, IsTrue};
+ghost use Rattle.std.specs.Int.{IsInRange, int_rem_euclid};
+ghost use Rattle.calendar_count.specs.Range.{greatest_year, IsYear};
+ghost use Rattle.calendar_count.specs.Calendar.{days_in_year, days_in_month, weeks_in_year};
+ghost use Rattle.calendar_count.specs.Closed.{days_before_year};
+
+use crate::range::GREATEST_YEAR;
+use crate::util;
+
+/// The years since the first one.
+pub fn years_since(year: i32) -> u32
+    requires { IsYear year }
+    ensures value { year +ℤ pos greatest_year ≡ pos result }
+    ensures bound { result ≤ greatest_year + greatest_year }
+{
+    (year + GREATEST_YEAR) as u32
+}
+
+/// The year so many years after the first one.
+pub fn year_after(years: u32) -> i32
+    requires { years ≤ greatest_year + greatest_year }
+    ensures value { result +ℤ pos greatest_year ≡ pos years }
+    ensures bound { IsYear result }
+{
+    years as i32 - GREATEST_YEAR
+}
+
+/// The days of the first years.
+pub fn before_year(years: u32) -> u32
+    requires { years ≤ greatest_year + greatest_year + 1 }
+    ensures { result ≡ days_before_year years }
+{
+    365 * years + years / 4 - years / 100 + years / 400
+}
+
+/// The years whose days have passed, and the days after them.
+pub fn split_years(count: u32) -> (u32, u16)
+    requires { count < 1_000_000_000 }
+    ensures value { days_before_year result.0 + result.1 ≡ count }
+    ensures within { count < days_before_year (result.0 + 1) }
+{
+    let scaled = 4 * count + 3;
+    let century = scaled / 146_097;
+    let in_century = scaled % 146_097 / 4 * 4 + 3;
+    (
+        100 * century + in_century / 1461,
+        (in_century % 1461 / 4) as u16,
+    )
+}
+
+/// Whether the crate has the year.
+pub fn has_year(year: i32) -> bool
+    ensures { IsTrue result ↔ IsYear year }
+{
+    -GREATEST_YEAR <= year && year <= GREATEST_YEAR
+}
+
+/// The days of a month by its number.
+pub fn month_length(year: i32, month: u8) -> u8
+    ensures { result ≡ days_in_month year month }
+{
+    match month {
+        2 => {
+            if util::is_leap_year(year) {
+                29
+            } else {
+                28
+            }
+        }
+        4 | 6 | 9 | 11 => 30,
+        _ => 31,
+    }
+}
+
+/// Whether the month has the day.
+pub fn has_day(year: i32, month: u8, day: u8) -> bool
+    ensures { IsTrue result ↔ IsInRange 1 (days_in_month year month) day }
+{
+    if day <= 28 {
+        1 <= day
+    } else {
+        day <= month_length(year, month)
+    }
+}
+
+/// Whether the year has the place.
+pub fn has_ordinal(year: i32, ordinal: u16) -> bool
+    ensures { IsTrue result ↔ IsInRange 1 (days_in_year year) ordinal }
+{
+    if ordinal <= 365 {
+        1 <= ordinal
+    } else {
+        ordinal <= util::days_in_year(year)
+    }
+}
+
+// The place of a year in the 400 years from the first one on.
+fn cycle_place(year: i32) -> u32
+    ensures value { int_rem_euclid (year +ℤ pos greatest_year) (pos 400) ≡ pos result }
+    ensures bound { result < 400 }
+{
+    (year.rem_euclid(400) + GREATEST_YEAR) as u32 % 400
+}
+
+/// The weeks of ISO 8601 of a year: its Thursdays.
+pub fn weeks_in_year(year: i32) -> u8
+    ensures { result ≡ weeks_in_year year }
+{
+    let years = cycle_place(year);
+    let start = before_year(years);
+    let end = before_year(years + 1);
+    ((end + 3) / 7 - (start + 3) / 7) as u8
+}

@@ -1,0 +1,2 @@
+//! calendar_dates.
+#![tactic(auto)]

@@ -1,0 +1,2 @@
+//! datetime.
+#![tactic(auto)]

@@ -1,0 +1,2 @@
+//! datetime_types.
+#![tactic(auto)]

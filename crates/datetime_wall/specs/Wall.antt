@@ -1,0 +1,52 @@
+-- Wall clocks and instants, each one whole number of nanoseconds, and an instant as a clock at an offset shows it.
+use Rattle.std.specs.Prelude.{ℕ, ◌+◌, ◌-◌, ◌*◌, Bool, ◌&&◌, Option, None, Some, if◌then◌else◌, ℤ, pos, neg_ℤ, ◌+ℤ◌, ◌-ℤ◌, ◌*ℤ◌, ◌≤ℤ◌, int_le, unsigned_abs}
+use Rattle.std.specs.Int.{int_div_euclid, int_rem_euclid}
+use Rattle.calendar_count.specs.Range.{last_count, unix_epoch}
+
+abbrev pub second_nanos : ℕ
+second_nanos = 1_000_000_000
+
+abbrev pub day_nanos : ℕ
+day_nanos = 86_400_000_000_000
+
+-- what a clock shows on a day, by its count, at a nanosecond of the day: the nanoseconds since 1970 began on that clock
+unfoldable pub wall_clock : ℕ → ℕ → ℤ
+wall_clock day nanosecond = (pos day -ℤ pos unix_epoch) *ℤ pos day_nanos +ℤ pos nanosecond
+
+-- the day that a wall clock shows, by its count
+unfoldable pub day_of : ℤ → ℕ
+day_of wall = unsigned_abs (int_div_euclid wall (pos day_nanos) +ℤ pos unix_epoch)
+
+-- and the nanosecond of that day
+unfoldable pub nanosecond_of : ℤ → ℕ
+nanosecond_of wall = unsigned_abs (int_rem_euclid wall (pos day_nanos))
+
+-- the first and the last wall clock of the days that the calendar has
+abbrev pub first_wall_clock : ℤ
+first_wall_clock = neg_ℤ (pos (unix_epoch * day_nanos))
+
+abbrev pub last_wall_clock : ℤ
+last_wall_clock = pos ((last_count + 1 - unix_epoch) * day_nanos - 1)
+
+abbrev pub IsWallClock : ℤ → Type 0
+IsWallClock wall = (first_wall_clock ≤ℤ wall) × (wall ≤ℤ last_wall_clock)
+
+abbrev pub is_wall_clock : ℤ → Bool
+is_wall_clock wall = int_le first_wall_clock wall && int_le wall last_wall_clock
+
+-- a moment as a clock shows it: the wall clock, and the clock's offset from UTC in seconds
+pub record Shown : Type 0 where
+  pub wall : ℤ
+  pub offset : ℤ
+
+-- its instant: the nanoseconds since 1970 began in UTC
+abbrev pub instant : Shown → ℤ
+instant m = m.wall -ℤ m.offset *ℤ pos second_nanos
+
+-- the wall clock of an instant at an offset
+abbrev pub wall_at : ℤ → ℤ → ℤ
+wall_at offset i = i +ℤ offset *ℤ pos second_nanos
+
+-- an instant as the clock at an offset shows it, where the calendar has the day there
+abbrev pub shown_at : ℤ → ℤ → Option Shown
+shown_at offset i = if is_wall_clock (wall_at offset i) then Some (record { wall = wall_at offset i; offset = offset }) else None

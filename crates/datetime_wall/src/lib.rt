@@ -1,0 +1,2 @@
+//! datetime_wall.
+#![tactic(auto)]

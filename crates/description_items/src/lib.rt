@@ -1,0 +1,2 @@
+//! description_items.
+#![tactic(auto)]

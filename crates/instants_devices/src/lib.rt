@@ -1,0 +1,2 @@
+//! instants_devices.
+#![tactic(auto)]

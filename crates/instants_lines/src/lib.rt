@@ -1,0 +1,2 @@
+//! instants_lines.
+#![tactic(auto)]

@@ -1,0 +1,2 @@
+//! instants_stream.
+#![tactic(auto)]

@@ -1,0 +1,2 @@
+//! instants_words.
+#![tactic(auto)]

@@ -1,0 +1,2 @@
+//! parsing.
+#![tactic(auto)]

@@ -1,0 +1,2 @@
+//! parsing_pieces.
+#![tactic(auto)]

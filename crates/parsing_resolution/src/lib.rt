@@ -1,0 +1,2 @@
+//! parsing_resolution.
+#![tactic(auto)]

@@ -1,0 +1,2 @@
+//! parsing_rfc3339.
+#![tactic(auto)]

@@ -1,0 +1,2 @@
+//! parsing_trait.
+#![tactic(auto)]
