@@ -24,10 +24,10 @@ first_passing-one p (suc n) d low here only =
     elim (cases_lt d n) [
       | inl lt ↦ rw (first_passing-one p n d lt here (λ k small passes. only k (omega arith) passes)) refl
       | inr ge ↦
-        let last : n ≡ d = omega arith in
-        let before : (k : ℕ) → k < n → p k ≡ false = λ k small. false_from_ne_true (p k) (λ passes. absurd (let same = only k (omega arith) passes in omega arith)) in
-        let here_too : p n ≡ true = rw last here in
-        rw (first_passing-none p n before, here_too) (rw last refl)
+          let last : n ≡ d = omega arith in
+          let before : (k : ℕ) → k < n → p k ≡ false = λ k small. false_from_ne_true (p k) (λ passes. absurd (let same = only k (omega arith) passes in omega arith)) in
+          let here_too : p n ≡ true = rw last here in
+          rw (first_passing-none p n before, here_too) (rw last refl)
     ]
 
 -- the one day of the calendar that passes

@@ -9,6 +9,7 @@ use crate::range::GREATEST_YEAR;
 use crate::util;
 
 /// The years since the first one.
+#[inline(always)]
 pub fn years_since(year: i32) -> u32
     requires { IsYear year }
     ensures value { year +ℤ pos greatest_year ≡ pos result }
@@ -18,6 +19,7 @@ pub fn years_since(year: i32) -> u32
 }
 
 /// The year so many years after the first one.
+#[inline(always)]
 pub fn year_after(years: u32) -> i32
     requires { years ≤ greatest_year + greatest_year }
     ensures value { result +ℤ pos greatest_year ≡ pos years }
@@ -27,6 +29,7 @@ pub fn year_after(years: u32) -> i32
 }
 
 /// The days of the first years.
+#[inline(always)]
 pub fn before_year(years: u32) -> u32
     requires { years ≤ greatest_year + greatest_year + 1 }
     ensures { result ≡ days_before_year years }
@@ -35,6 +38,7 @@ pub fn before_year(years: u32) -> u32
 }
 
 /// The years whose days have passed, and the days after them.
+#[inline(always)]
 pub fn split_years(count: u32) -> (u32, u16)
     requires { count < 1_000_000_000 }
     ensures value { days_before_year result.0 + result.1 ≡ count }
@@ -50,6 +54,7 @@ pub fn split_years(count: u32) -> (u32, u16)
 }
 
 /// Whether the crate has the year.
+#[inline(always)]
 pub fn has_year(year: i32) -> bool
     ensures { IsTrue result ↔ IsYear year }
 {
@@ -57,23 +62,19 @@ pub fn has_year(year: i32) -> bool
 }
 
 /// The days of a month by its number.
+#[inline(always)]
 pub fn month_length(year: i32, month: u8) -> u8
     ensures { result ≡ days_in_month year month }
 {
     match month {
-        2 => {
-            if util::is_leap_year(year) {
-                29
-            } else {
-                28
-            }
-        }
+        2 => { if util::is_leap_year(year) { 29 } else { 28 } }
         4 | 6 | 9 | 11 => 30,
         _ => 31,
     }
 }
 
 /// Whether the month has the day.
+#[inline(always)]
 pub fn has_day(year: i32, month: u8, day: u8) -> bool
     ensures { IsTrue result ↔ IsInRange 1 (days_in_month year month) day }
 {
@@ -85,6 +86,7 @@ pub fn has_day(year: i32, month: u8, day: u8) -> bool
 }
 
 /// Whether the year has the place.
+#[inline(always)]
 pub fn has_ordinal(year: i32, ordinal: u16) -> bool
     ensures { IsTrue result ↔ IsInRange 1 (days_in_year year) ordinal }
 {

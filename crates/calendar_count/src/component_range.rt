@@ -101,7 +101,7 @@ impl fmt::Display for ComponentRange {
 
     fn fmt<W: fmt::Write>(&self, f: &mut fmt::Formatter<W>) -> fmt::Result {
         f.write_str(self.name())?;
-        f.write_str(if self.is_conditional {
+        f.write_str(if self.is_conditional() {
             " was not in range given values of other parameters"
         } else {
             " was not in range"

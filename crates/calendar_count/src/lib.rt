@@ -6,6 +6,8 @@ mod component_range;
 pub mod march;
 mod month;
 pub mod range;
+#[cfg(test)]
+mod tests;
 pub mod util;
 mod weekday;
 

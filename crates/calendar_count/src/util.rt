@@ -3,10 +3,10 @@ ghost use Rattle.std.specs.Prelude.{◌≡◌};
 ghost use Rattle.calendar_count.specs.Calendar.{is_leap_year, days_in_year, days_in_month, weeks_in_year};
 ghost use Rattle.calendar_count.specs.Month.{month_number};
 
-use crate::Month;
-use crate::closed;
+use crate::{Month, closed};
 
 /// Whether the year has 29 February.
+#[inline(always)]
 pub fn is_leap_year(year: i32) -> bool
     ensures { result ≡ is_leap_year year }
 {
@@ -15,6 +15,7 @@ pub fn is_leap_year(year: i32) -> bool
 }
 
 /// The days of a year, 365 or 366.
+#[inline(always)]
 pub fn days_in_year(year: i32) -> u16
     ensures { result ≡ days_in_year year }
 {
