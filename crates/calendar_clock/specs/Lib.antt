@@ -1,0 +1,4 @@
+pub mod Digits
+pub mod Time
+pub mod TimeParts
+pub mod UtcOffset

@@ -1,2 +1,7 @@
-//! calendar_dates.
+//! Dates.
 #![tactic(auto)]
+
+mod date;
+mod text;
+
+pub use date::Date;

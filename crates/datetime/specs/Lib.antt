@@ -1,0 +1,2 @@
+pub use Rattle.datetime_wall.specs.Wall
+pub use Rattle.datetime_types.specs.OffsetDateTime

@@ -1,2 +1,6 @@
-//! datetime_types.
+//! Dates with times of day.
 #![tactic(auto)]
+
+mod offset_date_time;
+
+pub use offset_date_time::OffsetDateTime;

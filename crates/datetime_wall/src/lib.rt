@@ -1,2 +1,4 @@
-//! datetime_wall.
+//! Wall clocks and instants.
 #![tactic(auto)]
+
+pub mod wall;

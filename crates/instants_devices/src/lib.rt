@@ -1,2 +1,14 @@
-//! instants_devices.
+//! What a run over a stream reads from and writes to.
 #![tactic(auto)]
+
+mod cut_reader;
+mod cut_writer;
+mod devices;
+mod std_devices;
+#[cfg(test)]
+mod tests;
+
+pub use cut_reader::CutReader;
+pub use cut_writer::CutWriter;
+pub use devices::{ByteReader, ByteWriter, DeviceFailed, write_all};
+pub use std_devices::{StdReader, StdWriter};

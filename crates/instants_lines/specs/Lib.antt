@@ -1,0 +1,3 @@
+pub mod Decimal
+pub mod Text
+pub mod Padded

@@ -1,2 +1,12 @@
-//! instants_stream.
+//! One answer for each line of a stream, written as the stream is read.
 #![tactic(auto)]
+
+mod answers_lines;
+pub mod laws;
+mod run;
+mod search;
+#[cfg(test)]
+mod tests;
+
+pub use answers_lines::AnswersLines;
+pub use run::{RunFault, run_lines};

@@ -1,2 +1,13 @@
-//! instants_words.
+//! The words of the program: an offset to show moments in, an offset to assume, a limit, and sources.
 #![tactic(auto)]
+
+mod fault;
+mod pieces;
+mod sources;
+#[cfg(test)]
+mod tests;
+mod words;
+
+pub use fault::WordsFault;
+pub use sources::{SourceText, Sources};
+pub use words::{Words, read_words};

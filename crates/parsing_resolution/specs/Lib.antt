@@ -1,0 +1,3 @@
+pub mod MonthEnd
+pub mod Resolution
+pub mod StandIn

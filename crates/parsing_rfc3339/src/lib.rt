@@ -1,2 +1,8 @@
-//! parsing_rfc3339.
+//! The direct reading of RFC 3339.
 #![tactic(auto)]
+
+mod direct;
+mod reading;
+mod written;
+
+pub use direct::read;

@@ -1,0 +1,5 @@
+use Rattle.calendar_count.proofs.ViewLemmas.{place_sunday_week}
+use Rattle.calendar_dates.proofs.date.Date.sunday_based_week.Goals as goal
+
+pub returns-clause-value : goal.returns-clause-value
+returns-clause-value c = rw c.count.ensures.value (place_sunday_week _ _ c.args.self c.place-ordinal.ensures.valid c.place-ordinal.ensures.count)

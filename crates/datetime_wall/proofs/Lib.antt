@@ -1,0 +1,3 @@
+pub mod WallLemmas
+pub mod MovedLemmas
+pub mod ShownLemmas

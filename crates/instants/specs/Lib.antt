@@ -1,0 +1,4 @@
+pub mod Refusal
+pub mod Sources
+pub mod Place
+pub mod ProgramText

@@ -1,0 +1,58 @@
+-- A line's place on the timeline, and the answer that is written for it.
+use Rattle.std.specs.Prelude.{◌≡◌, ℕ, ◌<◌, ◌%◌, Bool, List, [], ◌∷◌, Option, None, Some, Result, Ok, Err, if◌then◌else◌, ℤ, unsigned_abs}
+use Rattle.std.specs.Option.{ok_or}
+use Rattle.std.specs.Result.{result_ok}
+use Rattle.datetime_wall.specs.Wall.{Shown, instant, shown_at}
+use Rattle.parsing_pieces.specs.Fault.{Fault, insufficient}
+use Rattle.parsing_rfc3339.specs.Direct.{direct}
+use Rattle.instants_lines.specs.Text.{moment_text, has_written_year}
+use Rattle.instants.specs.Refusal.{Refusal, year, refusal_of, refusal_said, refusal_text}
+use Rattle.instants.specs.declared.line_fault.LineFault.{LineFault}
+use Rattle.instants.specs.declared.source.Source.{Source}
+use Rattle.instants.specs.declared.source.Source.TheVariants.{Rfc3339}
+
+-- what a timeline is made of: its sources in order, and the offset in which moments are shown
+pub record Setting : Type 0 where
+  pub sources : List Source
+  pub target : ℤ
+
+-- what a source names for a whole line: a moment, or its fault
+abbrev pub named : Source → List ℕ → Result Shown Fault
+named Rfc3339 line = direct line
+
+-- the moment, or else that of the others, or else the fault
+abbrev pub or_named : Result Shown Fault → Option Shown → Result Shown Fault
+or_named (Ok moment) others = Ok moment
+or_named (Err fault) others = ok_or others fault
+
+-- what the first source that names a moment names, and else the first source's fault
+unfoldable pub first_named : List Source → List ℕ → Result Shown Fault
+first_named [] line = Err insufficient
+first_named (source ∷ others) line = or_named (named source line) (result_ok (first_named others line))
+
+-- a moment whose year is written in four digits
+abbrev pub in_written_years : Option Shown → Result Shown Refusal
+in_written_years (Some moment) = if has_written_year moment then Ok moment else Err year
+in_written_years None = Err year
+
+-- the moment as it is shown at the target, or why it isn't
+abbrev pub shown_or_refused : ℤ → Result Shown Fault → Result Shown Refusal
+shown_or_refused target (Ok moment) = in_written_years (shown_at target (instant moment))
+shown_or_refused target (Err fault) = Err (refusal_of fault)
+
+-- a line's place: the moment that the first source with one names for the whole line, shown at the target
+unfoldable pub place_of : Setting → List ℕ → Result Shown Refusal
+place_of setting line = shown_or_refused setting.target (first_named setting.sources line)
+
+-- a call answered a line's place
+abbrev pub IsPlace : Result Shown LineFault → Result Shown Refusal → Type 0
+IsPlace (Ok moment) place = place ≡ Ok moment
+IsPlace (Err fault) place = place ≡ Err (refusal_said fault)
+
+abbrev pub place_text : Result Shown Refusal → List ℕ
+place_text (Ok moment) = moment_text moment
+place_text (Err refusal) = refusal_text refusal
+
+-- the answer to a line: its place as a date-time of fixed width, or why it has none
+unfoldable pub answer_to : Setting → List ℕ → List ℕ
+answer_to setting line = place_text (place_of setting line)

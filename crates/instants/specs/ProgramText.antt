@@ -1,0 +1,41 @@
+-- What the program says on standard error, and the status that it ends with.
+use Rattle.std.specs.Prelude.{ℕ, List, ◌++◌, codes}
+use Rattle.std.specs.Fmt.{decimal}
+use Rattle.instants_words.specs.declared.fault.WordsFault.{WordsFault}
+use Rattle.instants_words.specs.declared.fault.WordsFault.TheVariants as words
+use Rattle.instants_stream.specs.declared.run.RunFault.{RunFault}
+use Rattle.instants_stream.specs.declared.run.RunFault.TheVariants as run
+use Rattle.instants.specs.declared.timeline.NewFault.{NewFault}
+use Rattle.instants.specs.declared.timeline.NewFault.TheVariants as new
+use Rattle.instants.specs.declared.program_fault.ProgramFault.{ProgramFault}
+use Rattle.instants.specs.declared.program_fault.ProgramFault.TheVariants as program
+
+abbrev memory_text : List ℕ
+memory_text = codes "instants: out of memory"
+
+abbrev words_text : WordsFault → List ℕ
+words_text words.Usage = codes "instants: usage: instants TARGET ASSUMED LIMIT SOURCE..."
+words_text words.Target = codes "instants: the target offset must be +HH:MM or -HH:MM"
+words_text words.Assumed = codes "instants: the assumed offset must be +HH:MM, -HH:MM or -"
+words_text words.Limit = codes "instants: the limit must be a number from 1 to 1048576"
+words_text (words.Source place) = codes "instants: source " ++ decimal place ++ codes " is not a known source with its description"
+words_text words.Memory = memory_text
+
+-- the sentence for a fault, without a line feed
+abbrev pub sentence : ProgramFault → List ℕ
+sentence (program.Words fault) = words_text fault
+sentence (program.New new.Memory) = memory_text
+sentence (program.Run run.Read) = codes "instants: reading failed"
+sentence (program.Run run.Write) = codes "instants: writing failed"
+sentence program.Memory = memory_text
+
+abbrev words_status : WordsFault → ℕ
+words_status words.Memory = 1
+words_status _ = 2
+
+-- 2 where the words are wrong, 1 where memory, reading or writing failed
+abbrev pub status_of : ProgramFault → ℕ
+status_of (program.Words fault) = words_status fault
+status_of (program.New fault) = 1
+status_of (program.Run fault) = 1
+status_of program.Memory = 1

@@ -1,0 +1,3 @@
+//! Laws of what is answered.
+
+pub use instants_stream::laws::joined_streams;

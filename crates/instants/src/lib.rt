@@ -1,0 +1,23 @@
+//! Lines with dates onto one timeline: each line of a stream is answered by a date-time of fixed width in one target
+//! offset, or by why it has none.
+#![tactic(auto)]
+
+pub mod laws;
+mod line_fault;
+mod program_fault;
+mod stream;
+mod source;
+mod timeline;
+
+pub use line_fault::LineFault;
+pub use program_fault::ProgramFault;
+pub use stream::run;
+pub use source::Source;
+pub use timeline::{NewFault, Timeline};
+
+pub use instants_devices::{
+    ByteReader, ByteWriter, CutReader, CutWriter, DeviceFailed, StdReader, StdWriter,
+};
+pub use instants_lines::{Answer, fits_line, rfc3339_line};
+pub use instants_stream::RunFault;
+pub use instants_words::{SourceText, Words, WordsFault, read_words};

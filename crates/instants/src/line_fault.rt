@@ -1,0 +1,79 @@
+//! Why a line has no place on the timeline.
+ghost use Rattle.std.specs.Prelude.{◌≡◌, ◌≤◌, length};
+
+use instants_lines::Answer;
+use parsing::{Parse, ParseFromDescription, TryFromParsed};
+
+/// Why a line has no place on the timeline. The names are those of components.
+#[derive(Clone, Copy, Debug, PartialEq, Eq)]
+pub enum LineFault {
+    /// A text that is due is not there.
+    Literal,
+    /// The component of this name can't be read.
+    Component(&'static str),
+    /// Something follows what was read.
+    Trailing,
+    /// What was read names no moment.
+    Insufficient,
+    /// The component of this name is out of range.
+    Range(&'static str),
+    /// The year that is shown at the target offset is not 0 to 9999.
+    Year,
+    /// The line is longer than the limit.
+    Long,
+}
+
+impl LineFault {
+    ghost use Rattle.instants.specs.Refusal.{IsShort, refusal_said, refusal_text};
+
+    // What is written for a line in place of a date-time.
+    #[cold]
+    pub(crate) fn answer(self) -> Answer
+        requires { IsShort (refusal_said self) }
+        ensures bytes { result ≡ refusal_text (refusal_said self) }
+        ensures room { length result ≤ 63 }
+    {
+        let mut answer = Answer::new();
+        match self {
+            LineFault::Literal => answer.push_bytes(b"! literal"),
+            LineFault::Component(name) => {
+                answer.push_bytes(b"! component ");
+                answer.push_bytes(name.as_bytes());
+            }
+            LineFault::Trailing => answer.push_bytes(b"! trailing"),
+            LineFault::Insufficient => answer.push_bytes(b"! insufficient"),
+            LineFault::Range(name) => {
+                answer.push_bytes(b"! range ");
+                answer.push_bytes(name.as_bytes());
+            }
+            LineFault::Year => answer.push_bytes(b"! year"),
+            LineFault::Long => answer.push_bytes(b"! long"),
+        }
+        answer
+    }
+}
+
+impl From<Parse> for LineFault {
+    ghost use Rattle.std.specs.Prelude.{◌≡◌};
+    ghost use Rattle.parsing_pieces.specs.FaultOf.{fault_of};
+    ghost use Rattle.instants.specs.Refusal.{refusal_of, refusal_said};
+
+    ghost from_gives = { λ fault said. refusal_said said ≡ refusal_of (fault_of fault) };
+
+    #[inline(always)]
+    fn from(fault: Parse) -> LineFault {
+        match fault {
+            Parse::ParseFromDescription(ParseFromDescription::InvalidLiteral) => LineFault::Literal,
+            Parse::ParseFromDescription(ParseFromDescription::InvalidComponent(name)) => {
+                LineFault::Component(name)
+            }
+            Parse::ParseFromDescription(ParseFromDescription::UnexpectedTrailingCharacters) => {
+                LineFault::Trailing
+            }
+            Parse::TryFromParsed(TryFromParsed::InsufficientInformation) => LineFault::Insufficient,
+            Parse::TryFromParsed(TryFromParsed::ComponentRange(range)) => {
+                LineFault::Range(range.name())
+            }
+        }
+    }
+}

@@ -1,0 +1,159 @@
+//! Lines placed on one timeline.
+ghost use Rattle.std.specs.Prelude.{◌≡◌, ◌<◌, ◌≤◌, length, map, None, IfOk, IfErr};
+
+ghost use Rattle.std.specs.Result.{result_ok};
+ghost use Rattle.parsing_pieces.specs.FaultOf.{fault_of, Gives};
+ghost use Rattle.parsing_pieces.specs.ShortName.{HasShortName};
+ghost use Rattle.instants_lines.specs.Text.{IsTarget, FitsLine};
+ghost use Rattle.instants.specs.Refusal.{IsShort, refusal_of, refusal_said, refusal_text};
+ghost use Rattle.instants.specs.Sources.{source_of};
+ghost use Rattle.instants.specs.Place.{Setting, first_named, place_of, answer_to, IsPlace};
+
+use crate::line_fault::LineFault;
+use crate::source::Source;
+use calendar::UtcOffset;
+use datetime::OffsetDateTime;
+use instants_lines::{Answer, has_written_year, rfc3339_line};
+use instants_stream::AnswersLines;
+use instants_words::SourceText;
+use parsing::Parse;
+use std::alloc::{AllocError, Global};
+use std::marker::Model;
+
+/// Why no timeline could be made.
+#[derive(Clone, Copy, Debug, PartialEq, Eq)]
+pub enum NewFault {
+    /// Memory ran out.
+    Memory,
+}
+
+impl From<AllocError> for NewFault {
+    ghost use Rattle.std.specs.Prelude.{◌≡◌};
+    ghost use Rattle.instants.specs.declared.timeline.NewFault.TheVariants.{Memory};
+
+    ghost from_gives = { λ _ e. e ≡ Memory };
+
+    fn from(_fault: AllocError) -> NewFault {
+        NewFault::Memory
+    }
+}
+
+/// Sources in order, and the offset in which moments are shown.
+#[derive(Drop)]
+pub struct Timeline {
+    sources: Vec<Source>,
+    target: UtcOffset,
+}
+
+impl Model for Timeline {
+    ghost use Rattle.std.specs.Prelude.{◌<◌, length};
+    ghost use Rattle.instants_lines.specs.Text.{IsTarget};
+    ghost use Rattle.instants.specs.Place.{Setting};
+
+    ghost Value = { Setting };
+
+    ghost view = { λ t. record { sources = t.sources.items; target = t.target } };
+
+    ghost invariant = { λ t. IsTarget t.target × (0 < length t.sources.items) };
+}
+
+impl Timeline {
+    /// A timeline of these sources, in the order in which they are tried, shown at the target offset.
+    ///
+    /// The target has whole minutes, within 23:59. No offset can be assumed yet for lines that have none.
+    pub fn new(
+        alloc: Global,
+        sources: &[SourceText],
+        target: UtcOffset,
+        assumed: Option<UtcOffset>,
+    ) -> Result<Timeline, NewFault>
+        requires sources { 0 < length sources.now }
+        requires target { IsTarget target }
+        requires assumed { assumed ≡ None }
+        ensures { IfOk result (λ timeline. timeline ≡ record { sources = map source_of sources.now; target = target }) }
+    {
+        let mut read = Vec::with_capacity(alloc, sources.len())?;
+        for text in sources {
+            read.push(Source::from(*text)).map_err(AllocError::from)?;
+        }
+        Ok(Timeline {
+            sources: read,
+            target,
+        })
+    }
+
+    // What the first source that names a moment names, and else the first source's fault.
+    #[inline(always)]
+    #[tactic(auto, unfolding(crate::specs::Place::first_named))]
+    fn first_named(&self, line: &[u8]) -> Result<OffsetDateTime, Parse>
+        ensures gives { Gives (λ m. m) fault_of result (first_named self.now.sources line.now) }
+        ensures short { IfErr result (λ fault. HasShortName (fault_of fault)) }
+    {
+        let sources = self.sources.as_slice();
+        match sources[0].read(line) {
+            Ok(moment) => Ok(moment),
+            Err(fault) => moment_of_any(&sources[1..], line).ok_or(fault),
+        }
+    }
+
+    /// The line's place: the moment that the first source with one names for the whole line, shown at the target.
+    ///
+    /// Without a moment the fault is the first source's. A moment whose year at the target is not 0 to 9999 is
+    /// refused as `Year`, and no later source is tried then. The answer is never `Long`.
+    #[inline(always)]
+    #[tactic(auto, unfolding(crate::specs::Place::place_of))]
+    pub fn place(&self, line: &[u8]) -> Result<OffsetDateTime, LineFault>
+        ensures place { IsPlace result (place_of self.now line.now) }
+        ensures fits { IfOk result FitsLine }
+        ensures short { IfErr result (λ fault. IsShort (refusal_said fault)) }
+    {
+        let named = match self.first_named(line) {
+            Ok(named) => named,
+            Err(fault) => return Err(LineFault::from(fault)),
+        };
+        let Some(moment) = named.checked_to_offset(self.target) else {
+            return Err(LineFault::Year);
+        };
+        if has_written_year(moment) {
+            Ok(moment)
+        } else {
+            Err(LineFault::Year)
+        }
+    }
+
+    /// The answer to a line: its place as a date-time of fixed width, or why it has none. It is never `! long`.
+    #[inline(always)]
+    #[tactic(auto, unfolding(crate::specs::Place::answer_to))]
+    pub fn answer_line(&self, line: &[u8]) -> Answer
+        ensures bytes { result ≡ answer_to self.now line.now }
+        ensures room { length result ≤ 63 }
+    {
+        match self.place(line) {
+            Ok(moment) => rfc3339_line(moment),
+            Err(fault) => fault.answer(),
+        }
+    }
+}
+
+// The moment that the first of the sources with one names.
+fn moment_of_any(sources: &[Source], line: &[u8]) -> Option<OffsetDateTime>
+    ensures { result ≡ result_ok (first_named sources.now line.now) }
+{
+    for source in sources {
+        if let Ok(moment) = source.read(line) {
+            return Some(moment);
+        }
+    }
+    None
+}
+
+impl AnswersLines for Timeline {
+    ghost use Rattle.instants.specs.Place.{answer_to};
+
+    ghost answer = { answer_to };
+
+    #[inline(always)]
+    fn answer_line(&self, line: &[u8]) -> Answer {
+        Timeline::answer_line(self, line)
+    }
+}

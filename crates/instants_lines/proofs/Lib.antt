@@ -1,0 +1,3 @@
+pub mod DecimalLemmas
+pub mod PairLemmas
+pub mod AppendLemmas

@@ -1,0 +1,90 @@
+use Rattle.std.proofs.Common.{◌≡◌, ◌==◌, ℕ, false, ◌+◌, ◌-◌, List, [], take, drop, refl, ◌∙◌, subst, arith, length-drop}
+use Rattle.std.proofs.KnownBytes.{Appends-nil, Appends-trans}
+use Rattle.std.proofs.lemmas.List.{take_rest}
+use Rattle.std.proofs.lemmas.List.Elements.{All-nil}
+use Rattle.std.proofs.lemmas.Result.{err_from_is_err_and}
+use Rattle.instants_stream.specs.Lines.{HasNoLineFeed, whole_lines}
+use Rattle.instants_stream.specs.Answers.{answers_to}
+use Rattle.instants_stream.proofs.Lines.{whole_lines_none, last_part_of_none}
+use Rattle.instants_devices.proofs.Told.{AppendsFront-after, AppendsFront-more}
+use Rattle.instants_stream.proofs.Chunks.{answers_to-front, answers_to-next, next_ended, next_lines, next_some, rest_is_last, lines_are_all}
+use Rattle.instants_stream.proofs.run.answer_lines.Goals as goal
+
+-- an unfinished line has nothing in front of it
+none_before : (bytes : List ℕ) (start : ℕ) → start ≡ 0 → whole_lines (take start bytes) ≡ []
+none_before bytes start e = rw e whole_lines_none
+
+pub loop-len-init : goal.loop-len-init
+unfolding answers_to
+loop-len-init g c = record {
+  within = omega arith;
+  ended = last_part_of_none;
+  first = λ _. refl;
+  later = λ h. absurd (omega arith);
+  written = rw whole_lines_none (Appends-nil _);
+  searched = c.requires.searched;
+  free = c.requires.free;
+  works = refl;
+}
+
+pub loop-len-preserved : goal.loop-len-preserved
+loop-len-preserved g c =
+    let i = c.loop-len.invariant in
+    let bytes = c.args.bytes.now in
+    let start = c.loop-len.start in
+    let len = c.in-Some.len in
+    let whole = take_rest bytes start in
+    let within = rw whole at c.in-Some.ensures.within in
+    let line_feed = rw whole at c.in-Some.ensures.line_feed in
+    let free : HasNoLineFeed (take len (drop start bytes)) = subst (λ (l : List ℕ). HasNoLineFeed (take len l)) whole c.in-Some.ensures.before in
+    let same : start + len - start ≡ len = omega arith in
+    let wrote = rw same at c.in_ok-write_answer.ensures.written in
+    record {
+      within = let h = simp length-drop at within in omega arith;
+      ended = next_ended bytes start len i.ended within line_feed free;
+      first = λ e. absurd (omega arith);
+      later = λ _. (refl, next_some bytes start len i.ended within line_feed free);
+      written = rw (next_lines bytes start len i.ended within line_feed free, answers_to-next (g.A.AnswersLines.answer c.args.answers.now) c.args.is_long c.loop-len.is_long (whole_lines (take start bytes)) (take len (drop start bytes)) start (λ e. (i.first e, none_before bytes start e)) i.later) (Appends-trans _ _ _ _ _ i.written wrote);
+      searched = omega arith;
+      free = All-nil (λ (b : ℕ). (b == 10) ≡ false);
+      works = c.in_ok-write_answer.ensures.ok ∙ i.works;
+    }
+
+pub returns-in_err-write_answer-clause-front : goal.returns-in_err-write_answer-clause-front
+returns-in_err-write_answer-clause-front g c =
+    let p = err_from_is_err_and c.from_residual.result c.from_residual.ensures.1 in
+    let i = c.loop-len.invariant in
+    let bytes = c.args.bytes.now in
+    let start = c.loop-len.start in
+    let len = c.in-Some.len in
+    let whole = take_rest bytes start in
+    let within = rw whole at c.in-Some.ensures.within in
+    let line_feed = rw whole at c.in-Some.ensures.line_feed in
+    let free : HasNoLineFeed (take len (drop start bytes)) = subst (λ (l : List ℕ). HasNoLineFeed (take len l)) whole c.in-Some.ensures.before in
+    let same : start + len - start ≡ len = omega arith in
+    let wrote = rw same at c.in_err-write_answer.ensures.front in
+    let more = answers_to-front (g.A.AnswersLines.answer c.args.answers.now) c.args.is_long bytes (start + (len + 1)) (next_ended bytes start len i.ended within line_feed free) in
+    rw (p.1, more.1, next_lines bytes start len i.ended within line_feed free, answers_to-next (g.A.AnswersLines.answer c.args.answers.now) c.args.is_long c.loop-len.is_long (whole_lines (take start bytes)) (take len (drop start bytes)) start (λ e. (i.first e, none_before bytes start e)) i.later)
+    (AppendsFront-more _ _ _ more.0 (AppendsFront-after _ _ _ _ _ i.written wrote))
+
+pub returns-clause-rest : goal.returns-clause-rest
+returns-clause-rest g c =
+    rest_is_last c.args.bytes.now c.loop-len.start c.loop-len.invariant.ended (subst HasNoLineFeed (take_rest c.args.bytes.now c.loop-len.start) c.in_default.ensures.none)
+
+pub returns-clause-some : goal.returns-clause-some
+returns-clause-some g c =
+    rw (lines_are_all c.args.bytes.now c.loop-len.start c.loop-len.invariant.ended (subst HasNoLineFeed (take_rest c.args.bytes.now c.loop-len.start) c.in_default.ensures.none)) (λ h. (c.loop-len.invariant.later h).1)
+
+pub returns-clause-none : goal.returns-clause-none
+returns-clause-none g c =
+    rw (lines_are_all c.args.bytes.now c.loop-len.start c.loop-len.invariant.ended (subst HasNoLineFeed (take_rest c.args.bytes.now c.loop-len.start) c.in_default.ensures.none)) (none_before c.args.bytes.now c.loop-len.start)
+
+pub returns-clause-written : goal.returns-clause-written
+returns-clause-written g c =
+    rw (lines_are_all c.args.bytes.now c.loop-len.start c.loop-len.invariant.ended (subst HasNoLineFeed (take_rest c.args.bytes.now c.loop-len.start) c.in_default.ensures.none)) c.loop-len.invariant.written
+
+pub line_len-requires : goal.line_len-requires
+line_len-requires g c = record {
+  searched = rw (take_rest c.args.bytes.now c.loop-len.start) c.loop-len.invariant.searched;
+  free = rw (take_rest c.args.bytes.now c.loop-len.start) c.loop-len.invariant.free;
+}

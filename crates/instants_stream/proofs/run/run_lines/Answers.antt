@@ -1,0 +1,223 @@
+use Rattle.std.proofs.Common.{◌≡◌, ◌==◌, ℕ, ◌+◌, ◌-◌, ◌≤◌, ◌<◌, ◌⊎◌, Bool, true, false, [], ◌++◌, length, take, refl, ap, ◌∙◌, inl, inr, arith, length-take, length-drop, length-append}
+use Rattle.std.specs.Io.KnownBytes.{IsAtEnd}
+use Rattle.std.proofs.lemmas.Grind.{common_steps}
+use Rattle.std.proofs.lemmas.List.Elements.{All-nil}
+use Rattle.instants_stream.specs.Lines.{HasNoLineFeed, last_part}
+use Rattle.instants_devices.proofs.Told.{on_ok, on_err}
+use Rattle.instants_stream.proofs.Lines.{last_part_free}
+use Rattle.instants_stream.proofs.Progress.{Progress, begins, pauses, fails_at_end, through_with_rest, through, fails_at_flush, done, Through}
+use Rattle.instants_stream.proofs.ChunkSteps.{chunk_step, chunk_fails, forgets}
+use Rattle.instants_stream.proofs.Pending.{pending, length-pending, pending_more, pending_rest, pending_moved, pending_kept, pending_same, size_kept}
+use Rattle.instants_stream.proofs.run.run_lines.Goals as goal
+use Rattle.instants_stream.proofs.run.run_lines.Goals.{In-Ok-answer_lines, In-Ok, After-flush, then-is_long+else-is_err, then-is_long-via-then-is_long, then-is_long-via-else-is_long+then-start-filled, else-is_long+else-start-filled, then-answered-gt0, else-answered-gt0}
+use borrow.Rule.Slice.PartMut.{put_mid}
+
+pub loop-count-init : goal.loop-count-init
+loop-count-init g c = record {
+  progress = begins _ _ _ _;
+  free = All-nil (λ (b : ℕ). (b == 10) ≡ false);
+  size = refl;
+  limit = refl;
+  room = c.requires.room;
+  ordered = omega arith;
+  within = omega arith;
+  reader_works = c.requires.reader;
+  writer_works = c.requires.writer;
+}
+
+pub returns-in_default-answer_lines-clause-write : goal.returns-in_default-answer_lines-clause-write
+returns-in_default-answer_lines-clause-write g c =
+    let i = c.loop-count.invariant in
+    let buffer = c.loop-count.buffer in
+    let start = c.loop-count.start in
+    let filled = c.loop-count.filled in
+    let into = c.read.new.into in
+    let count = c.in-Ok.count in
+    let fits : filled ≤ length buffer = omega arith in
+    let more = pending_more buffer into start filled count (length buffer - filled) i.ordered fits c.in-Ok.ensures.within in
+    let wrote = rw more at c.in_default-answer_lines.ensures.front in
+    let into_size : length into ≡ length buffer - filled = grind (arith, common_steps) in
+    let short : length (pending buffer start filled ++ take count into) ≤ length c.args.buffer.now - 1 + 1 = simp (length-append, length-take, length-drop) (omega (arith, c.in-Ok.ensures.within)) in
+    λ _. chunk_fails _ _ _ _ _ _ _ _ _ _ _ i.progress i.free short c.in-Ok.ensures.moved wrote
+
+-- where the run stands when the whole lines are answered
+stands : (g : _) (c : In-Ok-answer_lines g) (is_long : Bool) → ((0 < c.in-Ok-answer_lines.answered) × (is_long ≡ false)) ⊎ ((c.in-Ok-answer_lines.answered ≡ 0) × (is_long ≡ c.loop-count.is_long))
+    → (let line = pending (put_mid c.loop-count.filled (length c.loop-count.buffer - c.loop-count.filled) c.loop-count.buffer c.read.new.into) (c.loop-count.start + c.in-Ok-answer_lines.answered) (c.loop-count.filled + c.in-Ok.count) in
+    Progress (g.A.AnswersLines.answer c.args.answers.now) (length c.args.buffer.now - 1) (g.R.ByteReader.left c.args.reader.now) (g.R.ByteReader.left c.read.new.self) (g.W.ByteWriter.held c.args.writer.now) (g.W.ByteWriter.held c.answer_lines.new.writer) line is_long
+    × HasNoLineFeed line × (c.loop-count.start + c.in-Ok-answer_lines.answered ≤ c.loop-count.filled + c.in-Ok.count) × (c.loop-count.filled + c.in-Ok.count ≤ length c.loop-count.buffer))
+stands g c is_long which =
+    let i = c.loop-count.invariant in
+    let buffer = c.loop-count.buffer in
+    let start = c.loop-count.start in
+    let filled = c.loop-count.filled in
+    let into = c.read.new.into in
+    let count = c.in-Ok.count in
+    let k = length buffer - filled in
+    let answered = c.in-Ok-answer_lines.answered in
+    let fits : filled ≤ length buffer = omega arith in
+    let into_size : length into ≡ length buffer - filled = grind (arith, common_steps) in
+    let more = pending_more buffer into start filled count k i.ordered fits c.in-Ok.ensures.within in
+    let size = size_kept buffer into filled k fits refl into_size in
+    let next_fits : filled + count ≤ length buffer = omega (arith, c.in-Ok.ensures.within) in
+    let whole = length-pending (put_mid filled k buffer into) start (filled + count) (omega arith) in
+    let ordered : start + answered ≤ filled + count = omega (arith, c.in-Ok-answer_lines.ensures.within, whole, i.ordered) in
+    let line_is : pending (put_mid filled k buffer into) (start + answered) (filled + count) ≡ last_part (pending buffer start filled ++ take count into) = pending_rest (put_mid filled k buffer into) start (filled + count) answered ordered ∙ c.in-Ok-answer_lines.ensures.rest ∙ ap last_part more in
+    let short : length (pending buffer start filled ++ take count into) ≤ length c.args.buffer.now - 1 + 1 = simp (length-append, length-take, length-drop) (omega (arith, c.in-Ok.ensures.within)) in
+    let progress = chunk_step (g.A.AnswersLines.answer c.args.answers.now) (length c.args.buffer.now - 1) (g.R.ByteReader.left c.args.reader.now) (g.R.ByteReader.left c.loop-count.reader) (g.R.ByteReader.left c.read.new.self) (g.W.ByteWriter.held c.args.writer.now) (g.W.ByteWriter.held c.loop-count.writer) (g.W.ByteWriter.held c.answer_lines.new.writer) (pending buffer start filled) (take count into) c.loop-count.is_long i.progress i.free short c.in-Ok.ensures.moved answered is_long
+    (rw more at c.in-Ok-answer_lines.ensures.some) (rw more at c.in-Ok-answer_lines.ensures.none) which (rw more at c.in-Ok-answer_lines.ensures.written) in
+    (rw line_is progress, rw line_is (last_part_free (pending buffer start filled ++ take count into)), ordered, next_fits)
+
+pub loop-count-preserved-then-filled-start : goal.loop-count-preserved-then-filled-start
+loop-count-preserved-then-filled-start g c =
+    let i = c.loop-count.invariant in
+    let buffer = c.loop-count.buffer in
+    let filled = c.loop-count.filled in
+    let into = c.read.new.into in
+    let k = length buffer - filled in
+    let next = put_mid filled k buffer into in
+    let fits : filled ≤ length buffer = omega arith in
+    let into_size : length into ≡ length buffer - filled = grind (arith, common_steps) in
+    let size = size_kept buffer into filled k fits refl into_size in
+    let which : ((0 < c.in-Ok-answer_lines.answered) × (c.if-answered-gt0.is_long ≡ false)) ⊎ ((c.in-Ok-answer_lines.answered ≡ 0) × (c.if-answered-gt0.is_long ≡ c.loop-count.is_long)) = elim c.if-answered-gt0.branch [ then-answered-gt0 w ↦ inl (w.if-answered-gt0.true, w.is_long-is) | else-answered-gt0 w ↦ inr (omega (arith, w.if-answered-gt0.false), w.is_long-is) ] in
+    let (progress, free, ordered, ends) = stands g (goal.at.loop-count-preserved-then-filled-start g c).In-Ok-answer_lines c.if-answered-gt0.is_long which in
+    let start_next = c.loop-count.start + c.in-Ok-answer_lines.answered in
+    let filled_next = filled + c.in-Ok.count in
+    let over : length c.args.buffer.now - 1 < length (pending next start_next filled_next) = omega (arith, length-pending next start_next filled_next (omega arith), c.if-filled-start.true) in
+    record {
+      progress = forgets _ _ _ _ _ _ _ _ progress over;
+      free = All-nil (λ (b : ℕ). (b == 10) ≡ false);
+      size = size ∙ i.size;
+      limit = refl;
+      room = i.room;
+      ordered = omega arith;
+      within = omega arith;
+      reader_works = c.in-Ok.ensures.ok ∙ i.reader_works;
+      writer_works = c.in-Ok-answer_lines.ensures.ok ∙ i.writer_works;
+    }
+
+pub loop-count-preserved-then-filled-buffer : goal.loop-count-preserved-then-filled-buffer
+loop-count-preserved-then-filled-buffer g c =
+    let i = c.loop-count.invariant in
+    let buffer = c.loop-count.buffer in
+    let filled = c.loop-count.filled in
+    let into = c.read.new.into in
+    let k = length buffer - filled in
+    let next = put_mid filled k buffer into in
+    let fits : filled ≤ length buffer = omega arith in
+    let into_size : length into ≡ length buffer - filled = grind (arith, common_steps) in
+    let size = size_kept buffer into filled k fits refl into_size in
+    let which : ((0 < c.in-Ok-answer_lines.answered) × (c.if-answered-gt0.is_long ≡ false)) ⊎ ((c.in-Ok-answer_lines.answered ≡ 0) × (c.if-answered-gt0.is_long ≡ c.loop-count.is_long)) = elim c.if-answered-gt0.branch [ then-answered-gt0 w ↦ inl (w.if-answered-gt0.true, w.is_long-is) | else-answered-gt0 w ↦ inr (omega (arith, w.if-answered-gt0.false), w.is_long-is) ] in
+    let (progress, free, ordered, ends) = stands g (goal.at.loop-count-preserved-then-filled-buffer g c).In-Ok-answer_lines c.if-answered-gt0.is_long which in
+    let start_next = c.loop-count.start + c.in-Ok-answer_lines.answered in
+    let filled_next = filled + c.in-Ok.count in
+    let moved : take (filled_next - start_next - 0) c.copy_within.new.self ≡ pending next start_next filled_next = ap (take (filled_next - start_next - 0)) c.copy_within.ensures.after ∙ pending_moved next start_next filled_next (filled_next - start_next - 0) ordered c.if-filled-buffer.true (omega arith) in
+    record {
+      progress = rw moved progress;
+      free = rw moved free;
+      size = c.copy_within.ensures.len ∙ size ∙ i.size;
+      limit = refl;
+      room = i.room;
+      ordered = omega arith;
+      within = omega (arith, c.if-filled-start.false);
+      reader_works = c.in-Ok.ensures.ok ∙ i.reader_works;
+      writer_works = c.in-Ok-answer_lines.ensures.ok ∙ i.writer_works;
+    }
+
+pub loop-count-preserved : goal.loop-count-preserved
+loop-count-preserved g c =
+    let i = c.loop-count.invariant in
+    let buffer = c.loop-count.buffer in
+    let filled = c.loop-count.filled in
+    let into = c.read.new.into in
+    let k = length buffer - filled in
+    let next = put_mid filled k buffer into in
+    let fits : filled ≤ length buffer = omega arith in
+    let into_size : length into ≡ length buffer - filled = grind (arith, common_steps) in
+    let size = size_kept buffer into filled k fits refl into_size in
+    let which : ((0 < c.in-Ok-answer_lines.answered) × (c.if-answered-gt0.is_long ≡ false)) ⊎ ((c.in-Ok-answer_lines.answered ≡ 0) × (c.if-answered-gt0.is_long ≡ c.loop-count.is_long)) = elim c.if-answered-gt0.branch [ then-answered-gt0 w ↦ inl (w.if-answered-gt0.true, w.is_long-is) | else-answered-gt0 w ↦ inr (omega (arith, w.if-answered-gt0.false), w.is_long-is) ] in
+    let (progress, free, ordered, ends) = stands g (goal.at.loop-count-preserved g c).In-Ok-answer_lines c.if-answered-gt0.is_long which in
+    let room : filled + c.in-Ok.count ≤ length c.args.buffer.now - 1 = omega (arith, size, i.size, c.if-filled-buffer.false) in
+    record {
+      progress = progress;
+      free = free;
+      size = size ∙ i.size;
+      limit = refl;
+      room = i.room;
+      ordered = ordered;
+      within = room;
+      reader_works = c.in-Ok.ensures.ok ∙ i.reader_works;
+      writer_works = c.in-Ok-answer_lines.ensures.ok ∙ i.writer_works;
+    }
+
+-- the reader is at its end
+paused : (g : _) (c : In-Ok g) → c.in-Ok.count ≡ 0 → Progress (g.A.AnswersLines.answer c.args.answers.now) (length c.args.buffer.now - 1) (g.R.ByteReader.left c.args.reader.now) (g.R.ByteReader.left c.read.new.self) (g.W.ByteWriter.held c.args.writer.now) (g.W.ByteWriter.held c.loop-count.writer) (pending c.loop-count.buffer c.loop-count.start c.loop-count.filled) c.loop-count.is_long × IsAtEnd (g.R.ByteReader.left c.read.new.self)
+paused g c none =
+    let i = c.loop-count.invariant in
+    let into_size : length c.read.new.into ≡ length c.loop-count.buffer - c.loop-count.filled = grind (arith, common_steps) in (
+      pauses (g.A.AnswersLines.answer c.args.answers.now) (length c.args.buffer.now - 1) (g.R.ByteReader.left c.args.reader.now) (g.R.ByteReader.left c.loop-count.reader) (g.R.ByteReader.left c.read.new.self) (g.W.ByteWriter.held c.args.writer.now) (g.W.ByteWriter.held c.loop-count.writer) (pending c.loop-count.buffer c.loop-count.start c.loop-count.filled) c.loop-count.is_long i.progress (rw none at c.in-Ok.ensures.moved),
+      c.in-Ok.ensures.none none (omega arith),
+    )
+
+-- a write at the end failed
+pub returns-then-is_err-clause-write : goal.returns-then-is_err-clause-write
+returns-then-is_err-clause-write g c =
+    let i = c.loop-count.invariant in
+    let buffer = c.loop-count.buffer in
+    let start = c.loop-count.start in
+    let filled = c.loop-count.filled in
+    let (progress, ends) = paused g (goal.at.returns-then-is_err-clause-write g c).In-Ok c.if-count-eq0.true in
+    let fits : filled ≤ length buffer = omega arith in
+    let size = length-pending buffer start filled fits in
+    let same = pending_same buffer c.read.new.into start filled (length buffer - filled) i.ordered fits in
+    let wrote = on_err c.write_answer.result c.is_err.result c.is_err.ensures.value c.if-is_err.true c.write_answer.ensures.front in
+    let some : (c.loop-count.is_long ≡ true) ⊎ (0 < length (pending buffer start filled)) = elim c.then-is_long.branch [
+      | then-is_long-via-then-is_long w ↦ inl w.if-is_long.true
+      | then-is_long-via-else-is_long+then-start-filled w ↦ inr (omega (arith, size, w.if-start-filled.true))
+    ] in
+    λ _. fails_at_end _ _ _ _ _ _ _ _ _ progress (omega (arith, size)) some ends (rw same at wrote)
+
+-- the run is through, but for the flush
+finished : (g : _) (c : After-flush g) → Through (g.A.AnswersLines.answer c.args.answers.now) (length c.args.buffer.now - 1) (g.R.ByteReader.left c.args.reader.now) (g.R.ByteReader.left c.read.new.self) (g.W.ByteWriter.held c.args.writer.now) (g.W.ByteWriter.held c.if-is_long.writer)
+finished g c =
+    let i = c.loop-count.invariant in
+    let buffer = c.loop-count.buffer in
+    let start = c.loop-count.start in
+    let filled = c.loop-count.filled in
+    let into_size : length c.read.new.into ≡ length buffer - filled = grind (arith, common_steps) in
+    let ends = c.in-Ok.ensures.none c.if-count-eq0.true (omega arith) in
+    let progress = pauses (g.A.AnswersLines.answer c.args.answers.now) (length c.args.buffer.now - 1) (g.R.ByteReader.left c.args.reader.now) (g.R.ByteReader.left c.loop-count.reader) (g.R.ByteReader.left c.read.new.self) (g.W.ByteWriter.held c.args.writer.now) (g.W.ByteWriter.held c.loop-count.writer) (pending buffer start filled) c.loop-count.is_long i.progress (rw c.if-count-eq0.true at c.in-Ok.ensures.moved) in
+    let fits : filled ≤ length buffer = omega arith in
+    let size = length-pending buffer start filled fits in
+    let same = pending_same buffer c.read.new.into start filled (length buffer - filled) i.ordered fits in
+    elim c.if-is_long.branch [
+      | then-is_long+else-is_err w ↦
+          let wrote = on_ok w.write_answer.result w.is_err.result w.is_err.ensures.value w.if-is_err.false w.write_answer.ensures.written in
+          let some : (c.loop-count.is_long ≡ true) ⊎ (0 < length (pending buffer start filled)) = elim w.then-is_long.branch [
+            | then-is_long-via-then-is_long v ↦ inl v.if-is_long.true
+            | then-is_long-via-else-is_long+then-start-filled v ↦ inr (omega (arith, size, v.if-start-filled.true))
+          ] in
+          rw w.writer-is (through_with_rest _ _ _ _ _ _ _ _ _ progress (omega (arith, size)) some ends (rw same at wrote))
+      | else-is_long+else-start-filled w ↦
+          let none : filled - start ≡ 0 = omega (arith, w.if-start-filled.false) in
+          let line_is : pending buffer start filled ≡ [] = rw none refl in
+          rw w.writer-is (through _ _ _ _ _ _ (g.W.ByteWriter.held c.loop-count.writer) _ _ progress w.if-is_long.false line_is ends)
+    ]
+
+pub returns-then-is_err-2-clause-write : goal.returns-then-is_err-2-clause-write
+returns-then-is_err-2-clause-write g c =
+    let stays = on_err c.flush.result c.is_err-2.result c.is_err-2.ensures.value c.if-is_err-2.true c.flush.ensures.kept in
+    λ _. fails_at_flush _ _ _ _ _ _ _ (finished g (goal.at.returns-then-is_err-2-clause-write g c).After-flush) stays
+
+pub returns-clause-ok : goal.returns-clause-ok
+returns-clause-ok g c =
+    let stays = on_ok c.flush.result c.is_err-2.result c.is_err-2.ensures.value c.if-is_err-2.false c.flush.ensures.moved in
+    done _ _ _ _ _ _ _ (finished g (goal.at.returns-clause-ok g c).After-flush) stays
+
+-- no byte that was pending before the read is a line feed
+pub answer_lines-requires-clause-free : goal.answer_lines-requires-clause-free
+answer_lines-requires-clause-free g c =
+    let i = c.loop-count.invariant in
+    let buffer = c.loop-count.buffer in
+    let filled = c.loop-count.filled in
+    let fits : filled ≤ length buffer = omega arith in
+    rw (pending_kept buffer c.read.new.into c.loop-count.start filled c.in-Ok.count (length buffer - filled) i.ordered fits c.in-Ok.ensures.within) i.free

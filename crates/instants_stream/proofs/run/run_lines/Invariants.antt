@@ -1,0 +1,24 @@
+use Rattle.std.proofs.Common.{◌≡◌, ◌-◌, ◌≤◌, false, length, take, drop}
+use Rattle.instants_stream.specs.Lines.{HasNoLineFeed}
+use Rattle.instants_stream.proofs.Progress.{Progress}
+use Rattle.instants_stream.proofs.run.run_lines.Given as goal
+
+abbrev pub invariant-loop-count : goal.invariant-loop-count
+invariant-loop-count g l =
+    let left = g.R.ByteReader.left in
+    let held = g.W.ByteWriter.held in
+    let line = take (l.filled - l.start) (drop l.start l.buffer) in
+    record {
+      progress : Progress (g.A.AnswersLines.answer l.answers) l.limit (left l.fn.reader) (left l.reader) (held l.fn.writer) (held l.writer) line l.is_long;
+      free : HasNoLineFeed line;
+      size : length l.buffer ≡ length l.fn.buffer;
+      limit : l.limit ≡ length l.fn.buffer - 1;
+      room : 2 ≤ length l.fn.buffer;
+      ordered : l.start ≤ l.filled;
+      within : l.filled ≤ l.limit;
+      reader_works : g.R.ByteReader.failed l.reader ≡ false;
+      writer_works : g.W.ByteWriter.failed l.writer ≡ false;
+    }
+
+abbrev pub decreases-loop-count : goal.decreases-loop-count
+decreases-loop-count g l = g.R.ByteReader.reads_left l.reader

@@ -1,0 +1,31 @@
+-- What is written for a stream of bytes. The answer to a line is a function of its bytes.
+use Rattle.std.specs.Prelude.{ℕ, Bool, false, Option, None, Some, List, [], ◌∷◌, ◌++◌, length, nat_lt, if◌then◌else◌, codes}
+use Rattle.std.specs.List.{flat_map}
+use Rattle.instants_stream.specs.Lines.{lines, whole_lines}
+
+-- the answer to a line, or that it is too long, and a line feed
+unfoldable pub answer_or_long : (List ℕ → List ℕ) → Bool → List ℕ → List ℕ
+answer_or_long answer is_long line = (if is_long then codes "! long" else answer line) ++ 10 ∷ []
+
+-- what is written for one line
+unfoldable pub answered : (List ℕ → List ℕ) → ℕ → List ℕ → List ℕ
+answered answer limit line = answer_or_long answer (nat_lt limit (length line)) line
+
+-- what is written for a whole stream
+unfoldable pub output : (List ℕ → List ℕ) → ℕ → List ℕ → List ℕ
+output answer limit stream = flat_map (answered answer limit) (lines stream)
+
+-- what is owed as soon as these bytes were read: the answers to the lines whose line feed was read
+unfoldable pub owed : (List ℕ → List ℕ) → ℕ → List ℕ → List ℕ
+owed answer limit bytes = flat_map (answered answer limit) (whole_lines bytes)
+
+-- what may be written once these bytes were read and these are left: while bytes are left, the answers owed
+abbrev pub due : (List ℕ → List ℕ) → ℕ → List ℕ → Option (List ℕ) → List ℕ
+due answer limit bytes (Some (b ∷ left)) = owed answer limit bytes
+due answer limit bytes (Some []) = output answer limit bytes
+due answer limit bytes None = output answer limit bytes
+
+-- what is written for lines whose bytes are at hand, where the first is known to be too long or not
+unfoldable pub answers_to : (List ℕ → List ℕ) → Bool → List (List ℕ) → List ℕ
+answers_to answer is_long [] = []
+answers_to answer is_long (line ∷ others) = answer_or_long answer is_long line ++ flat_map (answer_or_long answer false) others

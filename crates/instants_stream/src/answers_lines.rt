@@ -1,0 +1,17 @@
+//! What answers lines.
+
+ghost use Rattle.std.specs.Prelude.{◌≡◌, ◌≤◌, ℕ, List, length};
+
+use instants_lines::Answer;
+
+/// What answers each line by itself.
+pub trait AnswersLines {
+    /// The bytes of the answer to a line.
+    ghost answer: { Self → List ℕ → List ℕ };
+
+    /// The answer to a line, with no line feed behind it.
+    fn answer_line(&self, line: &[u8]) -> Answer
+        ensures bytes { result ≡ answer self.now line.now }
+        // There is room for a line feed behind it.
+        ensures room { length result ≤ 63 };
+}

@@ -1,0 +1,169 @@
+//! The run over a stream, whole lines lent out of one buffer.
+
+ghost use Rattle.std.specs.Prelude.{◌≡◌, ◌-◌, ◌<◌, ◌≤◌, ◌↔◌, ℕ, true, false, List, [], ◌∷◌, ◌++◌, codes, length, take, drop, Some, Err, IsTrue, IfSome, IfOk, OnOk, OnErr};
+ghost use Rattle.std.specs.Io.KnownBytes.{Consumes, Appends};
+ghost use Rattle.instants_devices.specs.Told.{ConsumesOrUntold, AppendsFront};
+ghost use Rattle.instants_stream.specs.Lines.{HasNoLineFeed, whole_lines, last_part};
+ghost use Rattle.instants_stream.specs.Answers.{output, owed, due, answer_or_long, answers_to};
+
+use crate::answers_lines::AnswersLines;
+use crate::search::{LINE_FEED, line_len};
+use instants_devices::{ByteReader, ByteWriter, DeviceFailed, write_all};
+
+/// Which device ended a run.
+#[derive(Clone, Copy, Debug, PartialEq, Eq)]
+pub enum RunFault {
+    /// A read failed.
+    Read,
+    /// A write or the flush failed.
+    Write,
+}
+
+// Writes that a line is too long, and a line feed.
+#[cold]
+#[inline(never)]
+fn write_long<W: ByteWriter>(writer: &mut W) -> Result<(), DeviceFailed>
+    requires { W.failed writer.old ≡ false }
+    ensures written { OnOk result (Appends (W.held writer.old) (W.held writer.new) (codes "! long" ++ 10 ∷ [])) }
+    ensures ok { OnOk result (W.failed writer.new ≡ W.failed writer.old) }
+    ensures front { OnErr result (AppendsFront (W.held writer.old) (W.held writer.new) (codes "! long" ++ 10 ∷ [])) }
+    ensures err { OnErr result (W.failed writer.new ≡ true) }
+{
+    write_all(writer, b"! long\n")
+}
+
+// Writes the answer to a line, or that it is too long, and a line feed.
+#[inline(always)]
+#[tactic(auto, unfolding(crate::specs::Answers::answer_or_long))]
+fn write_answer<A: AnswersLines, W: ByteWriter>(
+    answers: &A,
+    line: &[u8],
+    is_long: bool,
+    writer: &mut W,
+) -> Result<(), DeviceFailed>
+    requires { W.failed writer.old ≡ false }
+    ensures written { OnOk result (Appends (W.held writer.old) (W.held writer.new)
+        (answer_or_long (A.answer answers.now) is_long line.now)) }
+    ensures ok { OnOk result (W.failed writer.new ≡ W.failed writer.old) }
+    ensures front { OnErr result (AppendsFront (W.held writer.old) (W.held writer.new)
+        (answer_or_long (A.answer answers.now) is_long line.now)) }
+    ensures err { OnErr result (W.failed writer.new ≡ true) }
+{
+    if is_long {
+        return write_long(writer);
+    }
+    let mut answer = answers.answer_line(line);
+    answer.push(LINE_FEED);
+    write_all(writer, answer.as_bytes())
+}
+
+// Answers each whole line, and says where the last part begins. The first `searched` bytes are
+// known to be no line feeds, and whether the first line is too long, with what came before.
+#[inline(always)]
+fn answer_lines<A: AnswersLines, W: ByteWriter>(
+    answers: &A,
+    bytes: &[u8],
+    searched: usize,
+    is_long: bool,
+    writer: &mut W,
+) -> Result<usize, DeviceFailed>
+    requires writer { W.failed writer.old ≡ false }
+    requires searched { searched ≤ length bytes.now }
+    requires free { HasNoLineFeed (take searched bytes.now) }
+    ensures within { IfOk result (λ start. start ≤ length bytes.now) }
+    ensures rest { IfOk result (λ start. drop start bytes.now ≡ last_part bytes.now) }
+    ensures some { IfOk result (λ start. 0 < start → 0 < length (whole_lines bytes.now)) }
+    ensures none { IfOk result (λ start. start ≡ 0 → whole_lines bytes.now ≡ []) }
+    ensures written { OnOk result (Appends (W.held writer.old) (W.held writer.new)
+        (answers_to (A.answer answers.now) is_long (whole_lines bytes.now))) }
+    ensures ok { OnOk result (W.failed writer.new ≡ W.failed writer.old) }
+    ensures front { OnErr result (AppendsFront (W.held writer.old) (W.held writer.new)
+        (answers_to (A.answer answers.now) is_long (whole_lines bytes.now))) }
+    ensures err { OnErr result (W.failed writer.new ≡ true) }
+{
+    let mut start = 0;
+    let mut searched = searched;
+    let mut is_long = is_long;
+    while let Some(len) = line_len(&bytes[start..], searched) {
+        write_answer(answers, &bytes[start..start + len], is_long, writer)?;
+        start += len + 1;
+        searched = 0;
+        is_long = false;
+    }
+    Ok(start)
+}
+
+/// Writes the answer to each line that the reader gives, and a line feed behind each answer.
+///
+/// The limit is the length of the buffer less one: a line with more bytes is answered `! long`.
+/// The writer is flushed once, before `Ok`. A reader or a writer that failed isn't tried again.
+pub fn run_lines<A: AnswersLines, R: ByteReader, W: ByteWriter>(
+    answers: &A,
+    buffer: &mut [u8],
+    reader: &mut R,
+    writer: &mut W,
+) -> Result<(), RunFault>
+    requires room { 2 ≤ length buffer.old }
+    requires reader { R.failed reader.old ≡ false }
+    requires writer { W.failed writer.old ≡ false }
+    // All that the reader had was read, and exactly its output was written.
+    ensures ok { OnOk result (IfSome (R.left reader.old) (λ stream. (R.left reader.new ≡ Some [])
+        × Appends (W.held writer.old) (W.held writer.new)
+        (output (A.answer answers.now) (length buffer.old - 1) stream))) }
+    ensures flushed { OnOk result (W.flushed writer.new ≡ true) }
+    // Exactly the lines whose line feed was read are answered.
+    ensures read { result ≡ Err RunFault.Read → (read : List ℕ)
+        × ConsumesOrUntold (R.left reader.old) (R.left reader.new) read
+        × Appends (W.held writer.old) (W.held writer.new)
+        (owed (A.answer answers.now) (length buffer.old - 1) read) }
+    // A front of what is due is written.
+    ensures write { result ≡ Err RunFault.Write → (read : List ℕ)
+        × Consumes (R.left reader.old) (R.left reader.new) read
+        × AppendsFront (W.held writer.old) (W.held writer.new)
+        (due (A.answer answers.now) (length buffer.old - 1) read (R.left reader.new)) }
+    // A fault is one of the device that it names.
+    ensures read_failed { IsTrue (R.failed reader.new) ↔ (result ≡ Err RunFault.Read) }
+    ensures write_failed { IsTrue (W.failed writer.new) ↔ (result ≡ Err RunFault.Write) }
+{
+    let limit = buffer.len() - 1;
+    // The unfinished line stands from start to filled. Its first bytes are gone if it is too long.
+    let mut start = 0;
+    let mut filled = 0;
+    let mut is_long = false;
+    loop {
+        let Ok(count) = reader.read(&mut buffer[filled..]) else {
+            return Err(RunFault::Read);
+        };
+        if count == 0 {
+            break;
+        }
+        let searched = filled - start;
+        filled += count;
+        let pending = &buffer[start..filled];
+        let Ok(answered) = answer_lines(answers, pending, searched, is_long, writer) else {
+            return Err(RunFault::Write);
+        };
+        start += answered;
+        if answered > 0 {
+            is_long = false;
+        }
+        if filled - start > limit {
+            is_long = true;
+            start = 0;
+            filled = 0;
+        } else if filled == buffer.len() {
+            buffer.copy_within(start.., 0);
+            filled -= start;
+            start = 0;
+        }
+    }
+    if is_long || start < filled {
+        if write_answer(answers, &buffer[start..filled], is_long, writer).is_err() {
+            return Err(RunFault::Write);
+        }
+    }
+    if writer.flush().is_err() {
+        return Err(RunFault::Write);
+    }
+    Ok(())
+}

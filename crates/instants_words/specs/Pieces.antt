@@ -1,0 +1,47 @@
+-- What one word says, where it says anything.
+use Rattle.std.specs.Prelude.{◌≡◌, ℕ, ◌+◌, ◌*◌, ◌%◌, ◌≤◌, ◌&&◌, ◌==◌, nat_le, if◌then◌else◌, Option, None, Some, List, [], ◌∷◌, length, codes, ℤ, pos, neg_ℤ, unsigned_abs}
+use Rattle.std.specs.Char.{is_ascii_digit}
+use Rattle.std.specs.List.{list_all}
+use Rattle.std.specs.Str.{bytes_eq}
+use Rattle.std.specs.Str.Parse.{digits_value}
+use Rattle.instants_words.specs.declared.sources.SourceText.{SourceText}
+use Rattle.instants_words.specs.declared.sources.SourceText.TheVariants.{Rfc3339}
+
+-- a number from one to another that digits write, at most so many
+unfoldable pub number_said : ℕ → ℕ → ℕ → List ℕ → Option ℕ
+number_said least greatest most_digits word =
+    let number = digits_value 10 word in
+    if list_all is_ascii_digit word && nat_le (length word) most_digits && nat_le least number && nat_le number greatest then Some number else None
+
+-- a limit is one to seven digits
+abbrev pub limit_said : List ℕ → Option ℕ
+limit_said word = number_said 1 1_048_576 7 word
+
+-- the hours and minutes of a clock, in seconds
+abbrev pub clock_seconds : Option ℕ → Option ℕ → Option ℕ
+clock_seconds (Some hour) (Some minute) = Some (hour * 3600 + minute * 60)
+clock_seconds (Some hour) None = None
+clock_seconds None minute = None
+
+-- a plus, 43, or a minus, 45, before a number
+abbrev pub with_sign : ℕ → Option ℕ → Option ℤ
+with_sign sign None = None
+with_sign sign (Some number) =
+    if sign == 43 then Some (pos number) else (if sign == 45 then Some (neg_ℤ (pos number)) else None)
+
+-- an offset from UTC as `+HH:MM` or `-HH:MM`, which RFC 3339, section 5.6, calls a time-numoffset, in seconds
+unfoldable pub offset_said : List ℕ → Option ℤ
+offset_said (sign ∷ h ∷ i ∷ colon ∷ m ∷ n ∷ []) =
+    if colon == 58 then with_sign sign (clock_seconds (number_said 0 23 2 (h ∷ i ∷ [])) (number_said 0 59 2 (m ∷ n ∷ []))) else None
+offset_said _ = None
+
+-- hours and minutes of a clock: whole minutes within 23:59, in seconds
+abbrev pub IsClockOffset : ℤ → Type 0
+IsClockOffset offset = (unsigned_abs offset % 60 ≡ 0) × (unsigned_abs offset ≤ 86_340)
+
+-- `-` says that no offset is assumed
+abbrev pub assumed_said : List ℕ → Option (Option ℤ)
+assumed_said word = if bytes_eq word (codes "-") then Some None else None
+
+abbrev pub source_said : List ℕ → Option SourceText
+source_said word = if bytes_eq word (codes "rfc3339") then Some Rfc3339 else None

@@ -1,0 +1,59 @@
+//! What all words say.
+
+ghost use Rattle.std.specs.Prelude.{◌≡◌, ◌≢◌, ◌<◌, Ok, Err, None, map, length, IsOk, IfOk, IfErr};
+ghost use Rattle.std.specs.Int.{IsInRange};
+ghost use Rattle.instants_words.specs.Pieces.{IsClockOffset};
+ghost use Rattle.instants_words.specs.Words.{words_said};
+
+use crate::fault::WordsFault;
+use crate::pieces;
+use crate::sources::{SourceText, Sources};
+use calendar::UtcOffset;
+use std::alloc::Global;
+
+/// What the words of the program say.
+#[derive(Drop)]
+pub struct Words {
+    /// The offset to show moments in.
+    pub target: UtcOffset,
+    /// The offset to assume where a line has none.
+    pub assumed: Option<UtcOffset>,
+    /// How many bytes a line may have, from 1 to 1048576.
+    pub limit: usize,
+    /// How lines may be written, in the order in which this is tried.
+    pub sources: Sources,
+}
+
+/// Reads the words of the program: a target offset, `-`, a limit, and the source `rfc3339`.
+///
+/// `Memory` comes only where a growth of the list of sources was refused.
+#[tactic(auto, unfolding(crate::specs::Words::words_said))]
+pub fn read_words(alloc: Global, words: &[&str]) -> Result<Words, WordsFault>
+    ensures ok { IfOk result (λ read. words_said (map (λ word. word.now) words.now) ≡ Ok read) }
+    ensures err { IfErr result (λ fault. fault ≢ WordsFault.Memory → words_said (map (λ word. word.now) words.now) ≡ Err fault) }
+    // What words that are accepted say is in range.
+    ensures target { IfOk result (λ read. IsClockOffset read.target) }
+    ensures assumed { IfOk result (λ read. read.assumed ≡ None) }
+    ensures limit { IfOk result (λ read. IsInRange 1 1_048_576 read.limit) }
+    ensures sources { IfOk result (λ read. 0 < length read.sources) }
+
+    ensures memory { result ≡ Err WordsFault.Memory → IsOk (words_said (map (λ word. word.now) words.now)) }
+{
+    let [target, assumed, limit, source, others @ ..] = words else {
+        return Err(WordsFault::Usage);
+    };
+    let target = pieces::offset(target.as_bytes()).ok_or(WordsFault::Target)?;
+    let assumed = pieces::assumed(assumed).ok_or(WordsFault::Assumed)?;
+    let limit = pieces::limit(limit.as_bytes()).ok_or(WordsFault::Limit)?;
+    let source = pieces::source(source).ok_or(WordsFault::Source(1))?;
+    if !others.is_empty() {
+        return Err(WordsFault::Source(2));
+    }
+    let sources = Sources::one(alloc, source).map_err(|_| WordsFault::Memory)?;
+    Ok(Words {
+        target,
+        assumed,
+        limit,
+        sources,
+    })
+}

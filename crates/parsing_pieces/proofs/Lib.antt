@@ -1,0 +1,9 @@
+pub mod ClockWords
+pub mod Decimal
+pub mod DigitWords
+pub mod Fixed
+pub mod Fractions
+pub mod Fronts
+pub mod Lanes
+pub mod Numbers
+pub mod YearMonthWords

@@ -1,0 +1,29 @@
+-- Eight bytes as one number, the first byte the lowest.
+use Rattle.std.specs.Prelude.{◌≡◌, ℕ, ◌+◌, ◌*◌, ◌/◌, List, [], ◌∷◌, length, take, drop, Option, Some, None, nat_le, if◌then◌else◌}
+use Rattle.parsing_pieces.specs.Pieces.{Piece, digits, byte}
+
+-- the number of bytes
+unfoldable pub word : List ℕ → ℕ
+word [] = 0
+word (b ∷ bs) = word bs * 256 + b
+
+-- in each byte ten times that byte and the next one
+abbrev pub paired : ℕ → ℕ
+paired digits = digits * 10 + digits / 256
+
+-- `1985-04-`
+pub record IsYearMonth (bytes : List ℕ) (year month : ℕ) (rest : List ℕ) : Type 0 where
+  pub year_digits : digits 4 bytes ≡ Some (year, drop 4 bytes)
+  pub first_dash : byte 45 (drop 4 bytes) ≡ Some (45, drop 5 bytes)
+  pub month_digits : digits 2 (drop 5 bytes) ≡ Some (month, drop 7 bytes)
+  pub second_dash : byte 45 (drop 7 bytes) ≡ Some (45, drop 8 bytes)
+  pub rest_is : drop 8 bytes ≡ rest
+
+-- `23:20:50`
+pub record IsClock (bytes : List ℕ) (hour minute second : ℕ) (rest : List ℕ) : Type 0 where
+  pub hour_digits : digits 2 bytes ≡ Some (hour, drop 2 bytes)
+  pub first_colon : byte 58 (drop 2 bytes) ≡ Some (58, drop 3 bytes)
+  pub minute_digits : digits 2 (drop 3 bytes) ≡ Some (minute, drop 5 bytes)
+  pub second_colon : byte 58 (drop 5 bytes) ≡ Some (58, drop 6 bytes)
+  pub second_digits : digits 2 (drop 6 bytes) ≡ Some (second, drop 8 bytes)
+  pub rest_is : drop 8 bytes ≡ rest

@@ -1,0 +1,79 @@
+//! Functions that cut a piece off the front of bytes, where they have such a front.
+ghost use Rattle.std.specs.Prelude.{◌≡◌, ◌≤◌, ◌<◌, ◌^◌, IfSome, length};
+ghost use Rattle.parsing_pieces.specs.Pieces as Pieces;
+
+/// Exactly two digits.
+#[tactic(auto, using(crate::proofs::Fixed::digits_two, crate::proofs::Fixed::digits_two_there))]
+#[inline(always)]
+pub fn two_digits(bytes: &[u8]) -> Option<(u8, &[u8])>
+    ensures cut { Pieces.cut_view result ≡ Pieces.digits 2 bytes.now }
+    ensures bound { IfSome result (λ x. x.0 < 100) }
+{
+    match bytes {
+        [a, b, rest @ ..] if a.is_ascii_digit() && b.is_ascii_digit() => {
+            Some(((*a - b'0') * 10 + (*b - b'0'), rest))
+        }
+        _ => None,
+    }
+}
+
+// One digit.
+#[tactic(auto, using(crate::proofs::Fixed::digits_one, crate::proofs::Fixed::digits_one_there))]
+#[inline(always)]
+pub(crate) fn one_digit(bytes: &[u8]) -> Option<(u8, &[u8])>
+    ensures cut { Pieces.cut_view result ≡ Pieces.digits 1 bytes.now }
+    ensures bound { IfSome result (λ x. x.0 < 10) }
+{
+    match bytes {
+        [a, rest @ ..] if a.is_ascii_digit() => Some((*a - b'0', rest)),
+        _ => None,
+    }
+}
+
+/// Exactly four digits.
+#[tactic(auto, using(crate::proofs::Fixed::digits_four))]
+#[inline(always)]
+pub fn four_digits(bytes: &[u8]) -> Option<(u16, &[u8])>
+    ensures cut { Pieces.cut_view result ≡ Pieces.digits 4 bytes.now }
+    ensures bound { IfSome result (λ x. x.0 < 10_000) }
+{
+    let (high, rest) = two_digits(bytes)?;
+    let (low, rest) = two_digits(rest)?;
+    Some((u16::from(high) * 100 + u16::from(low), rest))
+}
+
+/// The byte `wanted`.
+#[tactic(auto, unfolding(crate::specs::Pieces::byte_of))]
+#[inline(always)]
+pub fn byte(wanted: u8, bytes: &[u8]) -> Option<(u8, &[u8])>
+    ensures { Pieces.cut_view result ≡ Pieces.byte wanted bytes.now }
+{
+    match bytes {
+        [b, rest @ ..] if *b == wanted => Some((*b, rest)),
+        _ => None,
+    }
+}
+
+/// Any byte.
+#[tactic(auto, unfolding(crate::specs::Pieces::byte_of))]
+#[inline(always)]
+pub fn any_byte(bytes: &[u8]) -> Option<(u8, &[u8])>
+    ensures { Pieces.cut_view result ≡ Pieces.any_byte bytes.now }
+{
+    match bytes {
+        [b, rest @ ..] => Some((*b, rest)),
+        _ => None,
+    }
+}
+
+/// A plus or a minus.
+#[tactic(auto, unfolding(crate::specs::Pieces::byte_of))]
+#[inline(always)]
+pub fn sign(bytes: &[u8]) -> Option<(u8, &[u8])>
+    ensures { Pieces.cut_view result ≡ Pieces.sign bytes.now }
+{
+    match bytes {
+        [b, rest @ ..] if *b == b'+' || *b == b'-' => Some((*b, rest)),
+        _ => None,
+    }
+}

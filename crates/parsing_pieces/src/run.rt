@@ -1,0 +1,85 @@
+//! Runs of digits, and fractions of a second.
+ghost use Rattle.std.specs.Prelude.{◌≡◌, ◌≤◌, ◌<◌, ◌^◌, IfSome, length};
+ghost use Rattle.std.specs.Str.Parse.{digits_value};
+ghost use Rattle.parsing_pieces.specs.Pieces as Pieces;
+
+use crate::cut::one_digit;
+use crate::word::nine_digits;
+
+// How many digits the bytes begin with.
+#[tactic(auto, using(crate::proofs::Decimal::digit_count_within))]
+fn leading_digits(bytes: &[u8]) -> usize
+    ensures count { result ≡ Pieces.digit_count bytes.now }
+    ensures within { result ≤ length bytes.now }
+{
+    bytes.iter().take_while(|b| b.is_ascii_digit()).count()
+}
+
+/// All digits that are there, at least one.
+#[tactic(auto, using(crate::proofs::Decimal::count_front), unfolding(crate::specs::Pieces::digit_run))]
+pub fn digit_run(bytes: &[u8]) -> Option<(&[u8], &[u8])>
+    ensures cut { Pieces.run_view result ≡ Pieces.digit_run bytes.now }
+    ensures all { IfSome result (λ x. Pieces.digit_count x.0.now ≡ length x.0.now) }
+{
+    let n = leading_digits(bytes);
+    if n == 0 {
+        return None;
+    }
+    Some(bytes.split_at(n))
+}
+
+// The number that at most nine digits write.
+fn number(front: &[u8]) -> u32
+    requires short { length front.now ≤ 9 }
+    requires all { Pieces.digit_count front.now ≡ length front.now }
+    ensures value { result ≡ digits_value 10 front.now }
+    ensures bound { result < 10 ^ length front.now }
+{
+    let mut value = 0;
+    for b in front {
+        value = value * 10 + u32::from(*b - b'0');
+    }
+    value
+}
+
+// The whole nanoseconds of a fraction with these digits.
+#[tactic(auto, using(crate::proofs::Decimal::count_front))]
+fn nanoseconds(run: &[u8]) -> u32
+    requires { Pieces.digit_count run.now ≡ length run.now }
+    ensures value { result ≡ Pieces.nanoseconds_of run.now }
+    ensures bound { result < 1_000_000_000 }
+{
+    let used = run.len().min(9);
+    let mut value = number(&run[..used]);
+    for _ in used..9 {
+        value *= 10;
+    }
+    value
+}
+
+// A fraction of any number of digits.
+#[tactic(auto, unfolding(crate::specs::Pieces::fraction))]
+fn any_fraction(bytes: &[u8]) -> Option<(u32, &[u8])>
+    ensures cut { Pieces.cut_view result ≡ Pieces.fraction bytes.now }
+    ensures bound { IfSome result (λ x. x.0 < 1_000_000_000) }
+{
+    let (run, rest) = digit_run(bytes)?;
+    Some((nanoseconds(run), rest))
+}
+
+/// The whole nanoseconds of a fraction of a second: all digits that are there, at least one.
+///
+/// Digits past the ninth are read and have no effect.
+#[tactic(auto, using(crate::proofs::Fractions::fraction_of_nine))]
+#[inline(always)]
+pub fn fraction(bytes: &[u8]) -> Option<(u32, &[u8])>
+    ensures cut { Pieces.cut_view result ≡ Pieces.fraction bytes.now }
+    ensures bound { IfSome result (λ x. x.0 < 1_000_000_000) }
+{
+    if let Some((value, rest)) = nine_digits(bytes)
+        && one_digit(rest).is_none()
+    {
+        return Some((value, rest));
+    }
+    any_fraction(bytes)
+}

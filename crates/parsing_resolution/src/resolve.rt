@@ -1,0 +1,45 @@
+//! The values that numbers name: the first number out of range is refused.
+ghost use Rattle.std.specs.Prelude.{◌≡◌, ◌≤◌, ◌<◌};
+ghost use Rattle.parsing_resolution.specs.Resolution.{date_of, leap_time_of, signed_offset_of};
+
+use calendar::{ComponentRange, Date, Month, Time, UtcOffset};
+
+/// The date with this year, month and day of the month.
+#[tactic(auto, unfolding(crate::specs::Resolution::date_of))]
+#[inline(always)]
+pub fn date(year: i32, month: u8, day: u8) -> Result<Date, ComponentRange>
+    ensures { result ≡ date_of year month day }
+{
+    let month = Month::try_from(month)?;
+    Date::from_calendar_date(year, month, day)
+}
+
+/// The time of day with these parts: second 60 stands for the last nanosecond of its minute.
+#[tactic(auto, unfolding(crate::specs::Resolution::leap_time_of))]
+#[inline(always)]
+pub fn leap_time(hour: u8, minute: u8, second: u8, nanosecond: u32) -> Result<Time, ComponentRange>
+    ensures { result ≡ leap_time_of hour minute second nanosecond }
+{
+    let (second, nanosecond) = if second == 60 {
+        (59, 999_999_999)
+    } else {
+        (second, nanosecond)
+    };
+    Time::from_hms_nano(hour, minute, second, nanosecond)
+}
+
+/// The offset of hours and minutes under one sign.
+#[tactic(auto, unfolding(crate::specs::Resolution::signed_offset_of))]
+#[inline(always)]
+pub fn signed_offset(is_negative: bool, hours: u8, minutes: u8) -> Result<UtcOffset, ComponentRange>
+    requires hours { hours < 100 }
+    requires minutes { minutes < 100 }
+    ensures { result ≡ signed_offset_of is_negative hours minutes }
+{
+    let (hours, minutes) = (hours as i8, minutes as i8);
+    if is_negative {
+        UtcOffset::from_hms(-hours, -minutes, 0)
+    } else {
+        UtcOffset::from_hms(hours, minutes, 0)
+    }
+}

@@ -1,0 +1,40 @@
+//! The moment that a text names.
+ghost use Rattle.std.specs.Prelude.{IfErr};
+ghost use Rattle.parsing_pieces.specs.FaultOf.{Gives, fault_of};
+ghost use Rattle.parsing_pieces.specs.ShortName.{HasShortName};
+ghost use Rattle.parsing_rfc3339.specs.Direct.{direct};
+
+use crate::reading::front;
+use datetime::OffsetDateTime;
+use parsing_pieces::{Parse, ParseFromDescription};
+use parsing_resolution::{leap_checked, resolve};
+
+/// The moment that a text of RFC 3339, section 5.6, names, with any one byte between date and time.
+///
+/// The first fault counts: what can't be read, the offset's range, what follows, the ranges of date and time, and last
+/// whether a second 60 can be a leap second.
+#[tactic(auto, unfolding(crate::specs::Direct::direct, crate::specs::Direct::moment))]
+#[inline(always)]
+pub fn read(input: &[u8]) -> Result<OffsetDateTime, Parse>
+    ensures gives { Gives (λ d. d) fault_of result (direct input.now) }
+    ensures short_name { IfErr result (λ e. HasShortName (fault_of e)) }
+{
+    let (written, rest) = front(input)?;
+    let offset = resolve::signed_offset(
+        written.offset_is_negative,
+        written.offset_hour,
+        written.offset_minute,
+    )?;
+    if !rest.is_empty() {
+        return Err(ParseFromDescription::UnexpectedTrailingCharacters.into());
+    }
+    let date = resolve::date(i32::from(written.year), written.month, written.day)?;
+    let time = resolve::leap_time(
+        written.hour,
+        written.minute,
+        written.second,
+        written.nanosecond,
+    )?;
+    let shown = OffsetDateTime::new_in_offset(date, time, offset);
+    Ok(leap_checked(written.second == 60, shown)?)
+}

@@ -1,0 +1,154 @@
+//! Readings of the parts of a text.
+ghost use Rattle.std.specs.Prelude.{◌≡◌, ◌≤◌, ◌<◌, IfOk};
+ghost use Rattle.parsing_pieces.specs.FaultOf.{Gives, reading_fault};
+ghost use Rattle.parsing_pieces.specs.Pieces.{cut_view};
+ghost use Rattle.parsing_rfc3339.specs.Reading as Reading;
+
+use crate::written::Written;
+use parsing_pieces::{
+    ParseFromDescription, any_byte, byte, four_digits, fraction, sign, two_digits, year_month,
+};
+
+// A date, piece by piece.
+#[cold]
+#[tactic(auto, unfolding(crate::specs::Reading::date))]
+fn date_by_pieces(bytes: &[u8]) -> Result<((u16, u8, u8), &[u8]), ParseFromDescription>
+    ensures { Gives (λ x. (x.0, x.1.now)) reading_fault result (Reading.date bytes.now) }
+{
+    let (year, rest) = four_digits(bytes).ok_or(ParseFromDescription::InvalidComponent("year"))?;
+    let (_, rest) = byte(b'-', rest).ok_or(ParseFromDescription::InvalidLiteral)?;
+    let (month, rest) = two_digits(rest).ok_or(ParseFromDescription::InvalidComponent("month"))?;
+    if month == 0 {
+        return Err(ParseFromDescription::InvalidComponent("month"));
+    }
+    let (_, rest) = byte(b'-', rest).ok_or(ParseFromDescription::InvalidLiteral)?;
+    let (day, rest) = two_digits(rest).ok_or(ParseFromDescription::InvalidComponent("day"))?;
+    Ok(((year, month, day), rest))
+}
+
+#[tactic(auto, unfolding(crate::specs::Reading::date))]
+#[inline(always)]
+fn date(bytes: &[u8]) -> Result<((u16, u8, u8), &[u8]), ParseFromDescription>
+    ensures { Gives (λ x. (x.0, x.1.now)) reading_fault result (Reading.date bytes.now) }
+{
+    if let Some(((year, month), rest)) = year_month(bytes)
+        && month > 0
+    {
+        let (day, rest) = two_digits(rest).ok_or(ParseFromDescription::InvalidComponent("day"))?;
+        return Ok(((year, month, day), rest));
+    }
+    date_by_pieces(bytes)
+}
+
+// A time of day to the second, piece by piece.
+#[cold]
+#[tactic(auto, unfolding(crate::specs::Reading::clock))]
+fn clock_by_pieces(bytes: &[u8]) -> Result<((u8, u8, u8), &[u8]), ParseFromDescription>
+    ensures { Gives (λ x. (x.0, x.1.now)) reading_fault result (Reading.clock bytes.now) }
+{
+    let (hour, rest) = two_digits(bytes).ok_or(ParseFromDescription::InvalidComponent("hour"))?;
+    let (_, rest) = byte(b':', rest).ok_or(ParseFromDescription::InvalidLiteral)?;
+    let (minute, rest) = two_digits(rest).ok_or(ParseFromDescription::InvalidComponent("minute"))?;
+    let (_, rest) = byte(b':', rest).ok_or(ParseFromDescription::InvalidLiteral)?;
+    let (second, rest) = two_digits(rest).ok_or(ParseFromDescription::InvalidComponent("second"))?;
+    Ok(((hour, minute, second), rest))
+}
+
+#[tactic(auto, unfolding(crate::specs::Reading::clock))]
+#[inline(always)]
+fn clock(bytes: &[u8]) -> Result<((u8, u8, u8), &[u8]), ParseFromDescription>
+    ensures { Gives (λ x. (x.0, x.1.now)) reading_fault result (Reading.clock bytes.now) }
+{
+    if let Some((parts, rest)) = parsing_pieces::clock(bytes) {
+        return Ok((parts, rest));
+    }
+    clock_by_pieces(bytes)
+}
+
+#[tactic(auto, unfolding(crate::specs::Reading::subsecond))]
+#[inline(always)]
+fn subsecond(bytes: &[u8]) -> Result<(u32, &[u8]), ParseFromDescription>
+    ensures gives { Gives (λ x. (x.0, x.1.now)) reading_fault result (Reading.subsecond bytes.now) }
+    ensures bound { IfOk result (λ x. x.0 < 1_000_000_000) }
+{
+    let Some((_, rest)) = byte(b'.', bytes) else {
+        return Ok((0, bytes));
+    };
+    fraction(rest).ok_or(ParseFromDescription::InvalidComponent("subsecond"))
+}
+
+#[tactic(auto, unfolding(crate::specs::Reading::zulu, parsing_pieces::specs::Pieces::byte_of))]
+#[inline(always)]
+fn zulu(bytes: &[u8]) -> Option<(u8, &[u8])>
+    ensures { cut_view result ≡ Reading.zulu bytes.now }
+{
+    match bytes {
+        [b, rest @ ..] if *b == b'Z' || *b == b'z' => Some((*b, rest)),
+        _ => None,
+    }
+}
+
+#[tactic(auto, unfolding(crate::specs::Reading::signed_offset))]
+#[inline(always)]
+fn signed_offset(bytes: &[u8]) -> Result<((bool, u8, u8), &[u8]), ParseFromDescription>
+    ensures gives { Gives (λ x. (x.0, x.1.now)) reading_fault result (Reading.signed_offset bytes.now) }
+    ensures hour { IfOk result (λ x. x.0.1 ≤ 23) }
+    ensures minute { IfOk result (λ x. x.0.2 < 100) }
+{
+    let (mark, rest) = sign(bytes).ok_or(ParseFromDescription::InvalidComponent("offset hour"))?;
+    let (hour, rest) = two_digits(rest).ok_or(ParseFromDescription::InvalidComponent(
+        "offset hour",
+    ))?;
+    if hour > 23 {
+        return Err(ParseFromDescription::InvalidComponent("offset hour"));
+    }
+    let (_, rest) = byte(b':', rest).ok_or(ParseFromDescription::InvalidLiteral)?;
+    let (minute, rest) = two_digits(rest).ok_or(ParseFromDescription::InvalidComponent(
+        "offset minute",
+    ))?;
+    Ok(((mark == b'-', hour, minute), rest))
+}
+
+#[tactic(auto, unfolding(crate::specs::Reading::offset))]
+#[inline(always)]
+fn offset(bytes: &[u8]) -> Result<((bool, u8, u8), &[u8]), ParseFromDescription>
+    ensures gives { Gives (λ x. (x.0, x.1.now)) reading_fault result (Reading.offset bytes.now) }
+    ensures hour { IfOk result (λ x. x.0.1 ≤ 23) }
+    ensures minute { IfOk result (λ x. x.0.2 < 100) }
+{
+    if let Some((_, rest)) = zulu(bytes) {
+        return Ok(((false, 0, 0), rest));
+    }
+    signed_offset(bytes)
+}
+
+/// The numbers at the front of the bytes, and the rest.
+#[tactic(auto, unfolding(crate::specs::Reading::rfc3339))]
+#[inline(always)]
+pub fn front(bytes: &[u8]) -> Result<(Written, &[u8]), ParseFromDescription>
+    ensures gives { Gives (λ x. (x.0, x.1.now)) reading_fault result (Reading.rfc3339 bytes.now) }
+    ensures nanosecond { IfOk result (λ x. x.0.nanosecond < 1_000_000_000) }
+    ensures offset_hour { IfOk result (λ x. x.0.offset_hour ≤ 23) }
+    ensures offset_minute { IfOk result (λ x. x.0.offset_minute < 100) }
+{
+    let ((year, month, day), rest) = date(bytes)?;
+    let (_, rest) = any_byte(rest).ok_or(ParseFromDescription::InvalidComponent("separator"))?;
+    let ((hour, minute, second), rest) = clock(rest)?;
+    let (nanosecond, rest) = subsecond(rest)?;
+    let ((offset_is_negative, offset_hour, offset_minute), rest) = offset(rest)?;
+    Ok((
+        Written {
+            year,
+            month,
+            day,
+            hour,
+            minute,
+            second,
+            nanosecond,
+            offset_is_negative,
+            offset_hour,
+            offset_minute,
+        },
+        rest,
+    ))
+}

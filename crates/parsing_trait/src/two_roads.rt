@@ -1,0 +1,31 @@
+//! Formats whose texts name a moment by a reading of their own.
+ghost use Rattle.std.specs.Prelude.{ℕ, List, Result, IfErr};
+ghost use Rattle.datetime.specs.Wall.{Shown};
+ghost use Rattle.parsing_pieces.specs.Fault.{Fault};
+ghost use Rattle.parsing_pieces.specs.FaultOf.{Gives, fault_of};
+ghost use Rattle.parsing_pieces.specs.ShortName.{HasShortName};
+ghost use Rattle.parsing_rfc3339.specs.Direct as Direct;
+
+use datetime::OffsetDateTime;
+use description_items::Rfc3339;
+use parsing_pieces::Parse;
+
+/// A format that names a whole moment, so that its texts can be read without a record of components.
+pub trait TwoRoads {
+    // The moment that a text names, or its first fault.
+    ghost direct: { Self → List ℕ → Result Shown Fault };
+
+    /// The moment that the text names; the whole text has to be read.
+    fn read_direct(&self, input: &[u8]) -> Result<OffsetDateTime, Parse>
+        ensures gives { Gives (λ d. d) fault_of result (direct self.now input.now) }
+        ensures short_name { IfErr result (λ e. HasShortName (fault_of e)) };
+}
+
+impl TwoRoads for Rfc3339 {
+    ghost direct = { λ _. Direct.direct };
+
+    #[inline(always)]
+    fn read_direct(&self, input: &[u8]) -> Result<OffsetDateTime, Parse> {
+        parsing_rfc3339::read(input)
+    }
+}
