@@ -1,6 +1,6 @@
 -- A wall clock some seconds later: the seconds of the day are counted from three days earlier on, so that none is below 0.
-use Rattle.std.proofs.Common.{◌≡◌, ℕ, ◌+◌, ◌*◌, ◌/◌, ◌%◌, ◌<◌, ◌≤◌, ℤ, pos, ◌+ℤ◌, ◌*ℤ◌, arith}
-use Rattle.calendar_count.specs.Range.{last_count, unix_epoch}
+use Rattle.std.proofs.Common.{◌≡◌, ℕ, ◌+◌, ◌*◌, ◌/◌, ◌%◌, ◌<◌, ℤ, pos, ◌+ℤ◌, ◌*ℤ◌, arith}
+use Rattle.calendar_count.specs.Range.{last_count}
 use Rattle.calendar_count.proofs.Signed.{signed}
 use Rattle.datetime_wall.specs.Wall.{second_nanos, day_nanos, wall_clock, IsWallClock}
 

@@ -1,5 +1,5 @@
 -- An instant as the clock at an offset shows it.
-use Rattle.std.proofs.Common.{◌≡◌, ◌+◌, refl, arith, Option, Some, None, ℤ, pos, ◌+ℤ◌, ◌-ℤ◌, ◌*ℤ◌}
+use Rattle.std.proofs.Common.{◌≡◌, refl, arith, Some, None, ℤ, pos, ◌+ℤ◌, ◌-ℤ◌, ◌*ℤ◌}
 use Rattle.calendar_count.proofs.Signed.{signed}
 use Rattle.datetime_wall.specs.Wall.{second_nanos, Shown, IsWallClock, instant, wall_at, shown_at}
 use Rattle.datetime_wall.proofs.WallLemmas.{is_wall_clock_yes, is_wall_clock_no}

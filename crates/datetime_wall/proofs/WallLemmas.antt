@@ -1,11 +1,11 @@
 -- Wall clocks by their days and their nanoseconds of the day.
-use Rattle.std.proofs.Common.{◌≡◌, ℕ, ◌+◌, ◌*◌, ◌<◌, ◌≤◌, true, false, ℤ, pos, ◌+ℤ◌, ◌-ℤ◌, ◌*ℤ◌, ◌≤ℤ◌, arith}
+use Rattle.std.proofs.Common.{◌≡◌, ℕ, ◌<◌, true, false, ℤ, arith}
 use Rattle.std.proofs.lemmas.Bool.{false_from_ne_true}
 use Rattle.std.proofs.lemmas.Bool.Decides.{nat_tests}
 use Rattle.std.proofs.lemmas.Int.{ints}
-use Rattle.calendar_count.specs.Range.{IsCount, unix_epoch}
+use Rattle.calendar_count.specs.Range.{IsCount}
 use Rattle.calendar_count.proofs.Signed.{signed}
-use Rattle.datetime_wall.specs.Wall.{second_nanos, day_nanos, wall_clock, day_of, nanosecond_of, IsWallClock, is_wall_clock}
+use Rattle.datetime_wall.specs.Wall.{day_nanos, wall_clock, day_of, nanosecond_of, IsWallClock, is_wall_clock}
 
 -- a day and a nanosecond of the day come back from their wall clock
 pub day_of-wall_clock : (day nanosecond : ℕ) → nanosecond < day_nanos → day_of (wall_clock day nanosecond) ≡ day

@@ -2,12 +2,8 @@
 use Rattle.std.specs.Prelude.{ℕ, ◌+◌, ◌-◌, ◌*◌, Bool, ◌&&◌, Option, None, Some, if◌then◌else◌, ℤ, pos, neg_ℤ, ◌+ℤ◌, ◌-ℤ◌, ◌*ℤ◌, ◌≤ℤ◌, int_le, unsigned_abs}
 use Rattle.std.specs.Int.{int_div_euclid, int_rem_euclid}
 use Rattle.calendar_count.specs.Range.{last_count, unix_epoch}
-
-abbrev pub second_nanos : ℕ
-second_nanos = 1_000_000_000
-
-abbrev pub day_nanos : ℕ
-day_nanos = 86_400_000_000_000
+-- the nanoseconds of a second and of a day
+pub use Rattle.calendar.specs.Time.{second_nanos, day_nanos}
 
 -- what a clock shows on a day, by its count, at a nanosecond of the day: the nanoseconds since 1970 began on that clock
 unfoldable pub wall_clock : ℕ → ℕ → ℤ

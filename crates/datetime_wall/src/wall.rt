@@ -4,7 +4,7 @@ ghost use Rattle.calendar.specs.Range.{unix_epoch, IsCount};
 ghost use Rattle.datetime_wall.specs.Wall.{second_nanos, day_nanos, wall_clock, instant, IsWallClock};
 
 use calendar::{Date, Time, UtcOffset};
-use calendar_count::range::LAST_COUNT;
+use calendar_count::range::{LAST_COUNT, UNIX_EPOCH};
 
 const DAY_SECONDS: u32 = 86_400;
 
@@ -12,9 +12,6 @@ const DAY_SECONDS: u32 = 86_400;
 const SHIFT_DAYS: u32 = 3;
 
 const SHIFT_SECONDS: i32 = 259_200;
-
-// The days from the first day to 1970-01-01.
-const UNIX_EPOCH: i64 = 365_961_662;
 
 // The second of the day so many seconds later, counted from three days earlier on.
 #[inline(always)]
@@ -57,7 +54,7 @@ pub fn instant_nanoseconds(date: Date, time: Time, offset: UtcOffset) -> i128
     ensures value { result ≡ instant (record { wall = wall_clock date time; offset = offset }) }
     ensures bound { unsigned_abs result ≤ (unix_epoch + 2) * day_nanos }
 {
-    let days = date.count() as i64 - UNIX_EPOCH;
+    let days = date.count() as i64 - UNIX_EPOCH as i64;
     let second = time.second_of_day() as i64 - offset.whole_seconds() as i64;
     let seconds = days * DAY_SECONDS as i64 + second;
     seconds as i128 * 1_000_000_000 + time.nanosecond() as i128

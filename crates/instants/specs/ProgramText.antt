@@ -3,9 +3,7 @@ use Rattle.std.specs.Prelude.{ℕ, List, ◌++◌, codes}
 use Rattle.std.specs.Fmt.{decimal}
 use Rattle.instants_words.specs.declared.fault.WordsFault.{WordsFault}
 use Rattle.instants_words.specs.declared.fault.WordsFault.TheVariants as words
-use Rattle.instants_stream.specs.declared.run.RunFault.{RunFault}
 use Rattle.instants_stream.specs.declared.run.RunFault.TheVariants as run
-use Rattle.instants.specs.declared.timeline.NewFault.{NewFault}
 use Rattle.instants.specs.declared.timeline.NewFault.TheVariants as new
 use Rattle.instants.specs.declared.program_fault.ProgramFault.{ProgramFault}
 use Rattle.instants.specs.declared.program_fault.ProgramFault.TheVariants as program

@@ -5,15 +5,9 @@
 pub mod laws;
 mod line_fault;
 mod program_fault;
-mod stream;
 mod source;
+mod stream;
 mod timeline;
-
-pub use line_fault::LineFault;
-pub use program_fault::ProgramFault;
-pub use stream::run;
-pub use source::Source;
-pub use timeline::{NewFault, Timeline};
 
 pub use instants_devices::{
     ByteReader, ByteWriter, CutReader, CutWriter, DeviceFailed, StdReader, StdWriter,
@@ -21,3 +15,8 @@ pub use instants_devices::{
 pub use instants_lines::{Answer, fits_line, rfc3339_line};
 pub use instants_stream::RunFault;
 pub use instants_words::{SourceText, Words, WordsFault, read_words};
+pub use line_fault::LineFault;
+pub use program_fault::ProgramFault;
+pub use source::Source;
+pub use stream::run;
+pub use timeline::{NewFault, Timeline};

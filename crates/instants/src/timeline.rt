@@ -1,6 +1,5 @@
 //! Lines placed on one timeline.
 ghost use Rattle.std.specs.Prelude.{◌≡◌, ◌<◌, ◌≤◌, length, map, None, IfOk, IfErr};
-
 ghost use Rattle.std.specs.Result.{result_ok};
 ghost use Rattle.parsing_pieces.specs.FaultOf.{fault_of, Gives};
 ghost use Rattle.parsing_pieces.specs.ShortName.{HasShortName};

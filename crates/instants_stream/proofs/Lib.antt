@@ -3,4 +3,4 @@ pub mod Progress
 pub mod Chunks
 pub mod ChunkSteps
 pub mod Pending
-pub mod Lanes
+pub mod Searched

@@ -11,7 +11,7 @@ use Rattle.parsing_pieces.specs.FaultOf.{Gives, fault_of}
 use Rattle.parsing_pieces.specs.ShortName.{HasShortName}
 use Rattle.parsing_resolution.specs.Resolution.{date_of, leap_time_of, signed_offset_of}
 use Rattle.parsing_rfc3339.specs.Reading.{date, clock, subsecond, zulu, signed_offset, offset, rfc3339}
-use Rattle.parsing_rfc3339.specs.Direct.{moment, direct}
+use Rattle.parsing_rfc3339.specs.Direct.{moment, moment_of, direct}
 
 piece_short : {A : Type 0} (f : Fault) (o : Option (A × List ℕ)) → HasShortName f → IfErr (piece_or f o) HasShortName
 piece_short f None h = h
@@ -84,7 +84,7 @@ rfc3339_short b0 =
     then_short _ _ (offset_short b4) (λ z b5. tt)))))
 
 moment_short : (bytes : List ℕ) → IfErr (moment bytes) HasShortName
-unfolding moment
+unfolding moment moment_of
 moment_short b0 =
     then_short _ _ (rfc3339_short b0) (λ w b1.
     then_short _ _ (resolved_short (signed_offset_of w.offset_is_negative w.offset_hour w.offset_minute) b1) (λ offset b2.

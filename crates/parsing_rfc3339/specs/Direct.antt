@@ -5,17 +5,22 @@ use Rattle.parsing_pieces.specs.Fault.{Fault}
 use Rattle.parsing_pieces.specs.Readings.{Reading, ◌>>=◌, ◌>>◌, give, resolved, end, value_read}
 use Rattle.parsing_resolution.specs.Resolution.{date_of, leap_time_of, signed_offset_of}
 use Rattle.parsing_resolution.specs.StandIn.{leap_checked}
+use Rattle.parsing_rfc3339.specs.declared.written.Written.{Written}
 use Rattle.parsing_rfc3339.specs.Reading.{rfc3339}
 
--- the numbers; the range of the offset; nothing behind it; the ranges of the date and of the time; the test of a leap second
-unfoldable pub moment : Reading Shown
-moment = do
-  w ← rfc3339
+-- the moment of the numbers: the range of the offset; nothing behind them; the ranges of the date and of the time; the test of a leap second
+unfoldable pub moment_of : Written → Reading Shown
+moment_of w = do
   offset ← resolved (signed_offset_of w.offset_is_negative w.offset_hour w.offset_minute)
   end
   date ← resolved (date_of (pos w.year) w.month w.day)
   time ← resolved (leap_time_of w.hour w.minute w.second w.nanosecond)
   resolved (leap_checked (w.second == 60) (record { wall = wall_clock date time; offset = offset }))
+
+unfoldable pub moment : Reading Shown
+moment = do
+  w ← rfc3339
+  moment_of w
 
 unfoldable pub direct : List ℕ → Result Shown Fault
 direct bytes = value_read (moment bytes)

@@ -1,25 +1,24 @@
 //! The moment that a text names.
-ghost use Rattle.std.specs.Prelude.{IfErr};
+ghost use Rattle.std.specs.Prelude.{◌<◌, IfErr};
 ghost use Rattle.parsing_pieces.specs.FaultOf.{Gives, fault_of};
 ghost use Rattle.parsing_pieces.specs.ShortName.{HasShortName};
-ghost use Rattle.parsing_rfc3339.specs.Direct.{direct};
+ghost use Rattle.parsing_rfc3339.specs.Direct.{direct, moment_of};
+ghost use Rattle.parsing_pieces.specs.Readings.{value_read};
 
-use crate::reading::front;
+use crate::reading::{front, quick_front};
+use crate::written::Written;
 use datetime::OffsetDateTime;
 use parsing_pieces::{Parse, ParseFromDescription};
 use parsing_resolution::{leap_checked, resolve};
 
-/// The moment that a text of RFC 3339, section 5.6, names, with any one byte between date and time.
-///
-/// The first fault counts: what can't be read, the offset's range, what follows, the ranges of date and time, and last
-/// whether a second 60 can be a leap second.
-#[tactic(auto, unfolding(crate::specs::Direct::direct, crate::specs::Direct::moment))]
+// The moment of the numbers that a text has, with what follows them.
+#[tactic(auto, unfolding(crate::specs::Direct::moment_of))]
 #[inline(always)]
-pub fn read(input: &[u8]) -> Result<OffsetDateTime, Parse>
-    ensures gives { Gives (λ d. d) fault_of result (direct input.now) }
-    ensures short_name { IfErr result (λ e. HasShortName (fault_of e)) }
+fn resolved(written: Written, rest: &[u8]) -> Result<OffsetDateTime, Parse>
+    requires offset_hour { written.offset_hour < 100 }
+    requires offset_minute { written.offset_minute < 100 }
+    ensures { Gives (λ d. d) fault_of result (value_read (moment_of written rest.now)) }
 {
-    let (written, rest) = front(input)?;
     let offset = resolve::signed_offset(
         written.offset_is_negative,
         written.offset_hour,
@@ -37,4 +36,30 @@ pub fn read(input: &[u8]) -> Result<OffsetDateTime, Parse>
     )?;
     let shown = OffsetDateTime::new_in_offset(date, time, offset);
     Ok(leap_checked(written.second == 60, shown)?)
+}
+
+// The moment of a text that is not of the usual shape.
+#[cold]
+#[tactic(auto, unfolding(crate::specs::Direct::direct, crate::specs::Direct::moment))]
+fn read_by_pieces(input: &[u8]) -> Result<OffsetDateTime, Parse>
+    ensures { Gives (λ d. d) fault_of result (direct input.now) }
+{
+    let (written, rest) = front(input)?;
+    resolved(written, rest)
+}
+
+/// The moment that a text of RFC 3339, section 5.6, names, with any one byte between date and time.
+///
+/// The first fault counts: what can't be read, the offset's range, what follows, the ranges of date and time, and last
+/// whether a second 60 can be a leap second.
+#[tactic(auto, unfolding(crate::specs::Direct::direct, crate::specs::Direct::moment))]
+#[inline(always)]
+pub fn read(input: &[u8]) -> Result<OffsetDateTime, Parse>
+    ensures gives { Gives (λ d. d) fault_of result (direct input.now) }
+    ensures short_name { IfErr result (λ e. HasShortName (fault_of e)) }
+{
+    if let Some((written, rest)) = quick_front(input) {
+        return resolved(written, rest);
+    }
+    read_by_pieces(input)
 }

@@ -3,6 +3,9 @@ use Rattle.parsing_rfc3339.specs.Direct.{direct, moment}
 use Rattle.parsing_rfc3339.proofs.ShortNames.{given_short}
 use Rattle.parsing_rfc3339.proofs.direct.read.Goals as goal
 
-pub returns-in_err-written-clause-short_name : goal.returns-in_err-written-clause-short_name
+pub returns-in-Some-clause-short_name : goal.returns-in-Some-clause-short_name
 unfolding direct moment
-returns-in_err-written-clause-short_name c = given_short c.from_residual.result c.args.input.now (search rules)
+returns-in-Some-clause-short_name c = given_short c.resolved.result c.args.input.now (search rules)
+
+pub returns-clause-short_name : goal.returns-clause-short_name
+returns-clause-short_name c = given_short c.read_by_pieces.result c.args.input.now c.read_by_pieces.ensures

@@ -1,4 +1,4 @@
-use Rattle.std.proofs.Common.{arith, rules, sym, ◌≡◌, to_z, of_z, w32, to_z-of_z}
+use Rattle.std.proofs.Common.{rules, sym, ◌≡◌}
 use Rattle.calendar_count.specs.Calendar.{day_at, ymd, IsDay}
 use Rattle.calendar_count.specs.Month.{month_number}
 use Rattle.calendar_count.proofs.TheDayLemmas.{the_day-named, the_day-unnamed}

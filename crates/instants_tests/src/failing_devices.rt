@@ -1,0 +1,179 @@
+//! Readers and writers that fail.
+
+use calendar::UtcOffset;
+use instants::{
+    ByteReader, ByteWriter, CutReader, CutWriter, DeviceFailed, RunFault, SourceText, StdWriter,
+    Timeline, run,
+};
+use std::alloc::Global;
+use std::io;
+use std::io::Write;
+use std::process::Abort;
+use std::test::Fail;
+
+const STREAM: &[u8; 26] = b"1985-04-12T23:20:50.52Z\nx\n";
+
+const OUTPUT: &[u8; 48] = b"1985-04-12T23:20:50.520000000Z\n! component year\n";
+
+const SIZES: [usize; 6] = [1, 2, 3, 5, 7, 26];
+
+// How a run is to end: its answer, and how much of the output is written.
+type End = (Result<(), RunFault>, usize);
+
+// A run over the stream with a limit of 100 bytes, with reads and writes of at most so many bytes that fail after so
+// many.
+fn check(
+    rt: &impl Abort,
+    timeline: &Timeline,
+    most: usize,
+    read_fails: Option<usize>,
+    write_fails: Option<usize>,
+    (wanted, written): End,
+) -> Result<(), Fail> {
+    let mut buffer = [0; 101];
+    let mut space = [0; 100];
+    assert!(rt; most > 0);
+    let mut reader = CutReader::new(STREAM, most, read_fails);
+    let mut writer = CutWriter::new(&mut space, most, write_fails);
+    let answer = run(timeline, &mut buffer, &mut reader, &mut writer);
+    assert!(rt; answer == wanted);
+    assert_eq!(rt; reader.has_failed(), wanted == Err(RunFault::Read));
+    assert_eq!(rt; writer.has_failed(), wanted == Err(RunFault::Write));
+    assert_eq!(rt; writer.flushes(), if wanted.is_ok() { 1 } else { 0 });
+    assert!(rt; written <= OUTPUT.len());
+    assert!(rt; writer.written() == &OUTPUT[..written]);
+    Ok(())
+}
+
+fn make_timeline(alloc: Global) -> Result<Timeline, Fail> {
+    Ok(Timeline::new(alloc, &[SourceText::Rfc3339], UtcOffset::UTC, None)?)
+}
+
+#[test]
+fn all_is_written_and_flushed_once(rt: HostRuntime) -> Result<(), Fail> {
+    let timeline = make_timeline(rt.alloc())?;
+    for most in SIZES {
+        check(&rt, &timeline, most, None, None, (Ok(()), 48))?;
+    }
+    Ok(())
+}
+
+#[test]
+fn reads_that_fail(rt: HostRuntime) -> Result<(), Fail> {
+    let timeline = make_timeline(rt.alloc())?;
+    for most in SIZES {
+        for after in 0..27 {
+            let written = match after {
+                0..=23 => 0,
+                24 | 25 => 31,
+                _ => 48,
+            };
+            let end = (Err(RunFault::Read), written);
+            check(&rt, &timeline, most, Some(after), None, end)?;
+        }
+        let end = (Err(RunFault::Read), 0);
+        check(&rt, &timeline, most, Some(0), Some(0), end)?;
+    }
+    Ok(())
+}
+
+#[test]
+fn writes_and_flushes_that_fail(rt: HostRuntime) -> Result<(), Fail> {
+    let timeline = make_timeline(rt.alloc())?;
+    for most in SIZES {
+        for after in 0..49 {
+            let end = (Err(RunFault::Write), after);
+            check(&rt, &timeline, most, None, Some(after), end)?;
+        }
+    }
+    Ok(())
+}
+
+#[test]
+fn a_long_line_before_a_read_that_fails(rt: HostRuntime) -> Result<(), Fail> {
+    let timeline = make_timeline(rt.alloc())?;
+    for most in SIZES {
+        for (after, output) in [(23, b"".as_slice()), (24, b"! long\n".as_slice())] {
+            let mut buffer = [0; 23];
+            let mut space = [0; 100];
+            let mut reader = CutReader::new(STREAM, most, Some(after));
+            let mut writer = CutWriter::new(&mut space, most, None);
+            let answer = run(&timeline, &mut buffer, &mut reader, &mut writer);
+            assert!(rt; answer == Err(RunFault::Read));
+            assert!(rt; writer.written() == output);
+        }
+    }
+    Ok(())
+}
+
+// A writer that takes no byte.
+#[derive(Drop)]
+struct Full;
+
+impl Write for Full {
+    fn write(&mut self, _bytes: &[u8]) -> io::Result<usize> {
+        Ok(0)
+    }
+
+    fn flush(&mut self) -> io::Result<()> {
+        Ok(())
+    }
+}
+
+#[test]
+fn a_writer_that_takes_no_byte(rt: HostRuntime) -> Result<(), Fail> {
+    let timeline = make_timeline(rt.alloc())?;
+    let mut buffer = [0; 101];
+    let mut reader = CutReader::new(STREAM, 26, None);
+    let mut writer = StdWriter::new(Full);
+    let answer = run(&timeline, &mut buffer, &mut reader, &mut writer);
+    assert!(rt; answer == Err(RunFault::Write));
+    assert!(rt; writer.has_failed());
+    Ok(())
+}
+
+// Counts the reads of a reader that gives all it has.
+#[derive(Drop)]
+struct Counting<'a> {
+    rest: &'a [u8],
+    reads: u8,
+}
+
+impl ByteReader for Counting<'_> {
+    ghost use Rattle.std.specs.Prelude.{None, length, false};
+
+    ghost left = { λ _. None };
+
+    ghost failed = { λ _. false };
+
+    ghost reads_left = { λ s. length s.rest.now };
+
+    fn read(&mut self, into: &mut [u8]) -> Result<usize, DeviceFailed> {
+        self.reads = self.reads.saturating_add(1);
+        let count = into.len().min(self.rest.len());
+        let (front, rest) = self.rest.split_at(count);
+        into[..count].copy_from_slice(front);
+        self.rest = rest;
+        Ok(count)
+    }
+
+    fn has_failed(&self) -> bool {
+        false
+    }
+}
+
+#[test]
+fn one_line_is_two_reads(rt: HostRuntime) -> Result<(), Fail> {
+    let timeline = make_timeline(rt.alloc())?;
+    let mut buffer = [0; 101];
+    let mut space = [0; 100];
+    let mut reader = Counting {
+        rest: b"1985-04-12T23:20:50.52Z\n",
+        reads: 0,
+    };
+    let mut writer = CutWriter::new(&mut space, 100, None);
+    assert!(rt; run(&timeline, &mut buffer, &mut reader, &mut writer).is_ok());
+    assert_eq!(rt; reader.reads, 2);
+    assert!(rt; writer.written() == b"1985-04-12T23:20:50.520000000Z\n".as_slice());
+    Ok(())
+}
