@@ -1,3 +1,4 @@
 pub mod DecimalLemmas
 pub mod PairLemmas
 pub mod AppendLemmas
+pub mod WrittenYears

@@ -9,20 +9,19 @@ ghost use Rattle.instants_lines.specs.Text.{FitsLine, IsTarget, has_written_year
 use crate::answer::Answer;
 use crate::fields::{offset_bytes, push_date, push_time};
 use calendar::UtcOffset;
+use calendar_count::range::{YEAR_TEN_THOUSAND, YEAR_ZERO};
 use datetime::OffsetDateTime;
-
-const GREATEST_YEAR: i32 = 9999;
 
 const GREATEST_OFFSET: u32 = 86_340;
 
 /// Whether four digits write the year that is shown: it is 0 to 9999.
 #[inline(always)]
-#[tactic(auto, unfolding(crate::specs::Text::has_written_year))]
+#[tactic(auto, using(crate::proofs::WrittenYears::written_years), unfolding(crate::specs::Text::has_written_year))]
 pub fn has_written_year(date_time: OffsetDateTime) -> bool
     ensures { result ≡ has_written_year date_time }
 {
-    let (year, _, _) = date_time.date().to_calendar_date();
-    0 <= year && year <= GREATEST_YEAR
+    let count = date_time.date().count();
+    YEAR_ZERO <= count && count < YEAR_TEN_THOUSAND
 }
 
 /// Whether hours and minutes of a clock write the offset: it is of whole minutes, within 23:59.

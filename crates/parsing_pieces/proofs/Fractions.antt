@@ -8,7 +8,7 @@ use Rattle.std.proofs.lemmas.List.{take-append-drop, length-take, length-take-le
 use Rattle.std.proofs.lemmas.List.Sums.{prefix_len-le-length}
 use Rattle.std.proofs.lemmas.Nat.{pow-add, le-div, div_below}
 use Rattle.std.proofs.lemmas.Int.Digits.{digits_value-lt}
-use Rattle.std.proofs.Math.Nat.{mul-div_cancel, mul_assoc, mul-le-mul_right, mul-div-mul_right, pow-le-pow_right, one-le-pow}
+use Rattle.std.proofs.Math.Nat.{mul-lt-mul_of_pos_right, mul-div_cancel, mul_assoc, mul-le-mul_right, mul-div-mul_right, pow-le-pow_right, one-le-pow}
 use Rattle.parsing_pieces.proofs.Decimal.{digit_here, power_next, value_append, count_drop}
 use Rattle.parsing_pieces.specs.Pieces.{digits, digit_count, digit_run, fraction, nanoseconds_of}
 
@@ -72,22 +72,13 @@ nanoseconds_is run used all short long =
       | inr le ↦ let u : used ≡ length run = short le in rw (u, take_all (length run) run (omega arith)) (short_fraction run le)
     ]
 
-grow : (v w a i used p : ℕ) → v ≡ w * 10 ^ (i - used) → used ≤ i → v * 10 ≡ w * 10 ^ (i + 1 - used)
-grow v w a i used p e le = rw (ap (λ (k : ℕ). 10 ^ k) (let q : i + 1 - used ≡ suc (i - used) = omega arith in q), power_next (i - used)) (omega (arith, e, mul_assoc w (10 ^ (i - used)) 10))
-
-pub record Grows (value w i used : ℕ) : Type 0 where
-  pub more : value * 10 ≡ w * 10 ^ (i + 1 - used)
-  pub bound : value * 10 < 10 ^ (i + 1)
-  pub fits : value * 10 < 2 ^ 32
-
-pub grows : (value w i used : ℕ) → value ≡ w * 10 ^ (i - used) → value < 10 ^ i → used ≤ i → i < 9 → Grows value w i used
-grows value w i used e lt le small =
-    let most : 10 ^ i ≤ 100000000 = pow-le-pow_right {n = 10} (lit< tt) {i = i} {j = 8} (omega arith) in
-    record { more = grow value w 0 i used 0 e le; bound = omega (arith, pow-add 10 i 1); fits = omega (arith, most) }
-
-pub is_whole : (run : List ℕ) (value used i : ℕ) → digit_count run ≡ length run → used ≡ min (length run) 9 → value ≡ digits_value 10 (take used run) * 10 ^ (i - used) → i ≡ 9 → value ≡ nanoseconds_of run
-is_whole run value used i all u e nine =
-    e ∙ ap (λ (k : ℕ). digits_value 10 (take used run) * 10 ^ (k - used)) nine ∙ nanoseconds_is run used all (λ le. omega arith) (λ lt. omega arith)
+-- the digits that are there, with zeros behind them, stay below the ninth power
+pub scaled_below : (value used : ℕ) → value < 10 ^ used → used ≤ 9 → value * 10 ^ (9 - used) < 1_000_000_000
+scaled_below value used small le =
+    let split : 10 ^ 9 ≡ 10 ^ used * 10 ^ (9 - used) = ap (λ (k : ℕ). 10 ^ k) (let e : 9 ≡ used + (9 - used) = omega arith in e) ∙ pow-add 10 used (9 - used) in
+    let below : value * 10 ^ (9 - used) < 10 ^ used * 10 ^ (9 - used) = mul-lt-mul_of_pos_right small (one-le-pow (9 - used) 10 (lit< tt)) in
+    let whole : 10 ^ 9 ≡ 1_000_000_000 = refl in
+    omega (arith, below, split, whole)
 
 -- what was read of n digits
 record Read (n : ℕ) (bytes : List ℕ) (v : ℕ) (rest : List ℕ) : Type 0 where

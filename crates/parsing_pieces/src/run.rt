@@ -7,6 +7,7 @@ use crate::cut::one_digit;
 use crate::word::nine_digits;
 
 // How many digits the bytes begin with.
+#[inline(always)]
 #[tactic(auto, using(crate::proofs::Decimal::digit_count_within))]
 fn leading_digits(bytes: &[u8]) -> usize
     ensures count { result ≡ Pieces.digit_count bytes.now }
@@ -16,6 +17,7 @@ fn leading_digits(bytes: &[u8]) -> usize
 }
 
 /// All digits that are there, at least one.
+#[inline(always)]
 #[tactic(auto, using(crate::proofs::Decimal::count_front), unfolding(crate::specs::Pieces::digit_run))]
 pub fn digit_run(bytes: &[u8]) -> Option<(&[u8], &[u8])>
     ensures cut { Pieces.run_view result ≡ Pieces.digit_run bytes.now }
@@ -29,6 +31,7 @@ pub fn digit_run(bytes: &[u8]) -> Option<(&[u8], &[u8])>
 }
 
 // The number that at most nine digits write.
+#[inline(always)]
 fn number(front: &[u8]) -> u32
     requires short { length front.now ≤ 9 }
     requires all { Pieces.digit_count front.now ≡ length front.now }
@@ -42,7 +45,29 @@ fn number(front: &[u8]) -> u32
     value
 }
 
+// A power of ten, at most the ninth.
+#[inline(always)]
+fn power_of_ten(exponent: usize) -> u32
+    requires { exponent ≤ 9 }
+    ensures { result ≡ 10 ^ exponent }
+{
+    match exponent {
+        0 => 1,
+        1 => 10,
+        2 => 100,
+        3 => 1_000,
+        4 => 10_000,
+        5 => 100_000,
+        6 => 1_000_000,
+        7 => 10_000_000,
+        8 => 100_000_000,
+        9 => 1_000_000_000,
+        _ => unreachable!(),
+    }
+}
+
 // The whole nanoseconds of a fraction with these digits.
+#[inline(always)]
 #[tactic(auto, using(crate::proofs::Decimal::count_front))]
 fn nanoseconds(run: &[u8]) -> u32
     requires { Pieces.digit_count run.now ≡ length run.now }
@@ -50,11 +75,7 @@ fn nanoseconds(run: &[u8]) -> u32
     ensures bound { result < 1_000_000_000 }
 {
     let used = run.len().min(9);
-    let mut value = number(&run[..used]);
-    for _ in used..9 {
-        value *= 10;
-    }
-    value
+    number(&run[..used]) * power_of_ten(9 - used)
 }
 
 // A fraction of any number of digits.

@@ -1,18 +1,25 @@
-use Rattle.std.proofs.Common.{arith, take}
+use Rattle.std.proofs.Common.{◌≡◌, ◌*◌, ◌-◌, ◌^◌, ◌<◌, ◌≤◌, length, take, arith, rules}
 use Rattle.std.specs.Str.Parse.{digits_value}
-use Rattle.parsing_pieces.proofs.Fractions.{Grows, grows, is_whole}
+use Rattle.std.proofs.lemmas.List.{length-take-le}
+use Rattle.parsing_pieces.specs.Pieces.{nanoseconds_of}
+use Rattle.parsing_pieces.proofs.Fractions.{nanoseconds_is, scaled_below}
 use Rattle.parsing_pieces.proofs.run.nanoseconds.Goals as goal
 
-pub overflow_mul-value : goal.overflow_mul-value
-overflow_mul-value c =
-    let g = grows c.loop.value (digits_value 10 (take c.min-used.result c.args.run.now)) c.loop.counter c.min-used.result c.loop.invariant.0 c.loop.invariant.1 (omega arith) (omega arith) in
-    omega (arith, g.fits)
-
-pub loop-preserved : goal.loop-preserved
-loop-preserved c =
-    let g = grows c.loop.value (digits_value 10 (take c.min-used.result c.args.run.now)) c.loop.counter c.min-used.result c.loop.invariant.0 c.loop.invariant.1 (omega arith) (omega arith) in
-    (g.more, g.bound)
+pub overflow_mul-result : goal.overflow_mul-result
+overflow_mul-result c =
+    let used = c.min-used.result in
+    let long : length (take used c.args.run.now) ≡ used = length-take-le used c.args.run.now (omega arith) in
+    let small : c.number.result < 10 ^ used = rw long at c.number.ensures.bound in
+    let below = scaled_below c.number.result used small (omega arith) in
+    rw c.power_of_ten.ensures (omega (arith, below))
 
 pub returns-clause-value : goal.returns-clause-value
 returns-clause-value c =
-    is_whole c.args.run.now c.loop.value c.min-used.result c.loop.counter c.requires (omega arith) c.loop.invariant.0 (omega arith)
+    rw (c.number.ensures.value, c.power_of_ten.ensures) (nanoseconds_is c.args.run.now c.min-used.result c.requires (λ le. omega arith) (λ lt. omega arith))
+
+pub returns-clause-bound : goal.returns-clause-bound
+returns-clause-bound c =
+    let used = c.min-used.result in
+    let long : length (take used c.args.run.now) ≡ used = length-take-le used c.args.run.now (omega arith) in
+    let small : c.number.result < 10 ^ used = rw long at c.number.ensures.bound in
+    rw c.power_of_ten.ensures (scaled_below c.number.result used small (omega arith))
