@@ -144,9 +144,7 @@ pub fn run_lines<A: AnswersLines, R: ByteReader, W: ByteWriter>(
             return Err(RunFault::Write);
         };
         start += answered;
-        if answered > 0 {
-            is_long = false;
-        }
+        is_long &= answered == 0;
         if filled - start > limit {
             is_long = true;
             start = 0;

@@ -1,4 +1,5 @@
-use Rattle.std.proofs.Common.{◌≡◌, ◌==◌, ℕ, ◌+◌, ◌-◌, ◌≤◌, ◌<◌, ◌⊎◌, Bool, true, false, [], ◌++◌, length, take, refl, ap, ◌∙◌, inl, inr, arith, length-take, length-drop, length-append}
+use Rattle.std.proofs.Common.{◌≡◌, ◌==◌, ℕ, ◌+◌, ◌-◌, ◌≤◌, ◌<◌, ◌⊎◌, ◌&&◌, zero, suc, Bool, true, false, [], ◌++◌, length, take, refl, ap, ◌∙◌, inl, inr, arith, length-take, length-drop, length-append}
+use Rattle.std.proofs.Math.Dec.{eqb-suc-zero}
 use Rattle.std.specs.Io.KnownBytes.{IsAtEnd}
 use Rattle.std.proofs.lemmas.Grind.{common_steps}
 use Rattle.std.proofs.lemmas.List.Elements.{All-nil}
@@ -9,7 +10,7 @@ use Rattle.instants_stream.proofs.Progress.{Progress, begins, pauses, fails_at_e
 use Rattle.instants_stream.proofs.ChunkSteps.{chunk_step, chunk_fails, forgets}
 use Rattle.instants_stream.proofs.Pending.{pending, length-pending, pending_more, pending_rest, pending_moved, pending_kept, pending_same, size_kept}
 use Rattle.instants_stream.proofs.run.run_lines.Goals as goal
-use Rattle.instants_stream.proofs.run.run_lines.Goals.{In-Ok-answer_lines, In-Ok, After-flush, then-is_long+else-is_err, then-is_long-via-then-is_long, then-is_long-via-else-is_long+then-start-filled, else-is_long+else-start-filled, then-answered-gt0, else-answered-gt0}
+use Rattle.instants_stream.proofs.run.run_lines.Goals.{In-Ok-answer_lines, In-Ok, After-flush, then-is_long+else-is_err, then-is_long-via-then-is_long, then-is_long-via-else-is_long+then-start-filled, else-is_long+else-start-filled}
 use borrow.Rule.Slice.PartMut.{put_mid}
 
 pub loop-count-init : goal.loop-count-init
@@ -39,6 +40,13 @@ returns-in_default-answer_lines-clause-write g c =
     let into_size : length into ≡ length buffer - filled = grind (arith, common_steps) in
     let short : length (pending buffer start filled ++ take count into) ≤ length c.args.buffer.now - 1 + 1 = simp (length-append, length-take, length-drop) (omega (arith, c.in-Ok.ensures.within)) in
     λ _. chunk_fails _ _ _ _ _ _ _ _ _ _ _ i.progress i.free short c.in-Ok.ensures.moved wrote
+
+-- a line stays too long exactly if no line feed ended it
+still_long : (was : Bool) (answered : ℕ) → ((0 < answered) × ((was && (answered == 0)) ≡ false)) ⊎ ((answered ≡ 0) × ((was && (answered == 0)) ≡ was))
+still_long true zero = inr (refl, refl)
+still_long false zero = inr (refl, refl)
+still_long true (suc answered) = inl (omega arith, rw (eqb-suc-zero answered) refl)
+still_long false (suc answered) = inl (omega arith, refl)
 
 -- where the run stands when the whole lines are answered
 stands : (g : _) (c : In-Ok-answer_lines g) (is_long : Bool) → ((0 < c.in-Ok-answer_lines.answered) × (is_long ≡ false)) ⊎ ((c.in-Ok-answer_lines.answered ≡ 0) × (is_long ≡ c.loop-count.is_long))
@@ -78,8 +86,8 @@ loop-count-preserved-then-filled-start g c =
     let fits : filled ≤ length buffer = omega arith in
     let into_size : length into ≡ length buffer - filled = grind (arith, common_steps) in
     let size = size_kept buffer into filled k fits refl into_size in
-    let which : ((0 < c.in-Ok-answer_lines.answered) × (c.if-answered-gt0.is_long ≡ false)) ⊎ ((c.in-Ok-answer_lines.answered ≡ 0) × (c.if-answered-gt0.is_long ≡ c.loop-count.is_long)) = elim c.if-answered-gt0.branch [ then-answered-gt0 w ↦ inl (w.if-answered-gt0.true, w.is_long-is) | else-answered-gt0 w ↦ inr (omega (arith, w.if-answered-gt0.false), w.is_long-is) ] in
-    let (progress, free, ordered, ends) = stands g (goal.at.loop-count-preserved-then-filled-start g c).In-Ok-answer_lines c.if-answered-gt0.is_long which in
+    let which : ((0 < c.in-Ok-answer_lines.answered) × ((c.loop-count.is_long && (c.in-Ok-answer_lines.answered == 0)) ≡ false)) ⊎ ((c.in-Ok-answer_lines.answered ≡ 0) × ((c.loop-count.is_long && (c.in-Ok-answer_lines.answered == 0)) ≡ c.loop-count.is_long)) = still_long c.loop-count.is_long c.in-Ok-answer_lines.answered in
+    let (progress, free, ordered, ends) = stands g (goal.at.loop-count-preserved-then-filled-start g c).In-Ok-answer_lines (c.loop-count.is_long && (c.in-Ok-answer_lines.answered == 0)) which in
     let start_next = c.loop-count.start + c.in-Ok-answer_lines.answered in
     let filled_next = filled + c.in-Ok.count in
     let over : length c.args.buffer.now - 1 < length (pending next start_next filled_next) = omega (arith, length-pending next start_next filled_next (omega arith), c.if-filled-start.true) in
@@ -106,8 +114,8 @@ loop-count-preserved-then-filled-buffer g c =
     let fits : filled ≤ length buffer = omega arith in
     let into_size : length into ≡ length buffer - filled = grind (arith, common_steps) in
     let size = size_kept buffer into filled k fits refl into_size in
-    let which : ((0 < c.in-Ok-answer_lines.answered) × (c.if-answered-gt0.is_long ≡ false)) ⊎ ((c.in-Ok-answer_lines.answered ≡ 0) × (c.if-answered-gt0.is_long ≡ c.loop-count.is_long)) = elim c.if-answered-gt0.branch [ then-answered-gt0 w ↦ inl (w.if-answered-gt0.true, w.is_long-is) | else-answered-gt0 w ↦ inr (omega (arith, w.if-answered-gt0.false), w.is_long-is) ] in
-    let (progress, free, ordered, ends) = stands g (goal.at.loop-count-preserved-then-filled-buffer g c).In-Ok-answer_lines c.if-answered-gt0.is_long which in
+    let which : ((0 < c.in-Ok-answer_lines.answered) × ((c.loop-count.is_long && (c.in-Ok-answer_lines.answered == 0)) ≡ false)) ⊎ ((c.in-Ok-answer_lines.answered ≡ 0) × ((c.loop-count.is_long && (c.in-Ok-answer_lines.answered == 0)) ≡ c.loop-count.is_long)) = still_long c.loop-count.is_long c.in-Ok-answer_lines.answered in
+    let (progress, free, ordered, ends) = stands g (goal.at.loop-count-preserved-then-filled-buffer g c).In-Ok-answer_lines (c.loop-count.is_long && (c.in-Ok-answer_lines.answered == 0)) which in
     let start_next = c.loop-count.start + c.in-Ok-answer_lines.answered in
     let filled_next = filled + c.in-Ok.count in
     let moved : take (filled_next - start_next - 0) c.copy_within.new.self ≡ pending next start_next filled_next = ap (take (filled_next - start_next - 0)) c.copy_within.ensures.after ∙ pending_moved next start_next filled_next (filled_next - start_next - 0) ordered c.if-filled-buffer.true (omega arith) in
@@ -134,8 +142,8 @@ loop-count-preserved g c =
     let fits : filled ≤ length buffer = omega arith in
     let into_size : length into ≡ length buffer - filled = grind (arith, common_steps) in
     let size = size_kept buffer into filled k fits refl into_size in
-    let which : ((0 < c.in-Ok-answer_lines.answered) × (c.if-answered-gt0.is_long ≡ false)) ⊎ ((c.in-Ok-answer_lines.answered ≡ 0) × (c.if-answered-gt0.is_long ≡ c.loop-count.is_long)) = elim c.if-answered-gt0.branch [ then-answered-gt0 w ↦ inl (w.if-answered-gt0.true, w.is_long-is) | else-answered-gt0 w ↦ inr (omega (arith, w.if-answered-gt0.false), w.is_long-is) ] in
-    let (progress, free, ordered, ends) = stands g (goal.at.loop-count-preserved g c).In-Ok-answer_lines c.if-answered-gt0.is_long which in
+    let which : ((0 < c.in-Ok-answer_lines.answered) × ((c.loop-count.is_long && (c.in-Ok-answer_lines.answered == 0)) ≡ false)) ⊎ ((c.in-Ok-answer_lines.answered ≡ 0) × ((c.loop-count.is_long && (c.in-Ok-answer_lines.answered == 0)) ≡ c.loop-count.is_long)) = still_long c.loop-count.is_long c.in-Ok-answer_lines.answered in
+    let (progress, free, ordered, ends) = stands g (goal.at.loop-count-preserved g c).In-Ok-answer_lines (c.loop-count.is_long && (c.in-Ok-answer_lines.answered == 0)) which in
     let room : filled + c.in-Ok.count ≤ length c.args.buffer.now - 1 = omega (arith, size, i.size, c.if-filled-buffer.false) in
     record {
       progress = progress;
