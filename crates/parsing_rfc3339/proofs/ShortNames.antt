@@ -1,11 +1,11 @@
 -- The names of components that faults carry are short.
-use Rattle.std.proofs.Common.{◌≡◌, ℕ, ◌≤◌, Bool, true, false, List, [], ◌∷◌, length, Option, Some, None, Result, Ok, Err, refl, subst, sym, lit<}
-use Rattle.std.specs.Prelude.{IfErr, codes, nat_lt, nat_le, ◌==◌, pos}
+use Rattle.std.proofs.Common.{◌≡◌, ℕ, Bool, true, false, List, [], ◌∷◌, Option, Some, None, Result, Ok, Err, lit<}
+use Rattle.std.specs.Prelude.{IfErr, codes, nat_lt, nat_le, pos}
 use Rattle.calendar_count.specs.declared.component_range.ComponentRange.{ComponentRange}
 use Rattle.datetime.specs.Wall.{Shown}
-use Rattle.parsing_pieces.specs.Fault.{Fault, literal, component, trailing, insufficient, range}
-use Rattle.parsing_pieces.specs.Pieces.{Piece, digits, byte, any_byte, sign, fraction}
-use Rattle.parsing_pieces.specs.Readings.{Reading, ◌or◌, piece_or, then_read, give, require, entered, resolved, end, value_read}
+use Rattle.parsing_pieces.specs.Fault.{Fault, literal, component}
+use Rattle.parsing_pieces.specs.Pieces.{digits, byte, any_byte, sign, fraction}
+use Rattle.parsing_pieces.specs.Readings.{Reading, piece_or, then_read, require, entered, resolved, end, value_read}
 use Rattle.parsing_pieces.specs.declared.fault.Parse.{Parse}
 use Rattle.parsing_pieces.specs.FaultOf.{Gives, fault_of}
 use Rattle.parsing_pieces.specs.ShortName.{HasShortName}

@@ -2,7 +2,7 @@
 use Rattle.std.specs.Prelude.{ℕ, ◌==◌, List, Result, pos}
 use Rattle.datetime.specs.Wall.{Shown, wall_clock}
 use Rattle.parsing_pieces.specs.Fault.{Fault}
-use Rattle.parsing_pieces.specs.Readings.{Reading, ◌>>=◌, ◌>>◌, give, resolved, end, value_read}
+use Rattle.parsing_pieces.specs.Readings.{Reading, ◌>>=◌, ◌>>◌, resolved, end, value_read}
 use Rattle.parsing_resolution.specs.Resolution.{date_of, leap_time_of, signed_offset_of}
 use Rattle.parsing_resolution.specs.StandIn.{leap_checked}
 use Rattle.parsing_rfc3339.specs.declared.written.Written.{Written}

@@ -1,5 +1,5 @@
 -- RFC 3339, section 5.6: a full date, any one byte, a full time with its offset.
-use Rattle.std.specs.Prelude.{ℕ, ◌||◌, Bool, true, false, List, codes, nat_le, nat_lt, ◌==◌, if◌then◌else◌}
+use Rattle.std.specs.Prelude.{ℕ, ◌||◌, Bool, false, codes, nat_le, nat_lt, ◌==◌}
 use Rattle.parsing_pieces.specs.Fault.{literal, component}
 use Rattle.parsing_pieces.specs.Pieces.{Piece, digits, fraction, byte, byte_of, any_byte, sign}
 use Rattle.parsing_pieces.specs.Readings.{Reading, ◌or◌, ◌>>=◌, ◌>>◌, give, if_there, require}

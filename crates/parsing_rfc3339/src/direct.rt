@@ -5,7 +5,7 @@ ghost use Rattle.parsing_pieces.specs.ShortName.{HasShortName};
 ghost use Rattle.parsing_rfc3339.specs.Direct.{direct, moment_of};
 ghost use Rattle.parsing_pieces.specs.Readings.{value_read};
 
-use crate::reading::{front, quick_front};
+use crate::reading::front;
 use crate::written::Written;
 use datetime::OffsetDateTime;
 use parsing_pieces::{Parse, ParseFromDescription};
@@ -38,10 +38,9 @@ fn resolved(written: Written, rest: &[u8]) -> Result<OffsetDateTime, Parse>
     Ok(leap_checked(written.second == 60, shown)?)
 }
 
-// The moment of a text that is not of the usual shape.
-#[cold]
 #[tactic(auto, unfolding(crate::specs::Direct::direct, crate::specs::Direct::moment))]
-fn read_by_pieces(input: &[u8]) -> Result<OffsetDateTime, Parse>
+#[inline(always)]
+fn moment(input: &[u8]) -> Result<OffsetDateTime, Parse>
     ensures { Gives (λ d. d) fault_of result (direct input.now) }
 {
     let (written, rest) = front(input)?;
@@ -52,14 +51,10 @@ fn read_by_pieces(input: &[u8]) -> Result<OffsetDateTime, Parse>
 ///
 /// The first fault counts: what can't be read, the offset's range, what follows, the ranges of date and time, and last
 /// whether a second 60 can be a leap second.
-#[tactic(auto, unfolding(crate::specs::Direct::direct, crate::specs::Direct::moment))]
 #[inline(always)]
 pub fn read(input: &[u8]) -> Result<OffsetDateTime, Parse>
     ensures gives { Gives (λ d. d) fault_of result (direct input.now) }
     ensures short_name { IfErr result (λ e. HasShortName (fault_of e)) }
 {
-    if let Some((written, rest)) = quick_front(input) {
-        return resolved(written, rest);
-    }
-    read_by_pieces(input)
+    moment(input)
 }

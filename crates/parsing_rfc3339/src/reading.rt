@@ -9,8 +9,23 @@ use parsing_pieces::{
     ParseFromDescription, any_byte, byte, four_digits, fraction, sign, two_digits, year_month,
 };
 
+// The date at the front, where no piece of it is missing.
 #[tactic(auto, unfolding(crate::specs::Reading::date))]
-fn date(bytes: &[u8]) -> Result<((u16, u8, u8), &[u8]), ParseFromDescription>
+#[inline(always)]
+fn quick_date(bytes: &[u8]) -> Option<((u16, u8, u8), &[u8])>
+    ensures { IfSome result (λ x. Reading.date bytes.now ≡ Ok (x.0, x.1.now)) }
+{
+    let ((year, month), rest) = year_month(bytes)?;
+    if month == 0 {
+        return None;
+    }
+    let (day, rest) = two_digits(rest)?;
+    Some(((year, month, day), rest))
+}
+
+#[tactic(auto, unfolding(crate::specs::Reading::date))]
+#[cold]
+fn date_by_pieces(bytes: &[u8]) -> Result<((u16, u8, u8), &[u8]), ParseFromDescription>
     ensures { Gives (λ x. (x.0, x.1.now)) reading_fault result (Reading.date bytes.now) }
 {
     let (year, rest) = four_digits(bytes).ok_or(ParseFromDescription::InvalidComponent("year"))?;
@@ -24,8 +39,19 @@ fn date(bytes: &[u8]) -> Result<((u16, u8, u8), &[u8]), ParseFromDescription>
     Ok(((year, month, day), rest))
 }
 
+#[inline(always)]
+fn date(bytes: &[u8]) -> Result<((u16, u8, u8), &[u8]), ParseFromDescription>
+    ensures { Gives (λ x. (x.0, x.1.now)) reading_fault result (Reading.date bytes.now) }
+{
+    if let Some(read) = quick_date(bytes) {
+        return Ok(read);
+    }
+    date_by_pieces(bytes)
+}
+
 #[tactic(auto, unfolding(crate::specs::Reading::clock))]
-fn clock(bytes: &[u8]) -> Result<((u8, u8, u8), &[u8]), ParseFromDescription>
+#[cold]
+fn clock_by_pieces(bytes: &[u8]) -> Result<((u8, u8, u8), &[u8]), ParseFromDescription>
     ensures { Gives (λ x. (x.0, x.1.now)) reading_fault result (Reading.clock bytes.now) }
 {
     let (hour, rest) = two_digits(bytes).ok_or(ParseFromDescription::InvalidComponent("hour"))?;
@@ -34,6 +60,18 @@ fn clock(bytes: &[u8]) -> Result<((u8, u8, u8), &[u8]), ParseFromDescription>
     let (_, rest) = byte(b':', rest).ok_or(ParseFromDescription::InvalidLiteral)?;
     let (second, rest) = two_digits(rest).ok_or(ParseFromDescription::InvalidComponent("second"))?;
     Ok(((hour, minute, second), rest))
+}
+
+// The time of day to the second.
+#[tactic(auto, unfolding(crate::specs::Reading::clock))]
+#[inline(always)]
+fn clock(bytes: &[u8]) -> Result<((u8, u8, u8), &[u8]), ParseFromDescription>
+    ensures { Gives (λ x. (x.0, x.1.now)) reading_fault result (Reading.clock bytes.now) }
+{
+    if let Some(read) = parsing_pieces::clock(bytes) {
+        return Ok(read);
+    }
+    clock_by_pieces(bytes)
 }
 
 #[tactic(auto, unfolding(crate::specs::Reading::subsecond))]
@@ -93,62 +131,9 @@ fn offset(bytes: &[u8]) -> Result<((bool, u8, u8), &[u8]), ParseFromDescription>
     signed_offset(bytes)
 }
 
-// The date at the front, where no piece of it is missing.
-#[tactic(auto, unfolding(crate::specs::Reading::date))]
-#[inline(always)]
-fn quick_date(bytes: &[u8]) -> Option<((u16, u8, u8), &[u8])>
-    ensures { IfSome result (λ x. Reading.date bytes.now ≡ Ok (x.0, x.1.now)) }
-{
-    let ((year, month), rest) = year_month(bytes)?;
-    if month == 0 {
-        return None;
-    }
-    let (day, rest) = two_digits(rest)?;
-    Some(((year, month, day), rest))
-}
-
-// The time of day to the second at the front, where no piece of it is missing.
-#[tactic(auto, unfolding(crate::specs::Reading::clock))]
-#[inline(always)]
-fn quick_clock(bytes: &[u8]) -> Option<((u8, u8, u8), &[u8])>
-    ensures { IfSome result (λ x. Reading.clock bytes.now ≡ Ok (x.0, x.1.now)) }
-{
-    parsing_pieces::clock(bytes)
-}
-
-/// What `front` reads, where no piece of it is missing; a text with all pieces may be `None` all the same.
-#[tactic(auto, unfolding(crate::specs::Reading::rfc3339))]
-#[inline(always)]
-pub fn quick_front(bytes: &[u8]) -> Option<(Written, &[u8])>
-    ensures gives { IfSome result (λ x. Reading.rfc3339 bytes.now ≡ Ok (x.0, x.1.now)) }
-    ensures nanosecond { IfSome result (λ x. x.0.nanosecond < 1_000_000_000) }
-    ensures offset_hour { IfSome result (λ x. x.0.offset_hour ≤ 23) }
-    ensures offset_minute { IfSome result (λ x. x.0.offset_minute < 100) }
-{
-    let ((year, month, day), rest) = quick_date(bytes)?;
-    let (_, rest) = any_byte(rest)?;
-    let ((hour, minute, second), rest) = quick_clock(rest)?;
-    let (nanosecond, rest) = subsecond(rest).ok()?;
-    let ((offset_is_negative, offset_hour, offset_minute), rest) = offset(rest).ok()?;
-    Some((
-        Written {
-            year,
-            month,
-            day,
-            hour,
-            minute,
-            second,
-            nanosecond,
-            offset_is_negative,
-            offset_hour,
-            offset_minute,
-        },
-        rest,
-    ))
-}
-
 /// The numbers at the front of the bytes, and the rest.
 #[tactic(auto, unfolding(crate::specs::Reading::rfc3339))]
+#[inline(always)]
 pub fn front(bytes: &[u8]) -> Result<(Written, &[u8]), ParseFromDescription>
     ensures gives { Gives (λ x. (x.0, x.1.now)) reading_fault result (Reading.rfc3339 bytes.now) }
     ensures nanosecond { IfOk result (λ x. x.0.nanosecond < 1_000_000_000) }
