@@ -1,5 +1,5 @@
 -- The text of a moment, as RFC 3339, section 5.6, writes a date-time, with nine digits of a second's fraction.
-use Rattle.std.specs.Prelude.{◌≡◌, ℕ, ◌/◌, ◌%◌, ◌≤◌, List, ◌++◌, codes, if◌then◌else◌, Bool, ◌&&◌, IsTrue, int_le, int_lt, ℤ, pos, unsigned_abs}
+use Rattle.std.specs.Prelude.{ℕ, ◌/◌, ◌%◌, List, ◌++◌, codes, if◌then◌else◌, Bool, ◌&&◌, IsTrue, int_le, int_lt, ℤ, pos, unsigned_abs}
 use Rattle.std.specs.Ordering.{int_eq}
 use Rattle.calendar_count.specs.Calendar.{YearMonthDay, day_at}
 use Rattle.calendar.specs.UtcOffset.{IsClockOffset}

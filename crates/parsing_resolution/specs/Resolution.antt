@@ -1,5 +1,5 @@
 -- What the numbers of a text name: a date, a time of day, an offset. The first one out of range is refused.
-use Rattle.std.specs.Prelude.{ℕ, Bool, ◌==◌, if◌then◌else◌, Result, Ok, Err, ℤ, pos, neg_ℤ}
+use Rattle.std.specs.Prelude.{ℕ, Bool, ◌==◌, if◌then◌else◌, Result, Err, ℤ, pos, neg_ℤ}
 use Rattle.std.specs.Option.{ok_or}
 use Rattle.std.specs.Int.{is_in_range}
 use Rattle.calendar_count.specs.Calendar.{is_year}

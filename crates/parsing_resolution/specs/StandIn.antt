@@ -1,5 +1,5 @@
 -- The moment that stands for a leap second: the last nanosecond of the last day of a month in UTC.
-use Rattle.std.specs.Prelude.{ℕ, ◌+◌, ◌-◌, ◌==◌, ◌&&◌, Bool, not, if◌then◌else◌, Result, Ok, Err}
+use Rattle.std.specs.Prelude.{◌-◌, ◌==◌, ◌&&◌, Bool, not, if◌then◌else◌, Result, Ok, Err}
 use Rattle.calendar.specs.ComponentRange.{out_of_conditional_range}
 use Rattle.calendar_count.specs.declared.component_range.ComponentName.TheVariants.{Second}
 use Rattle.calendar_count.specs.declared.component_range.ComponentRange.{ComponentRange}
