@@ -1,0 +1,11 @@
+//! The calendar of a count of days, and the days of seconds, by products with constants and shifts.
+#![tactic(auto)]
+
+mod counts;
+mod quotients;
+mod seconds;
+#[cfg(test)]
+mod tests;
+
+pub use counts::{day_of_count, iso_week_of_count, place_of_count, weekday_of_count};
+pub use seconds::{clock_of_second, count_of_seconds, second_of_day};
