@@ -1,5 +1,5 @@
 -- Offsets from UTC, each its whole seconds, above 0 where local time is ahead of UTC.
-use Rattle.std.specs.Prelude.{ℕ, zero, suc, ◌/◌, ◌%◌, nat_lt, if◌then◌else◌, Result, Ok, Err, List, ◌∷◌, ◌++◌, ℤ, pos, negsuc, neg_ℤ, ◌+ℤ◌, ◌*ℤ◌, ◌≤ℤ◌, unsigned_abs, int_lt}
+use Rattle.std.specs.Prelude.{◌≡◌, ℕ, zero, suc, ◌/◌, ◌%◌, ◌≤◌, nat_lt, if◌then◌else◌, Result, Ok, Err, List, ◌∷◌, ◌++◌, ℤ, pos, negsuc, neg_ℤ, ◌+ℤ◌, ◌*ℤ◌, ◌≤ℤ◌, unsigned_abs, int_lt}
 use Rattle.calendar_count.specs.declared.component_range.ComponentName.TheVariants.{Hours, Minutes, Seconds}
 use Rattle.calendar_count.specs.declared.component_range.ComponentRange.{ComponentRange}
 use Rattle.calendar_count.specs.ComponentRange.{out_of_range}
@@ -11,6 +11,11 @@ greatest_offset = 93_599
 
 abbrev pub IsOffset : ℤ → Type 0
 IsOffset offset = (neg_ℤ (pos greatest_offset) ≤ℤ offset) × (offset ≤ℤ pos greatest_offset)
+
+-- hours and minutes of a clock write the offset: whole minutes within 23:59, as RFC 3339, section 5.6, has it
+pub record IsClockOffset (offset : ℤ) : Type 0 where
+  pub whole_minutes : unsigned_abs offset % 60 ≡ 0
+  pub within_a_day : unsigned_abs offset ≤ 86_340
 
 -- a finer part has the sign of the coarser one, unless that one is 0
 abbrev pub with_sign_of : ℤ → ℤ → ℤ

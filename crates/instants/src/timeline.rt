@@ -3,7 +3,8 @@ ghost use Rattle.std.specs.Prelude.{◌≡◌, ◌<◌, ◌≤◌, length, map, 
 ghost use Rattle.std.specs.Result.{result_ok};
 ghost use Rattle.parsing_pieces.specs.FaultOf.{fault_of, Gives};
 ghost use Rattle.parsing_pieces.specs.ShortName.{HasShortName};
-ghost use Rattle.instants_lines.specs.Text.{IsTarget, FitsLine};
+ghost use Rattle.calendar.specs.UtcOffset.{IsClockOffset};
+ghost use Rattle.instants_lines.specs.Text.{FitsLine};
 ghost use Rattle.instants.specs.Refusal.{IsShort, refusal_of, refusal_said, refusal_text};
 ghost use Rattle.instants.specs.Sources.{source_of};
 ghost use Rattle.instants.specs.Place.{Setting, first_named, place_of, answer_to, IsPlace};
@@ -46,14 +47,14 @@ pub struct Timeline {
 
 impl Model for Timeline {
     ghost use Rattle.std.specs.Prelude.{◌<◌, length};
-    ghost use Rattle.instants_lines.specs.Text.{IsTarget};
+    ghost use Rattle.calendar.specs.UtcOffset.{IsClockOffset};
     ghost use Rattle.instants.specs.Place.{Setting};
 
     ghost Value = { Setting };
 
     ghost view = { λ t. record { sources = t.sources.items; target = t.target } };
 
-    ghost invariant = { λ t. IsTarget t.target × (0 < length t.sources.items) };
+    ghost invariant = { λ t. IsClockOffset t.target × (0 < length t.sources.items) };
 }
 
 impl Timeline {
@@ -67,7 +68,7 @@ impl Timeline {
         assumed: Option<UtcOffset>,
     ) -> Result<Timeline, NewFault>
         requires sources { 0 < length sources.now }
-        requires target { IsTarget target }
+        requires target { IsClockOffset target }
         requires assumed { assumed ≡ None }
         ensures { IfOk result (λ timeline. timeline ≡ record { sources = map source_of sources.now; target = target }) }
     {

@@ -2,6 +2,7 @@
 use Rattle.std.specs.Prelude.{◌≡◌, ℕ, ◌/◌, ◌%◌, ◌≤◌, List, ◌++◌, codes, if◌then◌else◌, Bool, ◌&&◌, IsTrue, int_le, int_lt, ℤ, pos, unsigned_abs}
 use Rattle.std.specs.Ordering.{int_eq}
 use Rattle.calendar_count.specs.Calendar.{YearMonthDay, day_at}
+use Rattle.calendar.specs.UtcOffset.{IsClockOffset}
 use Rattle.datetime_wall.specs.Wall.{Shown, day_of, nanosecond_of, second_nanos}
 use Rattle.instants_lines.specs.Decimal.{decimal}
 
@@ -30,12 +31,7 @@ has_written_year m =
     let year = (day_at (day_of m.wall)).year in
     int_le (pos 0) year && int_le year (pos 9999)
 
--- hours and minutes of a clock write the offset, in seconds
-pub record IsTarget (offset : ℤ) : Type 0 where
-  pub whole_minutes : unsigned_abs offset % 60 ≡ 0
-  pub within_a_day : unsigned_abs offset ≤ 86_340
-
 -- the moment can be written
 pub record FitsLine (m : Shown) : Type 0 where
   pub year : IsTrue (has_written_year m)
-  pub offset : IsTarget m.offset
+  pub offset : IsClockOffset m.offset

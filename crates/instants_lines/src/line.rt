@@ -4,7 +4,8 @@ ghost use Rattle.std.specs.Prelude.{◌≡◌, ◌<◌, ◌↔◌, pos, length, 
 ghost use Rattle.std.specs.Ordering.{int_eq};
 ghost use Rattle.calendar_count.specs.Calendar.{day_at};
 ghost use Rattle.datetime_wall.specs.Wall.{day_of};
-ghost use Rattle.instants_lines.specs.Text.{FitsLine, IsTarget, has_written_year, moment_text};
+ghost use Rattle.calendar.specs.UtcOffset.{IsClockOffset};
+ghost use Rattle.instants_lines.specs.Text.{FitsLine, has_written_year, moment_text};
 
 use crate::answer::Answer;
 use crate::fields::{offset_bytes, push_date, push_time};
@@ -27,7 +28,7 @@ pub fn has_written_year(date_time: OffsetDateTime) -> bool
 /// Whether hours and minutes of a clock write the offset: it is of whole minutes, within 23:59.
 #[inline(always)]
 pub fn is_target(offset: UtcOffset) -> bool
-    ensures { IsTrue result ↔ IsTarget offset }
+    ensures { IsTrue result ↔ IsClockOffset offset }
 {
     let seconds = offset.whole_seconds().unsigned_abs();
     seconds % 60 == 0 && seconds <= GREATEST_OFFSET

@@ -35,10 +35,6 @@ offset_said (sign ∷ h ∷ i ∷ colon ∷ m ∷ n ∷ []) =
     if colon == 58 then with_sign sign (clock_seconds (number_said 0 23 2 (h ∷ i ∷ [])) (number_said 0 59 2 (m ∷ n ∷ []))) else None
 offset_said _ = None
 
--- hours and minutes of a clock: whole minutes within 23:59, in seconds
-abbrev pub IsClockOffset : ℤ → Type 0
-IsClockOffset offset = (unsigned_abs offset % 60 ≡ 0) × (unsigned_abs offset ≤ 86_340)
-
 -- `-` says that no offset is assumed
 abbrev pub assumed_said : List ℕ → Option (Option ℤ)
 assumed_said word = if bytes_eq word (codes "-") then Some None else None

@@ -4,7 +4,8 @@ ghost use Rattle.std.specs.Prelude.{◌≡◌, ◌≤◌, None, IfSome};
 ghost use Rattle.std.specs.Int.{IsInRange};
 ghost use Rattle.std.specs.Char.{is_ascii_digit};
 ghost use Rattle.std.specs.List.{list_all};
-ghost use Rattle.instants_words.specs.Pieces.{IsClockOffset, clock_seconds, number_said, with_sign, offset_said, limit_said, assumed_said, source_said};
+ghost use Rattle.calendar.specs.UtcOffset.{IsClockOffset};
+ghost use Rattle.instants_words.specs.Pieces.{clock_seconds, number_said, with_sign, offset_said, limit_said, assumed_said, source_said};
 
 use crate::sources::SourceText;
 use calendar::UtcOffset;

@@ -2,7 +2,7 @@
 
 ghost use Rattle.std.specs.Prelude.{◌≡◌, ◌≢◌, ◌<◌, Ok, Err, None, map, length, IsOk, IfOk, IfErr};
 ghost use Rattle.std.specs.Int.{IsInRange};
-ghost use Rattle.instants_words.specs.Pieces.{IsClockOffset};
+ghost use Rattle.calendar.specs.UtcOffset.{IsClockOffset};
 ghost use Rattle.instants_words.specs.Words.{words_said};
 
 use crate::fault::WordsFault;

@@ -1,5 +1,5 @@
 -- `23:20:50` read at once.
-use Rattle.std.proofs.Common.{◌≡◌, ℕ, ◌+◌, ◌-◌, ◌*◌, ◌/◌, ◌%◌, ◌^◌, ◌<◌, ◌≤◌, List, [], ◌∷◌, length, get_or, take, drop, Some, refl, ap, ◌∙◌, arith, lit<}
+use Rattle.std.proofs.Common.{◌≡◌, ℕ, ◌+◌, ◌-◌, ◌*◌, ◌/◌, ◌%◌, ◌^◌, ◌<◌, ◌≤◌, List, [], ◌∷◌, length, get_or, take, drop, refl, arith, lit<}
 use Rattle.std.specs.Int.Bits.{bit_and}
 use Rattle.parsing_pieces.specs.Words.{word, paired, IsClock}
 use Rattle.parsing_pieces.proofs.Fronts.{digit_of, two_at, byte_at}

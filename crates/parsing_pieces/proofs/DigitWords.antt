@@ -1,10 +1,10 @@
 -- Eight digits read at once.
-use Rattle.std.proofs.Common.{◌≡◌, ℕ, ◌+◌, ◌-◌, ◌*◌, ◌/◌, ◌%◌, ◌^◌, ◌<◌, ◌≤◌, List, [], ◌∷◌, length, get_or, take, drop, Some, refl, ap, ◌∙◌, arith, lit<}
+use Rattle.std.proofs.Common.{◌≡◌, ℕ, ◌+◌, ◌-◌, ◌*◌, ◌/◌, ◌%◌, ◌^◌, ◌<◌, ◌≤◌, List, [], ◌∷◌, length, get_or, take, drop, Some, refl, arith, lit<}
 use Rattle.std.specs.Int.Bits.{bit_and}
 use Rattle.parsing_pieces.specs.Pieces.{digits}
 use Rattle.parsing_pieces.specs.Words.{word, paired}
 use Rattle.parsing_pieces.proofs.Fronts.{digit_of, eight_at}
-use Rattle.parsing_pieces.proofs.Lanes.{masked, pair_here, pair_next, half_lane, exact_lane}
+use Rattle.parsing_pieces.proofs.Lanes.{masked, pair_here, pair_next, half_lane}
 
 -- the number without what makes its bytes digits, and what it says of the bytes
 pub record EightWord (bytes : List ℕ) (w : ℕ) : Type 0 where

@@ -1,5 +1,5 @@
 -- `1985-04-` read at once.
-use Rattle.std.proofs.Common.{◌≡◌, ℕ, ◌+◌, ◌-◌, ◌*◌, ◌/◌, ◌%◌, ◌^◌, ◌<◌, ◌≤◌, List, [], ◌∷◌, length, get_or, take, drop, Some, refl, ap, ◌∙◌, arith, lit<}
+use Rattle.std.proofs.Common.{◌≡◌, ℕ, ◌+◌, ◌-◌, ◌*◌, ◌/◌, ◌%◌, ◌^◌, ◌<◌, ◌≤◌, List, [], ◌∷◌, length, get_or, take, drop, refl, arith, lit<}
 use Rattle.std.specs.Int.Bits.{bit_and}
 use Rattle.parsing_pieces.specs.Words.{word, paired, IsYearMonth}
 use Rattle.parsing_pieces.proofs.Fronts.{digit_of, two_at, four_at, byte_at}

@@ -1,5 +1,5 @@
 -- Faults that an answer of fixed length has room for.
-use Rattle.std.specs.Prelude.{ℕ, ◌≤◌, length}
+use Rattle.std.specs.Prelude.{◌≤◌, length}
 use Rattle.parsing_pieces.specs.Fault.{Fault, literal, component, trailing, insufficient, range}
 
 -- a component's name has at most 15 bytes, one more than `unix_timestamp`

@@ -1,6 +1,6 @@
 -- Eight bytes as one number, the first byte the lowest.
-use Rattle.std.specs.Prelude.{◌≡◌, ℕ, ◌+◌, ◌*◌, ◌/◌, List, [], ◌∷◌, length, take, drop, Option, Some, None, nat_le, if◌then◌else◌}
-use Rattle.parsing_pieces.specs.Pieces.{Piece, digits, byte}
+use Rattle.std.specs.Prelude.{◌≡◌, ℕ, ◌+◌, ◌*◌, ◌/◌, List, [], ◌∷◌, drop, Some}
+use Rattle.parsing_pieces.specs.Pieces.{digits, byte}
 
 -- the number of bytes
 unfoldable pub word : List ℕ → ℕ

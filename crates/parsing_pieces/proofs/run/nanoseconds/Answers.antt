@@ -1,7 +1,5 @@
-use Rattle.std.proofs.Common.{◌≡◌, ◌*◌, ◌-◌, ◌^◌, ◌<◌, ◌≤◌, length, take, arith, rules}
-use Rattle.std.specs.Str.Parse.{digits_value}
+use Rattle.std.proofs.Common.{◌≡◌, ◌^◌, ◌<◌, length, take, arith}
 use Rattle.std.proofs.lemmas.List.{length-take-le}
-use Rattle.parsing_pieces.specs.Pieces.{nanoseconds_of}
 use Rattle.parsing_pieces.proofs.Fractions.{nanoseconds_is, scaled_below}
 use Rattle.parsing_pieces.proofs.run.nanoseconds.Goals as goal
 

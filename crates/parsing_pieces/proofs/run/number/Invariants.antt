@@ -1,4 +1,4 @@
-use Rattle.std.proofs.Common.{◌≡◌, ◌≤◌, ◌<◌, ◌^◌, take}
+use Rattle.std.proofs.Common.{◌≡◌, ◌<◌, ◌^◌, take}
 use Rattle.std.specs.Str.Parse.{digits_value}
 use Rattle.parsing_pieces.proofs.run.number.Given as goal
 

@@ -1,4 +1,4 @@
-use Rattle.std.proofs.Common.{rules, arith, ◌≡◌}
+use Rattle.std.proofs.Common.{rules, arith}
 use Rattle.parsing_pieces.proofs.DigitWords.{eight_read}
 use Rattle.parsing_pieces.proofs.word.eight_digits.Goals as goal
 

@@ -1,4 +1,4 @@
-use Rattle.std.proofs.Common.{arith, sym, ◌∙◌}
+use Rattle.std.proofs.Common.{arith}
 use Rattle.parsing_pieces.proofs.Lanes.{word_eight}
 use Rattle.parsing_pieces.proofs.word.first_word.Goals as goal
 

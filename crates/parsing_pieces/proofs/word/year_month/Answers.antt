@@ -1,4 +1,4 @@
-use Rattle.std.proofs.Common.{rules, arith, ◌≡◌}
+use Rattle.std.proofs.Common.{rules, arith}
 use Rattle.parsing_pieces.proofs.YearMonthWords.{year_month_read}
 use Rattle.parsing_pieces.proofs.word.year_month.Goals as goal
 
