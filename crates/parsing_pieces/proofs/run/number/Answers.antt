@@ -1,5 +1,5 @@
 use Rattle.std.proofs.Common.{arith}
-use Rattle.parsing_pieces.proofs.Numbers.{Next, next_digit}
+use Rattle.parsing_pieces.proofs.Numbers.{next_digit}
 use Rattle.parsing_pieces.proofs.run.number.Goals as goal
 
 pub overflow_mul-value : goal.overflow_mul-value

@@ -1,4 +1,4 @@
-use Rattle.std.proofs.Common.{rules, arith, ◌≡◌}
+use Rattle.std.proofs.Common.{rules, arith}
 use Rattle.parsing_pieces.proofs.ClockWords.{clock_read}
 use Rattle.parsing_pieces.proofs.word.clock.Goals as goal
 
