@@ -1,0 +1,2 @@
+pub mod NearestLemmas
+pub mod UnitLemmas

@@ -1,0 +1,10 @@
+//! Lengths of time with a sign.
+#![tactic(auto)]
+
+mod arithmetic;
+mod comparing;
+mod duration;
+mod operators;
+mod views;
+
+pub use duration::SignedDuration;
