@@ -1,14 +1,12 @@
 -- The day that passes a test.
-use Rattle.std.proofs.Common.{◌≡◌, ℕ, zero, suc, ◌+◌, ◌<◌, ◌≤◌, inl, inr, Bool, true, false, ◌&&◌, ◌==◌, Option, None, Some, refl, arith, ℤ}
-use Rattle.std.specs.Option.{option_or}
-use Rattle.std.specs.Ordering.{int_eq}
+use Rattle.std.proofs.Common.{◌≡◌, ℕ, zero, suc, ◌+◌, ◌<◌, ◌≤◌, inl, inr, Bool, true, false, None, Some, refl, arith, ℤ}
 use Rattle.std.proofs.lemmas.Bool.{cases_lt, false_from_ne_true}
 use Rattle.std.proofs.lemmas.Bool.Decides.{nat_tests}
 use Rattle.std.proofs.lemmas.Int.{ints}
 use Rattle.calendar_count.specs.Range.{last_count}
-use Rattle.calendar_count.specs.Calendar.{YearMonthDay, day_at, ymd, IsDay}
+use Rattle.calendar_count.specs.Calendar.{day_at, ymd, IsDay}
 use Rattle.calendar_count.specs.TheDay.{first_passing, the_day, is_day_of}
-use Rattle.calendar_count.proofs.CountLemmas.{Placed, day_at-Placed, same_parts}
+use Rattle.calendar_count.proofs.CountLemmas.{day_at-Placed, same_parts}
 use Rattle.calendar_count.proofs.ViewLemmas.{day_at_same, year_bound}
 
 first_passing-none : (p : ℕ → Bool) (n : ℕ) → ((k : ℕ) → k < n → p k ≡ false) → first_passing p n ≡ None

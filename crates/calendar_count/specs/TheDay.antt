@@ -3,7 +3,7 @@ use Rattle.std.specs.Prelude.{ℕ, zero, suc, ◌+◌, Bool, ◌&&◌, ◌==◌,
 use Rattle.std.specs.Ordering.{int_eq}
 use Rattle.std.specs.Option.{option_or}
 use Rattle.calendar_count.specs.Range.{last_count}
-use Rattle.calendar_count.specs.Calendar.{YearMonthDay, day_at}
+use Rattle.calendar_count.specs.Calendar.{day_at}
 
 -- the first of the first n counts that passes a test
 unfoldable pub first_passing : (ℕ → Bool) → ℕ → Option ℕ
