@@ -3,3 +3,4 @@ pub mod CountLemmas
 pub mod ViewLemmas
 pub mod MarchLemmas
 pub mod TheDayLemmas
+pub mod StepLemmas

@@ -3,7 +3,9 @@ pub mod Calendar
 pub mod TheDay
 pub mod Closed
 pub mod Place
+pub mod Steps
 pub mod Month
 pub mod Weekday
+pub mod Walks
 pub mod March
 pub mod ComponentRange

@@ -107,7 +107,8 @@ fn cycle_place(year: i32) -> u32
 
 /// The weeks of ISO 8601 of a year: its Thursdays.
 pub fn weeks_in_year(year: i32) -> u8
-    ensures { result ≡ weeks_in_year year }
+    ensures value { result ≡ weeks_in_year year }
+    ensures bound { IsInRange 52 53 result }
 {
     let years = cycle_place(year);
     let start = before_year(years);

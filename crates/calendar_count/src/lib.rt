@@ -3,14 +3,22 @@
 
 pub mod closed;
 mod component_range;
+mod conversion_range;
+mod invalid_variant;
 pub mod march;
 mod month;
+mod month_iter;
 pub mod range;
 #[cfg(test)]
 mod tests;
 pub mod util;
 mod weekday;
+mod weekday_iter;
 
 pub use component_range::{ComponentName, ComponentRange};
+pub use conversion_range::ConversionRange;
+pub use invalid_variant::InvalidVariant;
 pub use month::Month;
+pub use month_iter::{MonthIter, RevMonthIter};
 pub use weekday::Weekday;
+pub use weekday_iter::{RevWeekdayIter, WeekdayIter};

@@ -1,1 +1,3 @@
 pub mod WeekLemmas
+pub mod DaysLemmas
+pub mod OccurrenceLemmas

@@ -1,1 +1,3 @@
 pub mod DateText
+pub mod Days
+pub mod Occurrence

@@ -2,6 +2,10 @@
 #![tactic(auto)]
 
 mod date;
+mod date_iter;
+mod occurrence;
+mod replace;
 mod text;
 
 pub use date::Date;
+pub use date_iter::DateIter;

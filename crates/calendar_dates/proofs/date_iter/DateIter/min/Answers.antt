@@ -1,0 +1,16 @@
+use Rattle.std.proofs.Common.{arith, refl}
+use Rattle.calendar_dates.proofs.DaysLemmas.{length_counts, counts_low, counts_contain}
+use Rattle.calendar_dates.proofs.date_iter.DateIter.min.Goals as goal
+
+pub returns-then-self-eq0-clause-some : goal.returns-then-self-eq0-clause-some
+returns-then-self-eq0-clause-some c =
+    let long = rw c.self.view_is at (length_counts c.self.inside.first c.self.inside.len) in
+    (λ no. absurd (cc), λ more. absurd (omega (arith, long)))
+
+pub returns-clause-some : goal.returns-clause-some
+returns-clause-some c =
+    let long = rw c.self.view_is at (length_counts c.self.inside.first c.self.inside.len) in
+    (λ _. omega (arith, long), λ _. refl)
+
+pub returns-clause-least : goal.returns-clause-least
+returns-clause-least c = rw (c.from_count.ensures.value, ← c.self.view_is) (counts_contain c.self.inside.first c.self.inside.len 0 c.self.inside.first (omega arith) (omega arith), counts_low c.self.inside.first c.self.inside.len)
