@@ -17,7 +17,7 @@ ghost use Rattle.calendar_count.specs.Weekday.{days_from_monday};
 ghost use Rattle.calendar_count.specs.ComponentRange.{out_of_range, out_of_conditional_range};
 ghost use Rattle.calendar_count.specs.declared.component_range.ComponentName.TheVariants as component;
 
-use calendar_count::range::{JULIAN_ZERO, LAST_COUNT};
+use calendar_count::range::{self, JULIAN_ZERO, LAST_COUNT};
 use calendar_count::{ComponentName, ComponentRange, Month, Weekday, closed, march, util};
 use std::cmp::Ordering;
 use std::hash::{Hash, Hasher};
@@ -51,6 +51,11 @@ impl Date {
 
     /// The last day.
     pub const MAX: Date = Date { count: LAST_COUNT };
+
+    /// 1970-01-01.
+    pub const UNIX_EPOCH: Date = Date {
+        count: range::UNIX_EPOCH,
+    };
 
     // What the count says of the year and the ordinal.
     fn place(self) -> (i32, u16)

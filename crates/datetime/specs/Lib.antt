@@ -1,2 +1,3 @@
 pub use Rattle.datetime_wall.specs.Wall
-pub use Rattle.datetime_types.specs.OffsetDateTime
+pub use Rattle.datetime_types.specs.Texts
+pub use Rattle.datetime_types.specs.Unix

@@ -1,7 +1,7 @@
 //! Dates with times of day, at offsets from UTC.
 #![tactic(auto)]
 
-pub use datetime_types::OffsetDateTime;
+pub use datetime_types::{OffsetDateTime, PlainDateTime, Timestamp, UtcDateTime};
 
 #[cfg(test)]
 mod tests;

@@ -1,1 +1,2 @@
-pub mod OffsetDateTime
+pub mod Texts
+pub mod Unix

@@ -2,5 +2,12 @@
 #![tactic(auto)]
 
 mod offset_date_time;
+mod pairs;
+mod plain_date_time;
+mod timestamp;
+mod utc_date_time;
 
 pub use offset_date_time::OffsetDateTime;
+pub use plain_date_time::PlainDateTime;
+pub use timestamp::Timestamp;
+pub use utc_date_time::UtcDateTime;

@@ -1,5 +1,6 @@
 //! Dates and times at offsets from UTC.
-ghost use Rattle.std.specs.Prelude.{◌≡◌, ◌<◌, IsSome, IfSome, Some, ℤ};
+ghost use Rattle.std.specs.Prelude.{◌≡◌, ◌<◌, ◌≤◌, ◌↔◌, IsOk, IfOk, IfErr, IsSome, IfSome, Some, ℤ, pos, ◌*ℤ◌, unsigned_abs};
+ghost use Rattle.std.specs.Int.{int_div_euclid};
 ghost use Rattle.std.proofs.Common.{rules};
 ghost use Rattle.std.specs.Cmp.{partial_order_from_own_ties};
 ghost use Rattle.std.specs.Cmp.Rules.{comparing, hashing};
@@ -7,9 +8,14 @@ ghost use Rattle.std.specs.Ordering.{int_eq, int_cmp, on, as_partial_cmp};
 ghost use Rattle.std.specs.Hash as fed;
 ghost use Rattle.calendar.specs.Range.{IsCount};
 ghost use Rattle.calendar.specs.UtcOffset.{IsOffset};
-ghost use Rattle.datetime_wall.specs.Wall.{day_nanos, wall_clock, day_of, nanosecond_of, IsWallClock, instant, shown_at};
+ghost use Rattle.calendar.specs.ComponentRange.{out_of_range};
+ghost use Rattle.calendar_count.specs.declared.component_range.ComponentName.TheVariants as component;
+ghost use Rattle.datetime_wall.specs.Wall.{second_nanos, day_nanos, wall_clock, day_of, nanosecond_of, IsWallClock, instant, shown_at};
 
-use calendar::{Date, Time, UtcOffset};
+mod views;
+
+use crate::{PlainDateTime, Timestamp, UtcDateTime};
+use calendar::{ComponentRange, Date, Time, UtcOffset};
 use datetime_wall::wall;
 use std::cmp::Ordering;
 use std::fmt;
@@ -22,39 +28,135 @@ use std::marker::Model;
 /// values that show one instant at two offsets are equal.
 #[derive(Clone, Copy)]
 pub struct OffsetDateTime {
-    date: Date,
-    time: Time,
+    wall: PlainDateTime,
     offset: UtcOffset,
 }
 
 impl Model for OffsetDateTime {
-    ghost use Rattle.std.specs.Prelude.{◌<◌};
-    ghost use Rattle.calendar.specs.Range.{IsCount};
     ghost use Rattle.calendar.specs.UtcOffset.{IsOffset};
-    ghost use Rattle.datetime_wall.specs.Wall.{day_nanos, Shown, wall_clock, day_of, nanosecond_of};
-    ghost use Rattle.datetime_wall.proofs.WallLemmas.{day_of-wall_clock, nanosecond_of-wall_clock};
+    ghost use Rattle.datetime_wall.specs.Wall.{Shown, IsWallClock};
 
     ghost Value = { Shown };
 
-    ghost view = { λ s. record { wall = wall_clock s.date s.time; offset = s.offset } };
+    ghost view = { λ s. record { wall = s.wall; offset = s.offset } };
 
-    ghost invariant = { λ s. IsCount s.date × (s.time < day_nanos) × IsOffset s.offset };
+    ghost invariant = { λ s. IsWallClock s.wall × IsOffset s.offset };
 
-    ghost inverse = { λ m. record { date = day_of m.wall; time = nanosecond_of m.wall; offset = m.offset } };
-
-    ghost inverse_ok = { λ s h. Prim.rw (day_of-wall_clock s.date s.time h.1, nanosecond_of-wall_clock s.date s.time h.1) };
+    ghost inverse = { λ m. record { wall = m.wall; offset = m.offset } };
 }
 
 impl OffsetDateTime {
+    /// 1970-01-01 0:00 at the offset zero.
+    pub const UNIX_EPOCH: OffsetDateTime = OffsetDateTime {
+        wall: PlainDateTime::UNIX_EPOCH,
+        offset: UtcOffset::UTC,
+    };
+
+    // What a clock at the offset shows so.
+    #[inline(always)]
+    pub(crate) fn from_wall(wall: PlainDateTime, offset: UtcOffset) -> OffsetDateTime
+        ensures value { result ≡ record { wall = wall; offset = offset } }
+        ensures range { IsWallClock wall × IsOffset offset }
+    {
+        // Their ranges come with these calls.
+        let _ = (wall.date(), offset.whole_seconds());
+        OffsetDateTime { wall, offset }
+    }
+
+    /// The date at the time in UTC, at the offset zero.
+    #[inline(always)]
+    pub fn new_utc(date: Date, time: Time) -> OffsetDateTime
+        ensures value { result ≡ record { wall = wall_clock date time; offset = pos 0 } }
+        ensures range { IsWallClock result.wall }
+    {
+        OffsetDateTime::new_in_offset(date, time, UtcOffset::UTC)
+    }
+
+    /// So many seconds after 1970 began in UTC, at the offset zero; refused as `timestamp` where the
+    /// calendar does not have the day.
+    #[inline(always)]
+    pub fn from_unix_timestamp(timestamp: i64) -> Result<OffsetDateTime, ComponentRange>
+        ensures succeeds { IsOk result ↔ IsWallClock (timestamp *ℤ pos second_nanos) }
+        ensures value { IfOk result (λ m. m
+            ≡ record { wall = timestamp *ℤ pos second_nanos; offset = pos 0 }) }
+        ensures err { IfErr result (λ e. e ≡ out_of_range component.Timestamp) }
+    {
+        Ok(UtcDateTime::from_unix_timestamp(timestamp)?.into())
+    }
+
+    /// So many nanoseconds after 1970 began in UTC, at the offset zero; refused as `timestamp` where
+    /// the calendar does not have the day.
+    #[inline(always)]
+    pub fn from_unix_timestamp_nanos(timestamp: i128) -> Result<OffsetDateTime, ComponentRange>
+        ensures succeeds { IsOk result ↔ IsWallClock timestamp }
+        ensures value { IfOk result (λ m. m ≡ record { wall = timestamp; offset = pos 0 }) }
+        ensures err { IfErr result (λ e. e ≡ out_of_range component.Timestamp) }
+    {
+        Ok(UtcDateTime::from_unix_timestamp_nanos(timestamp)?.into())
+    }
+
+    /// The whole seconds since 1970 began in UTC, rounded down.
+    #[inline(always)]
+    pub fn unix_timestamp(self) -> i64
+        ensures value { result ≡ int_div_euclid (instant self) (pos second_nanos) }
+        ensures bound { unsigned_abs result ≤ 31_619_087_690_399 }
+    {
+        let seconds = wall::unix_seconds(self.wall.date(), self.wall.time());
+        seconds - i64::from(self.offset.whole_seconds())
+    }
+
+    /// The nanoseconds since 1970 began in UTC.
+    #[inline(always)]
+    pub fn unix_timestamp_nanos(self) -> i128
+        ensures { result ≡ instant self }
+    {
+        wall::instant_nanoseconds(self.wall.date(), self.wall.time(), self.offset)
+    }
+
+    /// The same instant in UTC, or `None` where the calendar does not have the date there.
+    #[inline(always)]
+    pub fn checked_to_utc(self) -> Option<UtcDateTime>
+        ensures some { IsSome result ↔ IsWallClock (instant self) }
+        ensures value { IfSome result (λ t. t ≡ instant self) }
+    {
+        let wall = self.wall.moved_by_seconds(-self.offset.whole_seconds())?;
+        Some(UtcDateTime::from_wall(wall))
+    }
+
+    /// The same instant in UTC, where the calendar has the date there: `checked_to_utc` is the test.
+    #[inline(always)]
+    pub fn to_utc(self) -> UtcDateTime
+        requires { IsWallClock (instant self) }
+        ensures { result ≡ instant self }
+    {
+        self.checked_to_utc().unwrap()
+    }
+
+    /// The same instant, or `None` where the calendar does not have its date in UTC.
+    #[inline(always)]
+    pub fn checked_to_timestamp(self) -> Option<Timestamp>
+        ensures some { IsSome result ↔ IsWallClock (instant self) }
+        ensures value { IfSome result (λ t. t ≡ instant self) }
+    {
+        Timestamp::new(self.unix_timestamp(), self.wall.nanosecond()).ok()
+    }
+
+    /// The same instant, where the calendar has its date in UTC: `checked_to_timestamp` is the test.
+    #[inline(always)]
+    pub fn to_timestamp(self) -> Timestamp
+        requires { IsWallClock (instant self) }
+        ensures { result ≡ instant self }
+    {
+        self.checked_to_timestamp().unwrap()
+    }
+
     /// What a clock at the offset shows on the date at the time.
     #[inline(always)]
     pub fn new_in_offset(date: Date, time: Time, offset: UtcOffset) -> OffsetDateTime
         ensures value { result ≡ record { wall = wall_clock date time; offset = offset } }
         ensures range { IsWallClock result.wall × IsOffset result.offset }
     {
-        // Their ranges come with these calls.
-        let _ = (date.count(), time.second_of_day(), offset.whole_seconds());
-        OffsetDateTime { date, time, offset }
+        OffsetDateTime::from_wall(PlainDateTime::new(date, time), offset)
     }
 
     /// The date at its offset.
@@ -64,7 +166,7 @@ impl OffsetDateTime {
         ensures bound { IsCount result }
         ensures range { IsWallClock self.wall }
     {
-        self.date
+        self.wall.date()
     }
 
     /// The time of day at its offset.
@@ -74,7 +176,7 @@ impl OffsetDateTime {
         ensures bound { result < day_nanos }
         ensures range { IsWallClock self.wall }
     {
-        self.time
+        self.wall.time()
     }
 
     /// The offset.
@@ -95,8 +197,8 @@ impl OffsetDateTime {
         ensures range { IfSome result (λ m. IsWallClock m.wall × IsOffset m.offset) }
     {
         let seconds = offset.whole_seconds() - self.offset.whole_seconds();
-        let (date, time) = wall::moved_by_seconds(self.date, self.time, seconds)?;
-        Some(OffsetDateTime::new_in_offset(date, time, offset))
+        let wall = self.wall.moved_by_seconds(seconds)?;
+        Some(OffsetDateTime::from_wall(wall, offset))
     }
 
     /// The same instant at another offset, where the calendar has the date there.
@@ -107,13 +209,6 @@ impl OffsetDateTime {
     {
         self.checked_to_offset(offset).unwrap()
     }
-
-    // The nanoseconds since 1970 began in UTC.
-    fn instant(self) -> i128
-        ensures { result ≡ instant self }
-    {
-        wall::instant_nanoseconds(self.date, self.time, self.offset)
-    }
 }
 
 impl PartialEq for OffsetDateTime {
@@ -122,7 +217,7 @@ impl PartialEq for OffsetDateTime {
     ghost laws = { Prim.search (comparing, rules) };
 
     fn eq(&self, other: &OffsetDateTime) -> bool {
-        self.instant() == other.instant()
+        self.unix_timestamp_nanos() == other.unix_timestamp_nanos()
     }
 }
 
@@ -140,7 +235,8 @@ impl Ord for OffsetDateTime {
     ghost matches_eq = { Prim.search (comparing, rules) };
 
     fn cmp(&self, other: &OffsetDateTime) -> Ordering {
-        self.instant().cmp(&other.instant())
+        self.unix_timestamp_nanos()
+            .cmp(&other.unix_timestamp_nanos())
     }
 }
 
@@ -161,25 +257,25 @@ impl Hash for OffsetDateTime {
     ghost respects_eq = { Prim.search (hashing, rules) };
 
     fn hash<H: Hasher>(&self, state: &mut H) {
-        self.instant().hash(state);
+        self.unix_timestamp_nanos().hash(state);
     }
 }
 
 impl fmt::Display for OffsetDateTime {
     ghost use Rattle.std.specs.Prelude.{Some};
-    ghost use Rattle.datetime_types.specs.OffsetDateTime.{shown_text};
+    ghost use Rattle.datetime_types.specs.Texts.{shown_text};
 
     ghost output = { λ m. Some (shown_text m) };
 
     fn fmt<W: fmt::Write>(&self, f: &mut fmt::Formatter<W>) -> fmt::Result {
-        let (date, time, offset) = (self.date(), self.time(), self.offset());
-        write!(f, "{date} {time} {offset}")
+        let (wall, offset) = (self.wall, self.offset());
+        write!(f, "{wall} {offset}")
     }
 }
 
 impl fmt::Debug for OffsetDateTime {
     ghost use Rattle.std.specs.Prelude.{Some};
-    ghost use Rattle.datetime_types.specs.OffsetDateTime.{shown_text};
+    ghost use Rattle.datetime_types.specs.Texts.{shown_text};
 
     ghost debug_output = { λ m. Some (shown_text m) };
 

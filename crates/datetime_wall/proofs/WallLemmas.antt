@@ -17,9 +17,9 @@ unfolding wall_clock nanosecond_of
 nanosecond_of-wall_clock day nanosecond h = omega (arith, signed)
 
 -- and a wall clock from its day and its nanosecond of the day
-pub wall_clock-parts : (wall : ℤ) → IsWallClock wall → wall_clock (day_of wall) (nanosecond_of wall) ≡ wall
+pub wall_clock_parts : (wall : ℤ) → IsWallClock wall → wall_clock (day_of wall) (nanosecond_of wall) ≡ wall
 unfolding wall_clock day_of nanosecond_of
-wall_clock-parts wall h = omega (arith, signed)
+wall_clock_parts wall h = omega (arith, signed)
 
 pub nanosecond_of_bound : (wall : ℤ) → nanosecond_of wall < day_nanos
 unfolding nanosecond_of

@@ -1,5 +1,7 @@
 //! Calculations on a wall clock, given as a date and a time.
 ghost use Rattle.std.specs.Prelude.{◌≡◌, ◌↔◌, ◌≤◌, ◌<◌, pos, ◌+◌, ◌*◌, ◌/◌, ◌+ℤ◌, ◌*ℤ◌, IsSome, IfSome, unsigned_abs};
+ghost use Rattle.std.specs.Int.{int_div_euclid};
+ghost use Rattle.datetime_products.specs.Seconds.{IsUnixSecond};
 ghost use Rattle.calendar.specs.Range.{unix_epoch, IsCount};
 ghost use Rattle.datetime_wall.specs.Wall.{second_nanos, day_nanos, wall_clock, instant, IsWallClock};
 
@@ -46,6 +48,27 @@ pub fn moved_by_seconds(date: Date, time: Time, seconds: i32) -> Option<(Date, T
     }
     let time = Time::from_seconds_nanoseconds(shifted % DAY_SECONDS, time.nanosecond());
     Some((Date::from_count(count), time))
+}
+
+/// The wall clock of a date and a time: the nanoseconds since 1970 began on that clock.
+#[inline(always)]
+pub fn wall_nanoseconds(date: Date, time: Time) -> i128
+    ensures value { result ≡ wall_clock date time }
+    ensures range { IsWallClock result }
+{
+    let days = date.count() as i64 - UNIX_EPOCH as i64;
+    let seconds = days * DAY_SECONDS as i64 + time.second_of_day() as i64;
+    seconds as i128 * 1_000_000_000 + time.nanosecond() as i128
+}
+
+/// The whole seconds since 1970 began on the clock that shows a date and a time, rounded down.
+#[inline(always)]
+pub fn unix_seconds(date: Date, time: Time) -> i64
+    ensures value { result ≡ int_div_euclid (wall_clock date time) (pos second_nanos) }
+    ensures bound { IsUnixSecond result }
+{
+    let days = date.count() as i64 - UNIX_EPOCH as i64;
+    days * DAY_SECONDS as i64 + time.second_of_day() as i64
 }
 
 /// The instant of a date and a time at an offset from UTC: the nanoseconds since 1970 began in UTC.

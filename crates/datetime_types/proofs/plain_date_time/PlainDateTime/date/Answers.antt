@@ -1,6 +1,6 @@
 use Rattle.std.proofs.Common.{sym}
 use Rattle.datetime_wall.proofs.WallLemmas.{day_of-wall_clock, IsWallClock-wall_clock}
-use Rattle.datetime_types.proofs.offset_date_time.OffsetDateTime.date.Goals as goal
+use Rattle.datetime_types.proofs.plain_date_time.PlainDateTime.date.Goals as goal
 
 pub returns-clause-value : goal.returns-clause-value
 returns-clause-value c = rw (← c.self.view_is) (sym (day_of-wall_clock _ _ c.self.invariant.1))

@@ -1,0 +1,180 @@
+//! What an OffsetDateTime shows.
+ghost use Rattle.std.specs.Prelude.{◌≡◌, ◌<◌, ◌≤◌, pos, ◌-ℤ◌};
+ghost use Rattle.std.specs.Int.{IsInRange};
+ghost use Rattle.calendar.specs.Range.{julian_zero, IsYear};
+ghost use Rattle.calendar.specs.Calendar.{day_at, ordinal_at, weekday_at, sunday_week_at, monday_week_at, iso_week_at, ymd, IsDay, IsIsoDay};
+ghost use Rattle.calendar.specs.Month.{month_number};
+ghost use Rattle.calendar.specs.Weekday.{days_from_monday};
+ghost use Rattle.calendar.specs.Time.{hour_at, minute_at, second_at, nanosecond_at};
+ghost use Rattle.datetime_wall.specs.Wall.{day_of, nanosecond_of};
+
+use crate::OffsetDateTime;
+use calendar::{Month, Weekday};
+
+impl OffsetDateTime {
+    /// The year.
+    #[inline(always)]
+    pub fn year(self) -> i32
+        ensures value { result ≡ (day_at (day_of self.wall)).year }
+        ensures bound { IsYear result }
+    {
+        self.date().year()
+    }
+
+    /// The month.
+    #[inline(always)]
+    pub fn month(self) -> Month
+        ensures value { month_number result ≡ (day_at (day_of self.wall)).month }
+    {
+        self.date().month()
+    }
+
+    /// The day of the month, from 1.
+    #[inline(always)]
+    pub fn day(self) -> u8
+        ensures value { result ≡ (day_at (day_of self.wall)).day }
+        ensures bound { IsInRange 1 31 result }
+    {
+        self.date().day()
+    }
+
+    /// The place in the year, from 1.
+    #[inline(always)]
+    pub fn ordinal(self) -> u16
+        ensures value { result ≡ ordinal_at (day_of self.wall) }
+        ensures bound { IsInRange 1 366 result }
+    {
+        self.date().ordinal()
+    }
+
+    /// The week of ISO 8601, 1 to 53.
+    #[inline(always)]
+    pub fn iso_week(self) -> u8
+        ensures value { result ≡ iso_week_at (day_of self.wall) }
+        ensures bound { IsInRange 1 53 result }
+    {
+        self.date().iso_week()
+    }
+
+    /// The Sundays of the year up to and including the day, 0 to 53.
+    #[inline(always)]
+    pub fn sunday_based_week(self) -> u8
+        ensures value { result ≡ sunday_week_at (day_of self.wall) }
+        ensures bound { result ≤ 53 }
+    {
+        self.date().sunday_based_week()
+    }
+
+    /// The Mondays of the year up to and including the day, 0 to 53.
+    #[inline(always)]
+    pub fn monday_based_week(self) -> u8
+        ensures value { result ≡ monday_week_at (day_of self.wall) }
+        ensures bound { result ≤ 53 }
+    {
+        self.date().monday_based_week()
+    }
+
+    /// The day of the week.
+    #[inline(always)]
+    pub fn weekday(self) -> Weekday
+        ensures value { days_from_monday result ≡ weekday_at (day_of self.wall) }
+    {
+        self.date().weekday()
+    }
+
+    /// The year, the month and the day of the month.
+    #[inline(always)]
+    pub fn to_calendar_date(self) -> (i32, Month, u8)
+        ensures value { day_at (day_of self.wall) ≡ ymd result.0 (month_number result.1) result.2 }
+        ensures valid { IsDay result.0 (month_number result.1) result.2 }
+    {
+        self.date().to_calendar_date()
+    }
+
+    /// The year and the place in it, from 1.
+    #[inline(always)]
+    pub fn to_ordinal_date(self) -> (i32, u16)
+        ensures year { result.0 ≡ (day_at (day_of self.wall)).year }
+        ensures ordinal { result.1 ≡ ordinal_at (day_of self.wall) }
+        ensures bound { IsYear result.0 × IsInRange 1 366 result.1 }
+    {
+        self.date().to_ordinal_date()
+    }
+
+    /// The year and the week of ISO 8601, and the day of the week.
+    #[inline(always)]
+    pub fn to_iso_week_date(self) -> (i32, u8, Weekday)
+        ensures value { IsIsoDay result.0 result.1 (days_from_monday result.2) (day_of self.wall) }
+        ensures year { IsYear result.0 }
+        ensures week { IsInRange 1 53 result.1 }
+    {
+        self.date().to_iso_week_date()
+    }
+
+    /// The Julian day.
+    #[inline(always)]
+    pub fn to_julian_day(self) -> i32
+        ensures value { result ≡ pos (day_of self.wall) -ℤ pos julian_zero }
+    {
+        self.date().to_julian_day()
+    }
+
+    /// The hour, below 24.
+    #[inline(always)]
+    pub fn hour(self) -> u8
+        ensures value { result ≡ hour_at (nanosecond_of self.wall) }
+        ensures bound { result < 24 }
+    {
+        self.time().hour()
+    }
+
+    /// The minute of the hour, below 60.
+    #[inline(always)]
+    pub fn minute(self) -> u8
+        ensures value { result ≡ minute_at (nanosecond_of self.wall) }
+        ensures bound { result < 60 }
+    {
+        self.time().minute()
+    }
+
+    /// The second of the minute, below 60.
+    #[inline(always)]
+    pub fn second(self) -> u8
+        ensures value { result ≡ second_at (nanosecond_of self.wall) }
+        ensures bound { result < 60 }
+    {
+        self.time().second()
+    }
+
+    /// The nanoseconds of the second.
+    #[inline(always)]
+    pub fn nanosecond(self) -> u32
+        ensures value { result ≡ nanosecond_at (nanosecond_of self.wall) }
+        ensures bound { result < 1_000_000_000 }
+    {
+        self.time().nanosecond()
+    }
+
+    /// The hour, the minute and the second.
+    #[inline(always)]
+    pub fn to_hms(self) -> (u8, u8, u8)
+        ensures hour { result.0 ≡ hour_at (nanosecond_of self.wall) }
+        ensures minute { result.1 ≡ minute_at (nanosecond_of self.wall) }
+        ensures second { result.2 ≡ second_at (nanosecond_of self.wall) }
+        ensures bound { (result.0 < 24) × (result.1 < 60) × (result.2 < 60) }
+    {
+        self.time().as_hms()
+    }
+
+    /// The hour, the minute, the second and the nanosecond.
+    #[inline(always)]
+    pub fn to_hms_nano(self) -> (u8, u8, u8, u32)
+        ensures hour { result.0 ≡ hour_at (nanosecond_of self.wall) }
+        ensures minute { result.1 ≡ minute_at (nanosecond_of self.wall) }
+        ensures second { result.2 ≡ second_at (nanosecond_of self.wall) }
+        ensures nanosecond { result.3 ≡ nanosecond_at (nanosecond_of self.wall) }
+        ensures bound { (result.0 < 24) × (result.1 < 60) × (result.2 < 60) × (result.3 < 1_000_000_000) }
+    {
+        self.time().as_hms_nano()
+    }
+}

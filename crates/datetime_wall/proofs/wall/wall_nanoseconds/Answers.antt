@@ -1,0 +1,12 @@
+use Rattle.std.proofs.Common.{arith}
+use Rattle.calendar_count.proofs.Signed.{signed}
+use Rattle.datetime_wall.specs.Wall.{wall_clock}
+use Rattle.datetime_wall.proofs.wall.wall_nanoseconds.Goals as goal
+
+pub returns-clause-value : goal.returns-clause-value
+unfolding wall_clock
+returns-clause-value c = omega (arith, signed)
+
+pub returns-clause-range : goal.returns-clause-range
+unfolding wall_clock
+returns-clause-range c = (omega (arith, signed), omega (arith, signed))
