@@ -5,6 +5,8 @@ mod arithmetic;
 mod comparing;
 mod duration;
 mod operators;
+mod products;
+mod quotients;
 mod views;
 
 pub use duration::SignedDuration;
