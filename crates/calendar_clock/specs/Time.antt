@@ -5,12 +5,8 @@ use Rattle.calendar_count.specs.declared.component_range.ComponentName.TheVarian
 use Rattle.calendar_count.specs.declared.component_range.ComponentRange.{ComponentRange}
 use Rattle.calendar_count.specs.ComponentRange.{out_of_range}
 use Rattle.calendar_clock.specs.Digits.{two_digits, nine_digits, without_zeros}
-
-abbrev pub second_nanos : ℕ
-second_nanos = 1_000_000_000
-
-abbrev pub day_nanos : ℕ
-day_nanos = 86_400_000_000_000
+-- the nanoseconds of a second and of a day
+pub use Rattle.calendar_spans.specs.Duration.{second_nanos, day_nanos}
 
 -- the parts of a time of day
 abbrev pub hour_at : ℕ → ℕ
