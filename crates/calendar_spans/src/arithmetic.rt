@@ -64,7 +64,7 @@ impl SignedDuration {
     // The duration furthest back or furthest forward.
     #[inline(always)]
     #[tactic(auto, unfolding(crate::specs::DurationParts::duration_nanos))]
-    fn end(is_back: bool) -> SignedDuration
+    pub(crate) fn end(is_back: bool) -> SignedDuration
         ensures value { result ≡ (if is_back then least_duration else greatest_duration) }
     {
         if is_back {
