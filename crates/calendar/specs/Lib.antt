@@ -1,10 +1,14 @@
 pub use Rattle.calendar_count.specs.Range
 pub use Rattle.calendar_count.specs.Calendar
 pub use Rattle.calendar_count.specs.TheDay
+pub use Rattle.calendar_count.specs.Steps
 pub use Rattle.calendar_count.specs.Month
 pub use Rattle.calendar_count.specs.Weekday
+pub use Rattle.calendar_count.specs.Walks
 pub use Rattle.calendar_count.specs.ComponentRange
 pub use Rattle.calendar_clock.specs.Digits
 pub use Rattle.calendar_clock.specs.Time
 pub use Rattle.calendar_clock.specs.UtcOffset
 pub use Rattle.calendar_dates.specs.DateText
+pub use Rattle.calendar_dates.specs.Days
+pub use Rattle.calendar_dates.specs.Occurrence

@@ -2,8 +2,11 @@
 #![tactic(auto)]
 
 pub use calendar_clock::{Time, UtcOffset};
-pub use calendar_count::{ComponentName, ComponentRange, Month, Weekday, util};
-pub use calendar_dates::Date;
+pub use calendar_count::{
+    ComponentName, ComponentRange, ConversionRange, InvalidVariant, Month, MonthIter, RevMonthIter,
+    RevWeekdayIter, Weekday, WeekdayIter, util,
+};
+pub use calendar_dates::{Date, DateIter};
 
 #[cfg(test)]
 mod tests;

@@ -1,0 +1,134 @@
+//! Walks over days, occurrences of a weekday, days with one part changed.
+use super::refused;
+use crate::{Date, Month, Weekday};
+use std::test::Fail;
+
+#[test]
+fn walks_days_from_both_ends(rt: HostRuntime) -> Result<(), Fail> {
+    let before = Date::from_calendar_date(2024, Month::February, 28)?;
+    let leap = Date::from_calendar_date(2024, Month::February, 29)?;
+    let after = Date::from_calendar_date(2024, Month::March, 1)?;
+    let mut days = before.iter_to(after);
+    assert_eq!(rt; days.len(), 3);
+    assert_eq!(rt; days.nth(1), Some(leap));
+    assert_eq!(rt; days.next(), Some(after));
+    assert_eq!(rt; days.next(), None);
+    assert_eq!(rt; days.next_back(), None);
+    let mut days = before.iter_to(after);
+    assert_eq!(rt; days.size_hint(), (3, Some(3)));
+    assert_eq!(rt; days.next_back(), Some(after));
+    assert_eq!(rt; days.nth_back(1), Some(before));
+    assert_eq!(rt; days.nth_back(0), None);
+    assert_eq!(rt; before.iter_to(after).count(), 3);
+    assert_eq!(rt; before.iter_to(after).last(), Some(after));
+    assert_eq!(rt; before.iter_to(after).min(), Some(before));
+    assert_eq!(rt; before.iter_to(after).max(), Some(after));
+    assert!(rt; before.iter_to(after).is_sorted());
+    assert_eq!(rt; before.iter_to(before).last(), Some(before));
+    assert_eq!(rt; after.iter_to(before).count(), 0);
+    assert_eq!(rt; after.iter_to(before).min(), None);
+    assert_eq!(rt; before.iter_to(after).nth(usize::MAX), None);
+    assert_eq!(rt; Date::MIN.iter_to(Date::MAX).len(), 730_484_634);
+    let leaps = before.iter_to(after).rev().filter(|day| *day == leap);
+    assert_eq!(rt; leaps.count(), 1);
+    Ok(())
+}
+
+#[test]
+fn finds_weekdays(rt: HostRuntime) -> Result<(), Fail> {
+    let monday = Date::from_calendar_date(2018, Month::January, 1)?;
+    for (weekday, n, day, back) in [
+        (Weekday::Monday, 1, 8, 25),
+        (Weekday::Tuesday, 1, 2, 26),
+        (Weekday::Sunday, 1, 7, 31),
+        (Weekday::Sunday, 3, 21, 17),
+    ] {
+        let later = Date::from_calendar_date(2018, Month::January, day)?;
+        let earlier = Date::from_calendar_date(2017, Month::December, back)?;
+        assert_eq!(rt; monday.checked_nth_next_occurrence(weekday, n), Some(later));
+        assert_eq!(rt;
+            monday.checked_nth_prev_occurrence(weekday, n),
+            Some(earlier)
+        );
+        if monday.checked_nth_next_occurrence(weekday, n).is_some() {
+            assert_eq!(rt; monday.nth_next_occurrence(weekday, n), later);
+        }
+        if monday.checked_nth_prev_occurrence(weekday, n).is_some() {
+            assert_eq!(rt; monday.nth_prev_occurrence(weekday, n), earlier);
+        }
+    }
+    let week_on = monday.checked_next_occurrence(Weekday::Monday);
+    if week_on.is_some() {
+        assert_eq!(rt; Some(monday.next_occurrence(Weekday::Monday)), week_on);
+    }
+    let week_back = monday.checked_prev_occurrence(Weekday::Monday);
+    if week_back.is_some() {
+        assert_eq!(rt; Some(monday.prev_occurrence(Weekday::Monday)), week_back);
+    }
+    assert!(rt; week_on.is_some() && week_back.is_some());
+    assert_eq!(rt;
+        monday.checked_nth_next_occurrence(Weekday::Friday, 0),
+        None
+    );
+    assert_eq!(rt;
+        monday.checked_nth_prev_occurrence(Weekday::Friday, 0),
+        None
+    );
+    assert_eq!(rt; Date::MAX.weekday(), Weekday::Friday);
+    assert_eq!(rt; Date::MAX.checked_next_occurrence(Weekday::Monday), None);
+    assert_eq!(rt; Date::MIN.weekday(), Weekday::Monday);
+    assert_eq!(rt; Date::MIN.checked_prev_occurrence(Weekday::Sunday), None);
+    Ok(())
+}
+
+#[test]
+fn replaces_parts(rt: HostRuntime) -> Result<(), Fail> {
+    let leap = Date::from_calendar_date(2024, Month::February, 29)?;
+    assert_eq!(rt;
+        leap.replace_year(2020)?.to_calendar_date(),
+        (2020, Month::February, 29)
+    );
+    assert_eq!(rt;
+        leap.replace_month(Month::May)?.to_calendar_date(),
+        (2024, Month::May, 29)
+    );
+    assert_eq!(rt;
+        leap.replace_day(1)?.to_calendar_date(),
+        (2024, Month::February, 1)
+    );
+    assert_eq!(rt;
+        leap.replace_ordinal(366)?.to_calendar_date(),
+        (2024, Month::December, 31)
+    );
+    let last = Date::from_calendar_date(2023, Month::January, 31)?;
+    for (answer, name, is_conditional) in [
+        (leap.replace_year(2023), "day", true),
+        (leap.replace_year(1_000_000), "year", false),
+        (last.replace_month(Month::February), "day", true),
+        (leap.replace_day(30), "day", true),
+        (leap.replace_day(0), "day", true),
+        (last.replace_ordinal(366), "ordinal", true),
+        (last.replace_ordinal(0), "ordinal", true),
+    ] {
+        assert_eq!(rt; refused(answer), (name, is_conditional));
+    }
+    Ok(())
+}
+
+#[test]
+fn years_past_four_digits(rt: HostRuntime) -> Result<(), Fail> {
+    let saturday = Date::from_iso_week_date(9999, 52, Weekday::Saturday)?;
+    assert_eq!(rt; saturday.to_string(rt.alloc())?.as_str(), "+10000-01-01");
+    for weekday in [Weekday::Saturday, Weekday::Sunday] {
+        let answer = Date::from_iso_week_date(999_999, 52, weekday);
+        assert_eq!(rt; refused(answer), ("week", true));
+    }
+    assert_eq!(rt;
+        Date::MAX.to_calendar_date(),
+        (999_999, Month::December, 31)
+    );
+    assert_eq!(rt; Date::MAX.to_julian_day(), 366_963_559);
+    assert_eq!(rt; Date::MIN.to_calendar_date(), (-999_999, Month::January, 1));
+    assert_eq!(rt; Date::MIN.to_julian_day(), -363_521_074);
+    Ok(())
+}
