@@ -1,0 +1,4 @@
+pub mod NearestLemmas
+pub mod ProductLemmas
+pub mod QuotientLemmas
+pub mod UnitLemmas

@@ -1,0 +1,8 @@
+use Rattle.std.proofs.Common.{arith, pos}
+use Rattle.std.proofs.lemmas.Int.{quot-rem}
+use Rattle.calendar_count.proofs.Signed.{signed, one_sided}
+use Rattle.calendar_spans.proofs.duration.SignedDuration.microseconds.Goals as goal
+
+pub returns : goal.returns
+returns c =
+    record { value = omega (arith, signed, quot-rem c.args.microseconds (pos 1_000_000), one_sided c.args.microseconds) }
