@@ -1,4 +1,5 @@
-//! The calendar: dates, times of day, offsets from UTC, months, weekdays, and refusals of what is out of range.
+//! The calendar: dates, times of day, offsets from UTC, durations, months, weekdays, walks over them, and refusals of
+//! what is out of range.
 #![tactic(auto)]
 
 pub use calendar_clock::{Time, UtcOffset};
@@ -7,6 +8,7 @@ pub use calendar_count::{
     RevWeekdayIter, Weekday, WeekdayIter, util,
 };
 pub use calendar_dates::{Date, DateIter};
+pub use calendar_spans::SignedDuration;
 
 #[cfg(test)]
 mod tests;

@@ -1,6 +1,6 @@
 //! Walks over days, occurrences of a weekday, days with one part changed.
 use super::refused;
-use crate::{Date, Month, Weekday};
+use crate::{Date, Month, SignedDuration, Weekday};
 use std::test::Fail;
 
 #[test]
@@ -130,5 +130,48 @@ fn years_past_four_digits(rt: HostRuntime) -> Result<(), Fail> {
     assert_eq!(rt; Date::MAX.to_julian_day(), 366_963_559);
     assert_eq!(rt; Date::MIN.to_calendar_date(), (-999_999, Month::January, 1));
     assert_eq!(rt; Date::MIN.to_julian_day(), -363_521_074);
+    Ok(())
+}
+
+#[test]
+fn moves_by_durations(rt: HostRuntime) -> Result<(), Fail> {
+    let day = Date::from_calendar_date(2021, Month::January, 1)?;
+    let before = Date::from_calendar_date(2020, Month::December, 31)?;
+    for (seconds, sum, difference) in [
+        (-86_399, day, day),
+        (86_399, day, day),
+        (-86_400, before, day.next_day().unwrap_or(day)),
+        (
+            31_536_000,
+            day.replace_year(2022)?,
+            day.replace_day(2)?.replace_year(2020)?,
+        ),
+    ] {
+        let duration = SignedDuration::seconds(seconds);
+        assert_eq!(rt; day.checked_add(duration), Some(sum));
+        assert_eq!(rt; day.checked_sub(duration), Some(difference));
+        assert_eq!(rt; day.saturating_add(duration), sum);
+        assert_eq!(rt; day.saturating_sub(duration), difference);
+        let mut moved = day;
+        if day.checked_add(duration).is_some() {
+            assert_eq!(rt; day + duration, sum);
+            moved += duration;
+        }
+        assert_eq!(rt; moved, sum);
+        let mut moved = day;
+        if day.checked_sub(duration).is_some() {
+            assert_eq!(rt; day - duration, difference);
+            moved -= duration;
+        }
+        assert_eq!(rt; moved, difference);
+    }
+    assert_eq!(rt; Date::MAX.checked_add(SignedDuration::DAY), None);
+    assert_eq!(rt; Date::MIN.checked_sub(SignedDuration::DAY), None);
+    assert_eq!(rt; Date::MAX.saturating_add(SignedDuration::MAX), Date::MAX);
+    assert_eq!(rt; Date::MAX.saturating_add(SignedDuration::MIN), Date::MIN);
+    assert_eq!(rt; Date::MIN.saturating_sub(SignedDuration::MIN), Date::MAX);
+    assert!(rt; day - before == SignedDuration::DAY);
+    assert!(rt; (before - day).whole_seconds() == -86_400);
+    assert!(rt; (Date::MAX - Date::MIN).whole_days() == 730_484_633);
     Ok(())
 }
