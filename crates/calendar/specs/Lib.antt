@@ -14,3 +14,4 @@ pub use Rattle.calendar_dates.specs.DateText
 pub use Rattle.calendar_dates.specs.Days
 pub use Rattle.calendar_dates.specs.Occurrence
 pub use Rattle.calendar_dates.specs.Arithmetic
+pub mod Laws

@@ -2,6 +2,8 @@
 //! what is out of range.
 #![tactic(auto)]
 
+pub mod laws;
+
 pub use calendar_clock::{Time, UtcOffset};
 pub use calendar_count::{
     ComponentName, ComponentRange, ConversionRange, InvalidVariant, Month, MonthIter, RevMonthIter,

@@ -1,6 +1,7 @@
 //! Walks over days, occurrences of a weekday, days with one part changed.
 use super::refused;
-use crate::{Date, Month, SignedDuration, Weekday};
+use crate::{Date, Month, SignedDuration, Weekday, laws};
+use std::cmp::Ordering;
 use std::test::Fail;
 
 #[test]
@@ -173,5 +174,31 @@ fn moves_by_durations(rt: HostRuntime) -> Result<(), Fail> {
     assert!(rt; day - before == SignedDuration::DAY);
     assert!(rt; (before - day).whole_seconds() == -86_400);
     assert!(rt; (Date::MAX - Date::MIN).whole_days() == 730_484_633);
+    Ok(())
+}
+
+#[test]
+fn keeps_laws(rt: HostRuntime) -> Result<(), Fail> {
+    laws::views();
+    laws::both_ends();
+    let leap = Date::from_calendar_date(2024, Month::February, 29)?;
+    assert_eq!(rt; laws::day_of_calendar_date(leap)?, leap);
+    assert_eq!(rt; laws::day_of_ordinal_date(leap)?, leap);
+    assert_eq!(rt; laws::day_of_iso_week_date(leap)?, leap);
+    assert_eq!(rt; laws::day_of_julian_day(leap)?, leap);
+    assert_eq!(rt; laws::day_at_difference(leap, Date::MIN), Some(Date::MIN));
+    assert_eq!(rt;
+        laws::iso_week_date_of_day(2024, 9, Weekday::Thursday),
+        Some((2024, 9, Weekday::Thursday))
+    );
+    assert_eq!(rt;
+        laws::order_of_months(Month::May, Month::June),
+        Ordering::Less
+    );
+    assert_eq!(rt; laws::month_and_back(Month::May, 200), Month::May);
+    assert_eq!(rt;
+        laws::weekday_and_back(Weekday::Sunday, 200),
+        Weekday::Sunday
+    );
     Ok(())
 }
