@@ -178,6 +178,26 @@ fn moves_by_durations(rt: HostRuntime) -> Result<(), Fail> {
 }
 
 #[test]
+fn prints_dates_under_a_width(rt: HostRuntime) -> Result<(), Fail> {
+    let day = Date::from_calendar_date(-44, Month::March, 15)?;
+    assert_eq!(rt;
+        format!(in rt.alloc(); "[{day:13}|{day:<12}|{day:>12}|{day:*^14}|{day:3}]")?.as_str(),
+        "[-0044-03-15  |-0044-03-15 | -0044-03-15|*-0044-03-15**|-0044-03-15]"
+    );
+    for (year, text) in [
+        (9999, "    9999-01-01"),
+        (-1, "   -0001-01-01"),
+        (10_000, "  +10000-01-01"),
+        (-99_999, "  -99999-01-01"),
+        (100_000, " +100000-01-01"),
+    ] {
+        let day = Date::from_calendar_date(year, Month::January, 1)?;
+        assert_eq!(rt; format!(in rt.alloc(); "{day:>14}")?.as_str(), text);
+    }
+    Ok(())
+}
+
+#[test]
 fn keeps_laws(rt: HostRuntime) -> Result<(), Fail> {
     laws::views();
     laws::both_ends();
