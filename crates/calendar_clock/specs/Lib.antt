@@ -1,3 +1,4 @@
+pub mod DateAdjustment
 pub mod Digits
 pub mod Time
 pub mod TimeParts

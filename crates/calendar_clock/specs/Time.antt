@@ -1,16 +1,13 @@
 -- Times of day, each the nanoseconds since the day began.
-use Rattle.std.specs.Prelude.{ℕ, ◌+◌, ◌*◌, ◌/◌, ◌%◌, nat_lt, if◌then◌else◌, Result, Ok, Err, List, ◌∷◌, ◌++◌}
+use Rattle.std.specs.Prelude.{ℕ, ◌+◌, ◌*◌, ◌/◌, ◌%◌, nat_lt, if◌then◌else◌, Result, Ok, Err, List, ◌∷◌, ◌++◌, ℤ, pos, unsigned_abs}
+use Rattle.std.specs.Int.{int_rem_euclid}
 use Rattle.std.specs.Fmt.{decimal}
-use Rattle.calendar_count.specs.declared.component_range.ComponentName.TheVariants.{Hour, Minute, Second, Nanosecond}
+use Rattle.calendar_count.specs.declared.component_range.ComponentName.TheVariants.{Hour, Minute, Second, Millisecond, Microsecond, Nanosecond}
 use Rattle.calendar_count.specs.declared.component_range.ComponentRange.{ComponentRange}
 use Rattle.calendar_count.specs.ComponentRange.{out_of_range}
 use Rattle.calendar_clock.specs.Digits.{two_digits, nine_digits, without_zeros}
-
-abbrev pub second_nanos : ℕ
-second_nanos = 1_000_000_000
-
-abbrev pub day_nanos : ℕ
-day_nanos = 86_400_000_000_000
+-- the nanoseconds of each unit
+pub use Rattle.calendar_spans.specs.Duration.{micro_nanos, milli_nanos, second_nanos, minute_nanos, hour_nanos, day_nanos}
 
 -- the parts of a time of day
 abbrev pub hour_at : ℕ → ℕ
@@ -37,3 +34,34 @@ time_of hour minute second nanosecond =
 -- `7:05:00.0`, `23:20:50.52`
 abbrev pub time_text : ℕ → List ℕ
 time_text n = decimal (hour_at n) ++ 58 ∷ two_digits (minute_at n) ++ 58 ∷ two_digits (second_at n) ++ 46 ∷ without_zeros (nine_digits (nanosecond_at n))
+
+abbrev pub millisecond_at : ℕ → ℕ
+millisecond_at n = n % second_nanos / milli_nanos
+
+abbrev pub microsecond_at : ℕ → ℕ
+microsecond_at n = n % second_nanos / micro_nanos
+
+-- the same as `time_of`, of so many milliseconds, or microseconds, in place of nanoseconds
+unfoldable pub time_of_milli : ℕ → ℕ → ℕ → ℕ → Result ℕ ComponentRange
+time_of_milli hour minute second millisecond =
+    if nat_lt 23 hour then Err (out_of_range Hour)
+    else (if nat_lt 59 minute then Err (out_of_range Minute)
+    else (if nat_lt 59 second then Err (out_of_range Second)
+    else (if nat_lt 999 millisecond then Err (out_of_range Millisecond)
+    else Ok ((hour * 3600 + minute * 60 + second) * second_nanos + millisecond * milli_nanos))))
+
+unfoldable pub time_of_micro : ℕ → ℕ → ℕ → ℕ → Result ℕ ComponentRange
+time_of_micro hour minute second microsecond =
+    if nat_lt 23 hour then Err (out_of_range Hour)
+    else (if nat_lt 59 minute then Err (out_of_range Minute)
+    else (if nat_lt 59 second then Err (out_of_range Second)
+    else (if nat_lt 999_999 microsecond then Err (out_of_range Microsecond)
+    else Ok ((hour * 3600 + minute * 60 + second) * second_nanos + microsecond * micro_nanos))))
+
+-- the greatest whole number of units that is not after a time
+abbrev pub cut_to : ℕ → ℕ → ℕ
+cut_to unit n = n / unit * unit
+
+-- the time of day that so many nanoseconds lead to, round the clock
+abbrev pub on_clock : ℤ → ℕ
+on_clock z = unsigned_abs (int_rem_euclid z (pos day_nanos))

@@ -13,6 +13,7 @@ use std::cmp::Ordering;
 use std::fmt;
 use std::hash::{Hash, Hasher};
 use std::marker::Model;
+use std::ops::Neg;
 
 const GREATEST_OFFSET: u32 = 93_599;
 
@@ -184,6 +185,18 @@ impl UtcOffset {
         ensures { IsTrue result ↔ (self <ℤ pos 0) }
     {
         self.seconds < 0
+    }
+}
+
+impl Neg for UtcOffset {
+    type Output = UtcOffset;
+
+    ghost neg_gives = { λ o r. r ≡ neg_ℤ o };
+
+    fn neg(self) -> UtcOffset {
+        UtcOffset {
+            seconds: -self.seconds,
+        }
     }
 }
 

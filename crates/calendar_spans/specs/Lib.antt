@@ -1,2 +1,4 @@
 pub mod Duration
 pub mod DurationParts
+pub mod DurationSum
+pub mod DurationText

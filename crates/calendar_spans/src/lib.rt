@@ -4,9 +4,12 @@
 mod arithmetic;
 mod comparing;
 mod duration;
+pub mod laws;
 mod operators;
 mod products;
 mod quotients;
+mod sums;
+mod text;
 mod views;
 
 pub use duration::SignedDuration;

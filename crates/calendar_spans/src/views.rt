@@ -1,5 +1,5 @@
 //! A duration in whole units, cut toward zero, and what is past them.
-ghost use Rattle.std.specs.Prelude.{◌≡◌, ◌↔◌, ◌≤◌, ◌*◌, ◌+◌, ◌-◌, ◌^◌, ℤ, pos, ◌<ℤ◌, IsTrue, int_div, int_rem, unsigned_abs};
+ghost use Rattle.std.specs.Prelude.{◌≡◌, ◌↔◌, ◌≤◌, ◌*◌, ◌+◌, ◌-◌, ◌^◌, ◌/◌, ◌%◌, ℤ, pos, ◌<ℤ◌, IsTrue, int_div, int_rem, unsigned_abs};
 ghost use Rattle.std.specs.Duration.{as_nanos};
 ghost use Rattle.calendar_spans.specs.Duration.{micro_nanos, milli_nanos, second_nanos, minute_nanos, hour_nanos, day_nanos, week_nanos, IsDuration, nearest_duration};
 
@@ -131,7 +131,19 @@ impl SignedDuration {
     pub fn unsigned_abs(self) -> Duration
         ensures value { as_nanos result ≡ unsigned_abs self }
     {
-        Duration::new(
+        let (seconds, nanoseconds) = self.length_parts();
+        Duration::new(seconds, nanoseconds)
+    }
+
+    // The whole seconds of its length without the sign, and the nanoseconds past them.
+    #[inline(always)]
+    #[tactic(auto, using(crate::proofs::TextLemmas::seconds_of_length, crate::proofs::TextLemmas::nanoseconds_of_length))]
+    pub(crate) fn length_parts(self) -> (u64, u32)
+        ensures seconds { result.0 ≡ unsigned_abs self / second_nanos }
+        ensures nanoseconds { result.1 ≡ unsigned_abs self % second_nanos }
+        ensures bound { result.0 ≤ 2 ^ 63 }
+    {
+        (
             self.whole_seconds().unsigned_abs(),
             self.subsec_nanoseconds().unsigned_abs(),
         )
