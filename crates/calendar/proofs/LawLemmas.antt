@@ -1,5 +1,5 @@
 -- The laws of the calendar, proved of its definitions.
-use Rattle.std.proofs.Common.{◌≡◌, ℕ, ◌+◌, ◌-◌, Bool, true, false, ◌==◌, if◌then◌else◌, List, [], ◌∷◌, ◌++◌, reverse, Option, None, Some, Result, Ok, Err, IsOk, IfOk, OnErr, IsSome, IfSome, refl, sym, ap, ◌∙◌, arith, ℤ, pos, ◌+ℤ◌, ◌-ℤ◌, ◌*ℤ◌, append_assoc, append-nil}
+use Rattle.std.proofs.Common.{◌≡◌, ℕ, ◌+◌, ◌-◌, Bool, true, false, ◌==◌, if◌then◌else◌, List, [], ◌∷◌, ◌++◌, reverse, Option, None, Some, Result, Ok, Err, IsOk, IfOk, OnErr, IsSome, IfSome, refl, sym, ap, ◌∙◌, arith, ℤ, pos, ◌+ℤ◌, ◌-ℤ◌, ◌*ℤ◌, unsigned_abs, nat_lt, ◌≤◌, append_assoc, append-nil}
 use Rattle.std.proofs.lemmas.List.{reverse-append}
 use Rattle.calendar_count.specs.declared.month.Month.{Month}
 use Rattle.calendar_count.specs.declared.month.Month.TheVariants.{January, February, March, April, May, June, July, August, September, October, November, December}
@@ -17,6 +17,8 @@ use Rattle.calendar_spans.specs.Duration.{day_nanos}
 use Rattle.calendar_dates.specs.Arithmetic.{days_of}
 use Rattle.calendar_count.proofs.CountLemmas.{day_at-Placed}
 use Rattle.calendar_count.proofs.ViewLemmas.{Placed-year, ordinal_at-is, day_at_same, year_bound, iso_year_bound, iso_count-is}
+use Rattle.std.proofs.lemmas.Bool.Decides.{nat_tests}
+use Rattle.calendar_clock.specs.UtcOffset.{greatest_offset, IsOffset, offset_of_seconds}
 use Rattle.calendar.specs.Laws.{ViewsUndone, Takes}
 
 pub views_undone : (day : ℕ) → IsCount day → ViewsUndone day
@@ -59,7 +61,7 @@ pub only_not_err : {E : Type 0} (r : Result ℕ E) (P : ℕ → Type 0) (day : �
 only_not_err (Ok n) P day in_range here none h only = ap Ok (only n h)
 only_not_err (Err e) P day in_range here none h only = absurd (none day in_range here)
 
-pub only_some : (r : Option ℕ) (P : ℕ → Type 0) (day : ℕ) → IsSome r → IfSome r P → ((n : ℕ) → P n → n ≡ day) → r ≡ Some day
+pub only_some : {A : Type 0} (r : Option A) (P : A → Type 0) (day : A) → IsSome r → IfSome r P → ((n : A) → P n → n ≡ day) → r ≡ Some day
 only_some (Some n) P day good h only = ap Some (only n h)
 only_some None P day good h only = absurd (cc)
 
@@ -118,3 +120,10 @@ same_weekday a b n e =
 -- the whole days of so many days are so many
 pub days_of_days : (z : ℤ) → days_of (z *ℤ pos day_nanos) ≡ z
 days_of_days z = omega (arith, signed, one_sided z)
+
+pub offset_named : (z : ℤ) → IsOffset z → offset_of_seconds z ≡ Ok z
+unfolding offset_of_seconds
+offset_named z h =
+    let small : unsigned_abs z ≤ greatest_offset = omega (arith, signed) in
+    let test : nat_lt greatest_offset (unsigned_abs z) ≡ false = grind (arith, nat_tests) in
+    rw test refl

@@ -1,12 +1,18 @@
 //! Laws that follow from the contracts, each the contract of a function here.
-ghost use Rattle.std.specs.Prelude.{◌≡◌, ℕ, ◌++◌, List, Bool, reverse, Ok, Some, IfSome};
+ghost use Rattle.std.specs.Prelude.{◌≡◌, ℕ, ◌++◌, [], ◌∷◌, List, Bool, reverse, Ok, Some, IfSome};
 ghost use Rattle.std.specs.Ordering.{nat_cmp};
-ghost use Rattle.calendar_count.specs.Range.{IsCount};
+ghost use Rattle.calendar_count.specs.Range.{IsCount, last_count};
 ghost use Rattle.calendar_count.specs.Month.{month_number};
 ghost use Rattle.calendar.specs.Laws.{ViewsUndone, Takes};
 
-use crate::{ComponentRange, Date, Month, Weekday};
+use crate::{ComponentRange, Date, Month, SignedDuration, UtcOffset, Weekday};
 use std::cmp::Ordering;
+
+/// The laws of durations.
+pub use calendar_spans::laws as durations;
+
+/// The laws of times of day and of offsets.
+pub use calendar_clock::laws as times;
 
 /// The four constructors undo the four views, for every day.
 pub fn views()
@@ -59,6 +65,53 @@ pub fn iso_week_date_of_day(year: i32, week: u8, weekday: Weekday) -> Option<(i3
         return None;
     };
     Some(date.to_iso_week_date())
+}
+
+/// A Julian day is that of the day that it names.
+pub fn julian_day_of_day(julian_day: i32) -> Option<i32>
+    ensures { IfSome result (λ named. named ≡ julian_day) }
+{
+    let Ok(date) = Date::from_julian_day(julian_day) else {
+        return None;
+    };
+    Some(date.to_julian_day())
+}
+
+/// The first and the last day of the calendar.
+pub fn ends_of_calendar() -> [Date; 2]
+    ensures { result ≡ 0 ∷ last_count ∷ [] }
+{
+    [Date::MIN, Date::MAX]
+}
+
+/// A duration takes back what it added to a day.
+pub fn day_and_back(date: Date, duration: SignedDuration) -> Option<Option<Date>>
+    ensures { IfSome result (λ back. back ≡ Some date) }
+{
+    let Some(moved) = date.checked_add(duration) else {
+        return None;
+    };
+    Some(moved.checked_sub(duration))
+}
+
+/// A duration takes back what it added to another.
+pub fn duration_and_back(
+    duration: SignedDuration,
+    other: SignedDuration,
+) -> Option<Option<SignedDuration>>
+    ensures { IfSome result (λ back. back ≡ Some duration) }
+{
+    let Some(sum) = duration.checked_add(other) else {
+        return None;
+    };
+    Some(sum.checked_sub(other))
+}
+
+/// An offset is that of its whole seconds.
+pub fn offset_of_whole_seconds(offset: UtcOffset) -> Result<UtcOffset, ComponentRange>
+    ensures { result ≡ Ok offset }
+{
+    UtcOffset::from_whole_seconds(offset.whole_seconds())
 }
 
 /// The difference of two days leads from one to the other.

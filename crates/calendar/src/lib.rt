@@ -4,7 +4,7 @@
 
 pub mod laws;
 
-pub use calendar_clock::{Time, UtcOffset};
+pub use calendar_clock::{DateAdjustment, Time, UtcOffset};
 pub use calendar_count::{
     ComponentName, ComponentRange, ConversionRange, InvalidVariant, Month, MonthIter, RevMonthIter,
     RevWeekdayIter, Weekday, WeekdayIter, util,

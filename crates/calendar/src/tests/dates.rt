@@ -1,6 +1,6 @@
 //! Walks over days, occurrences of a weekday, days with one part changed.
 use super::refused;
-use crate::{Date, Month, SignedDuration, Weekday, laws};
+use crate::{Date, Month, SignedDuration, UtcOffset, Weekday, laws};
 use std::cmp::Ordering;
 use std::test::Fail;
 
@@ -206,6 +206,16 @@ fn keeps_laws(rt: HostRuntime) -> Result<(), Fail> {
     assert_eq!(rt; laws::day_of_ordinal_date(leap)?, leap);
     assert_eq!(rt; laws::day_of_iso_week_date(leap)?, leap);
     assert_eq!(rt; laws::day_of_julian_day(leap)?, leap);
+    assert_eq!(rt; laws::julian_day_of_day(2_451_545), Some(2_451_545));
+    assert_eq!(rt; laws::ends_of_calendar(), [Date::MIN, Date::MAX]);
+    assert_eq!(rt;
+        laws::day_and_back(leap, SignedDuration::WEEK),
+        Some(Some(leap))
+    );
+    let back = laws::duration_and_back(SignedDuration::WEEK, SignedDuration::SECOND);
+    assert!(rt; back == Some(Some(SignedDuration::WEEK)));
+    let offset = UtcOffset::from_hms(-3, 30, 0)?;
+    assert_eq!(rt; laws::offset_of_whole_seconds(offset)?, offset);
     assert_eq!(rt; laws::day_at_difference(leap, Date::MIN), Some(Date::MIN));
     assert_eq!(rt;
         laws::iso_week_date_of_day(2024, 9, Weekday::Thursday),
