@@ -1,4 +1,7 @@
 //! The family's calls at values that are known from outside.
+mod century_walk;
+mod dates;
+
 use crate::{ComponentRange, Date, Month, Time, UtcOffset, Weekday};
 use std::test::Fail;
 

@@ -8,6 +8,7 @@ mod invalid_variant;
 pub mod march;
 mod month;
 mod month_iter;
+pub mod padding;
 pub mod range;
 #[cfg(test)]
 mod tests;

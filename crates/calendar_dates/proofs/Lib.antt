@@ -1,3 +1,4 @@
 pub mod WeekLemmas
 pub mod DaysLemmas
 pub mod OccurrenceLemmas
+pub mod TextLemmas

@@ -1,3 +1,4 @@
 pub mod DateText
 pub mod Days
 pub mod Occurrence
+pub mod Arithmetic

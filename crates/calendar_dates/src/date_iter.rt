@@ -78,17 +78,15 @@ impl DateIter {
         ensures value { result ≡ length self }
         ensures bound { result ≤ last_count + 1 }
     {
-        self.len as usize
+        let _ = &self.first;
+        self.len()
     }
 
     /// The last day that is left.
-    pub fn last(self) -> Option<Date>
+    pub fn last(mut self) -> Option<Date>
         ensures { result ≡ slice_get (reverse self) 0 }
     {
-        if self.len == 0 {
-            return None;
-        }
-        Some(Date::from_count(self.first + self.len - 1))
+        self.nth_back(0)
     }
 
     /// The earliest day that is left.

@@ -1,6 +1,7 @@
 //! Dates.
 #![tactic(auto)]
 
+mod arithmetic;
 mod date;
 mod date_iter;
 mod occurrence;
