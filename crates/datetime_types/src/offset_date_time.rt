@@ -12,6 +12,7 @@ ghost use Rattle.calendar.specs.ComponentRange.{out_of_range};
 ghost use Rattle.calendar_count.specs.declared.component_range.ComponentName.TheVariants as component;
 ghost use Rattle.datetime_wall.specs.Wall.{second_nanos, day_nanos, wall_clock, day_of, nanosecond_of, IsWallClock, instant, shown_at};
 
+mod changes;
 mod views;
 
 use crate::{PlainDateTime, Timestamp, UtcDateTime};

@@ -9,6 +9,7 @@ ghost use Rattle.calendar.specs.Range.{IsCount};
 ghost use Rattle.calendar.specs.UtcOffset.{IsOffset};
 ghost use Rattle.datetime_wall.specs.Wall.{second_nanos, day_nanos, wall_clock, day_of, nanosecond_of, IsWallClock};
 
+mod changes;
 mod views;
 
 use crate::{OffsetDateTime, UtcDateTime};

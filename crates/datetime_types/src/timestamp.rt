@@ -15,6 +15,7 @@ ghost use Rattle.calendar_spans.specs.Duration.{milli_nanos, micro_nanos};
 ghost use Rattle.datetime_products.specs.Seconds.{IsUnixSecond};
 ghost use Rattle.datetime_types.specs.Unix.{unix_nanos, is_unix_second};
 
+mod changes;
 mod views;
 
 use crate::{OffsetDateTime, UtcDateTime};

@@ -13,6 +13,7 @@ ghost use Rattle.calendar_count.specs.declared.component_range.ComponentName.The
 ghost use Rattle.datetime_wall.specs.Wall.{second_nanos, day_nanos, wall_clock, day_of, nanosecond_of, IsWallClock, shown_at};
 ghost use Rattle.datetime_products.specs.Seconds.{IsUnixSecond};
 
+mod changes;
 mod views;
 
 use crate::{OffsetDateTime, PlainDateTime, Timestamp};

@@ -1,3 +1,5 @@
 pub mod WallLemmas
 pub mod MovedLemmas
 pub mod ShownLemmas
+pub mod DurationLemmas
+pub mod CutLemmas

@@ -1,6 +1,7 @@
 -- Wall clocks and instants, each one whole number of nanoseconds, and an instant as a clock at an offset shows it.
-use Rattle.std.specs.Prelude.{ℕ, ◌+◌, ◌-◌, ◌*◌, Bool, ◌&&◌, Option, None, Some, if◌then◌else◌, ℤ, pos, neg_ℤ, ◌+ℤ◌, ◌-ℤ◌, ◌*ℤ◌, ◌≤ℤ◌, int_le, unsigned_abs}
+use Rattle.std.specs.Prelude.{ℕ, ◌+◌, ◌-◌, ◌*◌, Bool, ◌&&◌, Option, None, Some, if◌then◌else◌, ℤ, pos, neg_ℤ, ◌+ℤ◌, ◌-ℤ◌, ◌*ℤ◌, ◌≤ℤ◌, int_le, int_lt, unsigned_abs, Result, Ok, Err}
 use Rattle.std.specs.Int.{int_div_euclid, int_rem_euclid}
+use Rattle.calendar_count.specs.declared.component_range.ComponentRange.{ComponentRange}
 use Rattle.calendar_count.specs.Range.{last_count, unix_epoch}
 -- the nanoseconds of a second and of a day
 pub use Rattle.calendar.specs.Time.{second_nanos, day_nanos}
@@ -29,6 +30,20 @@ IsWallClock wall = (first_wall_clock ≤ℤ wall) × (wall ≤ℤ last_wall_cloc
 
 abbrev pub is_wall_clock : ℤ → Bool
 is_wall_clock wall = int_le first_wall_clock wall && int_le wall last_wall_clock
+
+-- the wall clock of the calendar that is nearest to one
+abbrev pub nearest_wall_clock : ℤ → ℤ
+nearest_wall_clock wall =
+    if int_lt wall first_wall_clock then first_wall_clock else (if int_lt last_wall_clock wall then last_wall_clock else wall)
+
+-- the greatest whole number of units that is not after a wall clock
+abbrev pub cut_to : ℕ → ℤ → ℤ
+cut_to unit wall = int_div_euclid wall (pos unit) *ℤ pos unit
+
+-- what a time of day makes, where there is one
+abbrev pub at_time : {A : Type 0} → (ℕ → A) → Result ℕ ComponentRange → Result A ComponentRange
+at_time f (Ok time) = Ok (f time)
+at_time f (Err e) = Err e
 
 -- a moment as a clock shows it: the wall clock, and the clock's offset from UTC in seconds
 pub record Shown : Type 0 where

@@ -1,4 +1,6 @@
 //! Wall clocks and instants.
 #![tactic(auto)]
 
+pub mod durations;
+pub mod moved;
 pub mod wall;

@@ -5,7 +5,7 @@ ghost use Rattle.calendar.specs.Range.{julian_zero, IsYear};
 ghost use Rattle.calendar.specs.Calendar.{day_at, ordinal_at, weekday_at, sunday_week_at, monday_week_at, iso_week_at, ymd, IsDay, IsIsoDay};
 ghost use Rattle.calendar.specs.Month.{month_number};
 ghost use Rattle.calendar.specs.Weekday.{days_from_monday};
-ghost use Rattle.calendar.specs.Time.{hour_at, minute_at, second_at, nanosecond_at};
+ghost use Rattle.calendar.specs.Time.{hour_at, minute_at, second_at, millisecond_at, microsecond_at, nanosecond_at};
 ghost use Rattle.datetime_wall.specs.Wall.{day_of, nanosecond_of};
 
 use crate::PlainDateTime;
@@ -146,6 +146,24 @@ impl PlainDateTime {
         self.time().second()
     }
 
+    /// The whole milliseconds of the second.
+    #[inline(always)]
+    pub fn millisecond(self) -> u16
+        ensures value { result ≡ millisecond_at (nanosecond_of self) }
+        ensures bound { result < 1000 }
+    {
+        self.time().millisecond()
+    }
+
+    /// The whole microseconds of the second.
+    #[inline(always)]
+    pub fn microsecond(self) -> u32
+        ensures value { result ≡ microsecond_at (nanosecond_of self) }
+        ensures bound { result < 1_000_000 }
+    {
+        self.time().microsecond()
+    }
+
     /// The nanoseconds of the second.
     #[inline(always)]
     pub fn nanosecond(self) -> u32
@@ -164,6 +182,30 @@ impl PlainDateTime {
         ensures bound { (result.0 < 24) × (result.1 < 60) × (result.2 < 60) }
     {
         self.time().as_hms()
+    }
+
+    /// The hour, the minute, the second and the millisecond.
+    #[inline(always)]
+    pub fn as_hms_milli(self) -> (u8, u8, u8, u16)
+        ensures hour { result.0 ≡ hour_at (nanosecond_of self) }
+        ensures minute { result.1 ≡ minute_at (nanosecond_of self) }
+        ensures second { result.2 ≡ second_at (nanosecond_of self) }
+        ensures millisecond { result.3 ≡ millisecond_at (nanosecond_of self) }
+        ensures bound { (result.0 < 24) × (result.1 < 60) × (result.2 < 60) × (result.3 < 1000) }
+    {
+        self.time().as_hms_milli()
+    }
+
+    /// The hour, the minute, the second and the microsecond.
+    #[inline(always)]
+    pub fn as_hms_micro(self) -> (u8, u8, u8, u32)
+        ensures hour { result.0 ≡ hour_at (nanosecond_of self) }
+        ensures minute { result.1 ≡ minute_at (nanosecond_of self) }
+        ensures second { result.2 ≡ second_at (nanosecond_of self) }
+        ensures microsecond { result.3 ≡ microsecond_at (nanosecond_of self) }
+        ensures bound { (result.0 < 24) × (result.1 < 60) × (result.2 < 60) × (result.3 < 1_000_000) }
+    {
+        self.time().as_hms_micro()
     }
 
     /// The hour, the minute, the second and the nanosecond.
