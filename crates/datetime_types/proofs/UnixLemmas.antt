@@ -1,6 +1,8 @@
 -- Instants by their whole seconds, rounded down, and the nanoseconds after them.
 use Rattle.std.proofs.Common.{◌≡◌, ℕ, ◌+◌, ◌*◌, ◌%◌, ◌<◌, ℤ, pos, ◌+ℤ◌, ◌*ℤ◌, arith}
 use Rattle.std.specs.Int.{int_div_euclid, int_rem_euclid}
+use Rattle.std.specs.Prelude.{int_div, int_rem}
+use Rattle.std.proofs.lemmas.Int.{quot-rem}
 use Rattle.calendar_count.specs.Range.{unix_epoch}
 use Rattle.calendar_count.proofs.Signed.{signed}
 use Rattle.datetime_wall.specs.Wall.{second_nanos, day_of, nanosecond_of, IsWallClock, Shown, instant}
@@ -27,3 +29,14 @@ instant_parts m = omega (arith, signed)
 pub wall_parts : (wall : ℤ) → int_div_euclid wall (pos second_nanos) *ℤ pos second_nanos +ℤ pos (nanosecond_of wall % second_nanos) ≡ wall
 unfolding nanosecond_of
 wall_parts wall = omega (arith, signed)
+
+-- the calendar has the second of an instant that it has
+pub second_within : (seconds : ℤ) (nanosecond : ℕ) → nanosecond < second_nanos → IsWallClock (seconds *ℤ pos second_nanos +ℤ pos nanosecond) → IsUnixSecond seconds
+second_within seconds nanosecond h within = (omega (arith, signed, within), omega (arith, signed, within))
+
+pub within_second : (seconds : ℤ) (nanosecond : ℕ) → nanosecond < second_nanos → IsUnixSecond seconds → IsWallClock (seconds *ℤ pos second_nanos +ℤ pos nanosecond)
+within_second seconds nanosecond h within = (omega (arith, signed, within), omega (arith, signed, within))
+
+-- a duration by its whole seconds and the nanoseconds past them
+pub duration_whole : (d : ℤ) → int_div d (pos second_nanos) *ℤ pos second_nanos +ℤ int_rem d (pos second_nanos) ≡ d
+duration_whole d = quot-rem d (pos second_nanos)

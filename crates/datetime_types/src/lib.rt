@@ -1,6 +1,7 @@
 //! Dates with times of day.
 #![tactic(auto)]
 
+mod difference;
 mod offset_date_time;
 mod pairs;
 mod plain_date_time;

@@ -1,5 +1,5 @@
 //! Dates and times at offsets from UTC.
-ghost use Rattle.std.specs.Prelude.{◌≡◌, ◌<◌, ◌≤◌, ◌↔◌, IsOk, IfOk, IfErr, IsSome, IfSome, Some, ℤ, pos, ◌*ℤ◌, unsigned_abs};
+ghost use Rattle.std.specs.Prelude.{◌≡◌, ◌<◌, ◌≤◌, ◌↔◌, IsOk, IfOk, IfErr, IsSome, IfSome, Some, ℤ, pos, ◌+ℤ◌, ◌*ℤ◌, unsigned_abs};
 ghost use Rattle.std.specs.Int.{int_div_euclid};
 ghost use Rattle.std.proofs.Common.{rules};
 ghost use Rattle.std.specs.Cmp.{partial_order_from_own_ties};
@@ -12,6 +12,7 @@ ghost use Rattle.calendar.specs.ComponentRange.{out_of_range};
 ghost use Rattle.calendar_count.specs.declared.component_range.ComponentName.TheVariants as component;
 ghost use Rattle.datetime_wall.specs.Wall.{second_nanos, day_nanos, wall_clock, day_of, nanosecond_of, IsWallClock, instant, shown_at};
 
+mod arithmetic;
 mod changes;
 mod views;
 
@@ -209,6 +210,19 @@ impl OffsetDateTime {
         ensures { shown_at offset (instant self) ≡ Some result }
     {
         self.checked_to_offset(offset).unwrap()
+    }
+
+    // The whole seconds since 1970 began in UTC, rounded down, and the nanoseconds after them.
+    #[inline(always)]
+    pub(crate) fn parts(self) -> (i64, u32)
+        ensures whole { result.0 *ℤ pos second_nanos +ℤ pos result.1 ≡ instant self }
+        ensures bound { (unsigned_abs result.0 ≤ 31_619_087_690_399) × (result.1 < second_nanos) }
+    {
+        let (seconds, nanoseconds) = self.wall.parts();
+        (
+            seconds - i64::from(self.offset.whole_seconds()),
+            nanoseconds,
+        )
     }
 }
 

@@ -9,6 +9,7 @@ ghost use Rattle.calendar.specs.Range.{IsCount};
 ghost use Rattle.calendar.specs.UtcOffset.{IsOffset};
 ghost use Rattle.datetime_wall.specs.Wall.{second_nanos, day_nanos, wall_clock, day_of, nanosecond_of, IsWallClock};
 
+mod arithmetic;
 mod changes;
 mod views;
 
@@ -142,6 +143,18 @@ impl PlainDateTime {
         ensures range { IsWallClock self }
     {
         wall::wall_nanoseconds(self.date, self.time)
+    }
+
+    // The whole seconds since 1970 began, on the clock, rounded down, and the nanoseconds after them.
+    #[inline(always)]
+    pub(crate) fn parts(self) -> (i64, u32)
+        ensures whole { result.0 *ℤ pos second_nanos +ℤ pos result.1 ≡ self }
+        ensures bound { (unsigned_abs result.0 ≤ 31_619_087_690_399) × (result.1 < second_nanos) }
+    {
+        (
+            wall::unix_seconds(self.date, self.time),
+            self.nanosecond(),
+        )
     }
 }
 

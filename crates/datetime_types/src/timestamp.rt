@@ -1,5 +1,5 @@
 //! Instants by the seconds since 1970.
-ghost use Rattle.std.specs.Prelude.{◌≡◌, ◌<◌, ◌↔◌, ◌*◌, ◌+◌, ◌/◌, IsOk, IfOk, IfErr, IsSome, IfSome, Some, if◌then◌else◌, ℤ, pos, ◌+ℤ◌, ◌*ℤ◌};
+ghost use Rattle.std.specs.Prelude.{◌≡◌, ◌<◌, ◌≤◌, unsigned_abs, ◌↔◌, ◌*◌, ◌+◌, ◌/◌, IsOk, IfOk, IfErr, IsSome, IfSome, Some, if◌then◌else◌, ℤ, pos, ◌+ℤ◌, ◌*ℤ◌};
 ghost use Rattle.std.specs.Int.{int_div_euclid};
 ghost use Rattle.std.proofs.Common.{rules};
 ghost use Rattle.std.specs.Cmp.{partial_order_from_own_ties};
@@ -15,6 +15,7 @@ ghost use Rattle.calendar_spans.specs.Duration.{milli_nanos, micro_nanos};
 ghost use Rattle.datetime_products.specs.Seconds.{IsUnixSecond};
 ghost use Rattle.datetime_types.specs.Unix.{unix_nanos, is_unix_second};
 
+mod arithmetic;
 mod changes;
 mod views;
 
@@ -267,6 +268,17 @@ impl Timestamp {
         ensures { shown_at offset self ≡ Some result }
     {
         self.checked_to_offset(offset).unwrap()
+    }
+
+    // The whole seconds since 1970 began in UTC, rounded down, and the nanoseconds after them.
+    #[inline(always)]
+    #[tactic(auto, unfolding(crate::specs::Unix::unix_nanos), using(crate::proofs::UnixLemmas::unix_nanos_range))]
+    pub(crate) fn parts(self) -> (i64, u32)
+        ensures whole { result.0 *ℤ pos second_nanos +ℤ pos result.1 ≡ self }
+        ensures bound { (unsigned_abs result.0 ≤ 31_619_087_690_399) × (result.1 < second_nanos) }
+        ensures range { IsWallClock self }
+    {
+        (self.seconds, self.nanoseconds)
     }
 }
 

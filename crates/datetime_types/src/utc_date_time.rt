@@ -1,5 +1,5 @@
 //! Dates and times of day in UTC.
-ghost use Rattle.std.specs.Prelude.{◌≡◌, ◌<◌, ◌↔◌, IsOk, IfOk, IfErr, IsSome, IfSome, Some, ℤ, pos, ◌*ℤ◌};
+ghost use Rattle.std.specs.Prelude.{◌≡◌, ◌<◌, ◌↔◌, IsOk, IfOk, IfErr, IsSome, IfSome, Some, ℤ, pos, ◌≤◌, ◌+ℤ◌, ◌*ℤ◌, unsigned_abs};
 ghost use Rattle.std.specs.Int.{int_div_euclid};
 ghost use Rattle.std.proofs.Common.{rules};
 ghost use Rattle.std.specs.Cmp.{partial_order_from_own_ties};
@@ -13,6 +13,7 @@ ghost use Rattle.calendar_count.specs.declared.component_range.ComponentName.The
 ghost use Rattle.datetime_wall.specs.Wall.{second_nanos, day_nanos, wall_clock, day_of, nanosecond_of, IsWallClock, shown_at};
 ghost use Rattle.datetime_products.specs.Seconds.{IsUnixSecond};
 
+mod arithmetic;
 mod changes;
 mod views;
 
@@ -172,6 +173,15 @@ impl UtcDateTime {
         ensures range { IsWallClock self }
     {
         self.wall.nanoseconds()
+    }
+
+    // The whole seconds since 1970 began in UTC, rounded down, and the nanoseconds after them.
+    #[inline(always)]
+    pub(crate) fn parts(self) -> (i64, u32)
+        ensures whole { result.0 *ℤ pos second_nanos +ℤ pos result.1 ≡ self }
+        ensures bound { (unsigned_abs result.0 ≤ 31_619_087_690_399) × (result.1 < second_nanos) }
+    {
+        self.wall.parts()
     }
 }
 

@@ -3,3 +3,4 @@ pub mod MovedLemmas
 pub mod ShownLemmas
 pub mod DurationLemmas
 pub mod CutLemmas
+pub mod NearestLemmas

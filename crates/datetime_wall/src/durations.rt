@@ -1,7 +1,7 @@
 //! Durations with a sign, and those of std without one.
 ghost use Rattle.std.specs.Prelude.{◌≡◌, ◌↔◌, pos, ◌≤ℤ◌, IsOk, IfOk};
 ghost use Rattle.std.specs.Duration.{as_nanos};
-ghost use Rattle.calendar.specs.Duration.{IsDuration};
+ghost use Rattle.calendar.specs.Duration.{IsDuration, nearest_duration};
 
 use calendar::{ConversionRange, SignedDuration};
 use std::time::Duration;
@@ -15,6 +15,17 @@ pub fn signed_from_std(duration: Duration) -> Result<SignedDuration, ConversionR
         return Err(ConversionRange);
     };
     Ok(SignedDuration::new(seconds, duration.subsec_nanos() as i32))
+}
+
+/// The same length forward, or the greatest duration where it is longer.
+#[tactic(auto, unfolding(calendar_spans::specs::DurationParts::duration_nanos))]
+pub fn nearest_from_std(duration: Duration) -> SignedDuration
+    ensures { result ≡ nearest_duration (pos (as_nanos duration)) }
+{
+    let Ok(signed) = signed_from_std(duration) else {
+        return SignedDuration::MAX;
+    };
+    signed
 }
 
 /// The same length, refused where it leads back.

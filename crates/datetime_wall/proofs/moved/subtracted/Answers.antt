@@ -14,8 +14,8 @@ returns-in_err-date-clause-some c =
     rw c.from_residual.ensures (
       λ e. absurd (cc e),
       λ within.
-        let day = moved_day_within c.args.date c.args.time adjusted.result.1 (neg_ℤ c.args.duration) days adjusted.ensures.sum adjusted.ensures.bound within in
-        absurd (cc (c.in_err-date.ensures.some.1 (omega (arith, signed, day.0, c.whole_days.ensures.value, c.whole_days.ensures.bound, c.carried_days.ensures.value, c.carried_days.ensures.bound), omega (arith, signed, day.1, c.whole_days.ensures.value, c.whole_days.ensures.bound, c.carried_days.ensures.value, c.carried_days.ensures.bound)))),
+          let day = moved_day_within c.args.date c.args.time adjusted.result.1 (neg_ℤ c.args.duration) days adjusted.ensures.sum adjusted.ensures.bound within in
+          absurd (cc (c.in_err-date.ensures.some.1 (omega (arith, signed, day.0, c.whole_days.ensures.value, c.whole_days.ensures.bound, c.carried_days.ensures.value, c.carried_days.ensures.bound), omega (arith, signed, day.1, c.whole_days.ensures.value, c.whole_days.ensures.bound, c.carried_days.ensures.value, c.carried_days.ensures.bound)))),
     )
 
 pub returns-clause-value : goal.returns-clause-value
