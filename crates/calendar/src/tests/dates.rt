@@ -15,21 +15,36 @@ fn walks_days_from_both_ends(rt: HostRuntime) -> Result<(), Fail> {
     assert_eq!(rt; days.next(), Some(after));
     assert_eq!(rt; days.next(), None);
     assert_eq!(rt; days.next_back(), None);
+    Ok(())
+}
+
+#[test]
+fn walks_days_back(rt: HostRuntime) -> Result<(), Fail> {
+    let before = Date::from_calendar_date(2024, Month::February, 28)?;
+    let after = Date::from_calendar_date(2024, Month::March, 1)?;
     let mut days = before.iter_to(after);
     assert_eq!(rt; days.size_hint(), (3, Some(3)));
     assert_eq!(rt; days.next_back(), Some(after));
     assert_eq!(rt; days.nth_back(1), Some(before));
     assert_eq!(rt; days.nth_back(0), None);
+    assert_eq!(rt; before.iter_to(before).last(), Some(before));
+    assert_eq!(rt; Date::MIN.iter_to(Date::MAX).len(), 730_484_634);
+    Ok(())
+}
+
+#[test]
+fn tells_of_days_left(rt: HostRuntime) -> Result<(), Fail> {
+    let before = Date::from_calendar_date(2024, Month::February, 28)?;
+    let leap = Date::from_calendar_date(2024, Month::February, 29)?;
+    let after = Date::from_calendar_date(2024, Month::March, 1)?;
     assert_eq!(rt; before.iter_to(after).count(), 3);
     assert_eq!(rt; before.iter_to(after).last(), Some(after));
     assert_eq!(rt; before.iter_to(after).min(), Some(before));
     assert_eq!(rt; before.iter_to(after).max(), Some(after));
     assert!(rt; before.iter_to(after).is_sorted());
-    assert_eq!(rt; before.iter_to(before).last(), Some(before));
     assert_eq!(rt; after.iter_to(before).count(), 0);
     assert_eq!(rt; after.iter_to(before).min(), None);
     assert_eq!(rt; before.iter_to(after).nth(usize::MAX), None);
-    assert_eq!(rt; Date::MIN.iter_to(Date::MAX).len(), 730_484_634);
     let leaps = before.iter_to(after).rev().filter(|day| *day == leap);
     assert_eq!(rt; leaps.count(), 1);
     Ok(())
@@ -58,6 +73,12 @@ fn finds_weekdays(rt: HostRuntime) -> Result<(), Fail> {
             assert_eq!(rt; monday.nth_prev_occurrence(weekday, n), earlier);
         }
     }
+    Ok(())
+}
+
+#[test]
+fn finds_no_weekday_past_the_ends(rt: HostRuntime) -> Result<(), Fail> {
+    let monday = Date::from_calendar_date(2018, Month::January, 1)?;
     let week_on = monday.checked_next_occurrence(Weekday::Monday);
     if week_on.is_some() {
         assert_eq!(rt; Some(monday.next_occurrence(Weekday::Monday)), week_on);
@@ -166,6 +187,13 @@ fn moves_by_durations(rt: HostRuntime) -> Result<(), Fail> {
         }
         assert_eq!(rt; moved, difference);
     }
+    Ok(())
+}
+
+#[test]
+fn ends_at_the_last_day(rt: HostRuntime) -> Result<(), Fail> {
+    let day = Date::from_calendar_date(2021, Month::January, 1)?;
+    let before = Date::from_calendar_date(2020, Month::December, 31)?;
     assert_eq!(rt; Date::MAX.checked_add(SignedDuration::DAY), None);
     assert_eq!(rt; Date::MIN.checked_sub(SignedDuration::DAY), None);
     assert_eq!(rt; Date::MAX.saturating_add(SignedDuration::MAX), Date::MAX);
