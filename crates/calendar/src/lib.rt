@@ -1,5 +1,5 @@
-//! The calendar: dates, times of day, offsets from UTC, durations, months, weekdays, walks over them, and refusals of
-//! what is out of range.
+//! The calendar: dates, times of day, offsets from UTC, durations, months, weekdays, walks over
+//! them, and refusals of what is out of range.
 #![tactic(auto)]
 
 pub mod laws;
