@@ -229,24 +229,19 @@ fn prints_dates_under_a_width(rt: HostRuntime) -> Result<(), Fail> {
 #[test]
 fn keys_maps(rt: HostRuntime) -> Result<(), Fail> {
     let day = Date::from_calendar_date(2024, Month::February, 29)?;
-    let mut names = HashMap::new(rt.alloc());
-    names.insert(day, "leap")?;
-    names.insert(Date::MAX, "last")?;
-    assert_eq!(rt;
-        names.get(&Date::from_julian_day(2_460_370)?).copied(),
-        Some("leap")
-    );
-    assert_eq!(rt; names.get(&Date::MIN).copied(), None);
-    let mut order = BTreeMap::new(rt.alloc());
-    order.insert(Date::MAX, Month::December)?;
-    order.insert(day, Month::February)?;
-    assert_eq!(rt; order.values().copied().next(), Some(Month::February));
     let mut months = HashMap::new(rt.alloc());
-    months.insert(Month::June, Weekday::Monday)?;
-    assert_eq!(rt; months.get(&Month::June).copied(), Some(Weekday::Monday));
-    let mut weekdays = HashMap::new(rt.alloc());
-    weekdays.insert(Weekday::Monday, 1u8)?;
-    assert_eq!(rt; weekdays.get(&Weekday::Sunday).copied(), None);
+    months.insert(day, Month::February)?;
+    months.insert(Date::MAX, Month::December)?;
+    let same = Date::from_julian_day(2_460_370)?;
+    assert_eq!(rt; months.get(&same).copied(), Some(Month::February));
+    assert_eq!(rt; months.get(&Date::MIN).copied(), None);
+    let mut lengths = BTreeMap::new(rt.alloc());
+    lengths.insert(Month::March, 31u8)?;
+    lengths.insert(Month::February, 29)?;
+    assert_eq!(rt; lengths.get(&Month::March).copied(), Some(31));
+    let mut numbers = HashMap::new(rt.alloc());
+    numbers.insert(Weekday::Monday, 1u8)?;
+    assert_eq!(rt; numbers.get(&Weekday::Sunday).copied(), None);
     Ok(())
 }
 
