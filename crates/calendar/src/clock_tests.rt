@@ -1,5 +1,6 @@
 //! Times of day moved, replaced and cut, at values that are known from outside.
 use crate::{ComponentRange, DateAdjustment, SignedDuration, Time, UtcOffset};
+use calendar_clock::laws;
 use std::test::Fail;
 
 // 23:20:50.123456789
@@ -142,4 +143,14 @@ fn turns_offsets(rt: HostRuntime) -> Result<(), Fail> {
     let offset = UtcOffset::from_hms(-1, 30, 5)?;
     assert_eq!(rt; (-offset).as_hms(), (1, 30, 5));
     Ok(())
+}
+
+#[test]
+fn keeps_laws_of_times(rt: HostRuntime) {
+    let (sample, later) = (sample(), Time::from_seconds_nanoseconds(1250, 0));
+    assert_eq!(rt; laws::ends_of_day(), [Time::MIDNIGHT, Time::MAX]);
+    assert_eq!(rt; laws::offset_of_utc(), UtcOffset::UTC);
+    assert_eq!(rt; laws::led_by_duration_until(sample, later), later);
+    assert_eq!(rt; laws::moved_and_back(sample, SignedDuration::MIN), sample);
+    assert_eq!(rt; laws::turned_twice(UtcOffset::UTC), UtcOffset::UTC);
 }

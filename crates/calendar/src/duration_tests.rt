@@ -1,5 +1,6 @@
 //! Durations at values that are known from outside.
 use crate::SignedDuration;
+use calendar_spans::laws;
 use std::test::Fail;
 use std::time::Duration;
 
@@ -209,4 +210,28 @@ fn prints_durations(rt: HostRuntime) -> Result<(), Fail> {
         );
     }
     Ok(())
+}
+
+#[test]
+fn keeps_laws_of_durations(rt: HostRuntime) {
+    assert_eq!(rt;
+        laws::constants(),
+        [
+            SignedDuration::MIN,
+            SignedDuration::seconds(0),
+            SignedDuration::nanoseconds(1),
+            SignedDuration::microseconds(1),
+            SignedDuration::milliseconds(1),
+            SignedDuration::seconds(1),
+            SignedDuration::minutes(1),
+            SignedDuration::hours(1),
+            SignedDuration::days(1),
+            SignedDuration::weeks(1),
+            SignedDuration::MAX,
+        ]
+    );
+    assert_eq!(rt;
+        laws::added_and_taken_away(sample(), SignedDuration::WEEK),
+        Some(sample())
+    );
 }
