@@ -5,7 +5,6 @@ ghost use Rattle.calendar_count.specs.Range.{IsCount, last_count};
 ghost use Rattle.calendar_count.specs.Calendar.{IsIsoDay, IsJulianDay};
 ghost use Rattle.calendar_count.specs.Month.{month_number};
 ghost use Rattle.calendar_count.specs.Weekday.{days_from_monday};
-ghost use Rattle.calendar_spans.specs.Duration.{IsDuration};
 ghost use Rattle.calendar_dates.specs.Arithmetic.{days_of, IsDayCount};
 ghost use Rattle.calendar.specs.Laws.{ViewsUndone, Takes};
 
@@ -92,28 +91,14 @@ pub fn ends_of_calendar() -> [Date; 2]
 }
 
 /// A duration takes back what it added to a day.
-pub fn day_and_back(date: Date, duration: SignedDuration) -> Option<Option<Date>>
+pub fn day_and_back(date: Date, duration: SignedDuration) -> Option<Date>
     ensures some { IsSome result ↔ IsDayCount (pos date +ℤ days_of duration) }
-    ensures value { IfSome result (λ back. back ≡ Some date) }
+    ensures value { IfSome result (λ back. back ≡ date) }
 {
     let Some(moved) = date.checked_add(duration) else {
         return None;
     };
-    Some(moved.checked_sub(duration))
-}
-
-/// A duration takes back what it added to another.
-pub fn duration_and_back(
-    duration: SignedDuration,
-    other: SignedDuration,
-) -> Option<Option<SignedDuration>>
-    ensures some { IsSome result ↔ IsDuration (duration +ℤ other) }
-    ensures value { IfSome result (λ back. back ≡ Some duration) }
-{
-    let Some(sum) = duration.checked_add(other) else {
-        return None;
-    };
-    Some(sum.checked_sub(other))
+    moved.checked_sub(duration)
 }
 
 /// An offset is that of its whole seconds.

@@ -1,6 +1,6 @@
 //! What the contracts of the other calls do not say.
-ghost use Rattle.std.specs.Prelude.{◌≡◌, ◌∷◌, [], pos};
-ghost use Rattle.calendar_spans.specs.Duration.{least_duration, micro_nanos, milli_nanos, second_nanos, minute_nanos, hour_nanos, day_nanos, week_nanos, greatest_duration};
+ghost use Rattle.std.specs.Prelude.{◌≡◌, ◌↔◌, ◌∷◌, [], pos, ◌+ℤ◌, IsSome, IfSome};
+ghost use Rattle.calendar_spans.specs.Duration.{IsDuration, least_duration, micro_nanos, milli_nanos, second_nanos, minute_nanos, hour_nanos, day_nanos, week_nanos, greatest_duration};
 
 use crate::duration::SignedDuration;
 
@@ -25,4 +25,18 @@ pub fn constants() -> [SignedDuration; 11]
         SignedDuration::WEEK,
         SignedDuration::MAX,
     ]
+}
+
+/// A duration that another one was added to is itself again once that one is taken away.
+pub fn added_and_taken_away(
+    duration: SignedDuration,
+    other: SignedDuration,
+) -> Option<SignedDuration>
+    ensures some { IsSome result ↔ IsDuration (duration +ℤ other) }
+    ensures value { IfSome result (λ d. d ≡ duration) }
+{
+    let Some(sum) = duration.checked_add(other) else {
+        return None;
+    };
+    sum.checked_sub(other)
 }

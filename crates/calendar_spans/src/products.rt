@@ -23,7 +23,7 @@ impl SignedDuration {
         ensures some { IsSome result ↔ IsDuration (self *ℤ factor) }
         ensures value { IfSome result (λ d. d ≡ self *ℤ factor) }
     {
-        self.times(i64::from(factor))
+        self.times(factor.into())
     }
 
     /// So many times the duration, or the nearest duration to it.
