@@ -66,9 +66,7 @@ fn year_len(year: i32) -> usize
 {
     let years = year.unsigned_abs();
     let digits = digits_len(years);
-    if year < 0 {
-        digits + 1
-    } else if years >= FIVE_DIGITS {
+    if year < 0 || years >= FIVE_DIGITS {
         digits + 1
     } else {
         digits
