@@ -1,5 +1,5 @@
 -- The laws of the calendar, proved of its definitions.
-use Rattle.std.proofs.Common.{◌≡◌, ℕ, ◌+◌, ◌-◌, Bool, true, false, ◌==◌, if◌then◌else◌, List, [], ◌∷◌, ◌++◌, reverse, Option, None, Some, Result, Ok, Err, IsOk, IfOk, OnErr, IsSome, IfSome, refl, sym, ap, ◌∙◌, arith, ℤ, pos, ◌+ℤ◌, ◌-ℤ◌, ◌*ℤ◌, unsigned_abs, nat_lt, ◌≤◌, append_assoc, append-nil}
+use Rattle.std.proofs.Common.{◌≡◌, ℕ, Bool, true, false, ◌==◌, if◌then◌else◌, List, [], ◌∷◌, ◌++◌, reverse, Option, None, Some, Result, Ok, Err, IsOk, IfOk, OnErr, IsSome, IfSome, refl, sym, ap, ◌∙◌, arith, ℤ, pos, ◌*ℤ◌, unsigned_abs, nat_lt, ◌≤◌, append_assoc, append-nil}
 use Rattle.std.proofs.lemmas.List.{reverse-append}
 use Rattle.calendar_count.specs.declared.month.Month.{Month}
 use Rattle.calendar_count.specs.declared.month.Month.TheVariants.{January, February, March, April, May, June, July, August, September, October, November, December}
@@ -9,9 +9,8 @@ use Rattle.calendar_count.specs.Steps.{steps}
 use Rattle.calendar_count.specs.Month.{month_number, next_month}
 use Rattle.calendar_count.specs.Weekday.{days_from_monday, next_weekday}
 use Rattle.calendar_count.proofs.StepLemmas.{months_on, month_bound, weekdays_on, weekday_bound}
-use Rattle.calendar_count.specs.Range.{greatest_year, julian_zero, IsCount}
-use Rattle.calendar_count.specs.Calendar.{day_at, ordinal_at, weekday_at, iso_year_at, iso_week_at, thursday_of, IsIsoDay}
-use Rattle.calendar_count.specs.Closed.{days_before_year}
+use Rattle.calendar_count.specs.Range.{IsCount}
+use Rattle.calendar_count.specs.Calendar.{day_at, weekday_at, iso_year_at, iso_week_at, thursday_of}
 use Rattle.calendar_count.proofs.Signed.{signed, one_sided}
 use Rattle.calendar_spans.specs.Duration.{day_nanos}
 use Rattle.calendar_dates.specs.Arithmetic.{days_of}

@@ -1,5 +1,5 @@
 -- Laws of the calendar, over its definitions.
-use Rattle.std.specs.Prelude.{◌≡◌, ℕ, Bool, true, false, Some, List, [], ◌∷◌, ℤ, pos, ◌+ℤ◌, ◌-ℤ◌}
+use Rattle.std.specs.Prelude.{◌≡◌, ℕ, Bool, true, false, Some, List, [], ◌∷◌, pos, ◌+ℤ◌, ◌-ℤ◌}
 use Rattle.std.specs.Int.{IsInRange}
 use Rattle.std.specs.Iterator.{YieldsFirst, YieldsLast}
 use Rattle.calendar_count.specs.Range.{julian_zero, IsYear}

@@ -1,8 +1,11 @@
 //! Laws that follow from the contracts, each the contract of a function here.
-ghost use Rattle.std.specs.Prelude.{◌≡◌, ℕ, ◌++◌, [], ◌∷◌, List, Bool, reverse, Ok, Some, IfSome};
+ghost use Rattle.std.specs.Prelude.{◌≡◌, ℕ, ◌++◌, [], ◌∷◌, List, Bool, reverse, Ok, Some, IsSome, IfSome, IfNone, ◌↔◌, pos, ◌+ℤ◌};
 ghost use Rattle.std.specs.Ordering.{nat_cmp};
 ghost use Rattle.calendar_count.specs.Range.{IsCount, last_count};
+ghost use Rattle.calendar_count.specs.Calendar.{IsIsoDay, IsJulianDay};
 ghost use Rattle.calendar_count.specs.Month.{month_number};
+ghost use Rattle.calendar_count.specs.Weekday.{days_from_monday};
+ghost use Rattle.calendar_dates.specs.Arithmetic.{days_of, IsDayCount};
 ghost use Rattle.calendar.specs.Laws.{ViewsUndone, Takes};
 
 use crate::{ComponentRange, Date, Month, SignedDuration, UtcOffset, Weekday};
@@ -19,8 +22,8 @@ pub fn views()
     ensures { (day : ℕ) → IsCount day → ViewsUndone day }
 {}
 
-/// The days taken from the front of a walk, those that are left, and those taken from the back, last first, are the days
-/// of the walk.
+/// The days taken from the front of a walk, those that are left, and those taken from the back, the
+/// last taken first, are the days of the walk.
 pub fn both_ends()
     ensures { (calls : List Bool) (days front left back : List ℕ)
         → Takes calls days front left back → days ≡ front ++ (left ++ reverse back) }
@@ -59,7 +62,9 @@ pub fn day_of_julian_day(date: Date) -> Result<Date, ComponentRange>
 
 /// A year and a week of ISO 8601 and a day of the week are those of the day that they name.
 pub fn iso_week_date_of_day(year: i32, week: u8, weekday: Weekday) -> Option<(i32, u8, Weekday)>
-    ensures { IfSome result (λ named. named ≡ (year, week, weekday)) }
+    ensures value { IfSome result (λ named. named ≡ (year, week, weekday)) }
+    ensures none { IfNone result ((day : ℕ) → IsCount day
+        → ¬ IsIsoDay year week (days_from_monday weekday) day) }
 {
     let Ok(date) = Date::from_iso_week_date(year, week, weekday) else {
         return None;
@@ -69,7 +74,8 @@ pub fn iso_week_date_of_day(year: i32, week: u8, weekday: Weekday) -> Option<(i3
 
 /// A Julian day is that of the day that it names.
 pub fn julian_day_of_day(julian_day: i32) -> Option<i32>
-    ensures { IfSome result (λ named. named ≡ julian_day) }
+    ensures some { IsSome result ↔ IsJulianDay julian_day }
+    ensures value { IfSome result (λ named. named ≡ julian_day) }
 {
     let Ok(date) = Date::from_julian_day(julian_day) else {
         return None;
@@ -85,26 +91,14 @@ pub fn ends_of_calendar() -> [Date; 2]
 }
 
 /// A duration takes back what it added to a day.
-pub fn day_and_back(date: Date, duration: SignedDuration) -> Option<Option<Date>>
-    ensures { IfSome result (λ back. back ≡ Some date) }
+pub fn day_and_back(date: Date, duration: SignedDuration) -> Option<Date>
+    ensures some { IsSome result ↔ IsDayCount (pos date +ℤ days_of duration) }
+    ensures value { IfSome result (λ back. back ≡ date) }
 {
     let Some(moved) = date.checked_add(duration) else {
         return None;
     };
-    Some(moved.checked_sub(duration))
-}
-
-/// A duration takes back what it added to another.
-pub fn duration_and_back(
-    duration: SignedDuration,
-    other: SignedDuration,
-) -> Option<Option<SignedDuration>>
-    ensures { IfSome result (λ back. back ≡ Some duration) }
-{
-    let Some(sum) = duration.checked_add(other) else {
-        return None;
-    };
-    Some(sum.checked_sub(other))
+    moved.checked_sub(duration)
 }
 
 /// An offset is that of its whole seconds.

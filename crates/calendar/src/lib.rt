@@ -1,5 +1,5 @@
-//! The calendar: dates, times of day, offsets from UTC, durations, months, weekdays, walks over them, and refusals of
-//! what is out of range.
+//! The calendar: dates, times of day, offsets from UTC, durations, months, weekdays, walks over
+//! them, and refusals of what is out of range.
 #![tactic(auto)]
 
 pub mod laws;
@@ -12,5 +12,9 @@ pub use calendar_count::{
 pub use calendar_dates::{Date, DateIter};
 pub use calendar_spans::SignedDuration;
 
+#[cfg(test)]
+mod clock_tests;
+#[cfg(test)]
+mod duration_tests;
 #[cfg(test)]
 mod tests;

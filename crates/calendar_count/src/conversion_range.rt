@@ -11,7 +11,8 @@ impl fmt::Display for ConversionRange {
 
     ghost output = { λ _. Some (codes "value out of range for the target type") };
 
-    ghost styled_output = { λ _ s. Some (styled_text s (codes "value out of range for the target type")) };
+    ghost styled_output = { λ _ s. Some
+        (styled_text s (codes "value out of range for the target type")) };
 
     fn fmt<W: fmt::Write>(&self, f: &mut fmt::Formatter<W>) -> fmt::Result {
         f.pad("value out of range for the target type")

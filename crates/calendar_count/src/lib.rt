@@ -1,4 +1,5 @@
-//! The walk of days, and years, months and days by division.
+//! The calendar as a walk of days, and the same by division; months and days of the week with their
+//! endless walks; refusals of what is out of range.
 #![tactic(auto)]
 
 pub mod closed;

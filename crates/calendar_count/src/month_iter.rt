@@ -59,7 +59,8 @@ impl MonthIter {
 
     /// The month `n` steps on from the one that is due. The one after it is due next.
     pub fn nth(&mut self, n: usize) -> Option<Month>
-        ensures value { IsSomeAnd result (λ m. month_number m ≡ steps next_month n (month_number self.old)) }
+        ensures value { IsSomeAnd result (λ m. month_number m
+            ≡ steps next_month n (month_number self.old)) }
         ensures rest { month_number self.new ≡ steps next_month (n + 1) (month_number self.old) }
     {
         let month = self.due.nth_next((n % 12) as u8);
@@ -118,7 +119,8 @@ impl RevMonthIter {
 
     /// The month `n` steps back from the one that is due. The one before it is due next.
     pub fn nth(&mut self, n: usize) -> Option<Month>
-        ensures value { IsSomeAnd result (λ m. steps next_month n (month_number m) ≡ month_number self.old) }
+        ensures value { IsSomeAnd result (λ m. steps next_month n (month_number m)
+            ≡ month_number self.old) }
         ensures rest { steps next_month (n + 1) (month_number self.new) ≡ month_number self.old }
     {
         let month = self.due.nth_prev((n % 12) as u8);

@@ -58,8 +58,10 @@ impl WeekdayIter {
 
     /// The day of the week `n` steps on from the one that is due. The one after it is due next.
     pub fn nth(&mut self, n: usize) -> Option<Weekday>
-        ensures value { IsSomeAnd result (λ m. days_from_monday m ≡ steps next_weekday n (days_from_monday self.old)) }
-        ensures rest { days_from_monday self.new ≡ steps next_weekday (n + 1) (days_from_monday self.old) }
+        ensures value { IsSomeAnd result (λ w. days_from_monday w
+            ≡ steps next_weekday n (days_from_monday self.old)) }
+        ensures rest { days_from_monday self.new
+            ≡ steps next_weekday (n + 1) (days_from_monday self.old) }
     {
         let weekday = self.due.nth_next((n % 7) as u8);
         self.due = weekday.next();
@@ -96,8 +98,10 @@ impl RevWeekdayIter {
 
     /// The day of the week `n` steps back from the one that is due. The one before it is due next.
     pub fn nth(&mut self, n: usize) -> Option<Weekday>
-        ensures value { IsSomeAnd result (λ m. steps next_weekday n (days_from_monday m) ≡ days_from_monday self.old) }
-        ensures rest { steps next_weekday (n + 1) (days_from_monday self.new) ≡ days_from_monday self.old }
+        ensures value { IsSomeAnd result (λ w. steps next_weekday n (days_from_monday w)
+            ≡ days_from_monday self.old) }
+        ensures rest { steps next_weekday (n + 1) (days_from_monday self.new)
+            ≡ days_from_monday self.old }
     {
         let weekday = self.due.nth_prev((n % 7) as u8);
         self.due = weekday.previous();

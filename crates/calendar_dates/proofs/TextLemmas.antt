@@ -1,6 +1,7 @@
 -- How many digits a number has.
 use Rattle.std.proofs.Common.{◌≡◌, ℕ, ◌+◌, ◌/◌, ◌%◌, ◌^◌, ◌<◌, ◌≤◌, [], ◌∷◌, length, ap, arith, length-append}
 use Rattle.std.specs.Fmt.{decimal}
+pub use Rattle.std.proofs.lemmas.Bool.Decides.{nat_tests}
 use Rattle.std.proofs.lemmas.Fmt.{decimal_digit, decimal_step}
 
 length_one : (n : ℕ) → n < 10 → length (decimal n) ≡ 1
@@ -23,3 +24,6 @@ length_five n low high = length_more n 4 (omega arith) (omega arith) (length_fou
 
 pub length_six : (n : ℕ) → 100_000 ≤ n → n < 1_000_000 → length (decimal n) ≡ 6
 length_six n low high = length_more n 5 (omega arith) (omega arith) (length_five (n / 10) (omega arith) (omega arith))
+
+-- what decides how many digits a year has
+pub ruleset year_lengths = (nat_tests, length_five, length_six)

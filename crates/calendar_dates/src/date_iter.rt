@@ -78,6 +78,7 @@ impl DateIter {
         ensures value { result ≡ length self }
         ensures bound { result ≤ last_count + 1 }
     {
+        // What holds of the fields is known once one is read.
         let _ = &self.first;
         self.len()
     }
@@ -116,6 +117,7 @@ impl DateIter {
         ensures value { IsTrue result ↔ IsNonDecreasing self }
         ensures always { IsTrue result }
     {
+        // The fields say which days these are.
         let _ = &self.first;
         true
     }

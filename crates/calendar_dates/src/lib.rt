@@ -1,4 +1,4 @@
-//! Dates.
+//! Dates: their views, steps, arithmetic and texts, and walks over them.
 #![tactic(auto)]
 
 mod arithmetic;

@@ -43,7 +43,7 @@ fn write_year<W: fmt::Write>(f: &mut fmt::Formatter<W>, year: i32) -> fmt::Resul
 }
 
 // How many digits of a year there are.
-#[tactic(auto, using(std::proofs::lemmas::Bool::Decides::nat_tests, crate::proofs::TextLemmas::length_five, crate::proofs::TextLemmas::length_six))]
+#[tactic(auto, using(crate::proofs::TextLemmas::year_lengths))]
 fn digits_len(years: u32) -> usize
     requires { years ≤ greatest_year }
     ensures value { result ≡ length (year_digits years) }
@@ -66,9 +66,7 @@ fn year_len(year: i32) -> usize
 {
     let years = year.unsigned_abs();
     let digits = digits_len(years);
-    if year < 0 {
-        digits + 1
-    } else if years >= FIVE_DIGITS {
+    if year < 0 || years >= FIVE_DIGITS {
         digits + 1
     } else {
         digits

@@ -2,6 +2,7 @@
 use super::refused;
 use crate::{Date, Month, SignedDuration, UtcOffset, Weekday, laws};
 use std::cmp::Ordering;
+use std::collections::{BTreeMap, HashMap};
 use std::test::Fail;
 
 #[test]
@@ -15,21 +16,36 @@ fn walks_days_from_both_ends(rt: HostRuntime) -> Result<(), Fail> {
     assert_eq!(rt; days.next(), Some(after));
     assert_eq!(rt; days.next(), None);
     assert_eq!(rt; days.next_back(), None);
+    Ok(())
+}
+
+#[test]
+fn walks_days_back(rt: HostRuntime) -> Result<(), Fail> {
+    let before = Date::from_calendar_date(2024, Month::February, 28)?;
+    let after = Date::from_calendar_date(2024, Month::March, 1)?;
     let mut days = before.iter_to(after);
     assert_eq!(rt; days.size_hint(), (3, Some(3)));
     assert_eq!(rt; days.next_back(), Some(after));
     assert_eq!(rt; days.nth_back(1), Some(before));
     assert_eq!(rt; days.nth_back(0), None);
+    assert_eq!(rt; before.iter_to(before).last(), Some(before));
+    assert_eq!(rt; Date::MIN.iter_to(Date::MAX).len(), 730_484_634);
+    Ok(())
+}
+
+#[test]
+fn tells_of_days_left(rt: HostRuntime) -> Result<(), Fail> {
+    let before = Date::from_calendar_date(2024, Month::February, 28)?;
+    let leap = Date::from_calendar_date(2024, Month::February, 29)?;
+    let after = Date::from_calendar_date(2024, Month::March, 1)?;
     assert_eq!(rt; before.iter_to(after).count(), 3);
     assert_eq!(rt; before.iter_to(after).last(), Some(after));
     assert_eq!(rt; before.iter_to(after).min(), Some(before));
     assert_eq!(rt; before.iter_to(after).max(), Some(after));
     assert!(rt; before.iter_to(after).is_sorted());
-    assert_eq!(rt; before.iter_to(before).last(), Some(before));
     assert_eq!(rt; after.iter_to(before).count(), 0);
     assert_eq!(rt; after.iter_to(before).min(), None);
     assert_eq!(rt; before.iter_to(after).nth(usize::MAX), None);
-    assert_eq!(rt; Date::MIN.iter_to(Date::MAX).len(), 730_484_634);
     let leaps = before.iter_to(after).rev().filter(|day| *day == leap);
     assert_eq!(rt; leaps.count(), 1);
     Ok(())
@@ -58,6 +74,12 @@ fn finds_weekdays(rt: HostRuntime) -> Result<(), Fail> {
             assert_eq!(rt; monday.nth_prev_occurrence(weekday, n), earlier);
         }
     }
+    Ok(())
+}
+
+#[test]
+fn finds_no_weekday_past_the_ends(rt: HostRuntime) -> Result<(), Fail> {
+    let monday = Date::from_calendar_date(2018, Month::January, 1)?;
     let week_on = monday.checked_next_occurrence(Weekday::Monday);
     if week_on.is_some() {
         assert_eq!(rt; Some(monday.next_occurrence(Weekday::Monday)), week_on);
@@ -166,6 +188,13 @@ fn moves_by_durations(rt: HostRuntime) -> Result<(), Fail> {
         }
         assert_eq!(rt; moved, difference);
     }
+    Ok(())
+}
+
+#[test]
+fn ends_at_the_last_day(rt: HostRuntime) -> Result<(), Fail> {
+    let day = Date::from_calendar_date(2021, Month::January, 1)?;
+    let before = Date::from_calendar_date(2020, Month::December, 31)?;
     assert_eq!(rt; Date::MAX.checked_add(SignedDuration::DAY), None);
     assert_eq!(rt; Date::MIN.checked_sub(SignedDuration::DAY), None);
     assert_eq!(rt; Date::MAX.saturating_add(SignedDuration::MAX), Date::MAX);
@@ -198,6 +227,25 @@ fn prints_dates_under_a_width(rt: HostRuntime) -> Result<(), Fail> {
 }
 
 #[test]
+fn keys_maps(rt: HostRuntime) -> Result<(), Fail> {
+    let day = Date::from_calendar_date(2024, Month::February, 29)?;
+    let mut months = HashMap::new(rt.alloc());
+    months.insert(day, Month::February)?;
+    months.insert(Date::MAX, Month::December)?;
+    let same = Date::from_julian_day(2_460_370)?;
+    assert_eq!(rt; months.get(&same).copied(), Some(Month::February));
+    assert_eq!(rt; months.get(&Date::MIN).copied(), None);
+    let mut lengths = BTreeMap::new(rt.alloc());
+    lengths.insert(Month::March, 31u8)?;
+    lengths.insert(Month::February, 29)?;
+    assert_eq!(rt; lengths.get(&Month::March).copied(), Some(31));
+    let mut numbers = HashMap::new(rt.alloc());
+    numbers.insert(Weekday::Monday, 1u8)?;
+    assert_eq!(rt; numbers.get(&Weekday::Sunday).copied(), None);
+    Ok(())
+}
+
+#[test]
 fn keeps_laws(rt: HostRuntime) -> Result<(), Fail> {
     laws::views();
     laws::both_ends();
@@ -208,12 +256,7 @@ fn keeps_laws(rt: HostRuntime) -> Result<(), Fail> {
     assert_eq!(rt; laws::day_of_julian_day(leap)?, leap);
     assert_eq!(rt; laws::julian_day_of_day(2_451_545), Some(2_451_545));
     assert_eq!(rt; laws::ends_of_calendar(), [Date::MIN, Date::MAX]);
-    assert_eq!(rt;
-        laws::day_and_back(leap, SignedDuration::WEEK),
-        Some(Some(leap))
-    );
-    let back = laws::duration_and_back(SignedDuration::WEEK, SignedDuration::SECOND);
-    assert!(rt; back == Some(Some(SignedDuration::WEEK)));
+    assert_eq!(rt; laws::day_and_back(leap, SignedDuration::WEEK), Some(leap));
     let offset = UtcOffset::from_hms(-3, 30, 0)?;
     assert_eq!(rt; laws::offset_of_whole_seconds(offset)?, offset);
     assert_eq!(rt; laws::day_at_difference(leap, Date::MIN), Some(Date::MIN));

@@ -1,4 +1,4 @@
-use Rattle.std.proofs.Common.{arith, ◌∙◌, ◌≡◌, to_z, of_z, w32}
+use Rattle.std.proofs.Common.{arith, ◌≡◌, to_z, of_z, w32}
 use Rattle.std.proofs.lemmas.Int.{ints}
 use Rattle.calendar_count.specs.Range.{IsCount}
 use Rattle.calendar.proofs.LawLemmas.{only_not_err, views_undone}
