@@ -1,0 +1,4 @@
+pub mod Convert
+pub mod Same
+pub mod SameLaws
+pub mod Tree
