@@ -5,6 +5,7 @@ mod component;
 mod convert;
 mod different_variant;
 mod item;
+mod modern;
 pub mod modifier;
 mod same;
 mod shown;

@@ -68,3 +68,45 @@ fn formats_equal_themselves(rt: HostRuntime) {
     assert_eq!(rt; Rfc3339, Rfc3339);
     assert_eq!(rt; Iso8601, Iso8601);
 }
+
+#[test]
+fn older_forms_become_newer_ones(rt: HostRuntime) {
+    let none = modifier::Padding::None;
+    let rows = [
+        (
+            Component::Month(modifier::Month::default().with_repr(modifier::MonthRepr::Short)),
+            Component::MonthShort(modifier::MonthShort::default()),
+        ),
+        (
+            Component::Weekday(modifier::Weekday::default()),
+            Component::WeekdayLong(modifier::WeekdayLong::default()),
+        ),
+        (
+            Component::WeekNumber(modifier::WeekNumber::default()),
+            Component::WeekNumberIso(modifier::WeekNumberIso::default()),
+        ),
+        (
+            Component::Year(modifier::Year::default().with_iso_week_based(true)),
+            Component::IsoYearFullExtendedRange(modifier::IsoYearFullExtendedRange::default()),
+        ),
+        (
+            Component::Year(modifier::Year::default().with_repr(modifier::YearRepr::LastTwo)),
+            Component::CalendarYearLastTwo(modifier::CalendarYearLastTwo::default()),
+        ),
+        (
+            Component::Hour(modifier::Hour::default().with_padding(none)),
+            Component::Hour24(modifier::Hour24 { padding: none }),
+        ),
+        (
+            Component::UnixTimestamp(modifier::UnixTimestamp::default()),
+            Component::UnixTimestampSecond(modifier::UnixTimestampSecond::default()),
+        ),
+        (
+            Component::Day(modifier::Day::default()),
+            Component::Day(modifier::Day::default()),
+        ),
+    ];
+    for (old, new) in rows {
+        assert_eq!(rt; old.modern(), new);
+    }
+}
