@@ -1,7 +1,8 @@
 //! Components, from their names and modifiers.
 
-ghost use Rattle.std.specs.Prelude.{◌≡◌, Result};
+ghost use Rattle.std.specs.Prelude.{◌≡◌, Result, IfOk};
 ghost use Rattle.description_faults.specs.Answer.{Answers};
+ghost use Rattle.description_items.specs.Modern.{modern};
 ghost use Rattle.description_words.specs.Views.{piece, modifier, modifiers};
 ghost use Rattle.description_tables.specs.Component.{key_in, with_modifier, with_modifiers, combined, named, component_of};
 ghost use Rattle.description_tables.specs.Chosen.{nothing};
@@ -119,6 +120,8 @@ pub fn component_of<'a>(
     all: &[Modifier<'a>],
 ) -> Result<Component, InvalidFormatDescription<'a>>
     ensures value { Answers (λ c. c) result (component_of version (piece word.entry) (modifiers all.now)) }
+    // The older forms have no name of their own.
+    ensures modern { IfOk result (λ component. modern component ≡ component) }
 {
     let name = named(version, word)?;
     let chosen = with_modifiers(version, name, all)?;

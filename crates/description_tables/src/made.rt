@@ -1,6 +1,7 @@
 //! The component that a name and its chosen values make.
 
-ghost use Rattle.std.specs.Prelude.{◌≡◌};
+ghost use Rattle.std.specs.Prelude.{◌≡◌, IfSome};
+ghost use Rattle.description_items.specs.Modern.{modern};
 ghost use Rattle.description_tables.specs.Made.{month_repr, weekday_repr, week_repr, year_repr, default_range, is_twelve, month_made, weekday_made, week_number_made, year_made, hour_made, period_made, offset_hour_made, unix_timestamp_made, made};
 
 use crate::chosen::Chosen;
@@ -154,8 +155,10 @@ fn unix_timestamp(chosen: Chosen) -> Component
 
 /// The component with the chosen values, and the defaults elsewhere, if it lacks none that it must
 /// have.
+#[tactic(auto, using(crate::proofs::ModernForms::made_is))]
 pub fn made(version: DescriptionVersion, name: Name, chosen: Chosen) -> Option<Component>
-    ensures { result ≡ made version name chosen }
+    ensures value { result ≡ made version name chosen }
+    ensures modern { IfSome result (λ component. modern component ≡ component) }
 {
     let padding = chosen.padding.unwrap_or(Padding::Zero);
     let component = match name {
