@@ -1,0 +1,5 @@
+pub mod Convert
+pub mod Modern
+pub mod Same
+pub mod SameLaws
+pub mod Tree

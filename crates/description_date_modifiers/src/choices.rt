@@ -1,0 +1,122 @@
+//! What the modifiers of dates choose from.
+ghost use Rattle.std.specs.Prelude.{◌≡◌};
+ghost use Rattle.description_date_modifiers.specs.declared.choices.Padding.TheVariants as Padding;
+ghost use Rattle.description_date_modifiers.specs.declared.choices.MonthRepr.TheVariants as MonthRepr;
+ghost use Rattle.description_date_modifiers.specs.declared.choices.WeekdayRepr.TheVariants as WeekdayRepr;
+ghost use Rattle.description_date_modifiers.specs.declared.choices.WeekNumberRepr.TheVariants as WeekNumberRepr;
+ghost use Rattle.description_date_modifiers.specs.declared.choices.YearRepr.TheVariants as YearRepr;
+ghost use Rattle.description_date_modifiers.specs.declared.choices.YearRange.TheVariants as YearRange;
+
+/// How a number is filled up to its width.
+#[derive(Clone, Copy, Debug, PartialEq, Eq)]
+pub enum Padding {
+    /// With spaces before it.
+    Space,
+    /// With zeros before it.
+    Zero,
+    /// Not at all.
+    None,
+}
+
+impl Default for Padding {
+    ghost is_default = { λ x. x ≡ Padding.Zero };
+
+    fn default() -> Padding {
+        Padding::Zero
+    }
+}
+
+/// How a month is written.
+#[derive(Clone, Copy, Debug, PartialEq, Eq)]
+pub enum MonthRepr {
+    /// By its number, January being 1.
+    Numerical,
+    /// By its English name.
+    Long,
+    /// By the first three letters of its English name.
+    Short,
+}
+
+impl Default for MonthRepr {
+    ghost is_default = { λ x. x ≡ MonthRepr.Numerical };
+
+    fn default() -> MonthRepr {
+        MonthRepr::Numerical
+    }
+}
+
+/// How a weekday is written.
+#[derive(Clone, Copy, Debug, PartialEq, Eq)]
+pub enum WeekdayRepr {
+    /// By the first three letters of its English name.
+    Short,
+    /// By its English name.
+    Long,
+    /// By its number, counted from Sunday.
+    Sunday,
+    /// By its number, counted from Monday.
+    Monday,
+}
+
+impl Default for WeekdayRepr {
+    ghost is_default = { λ x. x ≡ WeekdayRepr.Long };
+
+    fn default() -> WeekdayRepr {
+        WeekdayRepr::Long
+    }
+}
+
+/// Which weeks are counted.
+#[derive(Clone, Copy, Debug, PartialEq, Eq)]
+pub enum WeekNumberRepr {
+    /// Those of ISO 8601: from Monday on, in the year of their Thursday.
+    Iso,
+    /// Those that a Sunday begins; the days before the first are in week 0.
+    Sunday,
+    /// Those that a Monday begins; the days before the first are in week 0.
+    Monday,
+}
+
+impl Default for WeekNumberRepr {
+    ghost is_default = { λ x. x ≡ WeekNumberRepr.Iso };
+
+    fn default() -> WeekNumberRepr {
+        WeekNumberRepr::Iso
+    }
+}
+
+/// Which part of a year is written.
+#[derive(Clone, Copy, Debug, PartialEq, Eq)]
+pub enum YearRepr {
+    /// All of it.
+    Full,
+    /// All but its last two digits.
+    Century,
+    /// Its last two digits.
+    LastTwo,
+}
+
+impl Default for YearRepr {
+    ghost is_default = { λ x. x ≡ YearRepr.Full };
+
+    fn default() -> YearRepr {
+        YearRepr::Full
+    }
+}
+
+/// How far the years of a description go.
+#[derive(Clone, Copy, Debug, PartialEq, Eq)]
+pub enum YearRange {
+    /// Years of four digits, within ±9999.
+    Standard,
+    /// Years of up to six digits, within ±999999.
+    Extended,
+}
+
+impl Default for YearRange {
+    ghost is_default = { λ x. x ≡ YearRange.Extended };
+
+    fn default() -> YearRange {
+        YearRange::Extended
+    }
+}

@@ -1,0 +1,17 @@
+//! The refusal of a value of another variant.
+
+use std::fmt;
+
+/// A value was of a different variant.
+#[derive(Clone, Copy, Debug, PartialEq, Eq)]
+pub struct DifferentVariant;
+
+impl fmt::Display for DifferentVariant {
+    ghost use Rattle.std.specs.Prelude.{Some, codes};
+
+    ghost output = { λ _. Some (codes "value was of a different variant") };
+
+    fn fmt<W: fmt::Write>(&self, f: &mut fmt::Formatter<W>) -> fmt::Result {
+        f.write_str("value was of a different variant")
+    }
+}

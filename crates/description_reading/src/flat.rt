@@ -1,0 +1,85 @@
+//! Descriptions of versions 1 and 2.
+
+ghost use Rattle.std.specs.Prelude.{◌≡◌, ◌<◌, false, length};
+ghost use Rattle.std.specs.Str.{IsCharBoundary};
+ghost use Rattle.description_faults.specs.Answer.{Gives};
+ghost use Rattle.description_items.specs.Tree.{tree_of, trees};
+ghost use Rattle.description_words.specs.Version.{is_three};
+ghost use Rattle.description_words.specs.Views.{piece};
+ghost use Rattle.description_reading.specs.Reading.{bracket_at, element_at, nested_at, read_items};
+
+use crate::components::component_from;
+use crate::nested::{LEVELS, first, optional};
+use crate::texts::{doubled, text};
+use description_faults::DescriptionFault;
+use description_items::BorrowedFormatItem;
+use description_words::{DescriptionVersion, Left, begins, cut, is_named, name_of, whole_of};
+use std::alloc::Global;
+
+/// The items of a description of version 1 or 2. Nested descriptions are read for their faults alone.
+#[tactic(auto, unfolding(crate::specs::Reading::read_items))]
+pub fn items_of<'a>(
+    alloc: Global,
+    version: DescriptionVersion,
+    text: &'a str,
+) -> Result<Vec<BorrowedFormatItem<'a>>, DescriptionFault<'a>>
+    requires version { is_three version ≡ false }
+    ensures value { Gives (λ v. trees v.items) result (read_items version text.now) }
+{
+    let mut all = Vec::new(alloc);
+    let mut rest = whole_of(text);
+    while !rest.text.is_empty() {
+        let (item, after) = element(alloc, version, rest)?;
+        all.push(item)?;
+        rest = after;
+    }
+    Ok(all)
+}
+
+#[tactic(auto, unfolding(crate::specs::Reading::element_at))]
+fn element<'a>(
+    alloc: Global,
+    version: DescriptionVersion,
+    left: Left<'a>,
+) -> Result<(BorrowedFormatItem<'a>, Left<'a>), DescriptionFault<'a>>
+    requires version { is_three version ≡ false }
+    requires some { 0 < length left.text.now }
+    ensures { Gives (λ x. (tree_of x.0, piece x.1)) result (element_at version (nested_at version 127) (piece left.entry)) }
+{
+    if let Some((front, rest)) = doubled(version, left) {
+        return Ok((BorrowedFormatItem::StringLiteral(front), rest));
+    }
+    if begins(left.text, b'[') {
+        return bracketed(alloc, version, left);
+    }
+    let (front, rest) = text(version, left)?;
+    Ok((BorrowedFormatItem::StringLiteral(front), rest))
+}
+
+#[tactic(auto, unfolding(crate::specs::Reading::bracket_at))]
+fn bracketed<'a>(
+    alloc: Global,
+    version: DescriptionVersion,
+    left: Left<'a>,
+) -> Result<(BorrowedFormatItem<'a>, Left<'a>), DescriptionFault<'a>>
+    requires version { is_three version ≡ false }
+    requires boundary { IsCharBoundary left.text.now 1 }
+    ensures { Gives (λ x. (tree_of x.0, piece x.1)) result (bracket_at version (nested_at version 127) (piece left.entry)) }
+{
+    let (_, inside) = cut(left, 1);
+    let (name, rest) = name_of(left.index, inside)?;
+    if is_named(version, name.text, "optional") {
+        return match optional(alloc, version, LEVELS, left.index, rest) {
+            Err(fault) => Err(fault),
+            Ok(_) => unreachable!(),
+        };
+    }
+    if is_named(version, name.text, "first") {
+        return match first(alloc, version, LEVELS, left.index, rest) {
+            Err(fault) => Err(fault),
+            Ok(_) => unreachable!(),
+        };
+    }
+    let (component, rest) = component_from(alloc, version, left.index, name, rest)?;
+    Ok((BorrowedFormatItem::Component(component), rest))
+}

@@ -1,0 +1,232 @@
+//! Descriptions inside one another.
+
+ghost use Rattle.std.specs.Prelude.{suc, ◌≡◌, ◌<◌, IfOk, length, codes};
+ghost use Rattle.std.specs.Str.{IsCharBoundary};
+ghost use Rattle.description_faults.specs.Answer.{Answers, Gives};
+ghost use Rattle.description_faults.specs.Fault.{fault_of};
+ghost use Rattle.description_tree.specs.Inner.{inner_tree, inner_trees};
+ghost use Rattle.description_words.specs.Many.{many};
+ghost use Rattle.description_words.specs.Views.{piece};
+ghost use Rattle.description_reading.specs.Reading.{opened_at, unsupported_at, optional_at, first_at, bracket_at, element_at, is_end, no_bracket, nested_at, read_tree};
+
+use crate::components::component_from;
+use crate::texts::{doubled, is_end, text};
+use description_faults::{DescriptionFault, InvalidFormatDescription};
+use description_tree::FormatDescriptionV3Inner;
+use description_words::{
+    DescriptionVersion, Left, begins, closed, cut, is_named, name_of, past_space, whole_of,
+};
+use std::alloc::Global;
+
+/// So many descriptions may stand inside one another.
+pub const LEVELS: u8 = 127;
+
+/// The tree of a description of version 3: its items, one after the other.
+#[tactic(auto, unfolding(crate::specs::Reading::read_tree, crate::specs::Reading::read_items))]
+pub fn tree_of<'a>(
+    alloc: Global,
+    text: &'a str,
+) -> Result<FormatDescriptionV3Inner<'a>, DescriptionFault<'a>>
+    ensures value { Gives inner_tree result (read_tree text.now) }
+{
+    let (all, _) = items(
+        alloc,
+        DescriptionVersion::Three,
+        LEVELS,
+        false,
+        whole_of(text),
+    )?;
+    Ok(FormatDescriptionV3Inner::OwnedCompound(all))
+}
+
+// The white space and the bracket that a nesting name needs.
+#[tactic(auto, unfolding(crate::specs::Reading::opened_at))]
+fn opened<'a>(what: &'static str, left: Left<'a>) -> Result<Left<'a>, InvalidFormatDescription<'a>>
+    ensures value { Answers piece result (opened_at what.now (piece left.entry)) }
+    ensures boundary { IfOk result (λ start. IsCharBoundary start.text.now 1) }
+{
+    let start = past_space(left);
+    if start.text.len() == left.text.len() {
+        return Err(InvalidFormatDescription::Expected {
+            what,
+            index: left.index,
+        });
+    }
+    if begins(start.text, b'[') {
+        Ok(start)
+    } else {
+        Err(InvalidFormatDescription::Expected {
+            what: "opening bracket",
+            index: start.index,
+        })
+    }
+}
+
+// Versions 1 and 2 have no nested items.
+fn unsupported<'a>(bracket: usize) -> InvalidFormatDescription<'a>
+    ensures { fault_of result ≡ unsupported_at bracket }
+{
+    InvalidFormatDescription::NotSupported {
+        what: "nested item",
+        context: "versions 1 and 2",
+        index: bracket,
+    }
+}
+
+// Items up to the end, or inside a nested description to its bracket.
+#[cycle(nested)]
+fn items<'a>(
+    alloc: Global,
+    version: DescriptionVersion,
+    levels: u8,
+    inner: bool,
+    left: Left<'a>,
+) -> Result<(Vec<FormatDescriptionV3Inner<'a>>, Left<'a>), DescriptionFault<'a>>
+    ensures { Gives (λ x. (inner_trees x.0.items, piece x.1)) result (many (is_end inner) (element_at version (nested_at version levels)) (suc (length left.entry.text.now)) (piece left.entry)) }
+{
+    let mut all = Vec::new(alloc);
+    let mut rest = left;
+    'items: while !is_end(inner, rest) {
+        let (item, after) = element(alloc, version, levels, rest)?;
+        all.push(item)?;
+        rest = after;
+    }
+    Ok((all, rest))
+}
+
+#[tactic(auto, unfolding(crate::specs::Reading::element_at))]
+#[cycle(nested)]
+fn element<'a>(
+    alloc: Global,
+    version: DescriptionVersion,
+    levels: u8,
+    left: Left<'a>,
+) -> Result<(FormatDescriptionV3Inner<'a>, Left<'a>), DescriptionFault<'a>>
+    requires { 0 < length left.text.now }
+    ensures { Gives (λ x. (inner_tree x.0, piece x.1)) result (element_at version (nested_at version levels) (piece left.entry)) }
+{
+    if let Some((front, rest)) = doubled(version, left) {
+        return Ok((FormatDescriptionV3Inner::BorrowedLiteral(front), rest));
+    }
+    if begins(left.text, b'[') {
+        return bracketed(alloc, version, levels, left);
+    }
+    let (front, rest) = text(version, left)?;
+    Ok((FormatDescriptionV3Inner::BorrowedLiteral(front), rest))
+}
+
+#[tactic(auto, unfolding(crate::specs::Reading::bracket_at))]
+#[cycle(nested)]
+fn bracketed<'a>(
+    alloc: Global,
+    version: DescriptionVersion,
+    levels: u8,
+    left: Left<'a>,
+) -> Result<(FormatDescriptionV3Inner<'a>, Left<'a>), DescriptionFault<'a>>
+    requires { IsCharBoundary left.text.now 1 }
+    ensures { Gives (λ x. (inner_tree x.0, piece x.1)) result (bracket_at version (nested_at version levels) (piece left.entry)) }
+{
+    let (_, inside) = cut(left, 1);
+    let (name, rest) = name_of(left.index, inside)?;
+    if is_named(version, name.text, "optional") {
+        return optional(alloc, version, levels, left.index, rest);
+    }
+    if is_named(version, name.text, "first") {
+        return first(alloc, version, levels, left.index, rest);
+    }
+    let (component, rest) = component_from(alloc, version, left.index, name, rest)?;
+    Ok((FormatDescriptionV3Inner::from(component), rest))
+}
+
+/// An optional item behind its name, and what follows it.
+#[tactic(auto, unfolding(crate::specs::Reading::optional_at))]
+#[cycle(nested)]
+pub fn optional<'a>(
+    alloc: Global,
+    version: DescriptionVersion,
+    levels: u8,
+    bracket: usize,
+    left: Left<'a>,
+) -> Result<(FormatDescriptionV3Inner<'a>, Left<'a>), DescriptionFault<'a>>
+    ensures { Gives (λ x. (inner_tree x.0, piece x.1)) result (optional_at version (nested_at version levels) bracket (piece left.entry)) }
+{
+    let start = opened("whitespace after `optional`", left)?;
+    let (item, rest) = nested(alloc, version, levels, start)?;
+    let rest = closed(bracket, rest)?;
+    if !version.is_three() {
+        return Err(DescriptionFault::Description(unsupported(bracket)));
+    }
+    let item = Box::new(alloc, item)?;
+    Ok((
+        FormatDescriptionV3Inner::OwnedOptional { format: true, item },
+        rest,
+    ))
+}
+
+/// Alternatives behind their name, and what follows them.
+#[tactic(auto, unfolding(crate::specs::Reading::first_at))]
+#[cycle(nested)]
+pub fn first<'a>(
+    alloc: Global,
+    version: DescriptionVersion,
+    levels: u8,
+    bracket: usize,
+    left: Left<'a>,
+) -> Result<(FormatDescriptionV3Inner<'a>, Left<'a>), DescriptionFault<'a>>
+    ensures { Gives (λ x. (inner_tree x.0, piece x.1)) result (first_at version (nested_at version levels) bracket (piece left.entry)) }
+{
+    let start = opened("whitespace after `first`", left)?;
+    let (all, rest) = alternatives(alloc, version, levels, start)?;
+    let rest = closed(bracket, rest)?;
+    if !version.is_three() {
+        return Err(DescriptionFault::Description(unsupported(bracket)));
+    }
+    Ok((FormatDescriptionV3Inner::OwnedFirst(all), rest))
+}
+
+#[cycle(nested)]
+fn alternatives<'a>(
+    alloc: Global,
+    version: DescriptionVersion,
+    levels: u8,
+    left: Left<'a>,
+) -> Result<(Vec<FormatDescriptionV3Inner<'a>>, Left<'a>), DescriptionFault<'a>>
+    ensures { Gives (λ x. (inner_trees x.0.items, piece x.1)) result (many no_bracket (nested_at version levels) (suc (length left.entry.text.now)) (piece left.entry)) }
+{
+    let mut all = Vec::new(alloc);
+    let mut rest = left;
+    'others: while begins(rest.text, b'[') {
+        let (item, after) = nested(alloc, version, levels, rest)?;
+        all.push(item)?;
+        rest = after;
+    }
+    Ok((all, rest))
+}
+
+// A nested description from its bracket on, where so many levels may be opened.
+#[tactic(auto, unfolding(crate::specs::Reading::nested_at))]
+#[cycle(nested)]
+fn nested<'a>(
+    alloc: Global,
+    version: DescriptionVersion,
+    levels: u8,
+    left: Left<'a>,
+) -> Result<(FormatDescriptionV3Inner<'a>, Left<'a>), DescriptionFault<'a>>
+    requires { IsCharBoundary left.text.now 1 }
+    ensures { Gives (λ x. (inner_tree x.0, piece x.1)) result (nested_at version levels (piece left.entry)) }
+{
+    if levels == 0 {
+        return Err(DescriptionFault::Description(InvalidFormatDescription::NotSupported {
+            what: "nesting past 127 levels",
+            context: "format descriptions",
+            index: left.index,
+        }));
+    }
+    let (_, inside) = cut(left, 1);
+    let (all, rest) = items(alloc, version, levels - 1, true, inside)?;
+    let rest = closed(left.index, rest)?;
+    Ok((
+        FormatDescriptionV3Inner::OwnedCompound(all),
+        past_space(rest),
+    ))
+}

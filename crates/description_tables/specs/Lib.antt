@@ -1,0 +1,6 @@
+pub mod Chosen
+pub mod Component
+pub mod Keys
+pub mod Made
+pub mod Names
+pub mod Values

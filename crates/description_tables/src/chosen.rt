@@ -1,0 +1,167 @@
+//! What modifiers have chosen.
+
+ghost use Rattle.std.specs.Prelude.{◌≡◌};
+ghost use Rattle.description_tables.specs.Chosen.{nothing, with_value, with_other_value, is_chosen, is_carried};
+
+use crate::keys::Key;
+use crate::names::Name;
+use crate::values::{
+    Repr, base_of, case_of, count_of, digits_of, flag_of, padding_of, precision_of, range_of,
+    repr_of, sign_of, trailing_input_of,
+};
+use description_items::modifier::{
+    Padding, SubsecondDigits, TrailingInput, UnixTimestampPrecision, YearRange,
+};
+use description_words::DescriptionVersion;
+
+/// The values chosen so far, by their keys.
+#[derive(Clone, Copy)]
+pub struct Chosen {
+    pub padding: Option<Padding>,
+    pub repr: Option<Repr>,
+    pub case_sensitive: Option<bool>,
+    pub one_indexed: Option<bool>,
+    pub base: Option<bool>,
+    pub sign: Option<bool>,
+    pub range: Option<YearRange>,
+    pub case: Option<bool>,
+    pub digits: Option<SubsecondDigits>,
+    pub count: Option<u16>,
+    pub precision: Option<UnixTimestampPrecision>,
+    pub trailing_input: Option<TrailingInput>,
+}
+
+/// No value yet.
+pub fn nothing() -> Chosen
+    ensures { result ≡ nothing }
+{
+    Chosen {
+        padding: None,
+        repr: None,
+        case_sensitive: None,
+        one_indexed: None,
+        base: None,
+        sign: None,
+        range: None,
+        case: None,
+        digits: None,
+        count: None,
+        precision: None,
+        trailing_input: None,
+    }
+}
+
+/// The same with a value, if it is one of the key's.
+pub fn with_value(
+    version: DescriptionVersion,
+    name: Name,
+    chosen: Chosen,
+    key: Key,
+    word: &str,
+) -> Option<Chosen>
+    ensures { result ≡ with_value version name chosen key word.now }
+{
+    match key {
+        Key::Padding => Some(Chosen {
+            padding: Some(padding_of(version, word)?),
+            ..chosen
+        }),
+        Key::Repr => Some(Chosen {
+            repr: Some(repr_of(version, name, word)?),
+            ..chosen
+        }),
+        Key::CaseSensitive => Some(Chosen {
+            case_sensitive: Some(flag_of(version, word)?),
+            ..chosen
+        }),
+        Key::OneIndexed => Some(Chosen {
+            one_indexed: Some(flag_of(version, word)?),
+            ..chosen
+        }),
+        Key::Base => Some(Chosen {
+            base: Some(base_of(version, word)?),
+            ..chosen
+        }),
+        Key::Sign => Some(Chosen {
+            sign: Some(sign_of(version, word)?),
+            ..chosen
+        }),
+        _ => with_other_value(version, chosen, key, word),
+    }
+}
+
+// The same for the keys that few components have.
+fn with_other_value(
+    version: DescriptionVersion,
+    chosen: Chosen,
+    key: Key,
+    word: &str,
+) -> Option<Chosen>
+    ensures { result ≡ with_other_value version chosen key word.now }
+{
+    match key {
+        Key::Range => Some(Chosen {
+            range: Some(range_of(version, word)?),
+            ..chosen
+        }),
+        Key::Case => Some(Chosen {
+            case: Some(case_of(version, word)?),
+            ..chosen
+        }),
+        Key::Digits => Some(Chosen {
+            digits: Some(digits_of(version, word)?),
+            ..chosen
+        }),
+        Key::Count => Some(Chosen {
+            count: Some(count_of(word)?),
+            ..chosen
+        }),
+        Key::Precision => Some(Chosen {
+            precision: Some(precision_of(version, word)?),
+            ..chosen
+        }),
+        Key::TrailingInput => Some(Chosen {
+            trailing_input: Some(trailing_input_of(version, word)?),
+            ..chosen
+        }),
+        _ => None,
+    }
+}
+
+/// Whether the key has a value already.
+pub fn is_chosen(chosen: Chosen, key: Key) -> bool
+    ensures { result ≡ is_chosen chosen key }
+{
+    match key {
+        Key::Padding => chosen.padding.is_some(),
+        Key::Repr => chosen.repr.is_some(),
+        Key::CaseSensitive => chosen.case_sensitive.is_some(),
+        Key::OneIndexed => chosen.one_indexed.is_some(),
+        Key::Base => chosen.base.is_some(),
+        Key::Sign => chosen.sign.is_some(),
+        Key::Range => chosen.range.is_some(),
+        Key::Case => chosen.case.is_some(),
+        Key::Digits => chosen.digits.is_some(),
+        Key::Count => chosen.count.is_some(),
+        Key::Precision => chosen.precision.is_some(),
+        Key::TrailingInput => chosen.trailing_input.is_some(),
+    }
+}
+
+/// Whether the modifier says anything of the component as it was chosen.
+pub fn is_carried(name: Name, chosen: Chosen, key: Key) -> bool
+    ensures { result ≡ is_carried name chosen.repr key }
+{
+    match (name, key) {
+        (Name::Month, Key::Padding) => !matches!(chosen.repr, Some(Repr::Long | Repr::Short)),
+        (Name::Month, Key::CaseSensitive) => matches!(chosen.repr, Some(Repr::Long | Repr::Short)),
+        (Name::Weekday, Key::CaseSensitive) => {
+            !matches!(chosen.repr, Some(Repr::Sunday | Repr::Monday))
+        }
+        (Name::Weekday, Key::OneIndexed) => {
+            matches!(chosen.repr, Some(Repr::Sunday | Repr::Monday))
+        }
+        (Name::Year, Key::Sign | Key::Range) => !matches!(chosen.repr, Some(Repr::LastTwo)),
+        _ => true,
+    }
+}

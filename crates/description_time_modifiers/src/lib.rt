@@ -1,0 +1,22 @@
+//! How the components of a time, of an offset and of a timestamp are written and read.
+#![tactic(auto)]
+
+mod choices;
+mod end;
+mod hour;
+mod minute;
+mod offset;
+mod unix_timestamp;
+
+pub use choices::{SubsecondDigits, TrailingInput, UnixTimestampPrecision};
+pub use end::{End, Ignore};
+pub use hour::{Hour, Hour12, Hour24, Period};
+pub use minute::{Minute, Second, Subsecond};
+pub use offset::{OffsetHour, OffsetMinute, OffsetSecond};
+pub use unix_timestamp::{
+    UnixTimestamp, UnixTimestampMicrosecond, UnixTimestampMillisecond, UnixTimestampNanosecond,
+    UnixTimestampSecond,
+};
+
+#[cfg(test)]
+mod tests;

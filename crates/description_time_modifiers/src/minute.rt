@@ -1,0 +1,85 @@
+//! Minutes, seconds and fractions.
+ghost use Rattle.std.specs.Prelude.{◌≡◌};
+ghost use Rattle.description_date_modifiers.specs.declared.choices.Padding.TheVariants as Padding;
+ghost use Rattle.description_time_modifiers.specs.declared.choices.SubsecondDigits.TheVariants as SubsecondDigits;
+
+use crate::choices::SubsecondDigits;
+use description_date_modifiers::Padding;
+
+/// The minute of the hour.
+#[derive(Clone, Copy, Debug, PartialEq, Eq)]
+pub struct Minute {
+    /// How the number is filled up to its width.
+    pub padding: Padding,
+}
+
+impl Default for Minute {
+    ghost is_default = { λ x. x ≡ record { padding = Padding.Zero } };
+
+    fn default() -> Minute {
+        Minute {
+            padding: Padding::Zero,
+        }
+    }
+}
+
+impl Minute {
+    /// The same with this padding.
+    pub fn with_padding(self, padding: Padding) -> Minute
+        ensures value { result ≡ record self { padding = padding } }
+    {
+        Minute { padding }
+    }
+}
+
+/// The second of the minute.
+#[derive(Clone, Copy, Debug, PartialEq, Eq)]
+pub struct Second {
+    /// How the number is filled up to its width.
+    pub padding: Padding,
+}
+
+impl Default for Second {
+    ghost is_default = { λ x. x ≡ record { padding = Padding.Zero } };
+
+    fn default() -> Second {
+        Second {
+            padding: Padding::Zero,
+        }
+    }
+}
+
+impl Second {
+    /// The same with this padding.
+    pub fn with_padding(self, padding: Padding) -> Second
+        ensures value { result ≡ record self { padding = padding } }
+    {
+        Second { padding }
+    }
+}
+
+/// The fraction of the second.
+#[derive(Clone, Copy, Debug, PartialEq, Eq)]
+pub struct Subsecond {
+    /// How many digits are written.
+    pub digits: SubsecondDigits,
+}
+
+impl Default for Subsecond {
+    ghost is_default = { λ x. x ≡ record { digits = SubsecondDigits.OneOrMore } };
+
+    fn default() -> Subsecond {
+        Subsecond {
+            digits: SubsecondDigits::OneOrMore,
+        }
+    }
+}
+
+impl Subsecond {
+    /// The same with so many digits.
+    pub fn with_digits(self, digits: SubsecondDigits) -> Subsecond
+        ensures value { result ≡ record self { digits = digits } }
+    {
+        Subsecond { digits }
+    }
+}

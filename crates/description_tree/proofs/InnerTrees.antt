@@ -1,0 +1,15 @@
+-- A version 3 tree, level by level.
+use Rattle.std.proofs.Common.{◌≡◌, rules, Vec, Box, Bool}
+use Rattle.description_tree.specs.declared.inner.FormatDescriptionV3Inner.{FormatDescriptionV3Inner, OwnedCompound, OwnedOptional, OwnedFirst, the_lemmas}
+use Rattle.description_items.specs.Tree.{Compound, Optional, First, listed}
+use Rattle.description_tree.specs.Inner.{inner_tree, inner_trees}
+use Rattle.std.specs.declared.alloc.Global.{Global}
+
+pub tree-OwnedCompound : (v : Vec FormatDescriptionV3Inner Global) → inner_tree (OwnedCompound v) ≡ Compound (listed (inner_trees v.items))
+tree-OwnedCompound v = search (rules, the_lemmas)
+
+pub tree-OwnedFirst : (v : Vec FormatDescriptionV3Inner Global) → inner_tree (OwnedFirst v) ≡ First (listed (inner_trees v.items))
+tree-OwnedFirst v = search (rules, the_lemmas)
+
+pub tree-OwnedOptional : (b : Bool) (x : Box FormatDescriptionV3Inner Global) → inner_tree (OwnedOptional b x) ≡ Optional b (inner_tree x.value)
+tree-OwnedOptional b x = search (rules, the_lemmas)

@@ -1,0 +1,4 @@
+pub mod Cuts
+pub mod Many
+pub mod Readings
+pub mod Shorter

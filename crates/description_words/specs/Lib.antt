@@ -1,0 +1,5 @@
+pub mod Many
+pub mod Text
+pub mod Version
+pub mod Views
+pub mod Words

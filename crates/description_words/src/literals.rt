@@ -1,0 +1,59 @@
+//! Literals.
+
+ghost use Rattle.std.specs.Prelude.{◌≡◌, ◌+◌, ◌<◌, take, length};
+ghost use Rattle.std.specs.Str.{IsCharBoundary};
+ghost use Rattle.description_faults.specs.Answer.{Answers};
+ghost use Rattle.description_words.specs.Text.{after};
+ghost use Rattle.description_words.specs.Words.{literal_len, escape_at};
+ghost use Rattle.description_words.specs.Views.{piece};
+
+use crate::cutting::cut;
+use crate::left::Left;
+use crate::names::begins;
+use crate::runs::plain_len;
+use crate::version::DescriptionVersion;
+use description_faults::InvalidFormatDescription;
+
+fn literal_run(version: DescriptionVersion, text: &[u8]) -> usize
+    requires { 0 < length text.now }
+    ensures { result ≡ literal_len version text.now }
+{
+    let (_, rest) = text.split_at(1);
+    1 + plain_len(version, rest)
+}
+
+fn literal_len(version: DescriptionVersion, text: &str) -> usize
+    requires { 0 < length text.now }
+    ensures len { result ≡ literal_len version text.now }
+    ensures boundary { IsCharBoundary text.now result }
+{
+    literal_run(version, text.as_bytes())
+}
+
+/// The literal that a text begins with, whatever its first byte is, and what follows it.
+pub fn literal<'a>(version: DescriptionVersion, left: Left<'a>) -> (&'a str, Left<'a>)
+    requires { 0 < length left.text.now }
+    ensures bytes { result.0.now ≡ take (literal_len version left.entry.text.now) left.entry.text.now }
+    ensures rest { piece result.1 ≡ after (literal_len version left.entry.text.now) (piece left.entry) }
+{
+    let (front, rest) = cut(left, literal_len(version, left.text));
+    (front.text, rest)
+}
+
+/// The bracket or backslash behind a backslash, and what follows it.
+#[tactic(auto, unfolding(crate::specs::Words::escape_at))]
+pub fn escape<'a>(left: Left<'a>) -> Result<(&'a str, Left<'a>), InvalidFormatDescription<'a>>
+    requires { IsCharBoundary left.text.now 1 }
+    ensures value { Answers (λ x. (x.0.now, piece x.1)) result (escape_at (piece left.entry)) }
+{
+    let (_, rest) = cut(left, 1);
+    if begins(rest.text, b'[') || begins(rest.text, b'\\') || begins(rest.text, b']') {
+        let (front, rest) = cut(rest, 1);
+        Ok((front.text, rest))
+    } else {
+        Err(InvalidFormatDescription::Expected {
+            what: "valid escape sequence",
+            index: left.index,
+        })
+    }
+}

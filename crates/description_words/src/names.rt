@@ -1,0 +1,65 @@
+//! Names, and the brackets round them.
+
+ghost use Rattle.std.specs.Prelude.{◌≡◌, ◌<◌, IsTrue};
+ghost use Rattle.std.specs.Str.{IsCharBoundary};
+ghost use Rattle.description_faults.specs.Answer.{Answers};
+ghost use Rattle.description_words.specs.Words.{is_named, begins, name_at, closed_at};
+ghost use Rattle.description_words.specs.Views.{piece};
+
+use crate::cutting::cut;
+use crate::left::Left;
+use crate::runs::{past_space, word};
+use crate::version::DescriptionVersion;
+use description_faults::InvalidFormatDescription;
+
+/// Whether a word is this one; versions 1 and 2 ignore the case of ASCII letters.
+pub fn is_named(version: DescriptionVersion, word: &str, name: &str) -> bool
+    ensures value { result ≡ is_named version word.now name.now }
+{
+    match version {
+        DescriptionVersion::One | DescriptionVersion::Two => word.eq_ignore_ascii_case(name),
+        DescriptionVersion::Three => word == name,
+    }
+}
+
+/// Whether a text begins with this byte.
+pub fn begins(text: &str, byte: u8) -> bool
+    ensures value { result ≡ begins byte text.now }
+    ensures boundary { IsTrue result → byte < 128 → IsCharBoundary text.now 1 }
+{
+    match text.as_bytes() {
+        [first, ..] => *first == byte,
+        [] => false,
+    }
+}
+
+/// The name behind a bracket, with white space before it where it likes, and what follows the name.
+#[tactic(auto, unfolding(crate::specs::Words::name_at))]
+pub fn name_of<'a>(
+    bracket: usize,
+    left: Left<'a>,
+) -> Result<(Left<'a>, Left<'a>), InvalidFormatDescription<'a>>
+    ensures value { Answers (λ x. (piece x.0, piece x.1)) result (name_at bracket (piece left.entry)) }
+{
+    let start = past_space(left);
+    let (name, rest) = word(start);
+    if name.text.is_empty() {
+        if start.text.len() == left.text.len() {
+            return Err(InvalidFormatDescription::MissingComponentName { index: bracket });
+        }
+        return Err(InvalidFormatDescription::MissingComponentName { index: left.index });
+    }
+    Ok((name, rest))
+}
+
+/// What follows the closing bracket, which must stand here.
+#[tactic(auto, unfolding(crate::specs::Words::closed_at))]
+pub fn closed<'a>(bracket: usize, left: Left<'a>) -> Result<Left<'a>, InvalidFormatDescription<'a>>
+    ensures value { Answers piece result (closed_at bracket (piece left.entry)) }
+{
+    if begins(left.text, b']') {
+        Ok(cut(left, 1).1)
+    } else {
+        Err(InvalidFormatDescription::UnclosedOpeningBracket { index: bracket })
+    }
+}
