@@ -151,10 +151,7 @@ impl PlainDateTime {
         ensures whole { result.0 *ℤ pos second_nanos +ℤ pos result.1 ≡ self }
         ensures bound { (unsigned_abs result.0 ≤ 31_619_087_690_399) × (result.1 < second_nanos) }
     {
-        (
-            wall::unix_seconds(self.date, self.time),
-            self.nanosecond(),
-        )
+        (wall::unix_seconds(self.date, self.time), self.nanosecond())
     }
 }
 
