@@ -1,11 +1,13 @@
-//! Instants of different types: conversions that always succeed, comparisons.
+//! Instants of different types: conversions that always succeed, comparisons, durations between them.
 ghost use Rattle.std.specs.Prelude.{◌≡◌, ◌↔◌, IsTrue, pos};
 ghost use Rattle.std.specs.Ordering.{int_cmp};
 ghost use Rattle.datetime_wall.specs.Wall.{instant};
 
+use crate::difference::difference;
 use crate::{OffsetDateTime, Timestamp, UtcDateTime};
-use calendar::UtcOffset;
+use calendar::{SignedDuration, UtcOffset};
 use std::cmp::Ordering;
+use std::ops::Sub;
 
 impl From<Timestamp> for UtcDateTime {
     ghost use Rattle.std.specs.Prelude.{◌≡◌};
@@ -136,5 +138,81 @@ impl Timestamp {
         ensures { result ≡ int_cmp self (instant other) }
     {
         self.as_nanoseconds().cmp(&other.unix_timestamp_nanos())
+    }
+}
+
+impl Sub<OffsetDateTime> for UtcDateTime {
+    ghost use Rattle.std.specs.Prelude.{◌≡◌, ◌-ℤ◌};
+    ghost use Rattle.datetime_wall.specs.Wall.{instant};
+
+    type Output = SignedDuration;
+
+    ghost sub_gives = { λ a b r. r ≡ a -ℤ instant b };
+
+    fn sub(self, other: OffsetDateTime) -> SignedDuration {
+        difference(self.parts(), other.parts())
+    }
+}
+
+impl Sub<Timestamp> for UtcDateTime {
+    ghost use Rattle.std.specs.Prelude.{◌≡◌, ◌-ℤ◌};
+
+    type Output = SignedDuration;
+
+    ghost sub_gives = { λ a b r. r ≡ a -ℤ b };
+
+    fn sub(self, other: Timestamp) -> SignedDuration {
+        difference(self.parts(), other.parts())
+    }
+}
+
+impl Sub<UtcDateTime> for OffsetDateTime {
+    ghost use Rattle.std.specs.Prelude.{◌≡◌, ◌-ℤ◌};
+    ghost use Rattle.datetime_wall.specs.Wall.{instant};
+
+    type Output = SignedDuration;
+
+    ghost sub_gives = { λ a b r. r ≡ instant a -ℤ b };
+
+    fn sub(self, other: UtcDateTime) -> SignedDuration {
+        difference(self.parts(), other.parts())
+    }
+}
+
+impl Sub<Timestamp> for OffsetDateTime {
+    ghost use Rattle.std.specs.Prelude.{◌≡◌, ◌-ℤ◌};
+    ghost use Rattle.datetime_wall.specs.Wall.{instant};
+
+    type Output = SignedDuration;
+
+    ghost sub_gives = { λ a b r. r ≡ instant a -ℤ b };
+
+    fn sub(self, other: Timestamp) -> SignedDuration {
+        difference(self.parts(), other.parts())
+    }
+}
+
+impl Sub<UtcDateTime> for Timestamp {
+    ghost use Rattle.std.specs.Prelude.{◌≡◌, ◌-ℤ◌};
+
+    type Output = SignedDuration;
+
+    ghost sub_gives = { λ a b r. r ≡ a -ℤ b };
+
+    fn sub(self, other: UtcDateTime) -> SignedDuration {
+        difference(self.parts(), other.parts())
+    }
+}
+
+impl Sub<OffsetDateTime> for Timestamp {
+    ghost use Rattle.std.specs.Prelude.{◌≡◌, ◌-ℤ◌};
+    ghost use Rattle.datetime_wall.specs.Wall.{instant};
+
+    type Output = SignedDuration;
+
+    ghost sub_gives = { λ a b r. r ≡ a -ℤ instant b };
+
+    fn sub(self, other: OffsetDateTime) -> SignedDuration {
+        difference(self.parts(), other.parts())
     }
 }

@@ -17,6 +17,7 @@ ghost use Rattle.datetime_types.specs.Unix.{unix_nanos, is_unix_second};
 
 mod arithmetic;
 mod changes;
+mod text;
 mod views;
 
 use crate::{OffsetDateTime, UtcDateTime};
