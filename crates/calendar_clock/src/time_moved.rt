@@ -1,5 +1,5 @@
 //! Times of day moved by durations, and durations between them.
-ghost use Rattle.std.specs.Prelude.{◌≡◌, ◌+◌, ◌-◌, ◌*◌, ◌%◌, ◌^◌, ◌<◌, ◌≤◌, ℤ, pos, neg_ℤ, ◌+ℤ◌, ◌-ℤ◌, ◌*ℤ◌, ◌<ℤ◌, ◌≤ℤ◌, int_div, unsigned_abs};
+ghost use Rattle.std.specs.Prelude.{◌≡◌, ◌+◌, ◌-◌, ◌*◌, ◌%◌, ◌^◌, ◌<◌, pos, neg_ℤ, ◌+ℤ◌, ◌-ℤ◌, ◌*ℤ◌, ◌<ℤ◌, ◌≤ℤ◌, int_div, unsigned_abs};
 ghost use Rattle.calendar_clock.specs.Time.{second_nanos, day_nanos, on_clock};
 ghost use Rattle.calendar_clock.specs.declared.date_adjustment.DateAdjustment.TheVariants as adjustment;
 ghost use Rattle.calendar_clock.specs.DateAdjustment.{carry};

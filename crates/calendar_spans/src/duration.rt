@@ -1,7 +1,7 @@
 //! Lengths of time with a sign.
-ghost use Rattle.std.specs.Prelude.{◌≡◌, ◌↔◌, ◌<◌, ◌≤◌, ◌^◌, ℤ, pos, neg_ℤ, ◌+ℤ◌, ◌-ℤ◌, ◌*ℤ◌, ◌≤ℤ◌, IsSome, IfSome, int_div, int_rem, unsigned_abs};
+ghost use Rattle.std.specs.Prelude.{◌≡◌, ◌↔◌, ◌<◌, ◌≤◌, ◌^◌, pos, ◌+ℤ◌, ◌*ℤ◌, IsSome, IfSome, int_div, int_rem, unsigned_abs};
 ghost use Rattle.calendar_spans.specs.Duration.{micro_nanos, milli_nanos, second_nanos, minute_nanos, hour_nanos, day_nanos, week_nanos, IsDuration};
-ghost use Rattle.calendar_spans.specs.DurationParts.{duration_nanos, IsParts};
+ghost use Rattle.calendar_spans.specs.DurationParts.{IsParts};
 
 use std::marker::Model;
 

@@ -1,5 +1,5 @@
 //! Durations as text.
-ghost use Rattle.std.specs.Prelude.{◌<◌, Some};
+ghost use Rattle.std.specs.Prelude.{Some};
 ghost use Rattle.std.specs.Fmt.{DisplaysOnOk};
 ghost use Rattle.calendar_spans.specs.DurationText.{part_text, seconds_text, nanoseconds_text};
 

@@ -1,5 +1,5 @@
 //! A duration in whole units, cut toward zero, and what is past them.
-ghost use Rattle.std.specs.Prelude.{◌≡◌, ◌↔◌, ◌≤◌, ◌*◌, ◌+◌, ◌-◌, ◌^◌, ◌/◌, ◌%◌, ℤ, pos, ◌<ℤ◌, IsTrue, int_div, int_rem, unsigned_abs};
+ghost use Rattle.std.specs.Prelude.{◌≡◌, ◌↔◌, ◌≤◌, ◌*◌, ◌+◌, ◌^◌, ◌/◌, ◌%◌, pos, ◌<ℤ◌, IsTrue, int_div, int_rem, unsigned_abs};
 ghost use Rattle.std.specs.Duration.{as_nanos};
 ghost use Rattle.calendar_spans.specs.Duration.{micro_nanos, milli_nanos, second_nanos, minute_nanos, hour_nanos, day_nanos, week_nanos, IsDuration, nearest_duration};
 
