@@ -1,4 +1,4 @@
-use Rattle.std.proofs.Common.{arith, ◌≡◌, ◌+ℤ◌, ◌-ℤ◌, ◌*ℤ◌, neg_ℤ, pos, to_z, of_z, w32}
+use Rattle.std.proofs.Common.{arith, ◌≡◌, ◌+ℤ◌, ◌*ℤ◌, pos, to_z, of_z, w32}
 use Rattle.std.specs.Int.{w128}
 use Rattle.calendar_count.proofs.Signed.{signed}
 use Rattle.datetime_wall.specs.Wall.{second_nanos}

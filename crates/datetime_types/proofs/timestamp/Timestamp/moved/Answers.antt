@@ -1,4 +1,4 @@
-use Rattle.std.proofs.Common.{rules, arith, ◌≡◌, ◌+ℤ◌, ◌*ℤ◌, pos, ℤ, to_z, of_z}
+use Rattle.std.proofs.Common.{arith, ◌≡◌, ◌+ℤ◌, ◌*ℤ◌, pos, to_z, of_z}
 use Rattle.std.specs.Int.{w128}
 use Rattle.calendar_count.proofs.Signed.{signed}
 use Rattle.datetime_wall.specs.Wall.{second_nanos}

@@ -1,6 +1,5 @@
-use Rattle.std.proofs.Common.{◌≡◌, ◌+◌, ◌*◌, to_z, of_z, w64, arith}
+use Rattle.std.proofs.Common.{◌≡◌, to_z, of_z, w64, arith}
 use Rattle.std.proofs.lemmas.Int.{ints}
-use Rattle.datetime_wall.specs.Wall.{second_nanos}
 use Rattle.datetime_types.proofs.UnixLemmas.{unix_nanos_time}
 use Rattle.datetime_types.proofs.timestamp.Timestamp.second_of_day.Goals as goal
 
