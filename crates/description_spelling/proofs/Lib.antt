@@ -1,0 +1,17 @@
+pub mod Results
+pub mod Runs
+pub mod Takes
+pub mod Steps
+pub mod Modifiers
+pub mod ModifiersAgain
+pub mod Meaning
+pub mod Components
+pub mod ComponentsAgain
+pub mod Texts
+pub mod Nesting
+pub mod Items
+pub mod ItemsRefused
+pub mod NestingAgain
+pub mod ItemsAgain
+pub mod FaultyAgain
+pub mod Outcomes

@@ -1,0 +1,4 @@
+pub mod Heads
+pub mod Spelling
+pub mod Faulty
+pub mod Outcomes
