@@ -2,7 +2,6 @@
 use Rattle.std.specs.Prelude.{◌≡◌, ℕ, suc, ◌<◌, Bool, true, false, List, [], ◌∷◌, ◌++◌, length, codes, ◌⊎◌}
 use Rattle.description_items.specs.Tree.{Tree, Literal, Part, Compound, Optional, First, Trees, none, also, listed}
 use Rattle.description_words.specs.declared.version.DescriptionVersion.{DescriptionVersion}
-use Rattle.description_words.specs.declared.version.DescriptionVersion.TheVariants.{Three}
 use Rattle.description_words.specs.Version.{is_three}
 use Rattle.description_words.specs.Text.{is_space}
 use Rattle.description_spelling.specs.Heads.{Each, SpellsComponent, SpellsLiteral, SpellsEscape, SpellsNesting}
@@ -38,10 +37,10 @@ abbrev mutual
 abbrev pub Spells : DescriptionVersion → List ℕ → List Tree → Type 0
 Spells v text ts = SpellsItems v false 127 text (listed ts)
 
--- the tree of version 3 is its items, one after the other
-abbrev pub SpellsTree : List ℕ → Tree → Type 0
-SpellsTree text (Compound ts) = SpellsItems Three false 127 text ts
-SpellsTree text (Literal bytes) = ⊥
-SpellsTree text (Part c) = ⊥
-SpellsTree text (Optional format t) = ⊥
-SpellsTree text (First ts) = ⊥
+-- the tree of a text is its items, one after the other
+abbrev pub SpellsTree : DescriptionVersion → List ℕ → Tree → Type 0
+SpellsTree v text (Compound ts) = SpellsItems v false 127 text ts
+SpellsTree v text (Literal bytes) = ⊥
+SpellsTree v text (Part c) = ⊥
+SpellsTree v text (Optional format t) = ⊥
+SpellsTree v text (First ts) = ⊥

@@ -1,0 +1,14 @@
+//! Descriptions of date and time texts.
+#![tactic(auto)]
+
+mod calls;
+
+pub use calls::parse;
+pub use description_faults::{DescriptionFault, InvalidFormatDescription};
+pub use description_items::{
+    BorrowedFormatItem, Component, DifferentVariant, FormatItem, Iso8601, Rfc2822, Rfc3339,
+    StaticFormatDescription, modifier,
+};
+pub use description_spelling::laws;
+pub use description_tree::{FormatDescriptionV3Inner, Lent};
+pub use description_words::DescriptionVersion;
