@@ -15,3 +15,5 @@ pub mod NestingAgain
 pub mod ItemsAgain
 pub mod FaultyAgain
 pub mod Outcomes
+pub mod Nodes
+pub mod Joined

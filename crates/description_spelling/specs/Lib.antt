@@ -2,3 +2,4 @@ pub mod Heads
 pub mod Spelling
 pub mod Faulty
 pub mod Outcomes
+pub mod Laws

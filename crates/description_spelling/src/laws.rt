@@ -1,10 +1,24 @@
 //! What holds of all descriptions.
 
-ghost use Rattle.std.specs.Prelude.{ℕ, List};
+ghost use Rattle.std.specs.Prelude.{ℕ, ◌+◌, ◌≤◌, List, length};
+ghost use Rattle.description_items.specs.Tree.{Tree};
 ghost use Rattle.description_words.specs.declared.version.DescriptionVersion.{DescriptionVersion};
+ghost use Rattle.description_spelling.specs.Spelling.{Spells, SpellsTree};
 ghost use Rattle.description_spelling.specs.Outcomes.{OneOutcome};
+ghost use Rattle.description_spelling.specs.Laws.{Joins, nodes};
 
 /// In each version a text spells one tree or has one fault, and not both.
 pub fn one_outcome()
     ensures { (version : DescriptionVersion) (text : List ℕ) → OneOutcome version text }
+{}
+
+/// A description behind another one is a description. It has the items of both, save that a literal
+/// that ends the first and one that begins the second are one literal.
+pub fn joined()
+    ensures { (version : DescriptionVersion) (s t : List ℕ) (ss ts : List Tree) → Spells version s ss → Spells version t ts → Joins version s t ss ts }
+{}
+
+/// A tree has at most one node more than its text has bytes.
+pub fn nodes()
+    ensures { (version : DescriptionVersion) (text : List ℕ) (tree : Tree) → SpellsTree version text tree → nodes tree ≤ length text + 1 }
 {}
