@@ -1,8 +1,8 @@
 -- A text that is written into a place of its own first.
-use Rattle.std.proofs.Common.{◌≡◌, ℕ, List, [], ◌∷◌, ◌++◌, ap, sym, subst, ◌∙◌, refl, append-nil, append_assoc}
+use Rattle.std.proofs.Common.{◌≡◌, ℕ, List, [], ◌∷◌, ◌++◌, ap, sym, subst, ◌∙◌, append-nil, append_assoc}
 use Rattle.std.specs.Prelude.{Option, None, Some, option_map, IfSome}
 use Rattle.std.specs.List.{FoldsTo, concat}
-use Rattle.std.specs.Fmt.{WritesInCalls, WritesText}
+use Rattle.std.specs.Fmt.{WritesText}
 use Rattle.std.specs.Fmt.InlineText.{inline_text, IsIntact, AppendsIfIntact}
 use Rattle.std.specs.declared.fmt.InlineText.{InlineText}
 

@@ -1,4 +1,4 @@
-use Rattle.std.proofs.Common.{rules, ◌≡◌, sym, subst, ◌∙◌, option_map, ℕ, List, ◌++◌}
+use Rattle.std.proofs.Common.{◌≡◌, sym, subst}
 use Rattle.std.specs.Prelude.{IfSome}
 use Rattle.std.specs.Fmt.{formatter_spec, styled_text, WritesOnOk, WritesStyledOnOk}
 use Rattle.calendar_count.proofs.PaddingLemmas.{is_written, if_shown, if_shown_so}
