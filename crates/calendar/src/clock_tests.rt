@@ -154,3 +154,18 @@ fn keeps_laws_of_times(rt: HostRuntime) {
     assert_eq!(rt; laws::moved_and_back(sample, SignedDuration::MIN), sample);
     assert_eq!(rt; laws::turned_twice(UtcOffset::UTC), UtcOffset::UTC);
 }
+
+#[test]
+fn prints_times_under_a_width(rt: HostRuntime) -> Result<(), Fail> {
+    let time = Time::from_hms_milli(7, 5, 0, 250)?;
+    assert_eq!(rt;
+        format!(in rt.alloc(); "[{time:12}|{time:>12}|{time:*^13}|{time:3}]")?.as_str(),
+        "[7:05:00.25  |  7:05:00.25|*7:05:00.25**|7:05:00.25]"
+    );
+    let offset = UtcOffset::from_hms(-5, -30, 0)?;
+    assert_eq!(rt;
+        format!(in rt.alloc(); "[{offset:11}|{offset:>11}|{offset:=^12}|{offset:9}]")?.as_str(),
+        "[-05:30:00  |  -05:30:00|=-05:30:00==|-05:30:00]"
+    );
+    Ok(())
+}

@@ -235,3 +235,19 @@ fn keeps_laws_of_durations(rt: HostRuntime) {
         Some(sample())
     );
 }
+
+#[test]
+fn prints_durations_under_a_width(rt: HostRuntime) -> Result<(), Fail> {
+    let (short, none) = (SignedDuration::milliseconds(-1500), SignedDuration::ZERO);
+    assert_eq!(rt;
+        format!(in rt.alloc(); "[{short:9}|{short:>10}|{short:.^11}|{none:>4}|{none:2}]")?.as_str(),
+        "[-1s500ms |  -1s500ms|.-1s500ms..|  0s|0s]"
+    );
+    // A width counts characters, of which `µ` is one.
+    let least = SignedDuration::MIN;
+    assert_eq!(rt;
+        format!(in rt.alloc(); "{least:*>42}")?.as_str(),
+        "**-106751991167300d15h30m8s999ms999µs999ns"
+    );
+    Ok(())
+}

@@ -4,6 +4,7 @@
 mod date_adjustment;
 pub mod digits;
 pub mod laws;
+mod text;
 mod time;
 mod time_moved;
 mod time_of_parts;

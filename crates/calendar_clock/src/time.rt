@@ -7,10 +7,8 @@ ghost use Rattle.std.specs.Ordering.{nat_cmp, as_partial_cmp};
 ghost use Rattle.std.specs.Hash as fed;
 ghost use Rattle.calendar_clock.specs.Time.{second_nanos, day_nanos, hour_at, minute_at, second_at, nanosecond_at, time_of};
 
-use crate::digits;
 use calendar_count::{ComponentName, ComponentRange};
 use std::cmp::Ordering;
-use std::fmt;
 use std::hash::{Hash, Hasher};
 use std::marker::Model;
 
@@ -233,33 +231,5 @@ impl Hash for Time {
 
     fn hash<H: Hasher>(&self, state: &mut H) {
         self.nanosecond_of_day().hash(state);
-    }
-}
-
-impl fmt::Display for Time {
-    ghost use Rattle.std.specs.Prelude.{Some};
-    ghost use Rattle.calendar_clock.specs.Time.{time_text};
-
-    ghost output = { λ t. Some (time_text t) };
-
-    fn fmt<W: fmt::Write>(&self, f: &mut fmt::Formatter<W>) -> fmt::Result {
-        let (hour, minute, second, nanosecond) = self.as_hms_nano();
-        write!(f, "{hour}:")?;
-        digits::write_two(f, minute)?;
-        f.write_str(":")?;
-        digits::write_two(f, second)?;
-        f.write_str(".")?;
-        digits::write_fraction(f, nanosecond)
-    }
-}
-
-impl fmt::Debug for Time {
-    ghost use Rattle.std.specs.Prelude.{Some};
-    ghost use Rattle.calendar_clock.specs.Time.{time_text};
-
-    ghost debug_output = { λ t. Some (time_text t) };
-
-    fn fmt<W: fmt::Write>(&self, f: &mut fmt::Formatter<W>) -> fmt::Result {
-        fmt::Display::fmt(self, f)
     }
 }

@@ -7,10 +7,8 @@ ghost use Rattle.std.specs.Ordering.{int_eq, int_cmp, as_partial_cmp};
 ghost use Rattle.std.specs.Hash as fed;
 ghost use Rattle.calendar_clock.specs.UtcOffset.{greatest_offset, IsOffset, with_sign_of, offset_seconds, offset_of, offset_of_seconds};
 
-use crate::digits;
 use calendar_count::{ComponentName, ComponentRange};
 use std::cmp::Ordering;
-use std::fmt;
 use std::hash::{Hash, Hasher};
 use std::marker::Model;
 use std::ops::Neg;
@@ -246,33 +244,5 @@ impl Hash for UtcOffset {
 
     fn hash<H: Hasher>(&self, state: &mut H) {
         self.whole_seconds().hash(state);
-    }
-}
-
-impl fmt::Display for UtcOffset {
-    ghost use Rattle.std.specs.Prelude.{Some};
-    ghost use Rattle.calendar_clock.specs.UtcOffset.{offset_text};
-
-    ghost output = { λ o. Some (offset_text o) };
-
-    fn fmt<W: fmt::Write>(&self, f: &mut fmt::Formatter<W>) -> fmt::Result {
-        f.write_str(if self.is_negative() { "-" } else { "+" })?;
-        let seconds = self.whole_seconds().unsigned_abs();
-        digits::write_two(f, (seconds / 3600) as u8)?;
-        f.write_str(":")?;
-        digits::write_two(f, (seconds / 60 % 60) as u8)?;
-        f.write_str(":")?;
-        digits::write_two(f, (seconds % 60) as u8)
-    }
-}
-
-impl fmt::Debug for UtcOffset {
-    ghost use Rattle.std.specs.Prelude.{Some};
-    ghost use Rattle.calendar_clock.specs.UtcOffset.{offset_text};
-
-    ghost debug_output = { λ o. Some (offset_text o) };
-
-    fn fmt<W: fmt::Write>(&self, f: &mut fmt::Formatter<W>) -> fmt::Result {
-        fmt::Display::fmt(self, f)
     }
 }

@@ -4,3 +4,4 @@ pub mod ViewLemmas
 pub mod MarchLemmas
 pub mod TheDayLemmas
 pub mod StepLemmas
+mod PaddingLemmas

@@ -4,7 +4,6 @@ pub mod TheDay
 pub mod Closed
 pub mod Place
 pub mod Steps
-pub mod Padding
 pub mod Month
 pub mod Weekday
 pub mod Walks

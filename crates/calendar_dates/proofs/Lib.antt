@@ -1,4 +1,3 @@
 pub mod WeekLemmas
 pub mod DaysLemmas
 pub mod OccurrenceLemmas
-pub mod TextLemmas

@@ -1,6 +1,6 @@
 //! The text of a date.
-ghost use Rattle.std.specs.Prelude.{◌≡◌, ◌≤◌, length, Some};
-ghost use Rattle.std.specs.Fmt.{DisplaysOnOk};
+ghost use Rattle.std.specs.Prelude.{◌≤◌, Some};
+ghost use Rattle.std.specs.Fmt.{DisplaysOnOk, styled_text};
 ghost use Rattle.calendar_count.specs.Range.{greatest_year, IsYear};
 ghost use Rattle.calendar_dates.specs.DateText.{date_text, year_digits, year_text};
 
@@ -11,9 +11,6 @@ use std::fmt;
 
 // The least year of five digits.
 const FIVE_DIGITS: u32 = 10_000;
-
-// And of six.
-const SIX_DIGITS: u32 = 100_000;
 
 // The digits of a year, four at least.
 fn write_digits<W: fmt::Write>(f: &mut fmt::Formatter<W>, years: u32) -> fmt::Result
@@ -42,61 +39,30 @@ fn write_year<W: fmt::Write>(f: &mut fmt::Formatter<W>, year: i32) -> fmt::Resul
     write_digits(f, years)
 }
 
-// How many digits of a year there are.
-#[tactic(auto, using(crate::proofs::TextLemmas::year_lengths))]
-fn digits_len(years: u32) -> usize
-    requires { years ≤ greatest_year }
-    ensures value { result ≡ length (year_digits years) }
-    ensures bound { result ≤ 6 }
-{
-    if years < FIVE_DIGITS {
-        4
-    } else if years < SIX_DIGITS {
-        5
-    } else {
-        6
-    }
-}
+// A date's text, whatever the width.
+#[derive(Clone, Copy)]
+struct Unfilled(Date);
 
-// How many characters a year has, with its sign.
-fn year_len(year: i32) -> usize
-    requires { IsYear year }
-    ensures value { result ≡ length (year_text year) }
-    ensures bound { result ≤ 7 }
-{
-    let years = year.unsigned_abs();
-    let digits = digits_len(years);
-    if year < 0 || years >= FIVE_DIGITS {
-        digits + 1
-    } else {
-        digits
-    }
-}
+impl fmt::Display for Unfilled {
+    ghost output = { λ text. Some (date_text text.0) };
 
-// A date, whatever the width.
-fn write_date<W: fmt::Write>(f: &mut fmt::Formatter<W>, date: Date) -> fmt::Result
-    ensures { DisplaysOnOk W.write_str_gives f.old result (Some (date_text date)) f.new }
-{
-    let (year, month, day) = date.to_calendar_date();
-    write_year(f, year)?;
-    f.write_str("-")?;
-    digits::write_two(f, month.number())?;
-    f.write_str("-")?;
-    digits::write_two(f, day)
+    fn fmt<W: fmt::Write>(&self, f: &mut fmt::Formatter<W>) -> fmt::Result {
+        let (year, month, day) = self.0.to_calendar_date();
+        write_year(f, year)?;
+        f.write_str("-")?;
+        digits::write_two(f, month.number())?;
+        f.write_str("-")?;
+        digits::write_two(f, day)
+    }
 }
 
 impl fmt::Display for Date {
     ghost output = { λ d. Some (date_text d) };
 
+    ghost styled_output = { λ d s. Some (styled_text s (date_text d)) };
+
     fn fmt<W: fmt::Write>(&self, f: &mut fmt::Formatter<W>) -> fmt::Result {
-        if f.width().is_none() {
-            return write_date(f, *self);
-        }
-        // After the year come two signs and two pairs of digits.
-        let (before, after) = padding::around(f, year_len(self.year()) + 6);
-        padding::write_fill(f, before)?;
-        write_date(f, *self)?;
-        padding::write_fill(f, after)
+        padding::pad(f, Unfilled(*self))
     }
 }
 

@@ -1,9 +1,10 @@
 //! Durations as text.
 ghost use Rattle.std.specs.Prelude.{Some};
-ghost use Rattle.std.specs.Fmt.{DisplaysOnOk};
-ghost use Rattle.calendar_spans.specs.DurationText.{part_text, seconds_text, nanoseconds_text};
+ghost use Rattle.std.specs.Fmt.{DisplaysOnOk, styled_text};
+ghost use Rattle.calendar_spans.specs.DurationText.{part_text, seconds_text, nanoseconds_text, duration_text};
 
 use crate::duration::SignedDuration;
+use calendar_count::padding;
 use std::fmt;
 
 // A part that is not 0, and its unit.
@@ -38,27 +39,35 @@ fn write_nanoseconds<W: fmt::Write>(f: &mut fmt::Formatter<W>, nanoseconds: u32)
     write_part(f, nanoseconds % 1000, "ns")
 }
 
-impl fmt::Display for SignedDuration {
-    ghost use Rattle.std.specs.Prelude.{Some};
-    ghost use Rattle.calendar_spans.specs.DurationText.{duration_text};
+// A duration's text, whatever the width.
+#[derive(Clone, Copy)]
+struct Unfilled(SignedDuration);
 
-    ghost output = { λ d. Some (duration_text d) };
+impl fmt::Display for Unfilled {
+    ghost output = { λ text. Some (duration_text text.0) };
 
     fn fmt<W: fmt::Write>(&self, f: &mut fmt::Formatter<W>) -> fmt::Result {
-        if self.is_zero() {
+        if self.0.is_zero() {
             return f.write_str("0s");
         }
-        let (seconds, nanoseconds) = self.length_parts();
-        f.write_str(if self.is_negative() { "-" } else { "" })?;
+        let (seconds, nanoseconds) = self.0.length_parts();
+        f.write_str(if self.0.is_negative() { "-" } else { "" })?;
         write_seconds(f, seconds)?;
         write_nanoseconds(f, nanoseconds)
     }
 }
 
-impl fmt::Debug for SignedDuration {
-    ghost use Rattle.std.specs.Prelude.{Some};
-    ghost use Rattle.calendar_spans.specs.DurationText.{duration_text};
+impl fmt::Display for SignedDuration {
+    ghost output = { λ d. Some (duration_text d) };
 
+    ghost styled_output = { λ d s. Some (styled_text s (duration_text d)) };
+
+    fn fmt<W: fmt::Write>(&self, f: &mut fmt::Formatter<W>) -> fmt::Result {
+        padding::pad(f, Unfilled(*self))
+    }
+}
+
+impl fmt::Debug for SignedDuration {
     ghost debug_output = { λ d. Some (duration_text d) };
 
     fn fmt<W: fmt::Write>(&self, f: &mut fmt::Formatter<W>) -> fmt::Result {

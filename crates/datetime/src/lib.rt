@@ -5,3 +5,5 @@ pub use datetime_types::{OffsetDateTime, PlainDateTime, Timestamp, UtcDateTime};
 
 #[cfg(test)]
 mod tests;
+#[cfg(test)]
+mod width_tests;

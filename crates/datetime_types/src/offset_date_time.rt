@@ -18,6 +18,7 @@ mod views;
 
 use crate::{PlainDateTime, Timestamp, UtcDateTime};
 use calendar::{ComponentRange, Date, Time, UtcOffset};
+use calendar_count::padding;
 use datetime_wall::wall;
 use std::cmp::Ordering;
 use std::fmt;
@@ -278,13 +279,16 @@ impl Hash for OffsetDateTime {
 
 impl fmt::Display for OffsetDateTime {
     ghost use Rattle.std.specs.Prelude.{Some};
+    ghost use Rattle.std.specs.Fmt.{styled_text};
     ghost use Rattle.datetime_types.specs.Texts.{shown_text};
 
     ghost output = { λ m. Some (shown_text m) };
 
+    ghost styled_output = { λ m s. Some (styled_text s (shown_text m)) };
+
     fn fmt<W: fmt::Write>(&self, f: &mut fmt::Formatter<W>) -> fmt::Result {
         let (wall, offset) = (self.wall, self.offset());
-        write!(f, "{wall} {offset}")
+        padding::pad(f, format_args!("{wall} {offset}"))
     }
 }
 

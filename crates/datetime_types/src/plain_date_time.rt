@@ -15,6 +15,7 @@ mod views;
 
 use crate::{OffsetDateTime, UtcDateTime};
 use calendar::{Date, Time, UtcOffset};
+use calendar_count::padding;
 use datetime_wall::wall;
 use std::cmp::Ordering;
 use std::fmt;
@@ -206,13 +207,16 @@ impl Hash for PlainDateTime {
 
 impl fmt::Display for PlainDateTime {
     ghost use Rattle.std.specs.Prelude.{Some};
+    ghost use Rattle.std.specs.Fmt.{styled_text};
     ghost use Rattle.datetime_types.specs.Texts.{plain_text};
 
     ghost output = { λ w. Some (plain_text w) };
 
+    ghost styled_output = { λ w s. Some (styled_text s (plain_text w)) };
+
     fn fmt<W: fmt::Write>(&self, f: &mut fmt::Formatter<W>) -> fmt::Result {
         let (date, time) = (self.date(), self.time());
-        write!(f, "{date} {time}")
+        padding::pad(f, format_args!("{date} {time}"))
     }
 }
 

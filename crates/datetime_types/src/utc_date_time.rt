@@ -19,6 +19,7 @@ mod views;
 
 use crate::{OffsetDateTime, PlainDateTime, Timestamp};
 use calendar::{ComponentRange, Date, Time, UtcOffset};
+use calendar_count::padding;
 use datetime_wall::wall;
 use std::cmp::Ordering;
 use std::fmt;
@@ -237,13 +238,16 @@ impl Hash for UtcDateTime {
 
 impl fmt::Display for UtcDateTime {
     ghost use Rattle.std.specs.Prelude.{Some};
+    ghost use Rattle.std.specs.Fmt.{styled_text};
     ghost use Rattle.datetime_types.specs.Texts.{utc_text};
 
     ghost output = { λ w. Some (utc_text w) };
 
+    ghost styled_output = { λ w s. Some (styled_text s (utc_text w)) };
+
     fn fmt<W: fmt::Write>(&self, f: &mut fmt::Formatter<W>) -> fmt::Result {
         let plain = self.wall;
-        write!(f, "{plain} +00")
+        padding::pad(f, format_args!("{plain} +00"))
     }
 }
 

@@ -1,1 +1,2 @@
 pub mod InnerTrees
+mod Longest

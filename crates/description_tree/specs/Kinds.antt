@@ -2,6 +2,7 @@
 use Rattle.std.specs.Prelude.{Bool, true, false}
 use Rattle.description_items.specs.declared.component.Component.{Component}
 use Rattle.description_items.specs.declared.component.Component.TheVariants as component
+use Rattle.description_items.specs.Tree.{Tree, Part}
 
 abbrev pub is_date_part : Component → Bool
 is_date_part (component.Day m) = true
@@ -48,3 +49,13 @@ is_time_part (component.UnixTimestampMicrosecond m) = true
 is_time_part (component.UnixTimestampNanosecond m) = true
 is_time_part (component.End m) = true
 is_time_part c = false
+
+-- the tree is a component of such a kind
+abbrev pub is_part_of : (Component → Bool) → Tree → Bool
+is_part_of kind (Part c) = kind c
+is_part_of kind t = false
+
+-- the tree is a component
+abbrev pub is_part : Tree → Bool
+is_part (Part c) = true
+is_part t = false

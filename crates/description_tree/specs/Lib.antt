@@ -1,2 +1,4 @@
 pub mod Inner
 pub mod Kinds
+pub mod Reserved
+pub mod Description

@@ -6,6 +6,7 @@ ghost use Rattle.datetime_wall.specs.Wall.{second_nanos};
 
 use crate::Timestamp;
 use calendar_clock::digits;
+use calendar_count::padding;
 use std::fmt;
 
 // Writes a minus where there is one.
@@ -56,18 +57,36 @@ impl Timestamp {
     }
 }
 
+// A timestamp's text, whatever the width.
+#[derive(Clone, Copy)]
+struct Unfilled(Timestamp);
+
+impl fmt::Display for Unfilled {
+    ghost use Rattle.std.specs.Prelude.{Some};
+    ghost use Rattle.datetime_types.specs.Texts.{seconds_text};
+
+    ghost output = { λ text. Some (seconds_text text.0) };
+
+    fn fmt<W: fmt::Write>(&self, f: &mut fmt::Formatter<W>) -> fmt::Result {
+        let (is_negative, seconds, nanoseconds) = self.0.magnitude();
+        write_sign(f, is_negative)?;
+        write!(f, "{seconds}")?;
+        write_fraction(f, nanoseconds)
+    }
+}
+
 /// The exact decimal of the seconds since 1970 began in UTC, with no zero at the end of a fraction.
 impl fmt::Display for Timestamp {
     ghost use Rattle.std.specs.Prelude.{Some};
+    ghost use Rattle.std.specs.Fmt.{styled_text};
     ghost use Rattle.datetime_types.specs.Texts.{seconds_text};
 
     ghost output = { λ t. Some (seconds_text t) };
 
+    ghost styled_output = { λ t s. Some (styled_text s (seconds_text t)) };
+
     fn fmt<W: fmt::Write>(&self, f: &mut fmt::Formatter<W>) -> fmt::Result {
-        let (is_negative, seconds, nanoseconds) = self.magnitude();
-        write_sign(f, is_negative)?;
-        write!(f, "{seconds}")?;
-        write_fraction(f, nanoseconds)
+        padding::pad(f, Unfilled(*self))
     }
 }
 

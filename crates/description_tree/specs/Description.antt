@@ -1,0 +1,8 @@
+-- What a description of version 3 means.
+use Rattle.description_items.specs.Tree.{Tree}
+use Rattle.description_tree.specs.declared.description.FormatDescriptionV3.{FormatDescriptionV3}
+use Rattle.description_tree.specs.Inner.{inner_tree}
+
+-- its tree
+abbrev pub v3_tree : FormatDescriptionV3 → Tree
+v3_tree description = inner_tree description.inner

@@ -1,0 +1,51 @@
+//! Copies that lend nothing.
+
+ghost use Rattle.std.specs.Prelude.{◌≡◌, IfOk};
+ghost use Rattle.description_items.specs.Tree.{Optional};
+ghost use Rattle.description_tree.specs.Inner.{inner_tree, inner_trees};
+
+use crate::inner::FormatDescriptionV3Inner as Inner;
+use std::alloc::{AllocError, Global};
+
+// A copy of the node and all that is in it.
+#[cycle(owned)]
+pub(crate) fn owned<'b>(alloc: Global, node: &Inner<'_>) -> Result<Inner<'b>, AllocError>
+    ensures { IfOk result (λ copy. inner_tree copy ≡ inner_tree node.now) }
+{
+    if let Some(component) = node.component() {
+        return Ok(Inner::from(component));
+    }
+    match node {
+        Inner::BorrowedLiteral(text) => Ok(Inner::OwnedLiteral(String::from_str(alloc, text)?)),
+        Inner::OwnedLiteral(text) => Ok(Inner::OwnedLiteral(String::from_str(alloc, text)?)),
+        Inner::BorrowedCompound(lent) => Ok(Inner::OwnedCompound(all_owned(alloc, lent.items)?)),
+        Inner::OwnedCompound(items) => Ok(Inner::OwnedCompound(all_owned(alloc, items)?)),
+        Inner::BorrowedOptional { format, item } => optional(alloc, *format, item),
+        Inner::OwnedOptional { format, item } => optional(alloc, *format, item),
+        Inner::BorrowedFirst(lent) => Ok(Inner::OwnedFirst(all_owned(alloc, lent.items)?)),
+        Inner::OwnedFirst(items) => Ok(Inner::OwnedFirst(all_owned(alloc, items)?)),
+        _ => unreachable!(),
+    }
+}
+
+// An optional node round a copy of this one.
+#[cycle(owned)]
+fn optional<'b>(alloc: Global, format: bool, node: &Inner<'_>) -> Result<Inner<'b>, AllocError>
+    ensures { IfOk result (λ copy. inner_tree copy ≡ Optional format (inner_tree node.now)) }
+{
+    let copy = owned(alloc, node)?;
+    let item = Box::new(alloc, copy)?;
+    Ok(Inner::OwnedOptional { format, item })
+}
+
+// Copies of all of them.
+#[cycle(owned)]
+fn all_owned<'b>(alloc: Global, nodes: &[Inner<'_>]) -> Result<Vec<Inner<'b>>, AllocError>
+    ensures { IfOk result (λ copies. inner_trees copies.items ≡ inner_trees nodes.now) }
+{
+    let mut copies = Vec::new(alloc);
+    for node in nodes {
+        copies.push(owned(alloc, node)?)?;
+    }
+    Ok(copies)
+}
