@@ -14,3 +14,6 @@ pub use description_items::{
 pub use description_spelling::laws;
 pub use description_tree::{FormatDescriptionV3, FormatDescriptionV3Inner, Lent};
 pub use description_words::DescriptionVersion;
+
+#[cfg(test)]
+mod tests;
