@@ -3,6 +3,7 @@
 
 mod calls;
 mod described;
+pub mod laws;
 
 pub use calls::{parse, parse_borrowed};
 pub use described::Description;
@@ -11,7 +12,6 @@ pub use description_items::{
     BorrowedFormatItem, Component, DifferentVariant, FormatItem, Iso8601, Rfc2822, Rfc3339,
     StaticFormatDescription, modifier,
 };
-pub use description_spelling::laws;
 pub use description_tree::{FormatDescriptionV3, FormatDescriptionV3Inner, Lent};
 pub use description_words::DescriptionVersion;
 

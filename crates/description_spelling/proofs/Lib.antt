@@ -15,13 +15,3 @@ pub mod NestingAgain
 pub mod ItemsAgain
 pub mod FaultyAgain
 pub mod Outcomes
-pub mod Nodes
-pub mod Joined
-pub mod Widths
-pub mod Room
-pub mod Tables
-pub mod TwoTables
-pub mod TwoVersions
-pub mod Letters
-pub mod CasedTables
-pub mod LetterCase

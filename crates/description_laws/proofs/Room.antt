@@ -7,7 +7,7 @@ use Rattle.description_words.specs.declared.version.DescriptionVersion.TheVarian
 use Rattle.description_tree.specs.Reserved.{reserved, reserved_in_turn, greatest_reserved}
 use Rattle.description_spelling.specs.Heads.{SpellsLiteral, SpellsEscape, SpellsNesting}
 use Rattle.description_spelling.specs.Spelling.{SpellsItems, SpellsItem, SpellsNested, SpellsAlternatives, SpellsTree}
-use Rattle.description_spelling.proofs.Widths.{component_width}
+use Rattle.description_laws.proofs.Widths.{component_width}
 
 -- an opening and a closing bracket stand round what is nested
 room_inside : (name own : List ℕ) (Inside : List ℕ → Type 0) (h : SpellsNesting Three name own Inside) → length h.inside ≤ length own

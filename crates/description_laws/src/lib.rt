@@ -1,4 +1,5 @@
-//! What holds of all descriptions.
+//! What holds of descriptions: laws, each the contract of a function.
+#![tactic(auto)]
 
 ghost use Rattle.std.specs.Prelude.{◌≡◌, ℕ, ◌+◌, ◌≤◌, true, false, List, ◌∷◌, ◌++◌, length};
 ghost use Rattle.std.specs.Str.{str_eq_ignore_ascii_case};
@@ -10,14 +11,10 @@ ghost use Rattle.description_words.specs.Version.{is_three};
 ghost use Rattle.description_tree.specs.Reserved.{reserved};
 ghost use Rattle.description_spelling.specs.Heads.{SpellsComponent};
 ghost use Rattle.description_spelling.specs.Spelling.{Spells, SpellsTree};
-ghost use Rattle.description_spelling.specs.Outcomes.{OneOutcome};
-ghost use Rattle.description_spelling.specs.Versions.{IsFlat, InTwo};
-ghost use Rattle.description_spelling.specs.Laws.{Joins, nodes};
+ghost use Rattle.description_laws.specs.Versions.{IsFlat, InTwo};
+ghost use Rattle.description_laws.specs.Laws.{Joins, nodes};
 
-/// In each version a text spells one tree or has one fault, and not both.
-pub fn one_outcome()
-    ensures { (version : DescriptionVersion) (text : List ℕ) → OneOutcome version text }
-{}
+pub use description_spelling::one_outcome;
 
 /// A description behind another one is a description. It has the items of both, save that a literal
 /// that ends the first and one that begins the second are one literal.

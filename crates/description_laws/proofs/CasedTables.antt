@@ -18,7 +18,7 @@ use Rattle.description_tables.specs.Values.{padding_of, flag_of, base_of, sign_o
 use Rattle.description_tables.specs.Chosen.{with_value}
 use Rattle.description_spelling.specs.Heads.{is_nesting}
 use Rattle.description_spelling.proofs.Runs.{which}
-use Rattle.description_spelling.proofs.Letters.{Alike, lower_same, digits_alike, digits_same}
+use Rattle.description_laws.proofs.Letters.{Alike, lower_same, digits_alike, digits_same}
 
 padding_cased : (v : DescriptionVersion) (w u : List ℕ) → is_three v ≡ false → str_to_ascii_lowercase w ≡ str_to_ascii_lowercase u → padding_of v w ≡ padding_of v u
 unfolding padding_of

@@ -9,7 +9,7 @@ use Rattle.description_words.specs.declared.version.DescriptionVersion.TheVarian
 use Rattle.description_words.specs.Text.{is_bracket, is_plain}
 use Rattle.description_spelling.specs.Heads.{Stops, SpellsLiteral, SpellsEscape, SpellsOpening, SpellsNesting}
 use Rattle.description_spelling.specs.Spelling.{SpellsItem, Spells}
-use Rattle.description_spelling.specs.Laws.{EndsIn, IsFirm, AreApart, Joins}
+use Rattle.description_laws.specs.Laws.{EndsIn, IsFirm, AreApart, Joins}
 use Rattle.description_spelling.proofs.Runs.{which, each_append}
 use Rattle.description_spelling.proofs.Texts.{text_some}
 use Rattle.description_spelling.proofs.Items.{item_front}

@@ -5,7 +5,7 @@ use Rattle.description_items.specs.Tree.{Tree, Literal, Part, Compound, Optional
 use Rattle.description_words.specs.declared.version.DescriptionVersion.{DescriptionVersion}
 use Rattle.description_spelling.specs.Heads.{SpellsNesting}
 use Rattle.description_spelling.specs.Spelling.{SpellsItems, SpellsItem, SpellsNested, SpellsAlternatives, SpellsTree}
-use Rattle.description_spelling.specs.Laws.{nodes, all_nodes}
+use Rattle.description_laws.specs.Laws.{nodes, all_nodes}
 use Rattle.description_spelling.proofs.Texts.{text_some}
 
 -- an opening and a closing bracket leave room for a node

@@ -12,8 +12,8 @@ use Rattle.description_spelling.specs.Heads.{Stops, SpellsModifier, SpellsModifi
 use Rattle.description_spelling.specs.Spelling.{Spells}
 use Rattle.description_spelling.proofs.Runs.{at_index}
 use Rattle.description_spelling.proofs.Meaning.{AreAlike, AllAlike, component_moved}
-use Rattle.description_spelling.proofs.Letters.{IsLetter, space_agrees, colon_agrees, Alike, alike_from, lower_same, alike_length, alike_each, alike_word, CutAlike, cut_alike, alike_byte, alike_nothing}
-use Rattle.description_spelling.proofs.CasedTables.{name_cased, key_cased, nesting_cased, value_cased}
+use Rattle.description_laws.proofs.Letters.{IsLetter, space_agrees, colon_agrees, Alike, alike_from, lower_same, alike_length, alike_each, alike_word, CutAlike, cut_alike, alike_byte, alike_nothing}
+use Rattle.description_laws.proofs.CasedTables.{name_cased, key_cased, nesting_cased, value_cased}
 use Rattle.description_spelling.proofs.ItemsAgain.{item_more}
 
 -- what stands between words is no letter

@@ -1,5 +1,5 @@
-use Rattle.description_spelling.proofs.LetterCase.{component_cased, text_cased}
-use Rattle.description_spelling.proofs.laws.letter_case.Goals as goal
+use Rattle.description_laws.proofs.LetterCase.{component_cased, text_cased}
+use Rattle.description_laws.proofs.letter_case.Goals as goal
 
 pub returns-clause-component : goal.returns-clause-component
 returns-clause-component c = component_cased

@@ -1,0 +1,9 @@
+use Rattle.description_laws.proofs.Nodes.{tree_nodes}
+use Rattle.description_laws.proofs.Room.{tree_room}
+use Rattle.description_laws.proofs.reserved.Goals as goal
+
+pub returns-clause-bytes : goal.returns-clause-bytes
+returns-clause-bytes c = tree_room
+
+pub returns-clause-nodes : goal.returns-clause-nodes
+returns-clause-nodes c = tree_nodes
