@@ -16,4 +16,6 @@ pub mod ItemsAgain
 pub mod FaultyAgain
 pub mod Outcomes
 pub mod Nodes
+pub mod Widths
+pub mod Reserved
 pub mod Joined
