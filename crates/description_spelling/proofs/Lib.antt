@@ -16,6 +16,4 @@ pub mod ItemsAgain
 pub mod FaultyAgain
 pub mod Outcomes
 pub mod Nodes
-pub mod Widths
-pub mod Reserved
 pub mod Joined

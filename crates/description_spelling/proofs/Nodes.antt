@@ -9,7 +9,7 @@ use Rattle.description_spelling.specs.Laws.{nodes, all_nodes}
 use Rattle.description_spelling.proofs.Texts.{text_some}
 
 -- an opening and a closing bracket leave room for a node
-pub nesting_room : (v : DescriptionVersion) (name own : List ℕ) (Inside : List ℕ → Type 0) (h : SpellsNesting v name own Inside) → 1 + length h.inside ≤ length own
+nesting_room : (v : DescriptionVersion) (name own : List ℕ) (Inside : List ℕ → Type 0) (h : SpellsNesting v name own Inside) → 1 + length h.inside ≤ length own
 nesting_room v name own Inside h = omega (arith, ap (length {A = ℕ}) h.parts, length-append h.opening (h.inside ++ 93 ∷ []), length-append h.inside (93 ∷ []))
 
 mutual

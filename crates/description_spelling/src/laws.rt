@@ -3,8 +3,6 @@
 ghost use Rattle.std.specs.Prelude.{ℕ, ◌+◌, ◌≤◌, List, length};
 ghost use Rattle.description_items.specs.Tree.{Tree};
 ghost use Rattle.description_words.specs.declared.version.DescriptionVersion.{DescriptionVersion};
-ghost use Rattle.description_words.specs.declared.version.DescriptionVersion.TheVariants.{Three};
-ghost use Rattle.description_tree.specs.Reserved.{reserved};
 ghost use Rattle.description_spelling.specs.Spelling.{Spells, SpellsTree};
 ghost use Rattle.description_spelling.specs.Outcomes.{OneOutcome};
 ghost use Rattle.description_spelling.specs.Laws.{Joins, nodes};
@@ -23,9 +21,4 @@ pub fn joined()
 /// A tree has at most one node more than its text has bytes.
 pub fn nodes()
     ensures { (version : DescriptionVersion) (text : List ℕ) (tree : Tree) → SpellsTree version text tree → nodes tree ≤ length text + 1 }
-{}
-
-/// A tree of version 3 reserves at most as many bytes as its text has.
-pub fn reserves()
-    ensures { (text : List ℕ) (tree : Tree) → SpellsTree Three text tree → reserved tree ≤ length text }
 {}
