@@ -1,9 +1,32 @@
 -- What is made of a text, as a tree.
+use Rattle.std.specs.Prelude.{ℕ, Bool, true, false, List, Result, Ok}
 use Rattle.std.specs.Global.{Vec}
+use Rattle.description_faults.specs.Fault.{Fault}
+use Rattle.description_faults.specs.Answer.{◌>>=◌}
 use Rattle.description_items.specs.declared.item.BorrowedFormatItem.{BorrowedFormatItem}
 use Rattle.description_items.specs.Tree.{Tree, trees}
+use Rattle.description_words.specs.declared.version.DescriptionVersion.{DescriptionVersion}
+use Rattle.description_tree.specs.Description.{v3_tree}
+use Rattle.description_reading.specs.Reading.{read_items}
 use Rattle.description_spelling.specs.Outcomes.{joined}
+use Rattle.description.specs.declared.described.Description.{Description}
+use Rattle.description.specs.declared.described.Description.TheVariants as description
 
 -- items, one after the other
 abbrev pub items_tree : Vec BorrowedFormatItem → Tree
 items_tree v = joined (trees v.items)
+
+-- the same for each version
+abbrev pub described : Description → Tree
+described (description.Items v) = items_tree v
+described (description.V3 d) = v3_tree d
+
+abbrev pub has_tree : Description → Bool
+has_tree (description.Items v) = false
+has_tree (description.V3 d) = true
+
+-- what is read of a text, as one tree
+abbrev pub read_joined : DescriptionVersion → List ℕ → Result Tree Fault
+read_joined v text = do
+  items ← read_items v text
+  Ok (joined items)

@@ -1,18 +1,20 @@
 //! Descriptions from their texts.
 
-ghost use Rattle.std.specs.Prelude.{List, Ok, Err};
+ghost use Rattle.std.specs.Prelude.{◌≡◌, true, false, Ok, Err, IfOk};
 ghost use Rattle.description_faults.specs.Fault.{Fault};
 ghost use Rattle.description_faults.specs.Answer.{Gives};
 ghost use Rattle.description_items.specs.Tree.{Tree};
-ghost use Rattle.description_words.specs.declared.version.DescriptionVersion.TheVariants.{One};
+ghost use Rattle.description_words.specs.declared.version.DescriptionVersion.TheVariants.{One, Three};
+ghost use Rattle.description_words.specs.Version.{is_three};
 ghost use Rattle.description_spelling.specs.Spelling.{SpellsTree};
 ghost use Rattle.description_spelling.specs.Faulty.{Faulty};
 ghost use Rattle.description_spelling.specs.Outcomes.{Outcome};
-ghost use Rattle.description.specs.Described.{items_tree};
+ghost use Rattle.description.specs.Described.{items_tree, described, has_tree, read_joined};
 
+use crate::described::Description;
 use description_faults::DescriptionFault;
 use description_items::BorrowedFormatItem;
-use description_reading::items_of;
+use description_reading::{items_of, tree_of};
 use description_words::DescriptionVersion;
 use std::alloc::Global;
 
@@ -30,4 +32,60 @@ pub fn parse<'a>(
     ensures fault { (e : Fault) → Faulty One s.now e → Gives items_tree result (Err e) }
 {
     items_of(alloc, DescriptionVersion::One, s)
+}
+
+/// A description of this version: items of version 1 or 2, or the tree of version 3.
+///
+/// The error says what is wrong with the text, and at which byte of it, or that memory ran out.
+pub fn parse_borrowed<'a>(
+    alloc: Global,
+    version: DescriptionVersion,
+    s: &'a str,
+) -> Result<Description<'a>, DescriptionFault<'a>>
+    ensures outcome { Outcome described version s.now result }
+    ensures form { IfOk result (λ description. has_tree description ≡ is_three version) }
+    // What the text spells is answered, unless memory runs out.
+    ensures tree { (t : Tree) → SpellsTree version s.now t → Gives described result (Ok t) }
+    // So is its fault.
+    ensures fault { (e : Fault) → Faulty version s.now e → Gives described result (Err e) }
+{
+    read(alloc, version, s)
+}
+
+// The same, as what is read.
+fn read<'a>(
+    alloc: Global,
+    version: DescriptionVersion,
+    s: &'a str,
+) -> Result<Description<'a>, DescriptionFault<'a>>
+    ensures value { Gives described result (read_joined version s.now) }
+    ensures form { IfOk result (λ description. has_tree description ≡ is_three version) }
+{
+    match version {
+        DescriptionVersion::Three => read_three(alloc, s),
+        DescriptionVersion::One | DescriptionVersion::Two => read_items(alloc, version, s),
+    }
+}
+
+#[tactic(auto, unfolding(description_reading::specs::Reading::read_tree))]
+fn read_three<'a>(alloc: Global, s: &'a str) -> Result<Description<'a>, DescriptionFault<'a>>
+    ensures value { Gives described result (read_joined Three s.now) }
+    ensures form { IfOk result (λ description. has_tree description ≡ true) }
+{
+    match tree_of(alloc, s)?.into_opaque() {
+        Ok(description) => Ok(Description::V3(description)),
+        Err(_) => unreachable!(),
+    }
+}
+
+fn read_items<'a>(
+    alloc: Global,
+    version: DescriptionVersion,
+    s: &'a str,
+) -> Result<Description<'a>, DescriptionFault<'a>>
+    requires version { is_three version ≡ false }
+    ensures value { Gives described result (read_joined version s.now) }
+    ensures form { IfOk result (λ description. has_tree description ≡ false) }
+{
+    Ok(Description::Items(items_of(alloc, version, s)?))
 }

@@ -2,13 +2,15 @@
 #![tactic(auto)]
 
 mod calls;
+mod described;
 
-pub use calls::parse;
+pub use calls::{parse, parse_borrowed};
+pub use described::Description;
 pub use description_faults::{DescriptionFault, InvalidFormatDescription};
 pub use description_items::{
     BorrowedFormatItem, Component, DifferentVariant, FormatItem, Iso8601, Rfc2822, Rfc3339,
     StaticFormatDescription, modifier,
 };
 pub use description_spelling::laws;
-pub use description_tree::{FormatDescriptionV3Inner, Lent};
+pub use description_tree::{FormatDescriptionV3, FormatDescriptionV3Inner, Lent};
 pub use description_words::DescriptionVersion;

@@ -17,3 +17,5 @@ pub mod FaultyAgain
 pub mod Outcomes
 pub mod Nodes
 pub mod Joined
+pub mod Widths
+pub mod Room

@@ -6,8 +6,9 @@ use Rattle.description_faults.specs.declared.description_fault.DescriptionFault.
 use Rattle.description_faults.specs.declared.description_fault.DescriptionFault.TheVariants as errors
 use Rattle.description_items.specs.Tree.{Tree, Literal, Part, Compound, Optional, First, Trees}
 use Rattle.description_words.specs.declared.version.DescriptionVersion.{DescriptionVersion}
+use Rattle.description_words.specs.declared.version.DescriptionVersion.TheVariants.{Three}
 use Rattle.description_words.proofs.Readings.{bind_ok, ok_is}
-use Rattle.description_reading.specs.Reading.{read_items}
+use Rattle.description_reading.specs.Reading.{read_items, read_tree}
 use Rattle.description_spelling.specs.Spelling.{SpellsItems, Spells, SpellsTree}
 use Rattle.description_spelling.specs.Faulty.{Faulty}
 use Rattle.description_spelling.specs.Outcomes.{OneOutcome, Outcome, joined}
@@ -66,3 +67,9 @@ gives_tree view v text r h t spelled =
 
 pub gives_fault : {X : Type 0} (view : X → Tree) (v : DescriptionVersion) (text : List ℕ) (r : Result X DescriptionFault) → Gives view r (tree_of_read (read_items v text)) → (e : Fault) → Faulty v text e → Gives view r (Err e)
 gives_fault view v text r h e faulty = subst (λ (read : Result Tree Fault). Gives view r read) (ap tree_of_read (faulty_is_refused v text e faulty)) h
+
+pub tree_is_spelled : (text : List ℕ) (t : Tree) → read_tree text ≡ Ok t → SpellsTree Three text t
+unfolding read_tree
+tree_is_spelled text t e =
+    let a = bind_ok (read_items Three text) (λ ts. ok_tree (joined ts)) t e in
+    subst (SpellsTree Three text) (ok_is (joined a.0) t a.2) (read_is_spelled Three text a.0 a.1)

@@ -3,6 +3,8 @@
 ghost use Rattle.std.specs.Prelude.{ℕ, ◌+◌, ◌≤◌, List, length};
 ghost use Rattle.description_items.specs.Tree.{Tree};
 ghost use Rattle.description_words.specs.declared.version.DescriptionVersion.{DescriptionVersion};
+ghost use Rattle.description_words.specs.declared.version.DescriptionVersion.TheVariants.{Three};
+ghost use Rattle.description_tree.specs.Reserved.{reserved};
 ghost use Rattle.description_spelling.specs.Spelling.{Spells, SpellsTree};
 ghost use Rattle.description_spelling.specs.Outcomes.{OneOutcome};
 ghost use Rattle.description_spelling.specs.Laws.{Joins, nodes};
@@ -18,7 +20,9 @@ pub fn joined()
     ensures { (version : DescriptionVersion) (s t : List ℕ) (ss ts : List Tree) → Spells version s ss → Spells version t ts → Joins version s t ss ts }
 {}
 
-/// A tree has at most one node more than its text has bytes.
-pub fn nodes()
-    ensures { (version : DescriptionVersion) (text : List ℕ) (tree : Tree) → SpellsTree version text tree → nodes tree ≤ length text + 1 }
+/// A tree of version 3 reserves no more bytes than its text has, so reading one never meets too many.
+/// The tree of any version has at most one node more than its text has bytes.
+pub fn reserved()
+    ensures bytes { (text : List ℕ) (tree : Tree) → SpellsTree Three text tree → reserved tree ≤ length text }
+    ensures nodes { (version : DescriptionVersion) (text : List ℕ) (tree : Tree) → SpellsTree version text tree → nodes tree ≤ length text + 1 }
 {}
