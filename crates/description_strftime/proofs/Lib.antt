@@ -1,0 +1,11 @@
+pub mod Again
+pub mod Cuts
+pub mod Flags
+pub mod Parts
+pub mod Refused
+pub mod RefusedAgain
+pub mod Relations
+pub mod Runs
+pub mod Sound
+pub mod Steps
+pub mod Outcomes
