@@ -1,4 +1,5 @@
 pub mod Again
+pub mod Composites
 pub mod Cuts
 pub mod Flags
 pub mod Parts
@@ -8,4 +9,5 @@ pub mod Relations
 pub mod Runs
 pub mod Sound
 pub mod Steps
+pub mod Joins
 pub mod Outcomes

@@ -1,4 +1,6 @@
+pub mod Composites
 pub mod Faulty
+pub mod Joined
 pub mod Letters
 pub mod Outcomes
 pub mod Reading

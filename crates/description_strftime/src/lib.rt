@@ -9,3 +9,6 @@ mod numbers;
 mod strftime;
 
 pub use strftime::parse_strftime_borrowed;
+
+#[cfg(test)]
+mod tests;
