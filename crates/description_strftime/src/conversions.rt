@@ -54,15 +54,16 @@ fn refusal<'a>(first: u8, left: Left<'a>) -> InvalidFormatDescription<'a>
     requires { 0 < length left.text.now }
     ensures value { fault_of result ≡ refusal (refused first) (piece left.entry) }
 {
+    let index = left.index;
     match refused(first) {
         Some(what) => InvalidFormatDescription::NotSupported {
             what,
             context: "strftime",
-            index: left.index,
+            index,
         },
         None => InvalidFormatDescription::InvalidComponentName {
             name: cut(left, character_len(left.text)).0.text,
-            index: left.index,
+            index,
         },
     }
 }
