@@ -9,10 +9,10 @@ use Rattle.description_strftime.proofs.Parts.{joined_append}
 use Rattle.description_strftime.proofs.Again.{part_some}
 
 -- what follows a literal, or nothing, where more follows
-abbrev Follows : List ℕ → List ℕ → Type 0
+abbrev pub Follows : List ℕ → List ℕ → Type 0
 Follows rest t = (0 < length rest) ⊎ Stops is_plain t
 
-each_append : (p : ℕ → Bool) (xs ys : List ℕ) → Each p xs → Each p ys → Each p (xs ++ ys)
+pub each_append : (p : ℕ → Bool) (xs ys : List ℕ) → Each p xs → Each p ys → Each p (xs ++ ys)
 each_append p [] ys h k = k
 each_append p (x ∷ xs) ys h k = (h.0, each_append p xs ys h.1 k)
 
@@ -35,13 +35,13 @@ follows_front more parts rest t h (inl some) = inl (front_le more parts rest h s
 follows_front more parts rest t h (inr stops) = inr stops
 
 -- more text behind
-front_longer : (text : List ℕ) (parts : List (List Tree)) (rest t : List ℕ) → SpellsFront text parts rest → Follows rest t → SpellsFront (text ++ t) parts (rest ++ t)
+pub front_longer : (text : List ℕ) (parts : List (List Tree)) (rest t : List ℕ) → SpellsFront text parts rest → Follows rest t → SpellsFront (text ++ t) parts (rest ++ t)
 front_longer text [] rest t e f = ap (λ (l : List ℕ). l ++ t) e
 front_longer text (part ∷ parts) rest t (own, more, is_text, is_part, others) f =
     (own, more ++ t, ap (λ (l : List ℕ). l ++ t) is_text ∙ append_assoc own more t, part_longer own more t part is_part (follows_front more parts rest t others f), front_longer more parts rest t others f)
 
 -- more parts behind
-front_joins : (text : List ℕ) (parts : List (List Tree)) (rest : List ℕ) (others : List (List Tree)) (last : List ℕ) → SpellsFront text parts rest → SpellsFront rest others last → SpellsFront text (parts ++ others) last
+pub front_joins : (text : List ℕ) (parts : List (List Tree)) (rest : List ℕ) (others : List (List Tree)) (last : List ℕ) → SpellsFront text parts rest → SpellsFront rest others last → SpellsFront text (parts ++ others) last
 front_joins text [] rest others last e h = subst (λ (l : List ℕ). SpellsFront l others last) (sym e) h
 front_joins text (part ∷ parts) rest others last (own, more, is_text, is_part, next) h = (own, more, is_text, is_part, front_joins more parts rest others last next h)
 
@@ -50,7 +50,7 @@ no_more [] e = refl
 no_more (part ∷ parts) (own, more, is_text, is_part, others) = absurd (omega (arith, part_some own more part is_part, ap (length {A = ℕ}) is_text, length-append own more))
 
 -- a text ends in a literal, or whatever follows it is read on its own
-abbrev Closed : List ℕ → List (List Tree) → Type 0
+abbrev pub Closed : List ℕ → List (List Tree) → Type 0
 Closed text parts = (t : List ℕ) → SpellsFront (text ++ t) parts t
 
 longer_by : (text own more t : List ℕ) → text ≡ own ++ more → text ++ t ≡ own ++ (more ++ t)
@@ -66,7 +66,7 @@ last_literal text own part parts is_text h others = record {
   means = ap (λ (l : List Tree). part ++ l) (no_more parts others) ∙ (append-nil part ∙ h.means);
 }
 
-ends_or_closed : (text : List ℕ) (parts : List (List Tree)) → SpellsFront text parts [] → EndsInLiteral text (joined parts) ⊎ Closed text parts
+pub ends_or_closed : (text : List ℕ) (parts : List (List Tree)) → SpellsFront text parts [] → EndsInLiteral text (joined parts) ⊎ Closed text parts
 ends_or_closed text [] e = inr (λ t. ap (λ (l : List ℕ). l ++ t) e)
 ends_or_closed text (part ∷ parts) (own, more, is_text, is_part, others) =
     elim (ends_or_closed more parts others) [

@@ -1,6 +1,7 @@
 pub mod Again
 pub mod Composites
 pub mod Cuts
+pub mod FaultsBehind
 pub mod Flags
 pub mod Parts
 pub mod Refused

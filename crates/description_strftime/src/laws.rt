@@ -1,8 +1,11 @@
 //! What holds of all descriptions by letters.
 
-ghost use Rattle.std.specs.Prelude.{ℕ, List, codes};
+ghost use Rattle.std.specs.Prelude.{ℕ, List, ◌++◌, length, codes};
+ghost use Rattle.description_faults.specs.Fault.{Fault};
 ghost use Rattle.description_items.specs.Tree.{Tree};
 ghost use Rattle.description_strftime.specs.Composites.{SpellSame};
+ghost use Rattle.description_strftime.specs.Faulty.{FaultyStrftime};
+ghost use Rattle.description_strftime.specs.Further.{further};
 ghost use Rattle.description_strftime.specs.Joined.{Joins};
 ghost use Rattle.description_strftime.specs.Outcomes.{OneOutcome};
 ghost use Rattle.description_strftime.specs.Spelled.{SpellsStrftime};
@@ -16,6 +19,12 @@ pub fn one_outcome()
 /// the first text and one begins the second, these two are one literal there.
 pub fn joined()
     ensures holds { (s t : List ℕ) (a b : List Tree) → SpellsStrftime s a → SpellsStrftime t b → Joins s t a b }
+{}
+
+/// A text that spells items, followed by one that has a fault, has that fault, as many bytes further on as the
+/// first text is long.
+pub fn faults_behind()
+    ensures holds { (s t : List ℕ) (items : List Tree) (fault : Fault) → SpellsStrftime s items → FaultyStrftime t fault → FaultyStrftime (s ++ t) (further (length s) fault) }
 {}
 
 /// A composite letter stands for what its expansion spells.
