@@ -19,7 +19,7 @@ const REFUSED: u8 = 1;
 const USAGE: u8 = 2;
 
 fn main(rt: HostRuntime) -> ExitCode {
-    let Some(language) = language(&rt) else {
+    let Some(language) = named_language(&rt) else {
         let _ = eprintln!(rt; "usage: description_check 1|2|3|strftime");
         return ExitCode::from(USAGE);
     };
@@ -53,7 +53,7 @@ enum Language {
 }
 
 // The one word on the command line.
-fn language(rt: &HostRuntime) -> Option<Language> {
+fn named_language(rt: &HostRuntime) -> Option<Language> {
     let args = env::args(rt).ok()?;
     let args: Vec<String> = args.skip(1).collect(rt.alloc()).ok()?;
     if args.len() != 1 {
