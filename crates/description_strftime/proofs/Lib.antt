@@ -3,6 +3,8 @@ pub mod Composites
 pub mod Cuts
 pub mod FaultsBehind
 pub mod Flags
+pub mod Joins
+pub mod Outcomes
 pub mod Parts
 pub mod Refused
 pub mod RefusedAgain
@@ -10,5 +12,3 @@ pub mod Relations
 pub mod Runs
 pub mod Sound
 pub mod Steps
-pub mod Joins
-pub mod Outcomes

@@ -10,7 +10,7 @@ ghost use Rattle.description_strftime.specs.Joined.{Joins};
 ghost use Rattle.description_strftime.specs.Outcomes.{OneOutcome};
 ghost use Rattle.description_strftime.specs.Spelled.{SpellsStrftime};
 
-/// No text spells two lists of items, has two faults, or spells items and has a fault.
+/// Each text spells one list of items or has one fault, and none does both.
 pub fn one_outcome()
     ensures holds { (text : List ℕ) → OneOutcome text }
 {}

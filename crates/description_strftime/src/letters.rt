@@ -1,6 +1,6 @@
 //! What letters stand for.
 
-ghost use Rattle.std.specs.Prelude.{◌≡◌, ◌<◌, ◌∷◌, [], IfSome};
+ghost use Rattle.std.specs.Prelude.{◌≡◌, ◌<◌, IfSome};
 ghost use Rattle.std.specs.Option.{option_map};
 ghost use Rattle.description_items.specs.Tree.{tree_of};
 ghost use Rattle.description_strftime.specs.Letters.{flag_of, text_of, item_of, composite, letter_items, refused};

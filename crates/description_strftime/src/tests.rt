@@ -318,3 +318,17 @@ fn lacking_letters(rt: HostRuntime) -> Result<(), Fail> {
     }
     Ok(())
 }
+
+#[test]
+fn a_long_text(rt: HostRuntime) -> Result<(), Fail> {
+    let mut long = String::new(rt.alloc());
+    for _ in 0..10_000 {
+        long.push_str("%d, ")?;
+    }
+    match parse_strftime_borrowed(rt.alloc(), long.as_str()) {
+        Ok(all) => assert_eq!(rt; all.len(), 20_000),
+        Err(DescriptionFault::Memory) => return Err(Fail::from(AllocError)),
+        Err(DescriptionFault::Description(_)) => assert!(rt; false),
+    }
+    Ok(())
+}
