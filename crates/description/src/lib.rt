@@ -15,3 +15,6 @@ pub use description_spelling::laws;
 pub use description_strftime::{laws as strftime_laws, parse_strftime_borrowed};
 pub use description_tree::{FormatDescriptionV3, FormatDescriptionV3Inner, Lent};
 pub use description_words::DescriptionVersion;
+
+#[cfg(test)]
+mod tests;
