@@ -17,4 +17,6 @@ pub use description_tree::{FormatDescriptionV3, FormatDescriptionV3Inner, Lent};
 pub use description_words::DescriptionVersion;
 
 #[cfg(test)]
+mod fault_tests;
+#[cfg(test)]
 mod tests;
