@@ -19,3 +19,6 @@ pub mod Nodes
 pub mod Joined
 pub mod Widths
 pub mod Room
+pub mod Tables
+pub mod TwoTables
+pub mod TwoVersions

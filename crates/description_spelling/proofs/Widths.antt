@@ -3,7 +3,6 @@ use Rattle.std.proofs.Common.{◌≡◌, ℕ, ◌+◌, ◌≤◌, ◌<◌, List,
 use Rattle.std.specs.Prelude.{codes, ◌&&◌}
 use Rattle.std.specs.Option.{option_map}
 use Rattle.std.proofs.lemmas.List.{length-append}
-use Rattle.std.proofs.lemmas.Slice.Eq.{bytes_eq-Decides}
 use Rattle.description_faults.specs.Fault.{Fault, DuplicateModifier, MissingRequiredModifier, InvalidComponentName}
 use Rattle.description_faults.specs.Answer.{◌>>=◌}
 use Rattle.description_date_modifiers.specs.declared.choices.Padding.{Padding}
@@ -27,81 +26,22 @@ use Rattle.description_items.specs.Modern.{modern_month, modern_weekday, modern_
 use Rattle.description_words.specs.declared.version.DescriptionVersion.TheVariants.{Three}
 use Rattle.description_words.specs.Version.{is_three}
 use Rattle.description_words.specs.Text.{Piece}
-use Rattle.description_words.specs.Words.{Modifier, is_named}
+use Rattle.description_words.specs.Words.{Modifier}
 use Rattle.description_words.proofs.Readings.{bind_ok, ok_is, not_ok, chosen}
 use Rattle.description_tables.specs.declared.names.Name.{Name}
 use Rattle.description_tables.specs.declared.names.Name.TheVariants as name
 use Rattle.description_tables.specs.declared.keys.Key.{Key}
 use Rattle.description_tables.specs.declared.keys.Key.TheVariants as key
 use Rattle.description_tables.specs.declared.chosen.Chosen.{Chosen}
-use Rattle.description_tables.specs.Names.{time_name_of, name_of, name_text}
+use Rattle.description_tables.specs.Names.{name_of, name_text}
 use Rattle.description_tables.specs.Keys.{key_of, has_key}
 use Rattle.description_tables.specs.Values.{sign_of}
 use Rattle.description_tables.specs.Chosen.{nothing, with_value, is_chosen}
 use Rattle.description_tables.specs.Made.{made}
-use Rattle.description_tables.specs.Component.{found, bad, key_among, key_in, with_modifier, with_modifiers, combined, named, component_of}
+use Rattle.description_tables.specs.Component.{found, bad, key_in, with_modifier, with_modifiers, combined, named, component_of}
 use Rattle.description_tree.specs.Reserved.{digits_width, width_of}
+use Rattle.description_spelling.proofs.Tables.{some_is, none_not, name_is, key_text, key_is, sign_is, key_found, value_found, found_is}
 use Rattle.description_spelling.specs.Heads.{SpellsModifiers, SpellsComponent}
-
--- ---- words by their tables
-
-some_is : {A : Type 0} (x y : A) → Some x ≡ Some y → x ≡ y
-some_is x y e = cc
-
-none_not : {A : Type 0} (y : A) → None ≡ Some y → ⊥
-none_not y e = cc
-
--- a word that a table has is the table's
-by_word : {A : Type 0} (w text : List ℕ) (x y : A) (rest : Option A) (text_of : A → List ℕ) → cond (is_named Three w text) (Some x) rest ≡ Some y → text_of x ≡ text → (rest ≡ Some y → w ≡ text_of y) → w ≡ text_of y
-by_word {A} w text x y rest text_of e same others =
-    elim (chosen (is_named Three w text) (Some x) rest (Some y) e) [
-      | inl h ↦ (bytes_eq-Decides w text).0 h.0 ∙ sym same ∙ ap text_of (some_is x y h.1)
-      | inr h ↦ others h.1
-    ]
-
-time_name_is : (w : List ℕ) (n : Name) → time_name_of Three w ≡ Some n → w ≡ name_text n
-unfolding time_name_of
-time_name_is w n e =
-    by_word w (codes "hour") name.Hour n _ name_text e refl (λ e. by_word w (codes "minute") name.Minute n _ name_text e refl (λ e. by_word w (codes "second") name.Second n _ name_text e refl (λ e.
-    by_word w (codes "period") name.Period n _ name_text e refl (λ e. by_word w (codes "subsecond") name.Subsecond n _ name_text e refl (λ e. by_word w (codes "offset_hour") name.OffsetHour n _ name_text e refl (λ e.
-    by_word w (codes "offset_minute") name.OffsetMinute n _ name_text e refl (λ e. by_word w (codes "offset_second") name.OffsetSecond n _ name_text e refl (λ e. by_word w (codes "unix_timestamp") name.UnixTimestamp n _ name_text e refl (λ e.
-    by_word w (codes "ignore") name.Ignore n _ name_text e refl (λ e. by_word w (codes "end") name.End n _ name_text e refl (λ e. absurd (none_not n e))))))))))))
-
-name_is : (w : List ℕ) (n : Name) → name_of Three w ≡ Some n → w ≡ name_text n
-unfolding name_of
-name_is w n e =
-    by_word w (codes "day") name.Day n _ name_text e refl (λ e. by_word w (codes "ordinal") name.Ordinal n _ name_text e refl (λ e. by_word w (codes "month") name.Month n _ name_text e refl (λ e.
-    by_word w (codes "weekday") name.Weekday n _ name_text e refl (λ e. by_word w (codes "week_number") name.WeekNumber n _ name_text e refl (λ e. by_word w (codes "year") name.Year n _ name_text e refl (λ e. time_name_is w n e))))))
-
-abbrev key_text : Key → List ℕ
-key_text key.Padding = codes "padding"
-key_text key.Repr = codes "repr"
-key_text key.CaseSensitive = codes "case_sensitive"
-key_text key.OneIndexed = codes "one_indexed"
-key_text key.Base = codes "base"
-key_text key.Sign = codes "sign"
-key_text key.Range = codes "range"
-key_text key.Case = codes "case"
-key_text key.Digits = codes "digits"
-key_text key.Count = codes "count"
-key_text key.Precision = codes "precision"
-key_text key.TrailingInput = codes "trailing_input"
-
-key_is : (w : List ℕ) (k : Key) → key_of Three w ≡ Some k → w ≡ key_text k
-unfolding key_of
-key_is w k e =
-    by_word w (codes "padding") key.Padding k _ key_text e refl (λ e. by_word w (codes "repr") key.Repr k _ key_text e refl (λ e. by_word w (codes "case_sensitive") key.CaseSensitive k _ key_text e refl (λ e.
-    by_word w (codes "one_indexed") key.OneIndexed k _ key_text e refl (λ e. by_word w (codes "base") key.Base k _ key_text e refl (λ e. by_word w (codes "sign") key.Sign k _ key_text e refl (λ e.
-    by_word w (codes "range") key.Range k _ key_text e refl (λ e. by_word w (codes "case") key.Case k _ key_text e refl (λ e. by_word w (codes "digits") key.Digits k _ key_text e refl (λ e.
-    by_word w (codes "count") key.Count k _ key_text e refl (λ e. by_word w (codes "precision") key.Precision k _ key_text e refl (λ e. by_word w (codes "trailing_input") key.TrailingInput k _ key_text e refl (λ e. absurd (none_not k e)))))))))))))
-
-abbrev sign_text : Bool → List ℕ
-sign_text false = codes "automatic"
-sign_text true = codes "mandatory"
-
-sign_is : (w : List ℕ) (b : Bool) → sign_of Three w ≡ Some b → w ≡ sign_text b
-unfolding sign_of
-sign_is w b e = by_word w (codes "automatic") false b _ sign_text e refl (λ e. by_word w (codes "mandatory") true b _ sign_text e refl (λ e. absurd (none_not b e)))
 
 -- ---- widths by names
 
@@ -221,24 +161,6 @@ record TakenFirst (n : Name) (m : Modifier) : Type 0 where
   value : Chosen
   is_value : with_value Three n nothing key m.value.text ≡ Some value
 
-key_found : (o : Option Key) (n : Name) (f : Fault) (k : Key) → key_among o n f ≡ Ok k → (o ≡ Some k) × (has_key k n ≡ true)
-key_found None n f k e = absurd (not_ok f k e)
-key_found (Some j) n f k e =
-    elim (chosen (has_key j n) (Ok j) (Err f) (Ok k) e) [
-      | inl h ↦ let same = ok_is j k h.1 in (ap (λ (k : Key). some_key k) same, subst (λ (k : Key). has_key k n ≡ true) same h.0)
-      | inr h ↦ absurd (not_ok f k h.1)
-    ]
-  where
-    some_key : Key → Option Key
-    some_key k = Some k
-
-value_found : (o : Option Chosen) (f : Fault) (d : Chosen) → found o f ≡ Ok d → o ≡ Some d
-value_found None f d e = absurd (not_ok f d e)
-value_found (Some x) f d e = ap (λ (d : Chosen). some_value d) (ok_is x d e)
-  where
-    some_value : Chosen → Option Chosen
-    some_value d = Some d
-
 taken_first : (n : Name) (d : Chosen) (m : Modifier) → with_modifier Three n nothing m ≡ Ok d → TakenFirst n m
 unfolding with_modifier
 taken_first n d m e =
@@ -328,13 +250,6 @@ chosen_width n at own (m ∷ ms) b d c (first, rest, parts, one, more) with_is d
     let len = modifier_len n m (taken_first n a.0 m a.1) one.is_key.0 one.is_value.0 in
     let own_len : 2 + length m.key.text + length m.value.text ≤ length own = omega (arith, ap (length {A = ℕ}) parts, length-append first rest, ap (length {A = ℕ}) one.parts, length-append one.space (m.key.text ++ 58 ∷ m.value.text), length-append m.key.text (58 ∷ m.value.text), one.some_space) in
     omega (arith, any_width n d c e, enough n, len, own_len)
-
-found_is : {A : Type 0} (o : Option A) (f : Fault) (x : A) → found o f ≡ Ok x → o ≡ Some x
-found_is {A} None f x e = absurd (not_ok f x e)
-found_is {A} (Some y) f x e = ap some_of (ok_is y x e)
-  where
-    some_of : A → Option A
-    some_of x = Some x
 
 pub component_width : (own : List ℕ) (c : Component) → SpellsComponent Three own c → width_of c ≤ length own
 unfolding component_of named

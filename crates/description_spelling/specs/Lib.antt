@@ -3,3 +3,4 @@ pub mod Spelling
 pub mod Faulty
 pub mod Outcomes
 pub mod Laws
+pub mod Versions

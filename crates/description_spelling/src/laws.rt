@@ -7,6 +7,7 @@ ghost use Rattle.description_words.specs.declared.version.DescriptionVersion.The
 ghost use Rattle.description_tree.specs.Reserved.{reserved};
 ghost use Rattle.description_spelling.specs.Spelling.{Spells, SpellsTree};
 ghost use Rattle.description_spelling.specs.Outcomes.{OneOutcome};
+ghost use Rattle.description_spelling.specs.Versions.{IsFlat, InTwo};
 ghost use Rattle.description_spelling.specs.Laws.{Joins, nodes};
 
 /// In each version a text spells one tree or has one fault, and not both.
@@ -25,4 +26,11 @@ pub fn joined()
 pub fn reserved()
     ensures bytes { (text : List ℕ) (tree : Tree) → SpellsTree Three text tree → reserved tree ≤ length text }
     ensures nodes { (version : DescriptionVersion) (text : List ℕ) (tree : Tree) → SpellsTree version text tree → nodes tree ≤ length text + 1 }
+{}
+
+/// A text of version 3 without optional items and alternatives is one of version 2, with the same
+/// items: only full and century years that lack their range are of the standard range in version 3,
+/// and of the extended one in version 2.
+pub fn two_versions()
+    ensures { (text : List ℕ) (ts : List Tree) → Spells Three text ts → IsFlat ts → InTwo text ts }
 {}
