@@ -2,7 +2,8 @@
 ghost use Rattle.std.specs.Prelude.{◌≡◌, ◌↔◌, ◌∷◌, [], ℕ, ℤ, pos, ◌+ℤ◌, ◌-ℤ◌, ◌*ℤ◌, Some, IsSome, IfSome, ◌<◌};
 ghost use Rattle.calendar.specs.Duration.{milli_nanos};
 ghost use Rattle.datetime_wall.specs.Wall.{first_wall_clock, last_wall_clock, IsWallClock, instant, shown_at, cut_to, day_nanos};
-ghost use Rattle.datetime.specs.Laws.{IsUnit, IsCut, TimesShowParts, ShowsDay};
+ghost use Rattle.datetime_types.specs.Texts.{seconds_text};
+ghost use Rattle.datetime.specs.Laws.{IsUnit, IsCut, TimesShowParts, ShowsDay, IsTidy};
 
 use crate::{OffsetDateTime, PlainDateTime, Timestamp, UtcDateTime};
 use calendar::{SignedDuration, UtcOffset};
@@ -188,4 +189,15 @@ pub fn times_show_their_parts()
 /// A wall clock shows the day and the time of day that it was made of.
 pub fn wall_clocks_show_their_parts()
     ensures { (day time : ℕ) → time < day_nanos → ShowsDay day time }
+{}
+
+/// Timestamps of two instants print two texts.
+pub fn timestamps_print_apart()
+    ensures { (one other : ℤ) → IsWallClock one → IsWallClock other
+        → seconds_text one ≡ seconds_text other → one ≡ other }
+{}
+
+/// No timestamp prints a zero at the end of its fraction, or a negative zero.
+pub fn timestamps_print_tidily()
+    ensures { (instant : ℤ) → IsWallClock instant → IsTidy (seconds_text instant) }
 {}

@@ -22,6 +22,8 @@ fn pins_the_constants(rt: HostRuntime) -> Result<(), Fail> {
     laws::cuts();
     laws::times_show_their_parts();
     laws::wall_clocks_show_their_parts();
+    laws::timestamps_print_apart();
+    laws::timestamps_print_tidily();
     Ok(())
 }
 
