@@ -1,5 +1,6 @@
 //! Laws that follow from the contracts, each the contract of a function here.
-ghost use Rattle.std.specs.Prelude.{◌≡◌, ◌↔◌, ◌∷◌, [], ℕ, ℤ, pos, ◌+ℤ◌, ◌-ℤ◌, ◌*ℤ◌, Some, IsSome, IfSome, ◌<◌};
+ghost use Rattle.std.specs.Prelude.{◌≡◌, ◌↔◌, ◌∷◌, [], ℕ, ℤ, pos, ◌+ℤ◌, ◌-ℤ◌, ◌*ℤ◌, Some, IsTrue, IsSome, IfSome, ◌<◌};
+ghost use Rattle.std.specs.Ordering.{int_cmp};
 ghost use Rattle.calendar.specs.Duration.{milli_nanos};
 ghost use Rattle.datetime_wall.specs.Wall.{first_wall_clock, last_wall_clock, IsWallClock, instant, shown_at, cut_to, day_nanos};
 ghost use Rattle.datetime_types.specs.Texts.{seconds_text};
@@ -7,6 +8,7 @@ ghost use Rattle.datetime.specs.Laws.{IsUnit, IsCut, TimesShowParts, ShowsDay, I
 
 use crate::{OffsetDateTime, PlainDateTime, Timestamp, UtcDateTime};
 use calendar::{SignedDuration, UtcOffset};
+use std::cmp::Ordering;
 
 /// The first and the last wall clock of the calendar.
 #[tactic(auto, unfolding(datetime_wall::specs::Wall::wall_clock))]
@@ -38,6 +40,20 @@ pub fn epoch_at_offset_zero() -> OffsetDateTime
     ensures { result ≡ record { wall = pos 0; offset = pos 0 } }
 {
     OffsetDateTime::UNIX_EPOCH
+}
+
+/// Moments are equal exactly where they are one instant, whatever their offsets.
+pub fn equal_as_instants(one: OffsetDateTime, other: OffsetDateTime) -> bool
+    ensures { IsTrue result ↔ (instant one ≡ instant other) }
+{
+    one == other
+}
+
+/// Moments are in the order of their instants.
+pub fn order_of_instants(one: OffsetDateTime, other: OffsetDateTime) -> Ordering
+    ensures { result ≡ int_cmp (instant one) (instant other) }
+{
+    one.cmp(&other)
 }
 
 /// A moment shown at its own offset is itself, also where the calendar lacks its date in UTC.

@@ -5,7 +5,7 @@ use crate::{
     place_of_count, second_of_day, sunday_week_of_count, weekday_of_count,
 };
 use calendar_count::range::LAST_COUNT;
-use calendar_count::{closed, march};
+use calendar_count::{Month, closed, march, util};
 use std::process::Abort;
 
 // Counts of a first day, and how many days after it are compared.
@@ -33,7 +33,29 @@ fn days_as_by_division(rt: HostRuntime) {
     }
 }
 
-// Four hundred years from 1 January 1600 on, whose weeks are counted day by day.
+// Four hundred years from 1 January 1600 on, walked by the lengths of the months.
+#[test]
+fn days_as_walked(rt: HostRuntime) {
+    let (mut year, mut ordinal) = (1600i32, 1u16);
+    let (mut month, mut day) = (Month::January, 1u8);
+    for count in 365_826_522u64..365_972_619 {
+        assert!(rt; day_of_count(count) == (year, month.number(), day));
+        assert!(rt; place_of_count(count) == (year, ordinal));
+        ordinal = ordinal.wrapping_add(1);
+        if day < util::days_in_month(month, year) {
+            day = day.wrapping_add(1);
+            continue;
+        }
+        if month == Month::December {
+            year = year.wrapping_add(1);
+            ordinal = 1;
+        }
+        month = month.next();
+        day = 1;
+    }
+}
+
+// The same years, whose weeks are counted day by day.
 #[test]
 fn weeks_as_counted(rt: HostRuntime) {
     let mut sundays = 0u8;

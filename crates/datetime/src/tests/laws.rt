@@ -2,6 +2,7 @@
 use super::{evening, leap_day};
 use crate::{OffsetDateTime, PlainDateTime, Timestamp, UtcDateTime, laws};
 use calendar::{Date, SignedDuration, Time, UtcOffset};
+use std::cmp::Ordering;
 use std::test::Fail;
 
 #[test]
@@ -66,6 +67,9 @@ fn leads_by_differences(rt: HostRuntime) -> Result<(), Fail> {
     assert_eq!(rt; laws::moment_at_difference(moment, epoch), Some(epoch));
     assert_eq!(rt; laws::moment_at_difference(moment, last.assume_utc()), None);
     assert_eq!(rt; laws::shown_at_own_offset(moment), Some(moment));
+    let utc = OffsetDateTime::from(wall.as_utc());
+    assert!(rt; laws::equal_as_instants(moment, moment) && !laws::equal_as_instants(moment, utc));
+    assert_eq!(rt; laws::order_of_instants(moment, utc), Ordering::Less);
     assert_eq!(rt;
         laws::shown_by_way_of(moment, UtcOffset::UTC, east),
         Some(Some(moment))
