@@ -9,5 +9,3 @@ pub use datetime_wall::durations::{signed_from_std, std_from_signed};
 
 #[cfg(test)]
 mod tests;
-#[cfg(test)]
-mod width_tests;

@@ -6,6 +6,7 @@ mod pairs;
 mod plain_date_time;
 mod timestamp;
 mod utc_date_time;
+mod widths;
 
 use calendar::{ComponentRange, Date, Month, Time};
 use std::hash::{DefaultHasher, Hash, Hasher};
