@@ -208,7 +208,7 @@ item_reads v inner levels again i own rest (Compound ts) h = absurd h
 
 -- ---- items
 
-item_more : (v : DescriptionVersion) (inner : Bool) (levels : ℕ) (own more tail : List ℕ) (t : Tree) → Stops (is_plain v) tail → SpellsItem v inner levels own more t → SpellsItem v inner levels own (more ++ tail) t
+pub item_more : (v : DescriptionVersion) (inner : Bool) (levels : ℕ) (own more tail : List ℕ) (t : Tree) → Stops (is_plain v) tail → SpellsItem v inner levels own more t → SpellsItem v inner levels own (more ++ tail) t
 item_more v inner levels own more tail (Literal bytes) stops h = text_more v inner own more tail bytes stops h
 item_more v inner levels own more tail (Part c) stops h = h
 item_more v inner levels own more tail (Optional f t) stops h = h

@@ -22,3 +22,6 @@ pub mod Room
 pub mod Tables
 pub mod TwoTables
 pub mod TwoVersions
+pub mod Letters
+pub mod CasedTables
+pub mod LetterCase

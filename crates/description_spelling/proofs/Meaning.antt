@@ -21,16 +21,16 @@ use Rattle.description_spelling.specs.Heads.{SpellsModifier, SpellsModifiers, Sp
 use Rattle.description_spelling.proofs.Results.{cond_false}
 use Rattle.description_spelling.proofs.Runs.{at_index}
 
--- the same words elsewhere
-pub record SameWords (m n : Modifier) : Type 0 where
-  pub key : m.key.text ≡ n.key.text
-  pub value : m.value.text ≡ n.value.text
+-- words that the tables take alike
+pub record AreAlike (v : DescriptionVersion) (m n : Modifier) : Type 0 where
+  pub key : key_of v m.key.text ≡ key_of v n.key.text
+  pub value : (x : Name) (c : Chosen) (k : Key) → with_value v x c k m.value.text ≡ with_value v x c k n.value.text
 
-abbrev pub AllSame : List Modifier → List Modifier → Type 0
-AllSame [] [] = Unit {0}
-AllSame [] (n ∷ ns) = ⊥
-AllSame (m ∷ ms) [] = ⊥
-AllSame (m ∷ ms) (n ∷ ns) = SameWords m n × AllSame ms ns
+abbrev pub AllAlike : DescriptionVersion → List Modifier → List Modifier → Type 0
+AllAlike v [] [] = Unit {0}
+AllAlike v [] (n ∷ ns) = ⊥
+AllAlike v (m ∷ ms) [] = ⊥
+AllAlike v (m ∷ ms) (n ∷ ns) = AreAlike v m n × AllAlike v ms ns
 
 found_moved : {A : Type 0} (o : Option A) (f g : Fault) (x : A) → found o f ≡ Ok x → found o g ≡ Ok x
 found_moved None f g x e = absurd (not_ok f x e)
@@ -44,10 +44,10 @@ among_moved (Some j) n f g k e =
       | inr h ↦ absurd (not_ok f k h.1)
     ]
 
-key_moved : (v : DescriptionVersion) (n : Name) (p q : Piece) (k : Key) → p.text ≡ q.text → key_in v n p ≡ Ok k → key_in v n q ≡ Ok k
-key_moved v n p q k same e = subst (λ (t : List ℕ). key_among (key_of v t) n (bad q) ≡ Ok k) same (among_moved (key_of v p.text) n (bad p) (bad q) k e)
+key_moved : (v : DescriptionVersion) (n : Name) (p q : Piece) (k : Key) → key_of v p.text ≡ key_of v q.text → key_in v n p ≡ Ok k → key_in v n q ≡ Ok k
+key_moved v n p q k same e = subst (λ (o : Option Key). key_among o n (bad q) ≡ Ok k) same (among_moved (key_of v p.text) n (bad p) (bad q) k e)
 
-modifier_moved : (v : DescriptionVersion) (n : Name) (c d : Chosen) (l m : Modifier) → SameWords l m → with_modifier v n c l ≡ Ok d → with_modifier v n c m ≡ Ok d
+modifier_moved : (v : DescriptionVersion) (n : Name) (c d : Chosen) (l m : Modifier) → AreAlike v l m → with_modifier v n c l ≡ Ok d → with_modifier v n c m ≡ Ok d
 unfolding with_modifier
 modifier_moved v n c d l m same e =
     let a = bind_ok (key_in v n l.key) (λ k. cond (is_three v && is_chosen c k) (Err (DuplicateModifier l.key.text l.key.index)) (found (with_value v n c k l.value.text) (bad l.value))) d e in
@@ -55,13 +55,13 @@ modifier_moved v n c d l m same e =
     elim (chosen (is_three v && is_chosen c k) (Err (DuplicateModifier l.key.text l.key.index)) (found (with_value v n c k l.value.text) (bad l.value)) (Ok d) a.2) [
       | inl h ↦ absurd (not_ok _ d h.1)
       | inr h ↦
-          let value : found (with_value v n c k m.value.text) (bad m.value) ≡ Ok d = subst (λ (t : List ℕ). found (with_value v n c k t) (bad m.value) ≡ Ok d) same.value (found_moved (with_value v n c k l.value.text) (bad l.value) (bad m.value) d h.1) in
+          let value : found (with_value v n c k m.value.text) (bad m.value) ≡ Ok d = subst (λ (o : Option Chosen). found o (bad m.value) ≡ Ok d) (same.value n c k) (found_moved (with_value v n c k l.value.text) (bad l.value) (bad m.value) d h.1) in
           and_then_ok (key_in v n m.key) k (λ k. cond (is_three v && is_chosen c k) (Err (DuplicateModifier m.key.text m.key.index)) (found (with_value v n c k m.value.text) (bad m.value))) (key_moved v n l.key m.key k same.key a.1)
           ∙ cond_false (is_three v && is_chosen c k) (Err (DuplicateModifier m.key.text m.key.index)) (found (with_value v n c k m.value.text) (bad m.value)) h.0
           ∙ value
     ]
 
-modifiers_moved : (v : DescriptionVersion) (n : Name) (c d : Chosen) (ls ms : List Modifier) → AllSame ls ms → with_modifiers v n c ls ≡ Ok d → with_modifiers v n c ms ≡ Ok d
+modifiers_moved : (v : DescriptionVersion) (n : Name) (c d : Chosen) (ls ms : List Modifier) → AllAlike v ls ms → with_modifiers v n c ls ≡ Ok d → with_modifiers v n c ms ≡ Ok d
 unfolding with_modifiers
 modifiers_moved v n c d [] [] same e = e
 modifiers_moved v n c d [] (m ∷ ms) same e = absurd same
@@ -70,7 +70,7 @@ modifiers_moved v n c d (l ∷ ls) (m ∷ ms) same e =
     let a = bind_ok (with_modifier v n c l) (λ x. with_modifiers v n x ls) d e in
     and_then_ok (with_modifier v n c m) a.0 (λ x. with_modifiers v n x ms) (modifier_moved v n c a.0 l m same.0 a.1) ∙ modifiers_moved v n a.0 d ls ms same.1 a.2
 
-combined_moved : (v : DescriptionVersion) (n : Name) (c d : Chosen) (ls ms : List Modifier) → AllSame ls ms → combined v n c ls ≡ Ok d → combined v n c ms ≡ Ok d
+combined_moved : (v : DescriptionVersion) (n : Name) (c d : Chosen) (ls ms : List Modifier) → AllAlike v ls ms → combined v n c ls ≡ Ok d → combined v n c ms ≡ Ok d
 unfolding combined
 combined_moved v n c d [] [] same e = e
 combined_moved v n c d [] (m ∷ ms) same e = absurd same
@@ -86,11 +86,11 @@ combined_moved v n c d (l ∷ ls) (m ∷ ms) same e =
           ∙ combined_moved v n c d ls ms same.1 h.1
     ]
 
-named_moved : (v : DescriptionVersion) (p q : Piece) (n : Name) → p.text ≡ q.text → named v p ≡ Ok n → named v q ≡ Ok n
+named_moved : (v : DescriptionVersion) (p q : Piece) (n : Name) → name_of v p.text ≡ name_of v q.text → named v p ≡ Ok n → named v q ≡ Ok n
 unfolding named
-named_moved v p q n same e = subst (λ (t : List ℕ). found (name_of v t) (InvalidComponentName q.text q.index) ≡ Ok n) same (found_moved (name_of v p.text) (InvalidComponentName p.text p.index) (InvalidComponentName q.text q.index) n e)
+named_moved v p q n same e = subst (λ (o : Option Name). found o (InvalidComponentName q.text q.index) ≡ Ok n) same (found_moved (name_of v p.text) (InvalidComponentName p.text p.index) (InvalidComponentName q.text q.index) n e)
 
-pub component_moved : (v : DescriptionVersion) (p q : Piece) (ls ms : List Modifier) (c : Component) → p.text ≡ q.text → AllSame ls ms → component_of v p ls ≡ Ok c → component_of v q ms ≡ Ok c
+pub component_moved : (v : DescriptionVersion) (p q : Piece) (ls ms : List Modifier) (c : Component) → name_of v p.text ≡ name_of v q.text → AllAlike v ls ms → component_of v p ls ≡ Ok c → component_of v q ms ≡ Ok c
 unfolding component_of
 component_moved v p q ls ms c same all e =
     let lacking : Piece → Fault = λ word. MissingRequiredModifier (codes "count") word.index in
@@ -104,18 +104,18 @@ component_moved v p q ls ms c same all e =
 
 -- ---- the words of a head, elsewhere
 
-record WordsElsewhere (at : ℕ) (own : List ℕ) (ms : List Modifier) : Type 0 where
+record WordsElsewhere (v : DescriptionVersion) (at : ℕ) (own : List ℕ) (ms : List Modifier) : Type 0 where
   others : List Modifier
   spells : SpellsModifiers at own others
-  same : AllSame ms others
+  same : AllAlike v ms others
 
-words_elsewhere : (ms : List Modifier) (at to : ℕ) (own : List ℕ) → SpellsModifiers at own ms → WordsElsewhere to own ms
-words_elsewhere [] at to own e = record { others = []; spells = e; same = tt }
-words_elsewhere (m ∷ ms) at to own (first, rest, parts, one, more) =
-    let others : WordsElsewhere (to + length first) rest ms = words_elsewhere ms (at + length first) (to + length first) rest more in
+words_elsewhere : (v : DescriptionVersion) (ms : List Modifier) (at to : ℕ) (own : List ℕ) → SpellsModifiers at own ms → WordsElsewhere v to own ms
+words_elsewhere v [] at to own e = record { others = []; spells = e; same = tt }
+words_elsewhere v (m ∷ ms) at to own (first, rest, parts, one, more) =
+    let others : WordsElsewhere v (to + length first) rest ms = words_elsewhere v ms (at + length first) (to + length first) rest more in
     let here : Modifier = record { key = at_index (to + length one.space) m.key.text; value = at_index (to + length one.space + length m.key.text + 1) m.value.text } in
     let spelled : SpellsModifier to first here = record { space = one.space; parts = one.parts; is_space = one.is_space; some_space = one.some_space; is_key = one.is_key; no_colon = one.no_colon; is_value = one.is_value; key_at = refl; value_at = refl } in
-    record { others = here ∷ others.others; spells = (first, rest, parts, spelled, others.spells); same = (record { key = refl; value = refl }, others.same) }
+    record { others = here ∷ others.others; spells = (first, rest, parts, spelled, others.spells); same = (record { key = refl; value = λ x c k. refl }, others.same) }
 
 -- a head with the component that it means, elsewhere
 pub record MeansAt (v : DescriptionVersion) (at : ℕ) (head : List ℕ) (c : Component) : Type 0 where
@@ -127,7 +127,7 @@ pub record MeansAt (v : DescriptionVersion) (at : ℕ) (head : List ℕ) (c : Co
 pub means_elsewhere : (v : DescriptionVersion) (at to : ℕ) (head : List ℕ) (c : Component) → MeansAt v at head c → MeansAt v to head c
 means_elsewhere v at to head c h =
     let g = h.is_head in
-    let words : WordsElsewhere (to + 1 + length g.first + length h.name.text) g.middle h.modifiers = words_elsewhere h.modifiers (at + 1 + length g.first + length h.name.text) (to + 1 + length g.first + length h.name.text) g.middle g.modifiers in
+    let words : WordsElsewhere v (to + 1 + length g.first + length h.name.text) g.middle h.modifiers = words_elsewhere v h.modifiers (at + 1 + length g.first + length h.name.text) (to + 1 + length g.first + length h.name.text) g.middle g.modifiers in
     let name : Piece = at_index (to + 1 + length g.first) h.name.text in
     record {
       name = name;

@@ -1,10 +1,14 @@
 //! What holds of all descriptions.
 
-ghost use Rattle.std.specs.Prelude.{ℕ, ◌+◌, ◌≤◌, List, length};
-ghost use Rattle.description_items.specs.Tree.{Tree};
+ghost use Rattle.std.specs.Prelude.{◌≡◌, ℕ, ◌+◌, ◌≤◌, true, false, List, ◌∷◌, ◌++◌, length};
+ghost use Rattle.std.specs.Str.{str_eq_ignore_ascii_case};
+ghost use Rattle.description_items.specs.declared.component.Component.{Component};
+ghost use Rattle.description_items.specs.Tree.{Tree, Part};
 ghost use Rattle.description_words.specs.declared.version.DescriptionVersion.{DescriptionVersion};
 ghost use Rattle.description_words.specs.declared.version.DescriptionVersion.TheVariants.{Three};
+ghost use Rattle.description_words.specs.Version.{is_three};
 ghost use Rattle.description_tree.specs.Reserved.{reserved};
+ghost use Rattle.description_spelling.specs.Heads.{SpellsComponent};
 ghost use Rattle.description_spelling.specs.Spelling.{Spells, SpellsTree};
 ghost use Rattle.description_spelling.specs.Outcomes.{OneOutcome};
 ghost use Rattle.description_spelling.specs.Versions.{IsFlat, InTwo};
@@ -33,4 +37,14 @@ pub fn reserved()
 /// and of the extended one in version 2.
 pub fn two_versions()
     ensures { (text : List ℕ) (ts : List Tree) → Spells Three text ts → IsFlat ts → InTwo text ts }
+{}
+
+/// In versions 1 and 2 the case of ASCII letters in a component says nothing, be it in its name, in a
+/// key or in a value: a text spells the same items with another case there.
+pub fn letter_case()
+    ensures component { (version : DescriptionVersion) (own other : List ℕ) (c : Component) → is_three version ≡ false → str_eq_ignore_ascii_case own other ≡ true → SpellsComponent version own c → SpellsComponent version other c }
+    ensures text { (version : DescriptionVersion) (front own other back : List ℕ) (before behind : List Tree) (c : Component)
+        → is_three version ≡ false → str_eq_ignore_ascii_case own other ≡ true
+        → Spells version front before → SpellsComponent version own c → Spells version back behind
+        → Spells version (front ++ (own ++ back)) (before ++ Part c ∷ behind) × Spells version (front ++ (other ++ back)) (before ++ Part c ∷ behind) }
 {}
