@@ -6,7 +6,7 @@ use Rattle.std.proofs.lemmas.Int.{ints}
 use Rattle.std.specs.Prelude.{◌==◌}
 use Rattle.std.specs.Int.{int_rem_euclid}
 use Rattle.calendar_count.specs.Range.{greatest_year, IsYear, last_count, year_count}
-use Rattle.calendar_count.specs.Calendar.{days_in_year, YearMonthDay, day_at, count_before, ordinal_at, weekday_at, weekdays_so_far, thursday_of, iso_year_at, iso_week_at, IsDay, sunday_week_at, cycle_year, weeks_in_year}
+use Rattle.calendar_count.specs.Calendar.{days_in_year, YearMonthDay, day_at, count_before, ordinal_at, weekday_at, weekdays_so_far, thursday_of, iso_year_at, iso_week_at, IsDay, monday_week_at, sunday_week_at, cycle_year, weeks_in_year}
 use Rattle.calendar_count.proofs.Signed.{signed}
 use Rattle.calendar_count.specs.Place.{place_count, IsPlace}
 use Rattle.calendar_count.specs.Closed.{days_before_year, days_before_month}
@@ -164,6 +164,14 @@ place_sunday_week y o c h is =
     let e : y +ℤ pos greatest_year ≡ pos n = years_since-is y h.0 in
     let year : (day_at c).year ≡ y = rw is at (place-year y o h) in
     omega (arith, weekdays_so_far-is 6 c n y (omega arith) e year)
+
+pub place_monday_week : (y : ℤ) (o c : ℕ) → IsPlace y o → place_count y o ≡ c → (o + 6 - c % 7) / 7 ≡ monday_week_at c
+unfolding place_count
+place_monday_week y o c h is =
+    let n = unsigned_abs (y +ℤ pos greatest_year) in
+    let e : y +ℤ pos greatest_year ≡ pos n = years_since-is y h.0 in
+    let year : (day_at c).year ≡ y = rw is at (place-year y o h) in
+    omega (arith, weekdays_so_far-is 0 c n y (omega arith) e year)
 
 -- two counts with one day are one
 pub day_at_same : (c d : ℕ) → day_at c ≡ day_at d → c ≡ d

@@ -1,3 +1,2 @@
-pub mod WeekLemmas
 pub mod DaysLemmas
 pub mod OccurrenceLemmas

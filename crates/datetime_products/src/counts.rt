@@ -2,7 +2,7 @@
 ghost use Rattle.std.specs.Prelude.{◌≡◌, ◌+◌, ◌-◌, ◌%◌, ◌<◌, ◌≤◌};
 ghost use Rattle.std.specs.Int.{IsInRange};
 ghost use Rattle.calendar_count.specs.Range.{greatest_year, IsCount, IsYear};
-ghost use Rattle.calendar_count.specs.Calendar.{day_at, ordinal_at, weekday_at, iso_year_at, iso_week_at, thursday_of, ymd, IsDay};
+ghost use Rattle.calendar_count.specs.Calendar.{day_at, ordinal_at, weekday_at, iso_year_at, iso_week_at, sunday_week_at, monday_week_at, thursday_of, ymd, IsDay};
 ghost use Rattle.calendar_count.specs.Closed.{days_before_year};
 
 use crate::quotients;
@@ -82,4 +82,26 @@ pub fn iso_week_of_count(count: u64) -> (i32, u8)
     let (years, days) = split_years(count - quotients::day_of_week(count) + 3);
     let week = quotients::weeks_of_year(days) + 1;
     (closed::year_after(years as u32), week as u8)
+}
+
+/// The Sundays of the year up to and including the day.
+#[inline(always)]
+pub fn sunday_week_of_count(count: u64) -> u8
+    requires { IsCount count }
+    ensures value { result ≡ sunday_week_at count }
+    ensures bound { result ≤ 53 }
+{
+    let (_, days) = split_years(count);
+    quotients::weeks_of_year(days + 7 - quotients::day_of_week(count + 1)) as u8
+}
+
+/// The Mondays of the year up to and including the day.
+#[inline(always)]
+pub fn monday_week_of_count(count: u64) -> u8
+    requires { IsCount count }
+    ensures value { result ≡ monday_week_at count }
+    ensures bound { result ≤ 53 }
+{
+    let (_, days) = split_years(count);
+    quotients::weeks_of_year(days + 7 - quotients::day_of_week(count)) as u8
 }

@@ -7,5 +7,8 @@ mod seconds;
 #[cfg(test)]
 mod tests;
 
-pub use counts::{day_of_count, iso_week_of_count, place_of_count, weekday_of_count};
+pub use counts::{
+    day_of_count, iso_week_of_count, monday_week_of_count, place_of_count, sunday_week_of_count,
+    weekday_of_count,
+};
 pub use seconds::{clock_of_second, count_of_seconds, second_of_day};

@@ -48,7 +48,7 @@ pub fn day_of_week(days: u64) -> u64
 /// The whole weeks of the first days of a year.
 #[inline(always)]
 pub fn weeks_of_year(days: u64) -> u64
-    requires { days < 366 }
+    requires { days < 400 }
     ensures { result ≡ days / 7 }
 {
     (days * 9363) >> 16

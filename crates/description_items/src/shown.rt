@@ -34,16 +34,18 @@ fn write_item<W: fmt::Write>(
     }
 }
 
-// The items between brackets, with a comma after each.
+// The items between brackets, with a comma between them.
 #[cycle(shown)]
 fn write_items<W: fmt::Write>(
     items: &[BorrowedFormatItem<'_>],
     f: &mut fmt::Formatter<W>,
 ) -> fmt::Result {
     f.write_str("([")?;
-    for item in items {
+    for (index, item) in items.iter().enumerate() {
+        if index > 0 {
+            f.write_str(", ")?;
+        }
         write_item(item, f)?;
-        f.write_str(",")?;
     }
     f.write_str("])")
 }

@@ -54,7 +54,7 @@ fn texts(rt: HostRuntime) -> Result<(), std::test::Fail> {
     let shown = format!(in rt.alloc(); "{all:?}")?;
     assert_eq!(rt; shown.as_str(), "Optional(StringLiteral(\"x\"))");
     let all = BorrowedFormatItem::First(&items);
-    let text = "First([StringLiteral(\"x\"),Component(Day(Day { padding: None })),])";
+    let text = "First([StringLiteral(\"x\"), Component(Day(Day { padding: None }))])";
     let shown = format!(in rt.alloc(); "{all:?}")?;
     assert_eq!(rt; shown.as_str(), text);
     let text = format!(in rt.alloc(); "{DifferentVariant}")?;

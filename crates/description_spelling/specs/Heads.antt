@@ -6,16 +6,7 @@ use Rattle.description_words.specs.declared.version.DescriptionVersion.{Descript
 use Rattle.description_words.specs.declared.version.DescriptionVersion.TheVariants.{One, Two, Three}
 use Rattle.description_words.specs.Text.{Piece, is_space, is_word_byte, is_plain, is_no_colon}
 use Rattle.description_words.specs.Words.{Modifier, is_named}
-
--- each byte passes
-abbrev pub Each : (ℕ → Bool) → List ℕ → Type 0
-Each p [] = Unit {0}
-Each p (b ∷ bs) = (p b ≡ true) × Each p bs
-
--- no such byte stands at the front
-abbrev pub Stops : (ℕ → Bool) → List ℕ → Type 0
-Stops p [] = Unit {0}
-Stops p (b ∷ bs) = p b ≡ false
+pub use Rattle.description_words.specs.Text.{Each, Stops}
 
 -- a word: one such byte or more
 abbrev pub IsWord : List ℕ → Type 0

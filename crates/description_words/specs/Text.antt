@@ -1,5 +1,5 @@
 -- Bytes, runs of bytes, and where they stand.
-use Rattle.std.specs.Prelude.{ℕ, ◌+◌, ◌==◌, ◌||◌, not, Bool, List, take, drop}
+use Rattle.std.specs.Prelude.{◌≡◌, ℕ, ◌+◌, ◌==◌, ◌||◌, not, Bool, true, false, List, [], ◌∷◌, take, drop}
 use Rattle.std.specs.List.{prefix_len}
 use Rattle.description_words.specs.declared.version.DescriptionVersion.{DescriptionVersion}
 use Rattle.description_words.specs.declared.version.DescriptionVersion.TheVariants.{One, Two, Three}
@@ -43,3 +43,13 @@ past p s = record { index = s.index + prefix_len p s.text; text = drop (prefix_l
 -- without the first n bytes
 abbrev pub after : ℕ → Piece → Piece
 after n s = record { index = s.index + n; text = drop n s.text }
+
+-- each byte passes
+abbrev pub Each : (ℕ → Bool) → List ℕ → Type 0
+Each p [] = Unit {0}
+Each p (b ∷ bs) = (p b ≡ true) × Each p bs
+
+-- no such byte stands at the front
+abbrev pub Stops : (ℕ → Bool) → List ℕ → Type 0
+Stops p [] = Unit {0}
+Stops p (b ∷ bs) = p b ≡ false

@@ -6,10 +6,11 @@ ghost use Rattle.calendar.specs.Month.{month_number};
 ghost use Rattle.calendar.specs.ComponentRange.{out_of_range, out_of_conditional_range};
 ghost use Rattle.calendar_count.specs.declared.component_range.ComponentName.TheVariants as component;
 ghost use Rattle.calendar.specs.Time.{micro_nanos, milli_nanos, second_nanos, minute_nanos, hour_nanos, day_nanos, hour_at, minute_at, second_at, nanosecond_at, time_of, time_of_milli, time_of_micro};
-ghost use Rattle.datetime_wall.specs.Wall.{wall_clock, day_of, nanosecond_of, at_time, cut_to};
+ghost use Rattle.datetime_wall.specs.Wall.{wall_clock, day_of, nanosecond_of, at_time, cut_to, IsWallClock};
+ghost use Rattle.calendar.specs.UtcOffset.{IsOffset};
 
-use crate::OffsetDateTime;
-use calendar::{ComponentRange, Date, Month, Time};
+use crate::{OffsetDateTime, PlainDateTime};
+use calendar::{ComponentRange, Date, Month, Time, UtcOffset};
 
 impl OffsetDateTime {
     /// The same time of day on another date.
@@ -28,6 +29,24 @@ impl OffsetDateTime {
         ensures value { result ≡ record { wall = wall_clock (day_of self.wall) time; offset = self.offset } }
     {
         OffsetDateTime::from_wall(self.wall.replace_time(time), self.offset)
+    }
+
+    /// Another date and time at the same offset.
+    #[inline(always)]
+    pub fn replace_date_time(self, date_time: PlainDateTime) -> OffsetDateTime
+        ensures value { result ≡ record { wall = date_time; offset = self.offset } }
+        ensures range { IsWallClock date_time }
+    {
+        OffsetDateTime::from_wall(date_time, self.offset)
+    }
+
+    /// The same date and time at another offset, and so another instant.
+    #[inline(always)]
+    pub fn replace_offset(self, offset: UtcOffset) -> OffsetDateTime
+        ensures value { result ≡ record { wall = self.wall; offset = offset } }
+        ensures range { IsWallClock self.wall × IsOffset offset }
+    {
+        OffsetDateTime::from_wall(self.wall, offset)
     }
 
     /// The same month, day of the month and time of another year.

@@ -12,7 +12,8 @@ use crate::Timestamp;
 use calendar::{Month, Weekday};
 use calendar_count::range::JULIAN_ZERO;
 use datetime_products::{
-    clock_of_second, day_of_count, iso_week_of_count, place_of_count, weekday_of_count,
+    clock_of_second, day_of_count, iso_week_of_count, monday_week_of_count, place_of_count,
+    sunday_week_of_count, weekday_of_count,
 };
 
 impl Timestamp {
@@ -58,6 +59,24 @@ impl Timestamp {
         ensures bound { IsInRange 1 53 result }
     {
         iso_week_of_count(self.count()).1
+    }
+
+    /// The Sundays of the year up to and including the day, 0 to 53.
+    #[inline(always)]
+    pub fn sunday_based_week(self) -> u8
+        ensures value { result ≡ sunday_week_at (day_of self) }
+        ensures bound { result ≤ 53 }
+    {
+        sunday_week_of_count(self.count())
+    }
+
+    /// The Mondays of the year up to and including the day, 0 to 53.
+    #[inline(always)]
+    pub fn monday_based_week(self) -> u8
+        ensures value { result ≡ monday_week_at (day_of self) }
+        ensures bound { result ≤ 53 }
+    {
+        monday_week_of_count(self.count())
     }
 
     /// The day of the week.

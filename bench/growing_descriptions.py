@@ -1,0 +1,86 @@
+#!/usr/bin/env python3
+"""Instructions a byte for descriptions of growing length, as callgrind counts them.
+
+Usage: bench/growing_descriptions.py [PROGRAM]
+
+PROGRAM is crates/description_check/out/description_check if left out (`rt run` in that crate builds
+it). Each row is one shape of text: what is repeated, and the instructions a byte at 16, 64 and 256
+KiB and at 1 MiB, less those of a run on an empty text. The last column is the last of these over the
+first: about 1 where time grows with the length alone.
+"""
+
+import pathlib
+import re
+import subprocess
+import sys
+import tempfile
+
+TOP = pathlib.Path(__file__).resolve().parent.parent
+SIZES = [16 << 10, 64 << 10, 256 << 10, 1 << 20]
+
+LEVELS = 127
+DEEP = "[optional [" * LEVELS + "x" + "]]" * LEVELS
+
+
+def repeated(part):
+    return lambda size: part * (size // len(part))
+
+
+def inside(before, part, after):
+    return lambda size: before + part * ((size - len(before) - len(after)) // len(part)) + after
+
+
+SHAPES = [
+    ("literal", "3", repeated("x")),
+    ("escapes", "2", repeated("\\[")),
+    ("doubled brackets", "1", repeated("[[")),
+    ("components", "3", repeated("[day]")),
+    ("components with modifiers", "3", repeated("[month repr:long case_sensitive:false]")),
+    ("one long name", "3", inside("[", "a", "]")),
+    ("one long value", "2", inside("[day padding:", "a", "]")),
+    ("white space in an item", "3", inside("[day", " ", "]")),
+    ("one modifier many times", "2", inside("[day", " padding:zero", "]")),
+    ("127 levels, many times", "3", repeated(DEEP)),
+    ("alternatives", "3", inside("[first ", "[x]", "]")),
+    ("alternatives in 126 levels", "3", inside("[optional [" * 126 + "[first ", "[x]", "]" + "]]" * 126)),
+    ("brackets past all levels", "3", repeated("[optional [")),
+    ("a nested item in version 2", "2", inside("[first ", "[x]", "]")),
+    ("no closing bracket", "3", inside("[day", " ", "")),
+    ("letters of strftime", "strftime", repeated("%d%H")),
+    ("composites of strftime", "strftime", repeated("%c")),
+    ("an unknown letter at the end", "strftime", inside("", "%d", "%Q")),
+]
+
+
+def instructions(program, language, text):
+    with tempfile.TemporaryDirectory() as place:
+        counts = pathlib.Path(place) / "counts"
+        run = subprocess.run(
+            ["valgrind", "--tool=callgrind", f"--callgrind-out-file={counts}", program, language],
+            input=text.encode(),
+            capture_output=True,
+        )
+        if run.returncode not in (0, 1):
+            sys.exit(run.stderr.decode())
+        return int(re.search(r"^(?:summary|totals): (\d+)", counts.read_text(), re.MULTILINE).group(1))
+
+
+def main():
+    default = TOP / "crates/description_check/out/description_check"
+    program = sys.argv[1] if len(sys.argv) > 1 else str(default)
+    print("| shape | language | 16 KiB | 64 KiB | 256 KiB | 1 MiB | last by first |")
+    print("|---|---|---|---|---|---|---|")
+    empty = {}
+    for name, language, text_of in SHAPES:
+        if language not in empty:
+            empty[language] = instructions(program, language, "")
+        rates = []
+        for size in SIZES:
+            text = text_of(size)
+            rates.append((instructions(program, language, text) - empty[language]) / len(text))
+        cells = " | ".join(f"{rate:.1f}" for rate in rates)
+        print(f"| {name} | {language} | {cells} | {rates[-1] / rates[0]:.2f} |", flush=True)
+
+
+if __name__ == "__main__":
+    main()

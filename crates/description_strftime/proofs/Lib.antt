@@ -1,0 +1,14 @@
+pub mod Again
+pub mod Composites
+pub mod Cuts
+pub mod FaultsBehind
+pub mod Flags
+pub mod Joins
+pub mod Outcomes
+pub mod Parts
+pub mod Refused
+pub mod RefusedAgain
+pub mod Relations
+pub mod Runs
+pub mod Sound
+pub mod Steps

@@ -1,0 +1,7 @@
+use Rattle.std.proofs.Common.{◌≡◌, ◌++◌, take, map}
+use Rattle.description_items.specs.Tree.{trees}
+use Rattle.description_strftime.specs.Letters.{part_of}
+use Rattle.description_strftime.proofs.items.push_composite.Given as goal
+
+abbrev pub invariant-loop-byte : goal.invariant-loop-byte
+invariant-loop-byte l = trees l.all.items ≡ trees l.fn.all.items ++ map part_of (take l.byte-index l.byte-items)

@@ -1,0 +1,10 @@
+pub mod Composites
+pub mod Faulty
+pub mod Further
+pub mod Joined
+pub mod Letters
+pub mod Outcomes
+pub mod Reading
+pub mod Spelled
+pub mod Text
+pub mod Views

@@ -1,0 +1,131 @@
+//! Conversions, a percent sign and a letter each, and the literals between them.
+
+ghost use Rattle.std.specs.Prelude.{◌≡◌, ◌<◌, length};
+ghost use Rattle.std.specs.List.{prefix_len};
+ghost use Rattle.std.specs.Str.{IsCharBoundary};
+ghost use Rattle.description_faults.specs.Answer.{Answers};
+ghost use Rattle.description_faults.specs.Fault.{fault_of};
+ghost use Rattle.description_words.specs.Views.{piece};
+ghost use Rattle.description_strftime.specs.Letters.{refused};
+ghost use Rattle.description_strftime.specs.Text.{is_plain, is_continuation};
+ghost use Rattle.description_strftime.specs.Reading.{character_len, flag_at, past_flag, refusal, letter_at, conversion_at, plain_len, strftime_step};
+ghost use Rattle.description_strftime.specs.Views.{items_spelled};
+
+use crate::letters::{Spelled, flag_of, refused, spelled_by};
+use description_faults::InvalidFormatDescription;
+use description_items::BorrowedFormatItem;
+use description_items::modifier::Padding;
+use description_words::{Left, begins, cut};
+
+fn continuation_len(text: &[u8]) -> usize
+    ensures value { result ≡ prefix_len is_continuation text.now }
+{
+    text.iter()
+        .take_while(|byte| **byte >= 128 && **byte < 192)
+        .count()
+}
+
+fn plain_run(text: &[u8]) -> usize
+    ensures value { result ≡ prefix_len is_plain text.now }
+{
+    text.iter().take_while(|byte| **byte != b'%').count()
+}
+
+// The length of the character at the front.
+fn character_len(text: &str) -> usize
+    requires { 0 < length text.now }
+    ensures len { result ≡ character_len text.now }
+    ensures boundary { IsCharBoundary text.now result }
+{
+    let (_, rest) = text.as_bytes().split_at(1);
+    1 + continuation_len(rest)
+}
+
+// The length of the literal at the front.
+fn plain_len(text: &str) -> usize
+    ensures len { result ≡ plain_len text.now }
+    ensures boundary { IsCharBoundary text.now result }
+{
+    plain_run(text.as_bytes())
+}
+
+// What is wrong with a character that stands for nothing.
+fn refusal<'a>(first: u8, left: Left<'a>) -> InvalidFormatDescription<'a>
+    requires { 0 < length left.text.now }
+    ensures value { fault_of result ≡ refusal (refused first) (piece left.entry) }
+{
+    let index = left.index;
+    match refused(first) {
+        Some(what) => InvalidFormatDescription::NotSupported {
+            what,
+            context: "strftime",
+            index,
+        },
+        None => InvalidFormatDescription::InvalidComponentName {
+            name: cut(left, character_len(left.text)).0.text,
+            index,
+        },
+    }
+}
+
+// A letter behind a percent sign and a flag, and what follows it.
+#[tactic(auto, unfolding(crate::specs::Reading::letter_at))]
+fn letter<'a>(
+    percent: usize,
+    flag: Option<Padding>,
+    left: Left<'a>,
+) -> Result<(Spelled<'a>, Left<'a>), InvalidFormatDescription<'a>>
+    ensures value { Answers (λ x. (items_spelled x.0, piece x.1)) result (letter_at percent flag (piece left.entry)) }
+{
+    let [first, ..] = left.text.as_bytes() else {
+        return Err(InvalidFormatDescription::Expected {
+            what: "component letter",
+            index: percent,
+        });
+    };
+    match spelled_by(flag, *first) {
+        Some(spelled) => Ok((spelled, cut(left, 1).1)),
+        None => Err(refusal(*first, left)),
+    }
+}
+
+// The flag at the front, and what follows it.
+fn flag(left: Left<'_>) -> (Option<Padding>, Left<'_>)
+    ensures flag { result.0 ≡ flag_at left.entry.text.now }
+    ensures rest { piece result.1 ≡ past_flag (flag_at left.entry.text.now) (piece left.entry) }
+{
+    if let [first, ..] = left.text.as_bytes()
+        && let Some(padding) = flag_of(*first)
+    {
+        return (Some(padding), cut(left, 1).1);
+    }
+    (None, left)
+}
+
+// What stands behind a percent sign, and what follows it.
+#[tactic(auto, unfolding(crate::specs::Reading::conversion_at))]
+fn conversion<'a>(
+    percent: usize,
+    left: Left<'a>,
+) -> Result<(Spelled<'a>, Left<'a>), InvalidFormatDescription<'a>>
+    ensures value { Answers (λ x. (items_spelled x.0, piece x.1)) result (conversion_at percent (piece left.entry)) }
+{
+    let (flag, rest) = flag(left);
+    letter(percent, flag, rest)
+}
+
+/// The part of a text at its front, a conversion or a literal, and what follows it.
+#[tactic(auto, unfolding(crate::specs::Reading::strftime_step))]
+pub fn part<'a>(left: Left<'a>) -> Result<(Spelled<'a>, Left<'a>), InvalidFormatDescription<'a>>
+    ensures value { Answers (λ x. (items_spelled x.0, piece x.1)) result (strftime_step (piece left.entry)) }
+{
+    if begins(left.text, b'%') {
+        let (_, rest) = cut(left, 1);
+        return conversion(left.index, rest);
+    }
+    let (front, rest) = cut(left, plain_len(left.text));
+    Ok((
+        Spelled::Item(BorrowedFormatItem::StringLiteral(front.text)),
+        rest,
+    ))
+}

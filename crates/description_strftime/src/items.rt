@@ -1,0 +1,80 @@
+//! The items of the parts of a text, one after the other.
+
+ghost use Rattle.std.specs.Prelude.{◌≡◌, ◌++◌, IfOk, map};
+ghost use Rattle.description_items.specs.Tree.{tree_of, trees};
+ghost use Rattle.description_strftime.specs.Letters.{offset, separator, part_of};
+ghost use Rattle.description_strftime.specs.Views.{items_spelled};
+
+use crate::letters::{Spelled, item_of};
+use description_items::modifier::{OffsetHour, OffsetMinute, Padding};
+use description_items::{BorrowedFormatItem, Component};
+use std::alloc::AllocError;
+
+// What stands between two letters of a composite.
+#[tactic(auto, unfolding(crate::specs::Letters::separator))]
+fn separator(byte: u8) -> &'static str
+    ensures value { result.now ≡ separator byte }
+{
+    match byte {
+        b'/' => "/",
+        b'-' => "-",
+        b':' => ":",
+        _ => " ",
+    }
+}
+
+// A letter of a composite, or what stands between two of them.
+#[tactic(auto, unfolding(crate::specs::Letters::part_of))]
+fn part_of(byte: u8) -> BorrowedFormatItem<'static>
+    ensures value { tree_of result ≡ part_of byte }
+{
+    match item_of(None, byte) {
+        Some(item) => item,
+        None => BorrowedFormatItem::StringLiteral(separator(byte)),
+    }
+}
+
+// The items of a composite's letters, behind the others.
+fn push_composite(
+    all: &mut Vec<BorrowedFormatItem<'_>>,
+    letters: &'static str,
+) -> Result<(), AllocError>
+    ensures items { IfOk result (λ _. trees all.new.items ≡ trees all.old.items ++ map part_of letters.now) }
+{
+    for byte in letters.as_bytes() {
+        all.push(part_of(*byte))?;
+    }
+    Ok(())
+}
+
+// The hours and the minutes of an offset, behind the others.
+fn push_offset(all: &mut Vec<BorrowedFormatItem<'_>>) -> Result<(), AllocError>
+    ensures items { IfOk result (λ _. trees all.new.items ≡ trees all.old.items ++ offset) }
+{
+    let padding = Padding::Zero;
+    let hour = OffsetHour {
+        sign_is_mandatory: true,
+        padding,
+    };
+    let minute = OffsetMinute { padding };
+    all.push(BorrowedFormatItem::Component(Component::OffsetHour(hour)))?;
+    all.push(BorrowedFormatItem::Component(Component::OffsetMinute(minute)))?;
+    Ok(())
+}
+
+/// The items that a part stands for, behind the others.
+pub fn push_part<'a>(
+    all: &mut Vec<BorrowedFormatItem<'a>>,
+    part: Spelled<'a>,
+) -> Result<(), AllocError>
+    ensures items { IfOk result (λ _. trees all.new.items ≡ trees all.old.items ++ items_spelled part.entry) }
+{
+    match part {
+        Spelled::Item(item) => {
+            all.push(item)?;
+            Ok(())
+        }
+        Spelled::Offset => push_offset(all),
+        Spelled::Composite(letters) => push_composite(all, letters),
+    }
+}
