@@ -1,13 +1,17 @@
 //! Laws that follow from the contracts, each the contract of a function here.
-ghost use Rattle.std.specs.Prelude.{◌≡◌, ◌↔◌, ◌∷◌, [], ℕ, ℤ, pos, ◌+ℤ◌, ◌-ℤ◌, ◌*ℤ◌, Some, IsTrue, IsSome, IfSome, ◌<◌};
+ghost use Rattle.std.specs.Prelude.{◌≡◌, ◌↔◌, ◌∷◌, [], ℕ, ℤ, pos, ◌+ℤ◌, ◌-ℤ◌, ◌*ℤ◌, Some, IsTrue, IsSome, IfSome, IfOk, ◌<◌};
 ghost use Rattle.std.specs.Ordering.{int_cmp};
 ghost use Rattle.calendar.specs.Duration.{milli_nanos};
 ghost use Rattle.datetime_wall.specs.Wall.{first_wall_clock, last_wall_clock, IsWallClock, instant, shown_at, cut_to, day_nanos};
+ghost use Rattle.datetime_calls.specs.Replies.{replies};
 ghost use Rattle.datetime_types.specs.Texts.{seconds_text};
 ghost use Rattle.datetime.specs.Laws.{IsUnit, IsCut, TimesShowParts, ShowsDay, IsTidy};
 
-use crate::{OffsetDateTime, PlainDateTime, Timestamp, UtcDateTime};
+use crate::{
+    MomentCall, MomentReply, OffsetDateTime, PlainDateTime, Timestamp, UtcDateTime, run_calls,
+};
 use calendar::{SignedDuration, UtcOffset};
+use std::alloc::{AllocError, Global};
 use std::cmp::Ordering;
 
 /// The first and the last wall clock of the calendar.
@@ -217,3 +221,16 @@ pub fn timestamps_print_apart()
 pub fn timestamps_print_tidily()
     ensures { (instant : ℤ) → IsWallClock instant → IsTidy (seconds_text instant) }
 {}
+
+/// The same calls answer alike from a timestamp and from its date and time in UTC.
+pub fn replies_alike(
+    alloc: Global,
+    timestamp: Timestamp,
+    calls: &[MomentCall],
+) -> Result<(Vec<MomentReply>, Vec<MomentReply>), AllocError>
+    ensures { IfOk result (λ both. (both.0.items ≡ replies timestamp calls.now) × (both.1.items ≡ replies timestamp calls.now)) }
+{
+    let (_, replies) = run_calls(alloc, timestamp, calls)?;
+    let (_, others) = run_calls(alloc, timestamp.to_utc(), calls)?;
+    Ok((replies, others))
+}

@@ -1,7 +1,7 @@
 //! The laws at values that are known from outside.
 use super::{evening, leap_day};
-use crate::{OffsetDateTime, PlainDateTime, Timestamp, UtcDateTime, laws};
-use calendar::{Date, SignedDuration, Time, UtcOffset};
+use crate::{MomentCall, MomentReply, OffsetDateTime, PlainDateTime, Timestamp, UtcDateTime, laws};
+use calendar::{Date, SignedDuration, Time, UtcOffset, Weekday};
 use std::cmp::Ordering;
 use std::test::Fail;
 
@@ -74,5 +74,19 @@ fn leads_by_differences(rt: HostRuntime) -> Result<(), Fail> {
         laws::shown_by_way_of(moment, UtcOffset::UTC, east),
         Some(Some(moment))
     );
+    Ok(())
+}
+
+#[test]
+fn answers_alike(rt: HostRuntime) -> Result<(), Fail> {
+    let start = Timestamp::from_seconds(1_709_251_198)?;
+    let calls = [MomentCall::Weekday, MomentCall::InstantNanos];
+    let wanted = [
+        MomentReply::Weekday(Weekday::Thursday),
+        MomentReply::InstantNanos(1_709_251_198_000_000_000),
+    ];
+    let (one, other) = laws::replies_alike(rt.alloc(), start, &calls)?;
+    assert!(rt; one.as_slice() == wanted.as_slice());
+    assert!(rt; other.as_slice() == wanted.as_slice());
     Ok(())
 }
