@@ -7,7 +7,6 @@ ghost use Rattle.datetime_calls.specs.Replies.{reply_to, next_start, replies, la
 use crate::{Moment, MomentCall, MomentReply};
 use std::alloc::{AllocError, Global};
 
-#[tactic(auto, unfolding(crate::specs::Replies::reply_to), using(crate::proofs::ReplyLemmas::month_named))]
 fn calendar_date<M: Moment>(moment: M) -> MomentReply
     ensures { result ≡ reply_to (M.instant moment) call.ToCalendarDate }
 {
@@ -23,7 +22,6 @@ fn ordinal_date<M: Moment>(moment: M) -> MomentReply
     MomentReply::ToOrdinalDate(year, ordinal)
 }
 
-#[tactic(auto, unfolding(crate::specs::Replies::reply_to), using(crate::proofs::ReplyLemmas::weekday_named))]
 fn iso_week_date<M: Moment>(moment: M) -> MomentReply
     ensures { result ≡ reply_to (M.instant moment) call.ToIsoWeekDate }
 {
@@ -51,7 +49,7 @@ fn moved<M: Moment>(from: M, to: Option<M>) -> (Option<i128>, M)
 }
 
 // The reply to a call, and the moment that the next call starts from.
-#[tactic(auto, unfolding(crate::specs::Replies::reply_to, crate::specs::Replies::next_start), using(crate::proofs::ReplyLemmas::weekday_named, crate::proofs::ReplyLemmas::moved_nanos, crate::proofs::ReplyLemmas::moved_next))]
+#[tactic(auto, unfolding(crate::specs::Replies::reply_to, crate::specs::Replies::next_start), using(crate::proofs::ReplyLemmas::moved_nanos, crate::proofs::ReplyLemmas::moved_next))]
 fn answered<M: Moment>(moment: M, call: MomentCall) -> (MomentReply, M)
     ensures reply { result.0 ≡ reply_to (M.instant moment) call }
     ensures next { M.instant result.1 ≡ next_start (M.instant moment) call }
