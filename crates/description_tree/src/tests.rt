@@ -4,6 +4,7 @@ use super::*;
 use description_items::Component;
 use description_items::modifier::*;
 use std::alloc::{AllocError, Global};
+use std::process::Abort;
 use std::test::Fail;
 
 #[test]
@@ -89,101 +90,103 @@ fn components_reserve_their_longest_value(rt: HostRuntime) {
     }
 }
 
-// An ordinal, a literal of two bytes, and what the caller adds.
-fn nodes(
-    alloc: Global,
-    last: FormatDescriptionV3Inner<'static>,
-) -> Result<Vec<FormatDescriptionV3Inner<'static>>, AllocError> {
+// The node reserves so many bytes.
+fn check_bytes(rt: &impl Abort, node: FormatDescriptionV3Inner<'_>, bytes: usize) {
+    match node.into_opaque() {
+        Ok(description) => assert_eq!(rt; description.max_bytes_needed(), bytes),
+        Err(_) => assert!(rt; false),
+    }
+}
+
+#[test]
+fn lent_trees_reserve_their_longest_layout(rt: HostRuntime) {
+    check_bytes(&rt, FormatDescriptionV3Inner::BorrowedLiteral("four"), 4);
+    let none = Lent { items: &[] };
+    check_bytes(&rt, FormatDescriptionV3Inner::BorrowedCompound(none), 0);
+    check_bytes(&rt, FormatDescriptionV3Inner::BorrowedFirst(none), 0);
+}
+
+// An ordinal, a literal of four bytes, and an optional day.
+fn nodes(alloc: Global) -> Result<Vec<FormatDescriptionV3Inner<'static>>, AllocError> {
     let mut nodes = Vec::new(alloc);
     nodes.push(FormatDescriptionV3Inner::Ordinal(Ordinal::default()))?;
-    nodes.push(FormatDescriptionV3Inner::BorrowedLiteral("ab"))?;
-    nodes.push(last)?;
+    nodes.push(FormatDescriptionV3Inner::OwnedLiteral(String::from_str(alloc, "four")?))?;
+    let day = FormatDescriptionV3Inner::Day(Day::default());
+    nodes.push(FormatDescriptionV3Inner::OwnedOptional {
+        format: true,
+        item: Box::new(alloc, day)?,
+    })?;
     Ok(nodes)
 }
 
 #[test]
-fn trees_reserve_their_longest_layout(rt: HostRuntime) -> Result<(), Fail> {
-    let literal = FormatDescriptionV3Inner::BorrowedLiteral("x");
-    let left_out = FormatDescriptionV3Inner::BorrowedOptional {
-        format: false,
-        item: &literal,
-    };
-    let items = [
-        FormatDescriptionV3Inner::Ordinal(Ordinal::default()),
-        left_out,
-    ];
-    let lent = Lent { items: &items };
-    let owned = FormatDescriptionV3Inner::OwnedFirst(nodes(
-        rt.alloc(),
-        FormatDescriptionV3Inner::BorrowedLiteral("four"),
-    )?);
-    let compound = FormatDescriptionV3Inner::OwnedCompound(nodes(
-        rt.alloc(),
-        FormatDescriptionV3Inner::BorrowedLiteral("four"),
-    )?);
-    for (node, bytes) in [
-        (FormatDescriptionV3Inner::BorrowedCompound(lent), 3),
-        (FormatDescriptionV3Inner::BorrowedFirst(lent), 3),
-        (
-            FormatDescriptionV3Inner::BorrowedCompound(Lent { items: &[] }),
-            0,
-        ),
-        (owned, 4),
-        (compound, 9),
-    ] {
-        match node.into_opaque() {
-            Ok(description) => assert_eq!(rt; description.max_bytes_needed(), bytes),
-            Err(_) => assert!(rt; false),
+fn owned_trees_reserve_their_longest_layout(rt: HostRuntime) -> Result<(), Fail> {
+    let nodes_in_turn = FormatDescriptionV3Inner::OwnedCompound(nodes(rt.alloc())?);
+    check_bytes(&rt, nodes_in_turn, 9);
+    let alternatives = FormatDescriptionV3Inner::OwnedFirst(nodes(rt.alloc())?);
+    check_bytes(&rt, alternatives, 4);
+    Ok(())
+}
+
+// The node is shown so; its copy is shown so, and reserves the same.
+fn check_copy(
+    rt: &impl Abort,
+    alloc: Global,
+    node: FormatDescriptionV3Inner<'_>,
+    shown: &str,
+    copied: &str,
+) -> Result<(), Fail> {
+    assert_eq!(rt; format!(in alloc; "{node:?}")?.as_str(), shown);
+    match node.into_opaque() {
+        Ok(description) => {
+            let copy = description.to_owned(alloc)?;
+            assert_eq!(rt; copy.max_bytes_needed(), description.max_bytes_needed());
+            let tree = copy.inner();
+            assert_eq!(rt; format!(in alloc; "{tree:?}")?.as_str(), copied);
         }
+        Err(_) => assert!(rt; false),
     }
     Ok(())
 }
 
 #[test]
 fn copies_keep_the_tree(rt: HostRuntime) -> Result<(), Fail> {
-    let item = FormatDescriptionV3Inner::Day(Day::default());
-    let items = [
+    check_copy(
+        &rt,
+        rt.alloc(),
         FormatDescriptionV3Inner::BorrowedLiteral("x\n"),
-        FormatDescriptionV3Inner::BorrowedOptional {
-            format: true,
-            item: &item,
-        },
-    ];
-    let tree = FormatDescriptionV3Inner::BorrowedFirst(Lent { items: &items });
-    assert_eq!(rt;
-        format!(in rt.alloc(); "{tree:?}")?.as_str(),
-        "BorrowedFirst([BorrowedLiteral(\"x\\n\"), BorrowedOptional { format: true, item: Day(Day { padding: Zero }) }])"
-    );
-    let Ok(description) = tree.into_opaque() else {
-        return Ok(assert!(rt; false));
-    };
-    let copy = description.to_owned(rt.alloc())?;
-    assert_eq!(rt; copy.max_bytes_needed(), 2);
-    let copied = copy.inner();
-    assert_eq!(rt;
-        format!(in rt.alloc(); "{copied:?}")?.as_str(),
-        "OwnedFirst([OwnedLiteral(\"x\\n\"), OwnedOptional { format: true, item: Day(Day { padding: Zero }) }])"
-    );
-    assert_eq!(rt;
-        format!(in rt.alloc(); "{description:?}")?.as_str(),
-        "FormatDescriptionV3 { inner: BorrowedFirst([BorrowedLiteral(\"x\\n\"), BorrowedOptional { format: true, item: Day(Day { padding: Zero }) }]), max_bytes_needed: 2 }"
-    );
+        "BorrowedLiteral(\"x\\n\")",
+        "OwnedLiteral(\"x\\n\")",
+    )?;
+    check_copy(
+        &rt,
+        rt.alloc(),
+        FormatDescriptionV3Inner::BorrowedCompound(Lent { items: &[] }),
+        "BorrowedCompound([])",
+        "OwnedCompound([])",
+    )?;
+    let shown =
+        "OwnedFirst([Ordinal(Ordinal { padding: Zero }), OwnedLiteral(\"four\"), OwnedOptional { format: true, item: Day(Day { padding: Zero }) }])";
+    let alternatives = FormatDescriptionV3Inner::OwnedFirst(nodes(rt.alloc())?);
+    check_copy(&rt, rt.alloc(), alternatives, shown, shown)
+}
+
+#[test]
+fn descriptions_are_shown(rt: HostRuntime) -> Result<(), Fail> {
+    match FormatDescriptionV3Inner::Day(Day::default()).into_opaque() {
+        Ok(description) => assert_eq!(rt;
+            format!(in rt.alloc(); "{description:?}")?.as_str(),
+            "FormatDescriptionV3 { inner: Day(Day { padding: Zero }), max_bytes_needed: 2 }"
+        ),
+        Err(_) => assert!(rt; false),
+    }
     Ok(())
 }
 
 // Takes no memory but for the copy, so that each allocation can be refused in turn.
 #[test]
 fn copies_or_wants_memory(rt: HostRuntime) {
-    let item = FormatDescriptionV3Inner::BorrowedLiteral("x");
-    let items = [
-        FormatDescriptionV3Inner::BorrowedLiteral("y"),
-        FormatDescriptionV3Inner::BorrowedOptional {
-            format: true,
-            item: &item,
-        },
-    ];
-    let tree = FormatDescriptionV3Inner::BorrowedCompound(Lent { items: &items });
-    match tree.into_opaque() {
+    match FormatDescriptionV3Inner::BorrowedLiteral("xy").into_opaque() {
         Ok(description) => match description.to_owned(rt.alloc()) {
             Ok(copy) => assert_eq!(rt; copy.max_bytes_needed(), 2),
             Err(refused) => assert_eq!(rt; refused, AllocError),
