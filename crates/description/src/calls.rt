@@ -20,6 +20,8 @@ use std::alloc::Global;
 
 /// The items of a description of version 1.
 ///
+/// A component stands in brackets, with its modifiers behind its name, as in
+/// `[year repr:last_two]`; two opening brackets are one bracket, and all else stands for itself.
 /// The error says what is wrong with the text, and at which byte of it, or that memory ran out.
 pub fn parse<'a>(
     alloc: Global,
@@ -36,6 +38,9 @@ pub fn parse<'a>(
 
 /// A description of this version: items of version 1 or 2, or the tree of version 3.
 ///
+/// From version 2 on a backslash, not a second bracket, takes a bracket as it stands. In version 3
+/// `[optional [..]]` is an item that may be missing, and `[first [..] [..]]` the first of several
+/// that can be read; they stand inside one another at most 127 levels deep.
 /// The error says what is wrong with the text, and at which byte of it, or that memory ran out.
 pub fn parse_borrowed<'a>(
     alloc: Global,

@@ -1,3 +1,5 @@
 //! Laws of descriptions, each the contract of a function here.
 
-pub use description_laws::{joined, letter_case, one_outcome, reserved, two_versions};
+pub use description_laws::{
+    faults_behind, joined, letter_case, one_outcome, reserved, two_versions,
+};

@@ -8,3 +8,5 @@ pub mod Tables
 pub mod TwoTables
 pub mod TwoVersions
 pub mod Widths
+pub mod Moved
+pub mod Behind

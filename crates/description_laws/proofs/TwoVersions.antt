@@ -1,5 +1,5 @@
 -- A text of version 3 with no nested items is one of version 2.
-use Rattle.std.proofs.Common.{◌≡◌, ℕ, List, [], ◌∷◌, Option, Some, None, Result, Ok, Err, Bool, true, false, not, cond, refl, sym, ap, ◌∙◌, inl, inr}
+use Rattle.std.proofs.Common.{◌≡◌, ℕ, List, [], ◌∷◌, Option, Some, None, Result, Ok, Err, Bool, true, false, not, cond, refl, sym, ap, subst, ◌∙◌, inl, inr}
 use Rattle.std.specs.Prelude.{codes, ◌&&◌, ◌||◌}
 use Rattle.std.specs.Option.{option_map, unwrap_or, is_some}
 use Rattle.std.specs.Str.{bytes_eq}
@@ -40,7 +40,7 @@ use Rattle.description_tables.specs.Made.{made, year_repr}
 use Rattle.description_tables.specs.Component.{found, bad, key_among, key_in, with_modifier, with_modifiers, combined, named, component_of}
 use Rattle.description_spelling.specs.Heads.{SpellsComponent}
 use Rattle.description_spelling.specs.Spelling.{Spells}
-use Rattle.description_laws.specs.Versions.{extended, has_range, IsFlat, InTwo}
+use Rattle.description_laws.specs.Versions.{extended, has_range, IsFlat, InTwo, SaysRange, SpellsRanged}
 use Rattle.description_spelling.proofs.Results.{cond_true}
 use Rattle.description_laws.proofs.Tables.{none_not, some_is, key_text, key_is, key_found, value_found, found_is}
 use Rattle.description_laws.proofs.TwoTables.{name_two, no_nesting_two, key_two, value_two}
@@ -267,3 +267,25 @@ items_two text (Part c ∷ ts) (own, more, parts, one, others) flat =
 items_two text (Compound us ∷ ts) h flat = absurd flat
 items_two text (Optional f t ∷ ts) h flat = absurd flat
 items_two text (First us ∷ ts) h flat = absurd flat
+
+-- ---- the same items
+
+says_range : (ms : List Modifier) (c : Component) → SaysRange ms c → in_two (has_range ms) c ≡ c
+says_range ms c (inl same) = either (has_range ms)
+  where
+    either : (b : Bool) → in_two b c ≡ c
+    either true = refl
+    either false = same
+says_range ms c (inr there) = ap (λ (b : Bool). in_two b c) there
+
+pub ranged_two : (text : List ℕ) (ts : List Tree) → SpellsRanged text ts → Spells Three text ts × Spells Two text ts
+ranged_two text [] e = (e, e)
+ranged_two text (Literal bytes ∷ ts) (own, more, parts, one, others) =
+    let o = ranged_two more ts others in
+    ((own, more, parts, one, o.0), (own, more, parts, one, o.1))
+ranged_two text (Part c ∷ ts) (own, more, parts, one, says, others) =
+    let o = ranged_two more ts others in
+    ((own, more, parts, one, o.0), (own, more, parts, subst (SpellsComponent Two own) (says_range one.modifiers c says) (component_two own c one), o.1))
+ranged_two text (Compound us ∷ ts) h = absurd h
+ranged_two text (Optional f t ∷ ts) h = absurd h
+ranged_two text (First us ∷ ts) h = absurd h

@@ -1,5 +1,5 @@
 -- What version 2 makes of a text of version 3.
-use Rattle.std.specs.Prelude.{◌≡◌, ℕ, ◌||◌, Bool, false, List, [], ◌∷◌, ◌++◌, if◌then◌else◌, codes}
+use Rattle.std.specs.Prelude.{◌≡◌, ℕ, ◌||◌, Bool, true, false, List, [], ◌∷◌, ◌++◌, ◌⊎◌, if◌then◌else◌, codes}
 use Rattle.std.specs.Str.{bytes_eq}
 use Rattle.description_items.specs.declared.component.Component.{Component}
 use Rattle.description_items.specs.declared.component.Component.TheVariants as component
@@ -7,7 +7,7 @@ use Rattle.description_items.specs.Tree.{Tree, Literal, Part, Compound, Optional
 use Rattle.description_words.specs.declared.version.DescriptionVersion.TheVariants.{Two, Three}
 use Rattle.description_words.specs.Words.{Modifier}
 use Rattle.description_spelling.specs.Heads.{SpellsComponent}
-use Rattle.description_spelling.specs.Spelling.{Spells}
+use Rattle.description_spelling.specs.Spelling.{SpellsItem, Spells}
 
 -- a full or century year of the standard range, in the extended one; any other component as it is
 abbrev pub extended : Component → Component
@@ -49,3 +49,16 @@ pub record InTwo (text : List ℕ) (ts : List Tree) : Type 0 where
   pub items : List Tree
   pub spells : Spells Two text items
   pub same : AllAsInTwo text ts items
+
+-- no full or century year of the standard range, or a range among the modifiers
+abbrev pub SaysRange : List Modifier → Component → Type 0
+SaysRange ms c = (extended c ≡ c) ⊎ (has_range ms ≡ true)
+
+-- a text of version 3 of literals and components, where each full and century year says its range
+abbrev pub SpellsRanged : List ℕ → List Tree → Type 0
+SpellsRanged text [] = text ≡ []
+SpellsRanged text (Literal bytes ∷ ts) = (own more : List ℕ) × (text ≡ own ++ more) × SpellsItem Three false 127 own more (Literal bytes) × SpellsRanged more ts
+SpellsRanged text (Part c ∷ ts) = (own more : List ℕ) × (text ≡ own ++ more) × (h : SpellsComponent Three own c) × SaysRange h.modifiers c × SpellsRanged more ts
+SpellsRanged text (Compound us ∷ ts) = ⊥
+SpellsRanged text (Optional format t ∷ ts) = ⊥
+SpellsRanged text (First us ∷ ts) = ⊥

@@ -3,15 +3,18 @@
 
 ghost use Rattle.std.specs.Prelude.{◌≡◌, ℕ, ◌+◌, ◌≤◌, true, false, List, ◌∷◌, ◌++◌, length};
 ghost use Rattle.std.specs.Str.{str_eq_ignore_ascii_case};
+ghost use Rattle.description_faults.specs.Fault.{Fault};
 ghost use Rattle.description_items.specs.declared.component.Component.{Component};
 ghost use Rattle.description_items.specs.Tree.{Tree, Part};
 ghost use Rattle.description_words.specs.declared.version.DescriptionVersion.{DescriptionVersion};
-ghost use Rattle.description_words.specs.declared.version.DescriptionVersion.TheVariants.{Three};
+ghost use Rattle.description_words.specs.declared.version.DescriptionVersion.TheVariants.{Two, Three};
 ghost use Rattle.description_words.specs.Version.{is_three};
 ghost use Rattle.description_tree.specs.Reserved.{reserved};
+ghost use Rattle.description_strftime.specs.Further.{further};
+ghost use Rattle.description_spelling.specs.Faulty.{Faulty};
 ghost use Rattle.description_spelling.specs.Heads.{SpellsComponent};
 ghost use Rattle.description_spelling.specs.Spelling.{Spells, SpellsTree};
-ghost use Rattle.description_laws.specs.Versions.{IsFlat, InTwo};
+ghost use Rattle.description_laws.specs.Versions.{IsFlat, InTwo, SpellsRanged};
 ghost use Rattle.description_laws.specs.Laws.{Joins, nodes};
 
 pub use description_spelling::one_outcome;
@@ -20,6 +23,12 @@ pub use description_spelling::one_outcome;
 /// that ends the first and one that begins the second are one literal.
 pub fn joined()
     ensures { (version : DescriptionVersion) (s t : List ℕ) (ss ts : List Tree) → Spells version s ss → Spells version t ts → Joins version s t ss ts }
+{}
+
+/// A text with a fault behind one that spells items has that fault, as many bytes further on as the
+/// first text is long.
+pub fn faults_behind()
+    ensures { (version : DescriptionVersion) (s t : List ℕ) (items : List Tree) (fault : Fault) → Spells version s items → Faulty version t fault → Faulty version (s ++ t) (further (length s) fault) }
 {}
 
 /// A tree of version 3 reserves no more bytes than its text has, so reading one never meets too many.
@@ -33,7 +42,9 @@ pub fn reserved()
 /// items: only full and century years that lack their range are of the standard range in version 3,
 /// and of the extended one in version 2.
 pub fn two_versions()
-    ensures { (text : List ℕ) (ts : List Tree) → Spells Three text ts → IsFlat ts → InTwo text ts }
+    ensures items { (text : List ℕ) (ts : List Tree) → Spells Three text ts → IsFlat ts → InTwo text ts }
+    // Where no such year lacks its range, the items are the same.
+    ensures same { (text : List ℕ) (ts : List Tree) → SpellsRanged text ts → Spells Three text ts × Spells Two text ts }
 {}
 
 /// In versions 1 and 2 the case of ASCII letters in a component says nothing, be it in its name, in a
