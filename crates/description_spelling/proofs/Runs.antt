@@ -1,46 +1,12 @@
 -- A run is what passes at the front, and no more.
-use Rattle.std.proofs.Common.{◌≡◌, ℕ, zero, suc, ◌+◌, ◌<◌, List, [], ◌∷◌, ◌++◌, length, take, drop, Bool, true, false, refl, sym, ap, subst, arith, inl, inr, ◌⊎◌}
+use Rattle.std.proofs.Common.{◌≡◌, ℕ, zero, suc, ◌+◌, ◌<◌, List, [], ◌∷◌, ◌++◌, length, take, drop, Bool, true, false, refl, sym, ap, subst, arith, inl, inr}
 use Rattle.std.specs.List.{prefix_len}
 use Rattle.std.proofs.lemmas.List.{take-append-drop, take_at, drop_at}
 use Rattle.std.proofs.lemmas.List.Folds.{length-prefix_len}
 use Rattle.std.proofs.lemmas.Bool.Decides.{nat_tests}
 use Rattle.description_words.specs.Text.{Piece, is_space, is_word_byte, run, past}
 use Rattle.description_spelling.specs.Heads.{Each, Stops}
-
--- a test, and which way it went
-pub which : (b : Bool) → (b ≡ true) ⊎ (b ≡ false)
-which true = inl refl
-which false = inr refl
-
-each_step : (p : ℕ → Bool) (n b : ℕ) (bs : List ℕ) → p b ≡ true → Each p (take n bs) → Each p (take (1 + n) (b ∷ bs))
-each_step p n b bs e h = let one : 1 + n ≡ suc n = omega arith in rw one (e, h)
-
-drop_step : (p : ℕ → Bool) (n b : ℕ) (bs : List ℕ) → Stops p (drop n bs) → Stops p (drop (1 + n) (b ∷ bs))
-drop_step p n b bs h = let one : 1 + n ≡ suc n = omega arith in rw one h
-
-pub each_run : (p : ℕ → Bool) (s : List ℕ) → Each p (take (prefix_len p s) s)
-each_run p [] = tt
-each_run p (b ∷ bs) =
-    elim (which (p b)) [
-      | inl e ↦ rw e (each_step p (prefix_len p bs) b bs e (each_run p bs))
-      | inr e ↦ rw e tt
-    ]
-
-pub stops_past : (p : ℕ → Bool) (s : List ℕ) → Stops p (drop (prefix_len p s) s)
-stops_past p [] = tt
-stops_past p (b ∷ bs) =
-    elim (which (p b)) [
-      | inl e ↦ rw e (drop_step p (prefix_len p bs) b bs (stops_past p bs))
-      | inr e ↦ rw e e
-    ]
-
-no_run : (p : ℕ → Bool) (s : List ℕ) → Stops p s → prefix_len p s ≡ 0
-no_run p [] h = refl
-no_run p (b ∷ bs) h = rw h refl
-
-pub run_again : (p : ℕ → Bool) (xs rest : List ℕ) → Each p xs → Stops p rest → prefix_len p (xs ++ rest) ≡ length xs
-run_again p [] rest each stops = no_run p rest stops
-run_again p (x ∷ xs) rest each stops = rw (each.0, run_again p xs rest each.1 stops) (omega arith)
+pub use Rattle.description_words.proofs.Fronts.{which, each_run, stops_past, run_again}
 
 -- the pieces of a run again
 pub run_is : (p : ℕ → Bool) (at : ℕ) (xs rest : List ℕ) → Each p xs → Stops p rest → run p (record { index = at; text = xs ++ rest }) ≡ record { index = at; text = xs }

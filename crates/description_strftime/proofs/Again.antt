@@ -13,7 +13,7 @@ use Rattle.description_strftime.specs.Reading.{letter_at, conversion_at, plain_l
 use Rattle.description_strftime.specs.Spelled.{flag_text, SpellsConversion, SpellsPart}
 use Rattle.description_strftime.specs.Faulty.{IsNoFlag}
 use Rattle.description_strftime.proofs.Flags.{at_index, no_flag, flag_again, past_again}
-use Rattle.description_strftime.proofs.Runs.{run_again}
+use Rattle.description_words.proofs.Fronts.{run_again}
 
 abbrev pub Step : Type 0
 Step = Result (List Tree × Piece) Fault

@@ -9,6 +9,5 @@ pub mod Parts
 pub mod Refused
 pub mod RefusedAgain
 pub mod Relations
-pub mod Runs
 pub mod Sound
 pub mod Steps

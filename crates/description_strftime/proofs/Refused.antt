@@ -16,7 +16,7 @@ use Rattle.description_strftime.specs.Reading.{flag_at, past_flag, refusal, lett
 use Rattle.description_strftime.specs.Spelled.{flag_text}
 use Rattle.description_strftime.specs.Faulty.{head, IsNoFlag, BadConversion}
 use Rattle.description_strftime.proofs.Flags.{at_index, flag_takes, flag_index}
-use Rattle.description_strftime.proofs.Runs.{each_run, stops_past}
+use Rattle.description_words.proofs.Fronts.{each_run, stops_past}
 use Rattle.description_strftime.proofs.Again.{Step}
 
 abbrev pub failed : Fault → Step

@@ -14,7 +14,7 @@ use Rattle.description_strftime.specs.Reading.{character_len, past_flag, refusal
 use Rattle.description_strftime.specs.Spelled.{flag_text}
 use Rattle.description_strftime.specs.Faulty.{head, IsNoFlag, BadConversion}
 use Rattle.description_strftime.proofs.Flags.{at_index, flag_alone}
-use Rattle.description_strftime.proofs.Runs.{run_again}
+use Rattle.description_words.proofs.Fronts.{run_again}
 use Rattle.description_strftime.proofs.Again.{conversion_again, percent_again}
 use Rattle.description_strftime.proofs.Refused.{failed, one_more}
 

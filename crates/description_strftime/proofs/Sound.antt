@@ -14,7 +14,7 @@ use Rattle.description_strftime.specs.Letters.{letter_items, refused}
 use Rattle.description_strftime.specs.Reading.{flag_at, past_flag, refusal, letter_at, conversion_at, plain_len, at_end, strftime_step}
 use Rattle.description_strftime.specs.Spelled.{flag_text, SpellsPart}
 use Rattle.description_strftime.proofs.Flags.{at_index, flag_takes, flag_index}
-use Rattle.description_strftime.proofs.Runs.{each_run, stops_past, some_run}
+use Rattle.description_words.proofs.Fronts.{each_run, stops_past, some_run}
 
 ok_or_ok : {A : Type 0} (o : Option A) (fault : Fault) (y : A) → ok_or o fault ≡ Ok y → o ≡ Some y
 ok_or_ok (Some x) fault y e = ap (λ (z : _). Some z) (ok_is x y e)

@@ -2,3 +2,4 @@ pub mod Cuts
 pub mod Many
 pub mod Readings
 pub mod Shorter
+pub mod Fronts

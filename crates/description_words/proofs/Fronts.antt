@@ -1,9 +1,10 @@
 -- A run is what passes at the front, and no more.
 use Rattle.std.proofs.Common.{◌≡◌, ℕ, suc, ◌+◌, ◌<◌, List, [], ◌∷◌, ◌++◌, length, take, drop, Bool, true, false, refl, arith, inl, inr, ◌⊎◌}
 use Rattle.std.specs.List.{prefix_len}
-use Rattle.description_strftime.specs.Text.{Each, Stops}
+use Rattle.description_words.specs.Text.{Each, Stops}
 
-which : (b : Bool) → (b ≡ true) ⊎ (b ≡ false)
+-- a test, and which way it went
+pub which : (b : Bool) → (b ≡ true) ⊎ (b ≡ false)
 which true = inl refl
 which false = inr refl
 
