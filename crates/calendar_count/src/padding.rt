@@ -4,7 +4,7 @@ ghost use Rattle.std.specs.Fmt.{formatter_spec, styled_text, DisplaysOnOk, Displ
 
 use std::fmt::{self, InlineText, Write};
 
-// The longest text of the calendar and of date-times has 46 bytes.
+// No text of the calendar or of the date-times has more than 42 bytes.
 const LONGEST: usize = 64;
 
 /// Writes a text of at most 64 bytes under the options of the hole: filled up to its width, on the
