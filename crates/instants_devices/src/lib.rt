@@ -4,11 +4,13 @@
 mod cut_reader;
 mod cut_writer;
 mod devices;
-mod std_devices;
+mod std_reader;
+mod std_writer;
 #[cfg(test)]
 mod tests;
 
 pub use cut_reader::CutReader;
 pub use cut_writer::CutWriter;
 pub use devices::{ByteReader, ByteWriter, DeviceFailed, write_all};
-pub use std_devices::{StdReader, StdWriter};
+pub use std_reader::StdReader;
+pub use std_writer::StdWriter;
