@@ -1,48 +1,102 @@
 #!/usr/bin/env python3
-"""Says which public functions of a crate no edit in its must-fail/ turns.
+"""Says which public functions of a crate no edit in its must-fail/ turns, and whether the prover refuses those that one does.
 
-    tools/turned.py CRATE..            the public functions that no edit turns
-    tools/turned.py --check CRATE..    also tries each edit on a copy: each function that it turns must be refused
+    tools/turned.py CRATE..             the public functions that no edit turns
+    tools/turned.py --check CRATE..     also tries each edit on a copy: each function that it turns must be refused
+    tools/turned.py --changed [REV]     --check for the crates that differ from REV (none given: from the branch's remote)
 
-An edit may turn several functions of one kind, none of which calls another. `rt ci` says that the crate is refused
-with the edit; this says that each of its functions is. It prints what it misses, and ends with status 1 if it does.
+An edit has a file for a kind of mistake, and turns several functions of the crate, none of which reaches another: the
+prover does not try a function that calls a refused one. `rt ci` says that the crate is refused with the edit; this says
+that each of its functions is, for what it does itself. A refusal that only names what the edit took away (a proof file
+that no longer finds a name) is set apart, since it says little of the contract.
+
+It prints what it misses, and ends with status 1 if there is any. With --jobs N it works on N crates at a time.
 """
 
 import argparse
 import collections
+import concurrent.futures
+import os
 import pathlib
 import re
 import shutil
 import subprocess
 import sys
 import tempfile
+import time
 
 ROOT = pathlib.Path(__file__).resolve().parent.parent
+PARTS = ("src", "specs", "proofs")
+
 FUNCTION = re.compile(r"( *)(pub(?:\(\w+\))? )?(?:const )?fn (\w+)")
 IMPL = re.compile(r"impl\b(.*) \{$")
-PLACE = re.compile(r"(?:note: )?(?:\./)?(src/\S+?):(\d+):\d+:")
-VERDICT = re.compile(r"fn \w+::([\w:]+): (?:not proved|no proof)(?!.*it calls)")
+COMMENT = re.compile(r"//[^\n]*|/\*.*?\*/", re.S)
 
-Function = collections.namedtuple("Function", "file name is_public first last")
+# What the prover says: of a function or an impl by its path, and where in a file.
+VERDICT = re.compile(r"(fn|impl) (\w+)::(\S+): (.*)")
+NOTE = re.compile(r"note: (?:\./)?(src/\S+?):(\d+):\d+:")
+PROOF = re.compile(r"(?:\./)?proofs/(\S+?)/\w+\.antt:\d+:\d+: error: (.*)")
+LOST_NAME = re.compile(r"has no field|is not in scope|has no `|was not admitted|which was rejected|depends? on")
+
+Function = collections.namedtuple("Function", "file name trait path is_public first last")
+
+
+class Refusal:
+    """How the prover answers for one function under an edit."""
+
+    SPARED = "spared"
+    WAITS = "not tried, since it calls what is refused"
+    NAMES = "refused only for a name that the edit took away"
+    REFUSED = "refused"
+
+
+def without_comments(text):
+    """Returns the text with spaces in the place of its comments, line for line."""
+    return COMMENT.sub(lambda it: re.sub(r"[^\n]", " ", it[0]), text)
+
+
+def name_of_type(text):
+    """Returns a type as the prover writes it in the name of an impl: `&'a [Item<'a>]` as `RefSliceItem`."""
+    text = re.sub(r"'\w+\b", "", text).replace("&", " Ref ").replace("[", " Slice ")
+    words = [it for it in re.findall(r"[A-Za-z_]\w*", text.replace("::", ".").replace("fmt.", "")) if it != "mut"]
+    return "".join(it[0].upper() + it[1:] for it in words)
+
+
+def name_of_impl(head):
+    """Returns what the prover calls an impl by its head, as `DateDisplay`, and its trait; or the type's name, and no trait."""
+    generic, _, head = re.match(r"\s*(<[^<>]*(?:<[^<>]*>[^<>]*)*>)?(\s*)(.*)", head).groups()
+    trait, is_of_trait, of = head.partition(" for ")
+    if not is_of_trait:
+        return re.match(r"\w+", head)[0], ""
+    bare = re.sub(r"<.*", "", of) if not of.startswith("&") else of
+    # (a parameter is not named, nor an argument that is the type itself)
+    parameters = re.findall(r"[<,]\s*(\w+)", generic or "")
+    shown = re.sub(rf"\b({'|'.join(parameters)})\b", "", trait) if parameters else trait
+    shown = shown.replace(f"<{of}>", "")
+    return name_of_type(bare) + name_of_type(shown), trait
 
 
 def functions_of(crate):
-    """Returns the crate's functions, each with its lines from its attributes to its end, counted from 1.
+    """Returns the crate's functions, each with its lines from its attributes to its end, counted from 1: none of a crate of tests.
 
     The first function of an impl of a trait begins at the impl, whose ghost members speak of it."""
     found = []
-    for path in sorted((crate / "src").rglob("*.rt")):
-        if path.stem.endswith("tests"):
+    for path in sorted((crate / "src").rglob("*.rt") if not crate.name.endswith("_tests") else []):
+        if any(it.endswith("tests") for it in path.relative_to(crate / "src").with_suffix("").parts):
             continue
         lines = path.read_text().split("\n")
-        file, trait, opened = str(path.relative_to(crate)), "", None
+        file = str(path.relative_to(crate))
+        module = "::".join(it for it in path.relative_to(crate / "src").with_suffix("").parts if it not in ("lib", "main"))
+        within, trait, opened = "", "", None
         for at, line in enumerate(lines):
             implemented, named = IMPL.match(line), FUNCTION.match(line)
             if implemented:
-                trait = implemented[1] if " for " in implemented[1] else ""
+                within, trait = name_of_impl(implemented[1])
                 opened = at if trait else None
+            if re.match(r"(pub )?trait (\w+)", line):
+                within = re.match(r"(?:pub )?trait (\w+)", line)[1]
             if line == "}":
-                trait, opened = "", None
+                within, trait, opened = "", "", None
             if not named:
                 continue
             first = at if opened is None else opened
@@ -50,8 +104,11 @@ def functions_of(crate):
                 first -= 1
             ends = [named[1] + "}", named[1] + "{}"]
             last = next((it for it in range(at, len(lines)) if lines[it] in ends), at)
-            name = f"{named[3]}, impl{trait}" if trait else named[3]
-            found.append(Function(file, name, named[2] == "pub " or bool(trait), first + 1, last + 1))
+            # (the methods of a type are named after its module, wherever their impl stands)
+            own = "" if within and not trait else module
+            place = "::".join(it for it in (own, within, named[3]) if it)
+            is_public = named[2] == "pub " or bool(trait)
+            found.append(Function(file, named[3], trait, place, is_public, first + 1, last + 1))
             opened = None
     return found
 
@@ -71,80 +128,168 @@ def changes_of(edit):
     return changes
 
 
-def turned_by(crate, changes, functions):
-    """Returns the innermost functions that hold the changed lines."""
+def edited(crate, changes):
+    """Returns the files that the changes touch, each as it is and as they leave it."""
+    texts = {}
+    for file, old, new in changes:
+        was, now = texts.setdefault(file, [(crate / file).read_text()] * 2)
+        if now.count(old) != 1:
+            raise ValueError(f"stands {now.count(old)} times in {file}: {old}")
+        texts[file] = was, now.replace(old, new)
+    return texts
+
+
+def turned_by(texts, functions):
+    """Returns the innermost functions whose text changes, comments aside."""
     turned = []
-    for file, old, _ in changes:
-        at = (crate / file).read_text()
-        line = at[: at.index(old)].count("\n") + 1
-        within = [it for it in functions if it.file == file and it.first <= line <= it.last]
-        turned += within[-1:]
+    for file, (was, now) in texts.items():
+        lines = zip(without_comments(was).split("\n"), without_comments(now).split("\n"))
+        for at, (before, after) in enumerate(lines, 1):
+            if before.strip() == after.strip():
+                continue
+            within = [it for it in functions if it.file == file and it.first <= at <= it.last]
+            turned += [it for it in within[-1:] if it not in turned]
     return turned
 
 
-def check_with(crate, changes):
-    """Returns what the prover says of the crate with these changes, which it takes back."""
-    kept = {file: (crate / file).read_text() for file, _, _ in changes}
-    for file, old, new in changes:
-        text = (crate / file).read_text()
-        (crate / file).write_text(text.replace(old, new))
-    ran = subprocess.run(["rt", "check"], cwd=crate, capture_output=True, text=True, errors="replace")
-    for file, text in kept.items():
-        (crate / file).write_text(text)
-    return ran.stdout + ran.stderr
+def matches(function, path):
+    """Returns whether the prover's path, without the crate's name, is the function's."""
+    path, own = path.lower(), function.path.lower()
+    return path == own or path.endswith("::" + own) and not function.trait
 
 
-def refused_in(said, functions):
-    """Returns the functions that the prover refuses for what they do, and not for what they call."""
-    refused = set()
+def answers_in(said, functions):
+    """Returns how the prover answers for each function that it names: the worst that it says of it."""
+    answers, notes, proofs = {}, [], collections.defaultdict(list)
     for line in said.split("\n"):
-        place, verdict = PLACE.match(line), VERDICT.match(line)
-        if place:
-            refused.update(it for it in functions if it.file == place[1] and it.first <= int(place[2]) <= it.last)
-        if verdict:
-            path = verdict[1].split("::")
-            module, name = path[0] if path[1:] else "lib", path[-1]
-            within = (f"src/{module}.rt", f"src/{module}/")
-            alike = [it for it in functions if it.file.startswith(within) and it.name.partition(",")[0] == name]
-            refused.update(alike if len(alike) == 1 else [])
-    return refused
-
-
-def tell(name, is_checked, root):
-    crate = root / "crates" / name
-    functions = functions_of(crate)
-    edits = [(it, changes_of(it)) for it in sorted((crate / "must-fail").glob("*.edit"))]
-    turned, missed = set(), 0
-    for edit, changes in edits:
-        of_edit = turned_by(crate, changes, functions)
-        turned.update(of_edit)
-        if not is_checked:
+        proof = PROOF.match(line)
+        if proof:
+            proofs[proof[1].replace("/", "::")].append(not LOST_NAME.search(proof[2]))
+    for line in said.split("\n"):
+        note, verdict = NOTE.match(line), VERDICT.match(line)
+        if note:
+            notes.append((note[1], int(note[2])))
+        if not verdict:
             continue
-        said = check_with(crate, changes)
-        refused = refused_in(said, functions)
-        spared = [it for it in of_edit if it not in refused]
-        if spared or "logic=not-proved" not in said:
-            missed += 1
-            print(f"{name}/{edit.name}: not refused at {', '.join(it.name for it in spared) or 'all'}", flush=True)
+        kind, _, path, told = verdict.groups()
+        of_impl = kind == "impl"
+        for it in functions:
+            if matches(it, path) or of_impl and it.trait and it.path.lower().rpartition("::")[0] == path.lower():
+                shown = [1 for file, line in notes if file == it.file and it.first <= line <= it.last]
+                answer = answer_to(told, bool(shown), proofs.get(path, []))
+                if not (of_impl and answer != Refusal.REFUSED):
+                    answers[it] = answer
+        notes = notes if of_impl else []
+    return answers
+
+
+def answer_to(told, has_note, in_proofs):
+    """Returns the answer that a verdict says; in_proofs has each error of the function's proof files, true where it is no lost name."""
+    if not told.startswith(("not proved", "no proof")) or "it waits for" in told:
+        return Refusal.SPARED
+    if "it calls" in told and "did not prove" not in told and not has_note:
+        return Refusal.WAITS
+    if in_proofs and not any(in_proofs) and not has_note and "did not prove" not in told:
+        return Refusal.NAMES
+    return Refusal.REFUSED
+
+
+class Copy:
+    """A copy of the repository in which one crate's edits are tried, over what has been built."""
+
+    def __init__(self, room, name):
+        self.crate = room / "crates" / name
+        for file in ("crates.txt", "HANDLES"):
+            shutil.copy(ROOT / file, room / file)
+        for source in sorted((ROOT / "crates").iterdir()):
+            target = room / "crates" / source.name
+            for part in PARTS:
+                if (source / part).is_dir():
+                    shutil.copytree(source / part, target / part)
+            if (source / "out" / "rlib").is_dir():
+                shutil.copytree(source / "out" / "rlib", target / "out" / "rlib", copy_function=os.link)
+        kept = ROOT / "crates" / name / "out" / "incremental"
+        if kept.is_dir():
+            shutil.copytree(kept, self.crate / "out" / "incremental")
+
+    def check(self, texts):
+        """Returns what the prover says of the crate with these texts, which it takes back."""
+        for file, (_, now) in texts.items():
+            (self.crate / file).write_text(now)
+        ran = subprocess.run(["rt", "check", "--jobs", "1"], cwd=self.crate, capture_output=True, text=True, errors="replace")
+        for file, (was, _) in texts.items():
+            (self.crate / file).write_text(was)
+        return ran.stdout + ran.stderr
+
+
+def tell(name, is_checked):
+    """Returns how much is missed in a crate, and the lines that say so."""
+    lines, missed, began = [], 0, time.monotonic()
+    crate = ROOT / "crates" / name
+    functions = functions_of(crate)
+    turned = set()
+    edits = sorted((crate / "must-fail").glob("*.edit"))
+    with tempfile.TemporaryDirectory(prefix="turned-") as room:
+        copy = Copy(pathlib.Path(room), name) if is_checked and edits else None
+        if copy and "logic=proved" not in copy.check({}):
+            return 1, [f"{name}: not proved without any edit"]
+        for edit in edits:
+            try:
+                texts = edited(crate, changes_of(edit))
+            except ValueError as error:
+                lines.append(f"{name}/{edit.name}: {error}")
+                missed += 1
+                continue
+            of_edit = turned_by(texts, functions)
+            turned.update(of_edit)
+            if not copy:
+                continue
+            said = copy.check(texts)
+            answers = answers_in(said, functions)
+            wrong = [(it, answers.get(it, Refusal.SPARED)) for it in of_edit]
+            wrong = [(it, answer) for it, answer in wrong if answer != Refusal.REFUSED]
+            lines += [f"{name}/{edit.name}: {it.path} ({it.file}:{it.first}) is {answer}" for it, answer in wrong]
+            missed += len(wrong)
+            if "logic=not-proved" not in said:
+                lines.append(f"{name}/{edit.name}: the crate is not refused: {said.strip().splitlines()[-1][:160]}")
+                missed += 1
     left = [it for it in functions if it.is_public and it not in turned]
-    for it in left:
-        print(f"{name}/{it.file}: no edit turns {it.name}")
+    lines += [f"{name}/{it.file}:{it.first}: no edit turns {it.path}" for it in left]
     public = sum(it.is_public for it in functions)
-    print(f"{name}: {len(edits)} edits turn {public - len(left)} of {public} public functions", flush=True)
-    return missed + len(left)
+    took = f" in {time.monotonic() - began:.0f} s" if is_checked else ""
+    lines.append(f"{name}: {len(edits)} edits turn {public - len(left)} of {public} public functions{took}")
+    return missed + len(left), lines
+
+
+def changed_since(revision):
+    """Returns the crates with a file that differs from a revision, those that git does not track among them."""
+    how = {"cwd": ROOT, "capture_output": True, "text": True, "check": True}
+    base = subprocess.run(["git", "merge-base", revision, "HEAD"], **how).stdout.strip()
+    found = subprocess.run(["git", "diff", "--name-only", base], **how).stdout
+    found += subprocess.run(["git", "ls-files", "--others", "--exclude-standard"], **how).stdout
+    names = {it.split("/")[1] for it in found.split("\n") if re.match(r"crates/\w+/", it)}
+    return sorted(it for it in names if (ROOT / "crates" / it / "src").is_dir())
 
 
 def main():
     words = argparse.ArgumentParser(description=__doc__, formatter_class=argparse.RawDescriptionHelpFormatter)
     words.add_argument("--check", action="store_true")
-    words.add_argument("crates", nargs="+", metavar="CRATE")
+    words.add_argument("--changed", metavar="REV", nargs="?", const="@{upstream}")
+    words.add_argument("--jobs", type=int, default=1, metavar="N")
+    words.add_argument("crates", nargs="*", metavar="CRATE")
     given = words.parse_args()
-    with tempfile.TemporaryDirectory() as room:
-        root = ROOT
-        if given.check:
-            root = pathlib.Path(room) / "copy"
-            shutil.copytree(ROOT, root, symlinks=True, ignore=shutil.ignore_patterns(".git"))
-        return bool(sum([tell(it, given.check, root) for it in given.crates]))
+    try:
+        crates = given.crates + (changed_since(given.changed) if given.changed else [])
+    except subprocess.CalledProcessError as error:
+        words.error(f"git knows no {given.changed}: {error.stderr.strip()}")
+    if not crates:
+        words.error("name a crate" if not given.changed else f"no crate differs from {given.changed}")
+    missed = 0
+    with concurrent.futures.ThreadPoolExecutor(given.jobs) as pool:
+        for count, lines in pool.map(lambda it: tell(it, given.check or bool(given.changed)), crates):
+            print("\n".join(lines), flush=True)
+            missed += count
+    return bool(missed)
 
 
 if __name__ == "__main__":
