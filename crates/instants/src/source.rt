@@ -1,7 +1,7 @@
 //! What a line may be written in.
 ghost use Rattle.std.specs.Prelude.{◌≡◌};
 
-use datetime::OffsetDateTime;
+use datetime_types::OffsetDateTime;
 use instants_words::SourceText;
 use parsing::{Parse, Rfc3339, TwoRoads};
 

@@ -12,7 +12,7 @@ ghost use Rattle.instants.specs.Place.{Setting, first_named, place_of, answer_to
 use crate::line_fault::LineFault;
 use crate::source::Source;
 use calendar::UtcOffset;
-use datetime::OffsetDateTime;
+use datetime_types::OffsetDateTime;
 use instants_lines::{Answer, has_written_year, rfc3339_line};
 use instants_stream::AnswersLines;
 use instants_words::SourceText;

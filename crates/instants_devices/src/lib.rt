@@ -6,8 +6,6 @@ mod cut_writer;
 mod devices;
 mod std_reader;
 mod std_writer;
-#[cfg(test)]
-mod tests;
 
 pub use cut_reader::CutReader;
 pub use cut_writer::CutWriter;

@@ -5,8 +5,6 @@ mod answer;
 mod digits;
 mod fields;
 mod line;
-#[cfg(test)]
-mod tests;
 
 pub use answer::Answer;
 pub use line::{fits_line, has_written_year, is_target, rfc3339_line};

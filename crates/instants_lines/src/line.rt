@@ -11,7 +11,7 @@ use crate::answer::Answer;
 use crate::fields::{offset_bytes, push_date, push_time};
 use calendar::UtcOffset;
 use calendar_count::range::{YEAR_TEN_THOUSAND, YEAR_ZERO};
-use datetime::OffsetDateTime;
+use datetime_types::OffsetDateTime;
 
 const GREATEST_OFFSET: u32 = 86_340;
 

@@ -5,8 +5,6 @@ mod answers_lines;
 pub mod laws;
 mod run;
 mod search;
-#[cfg(test)]
-mod tests;
 
 pub use answers_lines::AnswersLines;
 pub use run::{RunFault, run_lines};

@@ -1,11 +1,19 @@
-//! Tests that take several crates together.
+//! Tests of the program's crates, each by itself and several together.
 #![tactic(auto)]
 
+#[cfg(test)]
+mod devices;
 #[cfg(test)]
 mod failing_devices;
 #[cfg(test)]
 mod one_line;
 #[cfg(test)]
+mod single_words;
+#[cfg(test)]
+mod streams;
+#[cfg(test)]
 mod support;
 #[cfg(test)]
 mod words_and_streams;
+#[cfg(test)]
+mod written_lines;

@@ -4,8 +4,6 @@
 mod fault;
 mod pieces;
 mod sources;
-#[cfg(test)]
-mod tests;
 mod words;
 
 pub use fault::WordsFault;

@@ -1,0 +1,111 @@
+//! Words and what they say.
+
+use instants_words::{SourceText, WordsFault, read_words};
+use std::alloc::Global;
+use std::process::Abort;
+
+// The target in seconds and the limit that the words give. That memory ran out is fine where the
+// words are.
+fn check(rt: &impl Abort, alloc: Global, words: &[&str], wanted: Result<(i32, usize), WordsFault>) {
+    match read_words(alloc, words) {
+        Ok(read) => {
+            assert!(rt; wanted == Ok((read.target.whole_seconds(), read.limit)));
+            assert!(rt; read.assumed.is_none());
+            assert!(rt; read.sources.as_slice() == [SourceText::Rfc3339].as_slice());
+        }
+        Err(WordsFault::Memory) => assert!(rt; wanted.is_ok()),
+        Err(fault) => assert!(rt; wanted == Err(fault)),
+    }
+}
+
+#[test]
+fn targets(rt: HostRuntime) {
+    for (target, wanted) in [
+        ("+00:00", Ok((0, 100))),
+        ("-00:00", Ok((0, 100))),
+        ("+05:30", Ok((19_800, 100))),
+        ("-08:00", Ok((-28_800, 100))),
+        ("+23:59", Ok((86_340, 100))),
+        ("-23:59", Ok((-86_340, 100))),
+        ("+24:00", Err(WordsFault::Target)),
+        ("+00:60", Err(WordsFault::Target)),
+        ("00:00", Err(WordsFault::Target)),
+        ("+0000", Err(WordsFault::Target)),
+        ("+00-00", Err(WordsFault::Target)),
+        ("+0:000", Err(WordsFault::Target)),
+        ("*00:00", Err(WordsFault::Target)),
+        ("+00:00 ", Err(WordsFault::Target)),
+        ("Z", Err(WordsFault::Target)),
+        ("", Err(WordsFault::Target)),
+    ] {
+        check(&rt, rt.alloc(), &[target, "-", "100", "rfc3339"], wanted);
+    }
+}
+
+#[test]
+fn limits(rt: HostRuntime) {
+    for (limit, wanted) in [
+        ("1", Ok((0, 1))),
+        ("0000001", Ok((0, 1))),
+        ("1048576", Ok((0, 1_048_576))),
+        ("1048577", Err(WordsFault::Limit)),
+        ("00000001", Err(WordsFault::Limit)),
+        ("0", Err(WordsFault::Limit)),
+        ("", Err(WordsFault::Limit)),
+        ("+5", Err(WordsFault::Limit)),
+        ("1e3", Err(WordsFault::Limit)),
+    ] {
+        check(&rt, rt.alloc(), &["+00:00", "-", limit, "rfc3339"], wanted);
+    }
+}
+
+// The first fault in the order of the words, but that too few come first.
+#[test]
+fn first_faults(rt: HostRuntime) {
+    let alloc = rt.alloc();
+    check(&rt, alloc, &[], Err(WordsFault::Usage));
+    check(&rt, alloc, &["x", "-", "100"], Err(WordsFault::Usage));
+    check(&rt, alloc, &["x", "x", "x", "x"], Err(WordsFault::Target));
+    check(
+        &rt,
+        alloc,
+        &["+00:00", "x", "x", "x"],
+        Err(WordsFault::Assumed),
+    );
+    check(
+        &rt,
+        alloc,
+        &["+00:00", "+00:00", "x", "x"],
+        Err(WordsFault::Assumed),
+    );
+    check(
+        &rt,
+        alloc,
+        &["+00:00", "-", "x", "x"],
+        Err(WordsFault::Limit),
+    );
+    check(
+        &rt,
+        alloc,
+        &["+00:00", "-", "1", "x", "x"],
+        Err(WordsFault::Source(1)),
+    );
+    check(
+        &rt,
+        alloc,
+        &["+00:00", "-", "1", "RFC3339"],
+        Err(WordsFault::Source(1)),
+    );
+    check(
+        &rt,
+        alloc,
+        &["+00:00", "-", "1", "rfc3339", "x"],
+        Err(WordsFault::Source(2)),
+    );
+    check(
+        &rt,
+        alloc,
+        &["+00:00", "-", "1", "rfc3339", "rfc3339"],
+        Err(WordsFault::Source(2)),
+    );
+}

@@ -1,0 +1,129 @@
+#!/usr/bin/env python3
+"""Runs the gate and says where its time goes: processor seconds for each crate, of its proof, its tests and its edits.
+
+    tools/gate_times.py             runs `rt ci`, passes on what it prints, and then prints the table
+    tools/gate_times.py --write     also writes the table to docs/GATE.md, where the gate passed
+
+What a process takes is read from /proc while it runs, so it works on Linux; what is over between two looks is counted
+under `other`, as are rt itself and the programs that it runs.
+"""
+
+import argparse
+import collections
+import datetime
+import os
+import pathlib
+import re
+import resource
+import subprocess
+import sys
+import threading
+import time
+
+ROOT = pathlib.Path(__file__).resolve().parent.parent
+TABLE = ROOT / "docs" / "GATE.md"
+TICKS = os.sysconf("SC_CLK_TCK")
+EVERY = 0.2
+PARTS = ("proof", "tests", "edits")
+
+
+def part_of(words, folder):
+    """Returns the crate and the part of the gate that a command of the prover works on, if it is one."""
+    if not any(it.endswith("/rattle") for it in words[:1]) or "--crate-name" not in words:
+        return None
+    crate = words[words.index("--crate-name") + 1]
+    if "/rt-edit-" in folder:
+        return crate, "edits"
+    return crate, "tests" if "--test" in words else "proof"
+
+
+def look(session, seen):
+    """Notes the processor seconds that each process of the session has taken, and what it works on."""
+    for entry in os.scandir("/proc"):
+        if not entry.name.isdigit():
+            continue
+        try:
+            stat = pathlib.Path(entry.path, "stat").read_text()
+            fields = stat[stat.rindex(")") + 2 :].split()
+            if int(fields[3]) != session:
+                continue
+            key = entry.name, fields[19]
+            if seen.get(key, (None,))[0] is None:
+                words = pathlib.Path(entry.path, "cmdline").read_text(errors="replace").split("\0")
+                seen[key] = part_of(words, os.readlink(f"{entry.path}/cwd")), 0
+            seen[key] = seen[key][0], (int(fields[11]) + int(fields[12])) / TICKS
+        except (OSError, ValueError):
+            continue
+
+
+def run_gate(command):
+    """Runs the command and returns its status, its last line, its processor and wall seconds, and the seconds of each part."""
+    seen, began = {}, time.monotonic()
+    child = subprocess.Popen(command, cwd=ROOT, stdout=subprocess.PIPE, text=True, errors="replace", start_new_session=True)
+    is_over = threading.Event()
+
+    def watch():
+        while not is_over.wait(EVERY):
+            look(child.pid, seen)
+
+    watching = threading.Thread(target=watch)
+    watching.start()
+    last = ""
+    for line in child.stdout:
+        print(line, end="", flush=True)
+        last = line.strip() or last
+    status = child.wait()
+    is_over.set()
+    watching.join()
+    used = resource.getrusage(resource.RUSAGE_CHILDREN)
+    parts = collections.Counter()
+    for part, seconds in seen.values():
+        parts[part] += seconds
+    parts.pop(None, None)
+    return status, last, used.ru_utime + used.ru_stime, time.monotonic() - began, parts
+
+
+def table_of(parts, total):
+    """Returns the table's lines, the dearest crate first."""
+    crates = sorted({crate for crate, _ in parts}, key=lambda it: -sum(parts[it, part] for part in PARTS))
+    lines = ["| crate | proof | tests | edits | files of edits | together |", "|---|---|---|---|---|---|"]
+    for crate in crates:
+        seconds = [parts[crate, it] for it in PARTS]
+        files = len(list((ROOT / "crates" / crate / "must-fail").glob("*.edit")))
+        lines.append(f"| `{crate}` | {' | '.join(f'{it:.0f}' for it in seconds)} | {files} | {sum(seconds):.0f} |")
+    sums = [sum(parts[crate, it] for crate in crates) for it in PARTS]
+    files = len(list((ROOT / "crates").glob("*/must-fail/*.edit")))
+    lines.append(f"| all crates | {' | '.join(f'{it:.0f}' for it in sums)} | {files} | {sum(sums):.0f} |")
+    lines.append(f"| other | | | | | {total - sum(sums):.0f} |")
+    lines.append(f"| the gate | | | | | {total:.0f} |")
+    return lines
+
+
+def text_of(lines, last, total, wall):
+    processors, load = len(os.sched_getaffinity(0)), os.getloadavg()[2]
+    kit = subprocess.run(["rt", "version"], capture_output=True, text=True, check=True).stdout.strip()
+    commit = subprocess.run(["git", "rev-parse", "--short", "HEAD"], cwd=ROOT, capture_output=True, text=True, check=True).stdout.strip()
+    head = f"""# Where the gate's time goes
+
+Processor seconds of one `rt ci`, crate by crate, written by `tools/gate_times.py --write`: the proof from nothing, the proof and build of the tests, and the must-fail edits, the first of which proves the crate once more. The bound for everything is 200 processor minutes (12,000 s).
+
+{datetime.date.today()}, commit {commit}, {kit}: `{last}` after {wall / 60:.0f} minutes on {processors} processors (load {load:.1f} at the end), {total / 60:.0f} processor minutes.
+"""
+    return head + "\n" + "\n".join(lines) + "\n"
+
+
+def main():
+    words = argparse.ArgumentParser(description=__doc__, formatter_class=argparse.RawDescriptionHelpFormatter)
+    words.add_argument("--write", action="store_true")
+    words.add_argument("command", nargs="*", default=["rt", "ci"], help="what to time in place of rt ci")
+    given = words.parse_args()
+    status, last, total, wall, parts = run_gate(given.command)
+    text = text_of(table_of(parts, total), last, total, wall)
+    print(text)
+    if given.write and status == 0 and re.fullmatch(r"\d+ passed, 0 failed", last):
+        TABLE.write_text(text)
+    return status
+
+
+if __name__ == "__main__":
+    sys.exit(main())
