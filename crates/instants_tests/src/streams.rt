@@ -1,8 +1,8 @@
 //! Runs over readers and writers that fail, with reads and writes of every size.
 
-use instants_stream::{AnswersLines, RunFault, run_lines};
 use instants_devices::{ByteReader, ByteWriter, CutReader, CutWriter, DeviceFailed, StdWriter};
 use instants_lines::Answer;
+use instants_stream::{AnswersLines, RunFault, run_lines};
 use std::io::{Result as IoResult, Write};
 use std::process::Abort;
 use std::test::Fail;

@@ -1,8 +1,8 @@
 //! Lines of moments, and which moments have one.
 
-use instants_lines::{Answer, fits_line, has_written_year, is_target, rfc3339_line};
 use calendar::{Date, Month, Time, UtcOffset};
 use datetime::OffsetDateTime;
+use instants_lines::{Answer, fits_line, has_written_year, is_target, rfc3339_line};
 use std::process::Abort;
 
 // A moment by its year, month, day, second of the day, nanosecond, and offset in seconds.
