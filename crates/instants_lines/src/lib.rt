@@ -9,4 +9,4 @@ mod line;
 mod tests;
 
 pub use answer::Answer;
-pub use line::{fits_line, has_written_year, is_target, rfc3339_line};
+pub use line::{fits_line, has_written_year, is_target, rfc3339_line, write_line};
