@@ -18,5 +18,5 @@ pub use instants_words::{SourceText, Words, WordsFault, read_words};
 pub use line_fault::LineFault;
 pub use program_fault::ProgramFault;
 pub use source::Source;
-pub use stream::run;
+pub use stream::{run, run_within};
 pub use timeline::{NewFault, Timeline};

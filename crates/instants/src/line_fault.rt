@@ -26,14 +26,14 @@ pub enum LineFault {
 impl LineFault {
     ghost use Rattle.instants.specs.Refusal.{IsShort, refusal_said, refusal_text};
 
-    // What is written for a line in place of a date-time.
+    // Writes what stands for a line in place of a date-time.
     #[cold]
-    pub(crate) fn answer(self) -> Answer
+    pub(crate) fn write(self, answer: &mut Answer)
         requires { IsShort (refusal_said self) }
-        ensures bytes { result ≡ refusal_text (refusal_said self) }
-        ensures room { length result ≤ 63 }
+        ensures bytes { answer.new ≡ refusal_text (refusal_said self) }
+        ensures room { length answer.new ≤ 63 }
     {
-        let mut answer = Answer::new();
+        answer.clear();
         match self {
             LineFault::Literal => answer.push_bytes(b"! literal"),
             LineFault::Component(name) => {
@@ -49,7 +49,6 @@ impl LineFault {
             LineFault::Year => answer.push_bytes(b"! year"),
             LineFault::Long => answer.push_bytes(b"! long"),
         }
-        answer
     }
 }
 

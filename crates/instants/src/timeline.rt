@@ -1,5 +1,5 @@
 //! Lines placed on one timeline.
-ghost use Rattle.std.specs.Prelude.{◌≡◌, ◌<◌, ◌≤◌, length, map, None, IfOk, IfErr};
+ghost use Rattle.std.specs.Prelude.{◌≡◌, ◌<◌, ◌≤◌, length, map, None, Ok, IfOk, IfErr, IfSome};
 ghost use Rattle.std.specs.Result.{result_ok};
 ghost use Rattle.parsing_pieces.specs.FaultOf.{fault_of, Gives};
 ghost use Rattle.parsing_pieces.specs.ShortName.{HasShortName};
@@ -13,7 +13,7 @@ use crate::line_fault::LineFault;
 use crate::source::Source;
 use calendar::UtcOffset;
 use datetime_types::OffsetDateTime;
-use instants_lines::{Answer, has_written_year, rfc3339_line};
+use instants_lines::{Answer, has_written_year, write_line};
 use instants_stream::AnswersLines;
 use instants_words::SourceText;
 use parsing::Parse;
@@ -121,17 +121,56 @@ impl Timeline {
         }
     }
 
-    /// The answer to a line: its place as a date-time of fixed width, or why it has none. It is never `! long`.
+    // The line's place, where the first source finds a moment by the shortest way: `None` says nothing.
+    #[inline(always)]
+    #[tactic(auto, unfolding(crate::specs::Place::first_named, crate::specs::Place::place_of))]
+    fn place_quickly(&self, line: &[u8]) -> Option<OffsetDateTime>
+        ensures place { IfSome result (λ moment. place_of self.now line.now ≡ Ok moment) }
+        ensures fits { IfSome result FitsLine }
+    {
+        let sources = self.sources.as_slice();
+        let named = sources[0].read_quickly(line)?;
+        let moment = named.checked_to_offset(self.target)?;
+        if !has_written_year(moment) {
+            return None;
+        }
+        Some(moment)
+    }
+
+    // Writes the answer to a line in place of what the storage held.
     #[inline(always)]
     #[tactic(auto, unfolding(crate::specs::Place::answer_to))]
+    fn write_answer(&self, line: &[u8], storage: &mut Answer)
+        ensures bytes { storage.new ≡ answer_to self.now line.now }
+        ensures room { length storage.new ≤ 63 }
+    {
+        match self.place_quickly(line) {
+            Some(moment) => write_line(moment, storage),
+            None => self.write_place(line, storage),
+        }
+    }
+
+    // The same, by the exact reading of each source.
+    #[cold]
+    #[tactic(auto, unfolding(crate::specs::Place::answer_to))]
+    fn write_place(&self, line: &[u8], storage: &mut Answer)
+        ensures bytes { storage.new ≡ answer_to self.now line.now }
+        ensures room { length storage.new ≤ 63 }
+    {
+        match self.place(line) {
+            Ok(moment) => write_line(moment, storage),
+            Err(fault) => fault.write(storage),
+        }
+    }
+
+    /// The answer to a line: its place as a date-time of fixed width, or why it has none. It is never `! long`.
     pub fn answer_line(&self, line: &[u8]) -> Answer
         ensures bytes { result ≡ answer_to self.now line.now }
         ensures room { length result ≤ 63 }
     {
-        match self.place(line) {
-            Ok(moment) => rfc3339_line(moment),
-            Err(fault) => fault.answer(),
-        }
+        let mut answer = Answer::new();
+        self.write_answer(line, &mut answer);
+        answer
     }
 }
 
@@ -153,7 +192,7 @@ impl AnswersLines for Timeline {
     ghost answer = { answer_to };
 
     #[inline(always)]
-    fn answer_line(&self, line: &[u8]) -> Answer {
-        Timeline::answer_line(self, line)
+    fn write_answer(&self, line: &[u8], storage: &mut Answer) {
+        Timeline::write_answer(self, line, storage)
     }
 }

@@ -1,6 +1,6 @@
 //! The answer to one line, in storage of fixed size.
 
-ghost use Rattle.std.specs.Prelude.{◌≡◌, ◌+◌, ◌-◌, ◌≤◌, [], ◌∷◌, ◌++◌, length, take, drop, replicate};
+ghost use Rattle.std.specs.Prelude.{◌≡◌, ◌+◌, ◌≤◌, [], ◌∷◌, ◌++◌, length};
 
 use std::marker::Model;
 
@@ -42,6 +42,14 @@ impl Answer {
         }
     }
 
+    /// Takes all bytes away.
+    #[inline(always)]
+    pub fn clear(&mut self)
+        ensures { self.new ≡ [] }
+    {
+        *self = Answer::new();
+    }
+
     /// The bytes.
     #[inline(always)]
     pub fn as_bytes(&self) -> &[u8]
@@ -70,19 +78,5 @@ impl Answer {
         let end = self.len + bytes.len();
         self.bytes[self.len..end].copy_from_slice(bytes);
         self.len = end;
-    }
-
-    // Adds the first bytes of six whose others are zero. The storage takes all six, which needs no
-    // test of how many they are.
-    #[inline(always)]
-    pub(crate) fn push_padded(&mut self, bytes: [u8; 6], len: usize)
-        requires room { length self.old + 6 ≤ 64 }
-        requires within { len ≤ 6 }
-        requires zeros { drop len bytes ≡ replicate (6 - len) 0 }
-        ensures { self.new ≡ self.old ++ take len bytes }
-    {
-        let end = self.len + 6;
-        self.bytes[self.len..end].copy_from_slice(&bytes);
-        self.len += len;
     }
 }

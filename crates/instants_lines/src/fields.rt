@@ -1,11 +1,11 @@
 //! The date, the time and the offset of a line, added to an answer.
 
-ghost use Rattle.std.specs.Prelude.{◌≡◌, ◌+◌, ◌-◌, ◌<◌, ◌≤◌, ◌++◌, length, take, drop, replicate, pos, unsigned_abs, if◌then◌else◌};
+ghost use Rattle.std.specs.Prelude.{◌≡◌, ◌+◌, ◌<◌, ◌≤◌, ◌++◌, length, pos, unsigned_abs, if◌then◌else◌};
 ghost use Rattle.std.specs.Ordering.{int_eq};
 ghost use Rattle.instants_lines.specs.Text.{date_text, time_text, offset_text};
 
 use crate::answer::Answer;
-use crate::digits::{pair, push_four, push_nine, push_two};
+use crate::digits::{push_four, push_nine, push_two};
 
 #[inline(always)]
 #[tactic(auto, unfolding(crate::specs::Text::date_text))]
@@ -43,24 +43,21 @@ pub(crate) fn push_time(answer: &mut Answer, second: u32, nanosecond: u32)
     push_nine(answer, nanosecond);
 }
 
-// The bytes of an offset, zeros behind them, and how many they are.
 #[inline(always)]
-#[tactic(auto, unfolding(crate::specs::Text::offset_text, crate::specs::Decimal::decimal))]
-pub(crate) fn offset_bytes(seconds: i32) -> ([u8; 6], usize)
-    requires { unsigned_abs seconds ≤ 86_340 }
-    ensures text { take result.1 result.0 ≡ offset_text seconds }
-    ensures zeros { drop result.1 result.0 ≡ replicate (6 - result.1) 0 }
-    ensures len { result.1 ≡ (if int_eq seconds (pos 0) then 1 else 6) }
+#[tactic(auto, unfolding(crate::specs::Text::offset_text))]
+pub(crate) fn push_offset(answer: &mut Answer, seconds: i32)
+    requires room { length answer.old + 6 ≤ 64 }
+    requires range { unsigned_abs seconds ≤ 86_340 }
+    ensures text { answer.new ≡ answer.old ++ offset_text seconds }
+    ensures len { length answer.new ≡ length answer.old + (if int_eq seconds (pos 0) then 1 else 6) }
 {
     if seconds == 0 {
-        return ([b'Z', 0, 0, 0, 0, 0], 1);
+        answer.push(b'Z');
+        return;
     }
-    let sign = if seconds < 0 { b'-' } else { b'+' };
     let minutes = seconds.unsigned_abs() / 60;
-    let (hour_tens, hour_ones) = pair(minutes / 60);
-    let (minute_tens, minute_ones) = pair(minutes % 60);
-    (
-        [sign, hour_tens, hour_ones, b':', minute_tens, minute_ones],
-        6,
-    )
+    answer.push(if seconds < 0 { b'-' } else { b'+' });
+    push_two(answer, minutes / 60);
+    answer.push(b':');
+    push_two(answer, minutes % 60);
 }

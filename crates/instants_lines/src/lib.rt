@@ -7,4 +7,4 @@ mod fields;
 mod line;
 
 pub use answer::Answer;
-pub use line::{fits_line, has_written_year, is_target, rfc3339_line};
+pub use line::{fits_line, has_written_year, is_target, rfc3339_line, write_line};

@@ -8,7 +8,7 @@ ghost use Rattle.calendar.specs.UtcOffset.{IsClockOffset};
 ghost use Rattle.instants_lines.specs.Text.{FitsLine, has_written_year, moment_text};
 
 use crate::answer::Answer;
-use crate::fields::{offset_bytes, push_date, push_time};
+use crate::fields::{push_date, push_offset, push_time};
 use calendar::UtcOffset;
 use calendar_count::range::{YEAR_TEN_THOUSAND, YEAR_ZERO};
 use datetime_types::OffsetDateTime;
@@ -57,23 +57,32 @@ fn shown_date(date_time: OffsetDateTime) -> (u32, u32, u32)
     (year as u32, u32::from(month.number()), u32::from(day))
 }
 
+/// Writes the line of a moment in place of what the answer held.
+#[inline(always)]
+#[tactic(auto, unfolding(crate::specs::Text::moment_text))]
+pub fn write_line(date_time: OffsetDateTime, answer: &mut Answer)
+    requires { FitsLine date_time }
+    ensures line { answer.new ≡ moment_text date_time }
+    ensures len { length answer.new ≡ (if int_eq date_time.offset (pos 0) then 30 else 35) }
+{
+    let (year, month, day) = shown_date(date_time);
+    let time = date_time.time();
+    answer.clear();
+    push_date(answer, year, month, day);
+    answer.push(b'T');
+    push_time(answer, time.second_of_day(), time.nanosecond());
+    push_offset(answer, date_time.offset().whole_seconds());
+}
+
 /// The moment as RFC 3339, section 5.6, writes it, with nine digits of the second's fraction: 30
 /// bytes with `Z` for offset zero, else 35.
 #[inline(always)]
-#[tactic(auto, unfolding(crate::specs::Text::moment_text))]
 pub fn rfc3339_line(date_time: OffsetDateTime) -> Answer
     requires { FitsLine date_time }
     ensures line { result ≡ moment_text date_time }
     ensures len { length result ≡ (if int_eq date_time.offset (pos 0) then 30 else 35) }
 {
-    let (year, month, day) = shown_date(date_time);
-    let time = date_time.time();
-    // The offset comes first, so that no test stands between the bytes and their places.
-    let (offset, offset_len) = offset_bytes(date_time.offset().whole_seconds());
     let mut answer = Answer::new();
-    push_date(&mut answer, year, month, day);
-    answer.push(b'T');
-    push_time(&mut answer, time.second_of_day(), time.nanosecond());
-    answer.push_padded(offset, offset_len);
+    write_line(date_time, &mut answer);
     answer
 }

@@ -2,12 +2,12 @@
 //! to standard output: a date-time of fixed width at the target offset, or a named fault.
 #![tactic(auto)]
 
-use instants::{ByteWriter, ProgramFault, StdReader, StdWriter, Timeline, read_words, run};
-use std::io::{BufReader, BufWriter};
+use instants::{ByteWriter, ProgramFault, StdReader, StdWriter, Timeline, read_words, run_within};
+use std::io::BufWriter;
 use std::process::ExitCode;
 use std::{env, io};
 
-// Bytes that are read or written at once.
+// Bytes that are read, and that are written, at once.
 const BLOCK: usize = 65_536;
 
 fn main(rt: HostRuntime) -> ExitCode {
@@ -33,16 +33,19 @@ fn answer_input(rt: &HostRuntime) -> Result<(), ProgramFault> {
         words.target,
         words.assumed,
     )?;
-    let mut line = vec![in rt.alloc(); 0; words.limit + 1]?;
-    let input = BufReader::with_capacity(rt.alloc(), BLOCK, rt.stdin()).map_err(
-        |_| ProgramFault::Memory,
-    )?;
+    let mut buffer = vec![in rt.alloc(); 0; words.limit + BLOCK]?;
     let output = BufWriter::with_capacity(rt.alloc(), BLOCK, rt.stdout()).map_err(
         |_| ProgramFault::Memory,
     )?;
-    let mut reader = StdReader::new(input);
+    let mut reader = StdReader::new(rt.stdin());
     let mut writer = StdWriter::new(output);
-    let answered = run(&timeline, line.as_mut_slice(), &mut reader, &mut writer);
+    let answered = run_within(
+        &timeline,
+        words.limit,
+        buffer.as_mut_slice(),
+        &mut reader,
+        &mut writer,
+    );
     if !writer.has_failed() && !writer.is_flushed() {
         // What was answered before a failed read; the read stays the fault.
         let _ = writer.flush();

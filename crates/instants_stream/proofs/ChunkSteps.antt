@@ -1,15 +1,16 @@
 -- The steps of a run that reads many bytes at once.
-use Rattle.std.proofs.Common.{◌≡◌, ℕ, ◌+◌, ◌<◌, ◌≤◌, ◌⊎◌, Bool, true, false, Option, List, [], ◌∷◌, ◌++◌, length, refl, sym, ap, ◌∙◌, inl, inr, arith, length-append}
+use Rattle.std.proofs.Common.{◌≡◌, ℕ, ◌+◌, ◌<◌, ◌≤◌, ◌⊎◌, ◌||◌, Bool, true, false, Option, List, [], ◌∷◌, ◌++◌, length, nat_lt, refl, sym, ap, ◌∙◌, inl, inr, arith, length-append}
 use Rattle.std.specs.Io.KnownBytes.{Consumes, Appends}
 use Rattle.std.specs.List.{flat_map}
+use Rattle.std.proofs.lemmas.Bool.Decides.{nat_tests}
 use Rattle.std.proofs.lemmas.List.Concat.{flat_map-append}
 use Rattle.std.proofs.KnownBytes.{Consumes-trans, Appends-trans}
 use Rattle.instants_stream.specs.Lines.{HasNoLineFeed, parts, but_last, last, whole_lines, last_part}
 use Rattle.instants_stream.specs.Answers.{answer_or_long, answered, answers_to, owed}
 use Rattle.instants_devices.specs.Told.{AppendsFront}
-use Rattle.instants_stream.proofs.Lines.{glue, glue-cons, parts_joined, parts_glued, parts_nonempty, weight, weight-parts, but_last-append_nonempty, last-append_nonempty, glue_some}
+use Rattle.instants_stream.proofs.Lines.{glue, glue-cons, parts_joined, parts_glued, parts_nonempty, but_last-append_nonempty, last-append_nonempty, glue_some}
 use Rattle.instants_devices.proofs.Told.{AppendsFront-after}
-use Rattle.instants_stream.proofs.Progress.{Progress, Fails, answered_kept, due_from_owed}
+use Rattle.instants_stream.proofs.Progress.{Progress, Fails, due_from_owed}
 
 -- a part that is put in front leaves the other parts
 last-glue_some : (lp line : List ℕ) (ps : List (List ℕ)) → 0 < length ps → 0 < length (but_last (glue line ps)) → last (glue lp ps) ≡ last (glue line ps)
@@ -23,37 +24,34 @@ last-glue_longer lp line (q ∷ []) h k = rw (glue-cons lp q [], length-append) 
 last-glue_longer lp line (q ∷ r ∷ ps) h k = let e = rw (glue-cons line q (r ∷ ps)) at k in absurd cc
 
 module _ (answer : List ℕ → List ℕ) (limit : ℕ) where
-  -- lines that stand together within the limit are answered as such
-  answered_short : (ps : List (List ℕ)) → weight ps ≤ limit + 1 → flat_map (answered answer limit) (but_last ps) ≡ flat_map (answer_or_long answer false) (but_last ps)
-  answered_short [] h = refl
-  answered_short (p ∷ []) h = refl
-  answered_short (p ∷ q ∷ ps) h =
-      rw (answered_kept answer limit p p false (omega arith) (λ _. refl) (λ e. cc), answered_short (q ∷ ps) (omega arith)) refl
+  -- the first line is answered with what came before it
+  first_answered : (lp line q : List ℕ) (is_long : Bool) → (is_long ≡ false → lp ≡ line) → (is_long ≡ true → limit < length lp)
+      → answered answer limit (lp ++ q) ≡ answer_or_long answer (is_long || nat_lt limit (length (line ++ q))) (line ++ q)
+  unfolding answered answer_or_long
+  first_answered lp line q false kept long = rw (kept refl) refl
+  first_answered lp line q true kept long =
+      let over = long refl in
+      let size = length-append lp q in
+      let e : nat_lt limit (length (lp ++ q)) ≡ true = grind (arith, nat_tests) in
+      rw e refl
 
-  glue_answered : (lp line : List ℕ) (is_long : Bool) (ps : List (List ℕ)) → 0 < length ps → weight (glue line ps) ≤ limit + 1 → (is_long ≡ false → lp ≡ line) → (is_long ≡ true → limit < length lp)
-      → flat_map (answered answer limit) (but_last (glue lp ps)) ≡ answers_to answer is_long (but_last (glue line ps))
+  glue_answered : (lp line : List ℕ) (is_long : Bool) (ps : List (List ℕ)) → 0 < length ps → (is_long ≡ false → lp ≡ line) → (is_long ≡ true → limit < length lp)
+      → flat_map (answered answer limit) (but_last (glue lp ps)) ≡ answers_to answer limit is_long (but_last (glue line ps))
   unfolding answers_to
-  glue_answered lp line is_long [] some short kept long = absurd (omega arith)
-  glue_answered lp line is_long (q ∷ []) some short kept long = rw (glue-cons lp q [], glue-cons line q []) refl
-  glue_answered lp line is_long (q ∷ r ∷ ps) some short kept long =
-      let fits = rw (glue-cons line q (r ∷ ps)) at short in
-      rw (
-        glue-cons lp q (r ∷ ps),
-        glue-cons line q (r ∷ ps),
-        answered_kept answer limit (lp ++ q) (line ++ q) is_long (omega arith) (λ e. ap (λ (l : List ℕ). l ++ q) (kept e)) (λ e. rw length-append (let h = long e in omega arith)),
-        answered_short (r ∷ ps) (omega arith),
-      ) refl
+  glue_answered lp line is_long [] some kept long = absurd (omega arith)
+  glue_answered lp line is_long (q ∷ []) some kept long = rw (glue-cons lp q [], glue-cons line q []) refl
+  glue_answered lp line is_long (q ∷ r ∷ ps) some kept long =
+      rw (glue-cons lp q (r ∷ ps), glue-cons line q (r ∷ ps)) (ap (λ (l : List ℕ). l ++ flat_map (answered answer limit) (but_last (r ∷ ps))) (first_answered lp line q is_long kept long))
 
-  module _ (bytes line chunk : List ℕ) (is_long : Bool) (free : HasNoLineFeed line) (short : length (line ++ chunk) ≤ limit + 1) (kept : is_long ≡ false → last_part bytes ≡ line) (long : is_long ≡ true → limit < length (last_part bytes)) where
-    pub owed-chunk : owed answer limit (bytes ++ chunk) ≡ owed answer limit bytes ++ answers_to answer is_long (whole_lines (line ++ chunk))
+  module _ (bytes line chunk : List ℕ) (is_long : Bool) (free : HasNoLineFeed line) (kept : is_long ≡ false → last_part bytes ≡ line) (long : is_long ≡ true → limit < length (last_part bytes)) where
+    pub owed-chunk : owed answer limit (bytes ++ chunk) ≡ owed answer limit bytes ++ answers_to answer limit is_long (whole_lines (line ++ chunk))
     unfolding owed whole_lines last_part
     owed-chunk =
         let glued = parts_glued line chunk free in
-        let fits : weight (glue line (parts chunk)) ≤ limit + 1 = omega (arith, weight-parts (line ++ chunk), ap weight glued) in
         ap (λ (ps : List (List ℕ)). flat_map (answered answer limit) (but_last ps)) (parts_joined bytes chunk)
         ∙ ap (flat_map (answered answer limit)) (but_last-append_nonempty (but_last (parts bytes)) (glue (last (parts bytes)) (parts chunk)) (glue_some (last (parts bytes)) (parts chunk) (parts_nonempty chunk)))
         ∙ flat_map-append (answered answer limit) (but_last (parts bytes)) (but_last (glue (last (parts bytes)) (parts chunk)))
-        ∙ rw (glued, glue_answered (last (parts bytes)) line is_long (parts chunk) (parts_nonempty chunk) fits kept long) refl
+        ∙ rw (glued, glue_answered (last (parts bytes)) line is_long (parts chunk) (parts_nonempty chunk) kept long) refl
 
     -- the last part of all bytes, where a line feed came
     pub last_part-chunk_some : 0 < length (whole_lines (line ++ chunk)) → last_part (bytes ++ chunk) ≡ last_part (line ++ chunk)
@@ -82,42 +80,42 @@ module _ (answer : List ℕ → List ℕ) (limit : ℕ) where
         let whole : last (parts (bytes ++ chunk)) ≡ last (glue (last (parts bytes)) (parts chunk)) = ap last (parts_joined bytes chunk) ∙ last-append_nonempty (but_last (parts bytes)) (glue (last (parts bytes)) (parts chunk)) (glue_some (last (parts bytes)) (parts chunk) (parts_nonempty chunk)) in
         omega (arith, ap length whole)
 
-  nothing_answered : (is_long : Bool) → answers_to answer is_long [] ≡ []
+  nothing_answered : (is_long : Bool) → answers_to answer limit is_long [] ≡ []
   unfolding answers_to
   nothing_answered is_long = refl
 
-  module _ (left_first left left_next held_first held held_next : Option (List ℕ)) (line chunk : List ℕ) (is_long : Bool) (p : Progress answer limit left_first left held_first held line is_long) (free : HasNoLineFeed line) (short : length (line ++ chunk) ≤ limit + 1) (came : Consumes left left_next chunk) where
+  module _ (left_first left left_next held_first held held_next : Option (List ℕ)) (line chunk : List ℕ) (is_long : Bool) (p : Progress answer limit left_first left held_first held line is_long) (free : HasNoLineFeed line) (came : Consumes left left_next chunk) where
     -- bytes came, and the whole lines among them are answered
-    pub chunk_some : 0 < length (whole_lines (line ++ chunk)) → Appends held held_next (answers_to answer is_long (whole_lines (line ++ chunk))) → Progress answer limit left_first left_next held_first held_next (last_part (line ++ chunk)) false
+    pub chunk_some : 0 < length (whole_lines (line ++ chunk)) → Appends held held_next (answers_to answer limit is_long (whole_lines (line ++ chunk))) → Progress answer limit left_first left_next held_first held_next (last_part (line ++ chunk)) false
     chunk_some some wrote = record {
       bytes = p.bytes ++ chunk;
       read = Consumes-trans _ _ _ _ _ p.read came;
-      written = rw (owed-chunk p.bytes line chunk is_long free short p.kept p.long) (Appends-trans _ _ _ _ _ p.written wrote);
-      kept = λ _. last_part-chunk_some p.bytes line chunk is_long free short p.kept p.long some;
+      written = rw (owed-chunk p.bytes line chunk is_long free p.kept p.long) (Appends-trans _ _ _ _ _ p.written wrote);
+      kept = λ _. last_part-chunk_some p.bytes line chunk is_long free p.kept p.long some;
       long = λ e. absurd cc;
     }
 
     -- bytes came, and no line feed among them
-    pub chunk_none : whole_lines (line ++ chunk) ≡ [] → Appends held held_next (answers_to answer is_long (whole_lines (line ++ chunk))) → Progress answer limit left_first left_next held_first held_next (last_part (line ++ chunk)) is_long
+    pub chunk_none : whole_lines (line ++ chunk) ≡ [] → Appends held held_next (answers_to answer limit is_long (whole_lines (line ++ chunk))) → Progress answer limit left_first left_next held_first held_next (last_part (line ++ chunk)) is_long
     chunk_none none wrote = record {
       bytes = p.bytes ++ chunk;
       read = Consumes-trans _ _ _ _ _ p.read came;
-      written = rw (owed-chunk p.bytes line chunk is_long free short p.kept p.long) (Appends-trans _ _ _ _ _ p.written wrote);
-      kept = λ e. last_part-chunk_kept p.bytes line chunk is_long free short p.kept p.long e;
-      long = λ e. last_part-chunk_long p.bytes line chunk is_long free short p.kept p.long none e;
+      written = rw (owed-chunk p.bytes line chunk is_long free p.kept p.long) (Appends-trans _ _ _ _ _ p.written wrote);
+      kept = λ e. last_part-chunk_kept p.bytes line chunk is_long free p.kept p.long e;
+      long = λ e. last_part-chunk_long p.bytes line chunk is_long free p.kept p.long none e;
     }
 
     -- an answer among them failed
-    pub chunk_fails : AppendsFront held held_next (answers_to answer is_long (whole_lines (line ++ chunk))) → Fails answer limit left_first left_next held_first held_next
+    pub chunk_fails : AppendsFront held held_next (answers_to answer limit is_long (whole_lines (line ++ chunk))) → Fails answer limit left_first left_next held_first held_next
     chunk_fails wrote = (
       p.bytes ++ chunk,
       Consumes-trans _ _ _ _ _ p.read came,
-      due_from_owed answer limit held_first held_next (p.bytes ++ chunk) left_next (rw (owed-chunk p.bytes line chunk is_long free short p.kept p.long) (AppendsFront-after _ _ _ _ _ p.written wrote)),
+      due_from_owed answer limit held_first held_next (p.bytes ++ chunk) left_next (rw (owed-chunk p.bytes line chunk is_long free p.kept p.long) (AppendsFront-after _ _ _ _ _ p.written wrote)),
     )
 
     -- .. at the join of both
     pub chunk_step : (count : ℕ) (is_long_next : Bool) → (0 < count → 0 < length (whole_lines (line ++ chunk))) → (count ≡ 0 → whole_lines (line ++ chunk) ≡ []) → ((0 < count) × (is_long_next ≡ false)) ⊎ ((count ≡ 0) × (is_long_next ≡ is_long))
-        → Appends held held_next (answers_to answer is_long (whole_lines (line ++ chunk))) → Progress answer limit left_first left_next held_first held_next (last_part (line ++ chunk)) is_long_next
+        → Appends held held_next (answers_to answer limit is_long (whole_lines (line ++ chunk))) → Progress answer limit left_first left_next held_first held_next (last_part (line ++ chunk)) is_long_next
     chunk_step count is_long_next some none (inl h) wrote = rw h.1 (chunk_some (some h.0) wrote)
     chunk_step count is_long_next some none (inr h) wrote = rw h.1 (chunk_none (none h.0) wrote)
 

@@ -1,33 +1,28 @@
 -- Whole lines among bytes that stand together.
-use Rattle.std.proofs.Common.{◌≡◌, ℕ, zero, suc, ◌+◌, ◌<◌, Bool, false, List, [], ◌∷◌, ◌++◌, length, take, drop, get_or, refl, sym, ap, ◌∙◌, arith, append_assoc, append-nil, length-append, take-append-drop}
+use Rattle.std.proofs.Common.{◌≡◌, ℕ, zero, suc, ◌+◌, ◌<◌, ◌||◌, Bool, false, List, [], ◌∷◌, ◌++◌, length, nat_lt, take, drop, get_or, refl, sym, ap, ◌∙◌, arith, append_assoc, append-nil, length-append, take-append-drop}
 use Rattle.std.proofs.Math.Seq.{take-add}
 use Rattle.std.specs.List.{flat_map}
 use Rattle.std.proofs.lemmas.List.{take_more}
 use Rattle.std.proofs.lemmas.List.Concat.{flat_map-append}
 use Rattle.instants_stream.specs.Lines.{HasNoLineFeed, whole_lines, last_part}
-use Rattle.instants_stream.specs.Answers.{answer_or_long, answers_to}
+use Rattle.instants_stream.specs.Answers.{answer_or_long, answered, answers_to}
 use Rattle.instants_stream.proofs.Lines.{whole_lines-line, last_part-line, whole_lines-piece, last_part-piece, whole_lines-append}
 
 -- one more line is answered
-pub answers_to-push : (answer : List ℕ → List ℕ) (is_long : Bool) (lines : List (List ℕ)) (line : List ℕ) → 0 < length lines → answers_to answer is_long (lines ++ line ∷ []) ≡ answers_to answer is_long lines ++ answer_or_long answer false line
+pub answers_to-push : (answer : List ℕ → List ℕ) (limit : ℕ) (is_long : Bool) (lines : List (List ℕ)) (line : List ℕ) → 0 < length lines → answers_to answer limit is_long (lines ++ line ∷ []) ≡ answers_to answer limit is_long lines ++ answered answer limit line
 unfolding answers_to
-answers_to-push answer is_long [] line h = absurd (omega arith)
-answers_to-push answer is_long (first ∷ others) line h =
-    ap (λ (l : List ℕ). answer_or_long answer is_long first ++ l) (flat_map-append (answer_or_long answer false) others (line ∷ []) ∙ ap (λ (l : List ℕ). flat_map (answer_or_long answer false) others ++ l) (append-nil (answer_or_long answer false line)))
-    ∙ sym (append_assoc (answer_or_long answer is_long first) (flat_map (answer_or_long answer false) others) (answer_or_long answer false line))
-
--- the first line is answered
-pub answers_to-first : (answer : List ℕ → List ℕ) (is_long : Bool) (line : List ℕ) → answers_to answer is_long ([] ++ line ∷ []) ≡ answer_or_long answer is_long line
-unfolding answers_to
-answers_to-first answer is_long line = append-nil (answer_or_long answer is_long line)
+answers_to-push answer limit is_long [] line h = absurd (omega arith)
+answers_to-push answer limit is_long (first ∷ others) line h =
+    ap (λ (l : List ℕ). answer_or_long answer (is_long || nat_lt limit (length first)) first ++ l) (flat_map-append (answered answer limit) others (line ∷ []) ∙ ap (λ (l : List ℕ). flat_map (answered answer limit) others ++ l) (append-nil (answered answer limit line)))
+    ∙ sym (append_assoc (answer_or_long answer (is_long || nat_lt limit (length first)) first) (flat_map (answered answer limit) others) (answered answer limit line))
 
 -- more lines are answered after these
-pub answers_to-append : (answer : List ℕ → List ℕ) (is_long : Bool) (lines more : List (List ℕ)) → (rest : List ℕ) × (answers_to answer is_long (lines ++ more) ≡ answers_to answer is_long lines ++ rest)
+pub answers_to-append : (answer : List ℕ → List ℕ) (limit : ℕ) (is_long : Bool) (lines more : List (List ℕ)) → (rest : List ℕ) × (answers_to answer limit is_long (lines ++ more) ≡ answers_to answer limit is_long lines ++ rest)
 unfolding answers_to
-answers_to-append answer is_long [] more = (answers_to answer is_long more, refl)
-answers_to-append answer is_long (first ∷ others) more = (
-  flat_map (answer_or_long answer false) more,
-  ap (λ (l : List ℕ). answer_or_long answer is_long first ++ l) (flat_map-append (answer_or_long answer false) others more) ∙ sym (append_assoc (answer_or_long answer is_long first) (flat_map (answer_or_long answer false) others) (flat_map (answer_or_long answer false) more)),
+answers_to-append answer limit is_long [] more = (answers_to answer limit is_long more, refl)
+answers_to-append answer limit is_long (first ∷ others) more = (
+  flat_map (answered answer limit) more,
+  ap (λ (l : List ℕ). answer_or_long answer (is_long || nat_lt limit (length first)) first ++ l) (flat_map-append (answered answer limit) others more) ∙ sym (append_assoc (answer_or_long answer (is_long || nat_lt limit (length first)) first) (flat_map (answered answer limit) others) (flat_map (answered answer limit) more)),
 )
 
 -- The bytes before start are whole lines, and behind them stand len bytes with no line feed, and then one.
@@ -45,10 +40,10 @@ module _ (bytes : List ℕ) (start len : ℕ) (ended : last_part (take start byt
   next_some = rw next_lines (rw length-append (omega arith))
 
 -- the answers to all lines begin with those to the lines of a front that ends in a line feed
-pub answers_to-front : (answer : List ℕ → List ℕ) (is_long : Bool) (bytes : List ℕ) (start : ℕ) → last_part (take start bytes) ≡ [] → (rest : List ℕ) × (answers_to answer is_long (whole_lines bytes) ≡ answers_to answer is_long (whole_lines (take start bytes)) ++ rest)
-answers_to-front answer is_long bytes start ended =
-    let more = answers_to-append answer is_long (whole_lines (take start bytes)) (whole_lines (drop start bytes)) in
-    (more.0, ap (λ (l : List ℕ). answers_to answer is_long (whole_lines l)) (sym (take-append-drop start bytes)) ∙ ap (answers_to answer is_long) (whole_lines-append (take start bytes) (drop start bytes) ended) ∙ more.1)
+pub answers_to-front : (answer : List ℕ → List ℕ) (limit : ℕ) (is_long : Bool) (bytes : List ℕ) (start : ℕ) → last_part (take start bytes) ≡ [] → (rest : List ℕ) × (answers_to answer limit is_long (whole_lines bytes) ≡ answers_to answer limit is_long (whole_lines (take start bytes)) ++ rest)
+answers_to-front answer limit is_long bytes start ended =
+    let more = answers_to-append answer limit is_long (whole_lines (take start bytes)) (whole_lines (drop start bytes)) in
+    (more.0, ap (λ (l : List ℕ). answers_to answer limit is_long (whole_lines l)) (sym (take-append-drop start bytes)) ∙ ap (answers_to answer limit is_long) (whole_lines-append (take start bytes) (drop start bytes) ended) ∙ more.1)
 
 -- no line feed is left
 module _ (bytes : List ℕ) (start : ℕ) (ended : last_part (take start bytes) ≡ []) (free : HasNoLineFeed (drop start bytes)) where
@@ -59,13 +54,13 @@ module _ (bytes : List ℕ) (start : ℕ) (ended : last_part (take start bytes) 
   lines_are_all = ap whole_lines (sym (take-append-drop start bytes)) ∙ whole_lines-piece (take start bytes) (drop start bytes) free
 
 -- one more line is answered, the first or a later one
-pub answers_to-next : (answer : List ℕ → List ℕ) (first_long is_long : Bool) (lines : List (List ℕ)) (line : List ℕ) (start : ℕ)
+pub answers_to-next : (answer : List ℕ → List ℕ) (limit : ℕ) (first_long is_long : Bool) (lines : List (List ℕ)) (line : List ℕ) (start len : ℕ) → length line ≡ len
     → (start ≡ 0 → (is_long ≡ first_long) × (lines ≡ [])) → (0 < start → (is_long ≡ false) × (0 < length lines))
-    → answers_to answer first_long (lines ++ line ∷ []) ≡ answers_to answer first_long lines ++ answer_or_long answer is_long line
-unfolding answers_to
-answers_to-next answer first_long is_long lines line zero first later =
+    → answers_to answer limit first_long (lines ++ line ∷ []) ≡ answers_to answer limit first_long lines ++ answer_or_long answer (is_long || nat_lt limit len) line
+unfolding answers_to answered
+answers_to-next answer limit first_long is_long lines line zero len long first later =
     let h = first refl in
-    rw (h.1, h.0) (append-nil (answer_or_long answer first_long line))
-answers_to-next answer first_long is_long lines line (suc n) first later =
+    rw (h.1, h.0, ← long) (append-nil (answer_or_long answer (first_long || nat_lt limit (length line)) line))
+answers_to-next answer limit first_long is_long lines line (suc n) len long first later =
     let h = later (omega arith) in
-    rw h.0 (answers_to-push answer first_long lines line h.1)
+    rw (h.0, ← long) (answers_to-push answer limit first_long lines line h.1)

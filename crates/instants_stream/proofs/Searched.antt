@@ -1,8 +1,16 @@
--- No line feed among bytes of two parts.
-use Rattle.std.proofs.Common.{◌≡◌, ◌==◌, ℕ, ◌+◌, false, List, take, drop, subst, take-append-drop}
+-- No line feed among bytes of two parts, and the first one among 16.
+use Rattle.std.proofs.Common.{◌≡◌, ◌≢◌, ◌==◌, ℕ, ◌+◌, ◌<◌, ◌≤◌, Bool, false, not, List, map, take, drop, length, get_or, sym, ◌∙◌, subst, arith, take-append-drop}
 use Rattle.std.proofs.Math.Seq.{take-add}
-use Rattle.std.proofs.lemmas.List.Elements.{All-append}
+use Rattle.std.proofs.lemmas.Bool.{not-true}
+use Rattle.std.proofs.lemmas.Bool.Decides.{nat_tests}
+use Rattle.std.proofs.lemmas.List.{length-take-le, get_or-take}
+use Rattle.std.proofs.lemmas.List.Elements.{All-append, All-from_get_or}
+use Rattle.std.proofs.lemmas.List.Sums.{prefix_len-le-length, prefix_len_passes, prefix_len_stops}
+use Rattle.std.proofs.lemmas.Simd.{leading_from_mask_l, trailing_mask_l}
+use Rattle.std.specs.List.{prefix_len}
 use Rattle.instants_stream.specs.Lines.{HasNoLineFeed}
+use lib.Count.{count_trailing_zeros}
+use lib.Lanes.{mask_l}
 
 -- no line feed among the first bytes, nor among more behind them
 pub free_more : (bytes : List ℕ) (at r : ℕ) → HasNoLineFeed (take at bytes) → HasNoLineFeed (take r (drop at bytes)) → HasNoLineFeed (take (at + r) bytes)
@@ -11,3 +19,40 @@ free_more bytes at r front more = rw (take-add at r bytes) (All-append (λ (b : 
 -- .. nor among all behind them
 pub free_whole : (bytes : List ℕ) (at : ℕ) → HasNoLineFeed (take at bytes) → HasNoLineFeed (drop at bytes) → HasNoLineFeed bytes
 free_whole bytes at front more = subst HasNoLineFeed (take-append-drop at bytes) (All-append (λ (b : ℕ). (b == 10) ≡ false) (take at bytes) (drop at bytes) front more)
+
+-- so many bytes stand before the first line feed of 16, or all of them
+pub record IsBefore (bytes : List ℕ) (n : ℕ) : Type 0 where
+  pub within : n ≤ 16
+  pub free : HasNoLineFeed (take n bytes)
+  pub line_feed : n < 16 → get_or bytes n 0 ≡ 10
+
+is_ten : (b : ℕ) → not (b == 10) ≡ false → b ≡ 10
+is_ten b h = grind (arith, nat_tests)
+
+module _ (bytes : List ℕ) (enough : 16 ≤ length bytes) where
+  long : length (take 16 bytes) ≡ 16
+  long = length-take-le 16 bytes enough
+
+  abbrev other : ℕ → Bool
+  other b = not (b == 10)
+
+  is_before : (n : ℕ) → n ≡ prefix_len other (take 16 bytes) → IsBefore bytes n
+  is_before n is =
+      let most = prefix_len-le-length other (take 16 bytes) in
+      let size : length (take n bytes) ≡ n = length-take-le n bytes (omega (arith, most, long)) in
+      record {
+        within = omega (arith, most, long);
+        free = All-from_get_or (λ (b : ℕ). (b == 10) ≡ false) (take n bytes) 0 (λ k lt.
+            let below : k < n = omega (arith, size) in
+            let few : k < 16 = omega (arith, most, long) in
+            rw (get_or-take n bytes k 0 below, ← get_or-take 16 bytes k 0 few) (not-true _ (prefix_len_passes other (take 16 bytes) k 0 (omega arith))));
+        line_feed = λ lt. is_ten (get_or bytes n 0) (rw (← get_or-take 16 bytes n 0 lt, is) (prefix_len_stops other (take 16 bytes) 0 (omega (arith, long))));
+      }
+
+  -- no bit is set
+  pub none_set : (m : ℕ) → m ≡ mask_l (map (λ b. b == 10) (take 16 bytes)) → m ≡ 0 → IsBefore bytes 16
+  none_set m mask none = is_before 16 (sym (leading_from_mask_l (λ b. b == 10) (take 16 bytes) (sym mask ∙ none) ∙ long))
+
+  -- the lowest bit that is set
+  pub lowest_set : (m : ℕ) → m ≡ mask_l (map (λ b. b == 10) (take 16 bytes)) → m ≢ 0 → IsBefore bytes (count_trailing_zeros 64 m)
+  lowest_set m mask some = is_before (count_trailing_zeros 64 m) (rw mask (trailing_mask_l (λ b. b == 10) 64 (take 16 bytes) (omega (arith, long)) (omega (arith, mask, some))))

@@ -9,6 +9,7 @@ ghost use Rattle.instants_stream.specs.Answers.{output, owed, due, answer_or_lon
 use crate::answers_lines::AnswersLines;
 use crate::search::{LINE_FEED, line_len};
 use instants_devices::{ByteReader, ByteWriter, DeviceFailed, write_all};
+use instants_lines::Answer;
 
 /// Which device ended a run.
 #[derive(Clone, Copy, Debug, PartialEq, Eq)]
@@ -39,6 +40,7 @@ fn write_answer<A: AnswersLines, W: ByteWriter>(
     answers: &A,
     line: &[u8],
     is_long: bool,
+    storage: &mut Answer,
     writer: &mut W,
 ) -> Result<(), DeviceFailed>
     requires { W.failed writer.old ≡ false }
@@ -52,19 +54,21 @@ fn write_answer<A: AnswersLines, W: ByteWriter>(
     if is_long {
         return write_long(writer);
     }
-    let mut answer = answers.answer_line(line);
-    answer.push(LINE_FEED);
-    write_all(writer, answer.as_bytes())
+    answers.write_answer(line, storage);
+    storage.push(LINE_FEED);
+    write_all(writer, storage.as_bytes())
 }
 
 // Answers each whole line, and says where the last part begins. The first `searched` bytes are
-// known to be no line feeds, and whether the first line is too long, with what came before.
+// known to be no line feeds, and maybe that the first line is too long, with what came before.
 #[inline(always)]
 fn answer_lines<A: AnswersLines, W: ByteWriter>(
     answers: &A,
+    limit: usize,
     bytes: &[u8],
     searched: usize,
     is_long: bool,
+    storage: &mut Answer,
     writer: &mut W,
 ) -> Result<usize, DeviceFailed>
     requires writer { W.failed writer.old ≡ false }
@@ -75,17 +79,18 @@ fn answer_lines<A: AnswersLines, W: ByteWriter>(
     ensures some { IfOk result (λ start. 0 < start → 0 < length (whole_lines bytes.now)) }
     ensures none { IfOk result (λ start. start ≡ 0 → whole_lines bytes.now ≡ []) }
     ensures written { OnOk result (Appends (W.held writer.old) (W.held writer.new)
-        (answers_to (A.answer answers.now) is_long (whole_lines bytes.now))) }
+        (answers_to (A.answer answers.now) limit is_long (whole_lines bytes.now))) }
     ensures ok { OnOk result (W.failed writer.new ≡ W.failed writer.old) }
     ensures front { OnErr result (AppendsFront (W.held writer.old) (W.held writer.new)
-        (answers_to (A.answer answers.now) is_long (whole_lines bytes.now))) }
+        (answers_to (A.answer answers.now) limit is_long (whole_lines bytes.now))) }
     ensures err { OnErr result (W.failed writer.new ≡ true) }
 {
     let mut start = 0;
     let mut searched = searched;
     let mut is_long = is_long;
     while let Some(len) = line_len(&bytes[start..], searched) {
-        write_answer(answers, &bytes[start..start + len], is_long, writer)?;
+        let line = &bytes[start..start + len];
+        write_answer(answers, line, is_long | (len > limit), storage, writer)?;
         start += len + 1;
         searched = 0;
         is_long = false;
@@ -95,37 +100,38 @@ fn answer_lines<A: AnswersLines, W: ByteWriter>(
 
 /// Writes the answer to each line that the reader gives, and a line feed behind each answer.
 ///
-/// The limit is the length of the buffer less one: a line with more bytes is answered `! long`.
+/// A line with more bytes than the limit is answered `! long`. The buffer is longer than the limit.
 /// The writer is flushed once, before `Ok`. A reader or a writer that failed isn't tried again.
 pub fn run_lines<A: AnswersLines, R: ByteReader, W: ByteWriter>(
     answers: &A,
+    limit: usize,
     buffer: &mut [u8],
     reader: &mut R,
     writer: &mut W,
 ) -> Result<(), RunFault>
-    requires room { 2 ≤ length buffer.old }
+    requires room { limit < length buffer.old }
     requires reader { R.failed reader.old ≡ false }
     requires writer { W.failed writer.old ≡ false }
     // All that the reader had was read, and exactly its output was written.
     ensures ok { OnOk result (IfSome (R.left reader.old) (λ stream. (R.left reader.new ≡ Some [])
         × Appends (W.held writer.old) (W.held writer.new)
-        (output (A.answer answers.now) (length buffer.old - 1) stream))) }
+        (output (A.answer answers.now) limit stream))) }
     ensures flushed { OnOk result (W.flushed writer.new ≡ true) }
     // Exactly the lines whose line feed was read are answered.
     ensures read { result ≡ Err RunFault.Read → (read : List ℕ)
         × ConsumesOrUntold (R.left reader.old) (R.left reader.new) read
         × Appends (W.held writer.old) (W.held writer.new)
-        (owed (A.answer answers.now) (length buffer.old - 1) read) }
+        (owed (A.answer answers.now) limit read) }
     // A front of what is due is written.
     ensures write { result ≡ Err RunFault.Write → (read : List ℕ)
         × Consumes (R.left reader.old) (R.left reader.new) read
         × AppendsFront (W.held writer.old) (W.held writer.new)
-        (due (A.answer answers.now) (length buffer.old - 1) read (R.left reader.new)) }
+        (due (A.answer answers.now) limit read (R.left reader.new)) }
     // A fault is one of the device that it names.
     ensures read_failed { IsTrue (R.failed reader.new) ↔ (result ≡ Err RunFault.Read) }
     ensures write_failed { IsTrue (W.failed writer.new) ↔ (result ≡ Err RunFault.Write) }
 {
-    let limit = buffer.len() - 1;
+    let mut storage = Answer::new();
     // The unfinished line stands from start to filled. Its first bytes are gone if it is too long.
     let mut start = 0;
     let mut filled = 0;
@@ -140,7 +146,15 @@ pub fn run_lines<A: AnswersLines, R: ByteReader, W: ByteWriter>(
         let searched = filled - start;
         filled += count;
         let pending = &buffer[start..filled];
-        let Ok(answered) = answer_lines(answers, pending, searched, is_long, writer) else {
+        let Ok(answered) = answer_lines(
+            answers,
+            limit,
+            pending,
+            searched,
+            is_long,
+            &mut storage,
+            writer,
+        ) else {
             return Err(RunFault::Write);
         };
         start += answered;
@@ -156,7 +170,8 @@ pub fn run_lines<A: AnswersLines, R: ByteReader, W: ByteWriter>(
         }
     }
     if is_long || start < filled {
-        if write_answer(answers, &buffer[start..filled], is_long, writer).is_err() {
+        let line = &buffer[start..filled];
+        if write_answer(answers, line, is_long, &mut storage, writer).is_err() {
             return Err(RunFault::Write);
         }
     }

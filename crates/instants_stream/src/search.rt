@@ -1,9 +1,31 @@
-//! The search for a line feed, which looks at each byte once.
+//! The search for a line feed, which looks at each byte once, 16 of them at a time.
 
 ghost use Rattle.std.specs.Prelude.{◌≡◌, ◌<◌, ◌≤◌, length, take, slice_index, IfSome, IfNone};
 ghost use Rattle.instants_stream.specs.Lines.{HasNoLineFeed};
 
+use std::simd::prelude::*;
+
 pub(crate) const LINE_FEED: u8 = b'\n';
+
+// How many bytes are compared at once.
+const LANES: usize = 16;
+
+// How many of the first 16 bytes stand before a line feed: all of them where there is none.
+#[inline(always)]
+fn before_line_feed(bytes: &[u8]) -> usize
+    requires { LANES ≤ length bytes.now }
+    ensures within { result ≤ LANES }
+    ensures before { HasNoLineFeed (take result bytes.now) }
+    ensures line_feed { result < LANES → slice_index bytes.now result ≡ 10 }
+{
+    let line_feeds = u8x16::from_slice(bytes).simd_eq(u8x16::splat(LINE_FEED));
+    let places = line_feeds.to_bitmask();
+    if places == 0 {
+        LANES
+    } else {
+        places.trailing_zeros() as usize
+    }
+}
 
 // How many bytes stand before the first line feed.
 #[inline(always)]
@@ -26,8 +48,16 @@ pub(crate) fn line_len(bytes: &[u8], searched: usize) -> Option<usize>
     ensures line_feed { IfSome result (λ len. slice_index bytes.now len ≡ 10) }
     ensures before { IfSome result (λ len. HasNoLineFeed (take len bytes.now)) }
 {
-    let Some(len) = first_line_feed(&bytes[searched..]) else {
+    let mut at = searched;
+    while bytes.len() - at >= LANES {
+        let len = before_line_feed(&bytes[at..]);
+        if len < LANES {
+            return Some(at + len);
+        }
+        at += LANES;
+    }
+    let Some(len) = first_line_feed(&bytes[at..]) else {
         return None;
     };
-    Some(searched + len)
+    Some(at + len)
 }

@@ -20,14 +20,13 @@ impl AnswersLines for ByLength {
 
     ghost answer = { λ _ line. if nat_lt 10 (length line) then codes "1985-04-12T23:20:50.520000000Z" else codes "! component year" };
 
-    fn answer_line(&self, line: &[u8]) -> Answer {
-        let mut answer = Answer::new();
+    fn write_answer(&self, line: &[u8], storage: &mut Answer) {
+        storage.clear();
         if line.len() > 10 {
-            answer.push_bytes(b"1985-04-12T23:20:50.520000000Z");
+            storage.push_bytes(b"1985-04-12T23:20:50.520000000Z");
         } else {
-            answer.push_bytes(b"! component year");
+            storage.push_bytes(b"! component year");
         }
-        answer
     }
 }
 
@@ -64,6 +63,7 @@ fn check(
     let mut writer = CutWriter::new(&mut space, cut.write, cut.write_fails);
     let answer = run_lines(
         &ByLength,
+        cut.limit,
         &mut buffer[..=cut.limit],
         &mut reader,
         &mut writer,
@@ -192,7 +192,7 @@ fn writes_take_nothing(rt: HostRuntime) {
         let mut buffer = [0u8; 101];
         let mut reader = CutReader::new(STREAM, 5, None);
         let mut writer = StdWriter::new(Full { room });
-        let answer = run_lines(&ByLength, &mut buffer, &mut reader, &mut writer);
+        let answer = run_lines(&ByLength, 100, &mut buffer, &mut reader, &mut writer);
         assert_eq!(rt; answer == Err(RunFault::Write), room < 48);
         assert_eq!(rt; answer.is_ok(), room >= 48);
     }
@@ -237,6 +237,6 @@ fn two_reads(rt: HostRuntime) {
         reads: 0,
     };
     let mut writer = CutWriter::new(&mut space, 100, None);
-    assert!(rt; run_lines(&ByLength, &mut buffer, &mut reader, &mut writer).is_ok());
+    assert!(rt; run_lines(&ByLength, 100, &mut buffer, &mut reader, &mut writer).is_ok());
     assert_eq!(rt; reader.reads, 2);
 }

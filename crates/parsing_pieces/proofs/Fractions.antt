@@ -80,12 +80,12 @@ scaled_below value used small le =
     omega (arith, below, split, whole)
 
 -- what was read of n digits
-record Read (n : ℕ) (bytes : List ℕ) (v : ℕ) (rest : List ℕ) : Type 0 where
-  enough : n ≤ digit_count bytes
-  value : digits_value 10 (take n bytes) ≡ v
-  after : drop n bytes ≡ rest
+pub record Read (n : ℕ) (bytes : List ℕ) (v : ℕ) (rest : List ℕ) : Type 0 where
+  pub enough : n ≤ digit_count bytes
+  pub value : digits_value 10 (take n bytes) ≡ v
+  pub after : drop n bytes ≡ rest
 
-digits_read : (n : ℕ) (bytes : List ℕ) (v : ℕ) (rest : List ℕ) → digits n bytes ≡ Some (v, rest) → Read n bytes v rest
+pub digits_read : (n : ℕ) (bytes : List ℕ) (v : ℕ) (rest : List ℕ) → digits n bytes ≡ Some (v, rest) → Read n bytes v rest
 unfolding digits
 digits_read n bytes v rest h =
     elim (cases_lt (digit_count bytes) n) [
@@ -99,7 +99,7 @@ digits_read n bytes v rest h =
           record { enough = le; value = ap (λ (o : Option (ℕ × List ℕ)). (unwrap_or o (0, [])).0) f; after = ap (λ (o : Option (ℕ × List ℕ)). (unwrap_or o (0, [])).1) f }
     ]
 
-none_there : (bytes : List ℕ) → digits 1 bytes ≡ None → digit_count bytes ≡ 0
+pub none_there : (bytes : List ℕ) → digits 1 bytes ≡ None → digit_count bytes ≡ 0
 unfolding digits
 none_there bytes h =
     elim (cases_lt (digit_count bytes) 1) [

@@ -6,4 +6,5 @@ pub mod Fractions
 pub mod Fronts
 pub mod Lanes
 pub mod Numbers
+pub mod Padding
 pub mod YearMonthWords

@@ -1,5 +1,5 @@
 -- Eight bytes as one number, the first byte the lowest.
-use Rattle.std.specs.Prelude.{◌≡◌, ℕ, ◌+◌, ◌*◌, ◌/◌, List, [], ◌∷◌, drop, Some}
+use Rattle.std.specs.Prelude.{◌≡◌, ℕ, ◌+◌, ◌-◌, ◌*◌, ◌/◌, List, [], ◌∷◌, ◌++◌, take, drop, replicate, Some}
 use Rattle.parsing_pieces.specs.Pieces.{digits, byte}
 
 -- the number of bytes
@@ -10,6 +10,10 @@ word (b ∷ bs) = word bs * 256 + b
 -- in each byte ten times that byte and the next one
 abbrev pub paired : ℕ → ℕ
 paired digits = digits * 10 + digits / 256
+
+-- the first bytes and then the digit zero, eight in all
+abbrev pub padded : ℕ → List ℕ → List ℕ
+padded count bytes = take count bytes ++ replicate (8 - count) 48
 
 -- `1985-04-`
 pub record IsYearMonth (bytes : List ℕ) (year month : ℕ) (rest : List ℕ) : Type 0 where

@@ -4,7 +4,7 @@ ghost use Rattle.std.specs.Str.Parse.{digits_value};
 ghost use Rattle.parsing_pieces.specs.Pieces as Pieces;
 
 use crate::cut::one_digit;
-use crate::word::nine_digits;
+use crate::word::{nine_digits, short_fraction};
 
 // How many digits the bytes begin with.
 #[inline(always)]
@@ -79,6 +79,7 @@ fn nanoseconds(run: &[u8]) -> u32
 }
 
 // A fraction of any number of digits.
+#[cold]
 #[tactic(auto, unfolding(crate::specs::Pieces::fraction))]
 fn any_fraction(bytes: &[u8]) -> Option<(u32, &[u8])>
     ensures cut { Pieces.cut_view result ≡ Pieces.fraction bytes.now }
@@ -97,6 +98,9 @@ pub fn fraction(bytes: &[u8]) -> Option<(u32, &[u8])>
     ensures cut { Pieces.cut_view result ≡ Pieces.fraction bytes.now }
     ensures bound { IfSome result (λ x. x.0 < 1_000_000_000) }
 {
+    if let Some(read) = short_fraction(bytes) {
+        return Some(read);
+    }
     if let Some((value, rest)) = nine_digits(bytes)
         && one_digit(rest).is_none()
     {

@@ -2,7 +2,7 @@
 //!
 //! The bytes stand in one number, the first one lowest: one test takes all of them, as one product then takes the
 //! tens of all digits. A text of another shape may be `None` here and still be read byte by byte.
-ghost use Rattle.std.specs.Prelude.{◌≡◌, ◌≤◌, ◌<◌, ◌+◌, ◌%◌, ◌^◌, ◌↔◌, IfSome, Some, IsTrue, take, drop, length, bit_and};
+ghost use Rattle.std.specs.Prelude.{◌≡◌, ◌≤◌, ◌<◌, ◌+◌, ◌-◌, ◌*◌, ◌%◌, ◌^◌, ◌↔◌, IfSome, IfNone, Some, IsTrue, [], take, drop, length, replicate, bit_and};
 ghost use Rattle.parsing_pieces.specs.Pieces as Pieces;
 ghost use Rattle.parsing_pieces.specs.Words as Words;
 
@@ -12,6 +12,7 @@ use crate::cut::one_digit;
 #[inline(always)]
 fn first_word(bytes: &[u8]) -> Option<(u64, &[u8])>
     ensures enough { IfSome result (λ x. 8 ≤ length bytes.now) }
+    ensures few { IfNone result (length bytes.now < 8) }
     ensures word { IfSome result (λ x. x.0 ≡ Words.word (take 8 bytes.now)) }
     ensures rest { IfSome result (λ x. x.1.now ≡ drop 8 bytes.now) }
 {
@@ -88,6 +89,135 @@ fn eight_digits(bytes: &[u8]) -> Option<(u32, &[u8])>
     let high = pairs % 256 * 100 + pairs / 0x1_0000 % 256;
     let low = pairs / 0x1_0000_0000 % 256 * 100 + pairs / 0x1_0000_0000_0000 % 256;
     Some(((high * 10_000 + low) as u32, rest))
+}
+
+// The first eight bytes, or all of them where they are fewer.
+#[inline(always)]
+fn word_of(bytes: &[u8]) -> u64
+    ensures { result ≡ Words.word (take 8 bytes.now) }
+{
+    match first_word(bytes) {
+        Some((word, _)) => word,
+        None => short_word(bytes),
+    }
+}
+
+// All bytes, fewer than eight.
+#[inline(always)]
+fn short_word(bytes: &[u8]) -> u64
+    requires { length bytes.now < 8 }
+    ensures { result ≡ Words.word bytes.now }
+{
+    let mut word = 0;
+    let mut at = bytes.len();
+    while at > 0 {
+        at -= 1;
+        word = word * 256 + u64::from(bytes[at]);
+    }
+    word
+}
+
+// How many of the eight bytes come before the first that is no digit. Nothing rests on it but speed.
+#[inline(always)]
+#[tactic(auto, using(std::proofs::lemmas::Nat::trailing_le))]
+fn likely_digits(word: u64) -> usize
+    ensures { result ≤ 8 }
+{
+    let above = word.wrapping_add(0x4646_4646_4646_4646);
+    let below = word.wrapping_sub(0x3030_3030_3030_3030);
+    ((above | below) & 0x8080_8080_8080_8080).trailing_zeros() as usize / 8
+}
+
+// Ones in the first bytes, for each number of them.
+static FIRST_BYTES: [u64; 9] = [
+    0,
+    0xff,
+    0xffff,
+    0xff_ffff,
+    0xffff_ffff,
+    0xff_ffff_ffff,
+    0xffff_ffff_ffff,
+    0xff_ffff_ffff_ffff,
+    0xffff_ffff_ffff_ffff,
+];
+
+// The digit zero in all bytes but the first, for each number of these.
+static ZEROS_BEHIND: [u64; 9] = [
+    0x3030_3030_3030_3030,
+    0x3030_3030_3030_3000,
+    0x3030_3030_3030_0000,
+    0x3030_3030_3000_0000,
+    0x3030_3030_0000_0000,
+    0x3030_3000_0000_0000,
+    0x3030_0000_0000_0000,
+    0x3000_0000_0000_0000,
+    0,
+];
+
+#[inline(always)]
+fn first_bytes(count: usize) -> u64
+    requires { count ≤ 8 }
+    ensures { result ≡ 2 ^ (8 * count) - 1 }
+{
+    FIRST_BYTES[count]
+}
+
+#[inline(always)]
+fn zeros_behind(count: usize) -> u64
+    requires { count ≤ 8 }
+    ensures { result ≡ Words.word (replicate (8 - count) 48) * 2 ^ (8 * count) }
+{
+    ZEROS_BEHIND[count]
+}
+
+// The first bytes as a word, with the digit zero behind them.
+#[inline(always)]
+fn padded_word(bytes: &[u8], word: u64, count: usize) -> u64
+    requires word { word ≡ Words.word (take 8 bytes.now) }
+    requires few { count ≤ 8 }
+    requires within { count ≤ length bytes.now }
+    ensures { result ≡ Words.word (Words.padded count bytes.now) }
+{
+    (word & first_bytes(count)) + zeros_behind(count)
+}
+
+// The number of the first bytes with zeros behind them, eight digits in all, where each is a digit.
+#[inline(always)]
+fn padded_digits(bytes: &[u8], word: u64, count: usize) -> Option<u32>
+    requires word { word ≡ Words.word (take 8 bytes.now) }
+    requires few { count ≤ 8 }
+    requires within { count ≤ length bytes.now }
+    ensures digits { IfSome result (λ v. Pieces.digits 8 (Words.padded count bytes.now) ≡ Some (v, [])) }
+    ensures bound { IfSome result (λ v. v < 100_000_000) }
+{
+    let word = padded_word(bytes, word, count);
+    let pattern = 0x3030_3030_3030_3030;
+    if !fits(word, 0xf0f0_f0f0_f0f0_f0f0, pattern, 0x0606_0606_0606_0606) {
+        return None;
+    }
+    let pairs = paired(word - pattern);
+    let high = pairs % 256 * 100 + pairs / 0x1_0000 % 256;
+    let low = pairs / 0x1_0000_0000 % 256 * 100 + pairs / 0x1_0000_0000_0000 % 256;
+    Some((high * 10_000 + low) as u32)
+}
+
+// The nanoseconds of a fraction of at most eight digits, where they are all that are there.
+#[inline(always)]
+pub(crate) fn short_fraction(bytes: &[u8]) -> Option<(u32, &[u8])>
+    ensures fraction { IfSome result (λ x. Pieces.fraction bytes.now ≡ Some (x.0, x.1.now)) }
+    ensures bound { IfSome result (λ x. x.0 < 1_000_000_000) }
+{
+    let word = word_of(bytes);
+    let count = likely_digits(word);
+    if count == 0 || count > bytes.len() {
+        return None;
+    }
+    let value = padded_digits(bytes, word, count)?;
+    let rest = &bytes[count..];
+    match one_digit(rest) {
+        None => Some((value * 10, rest)),
+        Some(_) => None,
+    }
 }
 
 /// Nine digits, where all of them are there.

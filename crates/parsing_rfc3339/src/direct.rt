@@ -1,11 +1,11 @@
 //! The moment that a text names.
-ghost use Rattle.std.specs.Prelude.{◌<◌, IfErr};
+ghost use Rattle.std.specs.Prelude.{◌≡◌, ◌<◌, IfErr, IfSome, Ok};
 ghost use Rattle.parsing_pieces.specs.FaultOf.{Gives, fault_of};
 ghost use Rattle.parsing_pieces.specs.ShortName.{HasShortName};
 ghost use Rattle.parsing_rfc3339.specs.Direct.{direct, moment_of};
 ghost use Rattle.parsing_pieces.specs.Readings.{value_read};
 
-use crate::reading::front;
+use crate::reading::{front, quick_front};
 use crate::written::Written;
 use datetime::OffsetDateTime;
 use parsing_pieces::{Parse, ParseFromDescription};
@@ -38,13 +38,41 @@ fn resolved(written: Written, rest: &[u8]) -> Result<OffsetDateTime, Parse>
     Ok(leap_checked(written.second == 60, shown)?)
 }
 
+/// The moment that a text names, where the shortest way finds one: `None` says nothing of the text.
+///
+/// Most texts have one, and no leap second.
 #[tactic(auto, unfolding(crate::specs::Direct::direct, crate::specs::Direct::moment))]
 #[inline(always)]
-fn moment(input: &[u8]) -> Result<OffsetDateTime, Parse>
+pub fn read_quickly(input: &[u8]) -> Option<OffsetDateTime>
+    ensures { IfSome result (λ moment. direct input.now ≡ Ok moment) }
+{
+    let (written, rest) = quick_front(input)?;
+    if written.second == 60 {
+        return None;
+    }
+    let Ok(moment) = resolved(written, rest) else {
+        return None;
+    };
+    Some(moment)
+}
+
+#[tactic(auto, unfolding(crate::specs::Direct::direct, crate::specs::Direct::moment))]
+#[cold]
+fn moment_by_pieces(input: &[u8]) -> Result<OffsetDateTime, Parse>
     ensures { Gives (λ d. d) fault_of result (direct input.now) }
 {
     let (written, rest) = front(input)?;
     resolved(written, rest)
+}
+
+#[inline(always)]
+fn moment(input: &[u8]) -> Result<OffsetDateTime, Parse>
+    ensures { Gives (λ d. d) fault_of result (direct input.now) }
+{
+    match read_quickly(input) {
+        Some(moment) => Ok(moment),
+        None => moment_by_pieces(input),
+    }
 }
 
 /// The moment that a text of RFC 3339, section 5.6, names, with any one byte between date and time.

@@ -5,4 +5,4 @@ mod direct;
 mod reading;
 mod written;
 
-pub use direct::read;
+pub use direct::{read, read_quickly};

@@ -24,8 +24,7 @@ fn quick_date(bytes: &[u8]) -> Option<((u16, u8, u8), &[u8])>
 }
 
 #[tactic(auto, unfolding(crate::specs::Reading::date))]
-#[cold]
-fn date_by_pieces(bytes: &[u8]) -> Result<((u16, u8, u8), &[u8]), ParseFromDescription>
+fn date(bytes: &[u8]) -> Result<((u16, u8, u8), &[u8]), ParseFromDescription>
     ensures { Gives (λ x. (x.0, x.1.now)) reading_fault result (Reading.date bytes.now) }
 {
     let (year, rest) = four_digits(bytes).ok_or(ParseFromDescription::InvalidComponent("year"))?;
@@ -39,19 +38,8 @@ fn date_by_pieces(bytes: &[u8]) -> Result<((u16, u8, u8), &[u8]), ParseFromDescr
     Ok(((year, month, day), rest))
 }
 
-#[inline(always)]
-fn date(bytes: &[u8]) -> Result<((u16, u8, u8), &[u8]), ParseFromDescription>
-    ensures { Gives (λ x. (x.0, x.1.now)) reading_fault result (Reading.date bytes.now) }
-{
-    if let Some(read) = quick_date(bytes) {
-        return Ok(read);
-    }
-    date_by_pieces(bytes)
-}
-
 #[tactic(auto, unfolding(crate::specs::Reading::clock))]
-#[cold]
-fn clock_by_pieces(bytes: &[u8]) -> Result<((u8, u8, u8), &[u8]), ParseFromDescription>
+fn clock(bytes: &[u8]) -> Result<((u8, u8, u8), &[u8]), ParseFromDescription>
     ensures { Gives (λ x. (x.0, x.1.now)) reading_fault result (Reading.clock bytes.now) }
 {
     let (hour, rest) = two_digits(bytes).ok_or(ParseFromDescription::InvalidComponent("hour"))?;
@@ -62,16 +50,13 @@ fn clock_by_pieces(bytes: &[u8]) -> Result<((u8, u8, u8), &[u8]), ParseFromDescr
     Ok(((hour, minute, second), rest))
 }
 
-// The time of day to the second.
+// The time of day to the second at the front, where no piece of it is missing.
 #[tactic(auto, unfolding(crate::specs::Reading::clock))]
 #[inline(always)]
-fn clock(bytes: &[u8]) -> Result<((u8, u8, u8), &[u8]), ParseFromDescription>
-    ensures { Gives (λ x. (x.0, x.1.now)) reading_fault result (Reading.clock bytes.now) }
+fn quick_clock(bytes: &[u8]) -> Option<((u8, u8, u8), &[u8])>
+    ensures { IfSome result (λ x. Reading.clock bytes.now ≡ Ok (x.0, x.1.now)) }
 {
-    if let Some(read) = parsing_pieces::clock(bytes) {
-        return Ok(read);
-    }
-    clock_by_pieces(bytes)
+    parsing_pieces::clock(bytes)
 }
 
 #[tactic(auto, unfolding(crate::specs::Reading::subsecond))]
@@ -131,9 +116,57 @@ fn offset(bytes: &[u8]) -> Result<((bool, u8, u8), &[u8]), ParseFromDescription>
     signed_offset(bytes)
 }
 
-/// The numbers at the front of the bytes, and the rest.
+// The offset, where it is all that is there and no piece of it is missing.
+#[tactic(auto, unfolding(crate::specs::Reading::offset))]
+#[inline(always)]
+fn quick_offset(bytes: &[u8]) -> Option<((bool, u8, u8), &[u8])>
+    ensures offset { IfSome result (λ x. Reading.offset bytes.now ≡ Ok (x.0, x.1.now)) }
+    ensures hour { IfSome result (λ x. x.0.1 ≤ 23) }
+    ensures minute { IfSome result (λ x. x.0.2 < 100) }
+{
+    if bytes.len() != 6 && bytes.len() != 1 {
+        return None;
+    }
+    let Ok(read) = offset(bytes) else {
+        return None;
+    };
+    Some(read)
+}
+
+/// The numbers at the front of the bytes, and the rest, where no piece of them is missing.
 #[tactic(auto, unfolding(crate::specs::Reading::rfc3339))]
 #[inline(always)]
+pub fn quick_front(bytes: &[u8]) -> Option<(Written, &[u8])>
+    ensures reads { IfSome result (λ x. Reading.rfc3339 bytes.now ≡ Ok (x.0, x.1.now)) }
+    ensures offset_hour { IfSome result (λ x. x.0.offset_hour ≤ 23) }
+    ensures offset_minute { IfSome result (λ x. x.0.offset_minute < 100) }
+{
+    let ((year, month, day), rest) = quick_date(bytes)?;
+    let (_, rest) = any_byte(rest)?;
+    let ((hour, minute, second), rest) = quick_clock(rest)?;
+    let Ok((nanosecond, rest)) = subsecond(rest) else {
+        return None;
+    };
+    let ((offset_is_negative, offset_hour, offset_minute), rest) = quick_offset(rest)?;
+    Some((
+        Written {
+            year,
+            month,
+            day,
+            hour,
+            minute,
+            second,
+            nanosecond,
+            offset_is_negative,
+            offset_hour,
+            offset_minute,
+        },
+        rest,
+    ))
+}
+
+/// The numbers at the front of the bytes, and the rest, piece by piece.
+#[tactic(auto, unfolding(crate::specs::Reading::rfc3339))]
 pub fn front(bytes: &[u8]) -> Result<(Written, &[u8]), ParseFromDescription>
     ensures gives { Gives (λ x. (x.0, x.1.now)) reading_fault result (Reading.rfc3339 bytes.now) }
     ensures nanosecond { IfOk result (λ x. x.0.nanosecond < 1_000_000_000) }

@@ -1,5 +1,5 @@
 //! Formats whose texts name a moment by a reading of their own.
-ghost use Rattle.std.specs.Prelude.{ℕ, List, Result, IfErr};
+ghost use Rattle.std.specs.Prelude.{◌≡◌, ℕ, List, Result, Ok, IfErr, IfSome};
 ghost use Rattle.datetime.specs.Wall.{Shown};
 ghost use Rattle.parsing_pieces.specs.Fault.{Fault};
 ghost use Rattle.parsing_pieces.specs.FaultOf.{Gives, fault_of};
@@ -19,6 +19,10 @@ pub trait TwoRoads {
     fn read_direct(&self, input: &[u8]) -> Result<OffsetDateTime, Parse>
         ensures gives { Gives (λ d. d) fault_of result (direct self.now input.now) }
         ensures short_name { IfErr result (λ e. HasShortName (fault_of e)) };
+
+    /// The same moment, where the shortest way finds one: `None` says nothing of the text.
+    fn read_quickly(&self, input: &[u8]) -> Option<OffsetDateTime>
+        ensures { IfSome result (λ moment. direct self.now input.now ≡ Ok moment) };
 }
 
 impl TwoRoads for Rfc3339 {
@@ -27,5 +31,10 @@ impl TwoRoads for Rfc3339 {
     #[inline(always)]
     fn read_direct(&self, input: &[u8]) -> Result<OffsetDateTime, Parse> {
         parsing_rfc3339::read(input)
+    }
+
+    #[inline(always)]
+    fn read_quickly(&self, input: &[u8]) -> Option<OffsetDateTime> {
+        parsing_rfc3339::read_quickly(input)
     }
 }

@@ -1,6 +1,6 @@
 use Rattle.std.proofs.Common.{◌≡◌, ◌==◌, ℕ, false, ◌+◌, ◌-◌, List, [], take, drop, refl, ◌∙◌, subst, arith, length-drop}
 use Rattle.std.proofs.KnownBytes.{Appends-nil, Appends-trans}
-use Rattle.std.proofs.lemmas.List.{take_rest}
+use Rattle.std.proofs.lemmas.List.{take_rest, length-take-le}
 use Rattle.std.proofs.lemmas.List.Elements.{All-nil}
 use Rattle.std.proofs.lemmas.Result.{err_from_is_err_and}
 use Rattle.instants_stream.specs.Lines.{HasNoLineFeed, whole_lines}
@@ -44,7 +44,7 @@ loop-len-preserved g c =
       ended = next_ended bytes start len i.ended within line_feed free;
       first = λ e. absurd (omega arith);
       later = λ _. (refl, next_some bytes start len i.ended within line_feed free);
-      written = rw (next_lines bytes start len i.ended within line_feed free, answers_to-next (g.A.AnswersLines.answer c.args.answers.now) c.args.is_long c.loop-len.is_long (whole_lines (take start bytes)) (take len (drop start bytes)) start (λ e. (i.first e, none_before bytes start e)) i.later) (Appends-trans _ _ _ _ _ i.written wrote);
+      written = rw (next_lines bytes start len i.ended within line_feed free, answers_to-next (g.A.AnswersLines.answer c.args.answers.now) c.args.limit c.args.is_long c.loop-len.is_long (whole_lines (take start bytes)) (take len (drop start bytes)) start len (length-take-le len (drop start bytes) (omega arith)) (λ e. (i.first e, none_before bytes start e)) i.later) (Appends-trans _ _ _ _ _ i.written wrote);
       searched = omega arith;
       free = All-nil (λ (b : ℕ). (b == 10) ≡ false);
       works = c.in_ok-write_answer.ensures.ok ∙ i.works;
@@ -63,8 +63,8 @@ returns-in_err-write_answer-clause-front g c =
     let free : HasNoLineFeed (take len (drop start bytes)) = subst (λ (l : List ℕ). HasNoLineFeed (take len l)) whole c.in-Some.ensures.before in
     let same : start + len - start ≡ len = omega arith in
     let wrote = rw same at c.in_err-write_answer.ensures.front in
-    let more = answers_to-front (g.A.AnswersLines.answer c.args.answers.now) c.args.is_long bytes (start + (len + 1)) (next_ended bytes start len i.ended within line_feed free) in
-    rw (p.1, more.1, next_lines bytes start len i.ended within line_feed free, answers_to-next (g.A.AnswersLines.answer c.args.answers.now) c.args.is_long c.loop-len.is_long (whole_lines (take start bytes)) (take len (drop start bytes)) start (λ e. (i.first e, none_before bytes start e)) i.later)
+    let more = answers_to-front (g.A.AnswersLines.answer c.args.answers.now) c.args.limit c.args.is_long bytes (start + (len + 1)) (next_ended bytes start len i.ended within line_feed free) in
+    rw (p.1, more.1, next_lines bytes start len i.ended within line_feed free, answers_to-next (g.A.AnswersLines.answer c.args.answers.now) c.args.limit c.args.is_long c.loop-len.is_long (whole_lines (take start bytes)) (take len (drop start bytes)) start len (length-take-le len (drop start bytes) (omega arith)) (λ e. (i.first e, none_before bytes start e)) i.later)
     (AppendsFront-more _ _ _ more.0 (AppendsFront-after _ _ _ _ _ i.written wrote))
 
 pub returns-clause-rest : goal.returns-clause-rest

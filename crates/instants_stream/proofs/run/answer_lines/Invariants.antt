@@ -13,7 +13,7 @@ invariant-loop-len g l =
       ended : last_part (take l.start l.bytes) ≡ [];
       first : l.start ≡ 0 → l.is_long ≡ l.fn.is_long;
       later : 0 < l.start → (l.is_long ≡ false) × (0 < length (whole_lines (take l.start l.bytes)));
-      written : Appends (held l.fn.writer) (held l.writer) (answers_to (g.A.AnswersLines.answer l.answers) l.fn.is_long (whole_lines (take l.start l.bytes)));
+      written : Appends (held l.fn.writer) (held l.writer) (answers_to (g.A.AnswersLines.answer l.answers) l.limit l.fn.is_long (whole_lines (take l.start l.bytes)));
       searched : l.searched ≤ length (drop l.start l.bytes);
       free : HasNoLineFeed (take l.searched (drop l.start l.bytes));
       works : g.W.ByteWriter.failed l.writer ≡ g.W.ByteWriter.failed l.fn.writer;

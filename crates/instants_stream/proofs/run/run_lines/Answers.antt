@@ -18,10 +18,10 @@ loop-count-init g c = record {
   progress = begins _ _ _ _;
   free = All-nil (λ (b : ℕ). (b == 10) ≡ false);
   size = refl;
-  limit = refl;
   room = c.requires.room;
   ordered = omega arith;
-  within = omega arith;
+  within = omega (arith, c.requires.room);
+  short = omega arith;
   reader_works = c.requires.reader;
   writer_works = c.requires.writer;
 }
@@ -38,8 +38,7 @@ returns-in_default-answer_lines-clause-write g c =
     let more = pending_more buffer into start filled count (length buffer - filled) i.ordered fits c.in-Ok.ensures.within in
     let wrote = rw more at c.in_default-answer_lines.ensures.front in
     let into_size : length into ≡ length buffer - filled = grind (arith, common_steps) in
-    let short : length (pending buffer start filled ++ take count into) ≤ length c.args.buffer.now - 1 + 1 = simp (length-append, length-take, length-drop) (omega (arith, c.in-Ok.ensures.within)) in
-    λ _. chunk_fails _ _ _ _ _ _ _ _ _ _ _ i.progress i.free short c.in-Ok.ensures.moved wrote
+    λ _. chunk_fails _ _ _ _ _ _ _ _ _ _ _ i.progress i.free c.in-Ok.ensures.moved wrote
 
 -- a line stays too long exactly if no line feed ended it
 still_long : (was : Bool) (answered : ℕ) → ((0 < answered) × ((was && (answered == 0)) ≡ false)) ⊎ ((answered ≡ 0) × ((was && (answered == 0)) ≡ was))
@@ -51,7 +50,7 @@ still_long false (suc answered) = inl (omega arith, refl)
 -- where the run stands when the whole lines are answered
 stands : (g : _) (c : In-Ok-answer_lines g) (is_long : Bool) → ((0 < c.in-Ok-answer_lines.answered) × (is_long ≡ false)) ⊎ ((c.in-Ok-answer_lines.answered ≡ 0) × (is_long ≡ c.loop-count.is_long))
     → (let line = pending (put_mid c.loop-count.filled (length c.loop-count.buffer - c.loop-count.filled) c.loop-count.buffer c.read.new.into) (c.loop-count.start + c.in-Ok-answer_lines.answered) (c.loop-count.filled + c.in-Ok.count) in
-    Progress (g.A.AnswersLines.answer c.args.answers.now) (length c.args.buffer.now - 1) (g.R.ByteReader.left c.args.reader.now) (g.R.ByteReader.left c.read.new.self) (g.W.ByteWriter.held c.args.writer.now) (g.W.ByteWriter.held c.answer_lines.new.writer) line is_long
+    Progress (g.A.AnswersLines.answer c.args.answers.now) c.args.limit (g.R.ByteReader.left c.args.reader.now) (g.R.ByteReader.left c.read.new.self) (g.W.ByteWriter.held c.args.writer.now) (g.W.ByteWriter.held c.answer_lines.new.writer) line is_long
     × HasNoLineFeed line × (c.loop-count.start + c.in-Ok-answer_lines.answered ≤ c.loop-count.filled + c.in-Ok.count) × (c.loop-count.filled + c.in-Ok.count ≤ length c.loop-count.buffer))
 stands g c is_long which =
     let i = c.loop-count.invariant in
@@ -70,8 +69,7 @@ stands g c is_long which =
     let whole = length-pending (put_mid filled k buffer into) start (filled + count) (omega arith) in
     let ordered : start + answered ≤ filled + count = omega (arith, c.in-Ok-answer_lines.ensures.within, whole, i.ordered) in
     let line_is : pending (put_mid filled k buffer into) (start + answered) (filled + count) ≡ last_part (pending buffer start filled ++ take count into) = pending_rest (put_mid filled k buffer into) start (filled + count) answered ordered ∙ c.in-Ok-answer_lines.ensures.rest ∙ ap last_part more in
-    let short : length (pending buffer start filled ++ take count into) ≤ length c.args.buffer.now - 1 + 1 = simp (length-append, length-take, length-drop) (omega (arith, c.in-Ok.ensures.within)) in
-    let progress = chunk_step (g.A.AnswersLines.answer c.args.answers.now) (length c.args.buffer.now - 1) (g.R.ByteReader.left c.args.reader.now) (g.R.ByteReader.left c.loop-count.reader) (g.R.ByteReader.left c.read.new.self) (g.W.ByteWriter.held c.args.writer.now) (g.W.ByteWriter.held c.loop-count.writer) (g.W.ByteWriter.held c.answer_lines.new.writer) (pending buffer start filled) (take count into) c.loop-count.is_long i.progress i.free short c.in-Ok.ensures.moved answered is_long
+    let progress = chunk_step (g.A.AnswersLines.answer c.args.answers.now) c.args.limit (g.R.ByteReader.left c.args.reader.now) (g.R.ByteReader.left c.loop-count.reader) (g.R.ByteReader.left c.read.new.self) (g.W.ByteWriter.held c.args.writer.now) (g.W.ByteWriter.held c.loop-count.writer) (g.W.ByteWriter.held c.answer_lines.new.writer) (pending buffer start filled) (take count into) c.loop-count.is_long i.progress i.free c.in-Ok.ensures.moved answered is_long
     (rw more at c.in-Ok-answer_lines.ensures.some) (rw more at c.in-Ok-answer_lines.ensures.none) which (rw more at c.in-Ok-answer_lines.ensures.written) in
     (rw line_is progress, rw line_is (last_part_free (pending buffer start filled ++ take count into)), ordered, next_fits)
 
@@ -90,15 +88,15 @@ loop-count-preserved-then-filled-start g c =
     let (progress, free, ordered, ends) = stands g (goal.at.loop-count-preserved-then-filled-start g c).In-Ok-answer_lines (c.loop-count.is_long && (c.in-Ok-answer_lines.answered == 0)) which in
     let start_next = c.loop-count.start + c.in-Ok-answer_lines.answered in
     let filled_next = filled + c.in-Ok.count in
-    let over : length c.args.buffer.now - 1 < length (pending next start_next filled_next) = omega (arith, length-pending next start_next filled_next (omega arith), c.if-filled-start.true) in
+    let over : c.args.limit < length (pending next start_next filled_next) = omega (arith, length-pending next start_next filled_next (omega arith), c.if-filled-start.true) in
     record {
       progress = forgets _ _ _ _ _ _ _ _ progress over;
       free = All-nil (λ (b : ℕ). (b == 10) ≡ false);
       size = size ∙ i.size;
-      limit = refl;
       room = i.room;
       ordered = omega arith;
-      within = omega arith;
+      within = omega (arith, i.room);
+      short = omega arith;
       reader_works = c.in-Ok.ensures.ok ∙ i.reader_works;
       writer_works = c.in-Ok-answer_lines.ensures.ok ∙ i.writer_works;
     }
@@ -123,10 +121,10 @@ loop-count-preserved-then-filled-buffer g c =
       progress = rw moved progress;
       free = rw moved free;
       size = c.copy_within.ensures.len ∙ size ∙ i.size;
-      limit = refl;
       room = i.room;
       ordered = omega arith;
-      within = omega (arith, c.if-filled-start.false);
+      within = omega (arith, i.room, c.if-filled-start.false);
+      short = omega (arith, c.if-filled-start.false);
       reader_works = c.in-Ok.ensures.ok ∙ i.reader_works;
       writer_works = c.in-Ok-answer_lines.ensures.ok ∙ i.writer_works;
     }
@@ -144,25 +142,25 @@ loop-count-preserved g c =
     let size = size_kept buffer into filled k fits refl into_size in
     let which : ((0 < c.in-Ok-answer_lines.answered) × ((c.loop-count.is_long && (c.in-Ok-answer_lines.answered == 0)) ≡ false)) ⊎ ((c.in-Ok-answer_lines.answered ≡ 0) × ((c.loop-count.is_long && (c.in-Ok-answer_lines.answered == 0)) ≡ c.loop-count.is_long)) = still_long c.loop-count.is_long c.in-Ok-answer_lines.answered in
     let (progress, free, ordered, ends) = stands g (goal.at.loop-count-preserved g c).In-Ok-answer_lines (c.loop-count.is_long && (c.in-Ok-answer_lines.answered == 0)) which in
-    let room : filled + c.in-Ok.count ≤ length c.args.buffer.now - 1 = omega (arith, size, i.size, c.if-filled-buffer.false) in
+    let room : filled + c.in-Ok.count < length c.args.buffer.now = omega (arith, size, i.size, ends, c.if-filled-buffer.false) in
     record {
       progress = progress;
       free = free;
       size = size ∙ i.size;
-      limit = refl;
       room = i.room;
       ordered = ordered;
       within = room;
+      short = omega (arith, c.if-filled-start.false);
       reader_works = c.in-Ok.ensures.ok ∙ i.reader_works;
       writer_works = c.in-Ok-answer_lines.ensures.ok ∙ i.writer_works;
     }
 
 -- the reader is at its end
-paused : (g : _) (c : In-Ok g) → c.in-Ok.count ≡ 0 → Progress (g.A.AnswersLines.answer c.args.answers.now) (length c.args.buffer.now - 1) (g.R.ByteReader.left c.args.reader.now) (g.R.ByteReader.left c.read.new.self) (g.W.ByteWriter.held c.args.writer.now) (g.W.ByteWriter.held c.loop-count.writer) (pending c.loop-count.buffer c.loop-count.start c.loop-count.filled) c.loop-count.is_long × IsAtEnd (g.R.ByteReader.left c.read.new.self)
+paused : (g : _) (c : In-Ok g) → c.in-Ok.count ≡ 0 → Progress (g.A.AnswersLines.answer c.args.answers.now) c.args.limit (g.R.ByteReader.left c.args.reader.now) (g.R.ByteReader.left c.read.new.self) (g.W.ByteWriter.held c.args.writer.now) (g.W.ByteWriter.held c.loop-count.writer) (pending c.loop-count.buffer c.loop-count.start c.loop-count.filled) c.loop-count.is_long × IsAtEnd (g.R.ByteReader.left c.read.new.self)
 paused g c none =
     let i = c.loop-count.invariant in
     let into_size : length c.read.new.into ≡ length c.loop-count.buffer - c.loop-count.filled = grind (arith, common_steps) in (
-      pauses (g.A.AnswersLines.answer c.args.answers.now) (length c.args.buffer.now - 1) (g.R.ByteReader.left c.args.reader.now) (g.R.ByteReader.left c.loop-count.reader) (g.R.ByteReader.left c.read.new.self) (g.W.ByteWriter.held c.args.writer.now) (g.W.ByteWriter.held c.loop-count.writer) (pending c.loop-count.buffer c.loop-count.start c.loop-count.filled) c.loop-count.is_long i.progress (rw none at c.in-Ok.ensures.moved),
+      pauses (g.A.AnswersLines.answer c.args.answers.now) c.args.limit (g.R.ByteReader.left c.args.reader.now) (g.R.ByteReader.left c.loop-count.reader) (g.R.ByteReader.left c.read.new.self) (g.W.ByteWriter.held c.args.writer.now) (g.W.ByteWriter.held c.loop-count.writer) (pending c.loop-count.buffer c.loop-count.start c.loop-count.filled) c.loop-count.is_long i.progress (rw none at c.in-Ok.ensures.moved),
       c.in-Ok.ensures.none none (omega arith),
     )
 
@@ -182,10 +180,10 @@ returns-then-is_err-clause-write g c =
       | then-is_long-via-then-is_long w ↦ inl w.if-is_long.true
       | then-is_long-via-else-is_long+then-start-filled w ↦ inr (omega (arith, size, w.if-start-filled.true))
     ] in
-    λ _. fails_at_end _ _ _ _ _ _ _ _ _ progress (omega (arith, size)) some ends (rw same at wrote)
+    λ _. fails_at_end _ _ _ _ _ _ _ _ _ progress (omega (arith, size, i.short)) some ends (rw same at wrote)
 
 -- the run is through, but for the flush
-finished : (g : _) (c : After-flush g) → Through (g.A.AnswersLines.answer c.args.answers.now) (length c.args.buffer.now - 1) (g.R.ByteReader.left c.args.reader.now) (g.R.ByteReader.left c.read.new.self) (g.W.ByteWriter.held c.args.writer.now) (g.W.ByteWriter.held c.if-is_long.writer)
+finished : (g : _) (c : After-flush g) → Through (g.A.AnswersLines.answer c.args.answers.now) c.args.limit (g.R.ByteReader.left c.args.reader.now) (g.R.ByteReader.left c.read.new.self) (g.W.ByteWriter.held c.args.writer.now) (g.W.ByteWriter.held c.if-is_long.writer)
 finished g c =
     let i = c.loop-count.invariant in
     let buffer = c.loop-count.buffer in
@@ -193,7 +191,7 @@ finished g c =
     let filled = c.loop-count.filled in
     let into_size : length c.read.new.into ≡ length buffer - filled = grind (arith, common_steps) in
     let ends = c.in-Ok.ensures.none c.if-count-eq0.true (omega arith) in
-    let progress = pauses (g.A.AnswersLines.answer c.args.answers.now) (length c.args.buffer.now - 1) (g.R.ByteReader.left c.args.reader.now) (g.R.ByteReader.left c.loop-count.reader) (g.R.ByteReader.left c.read.new.self) (g.W.ByteWriter.held c.args.writer.now) (g.W.ByteWriter.held c.loop-count.writer) (pending buffer start filled) c.loop-count.is_long i.progress (rw c.if-count-eq0.true at c.in-Ok.ensures.moved) in
+    let progress = pauses (g.A.AnswersLines.answer c.args.answers.now) c.args.limit (g.R.ByteReader.left c.args.reader.now) (g.R.ByteReader.left c.loop-count.reader) (g.R.ByteReader.left c.read.new.self) (g.W.ByteWriter.held c.args.writer.now) (g.W.ByteWriter.held c.loop-count.writer) (pending buffer start filled) c.loop-count.is_long i.progress (rw c.if-count-eq0.true at c.in-Ok.ensures.moved) in
     let fits : filled ≤ length buffer = omega arith in
     let size = length-pending buffer start filled fits in
     let same = pending_same buffer c.read.new.into start filled (length buffer - filled) i.ordered fits in
@@ -204,7 +202,7 @@ finished g c =
             | then-is_long-via-then-is_long v ↦ inl v.if-is_long.true
             | then-is_long-via-else-is_long+then-start-filled v ↦ inr (omega (arith, size, v.if-start-filled.true))
           ] in
-          rw w.writer-is (through_with_rest _ _ _ _ _ _ _ _ _ progress (omega (arith, size)) some ends (rw same at wrote))
+          rw w.writer-is (through_with_rest _ _ _ _ _ _ _ _ _ progress (omega (arith, size, i.short)) some ends (rw same at wrote))
       | else-is_long+else-start-filled w ↦
           let none : filled - start ≡ 0 = omega (arith, w.if-start-filled.false) in
           let line_is : pending buffer start filled ≡ [] = rw none refl in

@@ -1,4 +1,4 @@
-use Rattle.std.proofs.Common.{◌≡◌, ◌-◌, ◌≤◌, false, length, take, drop}
+use Rattle.std.proofs.Common.{◌≡◌, ◌-◌, ◌≤◌, ◌<◌, false, length, take, drop}
 use Rattle.instants_stream.specs.Lines.{HasNoLineFeed}
 use Rattle.instants_stream.proofs.Progress.{Progress}
 use Rattle.instants_stream.proofs.run.run_lines.Given as goal
@@ -12,10 +12,10 @@ invariant-loop-count g l =
       progress : Progress (g.A.AnswersLines.answer l.answers) l.limit (left l.fn.reader) (left l.reader) (held l.fn.writer) (held l.writer) line l.is_long;
       free : HasNoLineFeed line;
       size : length l.buffer ≡ length l.fn.buffer;
-      limit : l.limit ≡ length l.fn.buffer - 1;
-      room : 2 ≤ length l.fn.buffer;
+      room : l.limit < length l.fn.buffer;
       ordered : l.start ≤ l.filled;
-      within : l.filled ≤ l.limit;
+      within : l.filled < length l.fn.buffer;
+      short : l.filled - l.start ≤ l.limit;
       reader_works : g.R.ByteReader.failed l.reader ≡ false;
       writer_works : g.W.ByteWriter.failed l.writer ≡ false;
     }
