@@ -4,19 +4,21 @@
 
 pub mod laws;
 mod line_fault;
+mod program;
 mod program_fault;
 mod source;
 mod stream;
 mod timeline;
 
 pub use instants_devices::{
-    ByteReader, ByteWriter, CutReader, CutWriter, DeviceFailed, StdReader, StdWriter,
+    BlockWriter, ByteReader, ByteWriter, CutReader, CutWriter, DeviceFailed, StdReader, StdWriter,
 };
 pub use instants_lines::{Answer, fits_line, rfc3339_line};
 pub use instants_stream::RunFault;
 pub use instants_words::{SourceText, Words, WordsFault, read_words};
 pub use line_fault::LineFault;
+pub use program::run_words;
 pub use program_fault::ProgramFault;
 pub use source::Source;
-pub use stream::{run, run_within};
+pub use stream::run;
 pub use timeline::{NewFault, Timeline};

@@ -1,5 +1,5 @@
 //! One answer for each line of a stream.
-ghost use Rattle.std.specs.Prelude.{◌≡◌, ◌-◌, ◌<◌, ◌≤◌, ◌↔◌, ℕ, true, false, List, [], length, Some, Err, IsTrue, IfSome, OnOk};
+ghost use Rattle.std.specs.Prelude.{◌≡◌, ◌-◌, ◌≤◌, ◌↔◌, ℕ, true, false, List, [], length, Some, Err, IsTrue, IfSome, OnOk};
 ghost use Rattle.std.specs.Io.KnownBytes.{Consumes, Appends};
 ghost use Rattle.instants_devices.specs.Told.{ConsumesOrUntold, AppendsFront};
 ghost use Rattle.instants_stream.specs.Answers.{output, owed, due};
@@ -43,37 +43,4 @@ pub fn run<R: ByteReader, W: ByteWriter>(
     ensures write_failed { IsTrue (W.failed writer.new) ↔ (result ≡ Err RunFault.Write) }
 {
     run_lines(timeline, buffer.len() - 1, buffer, reader, writer)
-}
-
-/// `run` with a limit of its own: the longer the buffer is, the fewer are the reads.
-pub fn run_within<R: ByteReader, W: ByteWriter>(
-    timeline: &Timeline,
-    limit: usize,
-    buffer: &mut [u8],
-    reader: &mut R,
-    writer: &mut W,
-) -> Result<(), RunFault>
-    requires room { limit < length buffer.old }
-    requires reader { R.failed reader.old ≡ false }
-    requires writer { W.failed writer.old ≡ false }
-    // All that the reader had was read, and exactly its output was written.
-    ensures ok { OnOk result (IfSome (R.left reader.old) (λ stream. (R.left reader.new ≡ Some [])
-        × Appends (W.held writer.old) (W.held writer.new)
-        (output (answer_to timeline.now) limit stream))) }
-    ensures flushed { OnOk result (W.flushed writer.new ≡ true) }
-    // Exactly the lines whose line feed was read are answered.
-    ensures read { result ≡ Err RunFault.Read → (read : List ℕ)
-        × ConsumesOrUntold (R.left reader.old) (R.left reader.new) read
-        × Appends (W.held writer.old) (W.held writer.new)
-        (owed (answer_to timeline.now) limit read) }
-    // A beginning of the answers to the lines whose line feed, or the end, was read is written.
-    ensures write { result ≡ Err RunFault.Write → (read : List ℕ)
-        × Consumes (R.left reader.old) (R.left reader.new) read
-        × AppendsFront (W.held writer.old) (W.held writer.new)
-        (due (answer_to timeline.now) limit read (R.left reader.new)) }
-    // A fault is one of the device that it names.
-    ensures read_failed { IsTrue (R.failed reader.new) ↔ (result ≡ Err RunFault.Read) }
-    ensures write_failed { IsTrue (W.failed writer.new) ↔ (result ≡ Err RunFault.Write) }
-{
-    run_lines(timeline, limit, buffer, reader, writer)
 }

@@ -1,2 +1,3 @@
 pub mod Told
 pub mod CutDevices
+pub mod Gathering

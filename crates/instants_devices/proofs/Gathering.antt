@@ -1,0 +1,39 @@
+-- Lemmas on a writer that gathers bytes.
+use Rattle.std.proofs.Common.{◌≡◌, ℕ, ◌+◌, ◌-◌, ◌≤◌, List, ◌++◌, Option, None, Some, length, take, drop, sym, ap, ◌∙◌, subst, arith, take-append-drop, append-nil, Result, Ok, Err, OnErr}
+use Rattle.std.proofs.lemmas.List.{drop-take, drop-append-le, length-take-le}
+use Rattle.std.proofs.Math.Seq.{drop-drop, drop-nil}
+use Rattle.std.specs.Io.KnownBytes.{Appends, Keeps, append_known}
+use Rattle.std.proofs.KnownBytes.{append_known-moved, append_known-grown, Keeps-refl}
+use Rattle.instants_devices.specs.Gathering.{gathered}
+use Rattle.instants_devices.specs.Told.{StaysOrUntold}
+
+-- the writer below took some of what was gathered
+pub gathered-moved : (below next : Option (List ℕ)) (block : List ℕ) (start end count : ℕ) → start ≤ end
+    → Appends below next (take count (take (end - start) (drop start block))) → Keeps (gathered below block start end) (gathered next block (start + count) end)
+gathered-moved below next block start end count ordered moved =
+    let here = drop start (take end block) in
+    let range : here ≡ take (end - start) (drop start block) = (let e : end ≡ start + (end - start) = omega arith in ap (λ (n : ℕ). drop start (take n block)) e) ∙ drop-take start (end - start) block in
+    let taken : Appends below next (take count here) = subst (λ (l : List ℕ). Appends below next (take count l)) (sym range) moved in
+    let left : drop count here ≡ drop (start + count) (take end block) = drop-drop count start (take end block) in
+    subst (λ (l : List ℕ). Keeps (append_known below here) (append_known next l)) left
+    (append_known-moved below next (take count here) (drop count here) here taken (sym (take-append-drop count here)))
+
+-- bytes were put behind those gathered
+pub gathered-grown : (below : Option (List ℕ)) (old new bytes : List ℕ) (start end : ℕ) → start ≤ end → end ≤ length old
+    → take (end + length bytes) new ≡ take end old ++ bytes → Appends (gathered below old start end) (gathered below new start (end + length bytes)) bytes
+gathered-grown below old new bytes start end ordered within put =
+    append_known-grown (append_known below (drop start (take end old))) below (drop start (take end old)) (drop start (take (end + length bytes) new)) bytes
+    (Keeps-refl (append_known below (drop start (take end old))))
+    (ap (drop start) put ∙ drop-append-le start (take end old) bytes (omega (arith, length-take-le end old within)))
+
+-- what stays below stays where nothing is gathered
+pub gathered-stays : (all below next : Option (List ℕ)) (block : List ℕ) (start : ℕ) → Keeps all below → StaysOrUntold below next → StaysOrUntold all (gathered next block start 0)
+gathered-stays None below next block start p q = tt
+gathered-stays (Some x) None next block start p q = absurd p
+gathered-stays (Some x) (Some y) None block start p q = tt
+gathered-stays (Some x) (Some y) (Some z) block start p q = ap (λ (l : List ℕ). z ++ l) (drop-nil start) ∙ append-nil z ∙ q ∙ p
+
+-- a fact holds of a fault too
+pub on_any_err : {T E P : Type 0} (r : Result T E) → P → OnErr r P
+on_any_err (Ok x) h = tt
+on_any_err (Err e) h = h
