@@ -169,7 +169,7 @@ impl Timeline {
         ensures room { length result ≤ 63 }
     {
         let mut answer = Answer::new();
-        self.write_answer(line, &mut answer);
+        self.write_place(line, &mut answer);
         answer
     }
 }
@@ -190,6 +190,10 @@ impl AnswersLines for Timeline {
     ghost use Rattle.instants.specs.Place.{answer_to};
 
     ghost answer = { answer_to };
+
+    fn answer_line(&self, line: &[u8]) -> Answer {
+        Timeline::answer_line(self, line)
+    }
 
     #[inline(always)]
     fn write_answer(&self, line: &[u8], storage: &mut Answer) {

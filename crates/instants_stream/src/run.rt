@@ -59,6 +59,32 @@ fn write_answer<A: AnswersLines, W: ByteWriter>(
     write_all(writer, storage.as_bytes())
 }
 
+// The same for a last line, which no line feed ends.
+#[cold]
+#[inline(never)]
+#[tactic(auto, unfolding(crate::specs::Answers::answer_or_long))]
+fn write_last_answer<A: AnswersLines, W: ByteWriter>(
+    answers: &A,
+    line: &[u8],
+    is_long: bool,
+    writer: &mut W,
+) -> Result<(), DeviceFailed>
+    requires { W.failed writer.old ≡ false }
+    ensures written { OnOk result (Appends (W.held writer.old) (W.held writer.new)
+        (answer_or_long (A.answer answers.now) is_long line.now)) }
+    ensures ok { OnOk result (W.failed writer.new ≡ W.failed writer.old) }
+    ensures front { OnErr result (AppendsFront (W.held writer.old) (W.held writer.new)
+        (answer_or_long (A.answer answers.now) is_long line.now)) }
+    ensures err { OnErr result (W.failed writer.new ≡ true) }
+{
+    if is_long {
+        return write_long(writer);
+    }
+    let mut answer = answers.answer_line(line);
+    answer.push(LINE_FEED);
+    write_all(writer, answer.as_bytes())
+}
+
 // Answers each whole line, and says where the last part begins. The first `searched` bytes are
 // known to be no line feeds, and maybe that the first line is too long, with what came before.
 #[inline(always)]
@@ -171,7 +197,7 @@ pub fn run_lines<A: AnswersLines, R: ByteReader, W: ByteWriter>(
     }
     if is_long || start < filled {
         let line = &buffer[start..filled];
-        if write_answer(answers, line, is_long, &mut storage, writer).is_err() {
+        if write_last_answer(answers, line, is_long, writer).is_err() {
             return Err(RunFault::Write);
         }
     }

@@ -175,7 +175,7 @@ returns-then-is_err-clause-write g c =
     let fits : filled ≤ length buffer = omega arith in
     let size = length-pending buffer start filled fits in
     let same = pending_same buffer c.read.new.into start filled (length buffer - filled) i.ordered fits in
-    let wrote = on_err c.write_answer.result c.is_err.result c.is_err.ensures.value c.if-is_err.true c.write_answer.ensures.front in
+    let wrote = on_err c.write_last_answer.result c.is_err.result c.is_err.ensures.value c.if-is_err.true c.write_last_answer.ensures.front in
     let some : (c.loop-count.is_long ≡ true) ⊎ (0 < length (pending buffer start filled)) = elim c.then-is_long.branch [
       | then-is_long-via-then-is_long w ↦ inl w.if-is_long.true
       | then-is_long-via-else-is_long+then-start-filled w ↦ inr (omega (arith, size, w.if-start-filled.true))
@@ -197,7 +197,7 @@ finished g c =
     let same = pending_same buffer c.read.new.into start filled (length buffer - filled) i.ordered fits in
     elim c.if-is_long.branch [
       | then-is_long+else-is_err w ↦
-          let wrote = on_ok w.write_answer.result w.is_err.result w.is_err.ensures.value w.if-is_err.false w.write_answer.ensures.written in
+          let wrote = on_ok w.write_last_answer.result w.is_err.result w.is_err.ensures.value w.if-is_err.false w.write_last_answer.ensures.written in
           let some : (c.loop-count.is_long ≡ true) ⊎ (0 < length (pending buffer start filled)) = elim w.then-is_long.branch [
             | then-is_long-via-then-is_long v ↦ inl v.if-is_long.true
             | then-is_long-via-else-is_long+then-start-filled v ↦ inr (omega (arith, size, v.if-start-filled.true))
