@@ -11,7 +11,7 @@ ghost use Rattle.instants.specs.Program.{output_said, owed_said, due_said, Write
 
 use crate::program_fault::ProgramFault;
 use crate::timeline::Timeline;
-use instants_devices::{ByteReader, ByteWriter};
+use instants_devices::{ByteReader, ByteWriter, FrontWriter};
 use instants_stream::{RunFault, run_lines};
 use instants_words::read_words;
 use std::alloc::Global;
@@ -24,7 +24,7 @@ const BLOCK: usize = 65_536;
 ///
 /// The words are `TARGET ASSUMED LIMIT SOURCE...`. They are all looked at, and all memory is taken, before anything is
 /// read. The first device that fails ends the run; after a failed read what was answered is flushed.
-pub fn run_words<R: ByteReader, W: ByteWriter>(
+pub fn run_words<R: ByteReader, W: ByteWriter + FrontWriter>(
     alloc: Global,
     words: &[&str],
     reader: &mut R,
@@ -69,7 +69,7 @@ pub fn run_words<R: ByteReader, W: ByteWriter>(
 }
 
 // Answers each line, and flushes what was answered also where a read failed.
-fn run_and_flush<R: ByteReader, W: ByteWriter>(
+fn run_and_flush<R: ByteReader, W: ByteWriter + FrontWriter>(
     timeline: &Timeline,
     limit: usize,
     buffer: &mut [u8],

@@ -1,7 +1,7 @@
 -- Lemmas on a writer that gathers bytes.
-use Rattle.std.proofs.Common.{◌≡◌, ℕ, ◌+◌, ◌-◌, ◌≤◌, List, ◌++◌, Option, None, Some, length, take, drop, sym, ap, ◌∙◌, subst, arith, take-append-drop, append-nil, Result, Ok, Err, OnErr}
+use Rattle.std.proofs.Common.{◌≡◌, ℕ, ◌+◌, ◌-◌, ◌≤◌, List, ◌++◌, Option, None, Some, length, take, drop, sym, ap, ◌∙◌, subst, arith, take-append-drop, append-nil, take-take, Result, Ok, Err, OnErr}
 use Rattle.std.proofs.lemmas.List.{drop-take, drop-append-le, length-take-le}
-use Rattle.std.proofs.Math.Seq.{drop-drop, drop-nil}
+use Rattle.std.proofs.Math.Seq.{drop-drop, drop-nil, take-append-add}
 use Rattle.std.specs.Io.KnownBytes.{Appends, Keeps, append_known}
 use Rattle.std.proofs.KnownBytes.{append_known-moved, append_known-grown, Keeps-refl}
 use Rattle.instants_devices.specs.Gathering.{gathered}
@@ -25,6 +25,16 @@ gathered-grown below old new bytes start end ordered within put =
     append_known-grown (append_known below (drop start (take end old))) below (drop start (take end old)) (drop start (take (end + length bytes) new)) bytes
     (Keeps-refl (append_known below (drop start (take end old))))
     (ap (drop start) put ∙ drop-append-le start (take end old) bytes (omega (arith, length-take-le end old within)))
+
+-- more bytes were put behind those gathered than count
+pub gathered-front : (below : Option (List ℕ)) (old new bytes : List ℕ) (start end len : ℕ) → start ≤ end → end ≤ length old → len ≤ length bytes
+    → take (end + length bytes) new ≡ take end old ++ bytes → Appends (gathered below old start end) (gathered below new start (end + len)) (take len bytes)
+gathered-front below old new bytes start end len ordered within few put =
+    let size : length (take len bytes) ≡ len = length-take-le len bytes few in
+    let there : take (length (take end old) + len) (take end old ++ bytes) ≡ take end old ++ take len bytes = take-append-add (take end old) bytes len in
+    let shorter : take (end + len) new ≡ take end old ++ take len bytes =
+    sym (take-take (end + len) (end + length bytes) new (omega arith)) ∙ ap (take (end + len)) put ∙ (rw (length-take-le end old within) at there) in
+    rw size at (gathered-grown below old new (take len bytes) start end ordered within (rw size shorter))
 
 -- what stays below stays where nothing is gathered
 pub gathered-stays : (all below next : Option (List ℕ)) (block : List ℕ) (start : ℕ) → Keeps all below → StaysOrUntold below next → StaysOrUntold all (gathered next block start 0)

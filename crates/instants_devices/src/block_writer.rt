@@ -1,10 +1,11 @@
 //! A writer that gathers bytes in a block, and hands whole blocks on.
-ghost use Rattle.std.specs.Prelude.{◌≡◌, ◌+◌, ◌-◌, ◌<◌, ◌≤◌, ◌++◌, false, true, take, length, min, vec_len, OnOk, OnErr};
+ghost use Rattle.std.specs.Prelude.{◌≡◌, ◌+◌, ◌-◌, ◌<◌, ◌≤◌, ◌++◌, false, true, take, length, vec_len, IfOk, OnOk, OnErr};
 ghost use Rattle.std.specs.Io.KnownBytes.{Appends, Keeps};
 ghost use Rattle.instants_devices.specs.Gathering.{gathered};
-ghost use Rattle.instants_devices.specs.Told.{StaysOrUntold};
+ghost use Rattle.instants_devices.specs.Told.{StaysOrUntold, AppendsFront};
 
-use crate::devices::{ByteWriter, DeviceFailed};
+use crate::devices::{ByteWriter, DeviceFailed, write_all};
+use crate::front_writer::FrontWriter;
 
 /// Writes to another writer, a block at a time.
 ///
@@ -68,18 +69,35 @@ impl<W: ByteWriter> BlockWriter<W> {
         Ok(())
     }
 
-    // Puts as many of the bytes into the block as have room there, and says how many.
+    // Puts bytes into the block, which has room for them.
     #[inline(always)]
-    fn gather(&mut self, from: &[u8]) -> usize
-        ensures count { result ≡ min (length from.now) (vec_len self.old.block - self.old.end) }
-        ensures moved { Appends (gathered (W.held self.old.inner) self.old.block.items self.old.start self.old.end) (gathered (W.held self.new.inner) self.new.block.items self.new.start self.new.end) (take result from.now) }
+    fn gather(&mut self, from: &[u8])
+        requires { self.old.end + length from.now ≤ vec_len self.old.block }
+        ensures moved { Appends (gathered (W.held self.old.inner) self.old.block.items self.old.start self.old.end) (gathered (W.held self.new.inner) self.new.block.items self.new.start self.new.end) from.now }
         ensures inner { self.new.inner ≡ self.old.inner }
         ensures flushed { self.new.is_flushed ≡ self.old.is_flushed }
     {
-        let count = from.len().min(self.block.len() - self.end);
-        put(&mut self.block, self.end, &from[..count]);
-        self.end += count;
-        count
+        put(&mut self.block, self.end, from);
+        self.end += from.len();
+    }
+
+    // Makes room, and puts as many of the bytes into the block as it takes.
+    #[cold]
+    #[inline(never)]
+    fn write_past_end(&mut self, from: &[u8]) -> Result<usize, DeviceFailed>
+        requires { W.failed self.old.inner ≡ false }
+        ensures within { IfOk result (λ count. count ≤ length from.now) }
+        ensures moved { IfOk result (λ count. Appends (gathered (W.held self.old.inner) self.old.block.items self.old.start self.old.end) (gathered (W.held self.new.inner) self.new.block.items self.new.start self.new.end) (take count from.now)) }
+        ensures none { IfOk result (λ count. 0 < length from.now → 0 < count) }
+        ensures ok { OnOk result (W.failed self.new.inner ≡ W.failed self.old.inner) }
+        ensures kept { OnErr result (StaysOrUntold (gathered (W.held self.old.inner) self.old.block.items self.old.start self.old.end) (gathered (W.held self.new.inner) self.new.block.items self.new.start self.new.end)) }
+        ensures err { OnErr result (W.failed self.new.inner ≡ true) }
+        ensures flushed { self.new.is_flushed ≡ self.old.is_flushed }
+    {
+        self.hand_on()?;
+        let count = from.len().min(self.block.len());
+        self.gather(&from[..count]);
+        Ok(count)
     }
 }
 
@@ -94,9 +112,10 @@ impl<W: ByteWriter> ByteWriter for BlockWriter<W> {
     fn write(&mut self, from: &[u8]) -> Result<usize, DeviceFailed> {
         self.is_flushed = false;
         if self.block.len() - self.end < from.len() {
-            self.hand_on()?;
+            return self.write_past_end(from);
         }
-        Ok(self.gather(from))
+        self.gather(from);
+        Ok(from.len())
     }
 
     fn flush(&mut self) -> Result<(), DeviceFailed> {
@@ -113,4 +132,36 @@ impl<W: ByteWriter> ByteWriter for BlockWriter<W> {
     fn has_failed(&self) -> bool {
         self.inner.has_failed()
     }
+}
+
+impl<W: ByteWriter> FrontWriter for BlockWriter<W> {
+    // All 64 bytes are put into the block, which needs no test of how many they are.
+    #[inline(always)]
+    fn write_front(&mut self, bytes: &[u8; 64], len: usize) -> Result<(), DeviceFailed> {
+        if self.block.len() - self.end < 64 {
+            return write_front_past_end(self, bytes, len);
+        }
+        self.is_flushed = false;
+        put(&mut self.block, self.end, bytes);
+        self.end += len;
+        Ok(())
+    }
+}
+
+#[cold]
+#[inline(never)]
+fn write_front_past_end<W: ByteWriter>(
+    writer: &mut BlockWriter<W>,
+    bytes: &[u8; 64],
+    len: usize,
+) -> Result<(), DeviceFailed>
+    requires works { W.failed writer.old.inner ≡ false }
+    requires within { len ≤ 64 }
+    ensures written { OnOk result (Appends (⟦<BlockWriter<W> as ByteWriter>⟧.held writer.old) (⟦<BlockWriter<W> as ByteWriter>⟧.held writer.new) (take len bytes.now)) }
+    ensures ok { OnOk result (W.failed writer.new.inner ≡ W.failed writer.old.inner) }
+    ensures unflushed { OnOk result (0 < len → writer.new.is_flushed ≡ false) }
+    ensures front { OnErr result (AppendsFront (⟦<BlockWriter<W> as ByteWriter>⟧.held writer.old) (⟦<BlockWriter<W> as ByteWriter>⟧.held writer.new) (take len bytes.now)) }
+    ensures err { OnErr result (W.failed writer.new.inner ≡ true) }
+{
+    write_all(writer, &bytes[..len])
 }

@@ -89,6 +89,7 @@ pub fn write_all<W: ByteWriter>(writer: &mut W, bytes: &[u8]) -> Result<(), Devi
     requires { W.failed writer.old ≡ false }
     ensures written { OnOk result (Appends (W.held writer.old) (W.held writer.new) bytes.now) }
     ensures ok { OnOk result (W.failed writer.new ≡ W.failed writer.old) }
+    ensures unflushed { OnOk result (0 < length bytes.now → W.flushed writer.new ≡ false) }
     ensures front { OnErr result (AppendsFront (W.held writer.old) (W.held writer.new) bytes.now) }
     ensures err { OnErr result (W.failed writer.new ≡ true) }
 {

@@ -1,6 +1,6 @@
 //! The answer to one line, in storage of fixed size.
 
-ghost use Rattle.std.specs.Prelude.{◌≡◌, ◌+◌, ◌≤◌, [], ◌∷◌, ◌++◌, length};
+ghost use Rattle.std.specs.Prelude.{◌≡◌, ◌+◌, ◌≤◌, [], ◌∷◌, ◌++◌, length, take};
 
 use std::marker::Model;
 
@@ -57,6 +57,15 @@ impl Answer {
         ensures most { length self.now ≤ 64 }
     {
         &self.bytes[..self.len]
+    }
+
+    /// The bytes with others behind them, and how many they are.
+    #[inline(always)]
+    pub fn padded(&self) -> (&[u8; 64], usize)
+        ensures front { take result.1 result.0.now ≡ self.now }
+        ensures len { result.1 ≡ length self.now }
+    {
+        (&self.bytes, self.len)
     }
 
     /// Adds a byte.

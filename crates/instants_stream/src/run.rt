@@ -8,7 +8,7 @@ ghost use Rattle.instants_stream.specs.Answers.{output, owed, due, answer_or_lon
 
 use crate::answers_lines::AnswersLines;
 use crate::search::{LINE_FEED, line_len};
-use instants_devices::{ByteReader, ByteWriter, DeviceFailed, write_all};
+use instants_devices::{ByteReader, ByteWriter, DeviceFailed, FrontWriter, write_all};
 use instants_lines::Answer;
 
 /// Which device ended a run.
@@ -36,7 +36,7 @@ fn write_long<W: ByteWriter>(writer: &mut W) -> Result<(), DeviceFailed>
 // Writes the answer to a line, or that it is too long, and a line feed.
 #[inline(always)]
 #[tactic(auto, unfolding(crate::specs::Answers::answer_or_long))]
-fn write_answer<A: AnswersLines, W: ByteWriter>(
+fn write_answer<A: AnswersLines, W: ByteWriter + FrontWriter>(
     answers: &A,
     line: &[u8],
     is_long: bool,
@@ -56,7 +56,8 @@ fn write_answer<A: AnswersLines, W: ByteWriter>(
     }
     answers.write_answer(line, storage);
     storage.push(LINE_FEED);
-    write_all(writer, storage.as_bytes())
+    let (bytes, len) = storage.padded();
+    writer.write_front(bytes, len)
 }
 
 // The same for a last line, which no line feed ends.
@@ -88,7 +89,7 @@ fn write_last_answer<A: AnswersLines, W: ByteWriter>(
 // Answers each whole line, and says where the last part begins. The first `searched` bytes are
 // known to be no line feeds, and maybe that the first line is too long, with what came before.
 #[inline(always)]
-fn answer_lines<A: AnswersLines, W: ByteWriter>(
+fn answer_lines<A: AnswersLines, W: ByteWriter + FrontWriter>(
     answers: &A,
     limit: usize,
     bytes: &[u8],
@@ -128,7 +129,7 @@ fn answer_lines<A: AnswersLines, W: ByteWriter>(
 ///
 /// A line with more bytes than the limit is answered `! long`. The buffer is longer than the limit.
 /// The writer is flushed once, before `Ok`. A reader or a writer that failed isn't tried again.
-pub fn run_lines<A: AnswersLines, R: ByteReader, W: ByteWriter>(
+pub fn run_lines<A: AnswersLines, R: ByteReader, W: ByteWriter + FrontWriter>(
     answers: &A,
     limit: usize,
     buffer: &mut [u8],

@@ -1,4 +1,4 @@
-use Rattle.std.proofs.Common.{◌≡◌, ℕ, ◌-◌, List, ◌++◌, length, take, drop, sym, ap, ◌∙◌, append_assoc, take-append-drop}
+use Rattle.std.proofs.Common.{◌≡◌, ℕ, ◌-◌, List, ◌++◌, length, take, drop, sym, ap, ◌∙◌, append_assoc, take-append-drop, inr}
 use Rattle.std.proofs.lemmas.List.{take_rest}
 use Rattle.std.proofs.KnownBytes.{Appends-trans}
 use Rattle.instants_devices.proofs.devices.write_all.Goals as goal
@@ -9,7 +9,7 @@ moves_front all done rest n e =
 
 pub loop-rest-preserved : goal.loop-rest-preserved
 loop-rest-preserved g c =
-    let (done, split, appended, same) = c.loop-rest.invariant in
+    let (done, split, appended, same, _) = c.loop-rest.invariant in
     let rest = c.loop-rest.rest.now in
     let n = c.in_ok-count.count in
-    (done ++ take n rest, moves_front _ done rest n split, Appends-trans _ _ _ _ _ appended c.in_ok-count.ensures.moved, c.in_ok-count.ensures.ok ∙ same)
+    (done ++ take n rest, moves_front _ done rest n split, Appends-trans _ _ _ _ _ appended c.in_ok-count.ensures.moved, c.in_ok-count.ensures.ok ∙ same, inr c.in_ok-count.ensures.unflushed)
