@@ -1,5 +1,5 @@
 -- No line feed among bytes of two parts, and the first one among 16.
-use Rattle.std.proofs.Common.{◌≡◌, ◌≢◌, ◌==◌, ℕ, ◌+◌, ◌<◌, ◌≤◌, Bool, false, not, List, map, take, drop, length, get_or, sym, ◌∙◌, subst, arith, take-append-drop}
+use Rattle.std.proofs.Common.{◌≡◌, ◌≢◌, ◌==◌, ℕ, ◌+◌, ◌<◌, ◌≤◌, ◌*◌, suc, Bool, true, false, not, cond, List, [], ◌∷◌, map, take, drop, length, get_or, sym, ◌∙◌, subst, arith, take-append-drop}
 use Rattle.std.proofs.Math.Seq.{take-add}
 use Rattle.std.proofs.lemmas.Bool.{not-true}
 use Rattle.std.proofs.lemmas.Bool.Decides.{nat_tests}
@@ -29,6 +29,17 @@ pub record IsBefore (bytes : List ℕ) (n : ℕ) : Type 0 where
 is_ten : (b : ℕ) → not (b == 10) ≡ false → b ≡ 10
 is_ten b h = grind (arith, nat_tests)
 
+-- a step of the count: the test of one byte, the bits of the others and how many of them come before
+counted : (b : Bool) (mask before all : ℕ) → 0 < cond b 1 0 + 2 * mask → (0 < mask → before < all) → cond (not b) (1 + before) 0 < suc all
+counted true mask before all some below = omega arith
+counted false mask before all some below = omega (arith, below (omega arith))
+
+-- where a bit is set, some byte is a line feed
+stops_within : (bytes : List ℕ) → 0 < mask_l (map (λ b. b == 10) bytes) → prefix_len (λ b. not (b == 10)) bytes < length bytes
+stops_within [] some = absurd (omega arith)
+stops_within (b ∷ bytes) some =
+    (counted (b == 10) (mask_l (map (λ b. b == 10) bytes)) (prefix_len (λ b. not (b == 10)) bytes) (length bytes) some (stops_within bytes))
+
 module _ (bytes : List ℕ) (enough : 16 ≤ length bytes) where
   long : length (take 16 bytes) ≡ 16
   long = length-take-le 16 bytes enough
@@ -53,6 +64,12 @@ module _ (bytes : List ℕ) (enough : 16 ≤ length bytes) where
   pub none_set : (m : ℕ) → m ≡ mask_l (map (λ b. b == 10) (take 16 bytes)) → m ≡ 0 → IsBefore bytes 16
   none_set m mask none = is_before 16 (sym (leading_from_mask_l (λ b. b == 10) (take 16 bytes) (sym mask ∙ none) ∙ long))
 
+  lowest : (m : ℕ) → m ≡ mask_l (map (λ b. b == 10) (take 16 bytes)) → m ≢ 0 → count_trailing_zeros 64 m ≡ prefix_len other (take 16 bytes)
+  lowest m mask some = rw mask (trailing_mask_l (λ b. b == 10) 64 (take 16 bytes) (omega (arith, long)) (omega (arith, mask, some)))
+
   -- the lowest bit that is set
   pub lowest_set : (m : ℕ) → m ≡ mask_l (map (λ b. b == 10) (take 16 bytes)) → m ≢ 0 → IsBefore bytes (count_trailing_zeros 64 m)
-  lowest_set m mask some = is_before (count_trailing_zeros 64 m) (rw mask (trailing_mask_l (λ b. b == 10) 64 (take 16 bytes) (omega (arith, long)) (omega (arith, mask, some))))
+  lowest_set m mask some = is_before (count_trailing_zeros 64 m) (lowest m mask some)
+
+  pub lowest_within : (m : ℕ) → m ≡ mask_l (map (λ b. b == 10) (take 16 bytes)) → m ≢ 0 → count_trailing_zeros 64 m < 16
+  lowest_within m mask some = omega (arith, lowest m mask some, long, stops_within (take 16 bytes) (omega (arith, mask, some)))

@@ -10,21 +10,21 @@ pub(crate) const LINE_FEED: u8 = b'\n';
 // How many bytes are compared at once.
 const LANES: usize = 16;
 
-// How many of the first 16 bytes stand before a line feed: all of them where there is none.
+// How many of the first 16 bytes stand before a line feed, where there is one.
 #[inline(always)]
-fn before_line_feed(bytes: &[u8]) -> usize
+fn before_line_feed(bytes: &[u8]) -> Option<usize>
     requires { LANES ≤ length bytes.now }
-    ensures within { result ≤ LANES }
-    ensures before { HasNoLineFeed (take result bytes.now) }
-    ensures line_feed { result < LANES → slice_index bytes.now result ≡ 10 }
+    ensures none { IfNone result (HasNoLineFeed (take LANES bytes.now)) }
+    ensures within { IfSome result (λ len. len < LANES) }
+    ensures before { IfSome result (λ len. HasNoLineFeed (take len bytes.now)) }
+    ensures line_feed { IfSome result (λ len. slice_index bytes.now len ≡ 10) }
 {
     let line_feeds = u8x16::from_slice(bytes).simd_eq(u8x16::splat(LINE_FEED));
     let places = line_feeds.to_bitmask();
     if places == 0 {
-        LANES
-    } else {
-        places.trailing_zeros() as usize
+        return None;
     }
+    Some(places.trailing_zeros() as usize)
 }
 
 // How many bytes stand before the first line feed.
@@ -50,8 +50,7 @@ pub(crate) fn line_len(bytes: &[u8], searched: usize) -> Option<usize>
 {
     let mut at = searched;
     while bytes.len() - at >= LANES {
-        let len = before_line_feed(&bytes[at..]);
-        if len < LANES {
+        if let Some(len) = before_line_feed(&bytes[at..]) {
             return Some(at + len);
         }
         at += LANES;

@@ -1,25 +1,26 @@
-use Rattle.std.proofs.Common.{ℕ, ◌==◌, take, arith, w8}
+use Rattle.std.proofs.Common.{◌≡◌, ℕ, ◌==◌, ◌<◌, map, take, arith, w8}
 use Rattle.std.proofs.lemmas.List.{length-take-le}
 use Rattle.std.proofs.lemmas.Simd.{bitmask_splat}
-use Rattle.instants_stream.proofs.Searched.{none_set, lowest_set}
+use Rattle.instants_stream.proofs.Searched.{none_set, lowest_set, lowest_within}
 use Rattle.instants_stream.proofs.search.before_line_feed.Goals as goal
 
-pub returns-then-places-eq0-clause-before : goal.returns-then-places-eq0-clause-before
-returns-then-places-eq0-clause-before c =
+pub returns-then-places-eq0-clause-none : goal.returns-then-places-eq0-clause-none
+returns-then-places-eq0-clause-none c =
     let bytes = c.args.bytes.now in
     (none_set bytes c.requires _ (bitmask_splat w8 (λ (a b : ℕ). a == b) (take 16 bytes) 16 10 (length-take-le 16 bytes c.requires) (omega arith)) c.if-places-eq0.true).free
 
-pub returns-else-places-eq0-clause-within : goal.returns-else-places-eq0-clause-within
-returns-else-places-eq0-clause-within c =
+pub returns-clause-within : goal.returns-clause-within
+returns-clause-within c =
     let bytes = c.args.bytes.now in
-    (lowest_set bytes c.requires _ (bitmask_splat w8 (λ (a b : ℕ). a == b) (take 16 bytes) 16 10 (length-take-le 16 bytes c.requires) (omega arith)) c.if-places-eq0.false).within
+    lowest_within bytes c.requires _ (bitmask_splat w8 (λ (a b : ℕ). a == b) (take 16 bytes) 16 10 (length-take-le 16 bytes c.requires) (omega arith)) c.if-places-eq0.false
 
-pub returns-else-places-eq0-clause-before : goal.returns-else-places-eq0-clause-before
-returns-else-places-eq0-clause-before c =
+pub returns-clause-before : goal.returns-clause-before
+returns-clause-before c =
     let bytes = c.args.bytes.now in
     (lowest_set bytes c.requires _ (bitmask_splat w8 (λ (a b : ℕ). a == b) (take 16 bytes) 16 10 (length-take-le 16 bytes c.requires) (omega arith)) c.if-places-eq0.false).free
 
-pub returns-else-places-eq0-clause-line_feed : goal.returns-else-places-eq0-clause-line_feed
-returns-else-places-eq0-clause-line_feed c =
+pub returns-clause-line_feed : goal.returns-clause-line_feed
+returns-clause-line_feed c =
     let bytes = c.args.bytes.now in
-    (lowest_set bytes c.requires _ (bitmask_splat w8 (λ (a b : ℕ). a == b) (take 16 bytes) 16 10 (length-take-le 16 bytes c.requires) (omega arith)) c.if-places-eq0.false).line_feed
+    let within = lowest_within bytes c.requires _ (bitmask_splat w8 (λ (a b : ℕ). a == b) (take 16 bytes) 16 10 (length-take-le 16 bytes c.requires) (omega arith)) c.if-places-eq0.false in
+    (lowest_set bytes c.requires _ (bitmask_splat w8 (λ (a b : ℕ). a == b) (take 16 bytes) 16 10 (length-take-le 16 bytes c.requires) (omega arith)) c.if-places-eq0.false).line_feed within
