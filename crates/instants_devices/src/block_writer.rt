@@ -1,5 +1,5 @@
 //! A writer that gathers bytes in a block, and hands whole blocks on.
-ghost use Rattle.std.specs.Prelude.{◌≡◌, ◌+◌, ◌-◌, ◌<◌, ◌≤◌, ◌++◌, false, true, take, length, vec_len, IfOk, OnOk, OnErr};
+ghost use Rattle.std.specs.Prelude.{◌≡◌, ◌==◌, ◌&&◌, ◌+◌, ◌-◌, ◌<◌, ◌≤◌, ◌++◌, false, true, take, length, vec_len, IfOk, OnOk, OnErr};
 ghost use Rattle.std.specs.Io.KnownBytes.{Appends, Keeps};
 ghost use Rattle.instants_devices.specs.Gathering.{gathered};
 ghost use Rattle.instants_devices.specs.Told.{StaysOrUntold, AppendsFront};
@@ -106,7 +106,7 @@ impl<W: ByteWriter> ByteWriter for BlockWriter<W> {
 
     ghost failed = { λ s. W.failed s.inner };
 
-    ghost flushed = { λ s. s.is_flushed };
+    ghost flushed = { λ s. s.is_flushed && (s.end == 0) && W.flushed s.inner };
 
     #[inline(always)]
     fn write(&mut self, from: &[u8]) -> Result<usize, DeviceFailed> {
@@ -126,7 +126,7 @@ impl<W: ByteWriter> ByteWriter for BlockWriter<W> {
     }
 
     fn is_flushed(&self) -> bool {
-        self.is_flushed
+        self.is_flushed && self.end == 0 && self.inner.is_flushed()
     }
 
     fn has_failed(&self) -> bool {
@@ -159,7 +159,7 @@ fn write_front_past_end<W: ByteWriter>(
     requires within { len ≤ 64 }
     ensures written { OnOk result (Appends (⟦<BlockWriter<W> as ByteWriter>⟧.held writer.old) (⟦<BlockWriter<W> as ByteWriter>⟧.held writer.new) (take len bytes.now)) }
     ensures ok { OnOk result (W.failed writer.new.inner ≡ W.failed writer.old.inner) }
-    ensures unflushed { OnOk result (0 < len → writer.new.is_flushed ≡ false) }
+    ensures unflushed { OnOk result (0 < len → ⟦<BlockWriter<W> as ByteWriter>⟧.flushed writer.new ≡ false) }
     ensures front { OnErr result (AppendsFront (⟦<BlockWriter<W> as ByteWriter>⟧.held writer.old) (⟦<BlockWriter<W> as ByteWriter>⟧.held writer.new) (take len bytes.now)) }
     ensures err { OnErr result (W.failed writer.new.inner ≡ true) }
 {

@@ -2,6 +2,8 @@
 #![tactic(auto)]
 
 #[cfg(test)]
+mod blocks;
+#[cfg(test)]
 mod devices;
 #[cfg(test)]
 mod failing_devices;
@@ -9,6 +11,8 @@ mod failing_devices;
 mod one_line;
 #[cfg(test)]
 mod single_words;
+#[cfg(test)]
+mod std_devices;
 #[cfg(test)]
 mod streams;
 #[cfg(test)]

@@ -2,7 +2,7 @@
 
 ghost use Rattle.std.specs.Prelude.{◌<◌};
 
-use instants::{CutReader, CutWriter, ProgramFault, Timeline, read_words, run};
+use instants::{CutReader, CutWriter, ProgramFault, run_words};
 use std::alloc::Global;
 
 /// Runs the words over the stream, with reads and writes of at most so many bytes, and says how many bytes were
@@ -16,11 +16,8 @@ pub fn answered(
 ) -> Result<usize, ProgramFault>
     requires { 0 < most }
 {
-    let words = read_words(alloc, words)?;
-    let timeline = Timeline::new(alloc, words.sources.as_slice(), words.target, words.assumed)?;
-    let mut buffer = vec![in alloc; 0; words.limit + 1]?;
     let mut reader = CutReader::new(stream, most, None);
     let mut writer = CutWriter::new(space, most, None);
-    run(&timeline, buffer.as_mut_slice(), &mut reader, &mut writer)?;
+    run_words(alloc, words, &mut reader, &mut writer)?;
     Ok(writer.written().len())
 }

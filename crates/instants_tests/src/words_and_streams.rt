@@ -7,7 +7,13 @@ use std::test::Fail;
 // The target, the limit, a stream, and what is written for it.
 type Case = (&'static str, &'static str, &'static [u8], &'static [u8]);
 
-const CASES: [Case; 37] = [
+const CASES: [Case; 38] = [
+    (
+        "+00:00",
+        "1",
+        b"x\nxy\n\n",
+        b"! component year\n! long\n! component year\n",
+    ),
     (
         "+00:00",
         "100",

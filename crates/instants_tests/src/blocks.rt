@@ -1,0 +1,139 @@
+//! The program over a device that fails once and works again afterwards: what it was given, byte by byte.
+
+use instants::{BlockWriter, ByteWriter, CutReader, ProgramFault, RunFault, StdWriter, run_words};
+use std::alloc::Global;
+use std::io::{Error, ErrorKind, Result as IoResult, Write};
+use std::process::Abort;
+use std::test::Fail;
+
+const STREAM: &[u8; 26] = b"1985-04-12T23:20:50.52Z\nx\n";
+
+const OUTPUT: &[u8; 48] = b"1985-04-12T23:20:50.520000000Z\n! component year\n";
+
+// How a device was used: its calls, and the bytes that it took.
+#[derive(Clone, Copy)]
+struct Used {
+    calls: u8,
+    len: u8,
+    bytes: [u8; 64],
+}
+
+// A writer of std that takes one byte a call. One of its calls fails, or takes nothing; the later ones work again.
+#[derive(Drop)]
+struct FailsOnce<'a> {
+    used: &'a mut Used,
+    fails_at: u8,
+    takes_nothing: bool,
+}
+
+impl FailsOnce<'_> {
+    // Counts a call, and says whether it is the one that fails.
+    fn is_failing(&mut self) -> bool {
+        let at = self.used.calls;
+        self.used.calls = at.saturating_add(1);
+        at == self.fails_at
+    }
+}
+
+impl Write for FailsOnce<'_> {
+    ghost use Rattle.std.specs.Prelude.{None};
+
+    ghost contents = { λ _. None };
+
+    fn write(&mut self, from: &[u8]) -> IoResult<usize> {
+        if self.is_failing() {
+            if self.takes_nothing {
+                return Ok(0);
+            }
+            return Err(Error::from(ErrorKind::Other));
+        }
+        let at = self.used.len;
+        if at >= 64 || from.is_empty() {
+            return Ok(0);
+        }
+        self.used.bytes[at as usize] = from[0];
+        self.used.len = at + 1;
+        Ok(1)
+    }
+
+    fn flush(&mut self) -> IoResult<()> {
+        if self.is_failing() {
+            return Err(Error::from(ErrorKind::Other));
+        }
+        Ok(())
+    }
+}
+
+// The answer of a run over blocks of so many bytes, and how the device was used until all was dropped.
+fn used_by_run(
+    alloc: Global,
+    size: usize,
+    fails_at: u8,
+    takes_nothing: bool,
+) -> Result<(Result<(), ProgramFault>, bool, Used), Fail> {
+    let mut used = Used {
+        calls: 0,
+        len: 0,
+        bytes: [0; 64],
+    };
+    let answer;
+    let has_failed;
+    {
+        let device = FailsOnce {
+            used: &mut used,
+            fails_at,
+            takes_nothing,
+        };
+        let block = vec![in alloc; 0; size.max(1)]?;
+        let mut reader = CutReader::new(STREAM, 26, None);
+        let mut writer = BlockWriter::new(block, StdWriter::new(device));
+        let words = ["+00:00", "-", "100", "rfc3339"];
+        answer = run_words(alloc, &words, &mut reader, &mut writer);
+        has_failed = writer.has_failed();
+    }
+    Ok((answer, has_failed, used))
+}
+
+// A run whose call at this place fails has written what came before, and makes no call behind it.
+fn check(
+    rt: &impl Abort,
+    alloc: Global,
+    size: usize,
+    at: u8,
+    takes_nothing: bool,
+) -> Result<(), Fail> {
+    let (answer, has_failed, used) = used_by_run(alloc, size, at, takes_nothing)?;
+    let fails = at < 48 || at == 48 && !takes_nothing;
+    let wanted = if fails {
+        Err(ProgramFault::Run(RunFault::Write))
+    } else {
+        Ok(())
+    };
+    let calls = if fails { at + 1 } else { 49 };
+    assert!(rt; answer == wanted, "at {at}");
+    assert!(rt; has_failed == fails && used.calls == calls, "at {at}");
+    let len = (at as usize).min(48);
+    assert!(rt; used.len as usize == len, "at {at}");
+    assert!(rt; used.bytes[..len] == OUTPUT[..len], "at {at}");
+    Ok(())
+}
+
+#[test]
+fn each_call_fails_once(rt: HostRuntime) -> Result<(), Fail> {
+    for size in [1, 7, 64, 100] {
+        for at in 0..50 {
+            check(&rt, rt.alloc(), size, at, false)?;
+        }
+    }
+    Ok(())
+}
+
+#[test]
+fn each_write_takes_nothing_once(rt: HostRuntime) -> Result<(), Fail> {
+    for size in [1, 7, 64, 100] {
+        for at in 0..48 {
+            check(&rt, rt.alloc(), size, at, true)?;
+        }
+    }
+    Ok(())
+}
