@@ -1,5 +1,5 @@
 //! Why a line has no place on the timeline.
-ghost use Rattle.std.specs.Prelude.{◌≡◌, ◌≤◌, length};
+ghost use Rattle.std.specs.Prelude.{◌≡◌, ◌≢◌, ◌≤◌, codes, length};
 
 use instants_lines::Answer;
 use parsing::{Parse, ParseFromDescription, TryFromParsed};
@@ -24,14 +24,16 @@ pub enum LineFault {
 }
 
 impl LineFault {
-    ghost use Rattle.instants.specs.Refusal.{IsShort, refusal_said, refusal_text};
+    ghost use Rattle.instants.specs.Refusal.{IsShort, long, refusal_said, refusal_text};
 
     // Writes what stands for a line in place of a date-time.
     #[cold]
     pub(crate) fn write(self, answer: &mut Answer)
-        requires { IsShort (refusal_said self) }
+        requires short { IsShort (refusal_said self) }
+        requires not_long { refusal_said self ≢ long }
         ensures bytes { answer.new ≡ refusal_text (refusal_said self) }
         ensures room { length answer.new ≤ 63 }
+        ensures never_long { answer.new ≢ codes "! long" }
     {
         answer.clear();
         match self {

@@ -1,11 +1,11 @@
 //! Lines placed on one timeline.
-ghost use Rattle.std.specs.Prelude.{◌≡◌, ◌<◌, ◌≤◌, length, map, None, Ok, IfOk, IfErr, IfSome};
+ghost use Rattle.std.specs.Prelude.{◌≡◌, ◌≢◌, ◌<◌, ◌≤◌, codes, length, map, None, Ok, IfOk, IfErr, IfSome};
 ghost use Rattle.std.specs.Result.{result_ok};
 ghost use Rattle.parsing_pieces.specs.FaultOf.{fault_of, Gives};
 ghost use Rattle.parsing_pieces.specs.ShortName.{HasShortName};
 ghost use Rattle.calendar.specs.UtcOffset.{IsClockOffset};
 ghost use Rattle.instants_lines.specs.Text.{FitsLine};
-ghost use Rattle.instants.specs.Refusal.{IsShort, refusal_of, refusal_said, refusal_text};
+ghost use Rattle.instants.specs.Refusal.{IsShort, long, refusal_of, refusal_said, refusal_text};
 ghost use Rattle.instants.specs.Sources.{source_of};
 ghost use Rattle.instants.specs.Place.{Setting, first_named, place_of, answer_to, IsPlace};
 
@@ -106,6 +106,7 @@ impl Timeline {
         ensures place { IsPlace result (place_of self.now line.now) }
         ensures fits { IfOk result FitsLine }
         ensures short { IfErr result (λ fault. IsShort (refusal_said fault)) }
+        ensures never_long { IfErr result (λ fault. refusal_said fault ≢ long) }
     {
         let named = match self.first_named(line) {
             Ok(named) => named,
@@ -156,6 +157,7 @@ impl Timeline {
     fn write_place(&self, line: &[u8], storage: &mut Answer)
         ensures bytes { storage.new ≡ answer_to self.now line.now }
         ensures room { length storage.new ≤ 63 }
+        ensures never_long { storage.new ≢ codes "! long" }
     {
         match self.place(line) {
             Ok(moment) => write_line(moment, storage),
@@ -167,6 +169,7 @@ impl Timeline {
     pub fn answer_line(&self, line: &[u8]) -> Answer
         ensures bytes { result ≡ answer_to self.now line.now }
         ensures room { length result ≤ 63 }
+        ensures never_long { result ≢ codes "! long" }
     {
         let mut answer = Answer::new();
         self.write_place(line, &mut answer);
