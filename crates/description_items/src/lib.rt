@@ -9,12 +9,11 @@ mod modern;
 pub mod modifier;
 mod same;
 mod shown;
-mod well_known;
 
 pub use component::Component;
+pub use description_formats::{Iso8601, Rfc2822, Rfc3339};
 pub use different_variant::DifferentVariant;
 pub use item::{BorrowedFormatItem, FormatItem, StaticFormatDescription};
-pub use well_known::{Iso8601, Rfc2822, Rfc3339};
 
 #[cfg(test)]
 mod tests;

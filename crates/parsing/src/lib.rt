@@ -4,7 +4,7 @@
 #[cfg(test)]
 mod tests;
 
-pub use description_items::Rfc3339;
+pub use description_formats::Rfc3339;
 pub use parsing_pieces::{Parse, ParseFromDescription, TryFromParsed};
 pub use parsing_resolution::is_valid_leap_second_stand_in;
 pub use parsing_trait::TwoRoads;

@@ -3,7 +3,7 @@ use Rattle.std.specs.Prelude.{◌-◌, ◌==◌, ◌&&◌, Bool, not, if◌then�
 use Rattle.calendar.specs.ComponentRange.{out_of_conditional_range}
 use Rattle.calendar_count.specs.declared.component_range.ComponentName.TheVariants.{Second}
 use Rattle.calendar_count.specs.declared.component_range.ComponentRange.{ComponentRange}
-use Rattle.datetime.specs.Wall.{Shown, instant, is_wall_clock, day_of, nanosecond_of, day_nanos}
+use Rattle.datetime_wall.specs.Wall.{Shown, instant, is_wall_clock, day_of, nanosecond_of, day_nanos}
 use Rattle.parsing_resolution.specs.MonthEnd.{ends_month}
 
 -- whether a moment is one, and the calendar has its day in UTC

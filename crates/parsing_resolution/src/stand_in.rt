@@ -4,7 +4,7 @@ ghost use Rattle.parsing_resolution.specs.MonthEnd.{ends_month};
 ghost use Rattle.parsing_resolution.specs.StandIn.{is_stand_in, leap_checked};
 
 use calendar::{ComponentName, ComponentRange, Date, Time, UtcOffset, util};
-use datetime::OffsetDateTime;
+use datetime_types::OffsetDateTime;
 
 // Whether the next day begins a month.
 #[tactic(auto, using(crate::proofs::MonthEndLemmas::month_end))]

@@ -2,7 +2,7 @@
 use Rattle.std.proofs.Common.{◌≡◌, ℕ, Bool, true, false, List, [], ◌∷◌, Option, Some, None, Result, Ok, Err, lit<}
 use Rattle.std.specs.Prelude.{IfErr, codes, nat_lt, nat_le, pos}
 use Rattle.calendar_count.specs.declared.component_range.ComponentRange.{ComponentRange}
-use Rattle.datetime.specs.Wall.{Shown}
+use Rattle.datetime_wall.specs.Wall.{Shown}
 use Rattle.parsing_pieces.specs.Fault.{Fault, literal, component}
 use Rattle.parsing_pieces.specs.Pieces.{digits, byte, any_byte, sign, fraction}
 use Rattle.parsing_pieces.specs.Readings.{Reading, piece_or, then_read, require, entered, resolved, end, value_read}

@@ -1,6 +1,6 @@
 -- The moment that a text of RFC 3339 names, or the first fault that it has.
 use Rattle.std.specs.Prelude.{ℕ, ◌==◌, List, Result, pos}
-use Rattle.datetime.specs.Wall.{Shown, wall_clock}
+use Rattle.datetime_wall.specs.Wall.{Shown, wall_clock}
 use Rattle.parsing_pieces.specs.Fault.{Fault}
 use Rattle.parsing_pieces.specs.Readings.{Reading, ◌>>=◌, ◌>>◌, resolved, end, value_read}
 use Rattle.parsing_resolution.specs.Resolution.{date_of, leap_time_of, signed_offset_of}

@@ -7,7 +7,7 @@ ghost use Rattle.parsing_pieces.specs.Readings.{value_read};
 
 use crate::reading::{front, quick_front};
 use crate::written::Written;
-use datetime::OffsetDateTime;
+use datetime_types::OffsetDateTime;
 use parsing_pieces::{Parse, ParseFromDescription};
 use parsing_resolution::{leap_checked, resolve};
 

@@ -1,13 +1,13 @@
 //! Formats whose texts name a moment by a reading of their own.
 ghost use Rattle.std.specs.Prelude.{◌≡◌, ℕ, List, Result, Ok, IfErr, IfSome};
-ghost use Rattle.datetime.specs.Wall.{Shown};
+ghost use Rattle.datetime_wall.specs.Wall.{Shown};
 ghost use Rattle.parsing_pieces.specs.Fault.{Fault};
 ghost use Rattle.parsing_pieces.specs.FaultOf.{Gives, fault_of};
 ghost use Rattle.parsing_pieces.specs.ShortName.{HasShortName};
 ghost use Rattle.parsing_rfc3339.specs.Direct as Direct;
 
-use datetime::OffsetDateTime;
-use description_items::Rfc3339;
+use datetime_types::OffsetDateTime;
+use description_formats::Rfc3339;
 use parsing_pieces::Parse;
 
 /// A format that names a whole moment, so that its texts can be read without a record of components.

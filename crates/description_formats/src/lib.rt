@@ -1,4 +1,5 @@
 //! The formats that standards describe.
+#![tactic(auto)]
 
 /// The format of RFC 2822, section 3.3, with the obsolete forms of section 4.3.
 #[derive(Clone, Copy, Debug, PartialEq, Eq)]
