@@ -1,12 +1,12 @@
 //! All views of the days of eight centuries, against a walk by the table of month lengths.
-use crate::{Date, Month};
-use std::test::Fail;
+use crate::dates;
+use calendar::{Date, Month};
 
 // The lengths of the months of a year that is no leap year.
 const LENGTHS: [u8; 12] = [31, 28, 31, 30, 31, 30, 31, 31, 30, 31, 30, 31];
 
 // What the views say of a day.
-#[derive(Clone, Copy, PartialEq, Debug)]
+#[derive(Clone, Copy, PartialEq)]
 struct Views {
     year: i32,
     month: u8,
@@ -86,9 +86,9 @@ fn advance(day: &mut Views) {
 }
 
 #[test]
-fn walks_eight_centuries(rt: HostRuntime) -> Result<(), Fail> {
-    let mut date = Date::from_calendar_date(-401, Month::January, 1)?;
-    let last = Date::from_calendar_date(401, Month::December, 31)?;
+fn walks_eight_centuries(rt: HostRuntime) {
+    let mut date = dates::date_of(-401, Month::January, 1);
+    let last = dates::date_of(401, Month::December, 31);
     let mut day = Views {
         year: -401,
         month: 1,
@@ -103,13 +103,11 @@ fn walks_eight_centuries(rt: HostRuntime) -> Result<(), Fail> {
     };
     let mut days = 0u32;
     for expected in date.iter_to(last) {
-        assert!(rt; views_of(date) == day, "{date}");
-        assert_eq!(rt; date, expected);
+        assert!(rt; views_of(date) == day);
+        assert!(rt; date == expected);
         days = days.wrapping_add(1);
         date = date.next_day().unwrap_or(Date::MAX);
         advance(&mut day);
     }
-    assert_eq!(rt; days, 293_290);
-    assert_eq!(rt; (day.year, day.month, day.day), (402, 1, 1));
-    Ok(())
+    assert!(rt; (days, day.year, day.month, day.day) == (293_290, 402, 1, 1));
 }
