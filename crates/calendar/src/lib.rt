@@ -11,10 +11,3 @@ pub use calendar_count::{
 };
 pub use calendar_dates::{Date, DateIter};
 pub use calendar_spans::SignedDuration;
-
-#[cfg(test)]
-mod clock_tests;
-#[cfg(test)]
-mod duration_tests;
-#[cfg(test)]
-mod tests;

@@ -1,8 +1,8 @@
 -- A duration in whole days and what is past them, and times round the clock.
-use Rattle.std.proofs.Common.{arith, ◌≡◌, ℕ, ◌<◌, ℤ, pos, neg_ℤ, ◌+ℤ◌, ◌-ℤ◌, ◌*ℤ◌, ◌<ℤ◌}
+use Rattle.std.proofs.Common.{arith, ◌≡◌, ℕ, ◌<◌, ℤ, pos, neg_ℤ, ◌+ℤ◌, ◌-ℤ◌, ◌*ℤ◌, ◌<ℤ◌, unsigned_abs, to_z, of_z, w32}
 use Rattle.std.specs.Prelude.{int_div, int_rem}
 use Rattle.std.specs.Int.{int_div_euclid}
-use Rattle.std.proofs.lemmas.Int.{quot-rem, by_lt_z}
+use Rattle.std.proofs.lemmas.Int.{ints, quot-rem, by_lt_z}
 use Rattle.calendar_count.proofs.Signed.{signed, one_sided}
 use Rattle.calendar_clock.specs.Time.{second_nanos, day_nanos, on_clock}
 
@@ -32,3 +32,37 @@ back_again t d h =
     let days = neg_ℤ (int_div_euclid (pos t +ℤ d) (pos day_nanos)) in
     let same : pos (on_clock (pos t +ℤ d)) -ℤ d ≡ days *ℤ pos day_nanos +ℤ pos t = omega (arith, signed) in
     rw same (round_clock days t h)
+
+-- the seconds and nanoseconds that a time is moved by, on and back, as the code has them
+abbrev pub moved_on : ℤ → ℤ → ℤ
+moved_on s n = to_z w32 (of_z w32 s) *ℤ pos second_nanos +ℤ to_z w32 (of_z w32 n)
+
+abbrev pub moved_back : ℤ → ℤ → ℤ
+moved_back s n =
+    to_z w32 (of_z w32 (pos 0 -ℤ to_z w32 (of_z w32 s))) *ℤ pos second_nanos +ℤ to_z w32 (of_z w32 (pos 0 -ℤ to_z w32 (of_z w32 n)))
+
+pub moved_on_is : (s n : ℤ) → (unsigned_abs s < 86_400) → (unsigned_abs n < second_nanos) → moved_on s n ≡ s *ℤ pos second_nanos +ℤ n
+moved_on_is s n a b = omega (arith, ints)
+
+pub moved_back_is : (s n : ℤ) → (unsigned_abs s < 86_400) → (unsigned_abs n < second_nanos) → moved_back s n ≡ neg_ℤ (s *ℤ pos second_nanos +ℤ n)
+moved_back_is s n a b = omega (arith, ints)
+
+-- the whole days of a duration go to the days, and what is past them is what a time is moved by
+pub days_on : (t r : ℕ) (d q k p : ℤ) → d ≡ q *ℤ pos day_nanos +ℤ p → pos t +ℤ p ≡ k *ℤ pos day_nanos +ℤ pos r → pos t +ℤ d ≡ (q +ℤ k) *ℤ pos day_nanos +ℤ pos r
+days_on t r d q k p whole sum = omega (arith, ints)
+
+pub days_back : (t r : ℕ) (d q k p : ℤ) → d ≡ q *ℤ pos day_nanos +ℤ p → pos t +ℤ neg_ℤ p ≡ k *ℤ pos day_nanos +ℤ pos r → pos t -ℤ d ≡ (k -ℤ q) *ℤ pos day_nanos +ℤ pos r
+days_back t r d q k p whole sum = omega (arith, ints)
+
+-- which way a time was moved that is on the next day, or on the one before
+pub next_is_on : (t r : ℕ) (k p : ℤ) → t < day_nanos → k ≡ pos 1 → pos t +ℤ p ≡ k *ℤ pos day_nanos +ℤ pos r → pos 0 <ℤ p
+next_is_on t r k p h one sum = omega (arith, ints)
+
+pub previous_is_back : (t r : ℕ) (k p : ℤ) → r < day_nanos → k ≡ neg_ℤ (pos 1) → pos t +ℤ p ≡ k *ℤ pos day_nanos +ℤ pos r → p <ℤ pos 0
+previous_is_back t r k p h one sum = omega (arith, ints)
+
+pub turned_back : (p : ℤ) → pos 0 <ℤ neg_ℤ p → p <ℤ pos 0
+turned_back p h = omega (arith, ints)
+
+pub turned_on : (p : ℤ) → neg_ℤ p <ℤ pos 0 → pos 0 <ℤ p
+turned_on p h = omega (arith, ints)

@@ -157,11 +157,8 @@ impl UtcOffset {
         ensures bound { (unsigned_abs result.0 ≤ 25) × (unsigned_abs result.1 ≤ 59)
             × (unsigned_abs result.2 ≤ 59) }
     {
-        (
-            self.whole_hours(),
-            self.minutes_past_hour(),
-            self.seconds_past_minute(),
-        )
+        let minutes = self.minutes_past_hour();
+        (self.whole_hours(), minutes, self.seconds_past_minute())
     }
 
     /// Whether it is the offset of UTC itself.
@@ -175,14 +172,14 @@ impl UtcOffset {
     pub fn is_positive(self) -> bool
         ensures { IsTrue result ↔ (pos 0 <ℤ self) }
     {
-        self.seconds > 0
+        self.whole_seconds() > 0
     }
 
     /// Whether local time is behind UTC.
     pub fn is_negative(self) -> bool
         ensures { IsTrue result ↔ (self <ℤ pos 0) }
     {
-        self.seconds < 0
+        self.whole_seconds() < 0
     }
 }
 

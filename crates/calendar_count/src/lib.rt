@@ -11,8 +11,6 @@ mod month;
 mod month_iter;
 pub mod padding;
 pub mod range;
-#[cfg(test)]
-mod tests;
 pub mod util;
 mod weekday;
 mod weekday_iter;

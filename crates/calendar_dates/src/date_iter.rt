@@ -70,7 +70,8 @@ impl DateIter {
             return None;
         }
         self.len -= n as u32 + 1;
-        Some(Date::from_count(self.first + self.len))
+        let day = Date::from_count(self.first + self.len);
+        Some(day)
     }
 
     /// The number of days that are left.

@@ -2,11 +2,13 @@
 #![tactic(auto)]
 
 mod arithmetic;
+mod comparing;
 mod date;
 mod date_iter;
 mod occurrence;
 mod replace;
 mod text;
+mod views;
 
 pub use date::Date;
 pub use date_iter::DateIter;

@@ -5,6 +5,7 @@ mod arithmetic;
 mod comparing;
 mod duration;
 pub mod laws;
+mod numbers;
 mod operators;
 mod products;
 mod quotients;

@@ -85,16 +85,14 @@ impl SignedDuration {
 
     /// Whether it is no time at all.
     #[inline(always)]
-    #[tactic(auto, unfolding(crate::specs::DurationParts::duration_nanos))]
     pub fn is_zero(self) -> bool
         ensures value { IsTrue result ↔ (self ≡ pos 0) }
     {
-        self == SignedDuration::ZERO
+        self.whole_nanoseconds() == 0
     }
 
     /// Whether it leads back.
     #[inline(always)]
-    #[tactic(auto, unfolding(crate::specs::DurationParts::duration_nanos))]
     pub fn is_negative(self) -> bool
         ensures value { IsTrue result ↔ (self <ℤ pos 0) }
         ensures range { IsDuration self }
@@ -104,7 +102,6 @@ impl SignedDuration {
 
     /// Whether it leads forward.
     #[inline(always)]
-    #[tactic(auto, unfolding(crate::specs::DurationParts::duration_nanos))]
     pub fn is_positive(self) -> bool
         ensures value { IsTrue result ↔ (pos 0 <ℤ self) }
         ensures range { IsDuration self }

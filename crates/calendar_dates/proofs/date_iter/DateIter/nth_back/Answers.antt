@@ -12,7 +12,7 @@ returns-then-n-self-clause-rest c =
     rw none (counts_none c.self.inside.first 0 refl)
 
 pub returns-clause-value : goal.returns-clause-value
-returns-clause-value c = sym (rw c.self.view_is at (counts_get_back c.self.inside.first c.self.inside.len c.args.n c.from_count.result (omega arith) (omega arith)))
+returns-clause-value c = sym (rw c.self.view_is at (counts_get_back c.self.inside.first c.self.inside.len c.args.n c.from_count-day.result (omega arith) (omega arith)))
 
 pub returns-clause-rest : goal.returns-clause-rest
 returns-clause-rest c =

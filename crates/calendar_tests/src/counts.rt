@@ -1,0 +1,60 @@
+//! Lengths of years and months, and days and their counts.
+ghost use Rattle.calendar_count.specs.Range.{IsCount};
+
+use calendar::{Month, util};
+use calendar_count::{closed, march};
+
+// Whether the year is a leap year, its days and its weeks, and the days of its February and April.
+fn lengths(year: i32) -> (bool, u16, u8, u8, u8) {
+    (
+        util::is_leap_year(year),
+        util::days_in_year(year),
+        util::weeks_in_year(year),
+        util::days_in_month(Month::February, year),
+        util::days_in_year_month(year, Month::April),
+    )
+}
+
+#[test]
+fn lengths_of_years(rt: HostRuntime) {
+    for (year, expected) in [
+        (2000, (true, 366, 52, 29, 30)),
+        (1900, (false, 365, 52, 28, 30)),
+        (2020, (true, 366, 53, 29, 30)),
+        (2021, (false, 365, 52, 28, 30)),
+        (2015, (false, 365, 53, 28, 30)),
+        (0, (true, 366, 52, 29, 30)),
+        (-396, (true, 366, 53, 29, 30)),
+        (i32::MAX, (false, 365, 52, 28, 30)),
+    ] {
+        assert!(rt; lengths(year) == expected);
+    }
+}
+
+// The day of a count, and the count of that day where there is one.
+fn there_and_back(count: u32) -> ((i32, u8, u8), u32)
+    requires { IsCount count }
+{
+    let (year, month, day) = march::day_of_count(count);
+    if closed::has_year(year) && 1 <= month && month <= 12 && closed::has_day(year, month, day) {
+        return ((year, month, day), march::count_of_day(year, month, day));
+    }
+    ((year, month, day), 0)
+}
+
+// A Julian day is the count less 363521074.
+#[test]
+fn days_and_counts(rt: HostRuntime) {
+    for (year, month, day, julian_day) in [
+        (-999_999, 1, 1, -363_521_074),
+        (-4713, 11, 24, 0),
+        (1970, 1, 1, 2_440_588),
+        (2000, 1, 1, 2_451_545),
+        (9999, 12, 31, 5_373_484),
+        (999_999, 12, 31, 366_963_559),
+    ] {
+        let count = (julian_day + 363_521_074) as u32;
+        assert!(rt; count <= 730_484_633);
+        assert!(rt; there_and_back(count) == ((year, month, day), count));
+    }
+}

@@ -1,0 +1,209 @@
+//! Days by their views, moved, and as keys.
+use calendar::{ComponentRange, Date, Month, SignedDuration, Weekday};
+use std::collections::{BTreeMap, HashMap};
+use std::test::Fail;
+
+// The day with this year, month and day of the month, which it has.
+pub fn date_of(year: i32, month: Month, day: u8) -> Date {
+    Date::from_calendar_date(year, month, day).unwrap_or(Date::UNIX_EPOCH)
+}
+
+// The day that was answered, and 1970-01-01 where none was.
+pub fn answered(answer: Result<Date, ComponentRange>) -> Date {
+    answer.unwrap_or(Date::UNIX_EPOCH)
+}
+
+// The year, month and day, the Julian day, the days from Monday, the year and the place in it.
+type Views = ((i32, Month, u8), i32, u8, (i32, u16));
+
+fn views(date: Date) -> Views {
+    (
+        date.to_calendar_date(),
+        date.to_julian_day(),
+        date.weekday().number_days_from_monday(),
+        date.to_ordinal_date(),
+    )
+}
+
+fn one_by_one(date: Date) -> (i32, Month, u8, u16) {
+    (date.year(), date.month(), date.day(), date.ordinal())
+}
+
+#[test]
+fn names_days(rt: HostRuntime) {
+    for (year, month, day, julian_day, weekday, ordinal) in [
+        (-999_999, Month::January, 1, -363_521_074, 0, 1),
+        (-9999, Month::January, 1, -1_930_999, 0, 1),
+        (1970, Month::January, 1, 2_440_588, 3, 1),
+        (2000, Month::January, 1, 2_451_545, 5, 1),
+        (2024, Month::February, 29, 2_460_370, 3, 60),
+        (2020, Month::December, 31, 2_459_215, 3, 366),
+        (9999, Month::December, 31, 5_373_484, 4, 365),
+        (999_999, Month::December, 31, 366_963_559, 4, 365),
+    ] {
+        let date = date_of(year, month, day);
+        assert!(rt; views(date) == ((year, month, day), julian_day, weekday, (year, ordinal)));
+        assert!(rt; one_by_one(date) == (year, month, day, ordinal));
+        let found = [
+            answered(Date::from_julian_day(julian_day)),
+            answered(Date::from_ordinal_date(year, ordinal)),
+            Date::from_count(date.count()),
+        ];
+        assert!(rt; found == [date, date, date]);
+    }
+}
+
+// The first days of all and of 1970, and the last of all, are constants.
+#[test]
+fn has_constants(rt: HostRuntime) {
+    for (given, julian_day) in [
+        (Date::MIN, -363_521_074),
+        (Date::UNIX_EPOCH, 2_440_588),
+        (Date::MAX, 366_963_559),
+    ] {
+        assert!(rt; given.to_julian_day() == julian_day);
+    }
+}
+
+// The week of ISO 8601, alone and with its year and day, and the Sundays and Mondays so far.
+fn weeks(date: Date) -> (u8, (i32, u8, Weekday), u8, u8) {
+    (
+        date.iso_week(),
+        date.to_iso_week_date(),
+        date.sunday_based_week(),
+        date.monday_based_week(),
+    )
+}
+
+#[test]
+fn counts_weeks(rt: HostRuntime) {
+    for (given, expected) in [
+        (
+            date_of(2021, Month::January, 1),
+            (53, (2020, 53, Weekday::Friday), 0, 0),
+        ),
+        (
+            date_of(2018, Month::January, 1),
+            (1, (2018, 1, Weekday::Monday), 0, 1),
+        ),
+        (
+            date_of(9999, Month::December, 31),
+            (52, (9999, 52, Weekday::Friday), 52, 52),
+        ),
+    ] {
+        assert!(rt; weeks(given) == expected);
+        let (year, week, weekday) = given.to_iso_week_date();
+        assert!(rt; Date::from_iso_week_date(year, week, weekday) == Ok(given));
+    }
+}
+
+#[test]
+fn replaces_and_steps(rt: HostRuntime) {
+    let leap = date_of(2024, Month::February, 29);
+    let before = date_of(2024, Month::February, 28);
+    let after = date_of(2024, Month::March, 1);
+    for (given, expected) in [
+        (
+            answered(leap.replace_year(2020)),
+            (2020, Month::February, 29),
+        ),
+        (
+            answered(leap.replace_month(Month::May)),
+            (2024, Month::May, 29),
+        ),
+        (answered(leap.replace_day(1)), (2024, Month::February, 1)),
+        (
+            answered(leap.replace_ordinal(366)),
+            (2024, Month::December, 31),
+        ),
+        (
+            before.next_day().unwrap_or(before),
+            (2024, Month::February, 29),
+        ),
+        (
+            after.previous_day().unwrap_or(after),
+            (2024, Month::February, 29),
+        ),
+    ] {
+        assert!(rt; given.to_calendar_date() == expected);
+    }
+    assert!(rt; before < leap && leap < after && Date::MIN < Date::MAX);
+}
+
+// The day so much later, and so much earlier, by each call.
+fn moved(day: Date, duration: SignedDuration) -> ([Option<Date>; 3], [Option<Date>; 3]) {
+    let (later, earlier) = (day.checked_add(duration), day.checked_sub(duration));
+    let (mut sum, mut difference) = (None, None);
+    if later.is_some() {
+        let mut moved = day;
+        moved += duration;
+        sum = if moved == day + duration {
+            Some(moved)
+        } else {
+            None
+        };
+    }
+    if earlier.is_some() {
+        let mut moved = day;
+        moved -= duration;
+        difference = if moved == day - duration {
+            Some(moved)
+        } else {
+            None
+        };
+    }
+    (
+        [later, Some(day.saturating_add(duration)), sum],
+        [earlier, Some(day.saturating_sub(duration)), difference],
+    )
+}
+
+#[test]
+fn moves_by_durations(rt: HostRuntime) {
+    let day = date_of(2021, Month::January, 1);
+    let before = date_of(2020, Month::December, 31);
+    for (seconds, sum, difference) in [
+        (-86_399, day, day),
+        (86_399, day, day),
+        (-86_400, before, date_of(2021, Month::January, 2)),
+        (
+            31_536_000,
+            date_of(2022, Month::January, 1),
+            date_of(2020, Month::January, 2),
+        ),
+    ] {
+        let given = moved(day, SignedDuration::seconds(seconds));
+        assert!(rt; given == ([Some(sum); 3], [Some(difference); 3]));
+    }
+    assert!(rt; (day - before, (before - day).whole_seconds()) == (SignedDuration::DAY, -86_400));
+}
+
+#[test]
+fn keys_hash_maps(rt: HostRuntime) -> Result<(), Fail> {
+    let mut months = HashMap::new(rt.alloc());
+    months.insert(date_of(2024, Month::February, 29), Month::February)?;
+    months.insert(Date::MAX, Month::December)?;
+    let same = answered(Date::from_julian_day(2_460_370));
+    assert!(rt;
+        (months.get(&same).copied(), months.get(&Date::MIN).copied())
+            == (Some(Month::February), None)
+    );
+    Ok(())
+}
+
+#[test]
+fn keys_maps_by_order(rt: HostRuntime) -> Result<(), Fail> {
+    let mut lengths = BTreeMap::new(rt.alloc());
+    lengths.insert(Month::March, 31u8)?;
+    lengths.insert(Month::February, 29)?;
+    assert!(rt; lengths.get(&Month::March).copied() == Some(31));
+    Ok(())
+}
+
+#[test]
+fn keys_hash_maps_by_weekdays(rt: HostRuntime) -> Result<(), Fail> {
+    let mut numbers = HashMap::new(rt.alloc());
+    numbers.insert(Weekday::Monday, 1u8)?;
+    assert!(rt; numbers.get(&Weekday::Sunday).copied() == None);
+    Ok(())
+}

@@ -1,0 +1,108 @@
+//! Walks over days, and occurrences of a weekday.
+use crate::dates::date_of;
+use calendar::{Date, Month, Weekday};
+
+#[test]
+fn walks_days_from_both_ends(rt: HostRuntime) {
+    let before = date_of(2024, Month::February, 28);
+    let leap = date_of(2024, Month::February, 29);
+    let after = date_of(2024, Month::March, 1);
+    let (mut days, mut back) = (before.iter_to(after), before.iter_to(after));
+    assert!(rt; (days.len(), back.size_hint()) == (3, (3, Some(3))));
+    for (given, expected) in [
+        (days.nth(1), Some(leap)),
+        (days.next(), Some(after)),
+        (days.next(), None),
+        (days.next_back(), None),
+        (back.next_back(), Some(after)),
+        (back.nth_back(1), Some(before)),
+        (back.nth_back(0), None),
+        (before.iter_to(before).last(), Some(before)),
+        (before.iter_to(after).last(), Some(after)),
+        (before.iter_to(after).min(), Some(before)),
+        (before.iter_to(after).max(), Some(after)),
+        (after.iter_to(before).min(), None),
+        (before.iter_to(after).nth(usize::MAX), None),
+    ] {
+        assert!(rt; given == expected);
+    }
+}
+
+#[test]
+fn tells_of_days_left(rt: HostRuntime) {
+    let before = date_of(2024, Month::February, 28);
+    let leap = date_of(2024, Month::February, 29);
+    let after = date_of(2024, Month::March, 1);
+    let leaps = before.iter_to(after).rev().filter(|day| *day == leap);
+    for (given, expected) in [
+        (before.iter_to(after).count(), 3),
+        (after.iter_to(before).count(), 0),
+        (Date::MIN.iter_to(Date::MAX).len(), 730_484_634),
+        (leaps.count(), 1),
+    ] {
+        assert!(rt; given == expected);
+    }
+    assert!(rt; before.iter_to(after).is_sorted());
+}
+
+// The `n`th such weekday later and earlier, where it is in range, as both calls say.
+fn nth_by_both(day: Date, weekday: Weekday, n: u8) -> (Option<Date>, Option<Date>) {
+    let later = day.checked_nth_next_occurrence(weekday, n);
+    let earlier = day.checked_nth_prev_occurrence(weekday, n);
+    let mut next = None;
+    if later.is_some() {
+        next = Some(day.nth_next_occurrence(weekday, n));
+    }
+    let mut prev = None;
+    if earlier.is_some() {
+        prev = Some(day.nth_prev_occurrence(weekday, n));
+    }
+    if next == later && prev == earlier {
+        (later, earlier)
+    } else {
+        (None, None)
+    }
+}
+
+#[test]
+fn finds_weekdays(rt: HostRuntime) {
+    let monday = date_of(2018, Month::January, 1);
+    for (weekday, n, day, back) in [
+        (Weekday::Monday, 1, 8, 25),
+        (Weekday::Tuesday, 1, 2, 26),
+        (Weekday::Sunday, 1, 7, 31),
+        (Weekday::Sunday, 3, 21, 17),
+    ] {
+        let later = Some(date_of(2018, Month::January, day));
+        let earlier = Some(date_of(2017, Month::December, back));
+        assert!(rt; nth_by_both(monday, weekday, n) == (later, earlier));
+    }
+    assert!(rt; nth_by_both(monday, Weekday::Friday, 0) == (None, None));
+}
+
+// The next such weekday and the last one, where they are in range, as both calls say.
+fn next_by_both(day: Date, weekday: Weekday) -> (Option<Date>, Option<Date>) {
+    let later = day.checked_next_occurrence(weekday);
+    let earlier = day.checked_prev_occurrence(weekday);
+    let mut next = None;
+    if later.is_some() {
+        next = Some(day.next_occurrence(weekday));
+    }
+    let mut prev = None;
+    if earlier.is_some() {
+        prev = Some(day.prev_occurrence(weekday));
+    }
+    if next == later && prev == earlier {
+        (later, earlier)
+    } else {
+        (None, None)
+    }
+}
+
+#[test]
+fn finds_the_next_weekday(rt: HostRuntime) {
+    let monday = date_of(2018, Month::January, 1);
+    let later = Some(date_of(2018, Month::January, 8));
+    let earlier = Some(date_of(2017, Month::December, 25));
+    assert!(rt; next_by_both(monday, Weekday::Monday) == (later, earlier));
+}
