@@ -15,6 +15,3 @@ pub use component::Component;
 pub use different_variant::DifferentVariant;
 pub use item::{BorrowedFormatItem, FormatItem, StaticFormatDescription};
 pub use well_known::{Iso8601, Rfc2822, Rfc3339};
-
-#[cfg(test)]
-mod tests;
