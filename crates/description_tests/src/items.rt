@@ -12,27 +12,26 @@ const DAY: BorrowedFormatItem<'static> = BorrowedFormatItem::Component(Component
 
 const TEXT: BorrowedFormatItem<'static> = BorrowedFormatItem::StringLiteral("x");
 
-const BYTES: BorrowedFormatItem<'static> = BorrowedFormatItem::Literal(b"x");
-
 #[test]
 fn items_are_equal_by_their_trees(rt: HostRuntime) {
-    let (one, other) = ([TEXT, DAY], [BYTES, DAY]);
-    let in_turn = BorrowedFormatItem::Compound(&one);
-    let first = BorrowedFormatItem::First(&one);
-    let optional = BorrowedFormatItem::Optional(&TEXT);
-    let found = [
-        TEXT == BYTES,
-        TEXT == BorrowedFormatItem::StringLiteral("X"),
-        DAY == TEXT,
-        in_turn == BorrowedFormatItem::Compound(&other),
-        in_turn == BorrowedFormatItem::First(&other),
-        first == BorrowedFormatItem::First(&other),
-        first == BorrowedFormatItem::First(&other[..1]),
-        optional == BorrowedFormatItem::Optional(&BYTES),
-        optional == TEXT,
+    let text = BorrowedFormatItem::StringLiteral("x");
+    let bytes = BorrowedFormatItem::Literal(b"x");
+    let (one, other) = ([text, DAY], [bytes, DAY]);
+    let alike = [
+        text == bytes,
+        BorrowedFormatItem::Compound(&one) == BorrowedFormatItem::Compound(&other),
+        BorrowedFormatItem::First(&one) == BorrowedFormatItem::First(&other),
+        BorrowedFormatItem::Optional(&text) == BorrowedFormatItem::Optional(&bytes),
     ];
-    let wanted = [true, false, false, true, false, true, false, true, false];
-    assert_eq!(rt; found, wanted);
+    assert_eq!(rt; alike, [true, true, true, true]);
+    let unlike = [
+        text == BorrowedFormatItem::StringLiteral("X"),
+        DAY == text,
+        BorrowedFormatItem::Compound(&one) == BorrowedFormatItem::First(&other),
+        BorrowedFormatItem::First(&one) == BorrowedFormatItem::First(&other[..1]),
+        BorrowedFormatItem::Optional(&text) == text,
+    ];
+    assert_eq!(rt; unlike, [false, false, false, false, false]);
 }
 
 #[test]
@@ -57,23 +56,19 @@ fn slices_come_back(rt: HostRuntime) {
 #[test]
 fn texts(rt: HostRuntime) -> Result<(), Fail> {
     let items = [TEXT, DAY];
-    for (item, wanted) in [
-        (
-            BorrowedFormatItem::Optional(&items[0]),
-            "Optional(StringLiteral(\"x\"))",
-        ),
-        (
-            BorrowedFormatItem::First(&items),
-            "First([StringLiteral(\"x\"), Component(Day(Day { padding: None }))])",
-        ),
-    ] {
-        let shown = format!(in rt.alloc(); "{item:?}")?;
-        assert_eq!(rt; shown.as_str(), wanted);
-    }
-    let text = format!(in rt.alloc(); "{DifferentVariant}")?;
-    assert_eq!(rt; text.as_str(), "value was of a different variant");
+    let (optional, first) = (
+        BorrowedFormatItem::Optional(&TEXT),
+        BorrowedFormatItem::First(&items),
+    );
+    let told = format!(in rt.alloc(); "\n{optional:?}\n{first:?}\n{DifferentVariant}")?;
+    assert_eq!(rt; told.as_str(), TEXTS);
     Ok(())
 }
+
+const TEXTS: &str = r#"
+Optional(StringLiteral("x"))
+First([StringLiteral("x"), Component(Day(Day { padding: None }))])
+value was of a different variant"#;
 
 #[test]
 fn formats_equal_themselves(rt: HostRuntime) {
@@ -82,40 +77,31 @@ fn formats_equal_themselves(rt: HostRuntime) {
 
 #[test]
 fn older_forms_become_newer_ones(rt: HostRuntime) -> Result<(), Fail> {
-    for (old, wanted) in [
-        (
-            Component::Month(Month::default().with_repr(MonthRepr::Short)),
-            "MonthShort(MonthShort { case_sensitive: true })",
-        ),
-        (
-            Component::Weekday(Weekday::default()),
-            "WeekdayLong(WeekdayLong { case_sensitive: true })",
-        ),
-        (
-            Component::WeekNumber(WeekNumber::default()),
-            "WeekNumberIso(WeekNumberIso { padding: Zero })",
-        ),
-        (
-            Component::Year(Year::default().with_iso_week_based(true)),
-            "IsoYearFullExtendedRange(IsoYearFullExtendedRange { padding: Zero, sign_is_mandatory: false })",
-        ),
-        (
-            Component::Year(Year::default().with_repr(YearRepr::LastTwo)),
-            "CalendarYearLastTwo(CalendarYearLastTwo { padding: Zero })",
-        ),
-        (
-            Component::Hour(Hour::default().with_padding(Padding::None)),
-            "Hour24(Hour24 { padding: None })",
-        ),
-        (
-            Component::UnixTimestamp(UnixTimestamp::default()),
-            "UnixTimestampSecond(UnixTimestampSecond { sign_is_mandatory: false })",
-        ),
-        (Component::Day(Day::default()), "Day(Day { padding: Zero })"),
+    let mut told = String::new(rt.alloc());
+    for older in [
+        Component::Month(Month::default().with_repr(MonthRepr::Short)),
+        Component::Weekday(Weekday::default()),
+        Component::WeekNumber(WeekNumber::default()),
+        Component::Year(Year::default().with_iso_week_based(true)),
+        Component::Year(Year::default().with_repr(YearRepr::LastTwo)),
+        Component::Hour(Hour::default().with_padding(Padding::None)),
+        Component::UnixTimestamp(UnixTimestamp::default()),
+        Component::Day(Day::default()),
     ] {
-        let new = old.modern();
-        let shown = format!(in rt.alloc(); "{new:?}")?;
-        assert_eq!(rt; shown.as_str(), wanted);
+        let newer = older.modern();
+        let line = format!(in rt.alloc(); "\n{newer:?}")?;
+        told.push_str(line.as_str())?;
     }
+    assert_eq!(rt; told.as_str(), NEWER);
     Ok(())
 }
+
+const NEWER: &str = r#"
+MonthShort(MonthShort { case_sensitive: true })
+WeekdayLong(WeekdayLong { case_sensitive: true })
+WeekNumberIso(WeekNumberIso { padding: Zero })
+IsoYearFullExtendedRange(IsoYearFullExtendedRange { padding: Zero, sign_is_mandatory: false })
+CalendarYearLastTwo(CalendarYearLastTwo { padding: Zero })
+Hour24(Hour24 { padding: None })
+UnixTimestampSecond(UnixTimestampSecond { sign_is_mandatory: false })
+Day(Day { padding: Zero })"#;

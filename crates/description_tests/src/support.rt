@@ -14,11 +14,24 @@ pub const THREE: DescriptionVersion = DescriptionVersion::Three;
 /// Every version.
 pub const ALL: &[DescriptionVersion] = &[ONE, TWO, THREE];
 
-/// Versions 1 and 2.
-pub const EARLIER: &[DescriptionVersion] = &[ONE, TWO];
-
 /// Versions 2 and 3.
 pub const LATER: &[DescriptionVersion] = &[TWO, THREE];
+
+/// The version of a digit.
+pub fn version_of(digit: char) -> DescriptionVersion {
+    match digit {
+        '1' => ONE,
+        '2' => TWO,
+        _ => THREE,
+    }
+}
+
+/// The versions that a row names by their digits, the text, and what is told of it: `12 TEXT => TOLD`.
+pub fn row(line: &str) -> Option<(&str, &str, &str)> {
+    let (versions, row) = line.split_once(' ')?;
+    let (text, told) = row.split_once(" => ")?;
+    Some((versions, text, told))
+}
 
 /// The sentence of a fault, where memory doesn't run out.
 pub fn fault_told(alloc: Global, fault: DescriptionFault<'_>) -> Result<String, Fail> {

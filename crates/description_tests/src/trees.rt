@@ -14,16 +14,12 @@ fn description(node: FormatDescriptionV3Inner<'_>) -> Result<FormatDescriptionV3
     }
 }
 
-// The description of a node, as it is shown.
+// The description of a node as it is shown, and its copy.
 fn told(alloc: Global, node: FormatDescriptionV3Inner<'_>) -> Result<String, Fail> {
     let description = description(node)?;
-    Ok(format!(in alloc; "{description:?}")?)
-}
-
-// The same of its copy.
-fn told_of_copy(alloc: Global, node: FormatDescriptionV3Inner<'_>) -> Result<String, Fail> {
-    let copy = description(node)?.to_owned(alloc)?;
-    Ok(format!(in alloc; "{copy:?}")?)
+    let copy = description.to_owned(alloc)?;
+    let tree = copy.inner();
+    Ok(format!(in alloc; "{description:?}, {tree:?}")?)
 }
 
 // The node of a component, as it is shown, and the component of that node.
@@ -106,43 +102,26 @@ fn components_reserve_their_longest_value(rt: HostRuntime) -> Result<(), Fail> {
     Ok(())
 }
 
-const FOUR: FormatDescriptionV3Inner<'static> = FormatDescriptionV3Inner::BorrowedLiteral("four");
-
-const LINE: FormatDescriptionV3Inner<'static> = FormatDescriptionV3Inner::BorrowedLiteral("x\n");
-
 #[test]
 fn lent_trees(rt: HostRuntime) -> Result<(), Fail> {
     let none = Lent { items: &[] };
-    for (told, wanted) in [
-        (
-            told(rt.alloc(), FOUR)?,
-            "FormatDescriptionV3 { inner: BorrowedLiteral(\"four\"), max_bytes_needed: 4 }",
-        ),
-        (
-            told(rt.alloc(), LINE)?,
-            "FormatDescriptionV3 { inner: BorrowedLiteral(\"x\\n\"), max_bytes_needed: 2 }",
-        ),
-        (
-            told(rt.alloc(), FormatDescriptionV3Inner::BorrowedCompound(none))?,
-            "FormatDescriptionV3 { inner: BorrowedCompound([]), max_bytes_needed: 0 }",
-        ),
-        (
-            told(rt.alloc(), FormatDescriptionV3Inner::BorrowedFirst(none))?,
-            "FormatDescriptionV3 { inner: BorrowedFirst([]), max_bytes_needed: 0 }",
-        ),
-        (
-            told_of_copy(rt.alloc(), LINE)?,
-            "FormatDescriptionV3 { inner: OwnedLiteral(\"x\\n\"), max_bytes_needed: 2 }",
-        ),
-        (
-            told_of_copy(rt.alloc(), FormatDescriptionV3Inner::BorrowedCompound(none))?,
-            "FormatDescriptionV3 { inner: OwnedCompound([]), max_bytes_needed: 0 }",
-        ),
-    ] {
-        assert_eq!(rt; told.as_str(), wanted);
-    }
+    let four = told(
+        rt.alloc(),
+        FormatDescriptionV3Inner::BorrowedLiteral("four"),
+    )?;
+    let line = told(rt.alloc(), FormatDescriptionV3Inner::BorrowedLiteral("x\n"))?;
+    let in_turn = told(rt.alloc(), FormatDescriptionV3Inner::BorrowedCompound(none))?;
+    let first = told(rt.alloc(), FormatDescriptionV3Inner::BorrowedFirst(none))?;
+    let told = format!(in rt.alloc(); "\n{four}\n{line}\n{in_turn}\n{first}")?;
+    assert_eq!(rt; told.as_str(), LENT);
     Ok(())
 }
+
+const LENT: &str = r#"
+FormatDescriptionV3 { inner: BorrowedLiteral("four"), max_bytes_needed: 4 }, OwnedLiteral("four")
+FormatDescriptionV3 { inner: BorrowedLiteral("x\n"), max_bytes_needed: 2 }, OwnedLiteral("x\n")
+FormatDescriptionV3 { inner: BorrowedCompound([]), max_bytes_needed: 0 }, OwnedCompound([])
+FormatDescriptionV3 { inner: BorrowedFirst([]), max_bytes_needed: 0 }, OwnedFirst([])"#;
 
 // An ordinal, a literal of four bytes, and an optional day.
 fn nodes(alloc: Global) -> Result<Vec<FormatDescriptionV3Inner<'static>>, Fail> {
@@ -157,17 +136,17 @@ fn nodes(alloc: Global) -> Result<Vec<FormatDescriptionV3Inner<'static>>, Fail> 
     ]?)
 }
 
-const IN_TURN: &str =
-    "FormatDescriptionV3 { inner: OwnedCompound([Ordinal(Ordinal { padding: Zero }), OwnedLiteral(\"four\"), OwnedOptional { format: true, item: Day(Day { padding: Zero }) }]), max_bytes_needed: 9 }";
-
-const FIRST: &str =
-    "FormatDescriptionV3 { inner: OwnedFirst([Ordinal(Ordinal { padding: Zero }), OwnedLiteral(\"four\"), OwnedOptional { format: true, item: Day(Day { padding: Zero }) }]), max_bytes_needed: 4 }";
-
 #[test]
 fn owned_trees(rt: HostRuntime) -> Result<(), Fail> {
-    let in_turn = FormatDescriptionV3Inner::OwnedCompound(nodes(rt.alloc())?);
-    assert_eq!(rt; told(rt.alloc(), in_turn)?.as_str(), IN_TURN);
-    let first = FormatDescriptionV3Inner::OwnedFirst(nodes(rt.alloc())?);
-    assert_eq!(rt; told_of_copy(rt.alloc(), first)?.as_str(), FIRST);
+    let in_turn = nodes(rt.alloc())?;
+    let in_turn = told(rt.alloc(), FormatDescriptionV3Inner::OwnedCompound(in_turn))?;
+    let first = nodes(rt.alloc())?;
+    let first = told(rt.alloc(), FormatDescriptionV3Inner::OwnedFirst(first))?;
+    let told = format!(in rt.alloc(); "\n{in_turn}\n{first}")?;
+    assert_eq!(rt; told.as_str(), OWNED);
     Ok(())
 }
+
+const OWNED: &str = r#"
+FormatDescriptionV3 { inner: OwnedCompound([Ordinal(Ordinal { padding: Zero }), OwnedLiteral("four"), OwnedOptional { format: true, item: Day(Day { padding: Zero }) }]), max_bytes_needed: 9 }, OwnedCompound([Ordinal(Ordinal { padding: Zero }), OwnedLiteral("four"), OwnedOptional { format: true, item: Day(Day { padding: Zero }) }])
+FormatDescriptionV3 { inner: OwnedFirst([Ordinal(Ordinal { padding: Zero }), OwnedLiteral("four"), OwnedOptional { format: true, item: Day(Day { padding: Zero }) }]), max_bytes_needed: 4 }, OwnedFirst([Ordinal(Ordinal { padding: Zero }), OwnedLiteral("four"), OwnedOptional { format: true, item: Day(Day { padding: Zero }) }])"#;

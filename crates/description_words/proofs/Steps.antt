@@ -5,8 +5,7 @@ use Rattle.description_faults.specs.Answer.{◌>>=◌}
 use Rattle.description_words.specs.Text.{Piece}
 use Rattle.description_words.specs.Many.{many}
 use Rattle.description_words.proofs.Many.{Step}
-use Rattle.description_words.proofs.Readings.{bind_ok, ok_is, chosen}
-use Rattle.description_spelling.proofs.Results.{bind_err, not_err}
+use Rattle.description_words.proofs.Readings.{bind_ok, ok_is, bind_err, not_err, chosen}
 
 -- steps from a piece to another one; none is taken at an end
 abbrev pub Steps : {A : Type 0} → (Piece → Bool) → Step A → Piece → List A → Piece → Type 0
