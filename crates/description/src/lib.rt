@@ -15,8 +15,3 @@ pub use description_items::{
 pub use description_strftime::{laws as strftime_laws, parse_strftime_borrowed};
 pub use description_tree::{FormatDescriptionV3, FormatDescriptionV3Inner, Lent};
 pub use description_words::DescriptionVersion;
-
-#[cfg(test)]
-mod fault_tests;
-#[cfg(test)]
-mod tests;

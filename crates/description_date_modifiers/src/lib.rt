@@ -24,6 +24,3 @@ pub use month::{Month, MonthLong, MonthNumerical, MonthShort};
 pub use week_number::{WeekNumber, WeekNumberIso, WeekNumberMonday, WeekNumberSunday};
 pub use weekday::{Weekday, WeekdayLong, WeekdayMonday, WeekdayShort, WeekdaySunday};
 pub use year::Year;
-
-#[cfg(test)]
-mod tests;

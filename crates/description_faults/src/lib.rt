@@ -6,6 +6,3 @@ mod invalid_format_description;
 
 pub use description_fault::DescriptionFault;
 pub use invalid_format_description::InvalidFormatDescription;
-
-#[cfg(test)]
-mod tests;

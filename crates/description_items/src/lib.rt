@@ -14,6 +14,3 @@ pub use component::Component;
 pub use description_formats::{Iso8601, Rfc2822, Rfc3339};
 pub use different_variant::DifferentVariant;
 pub use item::{BorrowedFormatItem, FormatItem, StaticFormatDescription};
-
-#[cfg(test)]
-mod tests;

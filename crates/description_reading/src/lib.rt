@@ -8,6 +8,3 @@ mod texts;
 
 pub use flat::items_of;
 pub use nested::tree_of;
-
-#[cfg(test)]
-mod tests;

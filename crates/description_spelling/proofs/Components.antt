@@ -9,12 +9,12 @@ use Rattle.description_items.specs.declared.component.Component.{Component}
 use Rattle.description_words.specs.declared.version.DescriptionVersion.{DescriptionVersion}
 use Rattle.description_words.specs.Text.{Piece, is_space, is_word_byte, run, past, after}
 use Rattle.description_words.specs.Words.{Modifier, has_word, begins, name_at, modifiers_at, closed_at}
-use Rattle.description_words.proofs.Readings.{bind_ok, ok_is, not_ok, chosen}
+use Rattle.description_words.proofs.Readings.{bind_ok, ok_is, not_ok, chosen, bind_err, made_err, err_is, not_err}
 use Rattle.description_tables.specs.Component.{component_of}
 use Rattle.description_reading.specs.Reading.{component_from}
 use Rattle.description_spelling.specs.Heads.{Each, Stops, IsWord, SpellsModifiers, is_nesting, SpellsHead, SpellsComponent}
 use Rattle.description_spelling.specs.Faulty.{BadWord, missing_at, HasBadWord, IsUnclosed, MeansNothing}
-use Rattle.description_spelling.proofs.Results.{bind_err, made_err, err_is, not_err, not_zero}
+use Rattle.description_spelling.proofs.Results.{not_zero}
 use Rattle.description_spelling.proofs.Runs.{each_run, stops_past, stops_from_none, cut_run, past_index}
 use Rattle.description_spelling.proofs.Takes.{Takes, takes_then, takes_run, begins_cons, closed_takes, closed_refused}
 use Rattle.description_spelling.proofs.Modifiers.{none_there, some_there, TakesModifiers, modifiers_take, Refuses, modifiers_refused}

@@ -20,7 +20,7 @@ use Rattle.description_spelling.specs.Faulty.{Wrong, IsSingle, LacksName, BadEsc
 use Rattle.description_spelling.proofs.Results.{cond_false, and_false, neither, either_not, not_zero}
 use Rattle.description_spelling.proofs.Runs.{at_index, word_stops, space_first}
 use Rattle.description_spelling.proofs.Takes.{stops_91}
-use Rattle.description_spelling.proofs.Steps.{steps_many, steps_failing}
+use Rattle.description_words.proofs.Steps.{steps_many, steps_failing}
 use Rattle.description_spelling.proofs.Texts.{RefusesText, bad_escape_again}
 use Rattle.description_spelling.proofs.ComponentsAgain.{no_name_again, begins_head, bad_word_refused, unclosed_refused, nothing_refused}
 use Rattle.description_spelling.proofs.Nesting.{Reader, nesting_at}

@@ -19,7 +19,7 @@ use Rattle.description_spelling.specs.Faulty.{IsOne, AreSome}
 use Rattle.description_spelling.proofs.Results.{neither, either_not, above, flip_false, flip_true}
 use Rattle.description_spelling.proofs.Runs.{each_run, stops_past}
 use Rattle.description_spelling.proofs.Takes.{Takes, takes_then, takes_run, takes_byte, stops_91, closed_takes}
-use Rattle.description_spelling.proofs.Steps.{Steps, Shortens, many_steps}
+use Rattle.description_words.proofs.Steps.{Steps, Shortens, many_steps}
 use Rattle.description_spelling.proofs.Texts.{text_front, TakesText, text_takes, doubled_takes}
 use Rattle.description_spelling.proofs.Components.{TakesName, name_takes, component_takes}
 use Rattle.description_spelling.proofs.Nesting.{TakesInside, TakesNesting, nesting_takes}

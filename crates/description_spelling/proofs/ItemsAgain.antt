@@ -18,7 +18,7 @@ use Rattle.description_spelling.specs.Spelling.{SpellsItems, SpellsItem, SpellsN
 use Rattle.description_spelling.proofs.Results.{cond_true, cond_false, and_false, neither, either_not, not_zero}
 use Rattle.description_spelling.proofs.Runs.{at_index, same_index, past_is, word_stops}
 use Rattle.description_spelling.proofs.Takes.{stops_91, closed_again}
-use Rattle.description_spelling.proofs.Steps.{Steps, steps_many}
+use Rattle.description_words.proofs.Steps.{Steps, steps_many}
 use Rattle.description_spelling.proofs.Texts.{SpellsText, text_more, text_some, BeginsText, text_again}
 use Rattle.description_spelling.proofs.Meaning.{MeansAt, component_at}
 use Rattle.description_spelling.proofs.ComponentsAgain.{begins_head, component_again}

@@ -11,14 +11,14 @@ use Rattle.description_words.specs.declared.version.DescriptionVersion.TheVarian
 use Rattle.description_words.specs.Text.{Piece, is_space, run, past, after, whole}
 use Rattle.description_words.specs.Many.{many}
 use Rattle.description_words.specs.Words.{is_named, begins, name_at, closed_at}
-use Rattle.description_words.proofs.Readings.{chosen}
+use Rattle.description_words.proofs.Readings.{chosen, bind_err, made_err, err_is, not_err}
 use Rattle.description_reading.specs.Reading.{doubled_at, text_at, component_from, optional_at, no_bracket, first_at, bracket_at, literal_or, element_at, is_end, nested_at, read_items}
 use Rattle.description_spelling.specs.Spelling.{SpellsItems}
 use Rattle.description_spelling.specs.Faulty.{IsSingle, IsOne, AreSome, IsNothing, AreBefore, BadOptional, BadFirst, BadItem, FaultyItems, FaultyNested, Faulty}
-use Rattle.description_spelling.proofs.Results.{bind_err, made_err, err_is, not_err, either_not, flip_false}
+use Rattle.description_spelling.proofs.Results.{either_not, flip_false}
 use Rattle.description_spelling.proofs.Runs.{each_run, stops_past}
 use Rattle.description_spelling.proofs.Takes.{stops_91, begins_cons, closed_refused}
-use Rattle.description_spelling.proofs.Steps.{many_steps, many_failing, Failing}
+use Rattle.description_words.proofs.Steps.{many_steps, many_failing, Failing}
 use Rattle.description_spelling.proofs.Texts.{text_refused}
 use Rattle.description_spelling.proofs.Components.{TakesName, name_takes, name_refused, component_refused}
 use Rattle.description_spelling.proofs.Nesting.{RefusesInside, nesting_refused}

@@ -1,7 +1,6 @@
 pub mod Results
 pub mod Runs
 pub mod Takes
-pub mod Steps
 pub mod Modifiers
 pub mod ModifiersAgain
 pub mod Meaning

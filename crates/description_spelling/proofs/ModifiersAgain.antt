@@ -11,7 +11,7 @@ use Rattle.description_spelling.specs.Heads.{Each, Stops, IsWord, SpellsModifier
 use Rattle.description_spelling.specs.Faulty.{BadWord}
 use Rattle.description_spelling.proofs.Results.{differs, not_zero, eqb_same}
 use Rattle.description_spelling.proofs.Runs.{at_index, same_index, each_append, run_again, run_is, past_is, space_stops, word_stops, space_first}
-use Rattle.description_spelling.proofs.Steps.{Steps, steps_many, steps_failing}
+use Rattle.description_words.proofs.Steps.{Steps, steps_many, steps_failing}
 
 -- ---- one word
 

@@ -11,11 +11,11 @@ use Rattle.description_words.specs.declared.version.DescriptionVersion.{Descript
 use Rattle.description_words.specs.Version.{is_three}
 use Rattle.description_words.specs.Text.{Piece, is_space, run, past, after}
 use Rattle.description_words.specs.Words.{is_named, begins, closed_at}
-use Rattle.description_words.proofs.Readings.{bind_ok, ok_is, not_ok, chosen}
+use Rattle.description_words.proofs.Readings.{bind_ok, ok_is, not_ok, chosen, bind_err, err_is, not_err}
 use Rattle.description_reading.specs.Reading.{is_same, opened_at, unsupported_at, supported}
 use Rattle.description_spelling.specs.Heads.{Each, Stops, SpellsOpening, SpellsNesting}
 use Rattle.description_spelling.specs.Faulty.{Wrong, LacksSpace, LacksBracket, BadNesting}
-use Rattle.description_spelling.proofs.Results.{bind_err, err_is, not_err, lt_of}
+use Rattle.description_spelling.proofs.Results.{lt_of}
 use Rattle.description_spelling.proofs.Runs.{each_run, stops_past, stops_from_none}
 use Rattle.description_spelling.proofs.Takes.{Takes, takes_then, takes_run, takes_length, takes_byte, closed_takes, closed_refused}
 use Rattle.description_spelling.proofs.Components.{TakesName}

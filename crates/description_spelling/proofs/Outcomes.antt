@@ -7,12 +7,11 @@ use Rattle.description_faults.specs.declared.description_fault.DescriptionFault.
 use Rattle.description_items.specs.Tree.{Tree, Literal, Part, Compound, Optional, First, Trees}
 use Rattle.description_words.specs.declared.version.DescriptionVersion.{DescriptionVersion}
 use Rattle.description_words.specs.declared.version.DescriptionVersion.TheVariants.{Three}
-use Rattle.description_words.proofs.Readings.{bind_ok, ok_is}
+use Rattle.description_words.proofs.Readings.{bind_ok, ok_is, made_err, err_is, not_err}
 use Rattle.description_reading.specs.Reading.{read_items, read_tree}
 use Rattle.description_spelling.specs.Spelling.{SpellsItems, Spells, SpellsTree}
 use Rattle.description_spelling.specs.Faulty.{Faulty}
 use Rattle.description_spelling.specs.Outcomes.{OneOutcome, Outcome, joined}
-use Rattle.description_spelling.proofs.Results.{made_err, err_is, not_err}
 use Rattle.description_spelling.proofs.Items.{read_is_spelled}
 use Rattle.description_spelling.proofs.ItemsAgain.{unlisted, listed_again, spelled_is_read}
 use Rattle.description_spelling.proofs.ItemsRefused.{refused_is_faulty}

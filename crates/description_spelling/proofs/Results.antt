@@ -1,28 +1,9 @@
--- Readings that fail, and choices.
-use Rattle.std.proofs.Common.{◌≡◌, ℕ, ◌≤◌, ◌<◌, Result, Ok, Err, Bool, true, false, not, cond, eqb, refl, ap, arith, inl, inr, ◌⊎◌}
+-- Choices, and tests.
+use Rattle.std.proofs.Common.{◌≡◌, ℕ, ◌≤◌, ◌<◌, Ok, Err, Bool, true, false, not, cond, eqb, refl, arith, inl, inr, ◌⊎◌}
 use Rattle.std.specs.Prelude.{◌||◌, ◌&&◌}
 use Rattle.std.proofs.lemmas.Bool.Decides.{nat_tests}
 use Rattle.description_faults.specs.Fault.{Fault}
-use Rattle.description_faults.specs.Answer.{◌>>=◌}
-
-abbrev pub failed : {A : Type 0} → Fault → Result A Fault
-failed e = Err e
-
-pub err_is : {A : Type 0} (d e : Fault) → failed {A = A} d ≡ failed {A = A} e → d ≡ e
-err_is d e h = cc
-
-pub not_err : {A : Type 0} (x : A) (e : Fault) → Ok x ≡ failed {A = A} e → ⊥
-not_err x e h = cc
-
--- where steps fail, the first fails, or it succeeds and the next one fails
-pub bind_err : {A B : Type 0} (r : Result A Fault) (f : A → Result B Fault) (e : Fault) → (r >>= f) ≡ Err e → (r ≡ Err e) ⊎ ((x : A) × (r ≡ Ok x) × (f x ≡ Err e))
-bind_err {A} (Ok x) f e h = inr (x, refl, h)
-bind_err {A} {B} (Err d) f e h = inl (ap (λ (d : Fault). failed {A = A} d) (err_is {A = B} d e h))
-
--- a step that only adds to what was read fails with it
-pub made_err : {A B : Type 0} (r : Result A Fault) (f : A → B) (e : Fault) → (r >>= λ x. Ok (f x)) ≡ Err e → r ≡ Err e
-made_err (Ok x) f e h = absurd (not_err (f x) e h)
-made_err {A} {B} (Err d) f e h = ap (λ (d : Fault). failed {A = A} d) (err_is {A = B} d e h)
+use Rattle.description_words.proofs.Readings.{err_is, not_err}
 
 pub three_ok : {A : Type 0} (a b c : Bool) (d e f : Fault) (x y : A) → cond a (Err d) (cond b (Err e) (cond c (Err f) (Ok x))) ≡ Ok y → (a ≡ false) × (b ≡ false) × (c ≡ false) × (x ≡ y)
 three_ok true b c d e f x y h = absurd cc

@@ -6,9 +6,8 @@ use Rattle.std.proofs.lemmas.Bool.Decides.{nat_tests}
 use Rattle.description_faults.specs.Fault.{Fault, UnclosedOpeningBracket}
 use Rattle.description_words.specs.Text.{Piece, is_space, run, past, after}
 use Rattle.description_words.specs.Words.{begins, closed_at}
-use Rattle.description_words.proofs.Readings.{ok_is, not_ok, chosen}
+use Rattle.description_words.proofs.Readings.{ok_is, not_ok, chosen, err_is, not_err}
 use Rattle.description_spelling.specs.Heads.{Stops}
-use Rattle.description_spelling.proofs.Results.{err_is, not_err}
 use Rattle.description_spelling.proofs.Runs.{cut_run, past_index, at_index}
 
 pub record Takes (s : Piece) (own : List ℕ) (rest : Piece) : Type 0 where

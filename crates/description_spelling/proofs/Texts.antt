@@ -11,11 +11,11 @@ use Rattle.description_words.specs.declared.version.DescriptionVersion.TheVarian
 use Rattle.description_words.specs.Version.{is_one}
 use Rattle.description_words.specs.Text.{Piece, is_plain, after}
 use Rattle.description_words.specs.Words.{begins, is_escape, escape_at, literal_len}
-use Rattle.description_words.proofs.Readings.{ok_is, not_ok, chosen}
+use Rattle.description_words.proofs.Readings.{ok_is, not_ok, chosen, err_is, not_err}
 use Rattle.description_reading.specs.Reading.{doubled_at, text_at}
 use Rattle.description_spelling.specs.Heads.{Stops, MayBegin, SpellsLiteral, IsEscapable, SpellsEscape}
 use Rattle.description_spelling.specs.Faulty.{BadEscape}
-use Rattle.description_spelling.proofs.Results.{both, not_first, or_is, err_is, not_err}
+use Rattle.description_spelling.proofs.Results.{both, not_first, or_is}
 use Rattle.description_spelling.proofs.Runs.{at_index, same_index, each_run, stops_past, stops_front, stops_append, run_again}
 use Rattle.description_spelling.proofs.Takes.{Takes, takes_then, takes_byte, begins_cons}
 

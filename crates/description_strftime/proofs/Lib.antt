@@ -10,4 +10,3 @@ pub mod Refused
 pub mod RefusedAgain
 pub mod Relations
 pub mod Sound
-pub mod Steps

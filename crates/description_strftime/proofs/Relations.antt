@@ -6,14 +6,14 @@ use Rattle.description_faults.specs.Fault.{Fault}
 use Rattle.description_faults.specs.Answer.{◌>>=◌}
 use Rattle.description_items.specs.Tree.{Tree}
 use Rattle.description_words.specs.Text.{Piece, whole}
-use Rattle.description_words.proofs.Readings.{bind_ok, ok_is, not_ok, and_then_ok, and_then_err}
+use Rattle.description_words.proofs.Readings.{bind_ok, ok_is, made_err, and_then_ok, and_then_err}
+use Rattle.description_words.proofs.Steps.{Steps, Failing, many_steps, many_failing, steps_many, steps_failing}
 use Rattle.description_strftime.specs.Text.{joined}
 use Rattle.description_strftime.specs.Reading.{at_end, strftime_step, read_strftime}
 use Rattle.description_strftime.specs.Spelled.{SpellsFront, SpellsStrftime}
 use Rattle.description_strftime.specs.Faulty.{BadConversion, FaultyStrftime}
 use Rattle.description_strftime.proofs.Flags.{at_index}
 use Rattle.description_strftime.proofs.Parts.{all_parts}
-use Rattle.description_strftime.proofs.Steps.{same_fault, Steps, StopsAt, steps_of, steps_again, stop_of, stop_again}
 use Rattle.description_strftime.proofs.Sound.{TakesPart, part_takes, step_lt}
 use Rattle.description_strftime.proofs.Again.{part_again, part_some}
 use Rattle.description_strftime.proofs.Refused.{part_refused}
@@ -61,7 +61,7 @@ pub read_is_spelled : (text : List ℕ) (items : List Tree) → read_strftime te
 unfolding read_strftime
 read_is_spelled text items e =
     let a = bind_ok (all_parts text) items_of items e in
-    let steps = steps_of at_end strftime_step (suc (length text)) (whole text) a.0.0 a.0.1 step_lt (enough text) a.1 in
+    let steps = many_steps at_end strftime_step step_lt (suc (length text)) (whole text) a.0 (enough text) a.1 in
     let front = goes_spelled (whole text) a.0.0 a.0.1 steps.0 in
     record { parts = a.0.0; front = subst (λ (rest : List ℕ). SpellsFront text a.0.0 rest) (no_text a.0.1 steps.1) front.0; all = sym (ok_is (joined a.0.0) items a.2) }
 
@@ -69,19 +69,16 @@ pub spelled_is_read : (text : List ℕ) (items : List Tree) → SpellsStrftime t
 unfolding read_strftime
 spelled_is_read text items h =
     let (j, goes, len) = spelled_goes 0 text h.parts [] h.front in
-    let read = steps_again at_end strftime_step (suc (length text)) (whole text) h.parts (at_index j []) step_lt (enough text) goes refl in
+    let read = steps_many at_end strftime_step step_lt (suc (length text)) (whole text) h.parts (at_index j []) (enough text) goes refl in
     and_then_ok (all_parts text) (h.parts, at_index j []) items_of read ∙ ap (λ (ts : List Tree). Ok ts) (sym h.all)
-
-failed_parts : (r : Result (List (List Tree) × Piece) Fault) (fault : Fault) → (r >>= items_of) ≡ Err fault → r ≡ Err fault
-failed_parts (Ok x) fault e = absurd (not_ok fault (joined x.0) (sym e))
-failed_parts (Err d) fault e = same_fault d fault e
 
 pub refused_is_faulty : (text : List ℕ) (fault : Fault) → read_strftime text ≡ Err fault → FaultyStrftime text fault
 unfolding read_strftime
 refused_is_faulty text fault e =
-    let stop : StopsAt at_end strftime_step (whole text) fault = stop_of at_end strftime_step (suc (length text)) (whole text) fault step_lt (enough text) (failed_parts (all_parts text) fault e) in
-    let front = goes_spelled (whole text) stop.read stop.stop stop.steps in
-    record { parts = stop.read; bad = stop.stop.text; at = stop.stop.index; front = front.0; place = omega (arith, front.1); is_bad = part_refused stop.stop fault stop.fails }
+    let fails = made_err (all_parts text) (λ (parts : List (List Tree) × Piece). joined parts.0) fault e in
+    let stop : Failing at_end strftime_step (whole text) fault = many_failing at_end strftime_step step_lt (suc (length text)) (whole text) fault (enough text) fails in
+    let front = goes_spelled (whole text) stop.front stop.bad stop.steps in
+    record { parts = stop.front; bad = stop.bad.text; at = stop.bad.index; front = front.0; place = omega (arith, front.1); is_bad = part_refused stop.bad fault stop.fails }
 
 pub faulty_is_refused : (text : List ℕ) (fault : Fault) → FaultyStrftime text fault → read_strftime text ≡ Err fault
 unfolding read_strftime
@@ -91,4 +88,4 @@ faulty_is_refused text fault h =
     let bad : BadConversion j h.bad fault = subst (λ (i : ℕ). BadConversion i h.bad fault) same h.is_bad in
     let fails = bad_again j h.bad fault bad in
     let more = not_end j h.bad (bad_some j h.bad fault bad) in
-    and_then_err (all_parts text) fault items_of (stop_again at_end strftime_step (suc (length text)) (whole text) h.parts (at_index j h.bad) fault step_lt (enough text) goes more fails)
+    and_then_err (all_parts text) fault items_of (steps_failing at_end strftime_step step_lt (suc (length text)) (whole text) h.parts (at_index j h.bad) fault (enough text) goes more fails)

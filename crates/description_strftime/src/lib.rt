@@ -9,6 +9,3 @@ mod numbers;
 mod strftime;
 
 pub use strftime::parse_strftime_borrowed;
-
-#[cfg(test)]
-mod tests;

@@ -9,6 +9,3 @@ mod names;
 mod values;
 
 pub use component::component_of;
-
-#[cfg(test)]
-mod tests;

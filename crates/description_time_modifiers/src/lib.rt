@@ -17,6 +17,3 @@ pub use unix_timestamp::{
     UnixTimestamp, UnixTimestampMicrosecond, UnixTimestampMillisecond, UnixTimestampNanosecond,
     UnixTimestampSecond,
 };
-
-#[cfg(test)]
-mod tests;

@@ -12,6 +12,3 @@ mod width;
 
 pub use description::FormatDescriptionV3;
 pub use inner::{FormatDescriptionV3Inner, Lent};
-
-#[cfg(test)]
-mod tests;

@@ -3,3 +3,4 @@ pub mod Many
 pub mod Readings
 pub mod Shorter
 pub mod Fronts
+pub mod Steps

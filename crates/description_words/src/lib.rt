@@ -16,6 +16,3 @@ pub use modifiers::{Modifier, modifiers_of};
 pub use names::{begins, closed, is_named, name_of};
 pub use runs::past_space;
 pub use version::DescriptionVersion;
-
-#[cfg(test)]
-mod tests;

@@ -1,0 +1,3 @@
+//! Faults of descriptions, and their sentences.
+
+use description_faults::{DescriptionFault, InvalidFormatDescription};
