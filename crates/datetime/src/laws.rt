@@ -156,31 +156,31 @@ pub fn wall_clock_at_difference(from: PlainDateTime, to: PlainDateTime) -> Optio
 }
 
 /// The difference of two dates and times in UTC leads from one to the other.
-pub fn utc_at_difference(from: UtcDateTime, to: UtcDateTime) -> Option<UtcDateTime>
-    ensures { result ≡ Some to }
+pub fn utc_at_difference(one: UtcDateTime, other: UtcDateTime) -> Option<UtcDateTime>
+    ensures { result ≡ Some other }
 {
     // their ranges come with these calls
-    let _ = (from.date(), to.date());
-    from.checked_add(to - from)
+    let _ = (one.date(), other.date());
+    one.checked_add(other - one)
 }
 
 /// The difference of two timestamps leads from one to the other.
-pub fn timestamp_at_difference(from: Timestamp, to: Timestamp) -> Option<Timestamp>
-    ensures { result ≡ Some to }
+pub fn timestamp_at_difference(start: Timestamp, end: Timestamp) -> Option<Timestamp>
+    ensures { result ≡ Some end }
 {
     // their ranges come with these calls
-    let _ = (from.date(), to.date());
-    from.checked_add(to - from)
+    let _ = (start.date(), end.date());
+    start.checked_add(end - start)
 }
 
 /// The difference of two moments leads from one to the other as the offset of the first shows it,
 /// if the calendar has the date there.
-pub fn moment_at_difference(from: OffsetDateTime, to: OffsetDateTime) -> Option<OffsetDateTime>
-    ensures { result ≡ shown_at from.offset (instant to) }
+pub fn moment_at_difference(first: OffsetDateTime, other: OffsetDateTime) -> Option<OffsetDateTime>
+    ensures { result ≡ shown_at first.offset (instant other) }
 {
     // their ranges come with these calls
-    let _ = (from.date(), to.date());
-    from.checked_add(to - from)
+    let _ = (first.date(), other.date());
+    first.checked_add(other - first)
 }
 
 /// Whole milliseconds are those of the timestamp that they count to, before 1970 too.

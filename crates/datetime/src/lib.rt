@@ -6,6 +6,3 @@ pub mod laws;
 pub use datetime_calls::{Moment, MomentCall, MomentReply, run_calls};
 pub use datetime_types::{OffsetDateTime, PlainDateTime, Timestamp, UtcDateTime};
 pub use datetime_wall::durations::{signed_from_std, std_from_signed};
-
-#[cfg(test)]
-mod tests;

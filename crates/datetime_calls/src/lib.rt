@@ -8,6 +8,3 @@ mod run;
 pub use calls::{MomentCall, MomentReply};
 pub use moment::Moment;
 pub use run::run_calls;
-
-#[cfg(test)]
-mod tests;

@@ -4,8 +4,6 @@
 mod counts;
 mod quotients;
 mod seconds;
-#[cfg(test)]
-mod tests;
 
 pub use counts::{
     day_of_count, iso_week_of_count, monday_week_of_count, place_of_count, sunday_week_of_count,

@@ -1,5 +1,5 @@
 -- Instants by their whole seconds, rounded down, and the nanoseconds after them.
-use Rattle.std.proofs.Common.{◌≡◌, ℕ, ◌+◌, ◌*◌, ◌%◌, ◌<◌, ℤ, pos, ◌+ℤ◌, ◌*ℤ◌, arith}
+use Rattle.std.proofs.Common.{◌≡◌, ℕ, ◌+◌, ◌*◌, ◌%◌, ◌<◌, ℤ, pos, ◌+ℤ◌, ◌-ℤ◌, ◌*ℤ◌, arith}
 use Rattle.std.specs.Int.{int_div_euclid, int_rem_euclid}
 use Rattle.std.specs.Prelude.{int_div, int_rem}
 use Rattle.std.proofs.lemmas.Int.{quot-rem}
@@ -25,6 +25,10 @@ unix_nanos_time seconds nanosecond second h is = omega (arith, signed)
 pub instant_parts : (m : Shown) → int_div_euclid (instant m) (pos second_nanos) *ℤ pos second_nanos +ℤ pos (nanosecond_of m.wall % second_nanos) ≡ instant m
 unfolding nanosecond_of
 instant_parts m = omega (arith, signed)
+
+-- the whole seconds of an instant by those of the wall clock
+pub instant_seconds : (m : Shown) → int_div_euclid (instant m) (pos second_nanos) ≡ int_div_euclid m.wall (pos second_nanos) -ℤ m.offset
+instant_seconds m = omega (arith, signed)
 
 pub wall_parts : (wall : ℤ) → int_div_euclid wall (pos second_nanos) *ℤ pos second_nanos +ℤ pos (nanosecond_of wall % second_nanos) ≡ wall
 unfolding nanosecond_of

@@ -171,7 +171,7 @@ impl Timestamp {
     pub fn as_milliseconds(self) -> i64
         ensures { result ≡ int_div_euclid self (pos milli_nanos) }
     {
-        self.seconds * 1000 + i64::from(self.nanoseconds / 1_000_000)
+        1000 * self.seconds + i64::from(self.nanoseconds / 1_000_000)
     }
 
     /// The whole microseconds since 1970 began in UTC, rounded down.

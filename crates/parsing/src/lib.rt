@@ -1,9 +1,6 @@
 //! Readings of texts to moments.
 #![tactic(auto)]
 
-#[cfg(test)]
-mod tests;
-
 pub use description_formats::Rfc3339;
 pub use parsing_pieces::{Parse, ParseFromDescription, TryFromParsed};
 pub use parsing_resolution::is_valid_leap_second_stand_in;

@@ -4,8 +4,6 @@
 mod cut;
 mod fault;
 mod run;
-#[cfg(test)]
-mod tests;
 mod word;
 
 pub use cut::{any_byte, byte, four_digits, sign, two_digits};

@@ -136,7 +136,7 @@ fn quick_offset(bytes: &[u8]) -> Option<((bool, u8, u8), &[u8])>
 /// The numbers at the front of the bytes, and the rest, where no piece of them is missing.
 #[tactic(auto, unfolding(crate::specs::Reading::rfc3339))]
 #[inline(always)]
-pub fn quick_front(bytes: &[u8]) -> Option<(Written, &[u8])>
+pub(crate) fn quick_front(bytes: &[u8]) -> Option<(Written, &[u8])>
     ensures reads { IfSome result (λ x. Reading.rfc3339 bytes.now ≡ Ok (x.0, x.1.now)) }
     ensures offset_hour { IfSome result (λ x. x.0.offset_hour ≤ 23) }
     ensures offset_minute { IfSome result (λ x. x.0.offset_minute < 100) }

@@ -28,14 +28,15 @@ impl Timestamp {
     pub fn eq_offset(self, other: OffsetDateTime) -> bool
         ensures { IsTrue result ↔ (self ≡ instant other) }
     {
-        self.as_nanoseconds() == other.unix_timestamp_nanos()
+        other.unix_timestamp_nanos() == self.as_nanoseconds()
     }
 
     /// Which instant comes first.
     pub fn cmp_offset(self, other: OffsetDateTime) -> Ordering
         ensures { result ≡ int_cmp self (instant other) }
     {
-        self.as_nanoseconds().cmp(&other.unix_timestamp_nanos())
+        let instant = other.unix_timestamp_nanos();
+        self.as_nanoseconds().cmp(&instant)
     }
 }
 

@@ -5,4 +5,4 @@ use Rattle.datetime.proofs.LawLemmas.{shown_by}
 use Rattle.datetime.proofs.laws.moment_at_difference.Goals as goal
 
 pub returns : goal.returns
-returns c = shown_by _ c.args.from.offset (instant c.args.to) _ c.checked_add.ensures.some c.checked_add.ensures.value (omega (arith, signed, c.sub.ensures))
+returns c = shown_by _ c.args.first.offset (instant c.args.other) _ c.checked_add.ensures.some c.checked_add.ensures.value (omega (arith, signed, c.sub.ensures))

@@ -5,6 +5,6 @@ use Rattle.datetime.proofs.laws.timestamp_at_difference.Goals as goal
 
 pub returns : goal.returns
 returns c =
-    only_some _ _ c.args.to (c.checked_add.ensures.some.1 (omega (arith, signed, c.sub.ensures), omega (arith, signed, c.sub.ensures)))
+    only_some _ _ c.args.end (c.checked_add.ensures.some.1 (omega (arith, signed, c.sub.ensures), omega (arith, signed, c.sub.ensures)))
     c.checked_add.ensures.value
     (λ n e. omega (arith, signed, e, c.sub.ensures))

@@ -1,0 +1,21 @@
+//! Durations with a sign, and those of std.
+use calendar::SignedDuration;
+use datetime::{signed_from_std, std_from_signed};
+use std::test::Fail;
+use std::time::Duration;
+
+#[test]
+fn converts(rt: HostRuntime) -> Result<(), Fail> {
+    let (one, other) = (Duration::new(1, 500), SignedDuration::new(1, 500));
+    assert_eq!(rt; signed_from_std(one)?, other);
+    assert_eq!(rt; std_from_signed(other)?, one);
+    assert_eq!(rt; std_from_signed(SignedDuration::ZERO)?, Duration::ZERO);
+    Ok(())
+}
+
+#[test]
+fn refuses(rt: HostRuntime) {
+    assert!(rt; signed_from_std(Duration::from_secs(9_223_372_036_854_775_807)).is_ok());
+    assert!(rt; signed_from_std(Duration::from_secs(9_223_372_036_854_775_808)).is_err());
+    assert!(rt; std_from_signed(SignedDuration::nanoseconds(-1)).is_err());
+}

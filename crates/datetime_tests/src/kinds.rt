@@ -1,0 +1,459 @@
+//! What every type of date-time answers alike, so that one row serves all of them.
+use crate::rows::{DayViews, Part, Parts, Step, TimeViews};
+use calendar::{ComponentRange, SignedDuration, UtcOffset};
+use datetime::{OffsetDateTime, PlainDateTime, Timestamp, UtcDateTime};
+use std::time::Duration;
+
+pub trait DateTime: Copy {
+    fn parts(self) -> Parts;
+
+    // The offset, where the type has one.
+    fn own_offset(self) -> Option<UtcOffset>;
+
+    // Both.
+    fn shown(self) -> (Parts, Option<UtcOffset>);
+
+    fn day_views(self) -> DayViews;
+
+    fn time_views(self) -> TimeViews;
+
+    fn replaced(self, part: Part) -> Result<Self, ComponentRange>;
+
+    fn moved(self, step: Step) -> Option<Self>;
+
+    // What the sums with both durations show, also in place, where the calendar has them.
+    fn sums(self, duration: SignedDuration, std_duration: Duration) -> Option<[Parts; 4]>;
+
+    // Likewise the differences.
+    fn differences(self, duration: SignedDuration, std_duration: Duration) -> Option<[Parts; 4]>;
+
+    fn since(self, other: Self) -> SignedDuration;
+}
+
+impl DateTime for PlainDateTime {
+    fn parts(self) -> Parts {
+        (self.to_calendar_date(), self.as_hms_nano())
+    }
+
+    fn own_offset(self) -> Option<UtcOffset> {
+        None
+    }
+
+    fn shown(self) -> (Parts, Option<UtcOffset>) {
+        (self.parts(), self.own_offset())
+    }
+
+    fn day_views(self) -> DayViews {
+        (
+            self.date().to_calendar_date(),
+            self.to_ordinal_date(),
+            self.to_iso_week_date(),
+            self.to_julian_day(),
+            (self.year(), self.month(), self.day(), self.ordinal()),
+            (
+                self.iso_week(),
+                self.sunday_based_week(),
+                self.monday_based_week(),
+                self.weekday(),
+            ),
+        )
+    }
+
+    fn time_views(self) -> TimeViews {
+        (
+            self.time().as_hms_nano(),
+            self.as_hms_micro(),
+            self.as_hms_milli(),
+            self.as_hms(),
+            (self.hour(), self.minute(), self.second()),
+            (self.millisecond(), self.microsecond(), self.nanosecond()),
+        )
+    }
+
+    fn replaced(self, part: Part) -> Result<PlainDateTime, ComponentRange> {
+        match part {
+            Part::Date(date) => Ok(self.replace_date(date)),
+            Part::Time(time) => Ok(self.replace_time(time)),
+            Part::Year(year) => self.replace_year(year),
+            Part::Month(month) => self.replace_month(month),
+            Part::Day(day) => self.replace_day(day),
+            Part::Ordinal(ordinal) => self.replace_ordinal(ordinal),
+            Part::Hour(hour) => self.replace_hour(hour),
+            Part::Minute(minute) => self.replace_minute(minute),
+            Part::Second(second) => self.replace_second(second),
+            Part::Millisecond(millisecond) => self.replace_millisecond(millisecond),
+            Part::Microsecond(microsecond) => self.replace_microsecond(microsecond),
+            Part::Nanosecond(nanosecond) => self.replace_nanosecond(nanosecond),
+        }
+    }
+
+    fn moved(self, step: Step) -> Option<PlainDateTime> {
+        match step {
+            Step::Add(duration) => self.checked_add(duration),
+            Step::Sub(duration) => self.checked_sub(duration),
+            Step::AddStd(duration) => self.checked_add_std(duration),
+            Step::SubStd(duration) => self.checked_sub_std(duration),
+            Step::SaturatingAdd(duration) => Some(self.saturating_add(duration)),
+            Step::SaturatingSub(duration) => Some(self.saturating_sub(duration)),
+        }
+    }
+
+    fn sums(self, duration: SignedDuration, std_duration: Duration) -> Option<[Parts; 4]> {
+        let _ = (
+            self.checked_add(duration)?,
+            self.checked_add_std(std_duration)?,
+        );
+        let (mut moved, mut std_moved) = (self, self);
+        moved += duration;
+        std_moved += std_duration;
+        let (sum, std_sum) = (self + duration, self + std_duration);
+        Some([
+            sum.parts(),
+            std_sum.parts(),
+            moved.parts(),
+            std_moved.parts(),
+        ])
+    }
+
+    fn differences(self, duration: SignedDuration, std_duration: Duration) -> Option<[Parts; 4]> {
+        let _ = (
+            self.checked_sub(duration)?,
+            self.checked_sub_std(std_duration)?,
+        );
+        let (mut moved, mut std_moved) = (self, self);
+        moved -= duration;
+        std_moved -= std_duration;
+        let (less, std_less) = (self - duration, self - std_duration);
+        Some([
+            less.parts(),
+            std_less.parts(),
+            moved.parts(),
+            std_moved.parts(),
+        ])
+    }
+
+    fn since(self, other: PlainDateTime) -> SignedDuration {
+        self - other
+    }
+}
+
+impl DateTime for UtcDateTime {
+    fn parts(self) -> Parts {
+        (self.to_calendar_date(), self.as_hms_nano())
+    }
+
+    fn own_offset(self) -> Option<UtcOffset> {
+        None
+    }
+
+    fn shown(self) -> (Parts, Option<UtcOffset>) {
+        (self.parts(), self.own_offset())
+    }
+
+    fn day_views(self) -> DayViews {
+        (
+            self.date().to_calendar_date(),
+            self.to_ordinal_date(),
+            self.to_iso_week_date(),
+            self.to_julian_day(),
+            (self.year(), self.month(), self.day(), self.ordinal()),
+            (
+                self.iso_week(),
+                self.sunday_based_week(),
+                self.monday_based_week(),
+                self.weekday(),
+            ),
+        )
+    }
+
+    fn time_views(self) -> TimeViews {
+        (
+            self.time().as_hms_nano(),
+            self.as_hms_micro(),
+            self.as_hms_milli(),
+            self.as_hms(),
+            (self.hour(), self.minute(), self.second()),
+            (self.millisecond(), self.microsecond(), self.nanosecond()),
+        )
+    }
+
+    fn replaced(self, part: Part) -> Result<UtcDateTime, ComponentRange> {
+        match part {
+            Part::Date(date) => Ok(self.replace_date(date)),
+            Part::Time(time) => Ok(self.replace_time(time)),
+            Part::Year(year) => self.replace_year(year),
+            Part::Month(month) => self.replace_month(month),
+            Part::Day(day) => self.replace_day(day),
+            Part::Ordinal(ordinal) => self.replace_ordinal(ordinal),
+            Part::Hour(hour) => self.replace_hour(hour),
+            Part::Minute(minute) => self.replace_minute(minute),
+            Part::Second(second) => self.replace_second(second),
+            Part::Millisecond(millisecond) => self.replace_millisecond(millisecond),
+            Part::Microsecond(microsecond) => self.replace_microsecond(microsecond),
+            Part::Nanosecond(nanosecond) => self.replace_nanosecond(nanosecond),
+        }
+    }
+
+    fn moved(self, step: Step) -> Option<UtcDateTime> {
+        match step {
+            Step::Add(duration) => self.checked_add(duration),
+            Step::Sub(duration) => self.checked_sub(duration),
+            Step::AddStd(duration) => self.checked_add_std(duration),
+            Step::SubStd(duration) => self.checked_sub_std(duration),
+            Step::SaturatingAdd(duration) => Some(self.saturating_add(duration)),
+            Step::SaturatingSub(duration) => Some(self.saturating_sub(duration)),
+        }
+    }
+
+    fn sums(self, duration: SignedDuration, std_duration: Duration) -> Option<[Parts; 4]> {
+        let _ = (
+            self.checked_add(duration)?,
+            self.checked_add_std(std_duration)?,
+        );
+        let (mut moved, mut std_moved) = (self, self);
+        moved += duration;
+        std_moved += std_duration;
+        let (sum, std_sum) = (self + duration, self + std_duration);
+        Some([
+            sum.parts(),
+            std_sum.parts(),
+            moved.parts(),
+            std_moved.parts(),
+        ])
+    }
+
+    fn differences(self, duration: SignedDuration, std_duration: Duration) -> Option<[Parts; 4]> {
+        let _ = (
+            self.checked_sub(duration)?,
+            self.checked_sub_std(std_duration)?,
+        );
+        let (mut moved, mut std_moved) = (self, self);
+        moved -= duration;
+        std_moved -= std_duration;
+        let (less, std_less) = (self - duration, self - std_duration);
+        Some([
+            less.parts(),
+            std_less.parts(),
+            moved.parts(),
+            std_moved.parts(),
+        ])
+    }
+
+    fn since(self, other: UtcDateTime) -> SignedDuration {
+        self - other
+    }
+}
+
+impl DateTime for Timestamp {
+    fn parts(self) -> Parts {
+        (self.to_calendar_date(), self.as_hms_nano())
+    }
+
+    fn own_offset(self) -> Option<UtcOffset> {
+        None
+    }
+
+    fn shown(self) -> (Parts, Option<UtcOffset>) {
+        (self.parts(), self.own_offset())
+    }
+
+    fn day_views(self) -> DayViews {
+        (
+            self.date().to_calendar_date(),
+            self.to_ordinal_date(),
+            self.to_iso_week_date(),
+            self.to_julian_day(),
+            (self.year(), self.month(), self.day(), self.ordinal()),
+            (
+                self.iso_week(),
+                self.sunday_based_week(),
+                self.monday_based_week(),
+                self.weekday(),
+            ),
+        )
+    }
+
+    fn time_views(self) -> TimeViews {
+        (
+            self.time().as_hms_nano(),
+            self.as_hms_micro(),
+            self.as_hms_milli(),
+            self.as_hms(),
+            (self.hour(), self.minute(), self.second()),
+            (self.millisecond(), self.microsecond(), self.nanosecond()),
+        )
+    }
+
+    fn replaced(self, part: Part) -> Result<Timestamp, ComponentRange> {
+        match part {
+            Part::Date(date) => Ok(self.replace_date(date)),
+            Part::Time(time) => Ok(self.replace_time(time)),
+            Part::Year(year) => self.replace_year(year),
+            Part::Month(month) => self.replace_month(month),
+            Part::Day(day) => self.replace_day(day),
+            Part::Ordinal(ordinal) => self.replace_ordinal(ordinal),
+            Part::Hour(hour) => self.replace_hour(hour),
+            Part::Minute(minute) => self.replace_minute(minute),
+            Part::Second(second) => self.replace_second(second),
+            Part::Millisecond(millisecond) => self.replace_millisecond(millisecond),
+            Part::Microsecond(microsecond) => self.replace_microsecond(microsecond),
+            Part::Nanosecond(nanosecond) => self.replace_nanosecond(nanosecond),
+        }
+    }
+
+    fn moved(self, step: Step) -> Option<Timestamp> {
+        match step {
+            Step::Add(duration) => self.checked_add(duration),
+            Step::Sub(duration) => self.checked_sub(duration),
+            Step::AddStd(duration) => self.checked_add_std(duration),
+            Step::SubStd(duration) => self.checked_sub_std(duration),
+            Step::SaturatingAdd(duration) => Some(self.saturating_add(duration)),
+            Step::SaturatingSub(duration) => Some(self.saturating_sub(duration)),
+        }
+    }
+
+    fn sums(self, duration: SignedDuration, std_duration: Duration) -> Option<[Parts; 4]> {
+        let _ = (
+            self.checked_add(duration)?,
+            self.checked_add_std(std_duration)?,
+        );
+        let (mut moved, mut std_moved) = (self, self);
+        moved += duration;
+        std_moved += std_duration;
+        let (sum, std_sum) = (self + duration, self + std_duration);
+        Some([
+            sum.parts(),
+            std_sum.parts(),
+            moved.parts(),
+            std_moved.parts(),
+        ])
+    }
+
+    fn differences(self, duration: SignedDuration, std_duration: Duration) -> Option<[Parts; 4]> {
+        let _ = (
+            self.checked_sub(duration)?,
+            self.checked_sub_std(std_duration)?,
+        );
+        let (mut moved, mut std_moved) = (self, self);
+        moved -= duration;
+        std_moved -= std_duration;
+        let (less, std_less) = (self - duration, self - std_duration);
+        Some([
+            less.parts(),
+            std_less.parts(),
+            moved.parts(),
+            std_moved.parts(),
+        ])
+    }
+
+    fn since(self, other: Timestamp) -> SignedDuration {
+        self - other
+    }
+}
+
+impl DateTime for OffsetDateTime {
+    fn parts(self) -> Parts {
+        (self.to_calendar_date(), self.to_hms_nano())
+    }
+
+    fn own_offset(self) -> Option<UtcOffset> {
+        Some(self.offset())
+    }
+
+    fn shown(self) -> (Parts, Option<UtcOffset>) {
+        (self.parts(), self.own_offset())
+    }
+
+    fn day_views(self) -> DayViews {
+        (
+            self.date().to_calendar_date(),
+            self.to_ordinal_date(),
+            self.to_iso_week_date(),
+            self.to_julian_day(),
+            (self.year(), self.month(), self.day(), self.ordinal()),
+            (
+                self.iso_week(),
+                self.sunday_based_week(),
+                self.monday_based_week(),
+                self.weekday(),
+            ),
+        )
+    }
+
+    fn time_views(self) -> TimeViews {
+        (
+            self.time().as_hms_nano(),
+            self.to_hms_micro(),
+            self.to_hms_milli(),
+            self.to_hms(),
+            (self.hour(), self.minute(), self.second()),
+            (self.millisecond(), self.microsecond(), self.nanosecond()),
+        )
+    }
+
+    fn replaced(self, part: Part) -> Result<OffsetDateTime, ComponentRange> {
+        match part {
+            Part::Date(date) => Ok(self.replace_date(date)),
+            Part::Time(time) => Ok(self.replace_time(time)),
+            Part::Year(year) => self.replace_year(year),
+            Part::Month(month) => self.replace_month(month),
+            Part::Day(day) => self.replace_day(day),
+            Part::Ordinal(ordinal) => self.replace_ordinal(ordinal),
+            Part::Hour(hour) => self.replace_hour(hour),
+            Part::Minute(minute) => self.replace_minute(minute),
+            Part::Second(second) => self.replace_second(second),
+            Part::Millisecond(millisecond) => self.replace_millisecond(millisecond),
+            Part::Microsecond(microsecond) => self.replace_microsecond(microsecond),
+            Part::Nanosecond(nanosecond) => self.replace_nanosecond(nanosecond),
+        }
+    }
+
+    fn moved(self, step: Step) -> Option<OffsetDateTime> {
+        match step {
+            Step::Add(duration) => self.checked_add(duration),
+            Step::Sub(duration) => self.checked_sub(duration),
+            Step::AddStd(duration) => self.checked_add_std(duration),
+            Step::SubStd(duration) => self.checked_sub_std(duration),
+            Step::SaturatingAdd(duration) => Some(self.saturating_add(duration)),
+            Step::SaturatingSub(duration) => Some(self.saturating_sub(duration)),
+        }
+    }
+
+    fn sums(self, duration: SignedDuration, std_duration: Duration) -> Option<[Parts; 4]> {
+        let _ = (
+            self.checked_add(duration)?,
+            self.checked_add_std(std_duration)?,
+        );
+        let (mut moved, mut std_moved) = (self, self);
+        moved += duration;
+        std_moved += std_duration;
+        let (sum, std_sum) = (self + duration, self + std_duration);
+        Some([
+            sum.parts(),
+            std_sum.parts(),
+            moved.parts(),
+            std_moved.parts(),
+        ])
+    }
+
+    fn differences(self, duration: SignedDuration, std_duration: Duration) -> Option<[Parts; 4]> {
+        let _ = (
+            self.checked_sub(duration)?,
+            self.checked_sub_std(std_duration)?,
+        );
+        let (mut moved, mut std_moved) = (self, self);
+        moved -= duration;
+        std_moved -= std_duration;
+        let (less, std_less) = (self - duration, self - std_duration);
+        Some([
+            less.parts(),
+            std_less.parts(),
+            moved.parts(),
+            std_moved.parts(),
+        ])
+    }
+
+    fn since(self, other: OffsetDateTime) -> SignedDuration {
+        self - other
+    }
+}

@@ -1,0 +1,132 @@
+//! Date-times as they are printed.
+use crate::rows::{evening, leap_day};
+use calendar::{Date, Month, Time, UtcOffset};
+use datetime::{OffsetDateTime, PlainDateTime, Timestamp, UtcDateTime};
+use std::alloc::{AllocError, Global};
+use std::fmt;
+use std::process::Abort;
+use std::string::String;
+use std::test::Fail;
+
+fn printed<T: fmt::Display + fmt::Debug + Drop>(
+    alloc: Global,
+    value: T,
+) -> Result<(String, String), AllocError> {
+    Ok((
+        format!(in alloc; "{value}")?,
+        format!(in alloc; "{value:?}")?,
+    ))
+}
+
+// By `Display` and by `Debug` alike.
+fn check<T: fmt::Display + fmt::Debug + Drop>(
+    rt: &impl Abort,
+    alloc: Global,
+    value: T,
+    wanted: &str,
+) -> Result<(), Fail> {
+    let (shown, debugged) = printed(alloc, value)?;
+    assert!(rt; shown.as_str() == wanted);
+    assert!(rt; debugged.as_str() == wanted);
+    Ok(())
+}
+
+#[test]
+fn prints(rt: HostRuntime) -> Result<(), Fail> {
+    let (date, time) = (leap_day()?, evening()?);
+    let plain = PlainDateTime::new(date, time);
+    check(&rt, rt.alloc(), plain, "2024-02-29 23:59:58.123456789")?;
+    let utc = UtcDateTime::new(date, time);
+    check(&rt, rt.alloc(), utc, "2024-02-29 23:59:58.123456789 +00")?;
+    let shown = OffsetDateTime::new_in_offset(date, time, UtcOffset::from_hms(5, 30, 0)?);
+    check(
+        &rt,
+        rt.alloc(),
+        shown,
+        "2024-02-29 23:59:58.123456789 +05:30:00",
+    )
+}
+
+#[test]
+fn prints_timestamps(rt: HostRuntime) -> Result<(), Fail> {
+    for (value, wanted) in [
+        (
+            Timestamp::new(1_709_251_198, 123_456_789),
+            "1709251198.123456789",
+        ),
+        (Timestamp::from_milliseconds(-1), "-0.001"),
+        (Timestamp::from_nanoseconds(-1), "-0.000000001"),
+        (Timestamp::from_seconds(0), "0"),
+        (Timestamp::from_seconds(1_546_300_800), "1546300800"),
+        (Timestamp::from_milliseconds(-1500), "-1.5"),
+        (
+            Timestamp::from_seconds(-31_619_087_596_800),
+            "-31619087596800",
+        ),
+        (
+            Timestamp::new(31_494_784_780_799, 999_999_999),
+            "31494784780799.999999999",
+        ),
+    ] {
+        check(&rt, rt.alloc(), value?, wanted)?;
+    }
+    Ok(())
+}
+
+fn summer_morning() -> Result<(Date, Time), Fail> {
+    let date = Date::from_calendar_date(2024, Month::June, 19)?;
+    Ok((date, Time::from_hms_milli(7, 5, 0, 250)?))
+}
+
+fn padded(alloc: Global, plain: PlainDateTime) -> Result<String, AllocError> {
+    format!(in alloc; "[{plain:23}|{plain:>23}|{plain:_^24}|{plain:3}]")
+}
+
+#[test]
+fn prints_under_a_width(rt: HostRuntime) -> Result<(), Fail> {
+    let (date, time) = summer_morning()?;
+    let printed = padded(rt.alloc(), PlainDateTime::new(date, time))?;
+    let wanted =
+        "[2024-06-19 7:05:00.25  |  2024-06-19 7:05:00.25|_2024-06-19 7:05:00.25__|2024-06-19 7:05:00.25]";
+    assert!(rt; printed.as_str() == wanted);
+    Ok(())
+}
+
+fn others_padded(
+    alloc: Global,
+    utc: UtcDateTime,
+    moment: OffsetDateTime,
+    timestamp: Timestamp,
+) -> Result<String, AllocError> {
+    format!(in alloc; "{utc:>27}[{moment:<33}][{timestamp:>6}]")
+}
+
+#[test]
+fn prints_other_types_under_a_width(rt: HostRuntime) -> Result<(), Fail> {
+    let (date, time) = summer_morning()?;
+    let moment = OffsetDateTime::new_in_offset(date, time, UtcOffset::from_hms(5, 30, 0)?);
+    let utc = UtcDateTime::new(date, time);
+    let printed = others_padded(
+        rt.alloc(),
+        utc,
+        moment,
+        Timestamp::from_milliseconds(-1500)?,
+    )?;
+    let wanted = "  2024-06-19 7:05:00.25 +00[2024-06-19 7:05:00.25 +05:30:00  ][  -1.5]";
+    assert!(rt; printed.as_str() == wanted);
+    Ok(())
+}
+
+#[test]
+fn prints_the_longest_date_times(rt: HostRuntime) -> Result<(), Fail> {
+    let moment = OffsetDateTime::new_in_offset(
+        Date::MIN,
+        Time::MAX,
+        UtcOffset::from_hms(-25, -59, -59)?,
+    );
+    assert_eq!(rt;
+        format!(in rt.alloc(); "{moment:>43}")?.as_str(),
+        " -999999-01-01 23:59:59.999999999 -25:59:59"
+    );
+    Ok(())
+}

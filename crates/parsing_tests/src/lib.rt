@@ -1,0 +1,7 @@
+//! Tests of the readings of texts, and of the pieces that texts are cut into.
+#![tactic(auto)]
+
+#[cfg(test)]
+mod pieces;
+#[cfg(test)]
+mod readings;
