@@ -1,5 +1,5 @@
 -- A duration in whole days and what is past them, and times round the clock.
-use Rattle.std.proofs.Common.{arith, ◌≡◌, ℕ, ◌<◌, ℤ, pos, neg_ℤ, ◌+ℤ◌, ◌-ℤ◌, ◌*ℤ◌, ◌<ℤ◌, unsigned_abs, to_z, of_z, w32}
+use Rattle.std.proofs.Common.{arith, ◌≡◌, ℕ, ◌<◌, ◌≤◌, ℤ, pos, neg_ℤ, ◌+ℤ◌, ◌-ℤ◌, ◌*ℤ◌, ◌<ℤ◌, unsigned_abs, to_z, of_z, w32, FitsSigned}
 use Rattle.std.specs.Prelude.{int_div, int_rem}
 use Rattle.std.specs.Int.{int_div_euclid}
 use Rattle.std.proofs.lemmas.Int.{ints, quot-rem, by_lt_z}
@@ -46,6 +46,13 @@ moved_on_is s n a b = omega (arith, ints)
 
 pub moved_back_is : (s n : ℤ) → (unsigned_abs s < 86_400) → (unsigned_abs n < second_nanos) → moved_back s n ≡ neg_ℤ (s *ℤ pos second_nanos +ℤ n)
 moved_back_is s n a b = omega (arith, ints)
+
+-- what is turned fits, and is no longer than before
+pub fits_back : (s : ℤ) (k : ℕ) → k ≤ second_nanos → unsigned_abs s < k → FitsSigned w32 (pos 0 -ℤ to_z w32 (of_z w32 s))
+fits_back s k h small = omega (arith, ints)
+
+pub small_back : (s : ℤ) (k : ℕ) → k ≤ second_nanos → unsigned_abs s < k → unsigned_abs (to_z w32 (of_z w32 (pos 0 -ℤ to_z w32 (of_z w32 s)))) < k
+small_back s k h small = omega (arith, ints)
 
 -- the whole days of a duration go to the days, and what is past them is what a time is moved by
 pub days_on : (t r : ℕ) (d q k p : ℤ) → d ≡ q *ℤ pos day_nanos +ℤ p → pos t +ℤ p ≡ k *ℤ pos day_nanos +ℤ pos r → pos t +ℤ d ≡ (q +ℤ k) *ℤ pos day_nanos +ℤ pos r

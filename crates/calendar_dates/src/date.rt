@@ -1,11 +1,10 @@
 //! Dates.
-ghost use Rattle.std.specs.Prelude.{◌≡◌, nat_eq, ◌↔◌, ◌+◌, ◌-◌, ◌<◌, ◌≤◌, pos, ◌+ℤ◌, ◌-ℤ◌, IsOk, IfOk, IfErr, IsSome, IfSome, OnErr, ℕ, if◌then◌else◌};
+ghost use Rattle.std.specs.Prelude.{◌≡◌, ◌↔◌, ◌+◌, ◌-◌, ◌<◌, pos, ◌+ℤ◌, IsOk, IfOk, IfErr, IsSome, IfSome, OnErr, ℕ, if◌then◌else◌};
 ghost use Rattle.std.specs.Int.{IsInRange};
 ghost use Rattle.std.specs.Result.{result_ok};
-ghost use Rattle.calendar_count.specs.Range.{greatest_year, last_count, julian_zero, IsYear, IsCount};
-ghost use Rattle.calendar_count.specs.Calendar.{day_at, ordinal_at, weekday_at, sunday_week_at, monday_week_at, iso_week_at, thursday_of, IsIsoDay, is_year, days_in_year, IsDay, ymd, IsJulianDay};
+ghost use Rattle.calendar_count.specs.Range.{last_count, julian_zero, IsYear, IsCount};
+ghost use Rattle.calendar_count.specs.Calendar.{day_at, ordinal_at, IsIsoDay, is_year, days_in_year, IsDay, ymd, IsJulianDay};
 ghost use Rattle.calendar_count.specs.TheDay.{the_day, is_day_of};
-ghost use Rattle.calendar_count.specs.Closed.{days_before_year};
 ghost use Rattle.calendar_count.specs.Place.{IsPlace, place_count};
 ghost use Rattle.calendar_count.specs.Month.{month_number};
 ghost use Rattle.calendar_count.specs.Weekday.{days_from_monday};

@@ -1,5 +1,5 @@
 //! Products with numbers of up to 32 bits.
-ghost use Rattle.std.specs.Prelude.{◌≡◌, ◌↔◌, ◌<◌, ◌^◌, pos, ◌*ℤ◌, IsSome, IfSome, unsigned_abs};
+ghost use Rattle.std.specs.Prelude.{◌≡◌, ◌↔◌, ◌<◌, ◌^◌, ◌*ℤ◌, IsSome, IfSome, unsigned_abs};
 ghost use Rattle.calendar_spans.specs.Duration.{IsDuration, nearest_duration};
 
 use crate::duration::{SignedDuration, from_parts};
