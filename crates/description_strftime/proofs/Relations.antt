@@ -3,7 +3,6 @@ use Rattle.std.proofs.Common.{◌≡◌, ℕ, suc, ◌+◌, ◌<◌, ◌==◌, L
 use Rattle.std.proofs.lemmas.List.{length-append, nil_from_length}
 use Rattle.std.proofs.lemmas.Bool.Decides.{nat_tests}
 use Rattle.description_faults.specs.Fault.{Fault}
-use Rattle.description_faults.specs.Answer.{◌>>=◌}
 use Rattle.description_items.specs.Tree.{Tree}
 use Rattle.description_words.specs.Text.{Piece, whole}
 use Rattle.description_words.proofs.Readings.{bind_ok, ok_is, made_err, and_then_ok, and_then_err}

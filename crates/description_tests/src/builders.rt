@@ -16,27 +16,21 @@ fn told(alloc: Global, rows: &[(Component, Component)]) -> Result<String, Fail> 
 }
 
 #[test]
-fn the_choices_have_defaults(rt: HostRuntime) -> Result<(), Fail> {
-    let (padding, month, weekday) = (
-        Padding::default(),
-        MonthRepr::default(),
-        WeekdayRepr::default(),
-    );
-    let (week, year, range) = (
-        WeekNumberRepr::default(),
-        YearRepr::default(),
-        YearRange::default(),
-    );
-    let dates = format!(in rt.alloc();
-        "{padding:?} {month:?} {weekday:?} {week:?} {year:?} {range:?}"
-    )?;
-    assert_eq!(rt; dates.as_str(), "Zero Numerical Long Iso Full Extended");
-    let digits = SubsecondDigits::default();
-    let precision = UnixTimestampPrecision::default();
-    let trailing_input = TrailingInput::default();
-    let times = format!(in rt.alloc(); "{digits:?} {precision:?} {trailing_input:?}")?;
-    assert_eq!(rt; times.as_str(), "OneOrMore Second Prohibit");
-    Ok(())
+fn the_choices_have_defaults(rt: HostRuntime) {
+    let of_dates = [
+        Padding::default() == Padding::Zero,
+        MonthRepr::default() == MonthRepr::Numerical,
+        WeekdayRepr::default() == WeekdayRepr::Long,
+        WeekNumberRepr::default() == WeekNumberRepr::Iso,
+        YearRepr::default() == YearRepr::Full,
+        YearRange::default() == YearRange::Extended,
+    ];
+    let of_times = [
+        SubsecondDigits::default() == SubsecondDigits::OneOrMore,
+        UnixTimestampPrecision::default() == UnixTimestampPrecision::Second,
+        TrailingInput::default() == TrailingInput::Prohibit,
+    ];
+    assert_eq!(rt; (of_dates, of_times), ([true; 6], [true; 3]));
 }
 
 const DAYS_AND_WEEKS: &str = r#"
