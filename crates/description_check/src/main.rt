@@ -9,23 +9,20 @@ use std::alloc::Global;
 use std::process::ExitCode;
 use std::{env, io};
 
-// The words on the command line, or the input, are not to be had.
-const NOT_READ: u8 = 1;
+// Memory ran out, or the input is not to be had.
+const FAILED: u8 = 1;
 
-// The text is no description.
-const REFUSED: u8 = 1;
-
-// No such language.
-const USAGE: u8 = 2;
+// The text is no description, or there is no such language.
+const REFUSED: u8 = 2;
 
 fn main(rt: HostRuntime) -> ExitCode {
     let Some(language) = named_language(&rt) else {
         let _ = eprintln!(rt; "usage: description_check 1|2|3|strftime");
-        return ExitCode::from(USAGE);
+        return ExitCode::from(REFUSED);
     };
     let Ok(text) = io::read_to_string(rt.alloc(), rt.stdin()) else {
         let _ = eprintln!(rt; "description_check: the input can't be read");
-        return ExitCode::from(NOT_READ);
+        return ExitCode::from(FAILED);
     };
     match read(rt.alloc(), language, text.as_str()) {
         Ok(said) => {
@@ -35,12 +32,13 @@ fn main(rt: HostRuntime) -> ExitCode {
             };
             ExitCode::SUCCESS
         }
-        Err(fault) => {
-            let _ = match fault {
-                DescriptionFault::Description(fault) => eprintln!(rt; "description_check: {fault}"),
-                DescriptionFault::Memory => eprintln!(rt; "description_check: out of memory"),
-            };
+        Err(DescriptionFault::Description(fault)) => {
+            let _ = eprintln!(rt; "description_check: {fault}");
             ExitCode::from(REFUSED)
+        }
+        Err(DescriptionFault::Memory) => {
+            let _ = eprintln!(rt; "description_check: out of memory");
+            ExitCode::from(FAILED)
         }
     }
 }
