@@ -7,3 +7,8 @@ pub returns-clause-some : goal.returns-clause-some
 returns-clause-some c =
     let same : to_z w64 (of_z w64 (to_z w64 c.count.result -ℤ to_z w64 (of_z w64 c.whole_days.result))) ≡ pos c.args.self -ℤ days_of c.args.duration = omega (arith, signed) in
     rw same at c.day_at.ensures.some
+
+pub returns-clause-value : goal.returns-clause-value
+returns-clause-value c =
+    let same : to_z w64 (of_z w64 (to_z w64 c.count.result -ℤ to_z w64 (of_z w64 c.whole_days.result))) ≡ pos c.args.self -ℤ days_of c.args.duration = omega (arith, signed) in
+    rw same at c.day_at.ensures.value
