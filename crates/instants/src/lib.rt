@@ -11,7 +11,8 @@ mod stream;
 mod timeline;
 
 pub use instants_devices::{
-    BlockWriter, ByteReader, ByteWriter, CutReader, CutWriter, DeviceFailed, FrontWriter, StdReader, StdWriter,
+    BlockWriter, ByteReader, ByteWriter, CutReader, CutWriter, DeviceFailed, FrontWriter,
+    StdReader, StdWriter,
 };
 pub use instants_lines::{Answer, fits_line, rfc3339_line};
 pub use instants_stream::RunFault;

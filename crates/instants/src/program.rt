@@ -58,13 +58,7 @@ pub fn run_words<R: ByteReader, W: ByteWriter + FrontWriter>(
     let said = read_words(alloc, words)?;
     let timeline = Timeline::new(alloc, said.sources.as_slice(), said.target, said.assumed)?;
     let mut buffer = vec![in alloc; 0; said.limit + BLOCK]?;
-    run_and_flush(
-        &timeline,
-        said.limit,
-        buffer.as_mut_slice(),
-        reader,
-        writer,
-    )?;
+    run_and_flush(&timeline, said.limit, buffer.as_mut_slice(), reader, writer)?;
     Ok(())
 }
 
