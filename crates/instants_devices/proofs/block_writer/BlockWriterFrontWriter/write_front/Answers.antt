@@ -1,4 +1,4 @@
-use Rattle.std.proofs.Common.{◌≡◌, ◌≤◌, length, rules, arith}
+use Rattle.std.proofs.Common.{◌≤◌, length, rules, arith}
 use Rattle.instants_devices.proofs.Gathering.{gathered-front}
 use Rattle.instants_devices.proofs.block_writer.BlockWriterFrontWriter.write_front.Goals as goal
 
