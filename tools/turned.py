@@ -5,8 +5,8 @@
     tools/turned.py --check CRATE..     also tries each edit on a copy: each function that it turns must be refused
     tools/turned.py --changed [REV]     --check for the crates that differ from REV (none given: from the branch's remote)
 
-An edit has a file for a kind of mistake, and turns several functions of the crate, none of which reaches another: the
-prover does not try a function that calls a refused one. `rt ci` says that the crate is refused with the edit; this says
+An edit has a file for a kind of mistake, and turns several functions of the crate, whose edited bodies call none of the
+others: the prover does not try a function that calls a refused one. `rt ci` says that the crate is refused with the edit; this says
 that each of its functions is, for what it does itself. A refusal that only names what the edit took away (a proof file
 that no longer finds a name) is set apart, since it says little of the contract.
 
