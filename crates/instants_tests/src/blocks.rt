@@ -1,14 +1,11 @@
 //! The program over a device that fails once and works again afterwards: what it was given, byte by byte.
 
+use crate::support::{OUTPUT, STREAM};
 use instants::{BlockWriter, ByteWriter, CutReader, ProgramFault, RunFault, StdWriter, run_words};
 use std::alloc::Global;
 use std::io::{Error, ErrorKind, Result as IoResult, Write};
 use std::process::Abort;
 use std::test::Fail;
-
-const STREAM: &[u8; 26] = b"1985-04-12T23:20:50.52Z\nx\n";
-
-const OUTPUT: &[u8; 48] = b"1985-04-12T23:20:50.520000000Z\n! component year\n";
 
 // How a device was used: its calls, and the bytes that it took.
 #[derive(Clone, Copy)]

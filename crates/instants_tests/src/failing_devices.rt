@@ -1,19 +1,13 @@
 //! Readers and writers that fail.
 
+use crate::support::{Counting, Full, OUTPUT, STREAM};
 use calendar::UtcOffset;
 use instants::{
-    ByteReader, ByteWriter, CutReader, CutWriter, DeviceFailed, RunFault, SourceText, StdWriter,
-    Timeline, run,
+    ByteReader, ByteWriter, CutReader, CutWriter, RunFault, SourceText, StdWriter, Timeline, run,
 };
 use std::alloc::Global;
-use std::io;
-use std::io::Write;
 use std::process::Abort;
 use std::test::Fail;
-
-const STREAM: &[u8; 26] = b"1985-04-12T23:20:50.52Z\nx\n";
-
-const OUTPUT: &[u8; 48] = b"1985-04-12T23:20:50.520000000Z\n! component year\n";
 
 const SIZES: [usize; 6] = [1, 2, 3, 5, 7, 26];
 
@@ -106,60 +100,16 @@ fn a_long_line_before_a_read_that_fails(rt: HostRuntime) -> Result<(), Fail> {
     Ok(())
 }
 
-// A writer that takes no byte.
-#[derive(Drop)]
-struct Full;
-
-impl Write for Full {
-    fn write(&mut self, _bytes: &[u8]) -> io::Result<usize> {
-        Ok(0)
-    }
-
-    fn flush(&mut self) -> io::Result<()> {
-        Ok(())
-    }
-}
-
 #[test]
 fn a_writer_that_takes_no_byte(rt: HostRuntime) -> Result<(), Fail> {
     let timeline = make_timeline(rt.alloc())?;
     let mut buffer = [0; 101];
     let mut reader = CutReader::new(STREAM, 26, None);
-    let mut writer = StdWriter::new(Full);
+    let mut writer = StdWriter::new(Full { room: 0 });
     let answer = run(&timeline, &mut buffer, &mut reader, &mut writer);
     assert!(rt; answer == Err(RunFault::Write));
     assert!(rt; writer.has_failed());
     Ok(())
-}
-
-// Counts the reads of a reader that gives all it has.
-#[derive(Drop)]
-struct Counting<'a> {
-    rest: &'a [u8],
-    reads: u8,
-}
-
-impl ByteReader for Counting<'_> {
-    ghost use Rattle.std.specs.Prelude.{None, length, false};
-
-    ghost left = { λ _. None };
-
-    ghost failed = { λ _. false };
-
-    ghost reads_left = { λ s. length s.rest.now };
-
-    fn read(&mut self, into: &mut [u8]) -> Result<usize, DeviceFailed> {
-        self.reads = self.reads.saturating_add(1);
-        let count = into.len().min(self.rest.len());
-        let (front, rest) = self.rest.split_at(count);
-        into[..count].copy_from_slice(front);
-        self.rest = rest;
-        Ok(count)
-    }
-
-    fn has_failed(&self) -> bool {
-        false
-    }
 }
 
 #[test]

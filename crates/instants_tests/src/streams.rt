@@ -1,15 +1,11 @@
 //! Runs over readers and writers that fail, with reads and writes of every size.
 
-use instants_devices::{ByteReader, ByteWriter, CutReader, CutWriter, DeviceFailed, StdWriter};
+use crate::support::{Counting, Full, OUTPUT, STREAM};
+use instants_devices::{ByteReader, ByteWriter, CutReader, CutWriter, StdWriter};
 use instants_lines::Answer;
 use instants_stream::{AnswersLines, RunFault, run_lines};
-use std::io::{Result as IoResult, Write};
 use std::process::Abort;
 use std::test::Fail;
-
-const STREAM: &[u8; 26] = b"1985-04-12T23:20:50.52Z\nx\n";
-
-const OUTPUT: &[u8; 48] = b"1985-04-12T23:20:50.520000000Z\n! component year\n";
 
 // Answers each long line with a date-time, and each short one with a refusal.
 #[derive(Drop)]
@@ -168,30 +164,6 @@ fn writes_fail(rt: HostRuntime) -> Result<(), Fail> {
     Ok(())
 }
 
-// A writer of std that takes so many bytes, one at a time, and then none.
-#[derive(Drop)]
-struct Full {
-    room: usize,
-}
-
-impl Write for Full {
-    ghost use Rattle.std.specs.Prelude.{None};
-
-    ghost contents = { λ _. None };
-
-    fn write(&mut self, from: &[u8]) -> IoResult<usize> {
-        if self.room == 0 || from.is_empty() {
-            return Ok(0);
-        }
-        self.room -= 1;
-        Ok(1)
-    }
-
-    fn flush(&mut self) -> IoResult<()> {
-        Ok(())
-    }
-}
-
 #[test]
 fn writes_take_nothing(rt: HostRuntime) {
     for room in 0..50 {
@@ -201,36 +173,6 @@ fn writes_take_nothing(rt: HostRuntime) {
         let answer = run_lines(&ByLength, 100, &mut buffer, &mut reader, &mut writer);
         assert_eq!(rt; answer == Err(RunFault::Write), room < 48);
         assert_eq!(rt; answer.is_ok(), room >= 48);
-    }
-}
-
-// Gives all it has, and counts the reads.
-#[derive(Drop)]
-struct Counting<'a> {
-    rest: &'a [u8],
-    reads: u8,
-}
-
-impl ByteReader for Counting<'_> {
-    ghost use Rattle.std.specs.Prelude.{None, length, false};
-
-    ghost left = { λ _. None };
-
-    ghost failed = { λ _. false };
-
-    ghost reads_left = { λ s. length s.rest.now };
-
-    fn read(&mut self, into: &mut [u8]) -> Result<usize, DeviceFailed> {
-        self.reads = self.reads.saturating_add(1);
-        let count = into.len().min(self.rest.len());
-        let (front, rest) = self.rest.split_at(count);
-        into[..count].copy_from_slice(front);
-        self.rest = rest;
-        Ok(count)
-    }
-
-    fn has_failed(&self) -> bool {
-        false
     }
 }
 

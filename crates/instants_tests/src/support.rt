@@ -1,9 +1,16 @@
-//! Runs of the program's parts.
+//! Runs of the program's parts, and the streams and devices that several tests use.
 
 ghost use Rattle.std.specs.Prelude.{◌<◌};
 
-use instants::{CutReader, CutWriter, ProgramFault, run_words};
+use instants::{ByteReader, CutReader, CutWriter, DeviceFailed, ProgramFault, run_words};
 use std::alloc::Global;
+use std::io::{Result as IoResult, Write};
+
+/// Two lines.
+pub const STREAM: &[u8; 26] = b"1985-04-12T23:20:50.52Z\nx\n";
+
+/// Their answers.
+pub const OUTPUT: &[u8; 48] = b"1985-04-12T23:20:50.520000000Z\n! component year\n";
 
 /// Runs the words over the stream, with reads and writes of at most so many bytes, and says how many bytes were
 /// written to the space.
@@ -20,4 +27,58 @@ pub fn answered(
     let mut writer = CutWriter::new(space, most, None);
     run_words(alloc, words, &mut reader, &mut writer)?;
     Ok(writer.written().len())
+}
+
+/// A writer of std that takes so many bytes, one at a time, and then none.
+#[derive(Drop)]
+pub struct Full {
+    pub room: usize,
+}
+
+impl Write for Full {
+    ghost use Rattle.std.specs.Prelude.{None};
+
+    ghost contents = { λ _. None };
+
+    fn write(&mut self, from: &[u8]) -> IoResult<usize> {
+        if self.room == 0 || from.is_empty() {
+            return Ok(0);
+        }
+        self.room -= 1;
+        Ok(1)
+    }
+
+    fn flush(&mut self) -> IoResult<()> {
+        Ok(())
+    }
+}
+
+/// Gives all it has, and counts the reads.
+#[derive(Drop)]
+pub struct Counting<'a> {
+    pub rest: &'a [u8],
+    pub reads: u8,
+}
+
+impl ByteReader for Counting<'_> {
+    ghost use Rattle.std.specs.Prelude.{None, length, false};
+
+    ghost left = { λ _. None };
+
+    ghost failed = { λ _. false };
+
+    ghost reads_left = { λ s. length s.rest.now };
+
+    fn read(&mut self, into: &mut [u8]) -> Result<usize, DeviceFailed> {
+        self.reads = self.reads.saturating_add(1);
+        let count = into.len().min(self.rest.len());
+        let (front, rest) = self.rest.split_at(count);
+        into[..count].copy_from_slice(front);
+        self.rest = rest;
+        Ok(count)
+    }
+
+    fn has_failed(&self) -> bool {
+        false
+    }
 }

@@ -133,6 +133,30 @@ fn quick_offset(bytes: &[u8]) -> Option<((bool, u8, u8), &[u8])>
     Some(read)
 }
 
+// The numbers of a date, of a clock, of a fraction and of an offset in one.
+#[inline(always)]
+fn written(
+    date: (u16, u8, u8),
+    clock: (u8, u8, u8),
+    nanosecond: u32,
+    offset: (bool, u8, u8),
+) -> Written
+    ensures { result ≡ record { year = date.0; month = date.1; day = date.2; hour = clock.0; minute = clock.1; second = clock.2; nanosecond = nanosecond; offset_is_negative = offset.0; offset_hour = offset.1; offset_minute = offset.2 } }
+{
+    Written {
+        year: date.0,
+        month: date.1,
+        day: date.2,
+        hour: clock.0,
+        minute: clock.1,
+        second: clock.2,
+        nanosecond,
+        offset_is_negative: offset.0,
+        offset_hour: offset.1,
+        offset_minute: offset.2,
+    }
+}
+
 /// The numbers at the front of the bytes, and the rest, where no piece of them is missing.
 #[tactic(auto, unfolding(crate::specs::Reading::rfc3339))]
 #[inline(always)]
@@ -141,28 +165,14 @@ pub(crate) fn quick_front(bytes: &[u8]) -> Option<(Written, &[u8])>
     ensures offset_hour { IfSome result (λ x. x.0.offset_hour ≤ 23) }
     ensures offset_minute { IfSome result (λ x. x.0.offset_minute < 100) }
 {
-    let ((year, month, day), rest) = quick_date(bytes)?;
+    let (date, rest) = quick_date(bytes)?;
     let (_, rest) = any_byte(rest)?;
-    let ((hour, minute, second), rest) = quick_clock(rest)?;
+    let (clock, rest) = quick_clock(rest)?;
     let Ok((nanosecond, rest)) = subsecond(rest) else {
         return None;
     };
-    let ((offset_is_negative, offset_hour, offset_minute), rest) = quick_offset(rest)?;
-    Some((
-        Written {
-            year,
-            month,
-            day,
-            hour,
-            minute,
-            second,
-            nanosecond,
-            offset_is_negative,
-            offset_hour,
-            offset_minute,
-        },
-        rest,
-    ))
+    let (offset, rest) = quick_offset(rest)?;
+    Some((written(date, clock, nanosecond, offset), rest))
 }
 
 /// The numbers at the front of the bytes, and the rest, piece by piece.
@@ -173,24 +183,10 @@ pub fn front(bytes: &[u8]) -> Result<(Written, &[u8]), ParseFromDescription>
     ensures offset_hour { IfOk result (λ x. x.0.offset_hour ≤ 23) }
     ensures offset_minute { IfOk result (λ x. x.0.offset_minute < 100) }
 {
-    let ((year, month, day), rest) = date(bytes)?;
+    let (date, rest) = date(bytes)?;
     let (_, rest) = any_byte(rest).ok_or(ParseFromDescription::InvalidComponent("separator"))?;
-    let ((hour, minute, second), rest) = clock(rest)?;
+    let (clock, rest) = clock(rest)?;
     let (nanosecond, rest) = subsecond(rest)?;
-    let ((offset_is_negative, offset_hour, offset_minute), rest) = offset(rest)?;
-    Ok((
-        Written {
-            year,
-            month,
-            day,
-            hour,
-            minute,
-            second,
-            nanosecond,
-            offset_is_negative,
-            offset_hour,
-            offset_minute,
-        },
-        rest,
-    ))
+    let (offset, rest) = offset(rest)?;
+    Ok((written(date, clock, nanosecond, offset), rest))
 }
