@@ -8,38 +8,27 @@ use Rattle.calendar_count.specs.declared.weekday.Weekday.TheVariants.{Monday, Tu
 use Rattle.calendar_count.specs.Steps.{steps}
 use Rattle.calendar_count.specs.Month.{month_number, next_month}
 use Rattle.calendar_count.specs.Weekday.{days_from_monday, next_weekday}
-use Rattle.calendar_count.proofs.StepLemmas.{months_on, month_bound, weekdays_on, weekday_bound}
+use Rattle.calendar_count.proofs.lemmas.Steps.{months_on, month_bound, weekdays_on, weekday_bound}
 use Rattle.calendar_count.specs.Range.{IsCount}
-use Rattle.calendar_count.specs.Calendar.{day_at, weekday_at, iso_year_at, iso_week_at, thursday_of}
-use Rattle.calendar_count.proofs.Signed.{signed, one_sided}
+use Rattle.calendar_count.proofs.lemmas.Signed.{signed, one_sided}
 use Rattle.calendar_spans.specs.Duration.{day_nanos}
 use Rattle.calendar_dates.specs.Arithmetic.{days_of}
-use Rattle.calendar_count.proofs.CountLemmas.{day_at-Placed}
-use Rattle.calendar_count.proofs.ViewLemmas.{Placed-year, ordinal_at-is, day_at_same, year_bound, iso_year_bound, iso_count-is}
+use Rattle.calendar_count.proofs.lemmas.Days.{year_bound, iso_year_bound, day_valid, ordinal_bound, day_at_same, ordinal_at_same, iso_at_same}
 use Rattle.std.proofs.lemmas.Bool.Decides.{nat_tests}
 use Rattle.calendar_clock.specs.UtcOffset.{greatest_offset, IsOffset, offset_of_seconds}
 use Rattle.calendar.specs.Laws.{ViewsUndone, Takes}
 
 pub views_undone : (day : ℕ) → IsCount day → ViewsUndone day
-views_undone day h =
-    let p = day_at-Placed day in
-    let t = day_at-Placed (thursday_of day) in
-    let year = year_bound day h in
-    let within = Placed-year (day_at day) day p in
-    let place = ordinal_at-is day p.years (day_at day).year p.since refl in
-    record {
-      calendar_date = (year, p.month_in.0, p.month_in.1, p.day_in.0, p.day_in.1);
-      calendar_date_only = λ other e. day_at_same other day e;
-      ordinal_date = (year, (omega (arith, within, place), omega (arith, within, place)));
-      ordinal_date_only = λ other e o. omega (arith, place, ordinal_at-is other p.years (day_at day).year p.since e, o);
-      iso_week_date = (iso_year_bound day h, (refl, refl, refl));
-      iso_week_date_only = λ other is.
-          let here = iso_count-is day t.years (iso_week_at day) (weekday_at day) (iso_year_at day) t.since refl refl refl in
-          let there = iso_count-is other t.years (iso_week_at day) (weekday_at day) (iso_year_at day) t.since is.0 is.1 is.2 in
-          omega (arith, here.0, there.0);
-      julian_day = (omega (arith, signed), omega (arith, signed));
-      julian_day_only = λ other e. omega (arith, signed, e);
-    }
+views_undone day h = record {
+  calendar_date = day_valid day h;
+  calendar_date_only = λ other e. day_at_same other day e;
+  ordinal_date = (year_bound day h, ordinal_bound day);
+  ordinal_date_only = λ other e o. ordinal_at_same other day e o;
+  iso_week_date = (iso_year_bound day h, (refl, refl, refl));
+  iso_week_date_only = λ other is. iso_at_same other day is.0 is.1 is.2;
+  julian_day = (omega (arith, signed), omega (arith, signed));
+  julian_day_only = λ other e. omega (arith, signed, e);
+}
 
 pub takes_all : (calls : List Bool) (days front left back : List ℕ) → Takes calls days front left back → days ≡ front ++ (left ++ reverse back)
 unfolding Takes

@@ -1,8 +1,8 @@
 //! Laws that follow from the contracts, each the contract of a function here.
-ghost use Rattle.std.specs.Prelude.{◌≡◌, ℕ, ◌++◌, [], ◌∷◌, List, Bool, reverse, Ok, Some, IsSome, IfSome, IfNone, ◌↔◌, pos, ◌+ℤ◌};
+ghost use Rattle.std.specs.Prelude.{◌<◌, ◌≡◌, ℕ, ◌++◌, [], ◌∷◌, List, Bool, reverse, Ok, Some, IsSome, IfSome, IfNone, ◌↔◌, pos, ◌+ℤ◌};
 ghost use Rattle.std.specs.Ordering.{nat_cmp};
-ghost use Rattle.calendar_count.specs.Range.{IsCount, last_count};
-ghost use Rattle.calendar_count.specs.Calendar.{IsIsoDay, IsJulianDay};
+ghost use Rattle.calendar_count.specs.Range.{IsCount, last_count, unix_epoch};
+ghost use Rattle.calendar_count.specs.Calendar.{day_at, ymd, ComesBefore, IsIsoDay, IsJulianDay};
 ghost use Rattle.calendar_count.specs.Month.{month_number};
 ghost use Rattle.calendar_count.specs.Weekday.{days_from_monday};
 ghost use Rattle.calendar_dates.specs.Arithmetic.{days_of, IsDayCount};
@@ -20,6 +20,11 @@ pub use calendar_clock::laws as times;
 /// The four constructors undo the four views, for every day.
 pub fn views()
     ensures { (day : ℕ) → IsCount day → ViewsUndone day }
+{}
+
+/// Days are in the order of their years, months and days of the month.
+pub fn order_of_days()
+    ensures { (one other : ℕ) → (one < other) ↔ ComesBefore (day_at one) (day_at other) }
 {}
 
 /// The days taken from the front of a walk, those that are left, and those taken from the back, the
@@ -88,6 +93,14 @@ pub fn ends_of_calendar() -> [Date; 2]
     ensures { result ≡ 0 ∷ last_count ∷ [] }
 {
     [Date::MIN, Date::MAX]
+}
+
+/// The day on which Unix time begins.
+pub fn day_of_unix_epoch() -> Date
+    ensures count { result ≡ unix_epoch }
+    ensures day { day_at result ≡ ymd (pos 1970) 1 1 }
+{
+    Date::UNIX_EPOCH
 }
 
 /// A duration takes back what it added to a day.

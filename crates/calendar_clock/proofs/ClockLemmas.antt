@@ -3,7 +3,7 @@ use Rattle.std.proofs.Common.{arith, ◌≡◌, ℕ, ◌<◌, ◌≤◌, ℤ, po
 use Rattle.std.specs.Prelude.{int_div, int_rem}
 use Rattle.std.specs.Int.{int_div_euclid}
 use Rattle.std.proofs.lemmas.Int.{ints, quot-rem, by_lt_z}
-use Rattle.calendar_count.proofs.Signed.{signed, one_sided}
+use Rattle.calendar_count.proofs.lemmas.Signed.{signed, one_sided}
 use Rattle.calendar_clock.specs.Time.{second_nanos, day_nanos, on_clock}
 
 -- what is past the whole days, by the parts that a duration gives

@@ -1,7 +1,7 @@
-pub mod Signed
-pub mod CountLemmas
-pub mod ViewLemmas
-pub mod MarchLemmas
-pub mod TheDayLemmas
-pub mod StepLemmas
+pub mod lemmas
+mod CountLemmas
+mod ViewLemmas
+mod MarchLemmas
+mod ThursdayLemmas
+mod FourDigits
 mod PaddingLemmas

@@ -2,10 +2,10 @@
 ghost use Rattle.std.specs.Prelude.{◌≡◌, ◌+◌, ◌-◌, ◌<◌, ◌≤◌, pos, ◌+ℤ◌, ◌↔◌, IsTrue};
 ghost use Rattle.std.specs.Int.{IsInRange, int_rem_euclid};
 ghost use Rattle.calendar_count.specs.Range.{greatest_year, IsYear};
-ghost use Rattle.calendar_count.specs.Calendar.{days_in_year, days_in_month, weeks_in_year};
+ghost use Rattle.calendar_count.specs.Calendar.{days_in_year, days_in_month, day_at, weeks_in_year, thursdays_of, has_four_digits};
 ghost use Rattle.calendar_count.specs.Closed.{days_before_year};
 
-use crate::range::GREATEST_YEAR;
+use crate::range::{GREATEST_YEAR, YEAR_TEN_THOUSAND, YEAR_ZERO};
 use crate::util;
 
 /// The years since the first one.
@@ -61,6 +61,15 @@ pub fn has_year(year: i32) -> bool
     -GREATEST_YEAR <= year && year <= GREATEST_YEAR
 }
 
+/// Whether four digits write the year of the day with this count: it is 0 to 9999.
+#[inline(always)]
+#[tactic(auto, using(crate::proofs::FourDigits::four_digit_years))]
+pub fn has_four_digit_year(count: u32) -> bool
+    ensures { result ≡ has_four_digits (day_at count).year }
+{
+    YEAR_ZERO <= count && count < YEAR_TEN_THOUSAND
+}
+
 /// The days of a month by its number.
 #[inline(always)]
 pub fn month_length(year: i32, month: u8) -> u8
@@ -108,6 +117,7 @@ fn cycle_place(year: i32) -> u32
 /// The weeks of ISO 8601 of a year: its Thursdays.
 pub fn weeks_in_year(year: i32) -> u8
     ensures value { result ≡ weeks_in_year year }
+    ensures thursdays { IsYear year → result ≡ thursdays_of year }
     ensures bound { IsInRange 52 53 result }
 {
     let years = cycle_place(year);

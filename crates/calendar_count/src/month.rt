@@ -86,7 +86,7 @@ impl Month {
     }
 
     /// The month `n` steps on.
-    #[tactic(auto, using(crate::proofs::StepLemmas::months_on))]
+    #[tactic(auto, using(crate::proofs::lemmas::Steps::months_on))]
     pub fn nth_next(self, n: u8) -> Month
         ensures { month_number result ≡ steps next_month n (month_number self) }
     {
@@ -94,7 +94,7 @@ impl Month {
     }
 
     /// The month `n` steps back: `n` steps on from it lead to this one.
-    #[tactic(auto, using(crate::proofs::StepLemmas::months_on))]
+    #[tactic(auto, using(crate::proofs::lemmas::Steps::months_on))]
     pub fn nth_prev(self, n: u8) -> Month
         ensures { steps next_month n (month_number result) ≡ month_number self }
     {

@@ -11,7 +11,7 @@ use std::marker::Model;
 /// The months from one on, with no end: after December comes January.
 ///
 /// A contract sees it as the month that is due next.
-#[derive(Drop)]
+#[derive(Clone, Debug, Drop)]
 pub struct MonthIter {
     due: Month,
 }
@@ -27,7 +27,7 @@ impl Model for MonthIter {
 /// The months from one back, with no end: after January comes December.
 ///
 /// A contract sees it as the month that is due next.
-#[derive(Drop)]
+#[derive(Clone, Debug, Drop)]
 pub struct RevMonthIter {
     due: Month,
 }

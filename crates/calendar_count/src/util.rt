@@ -1,7 +1,8 @@
 //! Lengths of months and years, for any year: the calendar is the proleptic Gregorian one.
 ghost use Rattle.std.specs.Prelude.{◌≡◌};
 ghost use Rattle.std.specs.Int.{IsInRange};
-ghost use Rattle.calendar_count.specs.Calendar.{is_leap_year, days_in_year, days_in_month, weeks_in_year};
+ghost use Rattle.calendar_count.specs.Range.{IsYear};
+ghost use Rattle.calendar_count.specs.Calendar.{is_leap_year, days_in_year, days_in_month, weeks_in_year, thursdays_of};
 ghost use Rattle.calendar_count.specs.Month.{month_number};
 
 use crate::{Month, closed};
@@ -40,6 +41,7 @@ pub fn days_in_year_month(year: i32, month: Month) -> u8
 /// The weeks of ISO 8601 of a year, 52 or 53.
 pub fn weeks_in_year(year: i32) -> u8
     ensures value { result ≡ weeks_in_year year }
+    ensures thursdays { IsYear year → result ≡ thursdays_of year }
     ensures bound { IsInRange 52 53 result }
 {
     closed::weeks_in_year(year)

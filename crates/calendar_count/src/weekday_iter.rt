@@ -10,7 +10,7 @@ use std::marker::Model;
 /// The days of the week from one on, with no end: after Sunday comes Monday.
 ///
 /// A contract sees it as the day of the week that is due next.
-#[derive(Drop)]
+#[derive(Clone, Debug, Drop)]
 pub struct WeekdayIter {
     due: Weekday,
 }
@@ -26,7 +26,7 @@ impl Model for WeekdayIter {
 /// The days of the week from one back, with no end: after Monday comes Sunday.
 ///
 /// A contract sees it as the day of the week that is due next.
-#[derive(Drop)]
+#[derive(Clone, Debug, Drop)]
 pub struct RevWeekdayIter {
     due: Weekday,
 }

@@ -1,10 +1,8 @@
 -- Days of one weekday, in closed form.
 use Rattle.std.proofs.Common.{arith, ℕ, ◌≡◌, ◌+◌, ◌-◌, ◌*◌, ◌%◌, ◌==◌, ◌<◌, ◌≤◌, refl}
 use Rattle.calendar_count.specs.Calendar.{weekday_at}
-use Rattle.calendar_count.specs.Weekday.{days_from_monday}
-use Rattle.calendar_count.specs.declared.weekday.Weekday.{Weekday}
-use Rattle.calendar_count.specs.declared.weekday.Weekday.TheVariants.{Monday, Tuesday, Wednesday, Thursday, Friday, Saturday, Sunday}
-use Rattle.calendar_count.proofs.ViewLemmas.{sevenths, count_before-sevenths}
+use Rattle.calendar_count.specs.Closed.{sevenths}
+use Rattle.calendar_count.proofs.lemmas.Counting.{count_before-sevenths}
 use Rattle.calendar_dates.specs.Occurrence.{weekdays_before, IsNthAfter, IsNthBefore}
 
 weekdays_before-is : (w n : ℕ) → w < 7 → weekdays_before w n ≡ sevenths w n
@@ -12,15 +10,6 @@ unfolding weekdays_before
 weekdays_before-is w n h =
     let e = count_before-sevenths (λ k. weekday_at k == w) w 0 n h (omega arith) (λ k low. absurd (omega arith)) (λ k low high. refl) in
     omega (arith, e)
-
-pub weekday_bound : (w : Weekday) → days_from_monday w < 7
-weekday_bound Monday = omega arith
-weekday_bound Tuesday = omega arith
-weekday_bound Wednesday = omega arith
-weekday_bound Thursday = omega arith
-weekday_bound Friday = omega arith
-weekday_bound Saturday = omega arith
-weekday_bound Sunday = omega arith
 
 -- r days lead to the first such weekday after a day, and whole weeks from there to the nth
 pub nth_after : (w n a r b : ℕ) → w < 7 → 1 ≤ n → 1 ≤ r → r ≤ 7 → (a + r) % 7 ≡ w → b ≡ a + r + 7 * (n - 1) → IsNthAfter w n a b

@@ -12,7 +12,7 @@ use std::marker::Model;
 /// The days from one to another, in order, taken from both ends.
 ///
 /// A contract sees it as the list of the counts that are left. After `None` it answers `None`.
-#[derive(Drop)]
+#[derive(Clone, Debug, Drop)]
 pub struct DateIter {
     first: u32,
     len: u32,

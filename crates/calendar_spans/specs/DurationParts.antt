@@ -2,7 +2,7 @@
 use Rattle.std.specs.Prelude.{◌⊎◌, ℤ, pos, neg_ℤ, ◌+ℤ◌, ◌*ℤ◌, ◌≤ℤ◌, int_div, int_rem}
 use Rattle.std.proofs.Common.{◌≡◌, arith, refl}
 use Rattle.std.proofs.lemmas.Int.{quot-rem}
-use Rattle.calendar_count.proofs.Signed.{signed, one_sided}
+use Rattle.calendar_count.proofs.lemmas.Signed.{signed, one_sided}
 use Rattle.calendar_spans.specs.Duration.{second_nanos}
 
 unfoldable pub duration_nanos : ℤ → ℤ → ℤ

@@ -1,5 +1,5 @@
 use Rattle.std.proofs.Common.{arith, ◌≡◌, pos, ◌-ℤ◌}
-use Rattle.calendar_count.proofs.Signed.{signed}
+use Rattle.calendar_count.proofs.lemmas.Signed.{signed}
 use Rattle.calendar_dates.specs.Arithmetic.{days_of}
 use Rattle.calendar.proofs.LawLemmas.{only_some, days_of_days}
 use Rattle.calendar.proofs.laws.day_at_difference.Goals as goal

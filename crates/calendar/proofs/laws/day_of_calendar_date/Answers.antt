@@ -1,6 +1,6 @@
 use Rattle.std.proofs.Common.{arith, sym, ◌∙◌, ◌≡◌, to_z, of_z, w32}
 use Rattle.std.proofs.lemmas.Int.{ints}
-use Rattle.calendar_count.proofs.ViewLemmas.{day_at_same}
+use Rattle.calendar_count.proofs.lemmas.Days.{day_at_same}
 use Rattle.calendar.proofs.LawLemmas.{only_ok}
 use Rattle.calendar.proofs.laws.day_of_calendar_date.Goals as goal
 

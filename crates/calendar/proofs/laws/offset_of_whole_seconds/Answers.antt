@@ -1,5 +1,5 @@
 use Rattle.std.proofs.Common.{arith, ◌≡◌, ◌∙◌, to_z, of_z, w32}
-use Rattle.calendar_count.proofs.Signed.{signed}
+use Rattle.calendar_count.proofs.lemmas.Signed.{signed}
 use Rattle.calendar_clock.specs.UtcOffset.{IsOffset}
 use Rattle.calendar.proofs.LawLemmas.{offset_named}
 use Rattle.calendar.proofs.laws.offset_of_whole_seconds.Goals as goal

@@ -1,7 +1,7 @@
 use Rattle.std.proofs.Common.{arith, refl, ◌∙◌, ◌≡◌, ◌<◌, ◌^◌, true, ℤ, pos, ◌+ℤ◌, ◌*ℤ◌, int_div, int_rem, unsigned_abs, to_z, of_z, w32, w64, FitsSigned}
 use mir.Syntax.{w128}
 use Rattle.std.proofs.lemmas.Int.{quot-rem}
-use Rattle.calendar_count.proofs.Signed.{signed, one_sided}
+use Rattle.calendar_count.proofs.lemmas.Signed.{signed, one_sided}
 use Rattle.calendar_spans.specs.Duration.{second_nanos}
 use Rattle.calendar_spans.specs.DurationParts.{duration_nanos}
 use Rattle.calendar_spans.proofs.duration.from_parts.Goals as goal

@@ -1,6 +1,6 @@
 use Rattle.std.proofs.Common.{arith, inl, inr, pos}
 use Rattle.std.proofs.lemmas.Int.{by_lt_z}
-use Rattle.calendar_count.proofs.Signed.{signed}
+use Rattle.calendar_count.proofs.lemmas.Signed.{signed}
 use Rattle.calendar_spans.proofs.duration.one_sign.Goals as goal
 use Rattle.calendar_spans.proofs.duration.one_sign.Goals.{else-seconds-gt0-via-then-seconds-gt0+else-nanoseconds-lt0, else-seconds-gt0-via-else-seconds-gt0, else-seconds-lt0-via-then-seconds-lt0+else-nanoseconds-gt0, else-seconds-lt0-via-else-seconds-lt0}
 

@@ -1,5 +1,5 @@
 use Rattle.calendar_count.specs.Month.{month_number, next_month}
-use Rattle.calendar_count.proofs.StepLemmas.{months_round, month_bound, one_more}
+use Rattle.calendar_count.proofs.lemmas.Steps.{months_round, month_bound, one_more}
 use Rattle.calendar_count.proofs.month_iter.MonthIter.nth.Goals as goal
 
 pub returns-clause-value : goal.returns-clause-value

@@ -1,5 +1,5 @@
 use Rattle.calendar_count.specs.Weekday.{days_from_monday, next_weekday}
-use Rattle.calendar_count.proofs.StepLemmas.{weekdays_round, weekday_bound, one_more_first}
+use Rattle.calendar_count.proofs.lemmas.Steps.{weekdays_round, weekday_bound, one_more_first}
 use Rattle.calendar_count.proofs.weekday_iter.RevWeekdayIter.nth.Goals as goal
 
 pub returns-clause-value : goal.returns-clause-value

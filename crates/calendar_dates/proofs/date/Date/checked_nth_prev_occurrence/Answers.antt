@@ -1,6 +1,7 @@
 use Rattle.std.proofs.Common.{arith, refl}
 use Rattle.calendar_count.specs.Weekday.{days_from_monday}
-use Rattle.calendar_dates.proofs.OccurrenceLemmas.{weekday_bound, nth_before, nth_before_only, nth_before_some}
+use Rattle.calendar_count.proofs.lemmas.Steps.{weekday_bound}
+use Rattle.calendar_dates.proofs.OccurrenceLemmas.{nth_before, nth_before_only, nth_before_some}
 use Rattle.calendar_dates.proofs.date.Date.checked_nth_prev_occurrence.Goals as goal
 
 pub returns-then-n-eq0-clause-some : goal.returns-then-n-eq0-clause-some

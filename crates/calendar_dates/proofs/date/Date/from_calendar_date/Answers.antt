@@ -1,7 +1,7 @@
 use Rattle.std.proofs.Common.{rules, sym, ◌≡◌}
 use Rattle.calendar_count.specs.Calendar.{day_at, ymd, IsDay}
 use Rattle.calendar_count.specs.Month.{month_number}
-use Rattle.calendar_count.proofs.TheDayLemmas.{the_day-named, the_day-unnamed}
+use Rattle.calendar_count.proofs.lemmas.TheDay.{the_day-named, the_day-unnamed}
 use Rattle.calendar_dates.proofs.date.Date.from_calendar_date.Goals as goal
 
 pub returns-then-not-has_year-clause-named : goal.returns-then-not-has_year-clause-named

@@ -2,8 +2,10 @@ use Rattle.std.proofs.Common.{arith, rules, ◌≡◌, to_z, of_z, w32, to_z-of_
 use Rattle.calendar_count.specs.Range.{IsYear}
 use Rattle.calendar_count.specs.Calendar.{days_in_year}
 use Rattle.calendar_count.specs.Closed.{days_before_year}
+use Rattle.calendar_count.specs.Place.{iso_count}
 use Rattle.calendar_count.specs.Weekday.{days_from_monday}
-use Rattle.calendar_count.proofs.ViewLemmas.{iso_count-is, iso_count-at, iso_count, iso_year_bound}
+use Rattle.calendar_count.proofs.lemmas.Days.{iso_year_bound}
+use Rattle.calendar_count.proofs.lemmas.Places.{iso_count-is, iso_count-at}
 use Rattle.calendar_dates.proofs.date.Date.from_iso_week_date.Goals as goal
 use Rattle.calendar_dates.proofs.date.Date.from_iso_week_date.Goals.{then-week-eq0-via-then-week-eq0, then-week-eq0-via-else-week-eq0+then-thursday-end}
 

@@ -1,6 +1,6 @@
 use Rattle.std.proofs.Common.{rules, ◌≡◌, to_z, of_z, w32, to_z-of_z}
 use Rattle.calendar_count.specs.Place.{IsPlace}
-use Rattle.calendar_count.proofs.ViewLemmas.{place-year, place-ordinal}
+use Rattle.calendar_count.proofs.lemmas.Places.{place-year, place-ordinal}
 use Rattle.calendar_dates.proofs.date.Date.from_ordinal_date.Goals as goal
 
 pub returns-clause-value : goal.returns-clause-value

@@ -1,4 +1,4 @@
-use Rattle.calendar_count.proofs.ViewLemmas.{place_monday_week}
+use Rattle.calendar_count.proofs.lemmas.Places.{place_monday_week}
 use Rattle.calendar_dates.proofs.date.Date.monday_based_week.Goals as goal
 
 pub returns-clause-value : goal.returns-clause-value

@@ -1,5 +1,5 @@
 use Rattle.std.proofs.Common.{arith, ◌≡◌, pos, ◌-ℤ◌, to_z, of_z, w64}
-use Rattle.calendar_count.proofs.Signed.{signed}
+use Rattle.calendar_count.proofs.lemmas.Signed.{signed}
 use Rattle.calendar_dates.specs.Arithmetic.{days_of}
 use Rattle.calendar_dates.proofs.date.Date.saturating_sub.Goals as goal
 

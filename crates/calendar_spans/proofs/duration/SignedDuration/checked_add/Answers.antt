@@ -1,6 +1,6 @@
 use Rattle.std.proofs.Common.{arith, ◌≡◌, ◌+ℤ◌, ◌*ℤ◌, pos, to_z, of_z, w64}
 use mir.Syntax.{w128}
-use Rattle.calendar_count.proofs.Signed.{signed}
+use Rattle.calendar_count.proofs.lemmas.Signed.{signed}
 use Rattle.calendar_spans.specs.Duration.{second_nanos}
 use Rattle.calendar_spans.proofs.duration.SignedDuration.checked_add.Goals as goal
 

@@ -1,20 +1,14 @@
-use Rattle.std.proofs.Common.{arith, inl, inr, pos}
-use Rattle.std.proofs.lemmas.Int.{quot-rem, by_lt_z}
-use Rattle.calendar_count.proofs.Signed.{signed, one_sided}
+use Rattle.std.proofs.Common.{arith, pos}
+use Rattle.std.proofs.lemmas.Int.{quot-rem}
+use Rattle.calendar_count.proofs.lemmas.Signed.{signed, one_sided}
 use Rattle.calendar_spans.specs.Duration.{second_nanos}
+use Rattle.calendar_spans.proofs.UnitLemmas.{parts_of_sign}
 use Rattle.calendar_spans.proofs.duration.SignedDuration.nanoseconds.Goals as goal
 
 pub one_signed-requires : goal.one_signed-requires
 one_signed-requires c =
     let side = one_sided c.args.nanoseconds in
-    record {
-      low = omega (arith, signed, side);
-      high = omega (arith, signed, side);
-      same_sign =
-          by_lt_z c.args.nanoseconds (pos 0)
-          (λ below. inr (omega (arith, signed), omega (arith, signed)))
-          (λ above. inl (omega (arith, signed), omega (arith, signed)));
-    }
+    parts_of_sign c.args.nanoseconds _ _ (omega (arith, signed, side)) (omega (arith, signed, side)) (λ above. (omega (arith, signed), omega (arith, signed))) (λ below. (omega (arith, signed), omega (arith, signed)))
 
 pub returns : goal.returns
 returns c =

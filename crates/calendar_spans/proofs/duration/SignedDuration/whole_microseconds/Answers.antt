@@ -1,5 +1,5 @@
 use Rattle.std.proofs.Common.{arith, ◌≡◌, ◌+ℤ◌, ◌*ℤ◌, pos, int_div}
-use Rattle.calendar_count.proofs.Signed.{signed}
+use Rattle.calendar_count.proofs.lemmas.Signed.{signed}
 use Rattle.calendar_spans.specs.Duration.{micro_nanos}
 use Rattle.calendar_spans.proofs.UnitLemmas.{whole_micros}
 use Rattle.calendar_spans.proofs.duration.SignedDuration.whole_microseconds.Goals as goal

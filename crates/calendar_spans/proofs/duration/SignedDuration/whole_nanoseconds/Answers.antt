@@ -1,5 +1,5 @@
 use Rattle.std.proofs.Common.{arith}
-use Rattle.calendar_count.proofs.Signed.{signed}
+use Rattle.calendar_count.proofs.lemmas.Signed.{signed}
 use Rattle.calendar_spans.proofs.duration.SignedDuration.whole_nanoseconds.Goals as goal
 
 pub returns-clause-value : goal.returns-clause-value

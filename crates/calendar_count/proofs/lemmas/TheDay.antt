@@ -6,8 +6,8 @@ use Rattle.std.proofs.lemmas.Int.{ints}
 use Rattle.calendar_count.specs.Range.{last_count}
 use Rattle.calendar_count.specs.Calendar.{day_at, ymd, IsDay}
 use Rattle.calendar_count.specs.TheDay.{first_passing, the_day, is_day_of}
-use Rattle.calendar_count.proofs.CountLemmas.{day_at-Placed, same_parts}
-use Rattle.calendar_count.proofs.ViewLemmas.{day_at_same, year_bound}
+use Rattle.calendar_count.proofs.lemmas.Days.{day_at_same, day_valid}
+use Rattle.calendar_count.proofs.CountLemmas.{same_parts}
 
 first_passing-none : (p : ℕ → Bool) (n : ℕ) → ((k : ℕ) → k < n → p k ≡ false) → first_passing p n ≡ None
 unfolding first_passing
@@ -54,5 +54,4 @@ pub the_day-unnamed : (y : ℤ) (m d : ℕ) → ¬ IsDay y m d → the_day (is_d
 the_day-unnamed y m d absent =
     the_day-none (is_day_of y m d) (λ k low passes.
     let e = is_day_of-is y m d k passes in
-    let p = day_at-Placed k in
-    absent (rw e at (year_bound k low), rw e at p.month_in.0, rw e at p.month_in.1, rw e at p.day_in.0, rw e at p.day_in.1))
+    absent (rw e at (day_valid k low)))
