@@ -2,6 +2,7 @@
 use Rattle.std.specs.Prelude.{ℕ, ◌+◌, ◌*◌, ◌/◌, ◌%◌, nat_lt, if◌then◌else◌, Result, Ok, Err, List, ◌∷◌, ◌++◌, ℤ, pos, unsigned_abs}
 use Rattle.std.specs.Int.{int_rem_euclid}
 use Rattle.std.specs.Fmt.{decimal}
+use Rattle.byte_names.specs.Bytes.{dot, colon}
 use Rattle.calendar_count.specs.declared.component_range.ComponentName.TheVariants.{Hour, Minute, Second, Millisecond, Microsecond, Nanosecond}
 use Rattle.calendar_count.specs.declared.component_range.ComponentRange.{ComponentRange}
 use Rattle.calendar_count.specs.ComponentRange.{out_of_range}
@@ -33,7 +34,7 @@ time_of hour minute second nanosecond =
 
 -- `7:05:00.0`, `23:20:50.52`
 abbrev pub time_text : ℕ → List ℕ
-time_text n = decimal (hour_at n) ++ 58 ∷ two_digits (minute_at n) ++ 58 ∷ two_digits (second_at n) ++ 46 ∷ without_zeros (nine_digits (nanosecond_at n))
+time_text n = decimal (hour_at n) ++ colon ∷ two_digits (minute_at n) ++ colon ∷ two_digits (second_at n) ++ dot ∷ without_zeros (nine_digits (nanosecond_at n))
 
 abbrev pub millisecond_at : ℕ → ℕ
 millisecond_at n = n % second_nanos / milli_nanos

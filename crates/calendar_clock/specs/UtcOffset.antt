@@ -1,5 +1,6 @@
 -- Offsets from UTC, each its whole seconds, above 0 where local time is ahead of UTC.
 use Rattle.std.specs.Prelude.{◌≡◌, ℕ, zero, suc, ◌/◌, ◌%◌, ◌≤◌, nat_lt, if◌then◌else◌, Result, Ok, Err, List, ◌∷◌, ◌++◌, ℤ, pos, negsuc, neg_ℤ, ◌+ℤ◌, ◌*ℤ◌, ◌≤ℤ◌, unsigned_abs, int_lt}
+use Rattle.byte_names.specs.Bytes.{plus, hyphen, colon}
 use Rattle.calendar_count.specs.declared.component_range.ComponentName.TheVariants.{Hours, Minutes, Seconds}
 use Rattle.calendar_count.specs.declared.component_range.ComponentRange.{ComponentRange}
 use Rattle.calendar_count.specs.ComponentRange.{out_of_range}
@@ -45,4 +46,4 @@ offset_of_seconds seconds =
 abbrev pub offset_text : ℤ → List ℕ
 offset_text offset =
     let seconds = unsigned_abs offset in
-    (if int_lt offset (pos 0) then 45 else 43) ∷ two_digits (seconds / 3600) ++ 58 ∷ two_digits (seconds / 60 % 60) ++ 58 ∷ two_digits (seconds % 60)
+    (if int_lt offset (pos 0) then hyphen else plus) ∷ two_digits (seconds / 3600) ++ colon ∷ two_digits (seconds / 60 % 60) ++ colon ∷ two_digits (seconds % 60)

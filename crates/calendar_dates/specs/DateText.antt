@@ -1,6 +1,7 @@
 -- The text of a date, as ISO 8601 writes it, with more digits of the year from 10000 on.
 use Rattle.std.specs.Prelude.{ℕ, suc, ◌/◌, ◌%◌, nat_lt, if◌then◌else◌, List, ◌∷◌, ◌++◌, ℤ, pos, negsuc}
 use Rattle.std.specs.Fmt.{decimal}
+use Rattle.byte_names.specs.Bytes.{plus, hyphen}
 use Rattle.calendar_count.specs.Calendar.{YearMonthDay, day_at}
 use Rattle.calendar_clock.specs.Digits.{two_digits}
 
@@ -14,11 +15,11 @@ year_digits n = if nat_lt n 10_000 then four_digits n else decimal n
 
 -- a sign where the year is negative or has more than four digits
 abbrev pub year_text : ℤ → List ℕ
-year_text (pos n) = if nat_lt n 10_000 then four_digits n else 43 ∷ decimal n
-year_text (negsuc n) = 45 ∷ year_digits (suc n)
+year_text (pos n) = if nat_lt n 10_000 then four_digits n else plus ∷ decimal n
+year_text (negsuc n) = hyphen ∷ year_digits (suc n)
 
 abbrev pub day_text : YearMonthDay → List ℕ
-day_text t = year_text t.year ++ 45 ∷ two_digits t.month ++ 45 ∷ two_digits t.day
+day_text t = year_text t.year ++ hyphen ∷ two_digits t.month ++ hyphen ∷ two_digits t.day
 
 -- `2024-06-19`, `-0044-03-15`, `+10000-01-01`
 abbrev pub date_text : ℕ → List ℕ
