@@ -31,6 +31,20 @@ fn lengths_of_years(rt: HostRuntime) {
     }
 }
 
+// From 0000-01-01 to 9999-12-31, by their Julian days.
+#[test]
+fn years_of_four_digits(rt: HostRuntime) {
+    for (julian_day, expected) in [
+        (1_721_059, false),
+        (1_721_060, true),
+        (5_373_484, true),
+        (5_373_485, false),
+    ] {
+        let count = (julian_day + 363_521_074) as u32;
+        assert!(rt; closed::has_four_digit_year(count) == expected);
+    }
+}
+
 // The day of a count, and the count of that day where there is one.
 fn there_and_back(count: u32) -> ((i32, u8, u8), u32)
     requires { IsCount count }

@@ -8,6 +8,7 @@ use std::cmp::Ordering;
 fn laws_of_dates(rt: HostRuntime) {
     laws::views();
     laws::both_ends();
+    laws::order_of_days();
     let leap = dates::date_of(2024, Month::February, 29);
     for (given, expected) in [
         (laws::day_of_calendar_date(leap), Ok(leap)),
@@ -21,6 +22,7 @@ fn laws_of_dates(rt: HostRuntime) {
     assert!(rt; laws::day_at_difference(leap, Date::MIN) == Some(Date::MIN));
     assert!(rt; laws::julian_day_of_day(2_451_545) == Some(2_451_545));
     assert!(rt; laws::ends_of_calendar() == [Date::MIN, Date::MAX]);
+    assert!(rt; Ok(laws::day_of_unix_epoch()) == Date::from_calendar_date(1970, Month::January, 1));
     assert!(rt;
         laws::iso_week_date_of_day(2024, 9, Weekday::Thursday) == Some((2024, 9, Weekday::Thursday))
     );

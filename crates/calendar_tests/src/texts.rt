@@ -1,8 +1,8 @@
 //! Printed texts.
 use crate::{dates, durations};
 use calendar::{
-    ComponentName, ComponentRange, ConversionRange, Date, InvalidVariant, Month, SignedDuration,
-    Time, UtcOffset, Weekday,
+    ComponentName, ComponentRange, ConversionRange, Date, InvalidVariant, Month, RevMonthIter,
+    RevWeekdayIter, SignedDuration, Time, UtcOffset, Weekday,
 };
 use std::alloc::{AllocError, Global};
 use std::fmt;
@@ -186,4 +186,37 @@ fn prints_names_under_widths(rt: HostRuntime) {
     let (month, weekday) = (Month::May, Weekday::Friday);
     let answer = format!(in rt.alloc(); "[{month:>5}|{weekday:*<8}|{month:^6}]");
     assert!(rt; is_text(answer, "[  May|Friday**| May  ]"));
+}
+
+fn debugged<T: fmt::Debug + Drop>(alloc: Global, value: T) -> Result<String, AllocError> {
+    format!(in alloc; "{value:?}")
+}
+
+#[test]
+fn prints_walks(rt: HostRuntime) {
+    let leap = dates::date_of(2024, Month::February, 29);
+    for (answer, text) in [
+        (
+            debugged(rt.alloc(), leap.iter_to(leap)),
+            "DateIter { first: 365981444, len: 1 }",
+        ),
+        (
+            debugged(rt.alloc(), Month::iter_from(Month::May)),
+            "MonthIter { due: May }",
+        ),
+        (
+            debugged(rt.alloc(), RevMonthIter::new(Month::May)),
+            "RevMonthIter { due: May }",
+        ),
+        (
+            debugged(rt.alloc(), Weekday::iter_from(Weekday::Monday)),
+            "WeekdayIter { due: Monday }",
+        ),
+        (
+            debugged(rt.alloc(), RevWeekdayIter::new(Weekday::Monday)),
+            "RevWeekdayIter { due: Monday }",
+        ),
+    ] {
+        assert!(rt; is_text(answer, text));
+    }
 }

@@ -1,6 +1,7 @@
 //! Walks over days, and occurrences of a weekday.
 use crate::dates::date_of;
-use calendar::{Date, Month, Weekday};
+use calendar::{Date, Month, RevMonthIter, RevWeekdayIter, Weekday};
+use std::test::Fail;
 
 #[test]
 fn walks_days_from_both_ends(rt: HostRuntime) {
@@ -105,4 +106,31 @@ fn finds_the_next_weekday(rt: HostRuntime) {
     let later = Some(date_of(2018, Month::January, 8));
     let earlier = Some(date_of(2017, Month::December, 25));
     assert!(rt; next_by_both(monday, Weekday::Monday) == (later, earlier));
+}
+
+// A copy goes on from where its walk stands, and leaves the walk there.
+#[test]
+fn copies_walks(rt: HostRuntime) -> Result<(), Fail> {
+    let leap = date_of(2024, Month::February, 29);
+    let days = leap.iter_to(date_of(2024, Month::March, 2));
+    let mut later = days.clone()?;
+    assert!(rt; later.nth(1) == Some(date_of(2024, Month::March, 1)));
+    assert!(rt; (later.count(), days.count()) == (1, 3));
+    let mut months = Month::iter_from(Month::May);
+    let mut months_back = RevMonthIter::new(Month::May);
+    for (copied, due) in [
+        (months.clone()?.nth(1), months.next()),
+        (months_back.clone()?.nth(11), months_back.next()),
+    ] {
+        assert!(rt; (copied, due) == (Some(Month::June), Some(Month::May)));
+    }
+    let mut weekdays = Weekday::iter_from(Weekday::Monday);
+    let mut weekdays_back = RevWeekdayIter::new(Weekday::Monday);
+    for (copied, due) in [
+        (weekdays.clone()?.nth(1), weekdays.next()),
+        (weekdays_back.clone()?.nth(6), weekdays_back.next()),
+    ] {
+        assert!(rt; (copied, due) == (Some(Weekday::Tuesday), Some(Weekday::Monday)));
+    }
+    Ok(())
 }
