@@ -1,7 +1,7 @@
 //! The calendar of a count of days.
 ghost use Rattle.std.specs.Prelude.{◌≡◌, ◌+◌, ◌-◌, ◌%◌, ◌<◌, ◌≤◌};
 ghost use Rattle.std.specs.Int.{IsInRange};
-ghost use Rattle.calendar_count.specs.Range.{greatest_year, IsCount, IsYear};
+ghost use Rattle.calendar_count.specs.Range.{greatest_year, last_count, IsCount, IsYear};
 ghost use Rattle.calendar_count.specs.Calendar.{day_at, ordinal_at, weekday_at, iso_year_at, iso_week_at, sunday_week_at, monday_week_at, thursday_of, ymd, IsDay};
 ghost use Rattle.calendar_count.specs.Closed.{days_before_year};
 
@@ -19,7 +19,7 @@ const MARCH_YEAR: i32 = GREATEST_YEAR + 1;
 // back, every fourth year has a leap day.
 #[inline(always)]
 fn split_years(days: u64) -> (u64, u64)
-    requires { days < 730_500_000 }
+    requires { days ≤ last_count + 306 }
     ensures value { days_before_year result.0 + result.1 ≡ days }
     ensures within { days < days_before_year (result.0 + 1) }
 {

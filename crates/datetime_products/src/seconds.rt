@@ -5,9 +5,10 @@ ghost use Rattle.calendar_count.specs.Range.{IsCount, unix_epoch};
 ghost use Rattle.datetime_products.specs.Seconds.{day_seconds, IsUnixSecond};
 
 use crate::quotients;
+use calendar_count::range::UNIX_EPOCH;
 
 // The seconds from the first day to 1970-01-01.
-const EPOCH_SECONDS: i64 = 31_619_087_596_800;
+const EPOCH_SECONDS: i64 = UNIX_EPOCH as i64 * 86_400;
 
 /// The count of the day that a second of Unix time lies in.
 #[inline(always)]

@@ -1,7 +1,7 @@
 -- Wall clocks moved by whole days and a time of day.
 use Rattle.std.proofs.Common.{◌≡◌, ℕ, ◌<◌, ℤ, pos, ◌+ℤ◌, ◌*ℤ◌, ◌≤ℤ◌, arith}
 use Rattle.calendar_count.specs.Range.{last_count}
-use Rattle.calendar_count.proofs.Signed.{signed}
+use Rattle.calendar_count.proofs.lemmas.Signed.{signed}
 use Rattle.datetime_wall.specs.Wall.{day_nanos, wall_clock, IsWallClock}
 
 pub moved_wall_clock : (day time other_day other_time : ℕ) (moved days : ℤ) → pos time +ℤ moved ≡ days *ℤ pos day_nanos +ℤ pos other_time → pos other_day ≡ pos day +ℤ days → wall_clock other_day other_time ≡ wall_clock day time +ℤ moved

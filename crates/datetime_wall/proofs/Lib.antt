@@ -1,6 +1,3 @@
-pub mod WallLemmas
-pub mod MovedLemmas
-pub mod ShownLemmas
-pub mod DurationLemmas
-pub mod CutLemmas
-pub mod NearestLemmas
+pub mod lemmas
+mod MovedLemmas
+mod DurationLemmas

@@ -1,7 +1,7 @@
 -- A wall clock some seconds later: the seconds of the day are counted from three days earlier on, so that none is below 0.
 use Rattle.std.proofs.Common.{◌≡◌, ℕ, ◌+◌, ◌*◌, ◌/◌, ◌%◌, ◌<◌, ℤ, pos, ◌+ℤ◌, ◌*ℤ◌, arith}
 use Rattle.calendar_count.specs.Range.{last_count}
-use Rattle.calendar_count.proofs.Signed.{signed}
+use Rattle.calendar_count.proofs.lemmas.Signed.{signed}
 use Rattle.datetime_wall.specs.Wall.{second_nanos, day_nanos, wall_clock, IsWallClock}
 
 -- a time of day by its seconds and its nanoseconds, some seconds later

@@ -3,6 +3,8 @@ use Rattle.std.specs.Prelude.{ℕ, ◌+◌, ◌-◌, ◌*◌, Bool, ◌&&◌, Op
 use Rattle.std.specs.Int.{int_div_euclid, int_rem_euclid}
 use Rattle.calendar_count.specs.declared.component_range.ComponentRange.{ComponentRange}
 use Rattle.calendar_count.specs.Range.{last_count, unix_epoch}
+use Rattle.datetime_products.specs.Seconds.{day_seconds}
+use Rattle.calendar.specs.UtcOffset.{greatest_offset}
 -- the nanoseconds of a second and of a day
 pub use Rattle.calendar.specs.Time.{second_nanos, day_nanos}
 
@@ -53,6 +55,10 @@ pub record Shown : Type 0 where
 -- its instant: the nanoseconds since 1970 began in UTC
 abbrev pub instant : Shown → ℤ
 instant m = m.wall -ℤ m.offset *ℤ pos second_nanos
+
+-- how many seconds from 1970 an instant lies at most, that of the first day with the greatest offset
+abbrev pub greatest_distance : ℕ
+greatest_distance = unix_epoch * day_seconds + greatest_offset
 
 -- the wall clock of an instant at an offset
 abbrev pub wall_at : ℤ → ℤ → ℤ

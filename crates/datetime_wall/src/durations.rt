@@ -18,12 +18,11 @@ pub fn signed_from_std(duration: Duration) -> Result<SignedDuration, ConversionR
 }
 
 /// The same length forward, or the greatest duration where it is longer.
-#[tactic(auto, unfolding(calendar_spans::specs::DurationParts::duration_nanos))]
 pub fn nearest_from_std(duration: Duration) -> SignedDuration
     ensures { result ≡ nearest_duration (pos (as_nanos duration)) }
 {
     let Ok(signed) = signed_from_std(duration) else {
-        return SignedDuration::MAX;
+        return SignedDuration::new(i64::MAX, 999_999_999);
     };
     signed
 }

@@ -1,7 +1,7 @@
 -- Wall clocks cut to whole units: each unit divides a day.
 use Rattle.std.proofs.Common.{◌≡◌, ◌*◌, ◌/◌, ℤ, arith}
 use Rattle.calendar.specs.Time.{micro_nanos, milli_nanos, minute_nanos, hour_nanos}
-use Rattle.calendar_count.proofs.Signed.{signed}
+use Rattle.calendar_count.proofs.lemmas.Signed.{signed}
 use Rattle.datetime_wall.specs.Wall.{second_nanos, day_nanos, wall_clock, day_of, nanosecond_of, IsWallClock, cut_to}
 
 pub cut_day : (wall : ℤ) → IsWallClock wall → wall_clock (day_of wall) 0 ≡ cut_to day_nanos wall

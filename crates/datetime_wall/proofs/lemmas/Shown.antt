@@ -1,8 +1,8 @@
 -- An instant as the clock at an offset shows it.
 use Rattle.std.proofs.Common.{◌≡◌, refl, arith, Some, None, ℤ, pos, ◌+ℤ◌, ◌-ℤ◌, ◌*ℤ◌}
-use Rattle.calendar_count.proofs.Signed.{signed}
+use Rattle.calendar_count.proofs.lemmas.Signed.{signed}
 use Rattle.datetime_wall.specs.Wall.{second_nanos, Shown, IsWallClock, instant, wall_at, shown_at}
-use Rattle.datetime_wall.proofs.WallLemmas.{is_wall_clock_yes, is_wall_clock_no}
+use Rattle.datetime_wall.proofs.lemmas.WallClocks.{is_wall_clock_yes, is_wall_clock_no}
 
 -- another offset moves the wall clock by the difference of the offsets
 pub wall_at-instant : (m : Shown) (offset : ℤ) → wall_at offset (instant m) ≡ m.wall +ℤ (offset -ℤ m.offset) *ℤ pos second_nanos

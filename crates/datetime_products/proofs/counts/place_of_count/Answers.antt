@@ -1,6 +1,6 @@
 use Rattle.std.proofs.Common.{arith, sym, ◌∙◌, ◌≡◌, ◌+◌, to_z, of_z, w32}
 use Rattle.std.proofs.lemmas.Int.{ints}
-use Rattle.calendar_count.proofs.ViewLemmas.{place_view}
+use Rattle.calendar_count.proofs.lemmas.Places.{place_view}
 use Rattle.datetime_products.proofs.counts.place_of_count.Goals as goal
 
 pub returns-clause-year : goal.returns-clause-year

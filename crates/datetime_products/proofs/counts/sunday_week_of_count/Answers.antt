@@ -1,8 +1,8 @@
 use Rattle.std.proofs.Common.{arith, ◌≡◌, ℤ, pos, ◌-ℤ◌, ◌+◌, ◌+ℤ◌}
 use Rattle.calendar_count.specs.Range.{greatest_year}
 use Rattle.calendar_count.specs.Place.{IsPlace}
-use Rattle.calendar_count.proofs.Signed.{signed}
-use Rattle.calendar_count.proofs.ViewLemmas.{place_split, place_sunday_week}
+use Rattle.calendar_count.proofs.lemmas.Signed.{signed}
+use Rattle.calendar_count.proofs.lemmas.Places.{place_split, place_sunday_week}
 use Rattle.datetime_products.proofs.counts.sunday_week_of_count.Goals as goal
 
 pub returns-clause-value : goal.returns-clause-value

@@ -1,9 +1,9 @@
 use Rattle.std.proofs.Common.{arith, refl, ◌≡◌, ◌+ℤ◌, ◌-ℤ◌, neg_ℤ, ℤ, pos}
 use Rattle.std.specs.Prelude.{int_div}
-use Rattle.calendar_count.proofs.Signed.{signed}
+use Rattle.calendar_count.proofs.lemmas.Signed.{signed}
 use Rattle.calendar.specs.DateAdjustment.{carry}
 use Rattle.datetime_wall.specs.Wall.{day_nanos}
-use Rattle.datetime_wall.proofs.WallLemmas.{IsWallClock-wall_clock}
+use Rattle.datetime_wall.proofs.lemmas.WallClocks.{IsWallClock-wall_clock}
 use Rattle.datetime_wall.proofs.DurationLemmas.{moved_wall_clock, moved_day_within}
 use Rattle.datetime_wall.proofs.moved.subtracted.Goals as goal
 

@@ -1,6 +1,6 @@
 use Rattle.std.proofs.Common.{arith, refl, ℕ, ◌≡◌, ◌+◌, ◌-◌, ◌*◌, ◌/◌, ◌%◌, to_z, of_z, w32, to_z-of_z}
 use Rattle.datetime_wall.specs.Wall.{second_nanos}
-use Rattle.datetime_wall.proofs.WallLemmas.{IsWallClock-wall_clock}
+use Rattle.datetime_wall.proofs.lemmas.WallClocks.{IsWallClock-wall_clock}
 use Rattle.datetime_wall.proofs.MovedLemmas.{Shifted-parts, moved_value, too_early, too_late}
 use Rattle.datetime_wall.proofs.wall.moved_by_seconds.Goals as goal
 
