@@ -4,7 +4,7 @@ use Rattle.std.specs.Int.{int_div_euclid, int_rem_euclid}
 use Rattle.std.specs.Prelude.{int_div, int_rem}
 use Rattle.std.proofs.lemmas.Int.{quot-rem}
 use Rattle.calendar_count.specs.Range.{unix_epoch}
-use Rattle.calendar_count.proofs.Signed.{signed}
+use Rattle.calendar_count.proofs.lemmas.Signed.{signed}
 use Rattle.datetime_wall.specs.Wall.{second_nanos, day_of, nanosecond_of, IsWallClock, Shown, instant}
 use Rattle.datetime_products.specs.Seconds.{day_seconds, IsUnixSecond}
 use Rattle.datetime_types.specs.Unix.{unix_nanos}

@@ -1,6 +1,7 @@
 -- The texts of date-times.
 use Rattle.std.specs.Prelude.{ℕ, ◌/◌, ◌%◌, ◌==◌, if◌then◌else◌, List, [], ◌∷◌, ◌++◌, codes, ℤ, pos, unsigned_abs, int_lt}
 use Rattle.std.specs.Fmt.{decimal}
+use Rattle.byte_names.specs.Bytes.{space, dot}
 use Rattle.calendar_clock.specs.Digits.{nine_digits, without_zeros}
 use Rattle.calendar.specs.DateText.{date_text}
 use Rattle.calendar.specs.Time.{time_text}
@@ -9,7 +10,7 @@ use Rattle.datetime_wall.specs.Wall.{second_nanos, Shown, day_of, nanosecond_of}
 
 -- the fraction of a second, where there is one
 abbrev pub fraction_text : ℕ → List ℕ
-fraction_text nanosecond = if nanosecond == 0 then [] else 46 ∷ without_zeros (nine_digits nanosecond)
+fraction_text nanosecond = if nanosecond == 0 then [] else dot ∷ without_zeros (nine_digits nanosecond)
 
 -- the exact decimal of the seconds: `1546300800`, `-0.001`
 abbrev pub seconds_text : ℤ → List ℕ
@@ -19,7 +20,7 @@ seconds_text instant =
 
 -- `2024-06-19 7:05:00.25`
 abbrev pub plain_text : ℤ → List ℕ
-plain_text wall = date_text (day_of wall) ++ 32 ∷ time_text (nanosecond_of wall)
+plain_text wall = date_text (day_of wall) ++ space ∷ time_text (nanosecond_of wall)
 
 -- `2024-06-19 7:05:00.25 +00`
 abbrev pub utc_text : ℤ → List ℕ
@@ -27,4 +28,4 @@ utc_text wall = plain_text wall ++ codes " +00"
 
 -- `2024-06-19 7:05:00.25 +05:30:00`
 abbrev pub shown_text : Shown → List ℕ
-shown_text m = plain_text m.wall ++ 32 ∷ offset_text m.offset
+shown_text m = plain_text m.wall ++ space ∷ offset_text m.offset

@@ -3,7 +3,7 @@ use Rattle.std.specs.Prelude.{ℕ, Bool, ◌&&◌, ◌+◌, ◌-◌, ◌*◌, �
 use Rattle.std.specs.Prelude.{◌<◌, unsigned_abs}
 use Rattle.std.specs.Int.{int_div_euclid, int_rem_euclid}
 use Rattle.std.proofs.Common.{◌≡◌, arith}
-use Rattle.calendar_count.proofs.Signed.{signed}
+use Rattle.calendar_count.proofs.lemmas.Signed.{signed}
 use Rattle.calendar.specs.Range.{last_count, unix_epoch}
 use Rattle.datetime_wall.specs.Wall.{second_nanos}
 use Rattle.datetime_products.specs.Seconds.{day_seconds}

@@ -10,7 +10,7 @@ ghost use Rattle.calendar.specs.Range.{IsCount};
 ghost use Rattle.calendar.specs.UtcOffset.{IsOffset};
 ghost use Rattle.calendar.specs.ComponentRange.{out_of_range};
 ghost use Rattle.calendar_count.specs.declared.component_range.ComponentName.TheVariants as component;
-ghost use Rattle.datetime_wall.specs.Wall.{second_nanos, day_nanos, wall_clock, day_of, nanosecond_of, IsWallClock, instant, shown_at};
+ghost use Rattle.datetime_wall.specs.Wall.{second_nanos, greatest_distance, day_nanos, wall_clock, day_of, nanosecond_of, IsWallClock, instant, shown_at};
 
 mod arithmetic;
 mod changes;
@@ -102,7 +102,7 @@ impl OffsetDateTime {
     #[inline(always)]
     pub fn unix_timestamp(self) -> i64
         ensures value { result ≡ int_div_euclid (instant self) (pos second_nanos) }
-        ensures bound { unsigned_abs result ≤ 31_619_087_690_399 }
+        ensures bound { unsigned_abs result ≤ greatest_distance }
     {
         let seconds = wall::unix_seconds(self.wall.date(), self.wall.time());
         seconds - i64::from(self.offset.whole_seconds())
@@ -217,7 +217,7 @@ impl OffsetDateTime {
     #[inline(always)]
     pub(crate) fn parts(self) -> (i64, u32)
         ensures whole { result.0 *ℤ pos second_nanos +ℤ pos result.1 ≡ instant self }
-        ensures bound { (unsigned_abs result.0 ≤ 31_619_087_690_399) × (result.1 < second_nanos) }
+        ensures bound { (unsigned_abs result.0 ≤ greatest_distance) × (result.1 < second_nanos) }
     {
         let (seconds, nanoseconds) = self.wall.parts();
         (

@@ -7,7 +7,7 @@ ghost use Rattle.std.specs.Ordering.{int_eq, int_cmp, as_partial_cmp};
 ghost use Rattle.std.specs.Hash as fed;
 ghost use Rattle.calendar.specs.Range.{IsCount};
 ghost use Rattle.calendar.specs.UtcOffset.{IsOffset};
-ghost use Rattle.datetime_wall.specs.Wall.{second_nanos, day_nanos, wall_clock, day_of, nanosecond_of, IsWallClock};
+ghost use Rattle.datetime_wall.specs.Wall.{second_nanos, greatest_distance, day_nanos, wall_clock, day_of, nanosecond_of, IsWallClock};
 
 mod arithmetic;
 mod changes;
@@ -35,7 +35,7 @@ impl Model for PlainDateTime {
     ghost use Rattle.std.specs.Prelude.{◌<◌, ℤ};
     ghost use Rattle.calendar.specs.Range.{IsCount};
     ghost use Rattle.datetime_wall.specs.Wall.{day_nanos, wall_clock, day_of, nanosecond_of};
-    ghost use Rattle.datetime_wall.proofs.WallLemmas.{day_of-wall_clock, nanosecond_of-wall_clock};
+    ghost use Rattle.datetime_wall.proofs.lemmas.WallClocks.{day_of-wall_clock, nanosecond_of-wall_clock};
 
     ghost Value = { ℤ };
 
@@ -150,7 +150,7 @@ impl PlainDateTime {
     #[inline(always)]
     pub(crate) fn parts(self) -> (i64, u32)
         ensures whole { result.0 *ℤ pos second_nanos +ℤ pos result.1 ≡ self }
-        ensures bound { (unsigned_abs result.0 ≤ 31_619_087_690_399) × (result.1 < second_nanos) }
+        ensures bound { (unsigned_abs result.0 ≤ greatest_distance) × (result.1 < second_nanos) }
     {
         (wall::unix_seconds(self.date, self.time), self.nanosecond())
     }

@@ -9,7 +9,7 @@ ghost use Rattle.std.specs.Hash as fed;
 ghost use Rattle.calendar.specs.Range.{IsCount};
 ghost use Rattle.calendar.specs.ComponentRange.{out_of_range};
 ghost use Rattle.calendar_count.specs.declared.component_range.ComponentName.TheVariants as component;
-ghost use Rattle.datetime_wall.specs.Wall.{second_nanos, day_nanos, day_of, nanosecond_of, IsWallClock, shown_at};
+ghost use Rattle.datetime_wall.specs.Wall.{second_nanos, greatest_distance, day_nanos, day_of, nanosecond_of, IsWallClock, shown_at};
 ghost use Rattle.calendar.specs.UtcOffset.{IsOffset};
 ghost use Rattle.calendar_spans.specs.Duration.{milli_nanos, micro_nanos};
 ghost use Rattle.datetime_products.specs.Seconds.{IsUnixSecond};
@@ -23,14 +23,17 @@ mod views;
 use crate::{OffsetDateTime, UtcDateTime};
 use calendar::{ComponentRange, Date, Time, UtcOffset};
 use calendar_count::ComponentName;
+use calendar_count::range::{LAST_COUNT, UNIX_EPOCH};
 use datetime_products::{count_of_seconds, second_of_day};
 use std::cmp::Ordering;
 use std::hash::{Hash, Hasher};
 use std::marker::Model;
 
-const LEAST_SECOND: i64 = -31_619_087_596_800;
+const DAY_SECONDS: i64 = 86_400;
 
-const GREATEST_SECOND: i64 = 31_494_784_780_799;
+const LEAST_SECOND: i64 = -(UNIX_EPOCH as i64 * DAY_SECONDS);
+
+const GREATEST_SECOND: i64 = (LAST_COUNT + 1 - UNIX_EPOCH) as i64 * DAY_SECONDS - 1;
 
 /// An instant to the nanosecond, as Unix time counts it, which has no leap seconds.
 ///
@@ -276,7 +279,7 @@ impl Timestamp {
     #[tactic(auto, unfolding(crate::specs::Unix::unix_nanos), using(crate::proofs::UnixLemmas::unix_nanos_range))]
     pub(crate) fn parts(self) -> (i64, u32)
         ensures whole { result.0 *ℤ pos second_nanos +ℤ pos result.1 ≡ self }
-        ensures bound { (unsigned_abs result.0 ≤ 31_619_087_690_399) × (result.1 < second_nanos) }
+        ensures bound { (unsigned_abs result.0 ≤ greatest_distance) × (result.1 < second_nanos) }
         ensures range { IsWallClock self }
     {
         (self.seconds, self.nanoseconds)

@@ -10,7 +10,7 @@ ghost use Rattle.calendar.specs.Range.{IsCount};
 ghost use Rattle.calendar.specs.UtcOffset.{IsOffset};
 ghost use Rattle.calendar.specs.ComponentRange.{out_of_range};
 ghost use Rattle.calendar_count.specs.declared.component_range.ComponentName.TheVariants as component;
-ghost use Rattle.datetime_wall.specs.Wall.{second_nanos, day_nanos, wall_clock, day_of, nanosecond_of, IsWallClock, shown_at};
+ghost use Rattle.datetime_wall.specs.Wall.{second_nanos, greatest_distance, day_nanos, wall_clock, day_of, nanosecond_of, IsWallClock, shown_at};
 ghost use Rattle.datetime_products.specs.Seconds.{IsUnixSecond};
 
 mod arithmetic;
@@ -180,7 +180,7 @@ impl UtcDateTime {
     #[inline(always)]
     pub(crate) fn parts(self) -> (i64, u32)
         ensures whole { result.0 *ℤ pos second_nanos +ℤ pos result.1 ≡ self }
-        ensures bound { (unsigned_abs result.0 ≤ 31_619_087_690_399) × (result.1 < second_nanos) }
+        ensures bound { (unsigned_abs result.0 ≤ greatest_distance) × (result.1 < second_nanos) }
     {
         self.wall.parts()
     }

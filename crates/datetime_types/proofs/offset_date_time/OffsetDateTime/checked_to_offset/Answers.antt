@@ -1,7 +1,7 @@
 use Rattle.std.proofs.Common.{arith, sym, refl, ◌∙◌, ℤ, pos, ◌+ℤ◌, ◌-ℤ◌, ◌*ℤ◌}
 use Rattle.std.proofs.lemmas.Int.{ints}
 use Rattle.datetime_wall.specs.Wall.{second_nanos, Shown, IsWallClock}
-use Rattle.datetime_wall.proofs.ShownLemmas.{shown_at_some, shown_at_none}
+use Rattle.datetime_wall.proofs.lemmas.Shown.{shown_at_some, shown_at_none}
 use Rattle.datetime_types.proofs.offset_date_time.OffsetDateTime.checked_to_offset.Goals as goal
 
 pub returns-clause-value : goal.returns-clause-value

@@ -1,5 +1,5 @@
 use Rattle.std.proofs.Common.{rules, arith, ◌≡◌, ◌+ℤ◌, ◌*ℤ◌, pos, to_z, of_z, w64}
-use Rattle.calendar_count.proofs.Signed.{signed}
+use Rattle.calendar_count.proofs.lemmas.Signed.{signed}
 use Rattle.datetime_wall.specs.Wall.{second_nanos, Shown, instant}
 use Rattle.datetime_types.proofs.UnixLemmas.{instant_parts}
 use Rattle.datetime_types.proofs.offset_date_time.OffsetDateTime.checked_to_timestamp.Goals as goal

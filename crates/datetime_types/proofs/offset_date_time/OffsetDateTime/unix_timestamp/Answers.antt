@@ -2,7 +2,7 @@ use Rattle.std.proofs.Common.{arith, ◌≡◌, pos}
 use Rattle.std.specs.Int.{int_div_euclid}
 use Rattle.std.proofs.lemmas.Int.{ints}
 use Rattle.datetime_wall.specs.Wall.{second_nanos, wall_clock, Shown}
-use Rattle.datetime_wall.proofs.WallLemmas.{wall_clock_parts}
+use Rattle.datetime_wall.proofs.lemmas.WallClocks.{wall_clock_parts}
 use Rattle.datetime_types.proofs.UnixLemmas.{instant_seconds}
 use Rattle.datetime_types.proofs.offset_date_time.OffsetDateTime.unix_timestamp.Goals as goal
 

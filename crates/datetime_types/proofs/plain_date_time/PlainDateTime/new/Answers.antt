@@ -1,5 +1,5 @@
 use Rattle.std.proofs.Common.{rules}
-use Rattle.datetime_wall.proofs.WallLemmas.{IsWallClock-wall_clock, day_of-wall_clock, nanosecond_of-wall_clock}
+use Rattle.datetime_wall.proofs.lemmas.WallClocks.{IsWallClock-wall_clock, day_of-wall_clock, nanosecond_of-wall_clock}
 use Rattle.datetime_types.proofs.plain_date_time.PlainDateTime.new.Goals as goal
 
 pub returns-clause-range : goal.returns-clause-range

@@ -1,5 +1,5 @@
 use Rattle.std.proofs.Common.{arith}
-use Rattle.calendar_count.proofs.Signed.{signed}
+use Rattle.calendar_count.proofs.lemmas.Signed.{signed}
 use Rattle.datetime_wall.specs.Wall.{wall_clock}
 use Rattle.datetime_types.proofs.plain_date_time.PlainDateTime.parts.Goals as goal
 

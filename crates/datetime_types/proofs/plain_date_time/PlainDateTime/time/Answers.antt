@@ -1,5 +1,5 @@
 use Rattle.std.proofs.Common.{sym}
-use Rattle.datetime_wall.proofs.WallLemmas.{nanosecond_of-wall_clock, IsWallClock-wall_clock}
+use Rattle.datetime_wall.proofs.lemmas.WallClocks.{nanosecond_of-wall_clock, IsWallClock-wall_clock}
 use Rattle.datetime_types.proofs.plain_date_time.PlainDateTime.time.Goals as goal
 
 pub returns-clause-value : goal.returns-clause-value

@@ -1,5 +1,5 @@
 use Rattle.std.proofs.Common.{◌∙◌}
-use Rattle.datetime_wall.proofs.CutLemmas.{cut_minute}
+use Rattle.datetime_wall.proofs.lemmas.Cuts.{cut_minute}
 use Rattle.datetime_types.proofs.plain_date_time.PlainDateTime.truncate_to_minute.Goals as goal
 
 pub returns : goal.returns

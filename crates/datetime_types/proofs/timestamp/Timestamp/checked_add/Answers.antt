@@ -1,6 +1,6 @@
 use Rattle.std.proofs.Common.{arith, ◌≡◌, ◌+ℤ◌, ◌*ℤ◌, pos, to_z, of_z, w32}
 use Rattle.std.specs.Int.{w128}
-use Rattle.calendar_count.proofs.Signed.{signed}
+use Rattle.calendar_count.proofs.lemmas.Signed.{signed}
 use Rattle.datetime_wall.specs.Wall.{second_nanos}
 use Rattle.datetime_types.proofs.UnixLemmas.{duration_whole}
 use Rattle.datetime_types.proofs.timestamp.Timestamp.checked_add.Goals as goal

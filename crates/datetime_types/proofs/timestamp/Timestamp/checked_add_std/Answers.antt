@@ -1,6 +1,6 @@
 use Rattle.std.proofs.Common.{inl, inr}
 use Rattle.std.specs.Duration.{as_nanos}
-use Rattle.datetime_wall.proofs.NearestLemmas.{nearest_later, if_none}
+use Rattle.datetime_wall.proofs.lemmas.Nearest.{nearest_later, if_none}
 use Rattle.datetime_types.proofs.timestamp.Timestamp.checked_add_std.Goals as goal
 
 pub returns-clause-some : goal.returns-clause-some

@@ -1,6 +1,6 @@
 use Rattle.std.proofs.Common.{arith, ◌≡◌, ◌+ℤ◌, ◌*ℤ◌, pos, to_z, of_z}
 use Rattle.std.specs.Int.{w128}
-use Rattle.calendar_count.proofs.Signed.{signed}
+use Rattle.calendar_count.proofs.lemmas.Signed.{signed}
 use Rattle.datetime_wall.specs.Wall.{second_nanos}
 use Rattle.datetime_types.proofs.timestamp.Timestamp.moved.Goals as goal
 use Rattle.datetime_types.proofs.timestamp.Timestamp.moved.Goals.{After-of_parts}

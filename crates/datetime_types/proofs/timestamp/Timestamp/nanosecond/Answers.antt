@@ -1,5 +1,5 @@
 use Rattle.std.proofs.Common.{arith}
-use Rattle.calendar_count.proofs.Signed.{signed}
+use Rattle.calendar_count.proofs.lemmas.Signed.{signed}
 use Rattle.datetime_wall.specs.Wall.{nanosecond_of}
 use Rattle.datetime_types.specs.Unix.{unix_nanos}
 use Rattle.datetime_types.proofs.timestamp.Timestamp.nanosecond.Goals as goal

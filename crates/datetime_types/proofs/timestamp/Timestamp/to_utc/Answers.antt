@@ -1,5 +1,5 @@
 use Rattle.std.proofs.Common.{◌∙◌}
-use Rattle.datetime_wall.proofs.WallLemmas.{wall_clock_parts}
+use Rattle.datetime_wall.proofs.lemmas.WallClocks.{wall_clock_parts}
 use Rattle.datetime_types.proofs.timestamp.Timestamp.to_utc.Goals as goal
 
 pub returns-clause-value : goal.returns-clause-value
