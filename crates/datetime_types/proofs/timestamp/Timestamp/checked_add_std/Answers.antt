@@ -1,21 +1,10 @@
-use Rattle.std.proofs.Common.{inl, inr}
 use Rattle.std.specs.Duration.{as_nanos}
-use Rattle.datetime_wall.proofs.lemmas.Nearest.{nearest_later, if_none}
+use Rattle.datetime_wall.proofs.lemmas.Nearest.{later_some, later_value}
 use Rattle.datetime_types.proofs.timestamp.Timestamp.checked_add_std.Goals as goal
 
 pub returns-clause-some : goal.returns-clause-some
-returns-clause-some c =
-    let given = rw c.nearest_from_std.ensures at c.checked_add.ensures.some in
-    elim (nearest_later c.args.self (as_nanos c.args.duration) c.checked_add.ensures.range) [
-      | inl e ↦ rw e at given
-      | inr p ↦ (λ yes. absurd (p.0 (given.0 yes)), λ k. absurd (p.1 k))
-    ]
+returns-clause-some c = later_some _ c.args.self (as_nanos c.args.duration) c.checked_add.ensures.range (rw c.nearest_from_std.ensures at c.checked_add.ensures.some)
 
 pub returns-clause-value : goal.returns-clause-value
 returns-clause-value c =
-    let some = rw c.nearest_from_std.ensures at c.checked_add.ensures.some in
-    let value = rw c.nearest_from_std.ensures at c.checked_add.ensures.value in
-    elim (nearest_later c.args.self (as_nanos c.args.duration) c.checked_add.ensures.range) [
-      | inl e ↦ rw e at value
-      | inr p ↦ if_none c.checked_add.result _ (λ yes. p.0 (some.0 yes))
-    ]
+    later_value c.checked_add.result c.args.self (as_nanos c.args.duration) c.checked_add.ensures.range (rw c.nearest_from_std.ensures at c.checked_add.ensures.some) (rw c.nearest_from_std.ensures at c.checked_add.ensures.value)
