@@ -1,4 +1,3 @@
 pub mod DecimalLemmas
 pub mod PairLemmas
 pub mod AppendLemmas
-pub mod WrittenYears

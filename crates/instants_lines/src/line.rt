@@ -10,19 +10,18 @@ ghost use Rattle.instants_lines.specs.Text.{FitsLine, has_written_year, moment_t
 use crate::answer::Answer;
 use crate::fields::{push_date, push_offset, push_time};
 use calendar::UtcOffset;
-use calendar_count::range::{YEAR_TEN_THOUSAND, YEAR_ZERO};
+use calendar_count::closed;
 use datetime_types::OffsetDateTime;
 
 const GREATEST_OFFSET: u32 = 86_340;
 
 /// Whether four digits write the year that is shown: it is 0 to 9999.
 #[inline(always)]
-#[tactic(auto, using(crate::proofs::WrittenYears::written_years), unfolding(crate::specs::Text::has_written_year))]
+#[tactic(auto, unfolding(crate::specs::Text::has_written_year))]
 pub fn has_written_year(date_time: OffsetDateTime) -> bool
     ensures { result ≡ has_written_year date_time }
 {
-    let count = date_time.date().count();
-    YEAR_ZERO <= count && count < YEAR_TEN_THOUSAND
+    closed::has_four_digit_year(date_time.date().count())
 }
 
 /// Whether hours and minutes of a clock write the offset: it is of whole minutes, within 23:59.
