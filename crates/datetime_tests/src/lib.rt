@@ -16,6 +16,8 @@ mod kinds;
 #[cfg(test)]
 mod laws;
 #[cfg(test)]
+mod memory;
+#[cfg(test)]
 mod moments;
 #[cfg(test)]
 mod rows;
