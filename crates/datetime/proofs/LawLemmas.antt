@@ -4,10 +4,10 @@ use Rattle.std.specs.Prelude.{IsSome, IfSome, ◌↔◌, if◌then◌else◌}
 use Rattle.std.specs.Int.{int_div_euclid}
 use Rattle.std.proofs.lemmas.Bool.Decides.{nat_tests}
 use Rattle.calendar_count.specs.declared.component_range.ComponentRange.{ComponentRange}
-use Rattle.calendar_count.proofs.Signed.{signed}
+use Rattle.calendar_count.proofs.lemmas.Signed.{signed}
 use Rattle.calendar.specs.Time.{micro_nanos, milli_nanos, minute_nanos, hour_nanos, millisecond_at, microsecond_at, time_of, time_of_milli, time_of_micro}
 use Rattle.datetime_wall.specs.Wall.{second_nanos, day_nanos, cut_to, Shown, IsWallClock, is_wall_clock, instant, wall_at, shown_at}
-use Rattle.datetime_wall.proofs.WallLemmas.{is_wall_clock_yes, is_wall_clock_no, day_of-wall_clock, nanosecond_of-wall_clock}
+use Rattle.datetime_wall.proofs.lemmas.WallClocks.{is_wall_clock_yes, is_wall_clock_no, day_of-wall_clock, nanosecond_of-wall_clock}
 use Rattle.datetime.specs.Laws.{IsUnit, IsCut, Shows, TimesShowParts, ShowsDay}
 
 -- the one value that a call with an answer can have

@@ -9,7 +9,7 @@ use Rattle.calendar_count.specs.declared.weekday.Weekday.TheVariants.{Monday, Tu
 use Rattle.calendar_count.specs.Month.{month_number}
 use Rattle.calendar_count.specs.Weekday.{days_from_monday}
 use Rattle.datetime_wall.specs.Wall.{IsWallClock, is_wall_clock}
-use Rattle.datetime_wall.proofs.WallLemmas.{is_wall_clock_yes, is_wall_clock_no}
+use Rattle.datetime_wall.proofs.lemmas.WallClocks.{is_wall_clock_yes, is_wall_clock_no}
 use Rattle.datetime_calls.specs.Replies.{month_of, weekday_of, in_range}
 
 pub month_back : (m : Month) → month_of (month_number m) ≡ m

@@ -1,5 +1,5 @@
 use Rattle.std.proofs.Common.{arith}
-use Rattle.calendar_count.proofs.Signed.{signed}
+use Rattle.calendar_count.proofs.lemmas.Signed.{signed}
 use Rattle.datetime_wall.specs.Wall.{instant}
 use Rattle.datetime.proofs.LawLemmas.{shown_by}
 use Rattle.datetime.proofs.laws.moment_at_difference.Goals as goal

@@ -1,5 +1,5 @@
 use Rattle.std.proofs.Common.{◌∙◌}
-use Rattle.datetime_wall.proofs.ShownLemmas.{shown_at-instant}
+use Rattle.datetime_wall.proofs.lemmas.Shown.{shown_at-instant}
 use Rattle.datetime.proofs.laws.shown_at_own_offset.Goals as goal
 
 pub returns : goal.returns

@@ -1,5 +1,5 @@
 use Rattle.std.proofs.Common.{arith}
-use Rattle.calendar_count.proofs.Signed.{signed}
+use Rattle.calendar_count.proofs.lemmas.Signed.{signed}
 use Rattle.datetime.proofs.LawLemmas.{only_some}
 use Rattle.datetime.proofs.laws.wall_clock_at_difference.Goals as goal
 
