@@ -1,5 +1,5 @@
 -- The weeks of a year: its Thursdays.
-use Rattle.std.proofs.Common.{◌≡◌, ℕ, ◌+◌, ◌-◌, ◌*◌, ◌/◌, ◌%◌, ◌<◌, ◌≤◌, Bool, false, ◌&&◌, sym, ◌∙◌, arith, ℤ, pos, ◌+ℤ◌, unsigned_abs, int_eq}
+use Rattle.std.proofs.Common.{◌≡◌, ℕ, ◌+◌, ◌-◌, ◌*◌, ◌/◌, ◌%◌, ◌<◌, ◌≤◌, Bool, false, ◌&&◌, arith, ℤ, pos, ◌+ℤ◌, unsigned_abs, int_eq}
 use Rattle.std.specs.Prelude.{◌==◌}
 use Rattle.std.specs.Int.{int_rem_euclid}
 use Rattle.calendar_count.specs.Range.{greatest_year, IsYear, last_count, year_count}

@@ -1,7 +1,7 @@
 -- Days and their counts: their range, their order, and what of a day says which one it is.
-use Rattle.std.proofs.Common.{◌≡◌, ℕ, ◌+◌, ◌<◌, ◌≤◌, ◌↔◌, ◌⊎◌, inl, inr, refl, sym, arith, pos, ◌+ℤ◌}
+use Rattle.std.proofs.Common.{◌≡◌, ℕ, ◌<◌, ◌≤◌, ◌↔◌, inl, inr, refl, arith}
 use Rattle.std.proofs.lemmas.Bool.{cases_lt}
-use Rattle.calendar_count.specs.Range.{greatest_year, IsYear, last_count, year_count}
+use Rattle.calendar_count.specs.Range.{IsYear, last_count, year_count}
 use Rattle.calendar_count.specs.Calendar.{days_in_year, day_at, ordinal_at, weekday_at, thursday_of, iso_year_at, iso_week_at, IsDay, ComesBefore}
 use Rattle.calendar_count.proofs.lemmas.Signed.{signed}
 use Rattle.calendar_count.proofs.lemmas.Places.{iso_count-is}

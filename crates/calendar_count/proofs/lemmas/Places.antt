@@ -67,14 +67,14 @@ iso_at c n y e low high =
     let same = year_at-is (thursday_of c) y n e low (omega (arith, days_before_year-next y n e)) in
     (same, iso_week-is c n y e same)
 
--- a day is the one of its year, week and weekday
+-- a day of a year, a week and a weekday has the count that they name, in closed form
 pub iso_count-is : (c n week day : ℕ) (y : ℤ) → y +ℤ pos greatest_year ≡ pos n → iso_year_at c ≡ y → iso_week_at c ≡ week → weekday_at c ≡ day → (c ≡ iso_count (days_before_year n) week day) × (1 ≤ week) × (first_thursday (days_before_year n) + 7 * (week - 1) < days_before_year n + days_in_year y)
 iso_count-is c n week day y e same is d =
     let within = years_at-is (thursday_of c) y n e same in
     let formula = iso_week-is c n y e same in
     (omega (arith, formula), omega (arith, formula), omega (arith, formula))
 
--- a week that begins in the year has its days
+-- and that count leads to such a day, where the Thursday of the week lies in the year
 pub iso_count-at : (n week day : ℕ) (y : ℤ) → y +ℤ pos greatest_year ≡ pos n → 1 ≤ week → day < 7 → first_thursday (days_before_year n) + 7 * (week - 1) < days_before_year n + days_in_year y → (iso_year_at (iso_count (days_before_year n) week day) ≡ y) × (iso_week_at (iso_count (days_before_year n) week day) ≡ week) × (weekday_at (iso_count (days_before_year n) week day) ≡ day)
 iso_count-at n week day y e low d high =
     let c = iso_count (days_before_year n) week day in
