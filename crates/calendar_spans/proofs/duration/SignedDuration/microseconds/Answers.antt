@@ -5,10 +5,7 @@ use Rattle.calendar_spans.proofs.UnitLemmas.{parts_of_sign}
 use Rattle.calendar_spans.proofs.duration.SignedDuration.microseconds.Goals as goal
 
 pub one_signed-requires : goal.one_signed-requires
-one_signed-requires c =
-    let side = one_sided c.args.microseconds in
-    parts_of_sign c.args.microseconds _ _ (omega (arith, signed, side)) (omega (arith, signed, side)) (λ above. (omega (arith, signed), omega (arith, signed))) (λ below. (omega (arith, signed), omega (arith, signed)))
+one_signed-requires c = parts_of_sign c.args.microseconds _ _ (omega (arith, signed, one_sided c.args.microseconds)) (omega (arith, signed, one_sided c.args.microseconds)) (λ above. (omega (arith, signed), omega (arith, signed))) (λ below. (omega (arith, signed), omega (arith, signed)))
 
 pub returns : goal.returns
-returns c =
-    record { value = omega (arith, signed, quot-rem c.args.microseconds (pos 1_000_000), one_sided c.args.microseconds) }
+returns c = record { value = omega (arith, signed, quot-rem c.args.microseconds (pos 1_000_000), one_sided c.args.microseconds) }

@@ -6,10 +6,7 @@ use Rattle.calendar_spans.proofs.UnitLemmas.{parts_of_sign}
 use Rattle.calendar_spans.proofs.duration.SignedDuration.nanoseconds.Goals as goal
 
 pub one_signed-requires : goal.one_signed-requires
-one_signed-requires c =
-    let side = one_sided c.args.nanoseconds in
-    parts_of_sign c.args.nanoseconds _ _ (omega (arith, signed, side)) (omega (arith, signed, side)) (λ above. (omega (arith, signed), omega (arith, signed))) (λ below. (omega (arith, signed), omega (arith, signed)))
+one_signed-requires c = parts_of_sign c.args.nanoseconds _ _ (omega (arith, signed, one_sided c.args.nanoseconds)) (omega (arith, signed, one_sided c.args.nanoseconds)) (λ above. (omega (arith, signed), omega (arith, signed))) (λ below. (omega (arith, signed), omega (arith, signed)))
 
 pub returns : goal.returns
-returns c =
-    record { value = omega (arith, signed, quot-rem c.args.nanoseconds (pos second_nanos), one_sided c.args.nanoseconds) }
+returns c = record { value = omega (arith, signed, quot-rem c.args.nanoseconds (pos second_nanos), one_sided c.args.nanoseconds) }
