@@ -7,7 +7,7 @@ use Rattle.description_items.specs.declared.component.Component.{Component}
 use Rattle.description_items.specs.Tree.{Tree, Trees, listed}
 use Rattle.description_words.specs.declared.version.DescriptionVersion.{DescriptionVersion}
 use Rattle.description_words.specs.declared.version.DescriptionVersion.TheVariants.{One, Two, Three}
-use Rattle.description_words.specs.Text.{Piece}
+use Rattle.description_words.specs.Text.{Rest}
 use Rattle.description_words.specs.Words.{Modifier}
 use Rattle.description_strftime.specs.Further.{further}
 use Rattle.description_spelling.specs.Heads.{SpellsModifiers, SpellsHead}
@@ -38,7 +38,7 @@ modifiers_moved k (m ∷ ms) at to own far (first, rest, parts, one, more) = (
   modifiers_moved k ms (at + length first) (to + length first) rest (omega (arith, far)) more,
 )
 
-head_moved : (k : ℕ) (v : DescriptionVersion) (at to : ℕ) (own : List ℕ) (name : Piece) (ms : List Modifier) → IsFurther k at to → SpellsHead v at own name ms → SpellsHead v to own (moved k name) (all_moved k ms)
+head_moved : (k : ℕ) (v : DescriptionVersion) (at to : ℕ) (own : List ℕ) (name : Rest) (ms : List Modifier) → IsFurther k at to → SpellsHead v at own name ms → SpellsHead v to own (moved k name) (all_moved k ms)
 head_moved k v at to own name ms far h = record {
   first = h.first;
   middle = h.middle;

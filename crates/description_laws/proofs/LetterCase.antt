@@ -6,7 +6,7 @@ use Rattle.description_items.specs.Tree.{Tree, Part}
 use Rattle.description_words.specs.declared.version.DescriptionVersion.{DescriptionVersion}
 use Rattle.description_words.specs.declared.version.DescriptionVersion.TheVariants.{One, Two, Three}
 use Rattle.description_words.specs.Version.{is_three}
-use Rattle.description_words.specs.Text.{Piece, is_space, is_no_colon, is_plain}
+use Rattle.description_words.specs.Text.{Rest, is_space, is_no_colon, is_plain}
 use Rattle.description_words.specs.Words.{Modifier}
 use Rattle.description_spelling.specs.Heads.{Stops, SpellsModifier, SpellsModifiers, SpellsComponent}
 use Rattle.description_spelling.specs.Spelling.{Spells}
@@ -84,7 +84,7 @@ component_alike v own other c h a s =
     let middle : CutAlike g.middle g.last name.back = cut_alike g.middle g.last name.back name.is_back in
     let same = lower_same s.name.text name.front name.is_front in
     let words : ModifiersAlike v (0 + 1 + length first.front + length name.front) middle.front s.modifiers = modifiers_alike v s.modifiers (0 + 1 + length g.first + length s.name.text) (0 + 1 + length first.front + length name.front) g.middle middle.front h g.modifiers middle.is_front in
-    let there : Piece = at_index (0 + 1 + length first.front) name.front in
+    let there : Rest = at_index (0 + 1 + length first.front) name.front in
     record {
       head = whole.front;
       name = there;

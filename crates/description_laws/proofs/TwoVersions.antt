@@ -25,7 +25,7 @@ use Rattle.description_items.specs.Modern.{modern_month, modern_weekday, modern_
 use Rattle.description_items.specs.Tree.{Tree, Literal, Part, Compound, Optional, First}
 use Rattle.description_words.specs.declared.version.DescriptionVersion.TheVariants.{Two, Three}
 use Rattle.description_words.specs.Version.{is_three}
-use Rattle.description_words.specs.Text.{Piece}
+use Rattle.description_words.specs.Text.{Rest}
 use Rattle.description_words.specs.Words.{Modifier}
 use Rattle.description_words.proofs.Readings.{bind_ok, ok_is, not_ok, chosen, and_then_ok}
 use Rattle.description_tables.specs.declared.names.Name.{Name}
@@ -47,7 +47,7 @@ use Rattle.description_laws.proofs.TwoTables.{name_two, no_nesting_two, key_two,
 
 -- ---- modifiers
 
-key_in_two : (n : Name) (p : Piece) (k : Key) → key_in Three n p ≡ Ok k → key_in Two n p ≡ Ok k
+key_in_two : (n : Name) (p : Rest) (k : Key) → key_in Three n p ≡ Ok k → key_in Two n p ≡ Ok k
 key_in_two n p k e =
     let f = key_found (key_of Three p.text) n (bad p) k e in
     ap (λ (o : Option Key). key_among o n (bad p)) (key_two p.text k f.0) ∙ cond_true (has_key k n) (Ok k) (Err (bad p)) f.1

@@ -25,7 +25,7 @@ use Rattle.description_items.specs.declared.component.Component.TheVariants as c
 use Rattle.description_items.specs.Modern.{modern_month, modern_weekday, modern_week_number, modern_year, modern_hour, modern_timestamp}
 use Rattle.description_words.specs.declared.version.DescriptionVersion.TheVariants.{Three}
 use Rattle.description_words.specs.Version.{is_three}
-use Rattle.description_words.specs.Text.{Piece}
+use Rattle.description_words.specs.Text.{Rest}
 use Rattle.description_words.specs.Words.{Modifier}
 use Rattle.description_words.proofs.Readings.{bind_ok, ok_is, not_ok, chosen}
 use Rattle.description_tables.specs.declared.names.Name.{Name}
@@ -255,7 +255,7 @@ pub component_width : (own : List ℕ) (c : Component) → SpellsComponent Three
 unfolding component_of named
 component_width own c h =
     let g = h.is_head in
-    let lacking : Piece → Fault = λ word. MissingRequiredModifier (codes "count") word.index in
+    let lacking : Rest → Fault = λ word. MissingRequiredModifier (codes "count") word.index in
     let a = bind_ok (named Three h.name) (λ n. with_modifiers Three n nothing h.modifiers >>= λ c. combined Three n c h.modifiers >>= λ d. found (made Three n d) (lacking h.name)) c h.means in
     let b = bind_ok (with_modifiers Three a.0 nothing h.modifiers) (λ c. combined Three a.0 c h.modifiers >>= λ d. found (made Three a.0 d) (lacking h.name)) c a.2 in
     let d = bind_ok (combined Three a.0 b.0 h.modifiers) (λ d. found (made Three a.0 d) (lacking h.name)) c b.2 in

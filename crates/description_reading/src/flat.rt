@@ -5,7 +5,7 @@ ghost use Rattle.std.specs.Str.{IsCharBoundary};
 ghost use Rattle.description_faults.specs.Answer.{Gives};
 ghost use Rattle.description_items.specs.Tree.{tree_of, trees};
 ghost use Rattle.description_words.specs.Version.{is_three};
-ghost use Rattle.description_words.specs.Views.{piece};
+ghost use Rattle.description_words.specs.Views.{rest_of};
 ghost use Rattle.description_reading.specs.Reading.{bracket_at, element_at, nested_at, read_items};
 
 use crate::components::component_from;
@@ -13,7 +13,7 @@ use crate::nested::{LEVELS, first, optional};
 use crate::texts::{doubled, text};
 use description_faults::DescriptionFault;
 use description_items::BorrowedFormatItem;
-use description_words::{DescriptionVersion, Left, begins, cut, is_named, name_of, whole_of};
+use description_words::{DescriptionVersion, Rest, begins, cut, is_named, name_of, whole_of};
 use std::alloc::Global;
 
 /// The items of a description of version 1 or 2. Nested descriptions are read for their faults alone.
@@ -40,19 +40,19 @@ pub fn items_of<'a>(
 fn element<'a>(
     alloc: Global,
     version: DescriptionVersion,
-    left: Left<'a>,
-) -> Result<(BorrowedFormatItem<'a>, Left<'a>), DescriptionFault<'a>>
+    here: Rest<'a>,
+) -> Result<(BorrowedFormatItem<'a>, Rest<'a>), DescriptionFault<'a>>
     requires version { is_three version ≡ false }
-    requires some { 0 < length left.text.now }
-    ensures { Gives (λ x. (tree_of x.0, piece x.1)) result (element_at version (nested_at version 127) (piece left.entry)) }
+    requires some { 0 < length here.text.now }
+    ensures { Gives (λ x. (tree_of x.0, rest_of x.1)) result (element_at version (nested_at version 127) (rest_of here.entry)) }
 {
-    if let Some((front, rest)) = doubled(version, left) {
+    if let Some((front, rest)) = doubled(version, here) {
         return Ok((BorrowedFormatItem::StringLiteral(front), rest));
     }
-    if begins(left.text, b'[') {
-        return bracketed(alloc, version, left);
+    if begins(here.text, b'[') {
+        return bracketed(alloc, version, here);
     }
-    let (front, rest) = text(version, left)?;
+    let (front, rest) = text(version, here)?;
     Ok((BorrowedFormatItem::StringLiteral(front), rest))
 }
 
@@ -60,26 +60,26 @@ fn element<'a>(
 fn bracketed<'a>(
     alloc: Global,
     version: DescriptionVersion,
-    left: Left<'a>,
-) -> Result<(BorrowedFormatItem<'a>, Left<'a>), DescriptionFault<'a>>
+    here: Rest<'a>,
+) -> Result<(BorrowedFormatItem<'a>, Rest<'a>), DescriptionFault<'a>>
     requires version { is_three version ≡ false }
-    requires boundary { IsCharBoundary left.text.now 1 }
-    ensures { Gives (λ x. (tree_of x.0, piece x.1)) result (bracket_at version (nested_at version 127) (piece left.entry)) }
+    requires boundary { IsCharBoundary here.text.now 1 }
+    ensures { Gives (λ x. (tree_of x.0, rest_of x.1)) result (bracket_at version (nested_at version 127) (rest_of here.entry)) }
 {
-    let (_, inside) = cut(left, 1);
-    let (name, rest) = name_of(left.index, inside)?;
+    let (_, inside) = cut(here, 1);
+    let (name, rest) = name_of(here.index, inside)?;
     if is_named(version, name.text, "optional") {
-        return match optional(alloc, version, LEVELS, left.index, rest) {
+        return match optional(alloc, version, LEVELS, here.index, rest) {
             Err(fault) => Err(fault),
             Ok(_) => unreachable!(),
         };
     }
     if is_named(version, name.text, "first") {
-        return match first(alloc, version, LEVELS, left.index, rest) {
+        return match first(alloc, version, LEVELS, here.index, rest) {
             Err(fault) => Err(fault),
             Ok(_) => unreachable!(),
         };
     }
-    let (component, rest) = component_from(alloc, version, left.index, name, rest)?;
+    let (component, rest) = component_from(alloc, version, here.index, name, rest)?;
     Ok((BorrowedFormatItem::Component(component), rest))
 }

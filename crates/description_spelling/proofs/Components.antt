@@ -7,7 +7,7 @@ use Rattle.description_faults.specs.Fault.{Fault, MissingComponentName}
 use Rattle.description_faults.specs.Answer.{◌>>=◌}
 use Rattle.description_items.specs.declared.component.Component.{Component}
 use Rattle.description_words.specs.declared.version.DescriptionVersion.{DescriptionVersion}
-use Rattle.description_words.specs.Text.{Piece, is_space, is_word_byte, run, past, after}
+use Rattle.description_words.specs.Text.{Rest, is_space, is_word_byte, run, past, after}
 use Rattle.description_words.specs.Words.{Modifier, has_word, begins, name_at, modifiers_at, closed_at}
 use Rattle.description_words.proofs.Readings.{bind_ok, ok_is, not_ok, chosen, bind_err, made_err, err_is, not_err}
 use Rattle.description_tables.specs.Component.{component_of}
@@ -22,7 +22,7 @@ use Rattle.description_spelling.proofs.Meaning.{component_spelled}
 
 -- ---- the name
 
-pub record TakesName (s : Piece) (name : Piece) (rest : Piece) : Type 0 where
+pub record TakesName (s : Rest) (name : Rest) (rest : Rest) : Type 0 where
   pub first : List ℕ
   pub takes : Takes s (first ++ name.text) rest
   pub is_first : Each is_space first
@@ -30,11 +30,11 @@ pub record TakesName (s : Piece) (name : Piece) (rest : Piece) : Type 0 where
   pub name_at : name.index ≡ s.index + length first
   pub no_word : Stops is_word_byte rest.text
 
-pub name_takes : (bracket : ℕ) (s : Piece) (x : Piece × Piece) → name_at bracket s ≡ Ok x → TakesName s x.0 x.1
+pub name_takes : (bracket : ℕ) (s : Rest) (x : Rest × Rest) → name_at bracket s ≡ Ok x → TakesName s x.0 x.1
 unfolding name_at
 name_takes bracket s x e =
     elim (chosen (has_word start) (Ok (run is_word_byte start, past is_word_byte start)) (Err (MissingComponentName (cond (eqb (prefix_len is_space s.text) 0) bracket s.index))) (Ok x) e) [
-      | inl h ↦ subst (λ (y : Piece × Piece). TakesName s y.0 y.1) (ok_is (run is_word_byte start, past is_word_byte start) x h.1) (record {
+      | inl h ↦ subst (λ (y : Rest × Rest). TakesName s y.0 y.1) (ok_is (run is_word_byte start, past is_word_byte start) x h.1) (record {
         first = (run is_space s).text;
         takes = takes_then s (run is_space s).text start (run is_word_byte start).text (past is_word_byte start) (takes_run is_space s) (takes_run is_word_byte start);
         is_first = each_run is_space s.text;
@@ -45,10 +45,10 @@ name_takes bracket s x e =
       | inr h ↦ absurd (not_ok _ x h.1)
     ]
   where
-    start : Piece
+    start : Rest
     start = past is_space s
 
-pub name_refused : (bracket : ℕ) (s : Piece) (e : Fault) → s.index ≡ bracket + 1 → name_at bracket s ≡ Err e
+pub name_refused : (bracket : ℕ) (s : Rest) (e : Fault) → s.index ≡ bracket + 1 → name_at bracket s ≡ Err e
     → (s.text ≡ (run is_space s).text ++ (past is_space s).text) × Stops is_word_byte (past is_space s).text × (e ≡ MissingComponentName (missing_at bracket (run is_space s).text))
 unfolding name_at
 name_refused bracket s e at h =
@@ -57,7 +57,7 @@ name_refused bracket s e at h =
       | inr g ↦ (
         cut_run is_space s,
         stops_from_none is_word_byte (past is_space s).text (none_there (past is_space s) g.0),
-        sym (err_is {A = Piece × Piece} _ e g.1) ∙ ap (λ (i : ℕ). MissingComponentName i) (place (prefix_len is_space s.text) (run is_space s).text (length-prefix_len is_space s.text)),
+        sym (err_is {A = Rest × Rest} _ e g.1) ∙ ap (λ (i : ℕ). MissingComponentName i) (place (prefix_len is_space s.text) (run is_space s).text (length-prefix_len is_space s.text)),
       )
     ]
   where
@@ -70,14 +70,14 @@ name_refused bracket s e at h =
 -- ---- the head
 
 -- a bracket, a name, modifiers and white space make a head
-record MakesHead (v : DescriptionVersion) (s name next : Piece) (own last : List ℕ) (ms : List Modifier) : Type 0 where
+record MakesHead (v : DescriptionVersion) (s name next : Rest) (own last : List ℕ) (ms : List Modifier) : Type 0 where
   head : List ℕ
   is_head : SpellsHead v s.index head name ms
   last_is : is_head.last ≡ last
   place : s.index + length head ≡ next.index + length own + length last
   parts : (tail : List ℕ) → next.text ≡ own ++ (last ++ tail) → s.text ≡ head ++ tail
 
-head_of : (v : DescriptionVersion) (s name next : Piece) (own last : List ℕ) (ms : List Modifier) → begins 91 s.text ≡ true → TakesName (after 1 s) name next → is_nesting v name.text ≡ false → SpellsModifiers next.index own ms → Each is_space last
+head_of : (v : DescriptionVersion) (s name next : Rest) (own last : List ℕ) (ms : List Modifier) → begins 91 s.text ≡ true → TakesName (after 1 s) name next → is_nesting v name.text ≡ false → SpellsModifiers next.index own ms → Each is_space last
     → MakesHead v s name next own last ms
 head_of v s name next own last ms opens n no_nesting spells is_last = record {
   head = 91 ∷ (n.first ++ (name.text ++ (own ++ last)));
@@ -106,7 +106,7 @@ head_of v s name next own last ms opens n no_nesting spells is_last = record {
 
 -- ---- the component
 
-pub component_takes : (v : DescriptionVersion) (s name next : Piece) (x : Component × Piece) → begins 91 s.text ≡ true → TakesName (after 1 s) name next → is_nesting v name.text ≡ false → component_from v s.index name next ≡ Ok x
+pub component_takes : (v : DescriptionVersion) (s name next : Rest) (x : Component × Rest) → begins 91 s.text ≡ true → TakesName (after 1 s) name next → is_nesting v name.text ≡ false → component_from v s.index name next ≡ Ok x
     → (own : List ℕ) × Takes s own x.1 × SpellsComponent v own x.0
 unfolding component_from
 component_takes v s name next x opens n no_nesting e =
@@ -120,9 +120,9 @@ component_takes v s name next x opens n no_nesting e =
     let split : next.text ≡ ms.own ++ (ms.last ++ modifiers.1.text) = ms.takes.parts ∙ append_assoc ms.own ms.last modifiers.1.text in
     let whole : Takes s h.head modifiers.1 = record { parts = h.parts modifiers.1.text split; index = omega (arith, h.place, ms.takes.index, length-append ms.own ms.last) } in
     let spelled : SpellsComponent v (h.head ++ 93 ∷ []) d.0 = component_spelled v s.index h.head d.0 (record { name = name; modifiers = modifiers.0; is_head = h.is_head; means = d.1 }) in
-    subst (λ (y : Component × Piece). (own : List ℕ) × Takes s own y.1 × SpellsComponent v own y.0) (ok_is (d.0, c.0) x d.2) (h.head ++ 93 ∷ [], takes_then s h.head modifiers.1 (93 ∷ []) c.0 whole close, spelled)
+    subst (λ (y : Component × Rest). (own : List ℕ) × Takes s own y.1 × SpellsComponent v own y.0) (ok_is (d.0, c.0) x d.2) (h.head ++ 93 ∷ [], takes_then s h.head modifiers.1 (93 ∷ []) c.0 whole close, spelled)
 
-pub component_refused : (v : DescriptionVersion) (s name next : Piece) (e : Fault) → begins 91 s.text ≡ true → TakesName (after 1 s) name next → is_nesting v name.text ≡ false → component_from v s.index name next ≡ Err e
+pub component_refused : (v : DescriptionVersion) (s name next : Rest) (e : Fault) → begins 91 s.text ≡ true → TakesName (after 1 s) name next → is_nesting v name.text ≡ false → component_from v s.index name next ≡ Err e
     → HasBadWord v s.index s.text e ⊎ IsUnclosed v s.index s.text e ⊎ MeansNothing v s.index s.text e
 unfolding component_from
 component_refused v s name next e opens n no_nesting h =

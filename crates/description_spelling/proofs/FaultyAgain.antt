@@ -10,7 +10,7 @@ use Rattle.description_items.specs.Tree.{Tree, Part, Compound, Optional, Trees, 
 use Rattle.description_words.specs.declared.version.DescriptionVersion.{DescriptionVersion}
 use Rattle.description_words.specs.declared.version.DescriptionVersion.TheVariants.{One, Two, Three}
 use Rattle.description_words.specs.Version.{is_three}
-use Rattle.description_words.specs.Text.{Piece, is_space, is_word_byte, is_plain, past, after}
+use Rattle.description_words.specs.Text.{Rest, is_space, is_word_byte, is_plain, past, after}
 use Rattle.description_words.specs.Many.{many}
 use Rattle.description_words.specs.Words.{Modifier, is_named, begins, name_at, closed_at}
 use Rattle.description_reading.specs.Reading.{doubled_at, component_from, unsupported_at, optional_at, no_bracket, first_at, bracket_at, element_at, is_end, nested_at, read_items}
@@ -74,19 +74,19 @@ unfolding element_at bracket_at
 lacks_name_refuses v levels i text e h =
     let opens : begins 91 text ≡ true = ap (begins 91) h.parts in
     let name = ap (λ (t : List ℕ). name_at i (after 1 (at_index i t))) h.parts ∙ no_name_again i h.space h.rest h.spaces h.no_space h.no_word in
-    opened_refuses v levels i text e opens (rw (lacking_single v i text (h.space ++ h.rest) h.parts h.single, opens) (ap (λ (r : Result (Piece × Piece) Fault). r >>= named_item v (nested_at v levels) i) name ∙ rw h.fault_is refl))
+    opened_refuses v levels i text e opens (rw (lacking_single v i text (h.space ++ h.rest) h.parts h.single, opens) (ap (λ (r : Result (Rest × Rest) Fault). r >>= named_item v (nested_at v levels) i) name ∙ rw h.fault_is refl))
 
 -- a head, and what is refused behind it
-head_refuses : (v : DescriptionVersion) (levels i : ℕ) (text head tail : List ℕ) (name : Piece) (ms : List Modifier) (e : Fault) (h : SpellsHead v i head name ms) → text ≡ head ++ tail → Stops is_word_byte (h.last ++ tail)
+head_refuses : (v : DescriptionVersion) (levels i : ℕ) (text head tail : List ℕ) (name : Rest) (ms : List Modifier) (e : Fault) (h : SpellsHead v i head name ms) → text ≡ head ++ tail → Stops is_word_byte (h.last ++ tail)
     → component_from v i name (at_index (i + 1 + length h.first + length name.text) (h.middle ++ (h.last ++ tail))) ≡ Err e → RefusesItem v levels i text e
 head_refuses v levels i text head tail name ms e h parts stops refused =
     let b = begins_head v i text head tail name ms h parts stops in
     let not_nesting = neither _ _ h.no_nesting in
-    let next : Piece = at_index (i + 1 + length h.first + length name.text) (h.middle ++ (h.last ++ tail)) in
+    let next : Rest = at_index (i + 1 + length h.first + length name.text) (h.middle ++ (h.last ++ tail)) in
     opened_refuses v levels i text e b.opens (
     element_opens v levels (at_index i text) name next b.opens (no_double v (at_index i text) b.once) b.reads_name
     ∙ names_part v levels i name next not_nesting.0 not_nesting.1
-    ∙ ap (λ (r : Result (Component × Piece) Fault). r >>= λ c. ok_tree (Part c.0) c.1) refused
+    ∙ ap (λ (r : Result (Component × Rest) Fault). r >>= λ c. ok_tree (Part c.0) c.1) refused
     )
 
 -- ---- nested items
@@ -218,8 +218,8 @@ unfolding optional_at
 optional_refuses v levels deeper i text e h =
     let r : RefusesNesting v (codes "optional") (codes "whitespace after `optional`") (nested_at v levels) (Optional true) i text e = nesting_refuses v (codes "optional") (codes "whitespace after `optional`") (nested_at v levels) (Optional true) IsNothing (IsOne v levels) (FaultyNested v levels) (one_reads v levels deeper) i text e h in
     let b = r.begins_so in
-    let name : Piece = at_index (i + 1 + length r.first) r.word in
-    let next : Piece = at_index (i + 1 + length r.first + length r.word) r.more in
+    let name : Rest = at_index (i + 1 + length r.first) r.word in
+    let next : Rest = at_index (i + 1 + length r.first + length r.word) r.more in
     opened_refuses v levels i text e b.opens (
     element_opens v levels (at_index i text) name next b.opens (no_double v (at_index i text) b.once) b.reads_name
     ∙ names_optional v levels i name next r.is_name
@@ -231,8 +231,8 @@ unfolding first_at
 first_refuses v levels deeper i text e h =
     let r : RefusesNesting v (codes "first") (codes "whitespace after `first`") (read_some v levels) first_of_list i text e = nesting_refuses v (codes "first") (codes "whitespace after `first`") (read_some v levels) first_of_list (AreBefore v levels) (AreSome v levels) (FaultyNested v levels) (some_reads v levels deeper) i text e h in
     let b = r.begins_so in
-    let name : Piece = at_index (i + 1 + length r.first) r.word in
-    let next : Piece = at_index (i + 1 + length r.first + length r.word) r.more in
+    let name : Rest = at_index (i + 1 + length r.first) r.word in
+    let next : Rest = at_index (i + 1 + length r.first + length r.word) r.more in
     opened_refuses v levels i text e b.opens (
     element_opens v levels (at_index i text) name next b.opens (no_double v (at_index i text) b.once) b.reads_name
     ∙ names_first v levels i name next r.is_name
@@ -278,14 +278,14 @@ nested_fails v (suc levels) = record {
 }
   where
     inside : NestedFails v levels → (i : ℕ) (rest : List ℕ) (e : Fault) → FaultyItems v true levels (FaultyNested v levels) (i + 1) rest e ⊎ ((items : Trees) × SpellsItems v true levels rest items × (e ≡ UnclosedOpeningBracket i)) → nested_at v (suc levels) (at_index i (91 ∷ rest)) ≡ Err e
-    inside deeper i rest e (inl h) = ap (λ (r : Result (List Tree × Piece) Fault). r >>= λ items. closed_at i items.1 >>= λ rest. ok_tree (Compound (listed items.0)) (past is_space rest)) (items_fail v true levels deeper (i + 1) rest e h)
-    inside deeper i rest e (inr (items, h, f)) = ap (λ (r : Result (List Tree × Piece) Fault). r >>= λ items. closed_at i items.1 >>= λ rest. ok_tree (Compound (listed items.0)) (past is_space rest)) (ends_inside v levels i rest items h) ∙ rw f refl
+    inside deeper i rest e (inl h) = ap (λ (r : Result (List Tree × Rest) Fault). r >>= λ items. closed_at i items.1 >>= λ rest. ok_tree (Compound (listed items.0)) (past is_space rest)) (items_fail v true levels deeper (i + 1) rest e h)
+    inside deeper i rest e (inr (items, h, f)) = ap (λ (r : Result (List Tree × Rest) Fault). r >>= λ items. closed_at i items.1 >>= λ rest. ok_tree (Compound (listed items.0)) (past is_space rest)) (ends_inside v levels i rest items h) ∙ rw f refl
 
 -- ---- the whole text
 
 pub faulty_is_refused : (v : DescriptionVersion) (text : List ℕ) (e : Fault) → Faulty v text e → read_items v text ≡ Err e
 unfolding read_items
-faulty_is_refused v text e h = ap (λ (r : Result (List Tree × Piece) Fault). r >>= λ items. ok_trees items.0) (items_fail v false 127 (nested_fails v 127) 0 text e h)
+faulty_is_refused v text e h = ap (λ (r : Result (List Tree × Rest) Fault). r >>= λ items. ok_trees items.0) (items_fail v false 127 (nested_fails v 127) 0 text e h)
   where
     ok_trees : List Tree → Result (List Tree) Fault
     ok_trees ts = Ok ts

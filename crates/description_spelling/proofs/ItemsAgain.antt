@@ -10,7 +10,7 @@ use Rattle.description_items.specs.Tree.{Tree, Literal, Part, Compound, Optional
 use Rattle.description_words.specs.declared.version.DescriptionVersion.{DescriptionVersion}
 use Rattle.description_words.specs.declared.version.DescriptionVersion.TheVariants.{One, Two, Three}
 use Rattle.description_words.specs.Version.{is_one, is_three}
-use Rattle.description_words.specs.Text.{Piece, is_space, is_plain, past, after}
+use Rattle.description_words.specs.Text.{Rest, is_space, is_plain, past, after}
 use Rattle.description_words.specs.Words.{is_named, begins, name_at, closed_at}
 use Rattle.description_reading.specs.Reading.{doubled_at, unsupported_at, supported, optional_at, no_bracket, first_at, bracket_at, element_at, is_end, nested_at, read_items}
 use Rattle.description_spelling.specs.Heads.{Stops, SpellsComponent, SpellsNesting}
@@ -52,24 +52,24 @@ opens_some (b ∷ bs) h = omega arith
 pub open_goes : (inner : Bool) (i : ℕ) (text : List ℕ) → begins 91 text ≡ true → is_end inner (at_index i text) ≡ false
 open_goes inner i text h = either_not (eqb (length text) 0) (inner && begins 93 text) (not_zero (length text) (opens_some text h)) (and_false inner (begins 93 text) (no_close text h))
 
-pub no_double : (v : DescriptionVersion) (s : Piece) → begins 91 (after 1 s).text ≡ false → doubled_at v s ≡ None
+pub no_double : (v : DescriptionVersion) (s : Rest) → begins 91 (after 1 s).text ≡ false → doubled_at v s ≡ None
 unfolding doubled_at
 no_double v s h = cond_false (is_one v && (begins 91 s.text && begins 91 (after 1 s).text)) _ None (and_false (is_one v) _ (and_false (begins 91 s.text) _ h))
 
 -- a bracket and a name, and what they open
-pub element_opens : (v : DescriptionVersion) (levels : ℕ) (s name next : Piece) → begins 91 s.text ≡ true → doubled_at v s ≡ None → name_at s.index (after 1 s) ≡ Ok (name, next) → element_at v (nested_at v levels) s ≡ named_item v (nested_at v levels) s.index (name, next)
+pub element_opens : (v : DescriptionVersion) (levels : ℕ) (s name next : Rest) → begins 91 s.text ≡ true → doubled_at v s ≡ None → name_at s.index (after 1 s) ≡ Ok (name, next) → element_at v (nested_at v levels) s ≡ named_item v (nested_at v levels) s.index (name, next)
 unfolding element_at bracket_at
-element_opens v levels s name next opens single is_name = rw (single, opens) (ap (λ (r : Result (Piece × Piece) Fault). r >>= named_item v (nested_at v levels) s.index) is_name)
+element_opens v levels s name next opens single is_name = rw (single, opens) (ap (λ (r : Result (Rest × Rest) Fault). r >>= named_item v (nested_at v levels) s.index) is_name)
 
-pub names_part : (v : DescriptionVersion) (levels bracket : ℕ) (name next : Piece) → is_named v name.text (codes "optional") ≡ false → is_named v name.text (codes "first") ≡ false → named_item v (nested_at v levels) bracket (name, next) ≡ part_from v bracket (name, next)
+pub names_part : (v : DescriptionVersion) (levels bracket : ℕ) (name next : Rest) → is_named v name.text (codes "optional") ≡ false → is_named v name.text (codes "first") ≡ false → named_item v (nested_at v levels) bracket (name, next) ≡ part_from v bracket (name, next)
 names_part v levels bracket name next no_optional no_first =
     cond_false (is_named v name.text (codes "optional")) (optional_at v (nested_at v levels) bracket next) (cond (is_named v name.text (codes "first")) (first_at v (nested_at v levels) bracket next) (part_from v bracket (name, next))) no_optional
     ∙ cond_false (is_named v name.text (codes "first")) (first_at v (nested_at v levels) bracket next) (part_from v bracket (name, next)) no_first
 
-pub names_optional : (v : DescriptionVersion) (levels bracket : ℕ) (name next : Piece) → is_named v name.text (codes "optional") ≡ true → named_item v (nested_at v levels) bracket (name, next) ≡ optional_at v (nested_at v levels) bracket next
+pub names_optional : (v : DescriptionVersion) (levels bracket : ℕ) (name next : Rest) → is_named v name.text (codes "optional") ≡ true → named_item v (nested_at v levels) bracket (name, next) ≡ optional_at v (nested_at v levels) bracket next
 names_optional v levels bracket name next h = cond_true (is_named v name.text (codes "optional")) (optional_at v (nested_at v levels) bracket next) (cond (is_named v name.text (codes "first")) (first_at v (nested_at v levels) bracket next) (part_from v bracket (name, next))) h
 
-pub names_first : (v : DescriptionVersion) (levels bracket : ℕ) (name next : Piece) → is_named v name.text (codes "first") ≡ true → named_item v (nested_at v levels) bracket (name, next) ≡ first_at v (nested_at v levels) bracket next
+pub names_first : (v : DescriptionVersion) (levels bracket : ℕ) (name next : Rest) → is_named v name.text (codes "first") ≡ true → named_item v (nested_at v levels) bracket (name, next) ≡ first_at v (nested_at v levels) bracket next
 names_first v levels bracket name next h =
     cond_false (is_named v name.text (codes "optional")) (optional_at v (nested_at v levels) bracket next) (cond (is_named v name.text (codes "first")) (first_at v (nested_at v levels) bracket next) (part_from v bracket (name, next))) (not_optional v name.text h)
     ∙ cond_true (is_named v name.text (codes "first")) (first_at v (nested_at v levels) bracket next) (part_from v bracket (name, next)) h
@@ -139,18 +139,18 @@ part_reads v inner levels i own rest c h =
     let parts : own ++ rest ≡ h.head ++ 93 ∷ rest = rw h.parts (simp append_assoc) in
     let b = begins_head v i (own ++ rest) h.head (93 ∷ rest) m.name m.modifiers m.is_head parts (word_stops m.is_head.last (93 ∷ rest) m.is_head.is_last refl) in
     let not_nesting = neither _ _ m.is_head.no_nesting in
-    let next : Piece = at_index (i + 1 + length m.is_head.first + length m.name.text) (m.is_head.middle ++ (m.is_head.last ++ 93 ∷ rest)) in
+    let next : Rest = at_index (i + 1 + length m.is_head.first + length m.name.text) (m.is_head.middle ++ (m.is_head.last ++ 93 ∷ rest)) in
     let len : i + length h.head + 1 ≡ i + length own = omega (arith, ap (length {A = ℕ}) h.parts, length-append h.head (93 ∷ [])) in
     record {
       goes = open_goes inner i (own ++ rest) b.opens;
       reads =
           element_opens v levels (at_index i (own ++ rest)) m.name next b.opens (no_double v (at_index i (own ++ rest)) b.once) b.reads_name
           ∙ names_part v levels i m.name next not_nesting.0 not_nesting.1
-          ∙ ap (λ (r : Result (Component × Piece) Fault). r >>= λ c. ok_tree (Part c.0) c.1) (component_again v i h.head rest m.name m.modifiers c m.is_head m.means)
+          ∙ ap (λ (r : Result (Component × Rest) Fault). r >>= λ c. ok_tree (Part c.0) c.1) (component_again v i h.head rest m.name m.modifiers c m.is_head m.means)
           ∙ ap (ok_tree (Part c)) (same_index _ _ rest len);
     }
 
-pub is_supported : (v : DescriptionVersion) (bracket : ℕ) (t : Tree) (rest : Piece) → is_three v ≡ true → supported v bracket t rest ≡ ok_tree t rest
+pub is_supported : (v : DescriptionVersion) (bracket : ℕ) (t : Tree) (rest : Rest) → is_three v ≡ true → supported v bracket t rest ≡ ok_tree t rest
 is_supported v bracket t rest three = cond_true (is_three v) (ok_tree t rest) (Err (unsupported_at bracket)) three
 
 -- a nesting's text, and how long it is
@@ -166,9 +166,9 @@ optional_reads v inner levels again i own rest t three h =
     let o = h.is_opening in
     let tail : List ℕ = h.inside ++ 93 ∷ rest in
     let b = begins_opening v (codes "optional") i (own ++ rest) h.opening tail o (nesting_text v (codes "optional") own rest _ h) in
-    let name : Piece = at_index (i + 1 + length o.first) o.word in
+    let name : Rest = at_index (i + 1 + length o.first) o.word in
     let from : ℕ = i + 1 + length o.first + length o.word in
-    let next : Piece = at_index from (o.space ++ tail) in
+    let next : Rest = at_index from (o.space ++ tail) in
     record {
       goes = open_goes inner i (own ++ rest) b.opens;
       reads =
@@ -185,9 +185,9 @@ first_reads v inner levels again i own rest ts three h =
     let o = h.is_opening in
     let tail : List ℕ = h.inside ++ 93 ∷ rest in
     let b = begins_opening v (codes "first") i (own ++ rest) h.opening tail o (nesting_text v (codes "first") own rest _ h) in
-    let name : Piece = at_index (i + 1 + length o.first) o.word in
+    let name : Rest = at_index (i + 1 + length o.first) o.word in
     let from : ℕ = i + 1 + length o.first + length o.word in
-    let next : Piece = at_index from (o.space ++ tail) in
+    let next : Rest = at_index from (o.space ++ tail) in
     record {
       goes = open_goes inner i (own ++ rest) b.opens;
       reads =
@@ -244,8 +244,8 @@ nested_again v zero i own rest (Compound ts) (fewer, text, space, e, parts, spac
 nested_again v (suc levels) i own rest (Compound ts) (fewer, text, space, e, parts, spaces, items) stops =
     let same : fewer ≡ levels = omega arith in
     let tail : List ℕ = 93 ∷ (space ++ rest) in
-    let s : Piece = at_index (i + 1) (text ++ tail) in
-    let end : Piece = at_index (i + 1 + length text) tail in
+    let s : Rest = at_index (i + 1) (text ++ tail) in
+    let end : Rest = at_index (i + 1 + length text) tail in
     let step = element_at v (nested_at v levels) in
     let whole_text : own ++ rest ≡ 91 ∷ (text ++ tail) = rw parts (simp append_assoc) in
     let steps = items_steps v true levels (nested_again v levels) ts (i + 1) text tail (subst (λ (n : ℕ). SpellsItems v true n text ts) same items) (bracket_stops v) in
@@ -253,8 +253,8 @@ nested_again v (suc levels) i own rest (Compound ts) (fewer, text, space, e, par
     let space_past = past_is is_space (i + 1 + length text + 1) space rest spaces stops in
     let len : i + 1 + length text + 1 + length space ≡ i + length own = omega (arith, ap (length {A = ℕ}) parts, length-append text (93 ∷ space)) in
     ap (λ (t : List ℕ). nested_at v (suc levels) (at_index i t)) whole_text
-    ∙ ap (λ (r : Result (List Tree × Piece) Fault). r >>= λ items. closed_at i items.1 >>= λ rest. ok_tree (Compound (listed items.0)) (past is_space rest)) all
-    ∙ ap (λ (r : Result Piece Fault). r >>= λ rest. ok_tree (Compound (listed (unlisted ts))) (past is_space rest)) (closed_again i (i + 1 + length text) (space ++ rest))
+    ∙ ap (λ (r : Result (List Tree × Rest) Fault). r >>= λ items. closed_at i items.1 >>= λ rest. ok_tree (Compound (listed items.0)) (past is_space rest)) all
+    ∙ ap (λ (r : Result Rest Fault). r >>= λ rest. ok_tree (Compound (listed (unlisted ts))) (past is_space rest)) (closed_again i (i + 1 + length text) (space ++ rest))
     ∙ ap (ok_tree (Compound (listed (unlisted ts)))) (space_past ∙ same_index _ _ rest len)
     ∙ ap (λ (ts : Trees). ok_tree (Compound ts) (at_index (i + length own) rest)) (listed_again ts)
 
@@ -264,11 +264,11 @@ pub spelled_is_read : (v : DescriptionVersion) (text : List ℕ) (ts : List Tree
 unfolding read_items
 spelled_is_read v text ts h =
     let step = element_at v (nested_at v 127) in
-    let end : Piece = at_index (0 + length text) [] in
+    let end : Rest = at_index (0 + length text) [] in
     let steps = items_steps v false 127 (nested_again v 127) (listed ts) 0 text [] h tt in
     let all = steps_many (is_end false) step (items_shorten v false 127) (suc (length (text ++ []))) (at_index 0 (text ++ [])) (unlisted (listed ts)) end (omega arith) steps refl in
     ap (λ (t : List ℕ). read_items v t) (sym (append-nil text))
-    ∙ ap (λ (r : Result (List Tree × Piece) Fault). r >>= λ items. ok_trees items.0) all
+    ∙ ap (λ (r : Result (List Tree × Rest) Fault). r >>= λ items. ok_trees items.0) all
     ∙ ap (λ (ts : List Tree). ok_trees ts) (unlisted_again ts)
   where
     ok_trees : List Tree → Result (List Tree) Fault

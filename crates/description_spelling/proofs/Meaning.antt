@@ -6,7 +6,7 @@ use Rattle.description_faults.specs.Answer.{◌>>=◌}
 use Rattle.description_items.specs.declared.component.Component.{Component}
 use Rattle.description_words.specs.declared.version.DescriptionVersion.{DescriptionVersion}
 use Rattle.description_words.specs.Version.{is_three}
-use Rattle.description_words.specs.Text.{Piece}
+use Rattle.description_words.specs.Text.{Rest}
 use Rattle.description_words.specs.Words.{Modifier}
 use Rattle.description_words.proofs.Readings.{bind_ok, not_ok, chosen, and_then_ok}
 use Rattle.description_tables.specs.declared.names.Name.{Name}
@@ -44,7 +44,7 @@ among_moved (Some j) n f g k e =
       | inr h ↦ absurd (not_ok f k h.1)
     ]
 
-key_moved : (v : DescriptionVersion) (n : Name) (p q : Piece) (k : Key) → key_of v p.text ≡ key_of v q.text → key_in v n p ≡ Ok k → key_in v n q ≡ Ok k
+key_moved : (v : DescriptionVersion) (n : Name) (p q : Rest) (k : Key) → key_of v p.text ≡ key_of v q.text → key_in v n p ≡ Ok k → key_in v n q ≡ Ok k
 key_moved v n p q k same e = subst (λ (o : Option Key). key_among o n (bad q) ≡ Ok k) same (among_moved (key_of v p.text) n (bad p) (bad q) k e)
 
 modifier_moved : (v : DescriptionVersion) (n : Name) (c d : Chosen) (l m : Modifier) → AreAlike v l m → with_modifier v n c l ≡ Ok d → with_modifier v n c m ≡ Ok d
@@ -86,14 +86,14 @@ combined_moved v n c d (l ∷ ls) (m ∷ ms) same e =
           ∙ combined_moved v n c d ls ms same.1 h.1
     ]
 
-named_moved : (v : DescriptionVersion) (p q : Piece) (n : Name) → name_of v p.text ≡ name_of v q.text → named v p ≡ Ok n → named v q ≡ Ok n
+named_moved : (v : DescriptionVersion) (p q : Rest) (n : Name) → name_of v p.text ≡ name_of v q.text → named v p ≡ Ok n → named v q ≡ Ok n
 unfolding named
 named_moved v p q n same e = subst (λ (o : Option Name). found o (InvalidComponentName q.text q.index) ≡ Ok n) same (found_moved (name_of v p.text) (InvalidComponentName p.text p.index) (InvalidComponentName q.text q.index) n e)
 
-pub component_moved : (v : DescriptionVersion) (p q : Piece) (ls ms : List Modifier) (c : Component) → name_of v p.text ≡ name_of v q.text → AllAlike v ls ms → component_of v p ls ≡ Ok c → component_of v q ms ≡ Ok c
+pub component_moved : (v : DescriptionVersion) (p q : Rest) (ls ms : List Modifier) (c : Component) → name_of v p.text ≡ name_of v q.text → AllAlike v ls ms → component_of v p ls ≡ Ok c → component_of v q ms ≡ Ok c
 unfolding component_of
 component_moved v p q ls ms c same all e =
-    let lacking : Piece → Fault = λ word. MissingRequiredModifier (codes "count") word.index in
+    let lacking : Rest → Fault = λ word. MissingRequiredModifier (codes "count") word.index in
     let a = bind_ok (named v p) (λ n. with_modifiers v n nothing ls >>= λ c. combined v n c ls >>= λ d. found (made v n d) (lacking p)) c e in
     let b = bind_ok (with_modifiers v a.0 nothing ls) (λ c. combined v a.0 c ls >>= λ d. found (made v a.0 d) (lacking p)) c a.2 in
     let d = bind_ok (combined v a.0 b.0 ls) (λ d. found (made v a.0 d) (lacking p)) c b.2 in
@@ -119,7 +119,7 @@ words_elsewhere v (m ∷ ms) at to own (first, rest, parts, one, more) =
 
 -- a head with the component that it means, elsewhere
 pub record MeansAt (v : DescriptionVersion) (at : ℕ) (head : List ℕ) (c : Component) : Type 0 where
-  pub name : Piece
+  pub name : Rest
   pub modifiers : List Modifier
   pub is_head : SpellsHead v at head name modifiers
   pub means : component_of v name modifiers ≡ Ok c
@@ -128,7 +128,7 @@ pub means_elsewhere : (v : DescriptionVersion) (at to : ℕ) (head : List ℕ) (
 means_elsewhere v at to head c h =
     let g = h.is_head in
     let words : WordsElsewhere v (to + 1 + length g.first + length h.name.text) g.middle h.modifiers = words_elsewhere v h.modifiers (at + 1 + length g.first + length h.name.text) (to + 1 + length g.first + length h.name.text) g.middle g.modifiers in
-    let name : Piece = at_index (to + 1 + length g.first) h.name.text in
+    let name : Rest = at_index (to + 1 + length g.first) h.name.text in
     record {
       name = name;
       modifiers = words.others;

@@ -7,7 +7,7 @@ use Rattle.std.proofs.lemmas.List.Sums.{prefix_len-le-length}
 use Rattle.std.proofs.lemmas.Bool.{eqb-true}
 use Rattle.std.proofs.lemmas.Bool.Decides.{nat_tests}
 use Rattle.description_faults.specs.Fault.{Fault, InvalidModifier}
-use Rattle.description_words.specs.Text.{Piece, is_space, is_word_byte, is_no_colon, run, past, after}
+use Rattle.description_words.specs.Text.{Rest, is_space, is_word_byte, is_no_colon, run, past, after}
 use Rattle.description_words.specs.Many.{many}
 use Rattle.description_words.specs.Words.{Modifier, has_word, modifier_in, modifier_at, no_modifier, modifiers_at}
 use Rattle.description_words.proofs.Readings.{bind_ok, ok_is, made_err}
@@ -36,7 +36,7 @@ colon_there s lt = at_stop (prefix_len is_no_colon s) s (stops_past is_no_colon 
         let one : suc n + 1 ≡ suc (n + 1) = omega arith in rw one (at_stop n bs stops (omega arith))
 
 -- a word that is a modifier
-record IsModifierWord (s : Piece) (m : Modifier) : Type 0 where
+record IsModifierWord (s : Rest) (m : Modifier) : Type 0 where
   parts : s.text ≡ m.key.text ++ 58 ∷ m.value.text
   is_key : IsWord m.key.text
   no_colon : Each is_no_colon m.key.text
@@ -44,7 +44,7 @@ record IsModifierWord (s : Piece) (m : Modifier) : Type 0 where
   key_at : m.key.index ≡ s.index
   value_at : m.value.index ≡ s.index + length m.key.text + 1
 
-modifier_takes : (s : Piece) (m : Modifier) → Each is_word_byte s.text → modifier_in s ≡ Ok m → IsModifierWord s m
+modifier_takes : (s : Rest) (m : Modifier) → Each is_word_byte s.text → modifier_in s ≡ Ok m → IsModifierWord s m
 unfolding modifier_in
 modifier_takes s m each e =
     let k : ℕ = prefix_len is_no_colon s.text in
@@ -64,7 +64,7 @@ modifier_takes s m each e =
     } in
     subst (IsModifierWord s) g.3 word
 
-word_refused : (s : Piece) (e : Fault) → modifier_in s ≡ Err e → BadWord s.index s.text e
+word_refused : (s : Rest) (e : Fault) → modifier_in s ≡ Err e → BadWord s.index s.text e
 unfolding modifier_in
 word_refused s e h =
     let k : ℕ = prefix_len is_no_colon s.text in
@@ -94,14 +94,14 @@ word_refused s e h =
 
 -- ---- words behind white space
 
-pub none_there : (s : Piece) → has_word s ≡ false → prefix_len is_word_byte s.text ≡ 0
+pub none_there : (s : Rest) → has_word s ≡ false → prefix_len is_word_byte s.text ≡ 0
 none_there s h = grind (arith, nat_tests)
 
-pub some_there : (s : Piece) → has_word s ≡ true → 0 < prefix_len is_word_byte s.text
+pub some_there : (s : Rest) → has_word s ≡ true → 0 < prefix_len is_word_byte s.text
 some_there s h = grind (arith, nat_tests)
 
 -- where no word byte stands, white space comes before a word
-space_before : (s : Piece) → Stops is_word_byte s.text → has_word (past is_space s) ≡ true → 0 < length (run is_space s).text
+space_before : (s : Rest) → Stops is_word_byte s.text → has_word (past is_space s) ≡ true → 0 < length (run is_space s).text
 space_before s stops h = none_or_some (prefix_len is_space s.text) refl
   where
     none_or_some : (n : ℕ) → n ≡ prefix_len is_space s.text → 0 < length (run is_space s).text
@@ -112,19 +112,19 @@ space_before s stops h = none_or_some (prefix_len is_space s.text) refl
     none_or_some (suc n) e = omega (arith, length-prefix_len is_space s.text)
 
 -- a word behind white space, with what follows it
-word_takes : (s : Piece) → Takes s ((run is_space s).text ++ (run is_word_byte (past is_space s)).text) (past is_word_byte (past is_space s))
+word_takes : (s : Rest) → Takes s ((run is_space s).text ++ (run is_word_byte (past is_space s)).text) (past is_word_byte (past is_space s))
 word_takes s = takes_then s (run is_space s).text (past is_space s) (run is_word_byte (past is_space s)).text (past is_word_byte (past is_space s)) (takes_run is_space s) (takes_run is_word_byte (past is_space s))
 
 -- ---- modifiers
 
 -- steps over modifiers
-record TakesWords (s : Piece) (ms : List Modifier) (rest : Piece) : Type 0 where
+record TakesWords (s : Rest) (ms : List Modifier) (rest : Rest) : Type 0 where
   own : List ℕ
   takes : Takes s own rest
   spells : SpellsModifiers s.index own ms
   no_word : Stops is_word_byte rest.text
 
-one_more : (s : Piece) (m : Modifier) (ms : List Modifier) (rest : Piece) → Stops is_word_byte s.text → has_word (past is_space s) ≡ true → modifier_in (run is_word_byte (past is_space s)) ≡ Ok m
+one_more : (s : Rest) (m : Modifier) (ms : List Modifier) (rest : Rest) → Stops is_word_byte s.text → has_word (past is_space s) ≡ true → modifier_in (run is_word_byte (past is_space s)) ≡ Ok m
     → TakesWords (past is_word_byte (past is_space s)) ms rest → TakesWords s (m ∷ ms) rest
 one_more s m ms rest stops there is_m others = record {
   own = first ++ others.own;
@@ -136,7 +136,7 @@ one_more s m ms rest stops there is_m others = record {
     space : List ℕ
     space = (run is_space s).text
 
-    word : Piece
+    word : Rest
     word = run is_word_byte (past is_space s)
 
     first : List ℕ
@@ -158,23 +158,23 @@ one_more s m ms rest stops there is_m others = record {
       value_at = omega (arith, word_is.value_at, past_index is_space s);
     }
 
-steps_take : (s : Piece) (ms : List Modifier) (rest : Piece) → Stops is_word_byte s.text → Steps no_modifier modifier_at s ms rest → TakesWords s ms rest
+steps_take : (s : Rest) (ms : List Modifier) (rest : Rest) → Stops is_word_byte s.text → Steps no_modifier modifier_at s ms rest → TakesWords s ms rest
 unfolding modifier_at
-steps_take s [] rest stops e = subst (λ (r : Piece). TakesWords s [] r) e (record { own = []; takes = record { parts = refl; index = omega arith }; spells = refl; no_word = stops })
+steps_take s [] rest stops e = subst (λ (r : Rest). TakesWords s [] r) e (record { own = []; takes = record { parts = refl; index = omega arith }; spells = refl; no_word = stops })
 steps_take s (m ∷ ms) rest stops (next, goes, is_m, more) =
-    let after_word : Piece = past is_word_byte (past is_space s) in
+    let after_word : Rest = past is_word_byte (past is_space s) in
     let a = bind_ok (modifier_in (run is_word_byte (past is_space s))) (λ m. Ok (m, after_word)) (m, next) is_m in
     let same = ok_is (a.0, after_word) (m, next) a.2 in
-    let same_m : a.0 ≡ m = ap (λ (x : Modifier × Piece). x.0) same in
-    let same_next : next ≡ after_word = sym (ap (λ (x : Modifier × Piece). x.1) same) in
-    let others : TakesWords after_word ms rest = steps_take after_word ms rest (stops_past is_word_byte (past is_space s).text) (subst (λ (p : Piece). Steps no_modifier modifier_at p ms rest) same_next more) in
+    let same_m : a.0 ≡ m = ap (λ (x : Modifier × Rest). x.0) same in
+    let same_next : next ≡ after_word = sym (ap (λ (x : Modifier × Rest). x.1) same) in
+    let others : TakesWords after_word ms rest = steps_take after_word ms rest (stops_past is_word_byte (past is_space s).text) (subst (λ (p : Rest). Steps no_modifier modifier_at p ms rest) same_next more) in
     one_more s m ms rest stops (flip_false _ goes) (a.1 ∙ ap (λ (m : Modifier). ok_modifier m) same_m) others
   where
     ok_modifier : Modifier → Result Modifier Fault
     ok_modifier m = Ok m
 
 -- what reading modifiers took
-pub record TakesModifiers (s : Piece) (ms : List Modifier) (rest : Piece) : Type 0 where
+pub record TakesModifiers (s : Rest) (ms : List Modifier) (rest : Rest) : Type 0 where
   pub own : List ℕ
   pub last : List ℕ
   pub takes : Takes s (own ++ last) rest
@@ -183,7 +183,7 @@ pub record TakesModifiers (s : Piece) (ms : List Modifier) (rest : Piece) : Type
   pub no_space : Stops is_space rest.text
   pub no_word : Stops is_word_byte rest.text
 
-pub modifiers_take : (s : Piece) (x : List Modifier × Piece) → Stops is_word_byte s.text → modifiers_at s ≡ Ok x → TakesModifiers s x.0 x.1
+pub modifiers_take : (s : Rest) (x : List Modifier × Rest) → Stops is_word_byte s.text → modifiers_at s ≡ Ok x → TakesModifiers s x.0 x.1
 unfolding modifiers_at
 modifiers_take s x stops e =
     let a = bind_ok (many no_modifier modifier_at (suc (length s.text)) s) (λ all. Ok (all.0, past is_space all.1)) x e in
@@ -191,7 +191,7 @@ modifiers_take s x stops e =
     let words : TakesWords s a.0.0 a.0.1 = steps_take s a.0.0 a.0.1 stops read.0 in
     let last : List ℕ = (run is_space a.0.1).text in
     let none : has_word (past is_space a.0.1) ≡ false = flip_true _ read.1 in
-    subst (λ (y : List Modifier × Piece). TakesModifiers s y.0 y.1) (ok_is (a.0.0, past is_space a.0.1) x a.2) (record {
+    subst (λ (y : List Modifier × Rest). TakesModifiers s y.0 y.1) (ok_is (a.0.0, past is_space a.0.1) x a.2) (record {
       own = words.own;
       last = last;
       takes = takes_then s words.own a.0.1 last (past is_space a.0.1) words.takes (takes_run is_space a.0.1);
@@ -202,7 +202,7 @@ modifiers_take s x stops e =
     })
 
 -- what stands before a word that is no modifier
-pub record Refuses (s : Piece) (e : Fault) : Type 0 where
+pub record Refuses (s : Rest) (e : Fault) : Type 0 where
   pub ms : List Modifier
   pub own : List ℕ
   pub last : List ℕ
@@ -216,13 +216,13 @@ pub record Refuses (s : Piece) (e : Fault) : Type 0 where
   pub no_word : Stops is_word_byte rest
   pub bad : BadWord (s.index + length own + length last) word e
 
-pub modifiers_refused : (s : Piece) (e : Fault) → Stops is_word_byte s.text → modifiers_at s ≡ Err e → Refuses s e
+pub modifiers_refused : (s : Rest) (e : Fault) → Stops is_word_byte s.text → modifiers_at s ≡ Err e → Refuses s e
 unfolding modifiers_at modifier_at
 modifiers_refused s e stops h =
     let f : Failing no_modifier modifier_at s e = many_failing no_modifier modifier_at modifier_lt (suc (length s.text)) s e (omega arith) (made_err (many no_modifier modifier_at (suc (length s.text)) s) (λ all. (all.0, past is_space all.1)) e h) in
     let words : TakesWords s f.front f.bad = steps_take s f.front f.bad stops f.steps in
-    let start : Piece = past is_space f.bad in
-    let word : Piece = run is_word_byte start in
+    let start : Rest = past is_space f.bad in
+    let word : Rest = run is_word_byte start in
     let there : has_word start ≡ true = flip_false _ f.goes_on in
     let is_bad : modifier_in word ≡ Err e = made_err (modifier_in word) (λ m. (m, past is_word_byte start)) e f.fails in
     record {

@@ -4,7 +4,7 @@ use Rattle.std.specs.List.{prefix_len}
 use Rattle.std.proofs.lemmas.List.{length-append, append-nil, take_at}
 use Rattle.description_faults.specs.Fault.{Fault, InvalidModifier}
 use Rattle.description_faults.specs.Answer.{◌>>=◌}
-use Rattle.description_words.specs.Text.{Piece, is_space, is_word_byte, is_no_colon, run, past}
+use Rattle.description_words.specs.Text.{Rest, is_space, is_word_byte, is_no_colon, run, past}
 use Rattle.description_words.specs.Words.{Modifier, has_word, modifier_in, modifier_at, no_modifier, modifiers_at}
 use Rattle.description_words.proofs.Shorter.{modifier_lt}
 use Rattle.description_spelling.specs.Heads.{Each, Stops, IsWord, SpellsModifiers}
@@ -79,7 +79,7 @@ behind_space at space word next is_s is_w stops =
       behind = ap (past is_word_byte) start ∙ past_is is_word_byte (at + length space) word next is_w.1 stops;
     }
 
-abbrev one_at : Piece → Piece → Result (Modifier × Piece) Fault
+abbrev one_at : Rest → Rest → Result (Modifier × Rest) Fault
 one_at word next = modifier_in word >>= λ m. Ok (m, next)
 
 step_again : (at : ℕ) (space word next : List ℕ) (m : Modifier) → Each is_space space → IsWord word → Stops is_word_byte next → modifier_in (at_index (at + length space) word) ≡ Ok m
@@ -89,15 +89,15 @@ step_again at space word next m is_s is_w stops is_m =
     let b = behind_space at space word next is_s is_w stops in
     two b.the_word b.behind
   where
-    two : {x y : Piece} → x ≡ at_index (at + length space) word → y ≡ at_index (at + length space + length word) next → one_at x y ≡ Ok (m, at_index (at + length space + length word) next)
-    two {x} {y} e f = ap (λ (x : Piece). one_at x y) e ∙ ap (λ (y : Piece). one_at (at_index (at + length space) word) y) f ∙ ap (λ (r : Result Modifier Fault). r >>= λ m. Ok (m, at_index (at + length space + length word) next)) is_m
+    two : {x y : Rest} → x ≡ at_index (at + length space) word → y ≡ at_index (at + length space + length word) next → one_at x y ≡ Ok (m, at_index (at + length space + length word) next)
+    two {x} {y} e f = ap (λ (x : Rest). one_at x y) e ∙ ap (λ (y : Rest). one_at (at_index (at + length space) word) y) f ∙ ap (λ (r : Result Modifier Fault). r >>= λ m. Ok (m, at_index (at + length space + length word) next)) is_m
 
 bad_step : (at : ℕ) (space word next : List ℕ) (e : Fault) → Each is_space space → IsWord word → Stops is_word_byte next → modifier_in (at_index (at + length space) word) ≡ Err e
     → modifier_at (at_index at (space ++ (word ++ next))) ≡ Err e
 unfolding modifier_at
 bad_step at space word next e is_s is_w stops is_e =
     let b = behind_space at space word next is_s is_w stops in
-    ap (λ (x : Piece). one_at x (past is_word_byte (past is_space (at_index at (space ++ (word ++ next)))))) b.the_word
+    ap (λ (x : Rest). one_at x (past is_word_byte (past is_space (at_index at (space ++ (word ++ next)))))) b.the_word
     ∙ ap (λ (r : Result Modifier Fault). r >>= λ m. Ok (m, past is_word_byte (past is_space (at_index at (space ++ (word ++ next)))))) is_e
 
 going_on : (at : ℕ) (space word next : List ℕ) → Each is_space space → IsWord word → Stops is_word_byte next → no_modifier (at_index at (space ++ (word ++ next))) ≡ false
@@ -146,7 +146,7 @@ modifiers_again ms at own last rest spelled is_last no_s no_w =
     let ends : no_modifier (at_index (at + length own) (last ++ rest)) ≡ true = rw none refl in
     let steps = steps_again ms at own (last ++ rest) spelled (word_stops last rest is_last no_w) in
     let all = steps_many no_modifier modifier_at modifier_lt (suc (length (own ++ (last ++ rest)))) (at_index at (own ++ (last ++ rest))) ms (at_index (at + length own) (last ++ rest)) (omega arith) steps ends in
-    ap (λ (r : Result (List Modifier × Piece) Fault). r >>= λ all. Ok (all.0, past is_space all.1)) all ∙ ap (λ (p : Piece). done (ms, p)) start
+    ap (λ (r : Result (List Modifier × Rest) Fault). r >>= λ all. Ok (all.0, past is_space all.1)) all ∙ ap (λ (p : Rest). done (ms, p)) start
 
 pub bad_modifiers_again : (ms : List Modifier) (at : ℕ) (own last word rest : List ℕ) (e : Fault) → SpellsModifiers at own ms → Each is_space last → 0 < length last → IsWord word → Stops is_word_byte rest
     → BadWord (at + length own + length last) word e → modifiers_at (at_index at (own ++ (last ++ (word ++ rest)))) ≡ Err e
@@ -156,4 +156,4 @@ bad_modifiers_again ms at own last word rest e spelled is_last apart is_w stops 
     let steps = steps_again ms at own tail spelled (space_first last (word ++ rest) apart is_last) in
     let refused = bad_step (at + length own) last word rest e is_last is_w stops (bad_word_again (at + length own + length last) word e is_w.0 bad) in
     let all = steps_failing no_modifier modifier_at modifier_lt (suc (length (own ++ tail))) (at_index at (own ++ tail)) ms (at_index (at + length own) tail) e (omega arith) steps (going_on (at + length own) last word rest is_last is_w stops) refused in
-    ap (λ (r : Result (List Modifier × Piece) Fault). r >>= λ all. Ok (all.0, past is_space all.1)) all
+    ap (λ (r : Result (List Modifier × Rest) Fault). r >>= λ all. Ok (all.0, past is_space all.1)) all

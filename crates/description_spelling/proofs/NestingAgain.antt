@@ -9,7 +9,7 @@ use Rattle.description_faults.specs.Answer.{◌>>=◌}
 use Rattle.description_items.specs.Tree.{Tree}
 use Rattle.description_words.specs.declared.version.DescriptionVersion.{DescriptionVersion}
 use Rattle.description_words.specs.declared.version.DescriptionVersion.TheVariants.{One, Two, Three}
-use Rattle.description_words.specs.Text.{Piece, is_space, is_word_byte, past, after}
+use Rattle.description_words.specs.Text.{Rest, is_space, is_word_byte, past, after}
 use Rattle.description_words.specs.Words.{is_named, begins, name_at, closed_at}
 use Rattle.description_reading.specs.Reading.{is_same, opened_at, supported}
 use Rattle.description_spelling.specs.Heads.{Each, Stops, IsWord, SpellsOpening}
@@ -51,62 +51,62 @@ opening_len v nesting opening h = omega (arith, ap (length {A = ℕ}) h.parts, l
 
 apart : (i : ℕ) (space tail : List ℕ) → Each is_space space → 0 < length space → Stops is_space tail → is_same (past is_space (at_index i (space ++ tail))) (at_index i (space ++ tail)) ≡ false
 apart i space tail spaces some stops =
-    ap (λ (p : Piece). is_same p (at_index i (space ++ tail))) (past_is is_space i space tail spaces stops) ∙ differs (length tail) (length (space ++ tail)) (omega (arith, length-append space tail))
+    ap (λ (p : Rest). is_same p (at_index i (space ++ tail))) (past_is is_space i space tail spaces stops) ∙ differs (length tail) (length (space ++ tail)) (omega (arith, length-append space tail))
 
 opened_again : (what : List ℕ) (i : ℕ) (space tail : List ℕ) → Each is_space space → 0 < length space → begins 91 tail ≡ true → opened_at what (at_index i (space ++ tail)) ≡ Ok (at_index (i + length space) tail)
 unfolding opened_at
 opened_again what i space tail spaces some opens =
     let stops = stops_91 tail opens in
-    let s : Piece = at_index i (space ++ tail) in
+    let s : Rest = at_index i (space ++ tail) in
     let start = past_is is_space i space tail spaces stops in
-    let there : begins 91 (past is_space s).text ≡ true = ap (λ (p : Piece). begins 91 p.text) start ∙ opens in
+    let there : begins 91 (past is_space s).text ≡ true = ap (λ (p : Rest). begins 91 p.text) start ∙ opens in
     cond_false (is_same (past is_space s) s) (Err (Expected what s.index)) (cond (begins 91 (past is_space s).text) (Ok (past is_space s)) (Err (Expected (codes "opening bracket") (past is_space s).index))) (apart i space tail spaces some stops)
     ∙ cond_true (begins 91 (past is_space s).text) (Ok (past is_space s)) (Err (Expected (codes "opening bracket") (past is_space s).index)) there
-    ∙ ap (λ (p : Piece). ok_piece p) start
+    ∙ ap (λ (p : Rest). ok_piece p) start
   where
-    ok_piece : Piece → Result Piece Fault
+    ok_piece : Rest → Result Rest Fault
     ok_piece p = Ok p
 
 unopened_again : (what : List ℕ) (i : ℕ) (space tail : List ℕ) → Each is_space space → 0 < length space → Stops is_space tail → begins 91 tail ≡ false → opened_at what (at_index i (space ++ tail)) ≡ Err (Expected (codes "opening bracket") (i + length space))
 unfolding opened_at
 unopened_again what i space tail spaces some stops none =
-    let s : Piece = at_index i (space ++ tail) in
+    let s : Rest = at_index i (space ++ tail) in
     let start = past_is is_space i space tail spaces stops in
-    let not_there : begins 91 (past is_space s).text ≡ false = ap (λ (p : Piece). begins 91 p.text) start ∙ none in
+    let not_there : begins 91 (past is_space s).text ≡ false = ap (λ (p : Rest). begins 91 p.text) start ∙ none in
     cond_false (is_same (past is_space s) s) (Err (Expected what s.index)) (cond (begins 91 (past is_space s).text) (Ok (past is_space s)) (Err (Expected (codes "opening bracket") (past is_space s).index))) (apart i space tail spaces some stops)
     ∙ cond_false (begins 91 (past is_space s).text) (Ok (past is_space s)) (Err (Expected (codes "opening bracket") (past is_space s).index)) not_there
-    ∙ ap (λ (p : Piece). expected p.index) start
+    ∙ ap (λ (p : Rest). expected p.index) start
   where
-    expected : ℕ → Result Piece Fault
+    expected : ℕ → Result Rest Fault
     expected n = Err (Expected (codes "opening bracket") n)
 
 unspaced_again : (what : List ℕ) (i : ℕ) (rest : List ℕ) → Stops is_space rest → opened_at what (at_index i rest) ≡ Err (Expected what i)
 unfolding opened_at
 unspaced_again what i rest stops =
-    let s : Piece = at_index i rest in
+    let s : Rest = at_index i rest in
     let n = run_again is_space [] rest tt stops in
     let same : is_same (past is_space s) s ≡ true = rw n (eqb_same (length rest) (length rest) refl) in
     cond_true (is_same (past is_space s) s) (Err (Expected what s.index)) (cond (begins 91 (past is_space s).text) (Ok (past is_space s)) (Err (Expected (codes "opening bracket") (past is_space s).index))) same
 
 -- ---- what is nested
 
-abbrev from_start : {A : Type 0} → DescriptionVersion → (A → Tree) → ℕ → Result (A × Piece) Fault → Result (Tree × Piece) Fault
+abbrev from_start : {A : Type 0} → DescriptionVersion → (A → Tree) → ℕ → Result (A × Rest) Fault → Result (Tree × Rest) Fault
 from_start v make bracket r = r >>= λ x. closed_at bracket x.1 >>= λ rest. supported v bracket (make x.0) rest
 
 -- behind an opening, the nested descriptions are read
 from_opening : {A : Type 0} (v : DescriptionVersion) (what : List ℕ) (read : Reader A) (make : A → Tree) (bracket i : ℕ) (space tail : List ℕ) → Each is_space space → 0 < length space → begins 91 tail ≡ true
     → nesting_at v what read make bracket (at_index i (space ++ tail)) ≡ from_start v make bracket (read (at_index (i + length space) tail))
 from_opening v what read make bracket i space tail spaces some opens =
-    ap (λ (r : Result Piece Fault). r >>= λ start. from_start v make bracket (read start)) (opened_again what i space tail spaces some opens)
+    ap (λ (r : Result Rest Fault). r >>= λ start. from_start v make bracket (read start)) (opened_again what i space tail spaces some opens)
 
-abbrev pub ok_tree : Tree → Piece → Result (Tree × Piece) Fault
+abbrev pub ok_tree : Tree → Rest → Result (Tree × Rest) Fault
 ok_tree t p = Ok (t, p)
 
-abbrev ok_value : {A : Type 0} → A → Piece → Result (A × Piece) Fault
+abbrev ok_value : {A : Type 0} → A → Rest → Result (A × Rest) Fault
 ok_value x p = Ok (x, p)
 
 closed_here : {A : Type 0} (v : DescriptionVersion) (make : A → Tree) (bracket j : ℕ) (rest : List ℕ) (a : A) → from_start v make bracket (ok_value a (at_index j (93 ∷ rest))) ≡ supported v bracket (make a) (at_index (j + 1) rest)
-closed_here v make bracket j rest a = ap (λ (r : Result Piece Fault). r >>= λ rest. supported v bracket (make a) rest) (closed_again bracket j rest)
+closed_here v make bracket j rest a = ap (λ (r : Result Rest Fault). r >>= λ rest. supported v bracket (make a) rest) (closed_again bracket j rest)
 
 pub nesting_again : {A : Type 0} (v : DescriptionVersion) (what : List ℕ) (read : Reader A) (make : A → Tree) (bracket i : ℕ) (space inside rest : List ℕ) (a : A) → Each is_space space → 0 < length space → begins 91 (inside ++ 93 ∷ rest) ≡ true
     → read (at_index (i + length space) (inside ++ 93 ∷ rest)) ≡ Ok (a, at_index (i + length space + length inside) (93 ∷ rest))
@@ -133,8 +133,8 @@ unclosed_again v what read make bracket i space inside rest a spaces some opens 
     ∙ unclosed_here v make bracket (i + length space + length inside) rest a open_still
 
 pub lacks_space_again : {A : Type 0} (v : DescriptionVersion) (what : List ℕ) (read : Reader A) (make : A → Tree) (bracket i : ℕ) (rest : List ℕ) → Stops is_space rest → nesting_at v what read make bracket (at_index i rest) ≡ Err (Expected what i)
-lacks_space_again v what read make bracket i rest stops = ap (λ (r : Result Piece Fault). r >>= λ start. from_start v make bracket (read start)) (unspaced_again what i rest stops)
+lacks_space_again v what read make bracket i rest stops = ap (λ (r : Result Rest Fault). r >>= λ start. from_start v make bracket (read start)) (unspaced_again what i rest stops)
 
 pub lacks_bracket_again : {A : Type 0} (v : DescriptionVersion) (what : List ℕ) (read : Reader A) (make : A → Tree) (bracket i : ℕ) (space rest : List ℕ) → Each is_space space → 0 < length space → Stops is_space rest → begins 91 rest ≡ false
     → nesting_at v what read make bracket (at_index i (space ++ rest)) ≡ Err (Expected (codes "opening bracket") (i + length space))
-lacks_bracket_again v what read make bracket i space rest spaces some stops none = ap (λ (r : Result Piece Fault). r >>= λ start. from_start v make bracket (read start)) (unopened_again what i space rest spaces some stops none)
+lacks_bracket_again v what read make bracket i space rest spaces some stops none = ap (λ (r : Result Rest Fault). r >>= λ start. from_start v make bracket (read start)) (unopened_again what i space rest spaces some stops none)

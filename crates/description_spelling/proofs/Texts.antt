@@ -9,7 +9,7 @@ use Rattle.description_faults.specs.Fault.{Fault, Expected}
 use Rattle.description_words.specs.declared.version.DescriptionVersion.{DescriptionVersion}
 use Rattle.description_words.specs.declared.version.DescriptionVersion.TheVariants.{One, Two, Three}
 use Rattle.description_words.specs.Version.{is_one}
-use Rattle.description_words.specs.Text.{Piece, is_plain, after}
+use Rattle.description_words.specs.Text.{Rest, is_plain, after}
 use Rattle.description_words.specs.Words.{begins, is_escape, escape_at, literal_len}
 use Rattle.description_words.proofs.Readings.{ok_is, not_ok, chosen, err_is, not_err}
 use Rattle.description_reading.specs.Reading.{doubled_at, text_at}
@@ -42,17 +42,17 @@ text_some Three inner own more bytes (inr h) = omega (arith, ap (length {A = ℕ
 
 -- ---- what is read is spelled so
 
-pub record TakesText (v : DescriptionVersion) (inner : Bool) (s : Piece) (bytes : List ℕ) (rest : Piece) : Type 0 where
+pub record TakesText (v : DescriptionVersion) (inner : Bool) (s : Rest) (bytes : List ℕ) (rest : Rest) : Type 0 where
   pub own : List ℕ
   pub takes : Takes s own rest
   pub spells : SpellsText v inner own rest.text bytes
 
 -- a first byte that is taken, and one after it
-two_bytes : (a b : ℕ) (s : Piece) → begins a s.text ≡ true → begins b (after 1 s).text ≡ true → Takes s (a ∷ b ∷ []) (after 1 (after 1 s)) × (take 1 (after 1 s).text ≡ b ∷ [])
+two_bytes : (a b : ℕ) (s : Rest) → begins a s.text ≡ true → begins b (after 1 s).text ≡ true → Takes s (a ∷ b ∷ []) (after 1 (after 1 s)) × (take 1 (after 1 s).text ≡ b ∷ [])
 two_bytes a b s h k =
     (takes_then s (a ∷ []) (after 1 s) (b ∷ []) (after 1 (after 1 s)) (takes_byte a s h) (takes_byte b (after 1 s) k), ap (take {A = ℕ} 1) (begins_cons b (after 1 s).text k))
 
-escaped : (v : DescriptionVersion) (inner : Bool) (s : Piece) (b : ℕ) → is_one v ≡ false → IsEscapable b → begins 92 s.text ≡ true → begins b (after 1 s).text ≡ true → TakesText v inner s (take 1 (after 1 s).text) (after 1 (after 1 s))
+escaped : (v : DescriptionVersion) (inner : Bool) (s : Rest) (b : ℕ) → is_one v ≡ false → IsEscapable b → begins 92 s.text ≡ true → begins b (after 1 s).text ≡ true → TakesText v inner s (take 1 (after 1 s).text) (after 1 (after 1 s))
 escaped v inner s b h is_b back next =
     let two = two_bytes 92 b s back next in
     record { own = 92 ∷ b ∷ []; takes = two.0; spells = rw two.1 (inr (spelled v h)) }
@@ -62,11 +62,11 @@ escaped v inner s b h is_b back next =
     spelled Two h = (b, is_b, refl, refl)
     spelled Three h = (b, is_b, refl, refl)
 
-escape_takes : (v : DescriptionVersion) (inner : Bool) (s : Piece) (x : List ℕ × Piece) → is_one v ≡ false → begins 92 s.text ≡ true → escape_at s ≡ Ok x → TakesText v inner s x.0 x.1
+escape_takes : (v : DescriptionVersion) (inner : Bool) (s : Rest) (x : List ℕ × Rest) → is_one v ≡ false → begins 92 s.text ≡ true → escape_at s ≡ Ok x → TakesText v inner s x.0 x.1
 unfolding escape_at
 escape_takes v inner s x h back e =
     elim (chosen (is_escape (after 1 s).text) (Ok (take 1 (after 1 s).text, after 1 (after 1 s))) (Err (Expected (codes "valid escape sequence") s.index)) (Ok x) e) [
-      | inl g ↦ subst (λ (y : List ℕ × Piece). TakesText v inner s y.0 y.1) (ok_is (take 1 (after 1 s).text, after 1 (after 1 s)) x g.1) (elim (or_is (begins 91 (after 1 s).text) (begins 92 (after 1 s).text) (begins 93 (after 1 s).text) g.0) [
+      | inl g ↦ subst (λ (y : List ℕ × Rest). TakesText v inner s y.0 y.1) (ok_is (take 1 (after 1 s).text, after 1 (after 1 s)) x g.1) (elim (or_is (begins 91 (after 1 s).text) (begins 92 (after 1 s).text) (begins 93 (after 1 s).text) g.0) [
         | inl k ↦ escaped v inner s 91 h (inl refl) back k
         | inr k ↦ elim k [ inl k ↦ escaped v inner s 92 h (inr (inl refl)) back k | inr k ↦ escaped v inner s 93 h (inr (inr refl)) back k ]
       ])
@@ -85,7 +85,7 @@ may_begin One inner b bs h i k = (not_begins 91 b bs h, not_inside inner b bs i)
 may_begin Two inner b bs h i k = (not_begins 91 b bs h, not_inside inner b bs i, not_begins 92 b bs k)
 may_begin Three inner b bs h i k = (not_begins 91 b bs h, not_inside inner b bs i, not_begins 92 b bs k)
 
-literal_takes : (v : DescriptionVersion) (inner : Bool) (s : Piece) → 0 < length s.text → begins 91 s.text ≡ false → (inner && begins 93 s.text) ≡ false → (not (is_one v) && begins 92 s.text) ≡ false → TakesText v inner s (take (literal_len v s.text) s.text) (after (literal_len v s.text) s)
+literal_takes : (v : DescriptionVersion) (inner : Bool) (s : Rest) → 0 < length s.text → begins 91 s.text ≡ false → (inner && begins 93 s.text) ≡ false → (not (is_one v) && begins 92 s.text) ≡ false → TakesText v inner s (take (literal_len v s.text) s.text) (after (literal_len v s.text) s)
 literal_takes v inner s some h i k = go s.text refl some h i k
   where
     go : (text : List ℕ) → text ≡ s.text → 0 < length text → begins 91 text ≡ false → (inner && begins 93 text) ≡ false → (not (is_one v) && begins 92 text) ≡ false → TakesText v inner s (take (literal_len v s.text) s.text) (after (literal_len v s.text) s)
@@ -103,32 +103,32 @@ literal_takes v inner s some h i k = go s.text refl some h i k
         let whole : TakesText v inner (record { index = s.index; text = b ∷ bs }) (take (literal_len v (b ∷ bs)) (b ∷ bs)) (after (literal_len v (b ∷ bs)) (record { index = s.index; text = b ∷ bs })) = rw one item in
         subst (λ (t : List ℕ). TakesText v inner (record { index = s.index; text = t }) (take (literal_len v t) t) (after (literal_len v t) (record { index = s.index; text = t }))) e whole
 
-pub text_takes : (v : DescriptionVersion) (inner : Bool) (s : Piece) (x : List ℕ × Piece) → 0 < length s.text → begins 91 s.text ≡ false → (inner && begins 93 s.text) ≡ false → text_at v s ≡ Ok x → TakesText v inner s x.0 x.1
+pub text_takes : (v : DescriptionVersion) (inner : Bool) (s : Rest) (x : List ℕ × Rest) → 0 < length s.text → begins 91 s.text ≡ false → (inner && begins 93 s.text) ≡ false → text_at v s ≡ Ok x → TakesText v inner s x.0 x.1
 unfolding text_at
 text_takes v inner s x some h i e =
     let n : ℕ = literal_len v s.text in
     elim (chosen (not (is_one v) && begins 92 s.text) (escape_at s) (Ok (take n s.text, after n s)) (Ok x) e) [
       | inl g ↦ let p = not_first (is_one v) (begins 92 s.text) g.0 in escape_takes v inner s x p.0 p.1 g.1
-      | inr g ↦ subst (λ (y : List ℕ × Piece). TakesText v inner s y.0 y.1) (ok_is (take n s.text, after n s) x g.1) (literal_takes v inner s some h i g.0)
+      | inr g ↦ subst (λ (y : List ℕ × Rest). TakesText v inner s y.0 y.1) (ok_is (take n s.text, after n s) x g.1) (literal_takes v inner s some h i g.0)
     ]
 
-pub doubled_takes : (v : DescriptionVersion) (inner : Bool) (s : Piece) (x : List ℕ × Piece) → doubled_at v s ≡ Some x → TakesText v inner s x.0 x.1
+pub doubled_takes : (v : DescriptionVersion) (inner : Bool) (s : Rest) (x : List ℕ × Rest) → doubled_at v s ≡ Some x → TakesText v inner s x.0 x.1
 unfolding doubled_at
 doubled_takes v inner s x e =
-    let it : List ℕ × Piece = (take 1 (after 1 s).text, after 1 (after 1 s)) in
+    let it : List ℕ × Rest = (take 1 (after 1 s).text, after 1 (after 1 s)) in
     elim (chosen (is_one v && (begins 91 s.text && begins 91 (after 1 s).text)) (Some it) None (Some x) e) [
       | inl h ↦
           let a = both (is_one v) (begins 91 s.text && begins 91 (after 1 s).text) h.0 in
           let b = both (begins 91 s.text) (begins 91 (after 1 s).text) a.1 in
           let two = two_bytes 91 91 s b.0 b.1 in
-          subst (λ (y : List ℕ × Piece). TakesText v inner s y.0 y.1) (some_is it x h.1) (record { own = 91 ∷ 91 ∷ []; takes = two.0; spells = rw two.1 (inr (spelled v a.0)) })
+          subst (λ (y : List ℕ × Rest). TakesText v inner s y.0 y.1) (some_is it x h.1) (record { own = 91 ∷ 91 ∷ []; takes = two.0; spells = rw two.1 (inr (spelled v a.0)) })
       | inr h ↦ absurd (none_not x h.1)
     ]
   where
-    some_is : (a b : List ℕ × Piece) → Some a ≡ Some b → a ≡ b
+    some_is : (a b : List ℕ × Rest) → Some a ≡ Some b → a ≡ b
     some_is a b e = cc
 
-    none_not : (a : List ℕ × Piece) → None ≡ Some a → ⊥
+    none_not : (a : List ℕ × Rest) → None ≡ Some a → ⊥
     none_not a e = cc
 
     spelled : (v : DescriptionVersion) → is_one v ≡ true → SpellsEscape v (91 ∷ 91 ∷ []) (91 ∷ [])
@@ -136,14 +136,14 @@ doubled_takes v inner s x e =
     spelled Two h = absurd cc
     spelled Three h = absurd cc
 
-pub text_refused : (v : DescriptionVersion) (s : Piece) (e : Fault) → text_at v s ≡ Err e → BadEscape v s.index s.text e
+pub text_refused : (v : DescriptionVersion) (s : Rest) (e : Fault) → text_at v s ≡ Err e → BadEscape v s.index s.text e
 unfolding text_at escape_at
 text_refused v s e h =
     let n : ℕ = literal_len v s.text in
     elim (chosen (not (is_one v) && begins 92 s.text) (escape_at s) (Ok (take n s.text, after n s)) (Err e) h) [
       | inl k ↦ elim (chosen (is_escape (after 1 s).text) (Ok (take 1 (after 1 s).text, after 1 (after 1 s))) (Err (Expected (codes "valid escape sequence") s.index)) (Err e) k.1) [
         | inl c ↦ absurd (not_err (take 1 (after 1 s).text, after 1 (after 1 s)) e c.1)
-        | inr c ↦ bad v k.0 c.0 (sym (err_is {A = List ℕ × Piece} _ e c.1))
+        | inr c ↦ bad v k.0 c.0 (sym (err_is {A = List ℕ × Rest} _ e c.1))
       ]
       | inr k ↦ absurd (not_err (take n s.text, after n s) e k.1)
     ]
@@ -180,7 +180,7 @@ pub record BeginsText (v : DescriptionVersion) (inner : Bool) (at : ℕ) (own re
   pub reads : ((doubled_at v (at_index at (own ++ rest)) ≡ None) × (begins 91 (own ++ rest) ≡ false) × (text_at v (at_index at (own ++ rest)) ≡ Ok (bytes, at_index (at + length own) rest)))
       ⊎ (doubled_at v (at_index at (own ++ rest)) ≡ Some (bytes, at_index (at + length own) rest))
 
-pub no_doubled : (v : DescriptionVersion) (s : Piece) → begins 91 s.text ≡ false → doubled_at v s ≡ None
+pub no_doubled : (v : DescriptionVersion) (s : Rest) → begins 91 s.text ≡ false → doubled_at v s ≡ None
 unfolding doubled_at
 no_doubled One s h = rw h refl
 no_doubled Two s h = refl
@@ -198,7 +198,7 @@ literal_again v inner at (b ∷ bs) rest h =
       reads = inl (no_doubled v (at_index at (b ∷ (bs ++ rest))) opens, opens, rw (not_back v inner b (bs ++ rest) h.0, n, one, take_at bs rest (length bs) refl, drop_at bs rest (length bs) refl) refl);
     }
 
-abbrev ok_text : List ℕ → Piece → Result (List ℕ × Piece) Fault
+abbrev ok_text : List ℕ → Rest → Result (List ℕ × Rest) Fault
 ok_text bytes p = Ok (bytes, p)
 
 two_on : (at : ℕ) (rest : List ℕ) → at_index (at + 1 + 1) rest ≡ at_index (at + 2) rest
@@ -223,7 +223,7 @@ back_again v inner at b rest h is_b = record {
 
 escape_again : (v : DescriptionVersion) (inner : Bool) (at : ℕ) (own bytes rest : List ℕ) → SpellsEscape v own bytes → BeginsText v inner at own rest bytes
 unfolding doubled_at
-escape_again One inner at own bytes rest (e, f) = rw (e, f) (record { no_end = no_close inner; reads = inr (ap (λ (p : Piece). Some (91 ∷ [], p)) (two_on at rest)) })
+escape_again One inner at own bytes rest (e, f) = rw (e, f) (record { no_end = no_close inner; reads = inr (ap (λ (p : Rest). Some (91 ∷ [], p)) (two_on at rest)) })
 escape_again Two inner at own bytes rest (b, is_b, e, f) = rw (e, f) (back_again Two inner at b rest refl is_b)
 escape_again Three inner at own bytes rest (b, is_b, e, f) = rw (e, f) (back_again Three inner at b rest refl is_b)
 

@@ -6,7 +6,7 @@ use Rattle.description_tables.specs.Component.{component_of}
 use Rattle.description_words.specs.declared.version.DescriptionVersion.{DescriptionVersion}
 use Rattle.description_words.specs.declared.version.DescriptionVersion.TheVariants.{One, Two, Three}
 use Rattle.description_words.specs.Version.{is_three}
-use Rattle.description_words.specs.Text.{Piece, is_space, is_word_byte, is_no_colon}
+use Rattle.description_words.specs.Text.{Rest, is_space, is_word_byte, is_no_colon}
 use Rattle.description_words.specs.Words.{Modifier, is_named, begins, is_escape}
 use Rattle.description_spelling.specs.Heads.{Each, Stops, IsWord, SpellsHead, SpellsOpening, SpellsNesting}
 use Rattle.description_spelling.specs.Spelling.{SpellsItems, SpellsNested, SpellsAlternatives}
@@ -43,7 +43,7 @@ pub record LacksName (v : DescriptionVersion) (at : ℕ) (text : List ℕ) (faul
 
 pub record HasBadWord (v : DescriptionVersion) (at : ℕ) (text : List ℕ) (fault : Fault) : Type 0 where
   pub head : List ℕ
-  pub name : Piece
+  pub name : Rest
   pub modifiers : List Modifier
   pub word : List ℕ
   pub rest : List ℕ
@@ -56,7 +56,7 @@ pub record HasBadWord (v : DescriptionVersion) (at : ℕ) (text : List ℕ) (fau
 
 pub record IsUnclosed (v : DescriptionVersion) (at : ℕ) (text : List ℕ) (fault : Fault) : Type 0 where
   pub head : List ℕ
-  pub name : Piece
+  pub name : Rest
   pub modifiers : List Modifier
   pub rest : List ℕ
   pub parts : text ≡ head ++ rest
@@ -69,7 +69,7 @@ pub record IsUnclosed (v : DescriptionVersion) (at : ℕ) (text : List ℕ) (fau
 -- what is spelled well and means no component
 pub record MeansNothing (v : DescriptionVersion) (at : ℕ) (text : List ℕ) (fault : Fault) : Type 0 where
   pub head : List ℕ
-  pub name : Piece
+  pub name : Rest
   pub modifiers : List Modifier
   pub rest : List ℕ
   pub parts : text ≡ head ++ 93 ∷ rest

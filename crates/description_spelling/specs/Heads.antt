@@ -4,7 +4,7 @@ use Rattle.description_items.specs.declared.component.Component.{Component}
 use Rattle.description_tables.specs.Component.{component_of}
 use Rattle.description_words.specs.declared.version.DescriptionVersion.{DescriptionVersion}
 use Rattle.description_words.specs.declared.version.DescriptionVersion.TheVariants.{One, Two, Three}
-use Rattle.description_words.specs.Text.{Piece, is_space, is_word_byte, is_plain, is_no_colon}
+use Rattle.description_words.specs.Text.{Rest, is_space, is_word_byte, is_plain, is_no_colon}
 use Rattle.description_words.specs.Words.{Modifier, is_named}
 pub use Rattle.description_words.specs.Text.{Each, Stops}
 
@@ -34,7 +34,7 @@ abbrev pub is_nesting : DescriptionVersion → List ℕ → Bool
 is_nesting v word = is_named v word (codes "optional") || is_named v word (codes "first")
 
 -- a bracket, a name, its modifiers, and white space where it may stand
-pub record SpellsHead (v : DescriptionVersion) (at : ℕ) (own : List ℕ) (name : Piece) (ms : List Modifier) : Type 0 where
+pub record SpellsHead (v : DescriptionVersion) (at : ℕ) (own : List ℕ) (name : Rest) (ms : List Modifier) : Type 0 where
   pub first : List ℕ
   pub middle : List ℕ
   pub last : List ℕ
@@ -49,7 +49,7 @@ pub record SpellsHead (v : DescriptionVersion) (at : ℕ) (own : List ℕ) (name
 -- a head and its closing bracket, with a name and modifiers that mean a component; where it stands does not matter
 pub record SpellsComponent (v : DescriptionVersion) (own : List ℕ) (c : Component) : Type 0 where
   pub head : List ℕ
-  pub name : Piece
+  pub name : Rest
   pub modifiers : List Modifier
   pub parts : own ≡ head ++ 93 ∷ []
   pub is_head : SpellsHead v 0 head name modifiers

@@ -5,7 +5,7 @@ use Rattle.std.proofs.lemmas.Bool.Decides.{nat_tests}
 use Rattle.description_date_modifiers.specs.declared.choices.Padding.{Padding}
 use Rattle.description_faults.specs.Fault.{Fault}
 use Rattle.description_items.specs.Tree.{Tree, Literal}
-use Rattle.description_words.specs.Text.{Piece, after}
+use Rattle.description_words.specs.Text.{Rest, after}
 use Rattle.description_words.specs.Words.{begins}
 use Rattle.description_strftime.specs.Text.{is_plain, Each, Stops}
 use Rattle.description_strftime.specs.Letters.{letter_items}
@@ -16,7 +16,7 @@ use Rattle.description_strftime.proofs.Flags.{at_index, no_flag, flag_again, pas
 use Rattle.description_words.proofs.Fronts.{run_again}
 
 abbrev pub Step : Type 0
-Step = Result (List Tree × Piece) Fault
+Step = Result (List Tree × Rest) Fault
 
 abbrev pub done : List Tree → ℕ → List ℕ → Step
 done items i text = Ok (items, at_index i text)

@@ -9,7 +9,7 @@ use Rattle.description_date_modifiers.specs.declared.choices.Padding.{Padding}
 use Rattle.description_faults.specs.Fault.{Fault, InvalidComponentName, Expected}
 use Rattle.description_faults.specs.Answer.{◌>>=◌}
 use Rattle.description_items.specs.Tree.{Tree, Literal}
-use Rattle.description_words.specs.Text.{Piece, after}
+use Rattle.description_words.specs.Text.{Rest, after}
 use Rattle.description_strftime.specs.Text.{is_continuation}
 use Rattle.description_strftime.specs.Letters.{letter_items, refused}
 use Rattle.description_strftime.specs.Reading.{flag_at, past_flag, refusal, letter_at, conversion_at, plain_len, strftime_step}
@@ -25,22 +25,22 @@ failed fault = Err fault
 pub err_is : (d e : Fault) → failed d ≡ failed e → d ≡ e
 err_is d e h = cc
 
-not_err : (x : List Tree × Piece) (e : Fault) → Ok x ≡ failed e → ⊥
+not_err : (x : List Tree × Rest) (e : Fault) → Ok x ≡ failed e → ⊥
 not_err x e h = cc
 
 -- a letter that was refused
-record RefusesLetter (flag : Option Padding) (s : Piece) (b : ℕ) (fault : Fault) : Type 0 where
+record RefusesLetter (flag : Option Padding) (s : Rest) (b : ℕ) (fault : Fault) : Type 0 where
   no_letter : letter_items flag b ≡ None
   fault_is : fault ≡ refusal (refused b) s
 
-found_err : (o : Option (List Tree)) (d e : Fault) (s : Piece) → (ok_or o d >>= λ items. Ok (items, s)) ≡ failed e → (o ≡ None) × (e ≡ d)
+found_err : (o : Option (List Tree)) (d e : Fault) (s : Rest) → (ok_or o d >>= λ items. Ok (items, s)) ≡ failed e → (o ≡ None) × (e ≡ d)
 found_err (Some x) d e s h = absurd (not_err (x, s) e h)
 found_err None d e s h = (refl, sym (err_is d e h))
 
 letter_refused : (percent : ℕ) (flag : Option Padding) (i b : ℕ) (bs : List ℕ) (fault : Fault) → letter_at percent flag (at_index i (b ∷ bs)) ≡ Err fault → RefusesLetter flag (at_index i (b ∷ bs)) b fault
 unfolding letter_at
 letter_refused percent flag i b bs fault e =
-    let s : Piece = at_index i (b ∷ bs) in
+    let s : Rest = at_index i (b ∷ bs) in
     let h = found_err (letter_items flag b) (refusal (refused b) s) fault (after 1 s) e in
     record { no_letter = h.0; fault_is = h.1 }
 
@@ -97,7 +97,7 @@ conversion_refused at text fault e = go (past_flag flag (at_index (at + 1) text)
     flag : Option Padding
     flag = flag_at text
 
-    m : Piece
+    m : Rest
     m = past_flag flag (at_index (at + 1) text)
 
     whole : text ≡ flag_text flag ++ m.text
@@ -132,5 +132,5 @@ step_refused at (b ∷ bs) fault e = go (b == 37) refl e
     go true is_t h = subst (λ (c : ℕ). BadConversion at (c ∷ bs) fault) (percent_is b is_t) (conversion_refused at bs fault h)
     go false is_t h = absurd (not_err _ fault h)
 
-pub part_refused : (s : Piece) (fault : Fault) → strftime_step s ≡ Err fault → BadConversion s.index s.text fault
+pub part_refused : (s : Rest) (fault : Fault) → strftime_step s ≡ Err fault → BadConversion s.index s.text fault
 part_refused s fault e = step_refused s.index s.text fault e

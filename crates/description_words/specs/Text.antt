@@ -24,25 +24,25 @@ is_plain Three b = not (is_bracket b || b == 92)
 abbrev pub is_no_colon : ℕ → Bool
 is_no_colon b = not (b == 58)
 
--- a piece of the text, and where it begins in the whole text
-pub record Piece : Type 0 where
+-- what is left of a text, or a part of it, and where it begins in the whole text
+pub record Rest : Type 0 where
   pub index : ℕ
   pub text : List ℕ
 
-abbrev pub whole : List ℕ → Piece
+abbrev pub whole : List ℕ → Rest
 whole text = record { index = 0; text = text }
 
 -- the run of such bytes at the front
-abbrev pub run : (ℕ → Bool) → Piece → Piece
-run p s = record { index = s.index; text = take (prefix_len p s.text) s.text }
+abbrev pub run : (ℕ → Bool) → Rest → Rest
+run p here = record { index = here.index; text = take (prefix_len p here.text) here.text }
 
 -- what follows it
-abbrev pub past : (ℕ → Bool) → Piece → Piece
-past p s = record { index = s.index + prefix_len p s.text; text = drop (prefix_len p s.text) s.text }
+abbrev pub past : (ℕ → Bool) → Rest → Rest
+past p here = record { index = here.index + prefix_len p here.text; text = drop (prefix_len p here.text) here.text }
 
 -- without the first n bytes
-abbrev pub after : ℕ → Piece → Piece
-after n s = record { index = s.index + n; text = drop n s.text }
+abbrev pub after : ℕ → Rest → Rest
+after n here = record { index = here.index + n; text = drop n here.text }
 
 -- each byte passes
 abbrev pub Each : (ℕ → Bool) → List ℕ → Type 0

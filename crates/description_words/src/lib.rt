@@ -2,7 +2,7 @@
 #![tactic(auto)]
 
 mod cutting;
-mod left;
+mod rest;
 mod literals;
 mod modifiers;
 mod names;
@@ -10,7 +10,7 @@ mod runs;
 mod version;
 
 pub use cutting::{cut, whole_of};
-pub use left::Left;
+pub use rest::Rest;
 pub use literals::{escape, literal};
 pub use modifiers::{Modifier, modifiers_of};
 pub use names::{begins, closed, is_named, name_of};
