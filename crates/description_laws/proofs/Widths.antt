@@ -3,6 +3,7 @@ use Rattle.std.proofs.Common.{◌≡◌, ℕ, ◌+◌, ◌≤◌, ◌<◌, List,
 use Rattle.std.specs.Prelude.{codes, ◌&&◌}
 use Rattle.std.specs.Option.{option_map}
 use Rattle.std.proofs.lemmas.List.{length-append}
+use Rattle.byte_names.specs.Bytes.{colon, right_bracket}
 use Rattle.description_faults.specs.Fault.{Fault, DuplicateModifier, MissingRequiredModifier, InvalidComponentName}
 use Rattle.description_faults.specs.Answer.{◌>>=◌}
 use Rattle.description_date_modifiers.specs.declared.choices.Padding.{Padding}
@@ -248,7 +249,7 @@ chosen_width n at own [] b d c h with_is d_is e =
 chosen_width n at own (m ∷ ms) b d c (first, rest, parts, one, more) with_is d_is e =
     let a = bind_ok (with_modifier Three n nothing m) (λ x. with_modifiers Three n x ms) b with_is in
     let len = modifier_len n m (taken_first n a.0 m a.1) one.is_key.0 one.is_value.0 in
-    let own_len : 2 + length m.key.text + length m.value.text ≤ length own = omega (arith, ap (length {A = ℕ}) parts, length-append first rest, ap (length {A = ℕ}) one.parts, length-append one.space (m.key.text ++ 58 ∷ m.value.text), length-append m.key.text (58 ∷ m.value.text), one.some_space) in
+    let own_len : 2 + length m.key.text + length m.value.text ≤ length own = omega (arith, ap (length {A = ℕ}) parts, length-append first rest, ap (length {A = ℕ}) one.parts, length-append one.blank (m.key.text ++ colon ∷ m.value.text), length-append m.key.text (colon ∷ m.value.text), one.some_space) in
     omega (arith, any_width n d c e, enough n, len, own_len)
 
 pub component_width : (own : List ℕ) (c : Component) → SpellsComponent Three own c → width_of c ≤ length own
@@ -261,4 +262,4 @@ component_width own c h =
     let d = bind_ok (combined Three a.0 b.0 h.modifiers) (λ d. found (made Three a.0 d) (lacking h.name)) c b.2 in
     let is_name : h.name.text ≡ name_text a.0 = name_is h.name.text a.0 (found_is (name_of Three h.name.text) (InvalidComponentName h.name.text h.name.index) a.0 a.1) in
     let width = chosen_width a.0 (0 + 1 + length g.first + length h.name.text) g.middle h.modifiers b.0 d.0 c g.modifiers b.1 d.1 (found_is (made Three a.0 d.0) (lacking h.name) c d.2) in
-    omega (arith, width, ap (length {A = ℕ}) is_name, ap (length {A = ℕ}) h.parts, length-append h.head (93 ∷ []), ap (length {A = ℕ}) g.parts, length-append g.first (h.name.text ++ (g.middle ++ g.last)), length-append h.name.text (g.middle ++ g.last), length-append g.middle g.last)
+    omega (arith, width, ap (length {A = ℕ}) is_name, ap (length {A = ℕ}) h.parts, length-append h.head (right_bracket ∷ []), ap (length {A = ℕ}) g.parts, length-append g.first (h.name.text ++ (g.middle ++ g.last)), length-append h.name.text (g.middle ++ g.last), length-append g.middle g.last)

@@ -4,6 +4,7 @@ use Rattle.std.specs.Prelude.{codes, ◌&&◌, ◌==◌}
 use Rattle.std.specs.List.{prefix_len}
 use Rattle.std.proofs.lemmas.List.{length-drop}
 use Rattle.std.proofs.lemmas.Bool.Decides.{nat_tests}
+use Rattle.byte_names.specs.Bytes.{left_bracket, backslash, right_bracket}
 use Rattle.description_faults.specs.Fault.{Fault, Expected, MissingComponentName, UnclosedOpeningBracket}
 use Rattle.description_faults.specs.Answer.{◌>>=◌}
 use Rattle.description_items.specs.Tree.{Tree, Literal, Part, Compound, Optional, First, listed}
@@ -51,8 +52,8 @@ modifiers_le s x e =
 closed_lt : (bracket : ℕ) (s rest : Rest) → closed_at bracket s ≡ Ok rest → length rest.text < length s.text
 unfolding closed_at
 closed_lt bracket s rest e =
-    elim (chosen (begins 93 s.text) (Ok (after 1 s)) (Err (UnclosedOpeningBracket bracket)) (Ok rest) e) [
-      | inl h ↦ omega (arith, after_lt 1 s (omega arith) (begins_some 93 s.text h.0), ap (λ (y : Rest). length y.text) (ok_is (after 1 s) rest h.1))
+    elim (chosen (begins right_bracket s.text) (Ok (after 1 s)) (Err (UnclosedOpeningBracket bracket)) (Ok rest) e) [
+      | inl h ↦ omega (arith, after_lt 1 s (omega arith) (begins_some right_bracket s.text h.0), ap (λ (y : Rest). length y.text) (ok_is (after 1 s) rest h.1))
       | inr h ↦ absurd (not_ok _ rest h.1)
     ]
 
@@ -67,9 +68,9 @@ component_lt v bracket name s x e =
 opened_le : (what : List ℕ) (s start : Rest) → opened_at what s ≡ Ok start → length start.text ≤ length s.text
 unfolding opened_at
 opened_le what s start e =
-    elim (chosen (is_same (past is_space s) s) (Err (Expected what s.index)) (cond (begins 91 (past is_space s).text) (Ok (past is_space s)) (Err (Expected (codes "opening bracket") (past is_space s).index))) (Ok start) e) [
+    elim (chosen (is_same (past is_space s) s) (Err (Expected what s.index)) (cond (begins left_bracket (past is_space s).text) (Ok (past is_space s)) (Err (Expected (codes "opening bracket") (past is_space s).index))) (Ok start) e) [
       | inl h ↦ absurd (not_ok _ start h.1)
-      | inr h ↦ elim (chosen (begins 91 (past is_space s).text) (Ok (past is_space s)) (Err (Expected (codes "opening bracket") (past is_space s).index)) (Ok start) h.1) [
+      | inr h ↦ elim (chosen (begins left_bracket (past is_space s).text) (Ok (past is_space s)) (Err (Expected (codes "opening bracket") (past is_space s).index)) (Ok start) h.1) [
         | inl g ↦ omega (arith, past_le is_space s, ap (λ (y : Rest). length y.text) (ok_is (past is_space s) start g.1))
         | inr g ↦ absurd (not_ok _ start g.1)
       ]
@@ -135,7 +136,7 @@ text_lt : (v : DescriptionVersion) (s : Rest) (x : List ℕ × Rest) → 0 < len
 unfolding text_at
 text_lt v s x some e =
     let n = literal_len v s.text in
-    elim (chosen (not (is_one v) && begins 92 s.text) (escape_at s) (Ok (take n s.text, after n s)) (Ok x) e) [
+    elim (chosen (not (is_one v) && begins backslash s.text) (escape_at s) (Ok (take n s.text, after n s)) (Ok x) e) [
       | inl h ↦ escape_lt s x some h.1
       | inr h ↦ omega (arith, after_lt n s (omega arith) some, ap (λ (y : List ℕ × Rest). length y.1.text) (ok_is (take n s.text, after n s) x h.1))
     ]
@@ -144,7 +145,7 @@ doubled_lt : (v : DescriptionVersion) (s : Rest) (x : List ℕ × Rest) → 0 < 
 unfolding doubled_at
 doubled_lt v s x some e =
     let it : List ℕ × Rest = (take 1 (after 1 s).text, after 1 (after 1 s)) in
-    elim (chosen (is_one v && (begins 91 s.text && begins 91 (after 1 s).text)) (Some it) None (Some x) e) [
+    elim (chosen (is_one v && (begins left_bracket s.text && begins left_bracket (after 1 s).text)) (Some it) None (Some x) e) [
       | inl h ↦ omega (arith, after_lt 1 s (omega arith) some, after_le 1 (after 1 s), ap (λ (y : List ℕ × Rest). length y.1.text) (some_is it x h.1))
       | inr h ↦ absurd cc
     ]
@@ -157,12 +158,12 @@ unfolding element_at
 element_lt v inside less s x some e = by_doubled (doubled_at v s) refl e
   where
     read : Result (Tree × Rest) Fault
-    read = cond (begins 91 s.text) (bracket_at v inside s) (text_at v s >>= λ x. Ok (Literal x.0, x.1))
+    read = cond (begins left_bracket s.text) (bracket_at v inside s) (text_at v s >>= λ x. Ok (Literal x.0, x.1))
 
     by_doubled : (d : Option (List ℕ × Rest)) → doubled_at v s ≡ d → literal_or d read ≡ Ok x → length x.1.text < length s.text
     by_doubled (Some y) is_d h = omega (arith, doubled_lt v s y some is_d, ap (λ (z : Tree × Rest). length z.1.text) (ok_is (Literal y.0, y.1) x h))
     by_doubled None is_d h =
-        elim (chosen (begins 91 s.text) (bracket_at v inside s) (text_at v s >>= λ x. Ok (Literal x.0, x.1)) (Ok x) h) [
+        elim (chosen (begins left_bracket s.text) (bracket_at v inside s) (text_at v s >>= λ x. Ok (Literal x.0, x.1)) (Ok x) h) [
           | inl g ↦ bracket_lt v inside less s x g.1
           | inr g ↦
               let a = bind_ok (text_at v s) (λ x. Ok (Literal x.0, x.1)) x g.1 in

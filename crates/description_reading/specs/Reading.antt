@@ -1,5 +1,6 @@
 -- Reading a description from left to right: what it means and what follows it, or the first fault.
 use Rattle.std.specs.Prelude.{ℕ, zero, suc, ◌==◌, ◌||◌, ◌&&◌, not, Bool, true, false, List, length, take, Option, Some, None, Result, Ok, Err, if◌then◌else◌, codes}
+use Rattle.byte_names.specs.Bytes.{left_bracket, backslash, right_bracket}
 use Rattle.description_faults.specs.Fault.{Fault, Expected, NotSupported}
 use Rattle.description_faults.specs.Answer.{◌>>=◌}
 use Rattle.description_items.specs.declared.component.Component.{Component}
@@ -15,13 +16,13 @@ use Rattle.description_words.specs.Words.{is_named, begins, modifiers_at, name_a
 -- a bracket that version 1 spells by two
 unfoldable pub doubled_at : DescriptionVersion → Rest → Option (List ℕ × Rest)
 doubled_at v here =
-    if is_one v && (begins 91 here.text && begins 91 (after 1 here).text) then Some (take 1 (after 1 here).text, after 1 (after 1 here))
+    if is_one v && (begins left_bracket here.text && begins left_bracket (after 1 here).text) then Some (take 1 (after 1 here).text, after 1 (after 1 here))
     else None
 
 -- a literal, or what a backslash takes as it stands
 unfoldable pub text_at : DescriptionVersion → Rest → Result (List ℕ × Rest) Fault
 text_at v here =
-    if not (is_one v) && begins 92 here.text then escape_at here
+    if not (is_one v) && begins backslash here.text then escape_at here
     else Ok (take (literal_len v here.text) here.text, after (literal_len v here.text) here)
 
 -- a component behind its name
@@ -43,7 +44,7 @@ is_same here there = length here.text == length there.text
 unfoldable pub opened_at : List ℕ → Rest → Result Rest Fault
 opened_at what here =
     if is_same (past is_space here) here then Err (Expected what here.index)
-    else (if begins 91 (past is_space here).text then Ok (past is_space here)
+    else (if begins left_bracket (past is_space here).text then Ok (past is_space here)
     else Err (Expected (codes "opening bracket") (past is_space here).index))
 
 -- versions 1 and 2 have no nested items
@@ -61,7 +62,7 @@ optional_at v inside bracket here = do
   supported v bracket (Optional true item.0) rest
 
 abbrev pub no_bracket : Rest → Bool
-no_bracket here = not (begins 91 here.text)
+no_bracket here = not (begins left_bracket here.text)
 
 unfoldable pub first_at : DescriptionVersion → Nester → ℕ → Rest → Result (Tree × Rest) Fault
 first_at v inside bracket here = do
@@ -83,11 +84,11 @@ literal_or (Some x) read = Ok (Literal x.0, x.1)
 literal_or None read = read
 
 unfoldable pub element_at : DescriptionVersion → Nester → Rest → Result (Tree × Rest) Fault
-element_at v inside here = literal_or (doubled_at v here) (if begins 91 here.text then bracket_at v inside here else (text_at v here >>= λ x. Ok (Literal x.0, x.1)))
+element_at v inside here = literal_or (doubled_at v here) (if begins left_bracket here.text then bracket_at v inside here else (text_at v here >>= λ x. Ok (Literal x.0, x.1)))
 
 -- at the outer level only the end ends a description
 abbrev pub is_end : Bool → Rest → Bool
-is_end inner here = length here.text == 0 || (inner && begins 93 here.text)
+is_end inner here = length here.text == 0 || (inner && begins right_bracket here.text)
 
 -- a nested description, where so many levels may be opened; past them it is refused at once
 unfoldable pub nested_at : DescriptionVersion → ℕ → Nester

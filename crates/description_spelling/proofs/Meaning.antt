@@ -1,6 +1,7 @@
 -- Where a component stands does not change what it means.
 use Rattle.std.proofs.Common.{◌≡◌, ℕ, ◌+◌, List, [], ◌∷◌, ◌++◌, length, Option, Some, None, Result, Ok, Err, not, cond, refl, subst, ◌∙◌, inl, inr}
 use Rattle.std.specs.Prelude.{◌&&◌, codes}
+use Rattle.byte_names.specs.Bytes.{right_bracket}
 use Rattle.description_faults.specs.Fault.{Fault, InvalidComponentName, MissingRequiredModifier, DuplicateModifier, InvalidModifierCombination}
 use Rattle.description_faults.specs.Answer.{◌>>=◌}
 use Rattle.description_items.specs.declared.component.Component.{Component}
@@ -113,8 +114,8 @@ words_elsewhere : (v : DescriptionVersion) (ms : List Modifier) (at to : ℕ) (o
 words_elsewhere v [] at to own e = record { others = []; spells = e; same = tt }
 words_elsewhere v (m ∷ ms) at to own (first, rest, parts, one, more) =
     let others : WordsElsewhere v (to + length first) rest ms = words_elsewhere v ms (at + length first) (to + length first) rest more in
-    let here : Modifier = record { key = at_index (to + length one.space) m.key.text; value = at_index (to + length one.space + length m.key.text + 1) m.value.text } in
-    let spelled : SpellsModifier to first here = record { space = one.space; parts = one.parts; is_space = one.is_space; some_space = one.some_space; is_key = one.is_key; no_colon = one.no_colon; is_value = one.is_value; key_at = refl; value_at = refl } in
+    let here : Modifier = record { key = at_index (to + length one.blank) m.key.text; value = at_index (to + length one.blank + length m.key.text + 1) m.value.text } in
+    let spelled : SpellsModifier to first here = record { blank = one.blank; parts = one.parts; is_space = one.is_space; some_space = one.some_space; is_key = one.is_key; no_colon = one.no_colon; is_value = one.is_value; key_at = refl; value_at = refl } in
     record { others = here ∷ others.others; spells = (first, rest, parts, spelled, others.spells); same = (record { key = refl; value = λ x c k. refl }, others.same) }
 
 -- a head with the component that it means, elsewhere
@@ -140,7 +141,7 @@ means_elsewhere v at to head c h =
 pub component_at : (v : DescriptionVersion) (at : ℕ) (own : List ℕ) (c : Component) (h : SpellsComponent v own c) → MeansAt v at h.head c
 component_at v at own c h = means_elsewhere v 0 at h.head c (record { name = h.name; modifiers = h.modifiers; is_head = h.is_head; means = h.means })
 
-pub component_spelled : (v : DescriptionVersion) (at : ℕ) (head : List ℕ) (c : Component) → MeansAt v at head c → SpellsComponent v (head ++ 93 ∷ []) c
+pub component_spelled : (v : DescriptionVersion) (at : ℕ) (head : List ℕ) (c : Component) → MeansAt v at head c → SpellsComponent v (head ++ right_bracket ∷ []) c
 component_spelled v at head c h =
     let g : MeansAt v 0 head c = means_elsewhere v at 0 head c h in
     record { head = head; name = g.name; modifiers = g.modifiers; parts = refl; is_head = g.is_head; means = g.means }

@@ -6,6 +6,7 @@ use Rattle.std.proofs.lemmas.List.Folds.{length-prefix_len}
 use Rattle.std.proofs.lemmas.List.Sums.{prefix_len-le-length}
 use Rattle.std.proofs.lemmas.Bool.{eqb-true}
 use Rattle.std.proofs.lemmas.Bool.Decides.{nat_tests}
+use Rattle.byte_names.specs.Bytes.{colon}
 use Rattle.description_faults.specs.Fault.{Fault, InvalidModifier}
 use Rattle.description_words.specs.Text.{Rest, is_space, is_word_byte, is_no_colon, run, past, after}
 use Rattle.description_words.specs.Many.{many}
@@ -22,22 +23,22 @@ use Rattle.description_words.proofs.Steps.{Steps, many_steps, many_failing, Fail
 -- ---- one modifier
 
 -- the colon at which a word is cut
-colon_there : (s : List ℕ) → prefix_len is_no_colon s < length s → drop (prefix_len is_no_colon s) s ≡ 58 ∷ drop (prefix_len is_no_colon s + 1) s
+colon_there : (s : List ℕ) → prefix_len is_no_colon s < length s → drop (prefix_len is_no_colon s) s ≡ colon ∷ drop (prefix_len is_no_colon s + 1) s
 colon_there s lt = at_stop (prefix_len is_no_colon s) s (stops_past is_no_colon s) lt
   where
-    colon : (b : ℕ) → is_no_colon b ≡ false → b ≡ 58
-    colon b h = grind (arith, nat_tests)
+    is_colon : (b : ℕ) → is_no_colon b ≡ false → b ≡ colon
+    is_colon b h = grind (arith, nat_tests)
 
-    at_stop : (n : ℕ) (s : List ℕ) → Stops is_no_colon (drop n s) → n < length s → drop n s ≡ 58 ∷ drop (n + 1) s
+    at_stop : (n : ℕ) (s : List ℕ) → Stops is_no_colon (drop n s) → n < length s → drop n s ≡ colon ∷ drop (n + 1) s
     at_stop zero [] stops lt = absurd (omega arith)
-    at_stop zero (b ∷ bs) stops lt = rw (colon b stops) refl
+    at_stop zero (b ∷ bs) stops lt = rw (is_colon b stops) refl
     at_stop (suc n) [] stops lt = absurd (omega arith)
     at_stop (suc n) (b ∷ bs) stops lt =
         let one : suc n + 1 ≡ suc (n + 1) = omega arith in rw one (at_stop n bs stops (omega arith))
 
 -- a word that is a modifier
 record IsModifierWord (s : Rest) (m : Modifier) : Type 0 where
-  parts : s.text ≡ m.key.text ++ 58 ∷ m.value.text
+  parts : s.text ≡ m.key.text ++ colon ∷ m.value.text
   is_key : IsWord m.key.text
   no_colon : Each is_no_colon m.key.text
   is_value : IsWord m.value.text
@@ -53,7 +54,7 @@ modifier_takes s m each e =
     let some : 0 < k = above k g.1 in
     let more : k + 1 < length s.text = lt_of (k + 1) (length s.text) (omega arith) g.2 in
     let len : length (take k s.text) ≡ k = length-prefix_len is_no_colon s.text in
-    let parts : s.text ≡ take k s.text ++ 58 ∷ drop (k + 1) s.text = sym (take-append-drop k s.text) ∙ ap (λ (t : List ℕ). take k s.text ++ t) (colon_there s.text lt) in
+    let parts : s.text ≡ take k s.text ++ colon ∷ drop (k + 1) s.text = sym (take-append-drop k s.text) ∙ ap (λ (t : List ℕ). take k s.text ++ t) (colon_there s.text lt) in
     let word : IsModifierWord s (record { key = run is_no_colon s; value = after (k + 1) s }) = record {
       parts = parts;
       is_key = (omega (arith, len), each_of_take is_word_byte k s.text each);
@@ -75,18 +76,18 @@ word_refused s e h =
         | inl g ↦
             let zero_is : k ≡ 0 = eqb-true _ _ g.1 in
             let lt : k < length s.text = lt_of k (length s.text) le g.0 in
-            let cut : drop k s.text ≡ 58 ∷ drop (k + 1) s.text = colon_there s.text lt in
+            let cut : drop k s.text ≡ colon ∷ drop (k + 1) s.text = colon_there s.text lt in
             inr (inl (drop (k + 1) s.text, ap (λ (n : ℕ). drop n s.text) (sym zero_is) ∙ cut, sym g.2))
         | inr g ↦
             let lt : k < length s.text = lt_of k (length s.text) le g.0 in
             let last : k + 1 ≡ length s.text = eqb-true _ _ g.2 in
-            let cut : drop k s.text ≡ 58 ∷ drop (k + 1) s.text = colon_there s.text lt in
+            let cut : drop k s.text ≡ colon ∷ drop (k + 1) s.text = colon_there s.text lt in
             let ends : drop (k + 1) s.text ≡ [] = nil_from_length _ (omega (arith, length-drop (k + 1) s.text)) in
             inr (inr (
               take k s.text,
               omega (arith, length-prefix_len is_no_colon s.text, above k g.1),
               each_run is_no_colon s.text,
-              sym (take-append-drop k s.text) ∙ ap (λ (t : List ℕ). take k s.text ++ t) (cut ∙ ap (λ (t : List ℕ). 58 ∷ t) ends),
+              sym (take-append-drop k s.text) ∙ ap (λ (t : List ℕ). take k s.text ++ t) (cut ∙ ap (λ (t : List ℕ). colon ∷ t) ends),
               sym g.3,
             ))
       ]
@@ -133,22 +134,22 @@ one_more s m ms rest stops there is_m others = record {
   no_word = others.no_word;
 }
   where
-    space : List ℕ
-    space = (run is_space s).text
+    blank : List ℕ
+    blank = (run is_space s).text
 
     word : Rest
     word = run is_word_byte (past is_space s)
 
     first : List ℕ
-    first = space ++ word.text
+    first = blank ++ word.text
 
     word_is : IsModifierWord word m
     word_is = modifier_takes word m (each_run is_word_byte (past is_space s).text) is_m
 
     modifier : SpellsModifier s.index first m
     modifier = record {
-      space = space;
-      parts = ap (λ (t : List ℕ). space ++ t) word_is.parts;
+      blank = blank;
+      parts = ap (λ (t : List ℕ). blank ++ t) word_is.parts;
       is_space = each_run is_space s.text;
       some_space = space_before s stops there;
       is_key = word_is.is_key;

@@ -3,6 +3,7 @@ use Rattle.std.proofs.Common.{◌≡◌, ℕ, ◌+◌, List, [], ◌∷◌, ◌+
 use Rattle.std.proofs.lemmas.List.{length-append}
 use Rattle.std.proofs.lemmas.Bool.{eqb-true}
 use Rattle.std.proofs.lemmas.Bool.Decides.{nat_tests}
+use Rattle.byte_names.specs.Bytes.{left_bracket, right_bracket}
 use Rattle.description_faults.specs.Fault.{Fault, UnclosedOpeningBracket}
 use Rattle.description_words.specs.Text.{Rest, is_space, run, past, after}
 use Rattle.description_words.specs.Words.{begins, closed_at}
@@ -28,29 +29,29 @@ begins_cons b [] h = absurd cc
 begins_cons b (c ∷ cs) h = let e : c ≡ b = grind (arith, nat_tests) in rw e refl
 
 -- a bracket is no white space
-pub stops_91 : (text : List ℕ) → begins 91 text ≡ true → Stops is_space text
+pub stops_91 : (text : List ℕ) → begins left_bracket text ≡ true → Stops is_space text
 stops_91 [] h = tt
-stops_91 (b ∷ bs) h = let e : b ≡ 91 = eqb-true b 91 h in rw e refl
+stops_91 (b ∷ bs) h = let e : b ≡ left_bracket = eqb-true b left_bracket h in rw e refl
 
 pub takes_byte : (b : ℕ) (s : Rest) → begins b s.text ≡ true → Takes s (b ∷ []) (after 1 s)
 takes_byte b s h = record { parts = begins_cons b s.text h; index = refl }
 
-pub closed_takes : (bracket : ℕ) (s : Rest) (rest : Rest) → closed_at bracket s ≡ Ok rest → Takes s (93 ∷ []) rest
+pub closed_takes : (bracket : ℕ) (s : Rest) (rest : Rest) → closed_at bracket s ≡ Ok rest → Takes s (right_bracket ∷ []) rest
 unfolding closed_at
 closed_takes bracket s rest e =
-    elim (chosen (begins 93 s.text) (Ok (after 1 s)) (Err (UnclosedOpeningBracket bracket)) (Ok rest) e) [
-      | inl h ↦ subst (λ (y : Rest). Takes s (93 ∷ []) y) (ok_is (after 1 s) rest h.1) (takes_byte 93 s h.0)
+    elim (chosen (begins right_bracket s.text) (Ok (after 1 s)) (Err (UnclosedOpeningBracket bracket)) (Ok rest) e) [
+      | inl h ↦ subst (λ (y : Rest). Takes s (right_bracket ∷ []) y) (ok_is (after 1 s) rest h.1) (takes_byte right_bracket s h.0)
       | inr h ↦ absurd (not_ok _ rest h.1)
     ]
 
-pub closed_refused : (bracket : ℕ) (s : Rest) (e : Fault) → closed_at bracket s ≡ Err e → (begins 93 s.text ≡ false) × (e ≡ UnclosedOpeningBracket bracket)
+pub closed_refused : (bracket : ℕ) (s : Rest) (e : Fault) → closed_at bracket s ≡ Err e → (begins right_bracket s.text ≡ false) × (e ≡ UnclosedOpeningBracket bracket)
 unfolding closed_at
 closed_refused bracket s e h =
-    elim (chosen (begins 93 s.text) (Ok (after 1 s)) (Err (UnclosedOpeningBracket bracket)) (Err e) h) [
+    elim (chosen (begins right_bracket s.text) (Ok (after 1 s)) (Err (UnclosedOpeningBracket bracket)) (Err e) h) [
       | inl g ↦ absurd (not_err (after 1 s) e g.1)
       | inr g ↦ (g.0, sym (err_is {A = Rest} _ e g.1))
     ]
 
-pub closed_again : (bracket at : ℕ) (rest : List ℕ) → closed_at bracket (at_index at (93 ∷ rest)) ≡ Ok (at_index (at + 1) rest)
+pub closed_again : (bracket at : ℕ) (rest : List ℕ) → closed_at bracket (at_index at (right_bracket ∷ rest)) ≡ Ok (at_index (at + 1) rest)
 unfolding closed_at
 closed_again bracket at rest = refl

@@ -2,6 +2,7 @@
 use Rattle.std.specs.Prelude.{ℕ, suc, ◌+◌, ◌==◌, Bool, List, [], ◌∷◌, length, take, drop, Option, Some, None, Result, Ok, Err, if◌then◌else◌, codes}
 use Rattle.std.specs.List.{prefix_len}
 use Rattle.std.specs.Option.{ok_or}
+use Rattle.byte_names.specs.Bytes.{percent}
 use Rattle.description_date_modifiers.specs.declared.choices.Padding.{Padding}
 use Rattle.description_faults.specs.Fault.{Fault, InvalidComponentName, Expected, NotSupported}
 use Rattle.description_faults.specs.Answer.{◌>>=◌}
@@ -31,16 +32,16 @@ refusal (Some what) here = NotSupported what (codes "strftime") here.index
 refusal None here = InvalidComponentName (take (character_len here.text) here.text) here.index
 
 abbrev pub letter_in : List ℕ → ℕ → Option Padding → Rest → Result (List Tree × Rest) Fault
-letter_in [] percent flag here = Err (Expected (codes "component letter") percent)
-letter_in (b ∷ bs) percent flag here = ok_or (letter_items flag b) (refusal (refused b) here) >>= λ items. Ok (items, after 1 here)
+letter_in [] start flag here = Err (Expected (codes "component letter") start)
+letter_in (b ∷ bs) start flag here = ok_or (letter_items flag b) (refusal (refused b) here) >>= λ items. Ok (items, after 1 here)
 
 -- a letter behind a percent sign and a flag
 unfoldable pub letter_at : ℕ → Option Padding → Rest → Result (List Tree × Rest) Fault
-letter_at percent flag here = letter_in here.text percent flag here
+letter_at start flag here = letter_in here.text start flag here
 
 -- what stands behind a percent sign
 unfoldable pub conversion_at : ℕ → Rest → Result (List Tree × Rest) Fault
-conversion_at percent here = letter_at percent (flag_at here.text) (past_flag (flag_at here.text) here)
+conversion_at start here = letter_at start (flag_at here.text) (past_flag (flag_at here.text) here)
 
 abbrev pub plain_len : List ℕ → ℕ
 plain_len text = prefix_len is_plain text
@@ -48,7 +49,7 @@ plain_len text = prefix_len is_plain text
 -- a conversion, or a literal up to the next percent sign
 unfoldable pub strftime_step : Rest → Result (List Tree × Rest) Fault
 strftime_step here =
-    if begins 37 here.text then conversion_at here.index (after 1 here)
+    if begins percent here.text then conversion_at here.index (after 1 here)
     else Ok (Literal (take (plain_len here.text) here.text) ∷ [], after (plain_len here.text) here)
 
 abbrev pub at_end : Rest → Bool

@@ -71,16 +71,16 @@ fn refusal<'a>(first: u8, here: Rest<'a>) -> InvalidFormatDescription<'a>
 // A letter behind a percent sign and a flag, and what follows it.
 #[tactic(auto, unfolding(crate::specs::Reading::letter_at))]
 fn letter<'a>(
-    percent: usize,
+    start: usize,
     flag: Option<Padding>,
     here: Rest<'a>,
 ) -> Result<(Spelled<'a>, Rest<'a>), InvalidFormatDescription<'a>>
-    ensures value { Answers (λ x. (items_spelled x.0, rest_of x.1)) result (letter_at percent flag (rest_of here.entry)) }
+    ensures value { Answers (λ x. (items_spelled x.0, rest_of x.1)) result (letter_at start flag (rest_of here.entry)) }
 {
     let [first, ..] = here.text.as_bytes() else {
         return Err(InvalidFormatDescription::Expected {
             what: "component letter",
-            index: percent,
+            index: start,
         });
     };
     match spelled_by(flag, *first) {
@@ -105,13 +105,13 @@ fn flag(here: Rest<'_>) -> (Option<Padding>, Rest<'_>)
 // What stands behind a percent sign, and what follows it.
 #[tactic(auto, unfolding(crate::specs::Reading::conversion_at))]
 fn conversion<'a>(
-    percent: usize,
+    start: usize,
     here: Rest<'a>,
 ) -> Result<(Spelled<'a>, Rest<'a>), InvalidFormatDescription<'a>>
-    ensures value { Answers (λ x. (items_spelled x.0, rest_of x.1)) result (conversion_at percent (rest_of here.entry)) }
+    ensures value { Answers (λ x. (items_spelled x.0, rest_of x.1)) result (conversion_at start (rest_of here.entry)) }
 {
     let (flag, rest) = flag(here);
-    letter(percent, flag, rest)
+    letter(start, flag, rest)
 }
 
 /// The part of a text at its front, a conversion or a literal, and what follows it.

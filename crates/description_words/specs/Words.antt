@@ -2,6 +2,7 @@
 use Rattle.std.specs.Prelude.{ℕ, suc, ◌+◌, ◌==◌, ◌||◌, not, Bool, false, List, [], ◌∷◌, length, take, drop, Result, Ok, Err, if◌then◌else◌, codes}
 use Rattle.std.specs.List.{prefix_len}
 use Rattle.std.specs.Str.{bytes_eq, str_eq_ignore_ascii_case}
+use Rattle.byte_names.specs.Bytes.{left_bracket, backslash, right_bracket}
 use Rattle.description_faults.specs.Fault.{Fault, UnclosedOpeningBracket, InvalidModifier, MissingComponentName, Expected}
 use Rattle.description_faults.specs.Answer.{◌>>=◌}
 use Rattle.description_words.specs.declared.version.DescriptionVersion.{DescriptionVersion}
@@ -57,10 +58,10 @@ name_at bracket here =
     else Err (MissingComponentName (if prefix_len is_space here.text == 0 then bracket else here.index))
 
 unfoldable pub closed_at : ℕ → Rest → Result Rest Fault
-closed_at bracket here = if begins 93 here.text then Ok (after 1 here) else Err (UnclosedOpeningBracket bracket)
+closed_at bracket here = if begins right_bracket here.text then Ok (after 1 here) else Err (UnclosedOpeningBracket bracket)
 
 abbrev pub is_escape : List ℕ → Bool
-is_escape text = begins 91 text || begins 92 text || begins 93 text
+is_escape text = begins left_bracket text || begins backslash text || begins right_bracket text
 
 -- a backslash and what it takes as it stands
 unfoldable pub escape_at : Rest → Result (List ℕ × Rest) Fault
