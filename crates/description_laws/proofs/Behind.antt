@@ -9,7 +9,7 @@ use Rattle.description_words.specs.declared.version.DescriptionVersion.{Descript
 use Rattle.description_words.specs.declared.version.DescriptionVersion.TheVariants.{One, Two, Three}
 use Rattle.description_words.specs.Text.{Rest}
 use Rattle.description_words.specs.Words.{Modifier}
-use Rattle.description_strftime.specs.Further.{further}
+use Rattle.description_faults.specs.Further.{further}
 use Rattle.description_spelling.specs.Heads.{SpellsModifiers, SpellsHead}
 use Rattle.description_spelling.specs.Spelling.{SpellsItems, Spells}
 use Rattle.description_spelling.specs.Faulty.{BadWord, missing_at, LacksName, HasBadWord, IsUnclosed, MeansNothing, BadEscape, Wrong, BadNesting, IsOne, AreSome, IsNothing, AreBefore, BadItem, FaultyItems, FaultyNested, Faulty}

@@ -15,7 +15,7 @@ use Rattle.description_tables.specs.Keys.{key_of, has_key}
 use Rattle.description_tables.specs.Chosen.{nothing, with_value, is_chosen, is_carried}
 use Rattle.description_tables.specs.Made.{made}
 use Rattle.description_tables.specs.Component.{found, bad, key_among, key_in, with_modifier, with_modifiers, combined, named, component_of}
-use Rattle.description_strftime.specs.Further.{further}
+use Rattle.description_faults.specs.Further.{further}
 
 abbrev pub moved : ℕ → Rest → Rest
 moved k p = record { index = k + p.index; text = p.text }

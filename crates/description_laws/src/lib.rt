@@ -10,7 +10,7 @@ ghost use Rattle.description_words.specs.declared.version.DescriptionVersion.{De
 ghost use Rattle.description_words.specs.declared.version.DescriptionVersion.TheVariants.{Two, Three};
 ghost use Rattle.description_words.specs.Version.{is_three};
 ghost use Rattle.description_tree.specs.Reserved.{reserved};
-ghost use Rattle.description_strftime.specs.Further.{further};
+ghost use Rattle.description_faults.specs.Further.{further};
 ghost use Rattle.description_spelling.specs.Faulty.{Faulty};
 ghost use Rattle.description_spelling.specs.Heads.{SpellsComponent};
 ghost use Rattle.description_spelling.specs.Spelling.{Spells, SpellsTree};

@@ -5,7 +5,7 @@ ghost use Rattle.description_faults.specs.Fault.{Fault};
 ghost use Rattle.description_items.specs.Tree.{Tree};
 ghost use Rattle.description_strftime.specs.Composites.{SpellSame};
 ghost use Rattle.description_strftime.specs.Faulty.{FaultyStrftime};
-ghost use Rattle.description_strftime.specs.Further.{further};
+ghost use Rattle.description_faults.specs.Further.{further};
 ghost use Rattle.description_strftime.specs.Joined.{Joins};
 ghost use Rattle.description_strftime.specs.Outcomes.{OneOutcome};
 ghost use Rattle.description_strftime.specs.Spelled.{SpellsStrftime};
