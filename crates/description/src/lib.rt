@@ -4,6 +4,7 @@
 mod calls;
 mod described;
 pub mod laws;
+mod shown;
 
 pub use calls::{parse, parse_borrowed};
 pub use described::Description;
