@@ -1,7 +1,9 @@
 -- A text of version 3 with no nested items is one of version 2.
 use Rattle.std.proofs.Common.{◌≡◌, ℕ, List, [], ◌∷◌, Option, Some, None, Result, Ok, Err, Bool, true, false, not, cond, refl, sym, ap, subst, ◌∙◌, inl, inr}
 use Rattle.std.specs.Prelude.{codes, ◌&&◌, ◌||◌}
-use Rattle.std.specs.Option.{option_map, unwrap_or, is_some}
+use Rattle.std.specs.Option.{option_map, option_and_then, unwrap_or, is_some}
+use Rattle.description_time_modifiers.specs.Ignored.{ignored}
+use Rattle.description_time_modifiers.specs.declared.ignore.Ignore.{Ignore}
 use Rattle.std.specs.Str.{bytes_eq}
 use Rattle.description_date_modifiers.specs.declared.choices.Padding.{Padding}
 use Rattle.description_date_modifiers.specs.declared.choices.Padding.TheVariants as padding
@@ -208,11 +210,11 @@ made_two name.OffsetHour d c e = made_kept (ranged d) _ c refl e
 made_two name.UnixTimestamp d c e = made_kept (ranged d) _ c (timestamp_kept _ _) e
 made_two name.Subsecond d c e = made_kept (ranged d) _ c refl e
 made_two name.End d c e = made_kept (ranged d) _ c refl e
-made_two name.Ignore d c e = ignored d.count e
+made_two name.Ignore d c e = of_ignored (option_and_then ignored d.count) e
   where
-    ignored : (o : Option ℕ) → option_map (λ n. component.Ignore (record { count = n })) o ≡ Some c → option_map (λ n. component.Ignore (record { count = n })) o ≡ Some (in_two (ranged d) c)
-    ignored None e = absurd (none_not c e)
-    ignored (Some n) e = made_kept (ranged d) _ c refl e
+    of_ignored : (o : Option Ignore) → option_map (λ i. component.Ignore i) o ≡ Some c → option_map (λ i. component.Ignore i) o ≡ Some (in_two (ranged d) c)
+    of_ignored None e = absurd (none_not c e)
+    of_ignored (Some i) e = made_kept (ranged d) _ c refl e
 made_two name.Year d c e = by_range d.range e
   where
     a_year : YearRange → Component

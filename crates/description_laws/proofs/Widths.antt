@@ -1,7 +1,9 @@
 -- In version 3 a component's longest value is no longer than its text.
 use Rattle.std.proofs.Common.{◌≡◌, ℕ, ◌+◌, ◌≤◌, ◌<◌, List, [], ◌∷◌, ◌++◌, length, Option, Some, None, Ok, Err, Bool, true, false, cond, refl, sym, ap, subst, ◌∙◌, arith, inl, inr}
 use Rattle.std.specs.Prelude.{codes, ◌&&◌}
-use Rattle.std.specs.Option.{option_map}
+use Rattle.std.specs.Option.{option_map, option_and_then}
+use Rattle.description_time_modifiers.specs.Ignored.{ignored}
+use Rattle.description_time_modifiers.specs.declared.ignore.Ignore.{Ignore}
 use Rattle.std.proofs.lemmas.List.{length-append}
 use Rattle.byte_names.specs.Bytes.{colon, right_bracket}
 use Rattle.description_faults.specs.Fault.{Fault, DuplicateModifier, MissingRequiredModifier, InvalidComponentName}
@@ -124,11 +126,11 @@ any_width name.Period d c e = subst (λ (c : Component). width_of c ≤ 9) (some
 any_width name.OffsetHour d c e = subst (λ (c : Component). width_of c ≤ 9) (some_is _ c e) (omega arith)
 any_width name.UnixTimestamp d c e = subst (λ (c : Component). width_of c ≤ 24) (some_is _ c e) (timestamp_width _ _)
 any_width name.Subsecond d c e = subst (λ (c : Component). width_of c ≤ 9) (some_is _ c e) (digits_most _)
-any_width name.Ignore d c e = ignored d.count e
+any_width name.Ignore d c e = of_ignored (option_and_then ignored d.count) e
   where
-    ignored : (o : Option ℕ) → option_map (λ n. component.Ignore (record { count = n })) o ≡ Some c → width_of c ≤ 9
-    ignored None e = absurd (none_not c e)
-    ignored (Some n) e = subst (λ (c : Component). width_of c ≤ 9) (some_is _ c e) (omega arith)
+    of_ignored : (o : Option Ignore) → option_map (λ i. component.Ignore i) o ≡ Some c → width_of c ≤ 9
+    of_ignored None e = absurd (none_not c e)
+    of_ignored (Some i) e = subst (λ (c : Component). width_of c ≤ 9) (some_is _ c e) (omega arith)
 any_width name.End d c e = subst (λ (c : Component). width_of c ≤ 9) (some_is _ c e) (omega arith)
 
 -- where nothing was chosen
