@@ -1,1 +1,2 @@
+pub mod FormLists
 mod Lengths

@@ -1,8 +1,9 @@
 //! Descriptions of versions 1 and 2.
 
-ghost use Rattle.std.specs.Prelude.{◌≡◌, ◌<◌, false, length};
+ghost use Rattle.std.specs.Prelude.{◌≡◌, ◌<◌, false, true, IfOk, length};
 ghost use Rattle.std.specs.Str.{IsCharBoundary};
 ghost use Rattle.description_faults.specs.Answer.{Gives};
+ghost use Rattle.description_items.specs.Forms.{is_of_text, are_of_text};
 ghost use Rattle.description_items.specs.Tree.{tree_of, trees};
 ghost use Rattle.description_words.specs.Version.{is_three};
 ghost use Rattle.description_words.specs.Views.{rest_of};
@@ -25,6 +26,7 @@ pub fn items_of<'a>(
 ) -> Result<Vec<BorrowedFormatItem<'a>>, DescriptionFault<'a>>
     requires version { is_three version ≡ false }
     ensures value { Gives (λ v. trees v.items) result (read_items version text.now) }
+    ensures form { IfOk result (λ v. are_of_text v.items ≡ true) }
 {
     let mut all = Vec::new(alloc);
     let mut rest = whole_of(text);
@@ -44,7 +46,8 @@ fn element<'a>(
 ) -> Result<(BorrowedFormatItem<'a>, Rest<'a>), DescriptionFault<'a>>
     requires version { is_three version ≡ false }
     requires some { 0 < length here.text.now }
-    ensures { Gives (λ x. (tree_of x.0, rest_of x.1)) result (element_at version (nested_at version 127) (rest_of here.entry)) }
+    ensures value { Gives (λ x. (tree_of x.0, rest_of x.1)) result (element_at version (nested_at version 127) (rest_of here.entry)) }
+    ensures form { IfOk result (λ x. is_of_text x.0 ≡ true) }
 {
     if let Some((front, rest)) = doubled(version, here) {
         return Ok((BorrowedFormatItem::StringLiteral(front), rest));
@@ -64,7 +67,8 @@ fn bracketed<'a>(
 ) -> Result<(BorrowedFormatItem<'a>, Rest<'a>), DescriptionFault<'a>>
     requires version { is_three version ≡ false }
     requires boundary { IsCharBoundary here.text.now 1 }
-    ensures { Gives (λ x. (tree_of x.0, rest_of x.1)) result (bracket_at version (nested_at version 127) (rest_of here.entry)) }
+    ensures value { Gives (λ x. (tree_of x.0, rest_of x.1)) result (bracket_at version (nested_at version 127) (rest_of here.entry)) }
+    ensures form { IfOk result (λ x. is_of_text x.0 ≡ true) }
 {
     let (_, inside) = cut(here, 1);
     let (name, rest) = name_of(here.index, inside)?;

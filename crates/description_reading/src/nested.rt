@@ -1,9 +1,10 @@
 //! Descriptions inside one another.
 
-ghost use Rattle.std.specs.Prelude.{suc, ◌≡◌, ◌<◌, IfOk, length, codes};
+ghost use Rattle.std.specs.Prelude.{suc, ◌≡◌, ◌<◌, true, IfOk, length, codes};
 ghost use Rattle.std.specs.Str.{IsCharBoundary};
 ghost use Rattle.description_faults.specs.Answer.{Answers, Gives};
 ghost use Rattle.description_faults.specs.Fault.{fault_of};
+ghost use Rattle.description_tree.specs.Forms.{is_read, are_read};
 ghost use Rattle.description_tree.specs.Inner.{inner_tree, inner_trees};
 ghost use Rattle.description_words.specs.Many.{many};
 ghost use Rattle.description_words.specs.Views.{rest_of};
@@ -28,6 +29,7 @@ pub fn tree_of<'a>(
     text: &'a str,
 ) -> Result<FormatDescriptionV3Inner<'a>, DescriptionFault<'a>>
     ensures value { Gives inner_tree result (read_tree text.now) }
+    ensures form { IfOk result (λ node. is_read node ≡ true) }
 {
     let (all, _) = items(
         alloc,
@@ -82,7 +84,8 @@ fn items<'a>(
     inner: bool,
     here: Rest<'a>,
 ) -> Result<(Vec<FormatDescriptionV3Inner<'a>>, Rest<'a>), DescriptionFault<'a>>
-    ensures { Gives (λ x. (inner_trees x.0.items, rest_of x.1)) result (many (is_end inner) (element_at version (nested_at version levels)) (suc (length here.entry.text.now)) (rest_of here.entry)) }
+    ensures value { Gives (λ x. (inner_trees x.0.items, rest_of x.1)) result (many (is_end inner) (element_at version (nested_at version levels)) (suc (length here.entry.text.now)) (rest_of here.entry)) }
+    ensures form { IfOk result (λ x. are_read x.0.items ≡ true) }
 {
     let mut all = Vec::new(alloc);
     let mut rest = here;
@@ -103,7 +106,8 @@ fn element<'a>(
     here: Rest<'a>,
 ) -> Result<(FormatDescriptionV3Inner<'a>, Rest<'a>), DescriptionFault<'a>>
     requires { 0 < length here.text.now }
-    ensures { Gives (λ x. (inner_tree x.0, rest_of x.1)) result (element_at version (nested_at version levels) (rest_of here.entry)) }
+    ensures value { Gives (λ x. (inner_tree x.0, rest_of x.1)) result (element_at version (nested_at version levels) (rest_of here.entry)) }
+    ensures form { IfOk result (λ x. is_read x.0 ≡ true) }
 {
     if let Some((front, rest)) = doubled(version, here) {
         return Ok((FormatDescriptionV3Inner::BorrowedLiteral(front), rest));
@@ -124,7 +128,8 @@ fn bracketed<'a>(
     here: Rest<'a>,
 ) -> Result<(FormatDescriptionV3Inner<'a>, Rest<'a>), DescriptionFault<'a>>
     requires { IsCharBoundary here.text.now 1 }
-    ensures { Gives (λ x. (inner_tree x.0, rest_of x.1)) result (bracket_at version (nested_at version levels) (rest_of here.entry)) }
+    ensures value { Gives (λ x. (inner_tree x.0, rest_of x.1)) result (bracket_at version (nested_at version levels) (rest_of here.entry)) }
+    ensures form { IfOk result (λ x. is_read x.0 ≡ true) }
 {
     let (_, inside) = cut(here, 1);
     let (name, rest) = name_of(here.index, inside)?;
@@ -148,7 +153,8 @@ pub fn optional<'a>(
     bracket: usize,
     here: Rest<'a>,
 ) -> Result<(FormatDescriptionV3Inner<'a>, Rest<'a>), DescriptionFault<'a>>
-    ensures { Gives (λ x. (inner_tree x.0, rest_of x.1)) result (optional_at version (nested_at version levels) bracket (rest_of here.entry)) }
+    ensures value { Gives (λ x. (inner_tree x.0, rest_of x.1)) result (optional_at version (nested_at version levels) bracket (rest_of here.entry)) }
+    ensures form { IfOk result (λ x. is_read x.0 ≡ true) }
 {
     let start = opened("whitespace after `optional`", here)?;
     let (item, rest) = nested(alloc, version, levels, start)?;
@@ -173,7 +179,8 @@ pub fn first<'a>(
     bracket: usize,
     here: Rest<'a>,
 ) -> Result<(FormatDescriptionV3Inner<'a>, Rest<'a>), DescriptionFault<'a>>
-    ensures { Gives (λ x. (inner_tree x.0, rest_of x.1)) result (first_at version (nested_at version levels) bracket (rest_of here.entry)) }
+    ensures value { Gives (λ x. (inner_tree x.0, rest_of x.1)) result (first_at version (nested_at version levels) bracket (rest_of here.entry)) }
+    ensures form { IfOk result (λ x. is_read x.0 ≡ true) }
 {
     let start = opened("whitespace after `first`", here)?;
     let (all, rest) = alternatives(alloc, version, levels, start)?;
@@ -191,7 +198,8 @@ fn alternatives<'a>(
     levels: u8,
     here: Rest<'a>,
 ) -> Result<(Vec<FormatDescriptionV3Inner<'a>>, Rest<'a>), DescriptionFault<'a>>
-    ensures { Gives (λ x. (inner_trees x.0.items, rest_of x.1)) result (many no_bracket (nested_at version levels) (suc (length here.entry.text.now)) (rest_of here.entry)) }
+    ensures value { Gives (λ x. (inner_trees x.0.items, rest_of x.1)) result (many no_bracket (nested_at version levels) (suc (length here.entry.text.now)) (rest_of here.entry)) }
+    ensures form { IfOk result (λ x. are_read x.0.items ≡ true) }
 {
     let mut all = Vec::new(alloc);
     let mut rest = here;
@@ -213,7 +221,8 @@ fn nested<'a>(
     here: Rest<'a>,
 ) -> Result<(FormatDescriptionV3Inner<'a>, Rest<'a>), DescriptionFault<'a>>
     requires { IsCharBoundary here.text.now 1 }
-    ensures { Gives (λ x. (inner_tree x.0, rest_of x.1)) result (nested_at version levels (rest_of here.entry)) }
+    ensures value { Gives (λ x. (inner_tree x.0, rest_of x.1)) result (nested_at version levels (rest_of here.entry)) }
+    ensures form { IfOk result (λ x. is_read x.0 ≡ true) }
 {
     if levels == 0 {
         return Err(DescriptionFault::Description(InvalidFormatDescription::NotSupported {

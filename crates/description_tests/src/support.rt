@@ -40,3 +40,12 @@ pub fn fault_told(alloc: Global, fault: DescriptionFault<'_>) -> Result<String, 
         DescriptionFault::Memory => Err(Fail::from(AllocError)),
     }
 }
+
+/// What a call gives, where memory doesn't run out and the text has no fault.
+pub fn given<T>(answer: Result<T, DescriptionFault<'_>>) -> Result<T, Fail> {
+    match answer {
+        Ok(given) => Ok(given),
+        Err(DescriptionFault::Memory) => Err(Fail::from(AllocError)),
+        Err(DescriptionFault::Description(_)) => Err(Fail::from("a fault")),
+    }
+}

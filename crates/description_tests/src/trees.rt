@@ -103,6 +103,18 @@ fn components_reserve_their_longest_value(rt: HostRuntime) -> Result<(), Fail> {
 }
 
 #[test]
+fn lent_nodes(rt: HostRuntime) -> Result<(), Fail> {
+    let literal = FormatDescriptionV3Inner::BorrowedLiteral("x");
+    let day = FormatDescriptionV3Inner::Day(Day::default());
+    let items = [literal, day];
+    let lent = Lent { items: &items };
+    let told = format!(in rt.alloc(); "{lent:?}")?;
+    let wanted = "Lent { items: [BorrowedLiteral(\"x\"), Day(Day { padding: Zero })] }";
+    assert_eq!(rt; told.as_str(), wanted);
+    Ok(())
+}
+
+#[test]
 fn lent_trees(rt: HostRuntime) -> Result<(), Fail> {
     let none = Lent { items: &[] };
     let four = told(
