@@ -1,6 +1,6 @@
 //! Conversions, a percent sign and a letter each, and the literals between them.
 
-ghost use Rattle.std.specs.Prelude.{◌≡◌, ◌<◌, length};
+ghost use Rattle.std.specs.Prelude.{◌≡◌, ◌<◌, true, IfOk, length};
 ghost use Rattle.std.specs.List.{prefix_len};
 ghost use Rattle.std.specs.Str.{IsCharBoundary};
 ghost use Rattle.description_faults.specs.Answer.{Answers};
@@ -9,7 +9,7 @@ ghost use Rattle.description_words.specs.Views.{rest_of};
 ghost use Rattle.description_strftime.specs.Letters.{refused};
 ghost use Rattle.description_strftime.specs.Text.{is_plain, is_continuation};
 ghost use Rattle.description_strftime.specs.Reading.{character_len, flag_at, past_flag, refusal, letter_at, conversion_at, plain_len, strftime_step};
-ghost use Rattle.description_strftime.specs.Views.{items_spelled};
+ghost use Rattle.description_strftime.specs.Views.{items_spelled, is_of_text_part};
 
 use crate::letters::{Spelled, flag_of, refused, spelled_by};
 use description_faults::InvalidFormatDescription;
@@ -76,6 +76,7 @@ fn letter<'a>(
     here: Rest<'a>,
 ) -> Result<(Spelled<'a>, Rest<'a>), InvalidFormatDescription<'a>>
     ensures value { Answers (λ x. (items_spelled x.0, rest_of x.1)) result (letter_at start flag (rest_of here.entry)) }
+    ensures form { IfOk result (λ x. is_of_text_part x.0 ≡ true) }
 {
     let [first, ..] = here.text.as_bytes() else {
         return Err(InvalidFormatDescription::Expected {
@@ -109,6 +110,7 @@ fn conversion<'a>(
     here: Rest<'a>,
 ) -> Result<(Spelled<'a>, Rest<'a>), InvalidFormatDescription<'a>>
     ensures value { Answers (λ x. (items_spelled x.0, rest_of x.1)) result (conversion_at start (rest_of here.entry)) }
+    ensures form { IfOk result (λ x. is_of_text_part x.0 ≡ true) }
 {
     let (flag, rest) = flag(here);
     letter(start, flag, rest)
@@ -118,6 +120,7 @@ fn conversion<'a>(
 #[tactic(auto, unfolding(crate::specs::Reading::strftime_step))]
 pub fn part<'a>(here: Rest<'a>) -> Result<(Spelled<'a>, Rest<'a>), InvalidFormatDescription<'a>>
     ensures value { Answers (λ x. (items_spelled x.0, rest_of x.1)) result (strftime_step (rest_of here.entry)) }
+    ensures form { IfOk result (λ x. is_of_text_part x.0 ≡ true) }
 {
     if begins(here.text, b'%') {
         let (_, rest) = cut(here, 1);
