@@ -13,7 +13,7 @@ use crate::made::made;
 use crate::names::{Name, name_of, name_text};
 use description_faults::InvalidFormatDescription;
 use description_items::Component;
-use description_words::{DescriptionVersion, Rest, Modifier};
+use description_words::{DescriptionVersion, Modifier, Rest};
 
 // The key that a word names, if the component has it.
 fn key_in<'a>(

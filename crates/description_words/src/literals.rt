@@ -8,8 +8,8 @@ ghost use Rattle.description_words.specs.Words.{literal_len, escape_at};
 ghost use Rattle.description_words.specs.Views.{rest_of};
 
 use crate::cutting::cut;
-use crate::rest::Rest;
 use crate::names::begins;
+use crate::rest::Rest;
 use crate::runs::plain_len;
 use crate::version::DescriptionVersion;
 use description_faults::InvalidFormatDescription;
