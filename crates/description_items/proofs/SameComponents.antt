@@ -9,17 +9,14 @@ use Rattle.description_date_modifiers.specs.contracts.choices.MonthReprPartialEq
 use Rattle.description_date_modifiers.specs.declared.choices.WeekdayRepr.{WeekdayRepr}
 use Rattle.description_date_modifiers.specs.contracts.choices.WeekdayReprPartialEq.TheImpl as weekday_repr_equality
 use Rattle.description_date_modifiers.specs.declared.choices.WeekNumberRepr.{WeekNumberRepr}
-use Rattle.description_date_modifiers.specs.contracts.choices.WeekNumberReprPartialEq.TheImpl as week_number_repr_equality
 use Rattle.description_date_modifiers.specs.declared.choices.YearRepr.{YearRepr}
 use Rattle.description_date_modifiers.specs.contracts.choices.YearReprPartialEq.TheImpl as year_repr_equality
 use Rattle.description_date_modifiers.specs.declared.choices.YearRange.{YearRange}
 use Rattle.description_date_modifiers.specs.contracts.choices.YearRangePartialEq.TheImpl as year_range_equality
 use Rattle.description_time_modifiers.specs.declared.choices.SubsecondDigits.{SubsecondDigits}
-use Rattle.description_time_modifiers.specs.contracts.choices.SubsecondDigitsPartialEq.TheImpl as digits_equality
 use Rattle.description_time_modifiers.specs.declared.choices.UnixTimestampPrecision.{UnixTimestampPrecision}
 use Rattle.description_time_modifiers.specs.contracts.choices.UnixTimestampPrecisionPartialEq.TheImpl as precision_equality
 use Rattle.description_time_modifiers.specs.declared.choices.TrailingInput.{TrailingInput}
-use Rattle.description_time_modifiers.specs.contracts.choices.TrailingInputPartialEq.TheImpl as trailing_input_equality
 use Rattle.description_date_modifiers.specs.declared.month.Month.{Month}
 use Rattle.description_date_modifiers.specs.contracts.month.MonthPartialEq.TheImpl as month_equality
 use Rattle.description_date_modifiers.specs.declared.weekday.Weekday.{Weekday}

@@ -1,6 +1,6 @@
 //! Names and modifiers, and the components that they mean.
 
-use crate::support::{given, row, version_of};
+use crate::support::{failure, row, version_of};
 use description_faults::InvalidFormatDescription;
 use description_items::Component;
 use description_tables::component_of;
@@ -18,8 +18,10 @@ fn meaning<'a>(
     let Ok((name, rest)) = name_of(0, whole_of(text)) else {
         return Err(Fail::from("no name"));
     };
-    let (all, _) = given(modifiers_of(alloc, rest))?;
-    Ok(component_of(version, name, all.as_slice()))
+    match modifiers_of(alloc, rest) {
+        Ok((all, _)) => Ok(component_of(version, name, all.as_slice())),
+        Err(fault) => Err(failure(fault)),
+    }
 }
 
 // The same in words, or what is wrong with them.

@@ -1,7 +1,7 @@
 //! The calls that take memory, each alone. With memory each gives its answer; `rt try --test
 //! --fail-alloc N` refuses the growths in turn, and then a call may say nothing but that memory ran out.
 
-use crate::support::{ONE, THREE, TWO, given};
+use crate::support::{ONE, THREE, TWO, failure, given};
 use description::{Description, parse, parse_borrowed, parse_strftime_borrowed};
 use description_items::modifier::{Day, OffsetHour, OffsetMinute, Padding};
 use description_items::{BorrowedFormatItem, Component};
@@ -36,14 +36,18 @@ const LONG_ITEMS: [BorrowedFormatItem<'static>; 10] = [DAY, X, DAY, X, DAY, X, D
 #[test]
 fn modifiers(rt: HostRuntime) -> Result<(), Fail> {
     let text = whole_of(" a:1 b:2 c:3 d:4 e:5 f:6");
-    let (all, _) = given(modifiers_of(rt.alloc(), text))?;
-    let mut values = String::new(rt.alloc());
-    for modifier in &all {
-        values.push_str(modifier.key.text)?;
-        values.push_str(modifier.value.text)?;
+    match modifiers_of(rt.alloc(), text) {
+        Ok((all, _)) => {
+            let mut values = String::new(rt.alloc());
+            for modifier in &all {
+                values.push_str(modifier.key.text)?;
+                values.push_str(modifier.value.text)?;
+            }
+            assert_eq!(rt; values.as_str(), "a1b2c3d4e5f6");
+            Ok(())
+        }
+        Err(fault) => Err(failure(fault)),
     }
-    assert_eq!(rt; values.as_str(), "a1b2c3d4e5f6");
-    Ok(())
 }
 
 #[test]

@@ -45,7 +45,14 @@ pub fn fault_told(alloc: Global, fault: DescriptionFault<'_>) -> Result<String, 
 pub fn given<T>(answer: Result<T, DescriptionFault<'_>>) -> Result<T, Fail> {
     match answer {
         Ok(given) => Ok(given),
-        Err(DescriptionFault::Memory) => Err(Fail::from(AllocError)),
-        Err(DescriptionFault::Description(_)) => Err(Fail::from("a fault")),
+        Err(fault) => Err(failure(fault)),
+    }
+}
+
+/// Why a call that should give something gives nothing.
+pub fn failure(fault: DescriptionFault<'_>) -> Fail {
+    match fault {
+        DescriptionFault::Memory => Fail::from(AllocError),
+        DescriptionFault::Description(_) => Fail::from("a fault"),
     }
 }
