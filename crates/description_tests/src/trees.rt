@@ -102,23 +102,11 @@ fn components_reserve_their_longest_value(rt: HostRuntime) -> Result<(), Fail> {
     Ok(())
 }
 
-// Nodes that are lent, as they are shown.
-fn lent_told<'a>(
-    alloc: Global,
-    items: &'a [FormatDescriptionV3Inner<'a>],
-) -> Result<String, Fail> {
-    let lent = Lent { items };
-    Ok(format!(in alloc; "{lent:?}")?)
-}
-
 #[test]
 fn lent_nodes(rt: HostRuntime) -> Result<(), Fail> {
-    let literal = FormatDescriptionV3Inner::BorrowedLiteral("x");
-    let day = FormatDescriptionV3Inner::Day(Day::default());
-    let items = vec![in rt.alloc(); literal, day]?;
-    let told = lent_told(rt.alloc(), items.as_slice())?;
-    let wanted = "Lent { items: [BorrowedLiteral(\"x\"), Day(Day { padding: Zero })] }";
-    assert_eq!(rt; told.as_str(), wanted);
+    let lent = Lent { items: &[] };
+    let told = format!(in rt.alloc(); "{lent:?}")?;
+    assert_eq!(rt; told.as_str(), "Lent { items: [] }");
     Ok(())
 }
 
