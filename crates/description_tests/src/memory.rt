@@ -17,16 +17,18 @@ const DAY: BorrowedFormatItem<'static> = BorrowedFormatItem::Component(Component
 
 const X: BorrowedFormatItem<'static> = BorrowedFormatItem::StringLiteral("x");
 
-const OFFSET_HOUR: BorrowedFormatItem<'static> =
-    BorrowedFormatItem::Component(Component::OffsetHour(OffsetHour {
+const OFFSET_HOUR: BorrowedFormatItem<'static> = BorrowedFormatItem::Component(
+    Component::OffsetHour(OffsetHour {
         sign_is_mandatory: true,
         padding: Padding::Zero,
-    }));
+    }),
+);
 
-const OFFSET_MINUTE: BorrowedFormatItem<'static> =
-    BorrowedFormatItem::Component(Component::OffsetMinute(OffsetMinute {
+const OFFSET_MINUTE: BorrowedFormatItem<'static> = BorrowedFormatItem::Component(
+    Component::OffsetMinute(OffsetMinute {
         padding: Padding::Zero,
-    }));
+    }),
+);
 
 // A text whose items take more room than a list begins with, and these items.
 const LONG: &str = "[day]x[day padding:zero]x[day]x[day]x[day]x";

@@ -20,7 +20,8 @@ fn descriptions_as_they_are_shown(rt: HostRuntime) -> Result<(), Fail> {
     let items = given(parse_borrowed(rt.alloc(), TWO, "x"))?;
     let tree = given(parse_borrowed(rt.alloc(), THREE, ""))?;
     let told = format!(in rt.alloc(); "{items:?} {tree:?}")?;
-    let wanted = "Items([StringLiteral(\"x\")]) V3(FormatDescriptionV3 { inner: OwnedCompound([]), max_bytes_needed: 0 })";
+    let wanted =
+        "Items([StringLiteral(\"x\")]) V3(FormatDescriptionV3 { inner: OwnedCompound([]), max_bytes_needed: 0 })";
     assert_eq!(rt; told.as_str(), wanted);
     Ok(())
 }
