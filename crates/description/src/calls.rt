@@ -3,13 +3,14 @@
 ghost use Rattle.std.specs.Prelude.{◌≡◌, true, false, Ok, Err, IfOk};
 ghost use Rattle.description_faults.specs.Fault.{Fault};
 ghost use Rattle.description_faults.specs.Answer.{Gives};
+ghost use Rattle.description_items.specs.Forms.{are_of_text};
 ghost use Rattle.description_items.specs.Tree.{Tree};
 ghost use Rattle.description_words.specs.declared.version.DescriptionVersion.TheVariants.{One, Three};
 ghost use Rattle.description_words.specs.Version.{is_three};
 ghost use Rattle.description_spelling.specs.Spelling.{SpellsTree};
 ghost use Rattle.description_spelling.specs.Faulty.{Faulty};
 ghost use Rattle.description_spelling.specs.Outcomes.{Outcome};
-ghost use Rattle.description.specs.Described.{items_tree, described, has_tree, read_joined};
+ghost use Rattle.description.specs.Described.{items_tree, described, has_tree, is_as_read, read_joined};
 
 use crate::described::Description;
 use description_faults::DescriptionFault;
@@ -28,6 +29,8 @@ pub fn parse<'a>(
     s: &'a str,
 ) -> Result<Vec<BorrowedFormatItem<'a>>, DescriptionFault<'a>>
     ensures outcome { Outcome items_tree One s.now result }
+    // Literals are text, not bytes.
+    ensures form { IfOk result (λ items. are_of_text items.items ≡ true) }
     // What the text spells is answered, unless memory runs out.
     ensures tree { (t : Tree) → SpellsTree One s.now t → Gives items_tree result (Ok t) }
     // So is its fault.
@@ -49,6 +52,8 @@ pub fn parse_borrowed<'a>(
 ) -> Result<Description<'a>, DescriptionFault<'a>>
     ensures outcome { Outcome described version s.now result }
     ensures form { IfOk result (λ description. has_tree description ≡ is_three version) }
+    // Literals are borrowed from the text, and all else is owned.
+    ensures nodes { IfOk result (λ description. is_as_read description ≡ true) }
     // What the text spells is answered, unless memory runs out.
     ensures tree { (t : Tree) → SpellsTree version s.now t → Gives described result (Ok t) }
     // So is its fault.
@@ -65,6 +70,7 @@ fn read<'a>(
 ) -> Result<Description<'a>, DescriptionFault<'a>>
     ensures value { Gives described result (read_joined version s.now) }
     ensures form { IfOk result (λ description. has_tree description ≡ is_three version) }
+    ensures nodes { IfOk result (λ description. is_as_read description ≡ true) }
 {
     match version {
         DescriptionVersion::Three => read_three(alloc, s),
@@ -76,6 +82,7 @@ fn read<'a>(
 fn read_three<'a>(alloc: Global, s: &'a str) -> Result<Description<'a>, DescriptionFault<'a>>
     ensures value { Gives described result (read_joined Three s.now) }
     ensures form { IfOk result (λ description. has_tree description ≡ true) }
+    ensures nodes { IfOk result (λ description. is_as_read description ≡ true) }
 {
     match tree_of(alloc, s)?.into_opaque() {
         Ok(description) => Ok(Description::V3(description)),
@@ -91,6 +98,7 @@ fn read_items<'a>(
     requires version { is_three version ≡ false }
     ensures value { Gives described result (read_joined version s.now) }
     ensures form { IfOk result (λ description. has_tree description ≡ false) }
+    ensures nodes { IfOk result (λ description. is_as_read description ≡ true) }
 {
     Ok(Description::Items(items_of(alloc, version, s)?))
 }

@@ -1,1 +1,5 @@
+pub mod FormLists
 mod Lengths
+mod SameChoices
+mod SameComponents
+pub mod SameTrees

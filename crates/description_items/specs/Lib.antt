@@ -1,4 +1,5 @@
 pub mod Convert
+pub mod Forms
 pub mod Modern
 pub mod Same
 pub mod SameLaws

@@ -1,6 +1,7 @@
 -- When two trees are the same.
 use Rattle.std.specs.Prelude.{Bool, true, false, ◌&&◌}
 use Rattle.std.specs.Str.{bytes_eq}
+use Rattle.std.proofs.Math.Bool.{beq}
 use Rattle.description_items.specs.contracts.component.ComponentPartialEq.TheImpl as component
 use Rattle.description_items.specs.Tree.{Tree, Literal, Part, Compound, Optional, First, Trees, none, also}
 
@@ -10,7 +11,7 @@ unfoldable mutual
   same_tree (Literal a) (Literal b) = bytes_eq a b
   same_tree (Part a) (Part b) = component.ghosts.eq a b
   same_tree (Compound a) (Compound b) = same_trees a b
-  same_tree (Optional _ a) (Optional _ b) = same_tree a b
+  same_tree (Optional x a) (Optional y b) = beq x y && same_tree a b
   same_tree (First a) (First b) = same_trees a b
   same_tree _ _ = false
 

@@ -1,7 +1,8 @@
 -- Being the same is an equivalence of trees.
 use Rattle.std.specs.Prelude.{◌≡◌, true, ◌&&◌}
 use Rattle.std.proofs.Common.{refl, ap, sym, ◌∙◌, true≢false}
-use Rattle.std.specs.Cmp.{IsEquivalence, first_so, second_so}
+use Rattle.std.specs.Cmp.{IsEquivalence, first_so, second_so, bool_eq_equiv}
+use Rattle.std.proofs.Math.Bool.{beq}
 use Rattle.std.proofs.lemmas.Cmp.{nat_list_eq_equiv}
 use Rattle.description_items.specs.contracts.component.ComponentPartialEq.TheImpl as component
 use Rattle.description_items.specs.contracts.component.ComponentEq.TheImpl.Laws as laws
@@ -18,7 +19,7 @@ mutual
   itself (Literal a) = nat_list_eq_equiv.refl a
   itself (Part a) = components.refl a
   itself (Compound a) = all_themselves a
-  itself (Optional _ a) = itself a
+  itself (Optional x a) = ap (λ b. b && same_tree a a) (bool_eq_equiv.refl x) ∙ itself a
   itself (First a) = all_themselves a
 
   all_themselves : (ts : Trees) → same_trees ts ts ≡ true
@@ -32,7 +33,7 @@ mutual
   symmetric (Literal a) (Literal b) = nat_list_eq_equiv.symm a b
   symmetric (Part a) (Part b) = components.symm a b
   symmetric (Compound a) (Compound b) = all_symmetric a b
-  symmetric (Optional _ a) (Optional _ b) = symmetric a b
+  symmetric (Optional x a) (Optional y b) = ap (λ c. c && same_tree a b) (bool_eq_equiv.symm x y) ∙ ap (λ c. beq y x && c) (symmetric a b)
   symmetric (First a) (First b) = all_symmetric a b
   symmetric _ _ = refl
 
@@ -51,8 +52,10 @@ mutual
   congruent (Part a) (Part b) _ e = refl
   congruent (Compound a) (Compound b) (Compound c) e = all_congruent a b c e
   congruent (Compound a) (Compound b) _ e = refl
-  congruent (Optional _ a) (Optional _ b) (Optional _ c) e = congruent a b c e
-  congruent (Optional _ a) (Optional _ b) _ e = refl
+  congruent (Optional x a) (Optional y b) (Optional z c) e =
+      ap (λ d. d && same_tree a c) (bool_eq_equiv.congr x y z (first_so (beq x y) (same_tree a b) e))
+      ∙ ap (λ d. beq y z && d) (congruent a b c (second_so (beq x y) (same_tree a b) e))
+  congruent (Optional x a) (Optional y b) _ e = refl
   congruent (First a) (First b) (First c) e = all_congruent a b c e
   congruent (First a) (First b) _ e = refl
   congruent _ _ _ e = absurd (true≢false (sym e))

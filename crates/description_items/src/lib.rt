@@ -7,6 +7,7 @@ mod different_variant;
 mod item;
 mod modern;
 pub mod modifier;
+mod period;
 mod same;
 mod shown;
 
@@ -14,3 +15,4 @@ pub use component::Component;
 pub use description_formats::{Iso8601, Rfc2822, Rfc3339};
 pub use different_variant::DifferentVariant;
 pub use item::{BorrowedFormatItem, FormatItem, StaticFormatDescription};
+pub use period::Period;

@@ -7,9 +7,9 @@ use Rattle.description_items.specs.declared.component.Component.{Component}
 use Rattle.description_items.specs.Tree.{Tree, Trees, listed}
 use Rattle.description_words.specs.declared.version.DescriptionVersion.{DescriptionVersion}
 use Rattle.description_words.specs.declared.version.DescriptionVersion.TheVariants.{One, Two, Three}
-use Rattle.description_words.specs.Text.{Piece}
+use Rattle.description_words.specs.Text.{Rest}
 use Rattle.description_words.specs.Words.{Modifier}
-use Rattle.description_strftime.specs.Further.{further}
+use Rattle.description_faults.specs.Further.{further}
 use Rattle.description_spelling.specs.Heads.{SpellsModifiers, SpellsHead}
 use Rattle.description_spelling.specs.Spelling.{SpellsItems, Spells}
 use Rattle.description_spelling.specs.Faulty.{BadWord, missing_at, LacksName, HasBadWord, IsUnclosed, MeansNothing, BadEscape, Wrong, BadNesting, IsOne, AreSome, IsNothing, AreBefore, BadItem, FaultyItems, FaultyNested, Faulty}
@@ -34,11 +34,11 @@ modifiers_moved k (m ∷ ms) at to own far (first, rest, parts, one, more) = (
   first,
   rest,
   parts,
-  record { space = one.space; parts = one.parts; is_space = one.is_space; some_space = one.some_space; is_key = one.is_key; no_colon = one.no_colon; is_value = one.is_value; key_at = omega (arith, one.key_at, far); value_at = omega (arith, one.value_at, far) },
+  record { blank = one.blank; parts = one.parts; is_space = one.is_space; some_space = one.some_space; is_key = one.is_key; no_colon = one.no_colon; is_value = one.is_value; key_at = omega (arith, one.key_at, far); value_at = omega (arith, one.value_at, far) },
   modifiers_moved k ms (at + length first) (to + length first) rest (omega (arith, far)) more,
 )
 
-head_moved : (k : ℕ) (v : DescriptionVersion) (at to : ℕ) (own : List ℕ) (name : Piece) (ms : List Modifier) → IsFurther k at to → SpellsHead v at own name ms → SpellsHead v to own (moved k name) (all_moved k ms)
+head_moved : (k : ℕ) (v : DescriptionVersion) (at to : ℕ) (own : List ℕ) (name : Rest) (ms : List Modifier) → IsFurther k at to → SpellsHead v at own name ms → SpellsHead v to own (moved k name) (all_moved k ms)
 head_moved k v at to own name ms far h = record {
   first = h.first;
   middle = h.middle;
@@ -57,20 +57,20 @@ word_moved k at to word e far (inl (each, f)) = inl (each, fault_further k at to
 word_moved k at to word e far (inr (inl (value, parts, f))) = inr (inl (value, parts, fault_further k at to (λ i. InvalidModifier [] i) e far refl f))
 word_moved k at to word e far (inr (inr (key, some, each, parts, f))) = inr (inr (key, some, each, parts, fault_further k (at + length word) (to + length word) (λ i. InvalidModifier [] i) e (omega (arith, far)) refl f))
 
-missing_further : (k at to : ℕ) (space : List ℕ) → IsFurther k at to → IsFurther k (missing_at at space) (missing_at to space)
+missing_further : (k at to : ℕ) (blank : List ℕ) → IsFurther k at to → IsFurther k (missing_at at blank) (missing_at to blank)
 missing_further k at to [] far = far
 missing_further k at to (b ∷ bs) far = omega (arith, far)
 
 lacks_name_moved : (k : ℕ) (v : DescriptionVersion) (at to : ℕ) (text : List ℕ) (e : Fault) → IsFurther k at to → LacksName v at text e → LacksName v to text (further k e)
 lacks_name_moved k v at to text e far h = record {
-  space = h.space;
+  blank = h.blank;
   rest = h.rest;
   parts = h.parts;
   single = h.single;
   spaces = h.spaces;
   no_space = h.no_space;
   no_word = h.no_word;
-  fault_is = fault_further k (missing_at at h.space) (missing_at to h.space) (λ i. MissingComponentName i) e (missing_further k at to h.space far) refl h.fault_is;
+  fault_is = fault_further k (missing_at at h.blank) (missing_at to h.blank) (λ i. MissingComponentName i) e (missing_further k at to h.blank far) refl h.fault_is;
 }
 
 bad_word_moved : (k : ℕ) (v : DescriptionVersion) (at to : ℕ) (text : List ℕ) (e : Fault) → IsFurther k at to → HasBadWord v at text e → HasBadWord v to text (further k e)

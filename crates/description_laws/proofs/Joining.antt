@@ -3,6 +3,7 @@ use Rattle.std.proofs.Common.{◌≡◌, ℕ, ◌<◌, List, [], ◌∷◌, ◌+
 use Rattle.std.specs.Prelude.{◌==◌, ◌||◌, not}
 use Rattle.std.proofs.lemmas.List.{length-append, append-nil}
 use Rattle.std.proofs.lemmas.Bool.Decides.{nat_tests}
+use Rattle.byte_names.specs.Bytes.{left_bracket, backslash, right_bracket}
 use Rattle.description_items.specs.Tree.{Tree, Literal, Part, Compound, Optional, First}
 use Rattle.description_words.specs.declared.version.DescriptionVersion.{DescriptionVersion}
 use Rattle.description_words.specs.declared.version.DescriptionVersion.TheVariants.{One, Two, Three}
@@ -18,9 +19,9 @@ use Rattle.description_spelling.proofs.Items.{item_front}
 
 item_some : (v : DescriptionVersion) (own more : List ℕ) (t : Tree) → SpellsItem v false 127 own more t → 0 < length own
 item_some v own more (Literal bytes) h = text_some v false own more bytes h
-item_some v own more (Part c) h = omega (arith, ap (length {A = ℕ}) h.parts, length-append h.head (93 ∷ []))
-item_some v own more (Optional f t) (three, written, h) = omega (arith, ap (length {A = ℕ}) h.parts, length-append h.opening (h.inside ++ 93 ∷ []), length-append h.inside (93 ∷ []))
-item_some v own more (First ts) (three, h) = omega (arith, ap (length {A = ℕ}) h.parts, length-append h.opening (h.inside ++ 93 ∷ []), length-append h.inside (93 ∷ []))
+item_some v own more (Part c) h = omega (arith, ap (length {A = ℕ}) h.parts, length-append h.head (right_bracket ∷ []))
+item_some v own more (Optional f t) (three, written, h) = omega (arith, ap (length {A = ℕ}) h.parts, length-append h.opening (h.inside ++ right_bracket ∷ []), length-append h.inside (right_bracket ∷ []))
+item_some v own more (First ts) (three, h) = omega (arith, ap (length {A = ℕ}) h.parts, length-append h.opening (h.inside ++ right_bracket ∷ []), length-append h.inside (right_bracket ∷ []))
 item_some v own more (Compound ts) h = absurd h
 
 -- a byte behind an item stays there, whatever follows it
@@ -55,28 +56,28 @@ firm_or_literal v own (Compound ts) h = absurd h
 
 -- ---- a text that begins with a plain byte begins with a literal
 
-plain_bracket : (v : DescriptionVersion) (b : ℕ) → is_plain v b ≡ true → b ≡ 91 → ⊥
+plain_bracket : (v : DescriptionVersion) (b : ℕ) → is_plain v b ≡ true → b ≡ left_bracket → ⊥
 plain_bracket One b h e = absurd (grind (arith, nat_tests))
 plain_bracket Two b h e = absurd (grind (arith, nat_tests))
 plain_bracket Three b h e = absurd (grind (arith, nat_tests))
 
-plain_back : (b : ℕ) → not (is_bracket b || b == 92) ≡ true → b ≡ 92 → ⊥
+plain_back : (b : ℕ) → not (is_bracket b || b == backslash) ≡ true → b ≡ backslash → ⊥
 plain_back b h e = absurd (grind (arith, nat_tests))
 
 heads : (a b : ℕ) (xs bs : List ℕ) → a ∷ xs ≡ b ∷ bs → a ≡ b
 heads a b xs bs e = cc
 
 no_opening : (v : DescriptionVersion) (name opening rest text : List ℕ) (b : ℕ) (bs : List ℕ) → is_plain v b ≡ true → SpellsOpening v name opening → b ∷ bs ≡ opening ++ rest → ⊥
-no_opening v name opening rest text b bs plain h e = plain_bracket v b plain (heads b 91 bs _ (e ∙ ap (λ (t : List ℕ). t ++ rest) h.parts))
+no_opening v name opening rest text b bs plain h e = plain_bracket v b plain (heads b left_bracket bs _ (e ∙ ap (λ (t : List ℕ). t ++ rest) h.parts))
 
 no_nesting : (v : DescriptionVersion) (name own more : List ℕ) (Inside : List ℕ → Type 0) (b : ℕ) (bs : List ℕ) → is_plain v b ≡ true → SpellsNesting v name own Inside → b ∷ bs ≡ own ++ more → ⊥
 no_nesting v name own more Inside b bs plain h e =
-    plain_bracket v b plain (heads b 91 bs _ (e ∙ ap (λ (t : List ℕ). t ++ more) (h.parts ∙ ap (λ (t : List ℕ). t ++ (h.inside ++ 93 ∷ [])) h.is_opening.parts)))
+    plain_bracket v b plain (heads b left_bracket bs _ (e ∙ ap (λ (t : List ℕ). t ++ more) (h.parts ∙ ap (λ (t : List ℕ). t ++ (h.inside ++ right_bracket ∷ [])) h.is_opening.parts)))
 
 no_escape : (v : DescriptionVersion) (own more bytes : List ℕ) (b : ℕ) (bs : List ℕ) → is_plain v b ≡ true → SpellsEscape v own bytes → b ∷ bs ≡ own ++ more → ⊥
-no_escape One own more bytes b bs plain (e, f) parts = plain_bracket One b plain (heads b 91 bs _ (parts ∙ ap (λ (t : List ℕ). t ++ more) e))
-no_escape Two own more bytes b bs plain (c, is_c, e, f) parts = plain_back b plain (heads b 92 bs _ (parts ∙ ap (λ (t : List ℕ). t ++ more) e))
-no_escape Three own more bytes b bs plain (c, is_c, e, f) parts = plain_back b plain (heads b 92 bs _ (parts ∙ ap (λ (t : List ℕ). t ++ more) e))
+no_escape One own more bytes b bs plain (e, f) parts = plain_bracket One b plain (heads b left_bracket bs _ (parts ∙ ap (λ (t : List ℕ). t ++ more) e))
+no_escape Two own more bytes b bs plain (c, is_c, e, f) parts = plain_back b plain (heads b backslash bs _ (parts ∙ ap (λ (t : List ℕ). t ++ more) e))
+no_escape Three own more bytes b bs plain (c, is_c, e, f) parts = plain_back b plain (heads b backslash bs _ (parts ∙ ap (λ (t : List ℕ). t ++ more) e))
 
 -- the literal that a plain byte begins, and what follows it
 record BeginsLiteral (v : DescriptionVersion) (t : List ℕ) (ts : List Tree) : Type 0 where
@@ -93,7 +94,7 @@ begins_literal v b bs [] plain h = absurd cc
 begins_literal v b bs (Literal bytes ∷ ts) plain (own, more, parts, inl one, others) = record { bytes = bytes; more = more; back = ts; trees = refl; parts = parts ∙ ap (λ (t : List ℕ). t ++ more) one.0; is_literal = one.1; is_back = others }
 begins_literal v b bs (Literal bytes ∷ ts) plain (own, more, parts, inr one, others) = absurd (no_escape v own more bytes b bs plain one parts)
 begins_literal v b bs (Part c ∷ ts) plain (own, more, parts, one, others) =
-    absurd (plain_bracket v b plain (heads b 91 bs _ (parts ∙ ap (λ (t : List ℕ). t ++ more) (one.parts ∙ ap (λ (t : List ℕ). t ++ 93 ∷ []) one.is_head.parts))))
+    absurd (plain_bracket v b plain (heads b left_bracket bs _ (parts ∙ ap (λ (t : List ℕ). t ++ more) (one.parts ∙ ap (λ (t : List ℕ). t ++ right_bracket ∷ []) one.is_head.parts))))
 begins_literal v b bs (Optional f t ∷ ts) plain (own, more, parts, (three, written, one), others) = absurd (no_nesting v _ own more _ b bs plain one parts)
 begins_literal v b bs (First us ∷ ts) plain (own, more, parts, (three, one), others) = absurd (no_nesting v _ own more _ b bs plain one parts)
 begins_literal v b bs (Compound us ∷ ts) plain (own, more, parts, one, others) = absurd one

@@ -1,12 +1,13 @@
 -- In versions 1 and 2 the case of letters in a component says nothing.
 use Rattle.std.proofs.Common.{◌≡◌, ℕ, ◌+◌, List, [], ◌∷◌, ◌++◌, length, true, false, refl, sym, ap, subst, ◌∙◌, append_assoc, arith, inl, inr}
 use Rattle.std.specs.Str.{str_eq_ignore_ascii_case}
+use Rattle.byte_names.specs.Bytes.{colon, left_bracket, right_bracket}
 use Rattle.description_items.specs.declared.component.Component.{Component}
 use Rattle.description_items.specs.Tree.{Tree, Part}
 use Rattle.description_words.specs.declared.version.DescriptionVersion.{DescriptionVersion}
 use Rattle.description_words.specs.declared.version.DescriptionVersion.TheVariants.{One, Two, Three}
 use Rattle.description_words.specs.Version.{is_three}
-use Rattle.description_words.specs.Text.{Piece, is_space, is_no_colon, is_plain}
+use Rattle.description_words.specs.Text.{Rest, is_space, is_no_colon, is_plain}
 use Rattle.description_words.specs.Words.{Modifier}
 use Rattle.description_spelling.specs.Heads.{Stops, SpellsModifier, SpellsModifiers, SpellsComponent}
 use Rattle.description_spelling.specs.Spelling.{Spells}
@@ -17,15 +18,15 @@ use Rattle.description_laws.proofs.CasedTables.{name_cased, key_cased, nesting_c
 use Rattle.description_spelling.proofs.ItemsAgain.{item_more}
 
 -- what stands between words is no letter
-no_open : IsLetter 91 → ⊥
+no_open : IsLetter left_bracket → ⊥
 no_open (lo, hi, inl h) = omega arith
 no_open (lo, hi, inr h) = omega arith
 
-no_close : IsLetter 93 → ⊥
+no_close : IsLetter right_bracket → ⊥
 no_close (lo, hi, inl h) = omega arith
 no_close (lo, hi, inr h) = omega arith
 
-no_colon_letter : IsLetter 58 → ⊥
+no_colon_letter : IsLetter colon → ⊥
 no_colon_letter (lo, hi, h) = omega arith
 
 -- ---- modifiers
@@ -37,17 +38,17 @@ record ModifierAlike (v : DescriptionVersion) (at : ℕ) (own : List ℕ) (m : M
 
 modifier_alike : (v : DescriptionVersion) (at to : ℕ) (own other : List ℕ) (m : Modifier) → is_three v ≡ false → SpellsModifier at own m → Alike own other → ModifierAlike v to other m
 modifier_alike v at to own other m h s a =
-    let c : CutAlike s.space (m.key.text ++ 58 ∷ m.value.text) other = cut_alike s.space (m.key.text ++ 58 ∷ m.value.text) other (subst (λ (t : List ℕ). Alike t other) s.parts a) in
-    let k : CutAlike m.key.text (58 ∷ m.value.text) c.back = cut_alike m.key.text (58 ∷ m.value.text) c.back c.is_back in
-    let value = alike_byte 58 m.value.text k.back no_colon_letter k.is_back in
+    let c : CutAlike s.blank (m.key.text ++ colon ∷ m.value.text) other = cut_alike s.blank (m.key.text ++ colon ∷ m.value.text) other (subst (λ (t : List ℕ). Alike t other) s.parts a) in
+    let k : CutAlike m.key.text (colon ∷ m.value.text) c.back = cut_alike m.key.text (colon ∷ m.value.text) c.back c.is_back in
+    let value = alike_byte colon m.value.text k.back no_colon_letter k.is_back in
     let there : Modifier = record { key = at_index (to + length c.front) k.front; value = at_index (to + length c.front + length k.front + 1) value.0 } in
     record {
       other = there;
       spells = record {
-        space = c.front;
+        blank = c.front;
         parts = c.parts ∙ ap (λ (t : List ℕ). c.front ++ t) (k.parts ∙ ap (λ (t : List ℕ). k.front ++ t) value.1);
-        is_space = alike_each is_space space_agrees s.space c.front c.is_front s.is_space;
-        some_space = omega (arith, alike_length s.space c.front c.is_front, s.some_space);
+        is_space = alike_each is_space space_agrees s.blank c.front c.is_front s.is_space;
+        some_space = omega (arith, alike_length s.blank c.front c.is_front, s.some_space);
         is_key = alike_word m.key.text k.front k.is_front s.is_key;
         no_colon = alike_each is_no_colon colon_agrees m.key.text k.front k.is_front s.no_colon;
         is_value = alike_word m.value.text value.0 value.2 s.is_value;
@@ -75,16 +76,16 @@ modifiers_alike v (m ∷ ms) at to own other h (first, rest, parts, one, more) a
 component_alike : (v : DescriptionVersion) (own other : List ℕ) (c : Component) → is_three v ≡ false → Alike own other → SpellsComponent v own c → SpellsComponent v other c
 component_alike v own other c h a s =
     let g = s.is_head in
-    let whole : CutAlike s.head (93 ∷ []) other = cut_alike s.head (93 ∷ []) other (subst (λ (t : List ℕ). Alike t other) s.parts a) in
-    let close = alike_byte 93 [] whole.back no_close whole.is_back in
-    let back_is : whole.back ≡ 93 ∷ [] = close.1 ∙ ap (λ (t : List ℕ). 93 ∷ t) (alike_nothing close.0 close.2) in
-    let inside = alike_byte 91 (g.first ++ (s.name.text ++ (g.middle ++ g.last))) whole.front no_open (subst (λ (t : List ℕ). Alike t whole.front) g.parts whole.is_front) in
+    let whole : CutAlike s.head (right_bracket ∷ []) other = cut_alike s.head (right_bracket ∷ []) other (subst (λ (t : List ℕ). Alike t other) s.parts a) in
+    let close = alike_byte right_bracket [] whole.back no_close whole.is_back in
+    let back_is : whole.back ≡ right_bracket ∷ [] = close.1 ∙ ap (λ (t : List ℕ). right_bracket ∷ t) (alike_nothing close.0 close.2) in
+    let inside = alike_byte left_bracket (g.first ++ (s.name.text ++ (g.middle ++ g.last))) whole.front no_open (subst (λ (t : List ℕ). Alike t whole.front) g.parts whole.is_front) in
     let first : CutAlike g.first (s.name.text ++ (g.middle ++ g.last)) inside.0 = cut_alike g.first (s.name.text ++ (g.middle ++ g.last)) inside.0 inside.2 in
     let name : CutAlike s.name.text (g.middle ++ g.last) first.back = cut_alike s.name.text (g.middle ++ g.last) first.back first.is_back in
     let middle : CutAlike g.middle g.last name.back = cut_alike g.middle g.last name.back name.is_back in
     let same = lower_same s.name.text name.front name.is_front in
     let words : ModifiersAlike v (0 + 1 + length first.front + length name.front) middle.front s.modifiers = modifiers_alike v s.modifiers (0 + 1 + length g.first + length s.name.text) (0 + 1 + length first.front + length name.front) g.middle middle.front h g.modifiers middle.is_front in
-    let there : Piece = at_index (0 + 1 + length first.front) name.front in
+    let there : Rest = at_index (0 + 1 + length first.front) name.front in
     record {
       head = whole.front;
       name = there;
@@ -94,7 +95,7 @@ component_alike v own other c h a s =
         first = first.front;
         middle = middle.front;
         last = middle.back;
-        parts = inside.1 ∙ ap (λ (t : List ℕ). 91 ∷ t) (first.parts ∙ ap (λ (t : List ℕ). first.front ++ t) (name.parts ∙ ap (λ (t : List ℕ). name.front ++ t) middle.parts));
+        parts = inside.1 ∙ ap (λ (t : List ℕ). left_bracket ∷ t) (first.parts ∙ ap (λ (t : List ℕ). first.front ++ t) (name.parts ∙ ap (λ (t : List ℕ). name.front ++ t) middle.parts));
         is_first = alike_each is_space space_agrees g.first first.front first.is_front g.is_first;
         is_name = alike_word s.name.text name.front name.is_front g.is_name;
         no_nesting = sym (nesting_cased v s.name.text name.front h same) ∙ g.no_nesting;
@@ -117,9 +118,9 @@ append_spelled v front tail (t ∷ items) ts stops (own, more, parts, one, other
 
 -- a component's bracket ends a literal
 bracket_first : (v : DescriptionVersion) (own back : List ℕ) (c : Component) → SpellsComponent v own c → Stops (is_plain v) (own ++ back)
-bracket_first v own back c h = subst (λ (t : List ℕ). Stops (is_plain v) (t ++ back)) (sym (h.parts ∙ ap (λ (t : List ℕ). t ++ 93 ∷ []) h.is_head.parts)) (plain v)
+bracket_first v own back c h = subst (λ (t : List ℕ). Stops (is_plain v) (t ++ back)) (sym (h.parts ∙ ap (λ (t : List ℕ). t ++ right_bracket ∷ []) h.is_head.parts)) (plain v)
   where
-    plain : (v : DescriptionVersion) → is_plain v 91 ≡ false
+    plain : (v : DescriptionVersion) → is_plain v left_bracket ≡ false
     plain One = refl
     plain Two = refl
     plain Three = refl

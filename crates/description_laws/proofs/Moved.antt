@@ -5,7 +5,7 @@ use Rattle.description_faults.specs.Fault.{Fault, InvalidComponentName, MissingR
 use Rattle.description_faults.specs.Answer.{◌>>=◌}
 use Rattle.description_words.specs.declared.version.DescriptionVersion.{DescriptionVersion}
 use Rattle.description_words.specs.Version.{is_three}
-use Rattle.description_words.specs.Text.{Piece}
+use Rattle.description_words.specs.Text.{Rest}
 use Rattle.description_words.specs.Words.{Modifier}
 use Rattle.description_tables.specs.declared.names.Name.{Name}
 use Rattle.description_tables.specs.declared.keys.Key.{Key}
@@ -15,9 +15,9 @@ use Rattle.description_tables.specs.Keys.{key_of, has_key}
 use Rattle.description_tables.specs.Chosen.{nothing, with_value, is_chosen, is_carried}
 use Rattle.description_tables.specs.Made.{made}
 use Rattle.description_tables.specs.Component.{found, bad, key_among, key_in, with_modifier, with_modifiers, combined, named, component_of}
-use Rattle.description_strftime.specs.Further.{further}
+use Rattle.description_faults.specs.Further.{further}
 
-abbrev pub moved : ℕ → Piece → Piece
+abbrev pub moved : ℕ → Rest → Rest
 moved k p = record { index = k + p.index; text = p.text }
 
 abbrev pub moved_modifier : ℕ → Modifier → Modifier
@@ -80,10 +80,10 @@ combined_shift k v n c (m ∷ ms) =
     (among_shift k (key_of v m.key.text) n (bad m.key))
     (λ j. or_fault k (is_three v && not (is_carried n c.repr j)) (InvalidModifierCombination m.key.text (name_text n) m.key.index) (combined v n c ms) (combined v n c (all_moved k ms)) (combined_shift k v n c ms))
 
-pub component_shift : (k : ℕ) (v : DescriptionVersion) (p : Piece) (ms : List Modifier) → component_of v (moved k p) (all_moved k ms) ≡ shifted k (component_of v p ms)
+pub component_shift : (k : ℕ) (v : DescriptionVersion) (p : Rest) (ms : List Modifier) → component_of v (moved k p) (all_moved k ms) ≡ shifted k (component_of v p ms)
 unfolding component_of named
 component_shift k v p ms =
-    let lacking : Piece → Fault = λ word. MissingRequiredModifier (codes "count") word.index in
+    let lacking : Rest → Fault = λ word. MissingRequiredModifier (codes "count") word.index in
     bind_shift k (named v p) (named v (moved k p)) (λ n. with_modifiers v n nothing ms >>= λ c. combined v n c ms >>= λ d. found (made v n d) (lacking p)) (λ n. with_modifiers v n nothing (all_moved k ms) >>= λ c. combined v n c (all_moved k ms) >>= λ d. found (made v n d) (lacking (moved k p)))
     (found_shift k (name_of v p.text) (InvalidComponentName p.text p.index))
     (λ n. bind_shift k (with_modifiers v n nothing ms) (with_modifiers v n nothing (all_moved k ms)) (λ c. combined v n c ms >>= λ d. found (made v n d) (lacking p)) (λ c. combined v n c (all_moved k ms) >>= λ d. found (made v n d) (lacking (moved k p)))

@@ -1,6 +1,7 @@
 -- A tree has no more nodes than its text has bytes, and one.
 use Rattle.std.proofs.Common.{ℕ, ◌+◌, ◌≤◌, List, [], ◌∷◌, ◌++◌, length, Bool, true, false, ap, arith}
 use Rattle.std.proofs.lemmas.List.{length-append}
+use Rattle.byte_names.specs.Bytes.{right_bracket}
 use Rattle.description_items.specs.Tree.{Tree, Literal, Part, Compound, Optional, First, Trees, none, also}
 use Rattle.description_words.specs.declared.version.DescriptionVersion.{DescriptionVersion}
 use Rattle.description_spelling.specs.Heads.{SpellsNesting}
@@ -10,7 +11,7 @@ use Rattle.description_spelling.proofs.Texts.{text_some}
 
 -- an opening and a closing bracket leave room for a node
 nesting_room : (v : DescriptionVersion) (name own : List ℕ) (Inside : List ℕ → Type 0) (h : SpellsNesting v name own Inside) → 1 + length h.inside ≤ length own
-nesting_room v name own Inside h = omega (arith, ap (length {A = ℕ}) h.parts, length-append h.opening (h.inside ++ 93 ∷ []), length-append h.inside (93 ∷ []))
+nesting_room v name own Inside h = omega (arith, ap (length {A = ℕ}) h.parts, length-append h.opening (h.inside ++ right_bracket ∷ []), length-append h.inside (right_bracket ∷ []))
 
 mutual
   unfolding nodes
@@ -22,7 +23,7 @@ mutual
 
   item_nodes : (v : DescriptionVersion) (inner : Bool) (levels : ℕ) (own more : List ℕ) (t : Tree) → SpellsItem v inner levels own more t → nodes t ≤ length own
   item_nodes v inner levels own more (Literal bytes) h = omega (arith, text_some v inner own more bytes h)
-  item_nodes v inner levels own more (Part c) h = omega (arith, ap (length {A = ℕ}) h.parts, length-append h.head (93 ∷ []))
+  item_nodes v inner levels own more (Part c) h = omega (arith, ap (length {A = ℕ}) h.parts, length-append h.head (right_bracket ∷ []))
   item_nodes v inner levels own more (Optional format t) (three, written, h) =
       omega (arith, nesting_room v _ own _ h, nested_nodes v levels h.inside t h.is_inside)
   item_nodes v inner levels own more (First ts) (three, h) =
@@ -30,8 +31,8 @@ mutual
   item_nodes v inner levels own more (Compound ts) h = absurd h
 
   nested_nodes : (v : DescriptionVersion) (levels : ℕ) (own : List ℕ) (t : Tree) → SpellsNested v levels own t → nodes t ≤ length own
-  nested_nodes v levels own (Compound ts) (fewer, text, space, e, parts, spaces, items) =
-      omega (arith, items_nodes v true fewer text ts items, ap (length {A = ℕ}) parts, length-append text (93 ∷ space))
+  nested_nodes v levels own (Compound ts) (fewer, text, blank, e, parts, spaces, items) =
+      omega (arith, items_nodes v true fewer text ts items, ap (length {A = ℕ}) parts, length-append text (right_bracket ∷ blank))
   nested_nodes v levels own (Literal bytes) h = absurd h
   nested_nodes v levels own (Part c) h = absurd h
   nested_nodes v levels own (Optional f t) h = absurd h

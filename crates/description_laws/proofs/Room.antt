@@ -2,6 +2,7 @@
 use Rattle.std.proofs.Common.{◌≡◌, ℕ, ◌≤◌, List, [], ◌∷◌, ◌++◌, length, Bool, true, false, cond, ap, arith, inl, inr, ◌⊎◌}
 use Rattle.std.proofs.lemmas.List.{length-append}
 use Rattle.std.proofs.Math.Nat.{max-le}
+use Rattle.byte_names.specs.Bytes.{right_bracket}
 use Rattle.description_items.specs.Tree.{Tree, Literal, Part, Compound, Optional, First, Trees, none, also}
 use Rattle.description_words.specs.declared.version.DescriptionVersion.TheVariants.{Three}
 use Rattle.description_tree.specs.Reserved.{reserved, reserved_in_turn, greatest_reserved}
@@ -11,7 +12,7 @@ use Rattle.description_laws.proofs.Widths.{component_width}
 
 -- an opening and a closing bracket stand round what is nested
 room_inside : (name own : List ℕ) (Inside : List ℕ → Type 0) (h : SpellsNesting Three name own Inside) → length h.inside ≤ length own
-room_inside name own Inside h = omega (arith, ap (length {A = ℕ}) h.parts, length-append h.opening (h.inside ++ 93 ∷ []), length-append h.inside (93 ∷ []))
+room_inside name own Inside h = omega (arith, ap (length {A = ℕ}) h.parts, length-append h.opening (h.inside ++ right_bracket ∷ []), length-append h.inside (right_bracket ∷ []))
 
 literal_room : (inner : Bool) (own more bytes : List ℕ) → ((own ≡ bytes) × SpellsLiteral Three inner bytes more) ⊎ SpellsEscape Three own bytes → length bytes ≤ length own
 literal_room inner own more bytes (inl h) = omega (arith, ap (length {A = ℕ}) h.0)
@@ -35,8 +36,8 @@ mutual
   item_room inner levels own more (Compound ts) h = absurd h
 
   nested_room : (levels : ℕ) (own : List ℕ) (t : Tree) → SpellsNested Three levels own t → reserved t ≤ length own
-  nested_room levels own (Compound ts) (fewer, text, space, e, parts, spaces, items) =
-      omega (arith, items_room true fewer text ts items, ap (length {A = ℕ}) parts, length-append text (93 ∷ space))
+  nested_room levels own (Compound ts) (fewer, text, blank, e, parts, spaces, items) =
+      omega (arith, items_room true fewer text ts items, ap (length {A = ℕ}) parts, length-append text (right_bracket ∷ blank))
   nested_room levels own (Literal bytes) h = absurd h
   nested_room levels own (Part c) h = absurd h
   nested_room levels own (Optional f t) h = absurd h

@@ -1,7 +1,9 @@
 -- A text of version 3 with no nested items is one of version 2.
 use Rattle.std.proofs.Common.{◌≡◌, ℕ, List, [], ◌∷◌, Option, Some, None, Result, Ok, Err, Bool, true, false, not, cond, refl, sym, ap, subst, ◌∙◌, inl, inr}
 use Rattle.std.specs.Prelude.{codes, ◌&&◌, ◌||◌}
-use Rattle.std.specs.Option.{option_map, unwrap_or, is_some}
+use Rattle.std.specs.Option.{option_map, option_and_then, unwrap_or, is_some}
+use Rattle.description_time_modifiers.specs.Ignored.{ignored}
+use Rattle.description_time_modifiers.specs.declared.ignore.Ignore.{Ignore}
 use Rattle.std.specs.Str.{bytes_eq}
 use Rattle.description_date_modifiers.specs.declared.choices.Padding.{Padding}
 use Rattle.description_date_modifiers.specs.declared.choices.Padding.TheVariants as padding
@@ -25,7 +27,7 @@ use Rattle.description_items.specs.Modern.{modern_month, modern_weekday, modern_
 use Rattle.description_items.specs.Tree.{Tree, Literal, Part, Compound, Optional, First}
 use Rattle.description_words.specs.declared.version.DescriptionVersion.TheVariants.{Two, Three}
 use Rattle.description_words.specs.Version.{is_three}
-use Rattle.description_words.specs.Text.{Piece}
+use Rattle.description_words.specs.Text.{Rest}
 use Rattle.description_words.specs.Words.{Modifier}
 use Rattle.description_words.proofs.Readings.{bind_ok, ok_is, not_ok, chosen, and_then_ok}
 use Rattle.description_tables.specs.declared.names.Name.{Name}
@@ -47,7 +49,7 @@ use Rattle.description_laws.proofs.TwoTables.{name_two, no_nesting_two, key_two,
 
 -- ---- modifiers
 
-key_in_two : (n : Name) (p : Piece) (k : Key) → key_in Three n p ≡ Ok k → key_in Two n p ≡ Ok k
+key_in_two : (n : Name) (p : Rest) (k : Key) → key_in Three n p ≡ Ok k → key_in Two n p ≡ Ok k
 key_in_two n p k e =
     let f = key_found (key_of Three p.text) n (bad p) k e in
     ap (λ (o : Option Key). key_among o n (bad p)) (key_two p.text k f.0) ∙ cond_true (has_key k n) (Ok k) (Err (bad p)) f.1
@@ -208,11 +210,11 @@ made_two name.OffsetHour d c e = made_kept (ranged d) _ c refl e
 made_two name.UnixTimestamp d c e = made_kept (ranged d) _ c (timestamp_kept _ _) e
 made_two name.Subsecond d c e = made_kept (ranged d) _ c refl e
 made_two name.End d c e = made_kept (ranged d) _ c refl e
-made_two name.Ignore d c e = ignored d.count e
+made_two name.Ignore d c e = of_ignored (option_and_then ignored d.count) e
   where
-    ignored : (o : Option ℕ) → option_map (λ n. component.Ignore (record { count = n })) o ≡ Some c → option_map (λ n. component.Ignore (record { count = n })) o ≡ Some (in_two (ranged d) c)
-    ignored None e = absurd (none_not c e)
-    ignored (Some n) e = made_kept (ranged d) _ c refl e
+    of_ignored : (o : Option Ignore) → option_map (λ i. component.Ignore i) o ≡ Some c → option_map (λ i. component.Ignore i) o ≡ Some (in_two (ranged d) c)
+    of_ignored None e = absurd (none_not c e)
+    of_ignored (Some i) e = made_kept (ranged d) _ c refl e
 made_two name.Year d c e = by_range d.range e
   where
     a_year : YearRange → Component

@@ -1,8 +1,11 @@
 -- In version 3 a component's longest value is no longer than its text.
 use Rattle.std.proofs.Common.{◌≡◌, ℕ, ◌+◌, ◌≤◌, ◌<◌, List, [], ◌∷◌, ◌++◌, length, Option, Some, None, Ok, Err, Bool, true, false, cond, refl, sym, ap, subst, ◌∙◌, arith, inl, inr}
 use Rattle.std.specs.Prelude.{codes, ◌&&◌}
-use Rattle.std.specs.Option.{option_map}
+use Rattle.std.specs.Option.{option_map, option_and_then}
+use Rattle.description_time_modifiers.specs.Ignored.{ignored}
+use Rattle.description_time_modifiers.specs.declared.ignore.Ignore.{Ignore}
 use Rattle.std.proofs.lemmas.List.{length-append}
+use Rattle.byte_names.specs.Bytes.{colon, right_bracket}
 use Rattle.description_faults.specs.Fault.{Fault, DuplicateModifier, MissingRequiredModifier, InvalidComponentName}
 use Rattle.description_faults.specs.Answer.{◌>>=◌}
 use Rattle.description_date_modifiers.specs.declared.choices.Padding.{Padding}
@@ -25,7 +28,7 @@ use Rattle.description_items.specs.declared.component.Component.TheVariants as c
 use Rattle.description_items.specs.Modern.{modern_month, modern_weekday, modern_week_number, modern_year, modern_hour, modern_timestamp}
 use Rattle.description_words.specs.declared.version.DescriptionVersion.TheVariants.{Three}
 use Rattle.description_words.specs.Version.{is_three}
-use Rattle.description_words.specs.Text.{Piece}
+use Rattle.description_words.specs.Text.{Rest}
 use Rattle.description_words.specs.Words.{Modifier}
 use Rattle.description_words.proofs.Readings.{bind_ok, ok_is, not_ok, chosen}
 use Rattle.description_tables.specs.declared.names.Name.{Name}
@@ -123,11 +126,11 @@ any_width name.Period d c e = subst (λ (c : Component). width_of c ≤ 9) (some
 any_width name.OffsetHour d c e = subst (λ (c : Component). width_of c ≤ 9) (some_is _ c e) (omega arith)
 any_width name.UnixTimestamp d c e = subst (λ (c : Component). width_of c ≤ 24) (some_is _ c e) (timestamp_width _ _)
 any_width name.Subsecond d c e = subst (λ (c : Component). width_of c ≤ 9) (some_is _ c e) (digits_most _)
-any_width name.Ignore d c e = ignored d.count e
+any_width name.Ignore d c e = of_ignored (option_and_then ignored d.count) e
   where
-    ignored : (o : Option ℕ) → option_map (λ n. component.Ignore (record { count = n })) o ≡ Some c → width_of c ≤ 9
-    ignored None e = absurd (none_not c e)
-    ignored (Some n) e = subst (λ (c : Component). width_of c ≤ 9) (some_is _ c e) (omega arith)
+    of_ignored : (o : Option Ignore) → option_map (λ i. component.Ignore i) o ≡ Some c → width_of c ≤ 9
+    of_ignored None e = absurd (none_not c e)
+    of_ignored (Some i) e = subst (λ (c : Component). width_of c ≤ 9) (some_is _ c e) (omega arith)
 any_width name.End d c e = subst (λ (c : Component). width_of c ≤ 9) (some_is _ c e) (omega arith)
 
 -- where nothing was chosen
@@ -248,17 +251,17 @@ chosen_width n at own [] b d c h with_is d_is e =
 chosen_width n at own (m ∷ ms) b d c (first, rest, parts, one, more) with_is d_is e =
     let a = bind_ok (with_modifier Three n nothing m) (λ x. with_modifiers Three n x ms) b with_is in
     let len = modifier_len n m (taken_first n a.0 m a.1) one.is_key.0 one.is_value.0 in
-    let own_len : 2 + length m.key.text + length m.value.text ≤ length own = omega (arith, ap (length {A = ℕ}) parts, length-append first rest, ap (length {A = ℕ}) one.parts, length-append one.space (m.key.text ++ 58 ∷ m.value.text), length-append m.key.text (58 ∷ m.value.text), one.some_space) in
+    let own_len : 2 + length m.key.text + length m.value.text ≤ length own = omega (arith, ap (length {A = ℕ}) parts, length-append first rest, ap (length {A = ℕ}) one.parts, length-append one.blank (m.key.text ++ colon ∷ m.value.text), length-append m.key.text (colon ∷ m.value.text), one.some_space) in
     omega (arith, any_width n d c e, enough n, len, own_len)
 
 pub component_width : (own : List ℕ) (c : Component) → SpellsComponent Three own c → width_of c ≤ length own
 unfolding component_of named
 component_width own c h =
     let g = h.is_head in
-    let lacking : Piece → Fault = λ word. MissingRequiredModifier (codes "count") word.index in
+    let lacking : Rest → Fault = λ word. MissingRequiredModifier (codes "count") word.index in
     let a = bind_ok (named Three h.name) (λ n. with_modifiers Three n nothing h.modifiers >>= λ c. combined Three n c h.modifiers >>= λ d. found (made Three n d) (lacking h.name)) c h.means in
     let b = bind_ok (with_modifiers Three a.0 nothing h.modifiers) (λ c. combined Three a.0 c h.modifiers >>= λ d. found (made Three a.0 d) (lacking h.name)) c a.2 in
     let d = bind_ok (combined Three a.0 b.0 h.modifiers) (λ d. found (made Three a.0 d) (lacking h.name)) c b.2 in
     let is_name : h.name.text ≡ name_text a.0 = name_is h.name.text a.0 (found_is (name_of Three h.name.text) (InvalidComponentName h.name.text h.name.index) a.0 a.1) in
     let width = chosen_width a.0 (0 + 1 + length g.first + length h.name.text) g.middle h.modifiers b.0 d.0 c g.modifiers b.1 d.1 (found_is (made Three a.0 d.0) (lacking h.name) c d.2) in
-    omega (arith, width, ap (length {A = ℕ}) is_name, ap (length {A = ℕ}) h.parts, length-append h.head (93 ∷ []), ap (length {A = ℕ}) g.parts, length-append g.first (h.name.text ++ (g.middle ++ g.last)), length-append h.name.text (g.middle ++ g.last), length-append g.middle g.last)
+    omega (arith, width, ap (length {A = ℕ}) is_name, ap (length {A = ℕ}) h.parts, length-append h.head (right_bracket ∷ []), ap (length {A = ℕ}) g.parts, length-append g.first (h.name.text ++ (g.middle ++ g.last)), length-append h.name.text (g.middle ++ g.last), length-append g.middle g.last)

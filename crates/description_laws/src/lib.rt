@@ -1,23 +1,37 @@
 //! What holds of descriptions: laws, each the contract of a function.
 #![tactic(auto)]
 
-ghost use Rattle.std.specs.Prelude.{◌≡◌, ℕ, ◌+◌, ◌≤◌, true, false, List, ◌∷◌, ◌++◌, length};
+ghost use Rattle.std.specs.Prelude.{◌≡◌, ◌↔◌, ℕ, ◌+◌, ◌≤◌, true, false, List, ◌∷◌, ◌++◌, length};
 ghost use Rattle.std.specs.Str.{str_eq_ignore_ascii_case};
 ghost use Rattle.description_faults.specs.Fault.{Fault};
 ghost use Rattle.description_items.specs.declared.component.Component.{Component};
+ghost use Rattle.description_items.specs.Same.{same_tree};
 ghost use Rattle.description_items.specs.Tree.{Tree, Part};
 ghost use Rattle.description_words.specs.declared.version.DescriptionVersion.{DescriptionVersion};
 ghost use Rattle.description_words.specs.declared.version.DescriptionVersion.TheVariants.{Two, Three};
 ghost use Rattle.description_words.specs.Version.{is_three};
 ghost use Rattle.description_tree.specs.Reserved.{reserved};
-ghost use Rattle.description_strftime.specs.Further.{further};
+ghost use Rattle.description_faults.specs.Further.{further};
+ghost use Rattle.description_strftime.specs.Outcomes as letters;
+ghost use Rattle.description_spelling.specs.Outcomes.{OneOutcome};
 ghost use Rattle.description_spelling.specs.Faulty.{Faulty};
 ghost use Rattle.description_spelling.specs.Heads.{SpellsComponent};
 ghost use Rattle.description_spelling.specs.Spelling.{Spells, SpellsTree};
 ghost use Rattle.description_laws.specs.Versions.{IsFlat, InTwo, SpellsRanged};
 ghost use Rattle.description_laws.specs.Laws.{Joins, nodes};
 
-pub use description_spelling::one_outcome;
+/// A text spells one tree or has one fault, and not both: in each version, and by the letters of
+/// strftime.
+pub fn one_outcome()
+    ensures versions { (version : DescriptionVersion) (text : List ℕ) → OneOutcome version text }
+    ensures strftime { (text : List ℕ) → letters.OneOutcome text }
+{}
+
+/// Equality of items, which is that of their trees, takes two trees for the same exactly if they are
+/// equal.
+pub fn same_trees()
+    ensures exactly { (one other : Tree) → (same_tree one other ≡ true) ↔ (one ≡ other) }
+{}
 
 /// A description behind another one is a description. It has the items of both, save that a literal
 /// that ends the first and one that begins the second are one literal.

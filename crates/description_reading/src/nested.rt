@@ -1,12 +1,13 @@
 //! Descriptions inside one another.
 
-ghost use Rattle.std.specs.Prelude.{suc, ◌≡◌, ◌<◌, IfOk, length, codes};
+ghost use Rattle.std.specs.Prelude.{suc, ◌≡◌, ◌<◌, true, IfOk, length, codes};
 ghost use Rattle.std.specs.Str.{IsCharBoundary};
 ghost use Rattle.description_faults.specs.Answer.{Answers, Gives};
 ghost use Rattle.description_faults.specs.Fault.{fault_of};
+ghost use Rattle.description_tree.specs.Forms.{is_read, are_read};
 ghost use Rattle.description_tree.specs.Inner.{inner_tree, inner_trees};
 ghost use Rattle.description_words.specs.Many.{many};
-ghost use Rattle.description_words.specs.Views.{piece};
+ghost use Rattle.description_words.specs.Views.{rest_of};
 ghost use Rattle.description_reading.specs.Reading.{opened_at, unsupported_at, optional_at, first_at, bracket_at, element_at, is_end, no_bracket, nested_at, read_tree};
 
 use crate::components::component_from;
@@ -14,7 +15,7 @@ use crate::texts::{doubled, is_end, text};
 use description_faults::{DescriptionFault, InvalidFormatDescription};
 use description_tree::FormatDescriptionV3Inner;
 use description_words::{
-    DescriptionVersion, Left, begins, closed, cut, is_named, name_of, past_space, whole_of,
+    DescriptionVersion, Rest, begins, closed, cut, is_named, name_of, past_space, whole_of,
 };
 use std::alloc::Global;
 
@@ -28,6 +29,7 @@ pub fn tree_of<'a>(
     text: &'a str,
 ) -> Result<FormatDescriptionV3Inner<'a>, DescriptionFault<'a>>
     ensures value { Gives inner_tree result (read_tree text.now) }
+    ensures form { IfOk result (λ node. is_read node ≡ true) }
 {
     let (all, _) = items(
         alloc,
@@ -41,15 +43,15 @@ pub fn tree_of<'a>(
 
 // The white space and the bracket that a nesting name needs.
 #[tactic(auto, unfolding(crate::specs::Reading::opened_at))]
-fn opened<'a>(what: &'static str, left: Left<'a>) -> Result<Left<'a>, InvalidFormatDescription<'a>>
-    ensures value { Answers piece result (opened_at what.now (piece left.entry)) }
+fn opened<'a>(what: &'static str, here: Rest<'a>) -> Result<Rest<'a>, InvalidFormatDescription<'a>>
+    ensures value { Answers rest_of result (opened_at what.now (rest_of here.entry)) }
     ensures boundary { IfOk result (λ start. IsCharBoundary start.text.now 1) }
 {
-    let start = past_space(left);
-    if start.text.len() == left.text.len() {
+    let start = past_space(here);
+    if start.text.len() == here.text.len() {
         return Err(InvalidFormatDescription::Expected {
             what,
-            index: left.index,
+            index: here.index,
         });
     }
     if begins(start.text, b'[') {
@@ -80,12 +82,13 @@ fn items<'a>(
     version: DescriptionVersion,
     levels: u8,
     inner: bool,
-    left: Left<'a>,
-) -> Result<(Vec<FormatDescriptionV3Inner<'a>>, Left<'a>), DescriptionFault<'a>>
-    ensures { Gives (λ x. (inner_trees x.0.items, piece x.1)) result (many (is_end inner) (element_at version (nested_at version levels)) (suc (length left.entry.text.now)) (piece left.entry)) }
+    here: Rest<'a>,
+) -> Result<(Vec<FormatDescriptionV3Inner<'a>>, Rest<'a>), DescriptionFault<'a>>
+    ensures value { Gives (λ x. (inner_trees x.0.items, rest_of x.1)) result (many (is_end inner) (element_at version (nested_at version levels)) (suc (length here.entry.text.now)) (rest_of here.entry)) }
+    ensures form { IfOk result (λ x. are_read x.0.items ≡ true) }
 {
     let mut all = Vec::new(alloc);
-    let mut rest = left;
+    let mut rest = here;
     'items: while !is_end(inner, rest) {
         let (item, after) = element(alloc, version, levels, rest)?;
         all.push(item)?;
@@ -100,18 +103,19 @@ fn element<'a>(
     alloc: Global,
     version: DescriptionVersion,
     levels: u8,
-    left: Left<'a>,
-) -> Result<(FormatDescriptionV3Inner<'a>, Left<'a>), DescriptionFault<'a>>
-    requires { 0 < length left.text.now }
-    ensures { Gives (λ x. (inner_tree x.0, piece x.1)) result (element_at version (nested_at version levels) (piece left.entry)) }
+    here: Rest<'a>,
+) -> Result<(FormatDescriptionV3Inner<'a>, Rest<'a>), DescriptionFault<'a>>
+    requires { 0 < length here.text.now }
+    ensures value { Gives (λ x. (inner_tree x.0, rest_of x.1)) result (element_at version (nested_at version levels) (rest_of here.entry)) }
+    ensures form { IfOk result (λ x. is_read x.0 ≡ true) }
 {
-    if let Some((front, rest)) = doubled(version, left) {
+    if let Some((front, rest)) = doubled(version, here) {
         return Ok((FormatDescriptionV3Inner::BorrowedLiteral(front), rest));
     }
-    if begins(left.text, b'[') {
-        return bracketed(alloc, version, levels, left);
+    if begins(here.text, b'[') {
+        return bracketed(alloc, version, levels, here);
     }
-    let (front, rest) = text(version, left)?;
+    let (front, rest) = text(version, here)?;
     Ok((FormatDescriptionV3Inner::BorrowedLiteral(front), rest))
 }
 
@@ -121,20 +125,21 @@ fn bracketed<'a>(
     alloc: Global,
     version: DescriptionVersion,
     levels: u8,
-    left: Left<'a>,
-) -> Result<(FormatDescriptionV3Inner<'a>, Left<'a>), DescriptionFault<'a>>
-    requires { IsCharBoundary left.text.now 1 }
-    ensures { Gives (λ x. (inner_tree x.0, piece x.1)) result (bracket_at version (nested_at version levels) (piece left.entry)) }
+    here: Rest<'a>,
+) -> Result<(FormatDescriptionV3Inner<'a>, Rest<'a>), DescriptionFault<'a>>
+    requires { IsCharBoundary here.text.now 1 }
+    ensures value { Gives (λ x. (inner_tree x.0, rest_of x.1)) result (bracket_at version (nested_at version levels) (rest_of here.entry)) }
+    ensures form { IfOk result (λ x. is_read x.0 ≡ true) }
 {
-    let (_, inside) = cut(left, 1);
-    let (name, rest) = name_of(left.index, inside)?;
+    let (_, inside) = cut(here, 1);
+    let (name, rest) = name_of(here.index, inside)?;
     if is_named(version, name.text, "optional") {
-        return optional(alloc, version, levels, left.index, rest);
+        return optional(alloc, version, levels, here.index, rest);
     }
     if is_named(version, name.text, "first") {
-        return first(alloc, version, levels, left.index, rest);
+        return first(alloc, version, levels, here.index, rest);
     }
-    let (component, rest) = component_from(alloc, version, left.index, name, rest)?;
+    let (component, rest) = component_from(alloc, version, here.index, name, rest)?;
     Ok((FormatDescriptionV3Inner::from(component), rest))
 }
 
@@ -146,11 +151,12 @@ pub fn optional<'a>(
     version: DescriptionVersion,
     levels: u8,
     bracket: usize,
-    left: Left<'a>,
-) -> Result<(FormatDescriptionV3Inner<'a>, Left<'a>), DescriptionFault<'a>>
-    ensures { Gives (λ x. (inner_tree x.0, piece x.1)) result (optional_at version (nested_at version levels) bracket (piece left.entry)) }
+    here: Rest<'a>,
+) -> Result<(FormatDescriptionV3Inner<'a>, Rest<'a>), DescriptionFault<'a>>
+    ensures value { Gives (λ x. (inner_tree x.0, rest_of x.1)) result (optional_at version (nested_at version levels) bracket (rest_of here.entry)) }
+    ensures form { IfOk result (λ x. is_read x.0 ≡ true) }
 {
-    let start = opened("whitespace after `optional`", left)?;
+    let start = opened("whitespace after `optional`", here)?;
     let (item, rest) = nested(alloc, version, levels, start)?;
     let rest = closed(bracket, rest)?;
     if !version.is_three() {
@@ -171,11 +177,12 @@ pub fn first<'a>(
     version: DescriptionVersion,
     levels: u8,
     bracket: usize,
-    left: Left<'a>,
-) -> Result<(FormatDescriptionV3Inner<'a>, Left<'a>), DescriptionFault<'a>>
-    ensures { Gives (λ x. (inner_tree x.0, piece x.1)) result (first_at version (nested_at version levels) bracket (piece left.entry)) }
+    here: Rest<'a>,
+) -> Result<(FormatDescriptionV3Inner<'a>, Rest<'a>), DescriptionFault<'a>>
+    ensures value { Gives (λ x. (inner_tree x.0, rest_of x.1)) result (first_at version (nested_at version levels) bracket (rest_of here.entry)) }
+    ensures form { IfOk result (λ x. is_read x.0 ≡ true) }
 {
-    let start = opened("whitespace after `first`", left)?;
+    let start = opened("whitespace after `first`", here)?;
     let (all, rest) = alternatives(alloc, version, levels, start)?;
     let rest = closed(bracket, rest)?;
     if !version.is_three() {
@@ -189,12 +196,13 @@ fn alternatives<'a>(
     alloc: Global,
     version: DescriptionVersion,
     levels: u8,
-    left: Left<'a>,
-) -> Result<(Vec<FormatDescriptionV3Inner<'a>>, Left<'a>), DescriptionFault<'a>>
-    ensures { Gives (λ x. (inner_trees x.0.items, piece x.1)) result (many no_bracket (nested_at version levels) (suc (length left.entry.text.now)) (piece left.entry)) }
+    here: Rest<'a>,
+) -> Result<(Vec<FormatDescriptionV3Inner<'a>>, Rest<'a>), DescriptionFault<'a>>
+    ensures value { Gives (λ x. (inner_trees x.0.items, rest_of x.1)) result (many no_bracket (nested_at version levels) (suc (length here.entry.text.now)) (rest_of here.entry)) }
+    ensures form { IfOk result (λ x. are_read x.0.items ≡ true) }
 {
     let mut all = Vec::new(alloc);
-    let mut rest = left;
+    let mut rest = here;
     'others: while begins(rest.text, b'[') {
         let (item, after) = nested(alloc, version, levels, rest)?;
         all.push(item)?;
@@ -210,21 +218,22 @@ fn nested<'a>(
     alloc: Global,
     version: DescriptionVersion,
     levels: u8,
-    left: Left<'a>,
-) -> Result<(FormatDescriptionV3Inner<'a>, Left<'a>), DescriptionFault<'a>>
-    requires { IsCharBoundary left.text.now 1 }
-    ensures { Gives (λ x. (inner_tree x.0, piece x.1)) result (nested_at version levels (piece left.entry)) }
+    here: Rest<'a>,
+) -> Result<(FormatDescriptionV3Inner<'a>, Rest<'a>), DescriptionFault<'a>>
+    requires { IsCharBoundary here.text.now 1 }
+    ensures value { Gives (λ x. (inner_tree x.0, rest_of x.1)) result (nested_at version levels (rest_of here.entry)) }
+    ensures form { IfOk result (λ x. is_read x.0 ≡ true) }
 {
     if levels == 0 {
         return Err(DescriptionFault::Description(InvalidFormatDescription::NotSupported {
             what: "nesting past 127 levels",
             context: "format descriptions",
-            index: left.index,
+            index: here.index,
         }));
     }
-    let (_, inside) = cut(left, 1);
+    let (_, inside) = cut(here, 1);
     let (all, rest) = items(alloc, version, levels - 1, true, inside)?;
-    let rest = closed(left.index, rest)?;
+    let rest = closed(here.index, rest)?;
     Ok((
         FormatDescriptionV3Inner::OwnedCompound(all),
         past_space(rest),

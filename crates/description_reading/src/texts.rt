@@ -3,21 +3,21 @@
 ghost use Rattle.std.specs.Prelude.{◌≡◌, ◌<◌, length};
 ghost use Rattle.std.specs.Option.{option_map};
 ghost use Rattle.description_faults.specs.Answer.{Answers};
-ghost use Rattle.description_words.specs.Views.{piece};
+ghost use Rattle.description_words.specs.Views.{rest_of};
 ghost use Rattle.description_reading.specs.Reading.{doubled_at, text_at, is_end};
 
 use description_faults::InvalidFormatDescription;
-use description_words::{DescriptionVersion, Left, begins, cut, escape, literal};
+use description_words::{DescriptionVersion, Rest, begins, cut, escape, literal};
 
 /// The bracket that version 1 spells by two, and what follows them.
 #[tactic(auto, unfolding(crate::specs::Reading::doubled_at))]
-pub fn doubled<'a>(version: DescriptionVersion, left: Left<'a>) -> Option<(&'a str, Left<'a>)>
-    ensures { option_map (λ x. (x.0.now, piece x.1)) result ≡ doubled_at version (piece left.entry) }
+pub fn doubled<'a>(version: DescriptionVersion, here: Rest<'a>) -> Option<(&'a str, Rest<'a>)>
+    ensures { option_map (λ x. (x.0.now, rest_of x.1)) result ≡ doubled_at version (rest_of here.entry) }
 {
-    if !version.is_one() || !begins(left.text, b'[') {
+    if !version.is_one() || !begins(here.text, b'[') {
         return None;
     }
-    let (_, rest) = cut(left, 1);
+    let (_, rest) = cut(here, 1);
     if !begins(rest.text, b'[') {
         return None;
     }
@@ -29,20 +29,20 @@ pub fn doubled<'a>(version: DescriptionVersion, left: Left<'a>) -> Option<(&'a s
 #[tactic(auto, unfolding(crate::specs::Reading::text_at))]
 pub fn text<'a>(
     version: DescriptionVersion,
-    left: Left<'a>,
-) -> Result<(&'a str, Left<'a>), InvalidFormatDescription<'a>>
-    requires { 0 < length left.text.now }
-    ensures { Answers (λ x. (x.0.now, piece x.1)) result (text_at version (piece left.entry)) }
+    here: Rest<'a>,
+) -> Result<(&'a str, Rest<'a>), InvalidFormatDescription<'a>>
+    requires { 0 < length here.text.now }
+    ensures { Answers (λ x. (x.0.now, rest_of x.1)) result (text_at version (rest_of here.entry)) }
 {
-    if !version.is_one() && begins(left.text, b'\\') {
-        return escape(left);
+    if !version.is_one() && begins(here.text, b'\\') {
+        return escape(here);
     }
-    Ok(literal(version, left))
+    Ok(literal(version, here))
 }
 
 /// Whether a description ends here: at the end of the text, or inside another one at its bracket.
-pub fn is_end(inner: bool, left: Left<'_>) -> bool
-    ensures { result ≡ is_end inner (piece left.entry) }
+pub fn is_end(inner: bool, here: Rest<'_>) -> bool
+    ensures { result ≡ is_end inner (rest_of here.entry) }
 {
-    left.text.is_empty() || (inner && begins(left.text, b']'))
+    here.text.is_empty() || (inner && begins(here.text, b']'))
 }

@@ -3,12 +3,13 @@ use Rattle.std.proofs.Common.{◌≡◌, ℕ, zero, suc, List, [], ◌∷◌, �
 use Rattle.std.specs.Prelude.{codes, ◌&&◌, ◌||◌}
 use Rattle.std.proofs.lemmas.List.{append-nil, nil_from_length}
 use Rattle.std.proofs.lemmas.Bool.{eqb-true}
+use Rattle.byte_names.specs.Bytes.{left_bracket, right_bracket}
 use Rattle.description_faults.specs.Fault.{Fault}
 use Rattle.description_faults.specs.Answer.{◌>>=◌}
 use Rattle.description_items.specs.Tree.{Tree, Literal, Part, Compound, Optional, listed}
 use Rattle.description_words.specs.declared.version.DescriptionVersion.{DescriptionVersion}
 use Rattle.description_words.specs.declared.version.DescriptionVersion.TheVariants.{One, Two, Three}
-use Rattle.description_words.specs.Text.{Piece, is_space, run, past, after, whole}
+use Rattle.description_words.specs.Text.{Rest, is_space, run, past, after, whole}
 use Rattle.description_words.specs.Many.{many}
 use Rattle.description_words.specs.Words.{is_named, begins, name_at, closed_at}
 use Rattle.description_words.proofs.Readings.{chosen, bind_err, made_err, err_is, not_err}
@@ -26,38 +27,38 @@ use Rattle.description_spelling.proofs.Items.{MeansOne, MeansSome, one_takes, so
 
 -- what is refused where so many levels may be opened is faulty
 abbrev pub NestedRefuses : DescriptionVersion → ℕ → Type 0
-NestedRefuses v levels = (s : Piece) (e : Fault) → begins 91 s.text ≡ true → nested_at v levels s ≡ Err e → FaultyNested v levels s.index s.text e
+NestedRefuses v levels = (s : Rest) (e : Fault) → begins left_bracket s.text ≡ true → nested_at v levels s ≡ Err e → FaultyNested v levels s.index s.text e
 
-one_refuses : (v : DescriptionVersion) (levels : ℕ) → NestedRefuses v levels → (start : Piece) (e : Fault) → begins 91 start.text ≡ true → nested_at v levels start ≡ Err e → RefusesInside IsNothing (FaultyNested v levels) start e
+one_refuses : (v : DescriptionVersion) (levels : ℕ) → NestedRefuses v levels → (start : Rest) (e : Fault) → begins left_bracket start.text ≡ true → nested_at v levels start ≡ Err e → RefusesInside IsNothing (FaultyNested v levels) start e
 one_refuses v levels refuses start e opens h = record { before = []; bad = start; takes = record { parts = refl; index = omega arith }; is_before = refl; is_bad = refuses start e opens h }
 
-some_refuse : (v : DescriptionVersion) (levels : ℕ) → NestedRefuses v levels → (start : Piece) (e : Fault) → begins 91 start.text ≡ true → read_some v levels start ≡ Err e → RefusesInside (AreBefore v levels) (FaultyNested v levels) start e
+some_refuse : (v : DescriptionVersion) (levels : ℕ) → NestedRefuses v levels → (start : Rest) (e : Fault) → begins left_bracket start.text ≡ true → read_some v levels start ≡ Err e → RefusesInside (AreBefore v levels) (FaultyNested v levels) start e
 some_refuse v levels refuses start e opens h =
     let f : Failing no_bracket (nested_at v levels) start e = many_failing no_bracket (nested_at v levels) (alternatives_shorten v levels) (suc (length start.text)) start e (omega arith) h in
     let a : TakesAlternatives v levels start f.front f.bad = alternatives_take v levels (nested_takes v levels) f.front start f.bad (stops_91 start.text opens) f.steps in
-    let opens_bad : begins 91 f.bad.text ≡ true = flip_false (begins 91 f.bad.text) f.goes_on in
+    let opens_bad : begins left_bracket f.bad.text ≡ true = flip_false (begins left_bracket f.bad.text) f.goes_on in
     record { before = a.own; bad = f.bad; takes = a.takes; is_before = (listed f.front, a.spells); is_bad = refuses f.bad e opens_bad f.fails }
 
-optional_refused : (v : DescriptionVersion) (levels : ℕ) → NestedRefuses v levels → (s name next : Piece) (e : Fault) → begins 91 s.text ≡ true → TakesName (after 1 s) name next → is_named v name.text (codes "optional") ≡ true → optional_at v (nested_at v levels) s.index next ≡ Err e → BadOptional v levels (FaultyNested v levels) s.index s.text e
+optional_refused : (v : DescriptionVersion) (levels : ℕ) → NestedRefuses v levels → (s name next : Rest) (e : Fault) → begins left_bracket s.text ≡ true → TakesName (after 1 s) name next → is_named v name.text (codes "optional") ≡ true → optional_at v (nested_at v levels) s.index next ≡ Err e → BadOptional v levels (FaultyNested v levels) s.index s.text e
 unfolding optional_at
 optional_refused v levels refuses s name next e opens n is_name h =
     nesting_refused v (codes "optional") (codes "whitespace after `optional`") (nested_at v levels) (Optional true) (MeansOne v levels) (IsOne v levels) IsNothing (FaultyNested v levels) (one_takes v levels (nested_takes v levels)) (one_refuses v levels refuses) s name next e opens n is_name h
 
-first_refused : (v : DescriptionVersion) (levels : ℕ) → NestedRefuses v levels → (s name next : Piece) (e : Fault) → begins 91 s.text ≡ true → TakesName (after 1 s) name next → is_named v name.text (codes "first") ≡ true → first_at v (nested_at v levels) s.index next ≡ Err e → BadFirst v levels (FaultyNested v levels) s.index s.text e
+first_refused : (v : DescriptionVersion) (levels : ℕ) → NestedRefuses v levels → (s name next : Rest) (e : Fault) → begins left_bracket s.text ≡ true → TakesName (after 1 s) name next → is_named v name.text (codes "first") ≡ true → first_at v (nested_at v levels) s.index next ≡ Err e → BadFirst v levels (FaultyNested v levels) s.index s.text e
 unfolding first_at
 first_refused v levels refuses s name next e opens n is_name h =
     nesting_refused v (codes "first") (codes "whitespace after `first`") (read_some v levels) first_of_list (MeansSome v levels) (AreSome v levels) (AreBefore v levels) (FaultyNested v levels) (some_take v levels (nested_takes v levels)) (some_refuse v levels refuses) s name next e opens n is_name h
 
-single_of : (v : DescriptionVersion) (s : Piece) → begins 91 s.text ≡ true → doubled_at v s ≡ None → IsSingle v (after 1 s).text
+single_of : (v : DescriptionVersion) (s : Rest) → begins left_bracket s.text ≡ true → doubled_at v s ≡ None → IsSingle v (after 1 s).text
 unfolding doubled_at
 single_of One s opens e =
-    let it : List ℕ × Piece = (take 1 (after 1 s).text, after 1 (after 1 s)) in
-    elim (chosen (begins 91 s.text && begins 91 (after 1 s).text) (Some it) None None e) [
+    let it : List ℕ × Rest = (take 1 (after 1 s).text, after 1 (after 1 s)) in
+    elim (chosen (begins left_bracket s.text && begins left_bracket (after 1 s).text) (Some it) None None e) [
       | inl h ↦ absurd (some_not it h.1)
-      | inr h ↦ second (begins 91 s.text) (begins 91 (after 1 s).text) opens h.0
+      | inr h ↦ second (begins left_bracket s.text) (begins left_bracket (after 1 s).text) opens h.0
     ]
   where
-    some_not : (a : List ℕ × Piece) → Some a ≡ None → ⊥
+    some_not : (a : List ℕ × Rest) → Some a ≡ None → ⊥
     some_not a e = cc
 
     second : (a b : Bool) → a ≡ true → (a && b) ≡ false → b ≡ false
@@ -66,16 +67,16 @@ single_of One s opens e =
 single_of Two s opens e = tt
 single_of Three s opens e = tt
 
-bracket_refused : (v : DescriptionVersion) (levels : ℕ) → NestedRefuses v levels → (s : Piece) (e : Fault) → begins 91 s.text ≡ true → doubled_at v s ≡ None → bracket_at v (nested_at v levels) s ≡ Err e → BadItem v levels (FaultyNested v levels) s.index s.text e
+bracket_refused : (v : DescriptionVersion) (levels : ℕ) → NestedRefuses v levels → (s : Rest) (e : Fault) → begins left_bracket s.text ≡ true → doubled_at v s ≡ None → bracket_at v (nested_at v levels) s ≡ Err e → BadItem v levels (FaultyNested v levels) s.index s.text e
 unfolding bracket_at
 bracket_refused v levels refuses s e opens single h =
     elim (bind_err (name_at s.index (after 1 s)) (named_item v (nested_at v levels) s.index) e h) [
       | inl a ↦
           let g = name_refused s.index (after 1 s) e refl a in
           inr (inl (record {
-            space = (run is_space (after 1 s)).text;
+            blank = (run is_space (after 1 s)).text;
             rest = (past is_space (after 1 s)).text;
-            parts = begins_cons 91 s.text opens ∙ ap (λ (t : List ℕ). 91 ∷ t) g.0;
+            parts = begins_cons left_bracket s.text opens ∙ ap (λ (t : List ℕ). left_bracket ∷ t) g.0;
             single = subst (IsSingle v) g.0 (single_of v s opens single);
             spaces = each_run is_space (after 1 s).text;
             no_space = stops_past is_space (after 1 s).text;
@@ -98,19 +99,19 @@ bracket_refused v levels refuses s e opens single h =
           ]
     ]
 
-element_refused : (v : DescriptionVersion) (levels : ℕ) → NestedRefuses v levels → (s : Piece) (e : Fault) → element_at v (nested_at v levels) s ≡ Err e → BadItem v levels (FaultyNested v levels) s.index s.text e
+element_refused : (v : DescriptionVersion) (levels : ℕ) → NestedRefuses v levels → (s : Rest) (e : Fault) → element_at v (nested_at v levels) s ≡ Err e → BadItem v levels (FaultyNested v levels) s.index s.text e
 unfolding element_at
 element_refused v levels refuses s e h = by_doubled (doubled_at v s) refl h
   where
-    by_doubled : (d : Option (List ℕ × Piece)) → doubled_at v s ≡ d → literal_or d (cond (begins 91 s.text) (bracket_at v (nested_at v levels) s) (text_at v s >>= λ x. Ok (Literal x.0, x.1))) ≡ Err e → BadItem v levels (FaultyNested v levels) s.index s.text e
+    by_doubled : (d : Option (List ℕ × Rest)) → doubled_at v s ≡ d → literal_or d (cond (begins left_bracket s.text) (bracket_at v (nested_at v levels) s) (text_at v s >>= λ x. Ok (Literal x.0, x.1))) ≡ Err e → BadItem v levels (FaultyNested v levels) s.index s.text e
     by_doubled (Some y) is_d h = absurd (not_err (Literal y.0, y.1) e h)
     by_doubled None is_d h =
-        elim (chosen (begins 91 s.text) (bracket_at v (nested_at v levels) s) (text_at v s >>= λ x. Ok (Literal x.0, x.1)) (Err e) h) [
+        elim (chosen (begins left_bracket s.text) (bracket_at v (nested_at v levels) s) (text_at v s >>= λ x. Ok (Literal x.0, x.1)) (Err e) h) [
           | inl g ↦ bracket_refused v levels refuses s e g.0 is_d g.1
           | inr g ↦ inl (text_refused v s e (made_err (text_at v s) (λ x. (Literal x.0, x.1)) e g.1))
         ]
 
-items_refused : (v : DescriptionVersion) (inner : Bool) (levels : ℕ) → NestedRefuses v levels → (s : Piece) (e : Fault) → many (is_end inner) (element_at v (nested_at v levels)) (suc (length s.text)) s ≡ Err e → FaultyItems v inner levels (FaultyNested v levels) s.index s.text e
+items_refused : (v : DescriptionVersion) (inner : Bool) (levels : ℕ) → NestedRefuses v levels → (s : Rest) (e : Fault) → many (is_end inner) (element_at v (nested_at v levels)) (suc (length s.text)) s ≡ Err e → FaultyItems v inner levels (FaultyNested v levels) s.index s.text e
 items_refused v inner levels refuses s e h =
     let step = element_at v (nested_at v levels) in
     let f : Failing (is_end inner) step s e = many_failing (is_end inner) step (items_shorten v inner levels) (suc (length s.text)) s e (omega arith) h in
@@ -126,18 +127,18 @@ items_refused v inner levels refuses s e h =
 
 nested_refused : (v : DescriptionVersion) (levels : ℕ) → NestedRefuses v levels
 unfolding nested_at FaultyNested
-nested_refused v zero s e opens h = (drop 1 s.text, begins_cons 91 s.text opens, sym (err_is {A = Tree × Piece} _ e h))
+nested_refused v zero s e opens h = (drop 1 s.text, begins_cons left_bracket s.text opens, sym (err_is {A = Tree × Rest} _ e h))
 nested_refused v (suc levels) s e opens h =
     let step = element_at v (nested_at v levels) in (
       drop 1 s.text,
-      begins_cons 91 s.text opens,
+      begins_cons left_bracket s.text opens,
       elim (bind_err (many (is_end true) step (suc (length (after 1 s).text)) (after 1 s)) (λ items. closed_at s.index items.1 >>= λ rest. Ok (Compound (listed items.0), past is_space rest)) e h) [
         | inl a ↦ inl (items_refused v true levels (nested_refused v levels) (after 1 s) e a)
         | inr a ↦
             let open_still = closed_refused s.index a.0.1 e (made_err (closed_at s.index a.0.1) (λ rest. (Compound (listed a.0.0), past is_space rest)) e a.2) in
             let read = many_steps (is_end true) step (items_shorten v true levels) (suc (length (after 1 s).text)) (after 1 s) a.0 (omega arith) a.1 in
             let items : TakesItems v true levels (after 1 s) a.0.0 a.0.1 = items_take v true levels (nested_takes v levels) a.0.0 (after 1 s) a.0.1 read.0 in
-            let ended : a.0.1.text ≡ [] = nil_from_length a.0.1.text (eqb-true _ _ (at_the_end (eqb (length a.0.1.text) 0) (begins 93 a.0.1.text) read.1 open_still.0)) in
+            let ended : a.0.1.text ≡ [] = nil_from_length a.0.1.text (eqb-true _ _ (at_the_end (eqb (length a.0.1.text) 0) (begins right_bracket a.0.1.text) read.1 open_still.0)) in
             let all : items.own ≡ drop 1 s.text = sym (append-nil items.own) ∙ ap (λ (t : List ℕ). items.own ++ t) (sym ended) ∙ sym items.takes.parts in
             inr (listed a.0.0, subst (λ (t : List ℕ). SpellsItems v true levels t (listed a.0.0)) all items.spells, open_still.1)
       ],

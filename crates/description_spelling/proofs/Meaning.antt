@@ -1,12 +1,13 @@
 -- Where a component stands does not change what it means.
 use Rattle.std.proofs.Common.{◌≡◌, ℕ, ◌+◌, List, [], ◌∷◌, ◌++◌, length, Option, Some, None, Result, Ok, Err, not, cond, refl, subst, ◌∙◌, inl, inr}
 use Rattle.std.specs.Prelude.{◌&&◌, codes}
+use Rattle.byte_names.specs.Bytes.{right_bracket}
 use Rattle.description_faults.specs.Fault.{Fault, InvalidComponentName, MissingRequiredModifier, DuplicateModifier, InvalidModifierCombination}
 use Rattle.description_faults.specs.Answer.{◌>>=◌}
 use Rattle.description_items.specs.declared.component.Component.{Component}
 use Rattle.description_words.specs.declared.version.DescriptionVersion.{DescriptionVersion}
 use Rattle.description_words.specs.Version.{is_three}
-use Rattle.description_words.specs.Text.{Piece}
+use Rattle.description_words.specs.Text.{Rest}
 use Rattle.description_words.specs.Words.{Modifier}
 use Rattle.description_words.proofs.Readings.{bind_ok, not_ok, chosen, and_then_ok}
 use Rattle.description_tables.specs.declared.names.Name.{Name}
@@ -44,7 +45,7 @@ among_moved (Some j) n f g k e =
       | inr h ↦ absurd (not_ok f k h.1)
     ]
 
-key_moved : (v : DescriptionVersion) (n : Name) (p q : Piece) (k : Key) → key_of v p.text ≡ key_of v q.text → key_in v n p ≡ Ok k → key_in v n q ≡ Ok k
+key_moved : (v : DescriptionVersion) (n : Name) (p q : Rest) (k : Key) → key_of v p.text ≡ key_of v q.text → key_in v n p ≡ Ok k → key_in v n q ≡ Ok k
 key_moved v n p q k same e = subst (λ (o : Option Key). key_among o n (bad q) ≡ Ok k) same (among_moved (key_of v p.text) n (bad p) (bad q) k e)
 
 modifier_moved : (v : DescriptionVersion) (n : Name) (c d : Chosen) (l m : Modifier) → AreAlike v l m → with_modifier v n c l ≡ Ok d → with_modifier v n c m ≡ Ok d
@@ -86,14 +87,14 @@ combined_moved v n c d (l ∷ ls) (m ∷ ms) same e =
           ∙ combined_moved v n c d ls ms same.1 h.1
     ]
 
-named_moved : (v : DescriptionVersion) (p q : Piece) (n : Name) → name_of v p.text ≡ name_of v q.text → named v p ≡ Ok n → named v q ≡ Ok n
+named_moved : (v : DescriptionVersion) (p q : Rest) (n : Name) → name_of v p.text ≡ name_of v q.text → named v p ≡ Ok n → named v q ≡ Ok n
 unfolding named
 named_moved v p q n same e = subst (λ (o : Option Name). found o (InvalidComponentName q.text q.index) ≡ Ok n) same (found_moved (name_of v p.text) (InvalidComponentName p.text p.index) (InvalidComponentName q.text q.index) n e)
 
-pub component_moved : (v : DescriptionVersion) (p q : Piece) (ls ms : List Modifier) (c : Component) → name_of v p.text ≡ name_of v q.text → AllAlike v ls ms → component_of v p ls ≡ Ok c → component_of v q ms ≡ Ok c
+pub component_moved : (v : DescriptionVersion) (p q : Rest) (ls ms : List Modifier) (c : Component) → name_of v p.text ≡ name_of v q.text → AllAlike v ls ms → component_of v p ls ≡ Ok c → component_of v q ms ≡ Ok c
 unfolding component_of
 component_moved v p q ls ms c same all e =
-    let lacking : Piece → Fault = λ word. MissingRequiredModifier (codes "count") word.index in
+    let lacking : Rest → Fault = λ word. MissingRequiredModifier (codes "count") word.index in
     let a = bind_ok (named v p) (λ n. with_modifiers v n nothing ls >>= λ c. combined v n c ls >>= λ d. found (made v n d) (lacking p)) c e in
     let b = bind_ok (with_modifiers v a.0 nothing ls) (λ c. combined v a.0 c ls >>= λ d. found (made v a.0 d) (lacking p)) c a.2 in
     let d = bind_ok (combined v a.0 b.0 ls) (λ d. found (made v a.0 d) (lacking p)) c b.2 in
@@ -113,13 +114,13 @@ words_elsewhere : (v : DescriptionVersion) (ms : List Modifier) (at to : ℕ) (o
 words_elsewhere v [] at to own e = record { others = []; spells = e; same = tt }
 words_elsewhere v (m ∷ ms) at to own (first, rest, parts, one, more) =
     let others : WordsElsewhere v (to + length first) rest ms = words_elsewhere v ms (at + length first) (to + length first) rest more in
-    let here : Modifier = record { key = at_index (to + length one.space) m.key.text; value = at_index (to + length one.space + length m.key.text + 1) m.value.text } in
-    let spelled : SpellsModifier to first here = record { space = one.space; parts = one.parts; is_space = one.is_space; some_space = one.some_space; is_key = one.is_key; no_colon = one.no_colon; is_value = one.is_value; key_at = refl; value_at = refl } in
+    let here : Modifier = record { key = at_index (to + length one.blank) m.key.text; value = at_index (to + length one.blank + length m.key.text + 1) m.value.text } in
+    let spelled : SpellsModifier to first here = record { blank = one.blank; parts = one.parts; is_space = one.is_space; some_space = one.some_space; is_key = one.is_key; no_colon = one.no_colon; is_value = one.is_value; key_at = refl; value_at = refl } in
     record { others = here ∷ others.others; spells = (first, rest, parts, spelled, others.spells); same = (record { key = refl; value = λ x c k. refl }, others.same) }
 
 -- a head with the component that it means, elsewhere
 pub record MeansAt (v : DescriptionVersion) (at : ℕ) (head : List ℕ) (c : Component) : Type 0 where
-  pub name : Piece
+  pub name : Rest
   pub modifiers : List Modifier
   pub is_head : SpellsHead v at head name modifiers
   pub means : component_of v name modifiers ≡ Ok c
@@ -128,7 +129,7 @@ pub means_elsewhere : (v : DescriptionVersion) (at to : ℕ) (head : List ℕ) (
 means_elsewhere v at to head c h =
     let g = h.is_head in
     let words : WordsElsewhere v (to + 1 + length g.first + length h.name.text) g.middle h.modifiers = words_elsewhere v h.modifiers (at + 1 + length g.first + length h.name.text) (to + 1 + length g.first + length h.name.text) g.middle g.modifiers in
-    let name : Piece = at_index (to + 1 + length g.first) h.name.text in
+    let name : Rest = at_index (to + 1 + length g.first) h.name.text in
     record {
       name = name;
       modifiers = words.others;
@@ -140,7 +141,7 @@ means_elsewhere v at to head c h =
 pub component_at : (v : DescriptionVersion) (at : ℕ) (own : List ℕ) (c : Component) (h : SpellsComponent v own c) → MeansAt v at h.head c
 component_at v at own c h = means_elsewhere v 0 at h.head c (record { name = h.name; modifiers = h.modifiers; is_head = h.is_head; means = h.means })
 
-pub component_spelled : (v : DescriptionVersion) (at : ℕ) (head : List ℕ) (c : Component) → MeansAt v at head c → SpellsComponent v (head ++ 93 ∷ []) c
+pub component_spelled : (v : DescriptionVersion) (at : ℕ) (head : List ℕ) (c : Component) → MeansAt v at head c → SpellsComponent v (head ++ right_bracket ∷ []) c
 component_spelled v at head c h =
     let g : MeansAt v 0 head c = means_elsewhere v at 0 head c h in
     record { head = head; name = g.name; modifiers = g.modifiers; parts = refl; is_head = g.is_head; means = g.means }

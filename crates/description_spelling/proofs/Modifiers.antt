@@ -6,8 +6,9 @@ use Rattle.std.proofs.lemmas.List.Folds.{length-prefix_len}
 use Rattle.std.proofs.lemmas.List.Sums.{prefix_len-le-length}
 use Rattle.std.proofs.lemmas.Bool.{eqb-true}
 use Rattle.std.proofs.lemmas.Bool.Decides.{nat_tests}
+use Rattle.byte_names.specs.Bytes.{colon}
 use Rattle.description_faults.specs.Fault.{Fault, InvalidModifier}
-use Rattle.description_words.specs.Text.{Piece, is_space, is_word_byte, is_no_colon, run, past, after}
+use Rattle.description_words.specs.Text.{Rest, is_space, is_word_byte, is_no_colon, run, past, after}
 use Rattle.description_words.specs.Many.{many}
 use Rattle.description_words.specs.Words.{Modifier, has_word, modifier_in, modifier_at, no_modifier, modifiers_at}
 use Rattle.description_words.proofs.Readings.{bind_ok, ok_is, made_err}
@@ -22,29 +23,29 @@ use Rattle.description_words.proofs.Steps.{Steps, many_steps, many_failing, Fail
 -- ---- one modifier
 
 -- the colon at which a word is cut
-colon_there : (s : List ℕ) → prefix_len is_no_colon s < length s → drop (prefix_len is_no_colon s) s ≡ 58 ∷ drop (prefix_len is_no_colon s + 1) s
+colon_there : (s : List ℕ) → prefix_len is_no_colon s < length s → drop (prefix_len is_no_colon s) s ≡ colon ∷ drop (prefix_len is_no_colon s + 1) s
 colon_there s lt = at_stop (prefix_len is_no_colon s) s (stops_past is_no_colon s) lt
   where
-    colon : (b : ℕ) → is_no_colon b ≡ false → b ≡ 58
-    colon b h = grind (arith, nat_tests)
+    is_colon : (b : ℕ) → is_no_colon b ≡ false → b ≡ colon
+    is_colon b h = grind (arith, nat_tests)
 
-    at_stop : (n : ℕ) (s : List ℕ) → Stops is_no_colon (drop n s) → n < length s → drop n s ≡ 58 ∷ drop (n + 1) s
+    at_stop : (n : ℕ) (s : List ℕ) → Stops is_no_colon (drop n s) → n < length s → drop n s ≡ colon ∷ drop (n + 1) s
     at_stop zero [] stops lt = absurd (omega arith)
-    at_stop zero (b ∷ bs) stops lt = rw (colon b stops) refl
+    at_stop zero (b ∷ bs) stops lt = rw (is_colon b stops) refl
     at_stop (suc n) [] stops lt = absurd (omega arith)
     at_stop (suc n) (b ∷ bs) stops lt =
         let one : suc n + 1 ≡ suc (n + 1) = omega arith in rw one (at_stop n bs stops (omega arith))
 
 -- a word that is a modifier
-record IsModifierWord (s : Piece) (m : Modifier) : Type 0 where
-  parts : s.text ≡ m.key.text ++ 58 ∷ m.value.text
+record IsModifierWord (s : Rest) (m : Modifier) : Type 0 where
+  parts : s.text ≡ m.key.text ++ colon ∷ m.value.text
   is_key : IsWord m.key.text
   no_colon : Each is_no_colon m.key.text
   is_value : IsWord m.value.text
   key_at : m.key.index ≡ s.index
   value_at : m.value.index ≡ s.index + length m.key.text + 1
 
-modifier_takes : (s : Piece) (m : Modifier) → Each is_word_byte s.text → modifier_in s ≡ Ok m → IsModifierWord s m
+modifier_takes : (s : Rest) (m : Modifier) → Each is_word_byte s.text → modifier_in s ≡ Ok m → IsModifierWord s m
 unfolding modifier_in
 modifier_takes s m each e =
     let k : ℕ = prefix_len is_no_colon s.text in
@@ -53,7 +54,7 @@ modifier_takes s m each e =
     let some : 0 < k = above k g.1 in
     let more : k + 1 < length s.text = lt_of (k + 1) (length s.text) (omega arith) g.2 in
     let len : length (take k s.text) ≡ k = length-prefix_len is_no_colon s.text in
-    let parts : s.text ≡ take k s.text ++ 58 ∷ drop (k + 1) s.text = sym (take-append-drop k s.text) ∙ ap (λ (t : List ℕ). take k s.text ++ t) (colon_there s.text lt) in
+    let parts : s.text ≡ take k s.text ++ colon ∷ drop (k + 1) s.text = sym (take-append-drop k s.text) ∙ ap (λ (t : List ℕ). take k s.text ++ t) (colon_there s.text lt) in
     let word : IsModifierWord s (record { key = run is_no_colon s; value = after (k + 1) s }) = record {
       parts = parts;
       is_key = (omega (arith, len), each_of_take is_word_byte k s.text each);
@@ -64,7 +65,7 @@ modifier_takes s m each e =
     } in
     subst (IsModifierWord s) g.3 word
 
-word_refused : (s : Piece) (e : Fault) → modifier_in s ≡ Err e → BadWord s.index s.text e
+word_refused : (s : Rest) (e : Fault) → modifier_in s ≡ Err e → BadWord s.index s.text e
 unfolding modifier_in
 word_refused s e h =
     let k : ℕ = prefix_len is_no_colon s.text in
@@ -75,18 +76,18 @@ word_refused s e h =
         | inl g ↦
             let zero_is : k ≡ 0 = eqb-true _ _ g.1 in
             let lt : k < length s.text = lt_of k (length s.text) le g.0 in
-            let cut : drop k s.text ≡ 58 ∷ drop (k + 1) s.text = colon_there s.text lt in
+            let cut : drop k s.text ≡ colon ∷ drop (k + 1) s.text = colon_there s.text lt in
             inr (inl (drop (k + 1) s.text, ap (λ (n : ℕ). drop n s.text) (sym zero_is) ∙ cut, sym g.2))
         | inr g ↦
             let lt : k < length s.text = lt_of k (length s.text) le g.0 in
             let last : k + 1 ≡ length s.text = eqb-true _ _ g.2 in
-            let cut : drop k s.text ≡ 58 ∷ drop (k + 1) s.text = colon_there s.text lt in
+            let cut : drop k s.text ≡ colon ∷ drop (k + 1) s.text = colon_there s.text lt in
             let ends : drop (k + 1) s.text ≡ [] = nil_from_length _ (omega (arith, length-drop (k + 1) s.text)) in
             inr (inr (
               take k s.text,
               omega (arith, length-prefix_len is_no_colon s.text, above k g.1),
               each_run is_no_colon s.text,
-              sym (take-append-drop k s.text) ∙ ap (λ (t : List ℕ). take k s.text ++ t) (cut ∙ ap (λ (t : List ℕ). 58 ∷ t) ends),
+              sym (take-append-drop k s.text) ∙ ap (λ (t : List ℕ). take k s.text ++ t) (cut ∙ ap (λ (t : List ℕ). colon ∷ t) ends),
               sym g.3,
             ))
       ]
@@ -94,14 +95,14 @@ word_refused s e h =
 
 -- ---- words behind white space
 
-pub none_there : (s : Piece) → has_word s ≡ false → prefix_len is_word_byte s.text ≡ 0
+pub none_there : (s : Rest) → has_word s ≡ false → prefix_len is_word_byte s.text ≡ 0
 none_there s h = grind (arith, nat_tests)
 
-pub some_there : (s : Piece) → has_word s ≡ true → 0 < prefix_len is_word_byte s.text
+pub some_there : (s : Rest) → has_word s ≡ true → 0 < prefix_len is_word_byte s.text
 some_there s h = grind (arith, nat_tests)
 
 -- where no word byte stands, white space comes before a word
-space_before : (s : Piece) → Stops is_word_byte s.text → has_word (past is_space s) ≡ true → 0 < length (run is_space s).text
+space_before : (s : Rest) → Stops is_word_byte s.text → has_word (past is_space s) ≡ true → 0 < length (run is_space s).text
 space_before s stops h = none_or_some (prefix_len is_space s.text) refl
   where
     none_or_some : (n : ℕ) → n ≡ prefix_len is_space s.text → 0 < length (run is_space s).text
@@ -112,19 +113,19 @@ space_before s stops h = none_or_some (prefix_len is_space s.text) refl
     none_or_some (suc n) e = omega (arith, length-prefix_len is_space s.text)
 
 -- a word behind white space, with what follows it
-word_takes : (s : Piece) → Takes s ((run is_space s).text ++ (run is_word_byte (past is_space s)).text) (past is_word_byte (past is_space s))
+word_takes : (s : Rest) → Takes s ((run is_space s).text ++ (run is_word_byte (past is_space s)).text) (past is_word_byte (past is_space s))
 word_takes s = takes_then s (run is_space s).text (past is_space s) (run is_word_byte (past is_space s)).text (past is_word_byte (past is_space s)) (takes_run is_space s) (takes_run is_word_byte (past is_space s))
 
 -- ---- modifiers
 
 -- steps over modifiers
-record TakesWords (s : Piece) (ms : List Modifier) (rest : Piece) : Type 0 where
+record TakesWords (s : Rest) (ms : List Modifier) (rest : Rest) : Type 0 where
   own : List ℕ
   takes : Takes s own rest
   spells : SpellsModifiers s.index own ms
   no_word : Stops is_word_byte rest.text
 
-one_more : (s : Piece) (m : Modifier) (ms : List Modifier) (rest : Piece) → Stops is_word_byte s.text → has_word (past is_space s) ≡ true → modifier_in (run is_word_byte (past is_space s)) ≡ Ok m
+one_more : (s : Rest) (m : Modifier) (ms : List Modifier) (rest : Rest) → Stops is_word_byte s.text → has_word (past is_space s) ≡ true → modifier_in (run is_word_byte (past is_space s)) ≡ Ok m
     → TakesWords (past is_word_byte (past is_space s)) ms rest → TakesWords s (m ∷ ms) rest
 one_more s m ms rest stops there is_m others = record {
   own = first ++ others.own;
@@ -133,22 +134,22 @@ one_more s m ms rest stops there is_m others = record {
   no_word = others.no_word;
 }
   where
-    space : List ℕ
-    space = (run is_space s).text
+    blank : List ℕ
+    blank = (run is_space s).text
 
-    word : Piece
+    word : Rest
     word = run is_word_byte (past is_space s)
 
     first : List ℕ
-    first = space ++ word.text
+    first = blank ++ word.text
 
     word_is : IsModifierWord word m
     word_is = modifier_takes word m (each_run is_word_byte (past is_space s).text) is_m
 
     modifier : SpellsModifier s.index first m
     modifier = record {
-      space = space;
-      parts = ap (λ (t : List ℕ). space ++ t) word_is.parts;
+      blank = blank;
+      parts = ap (λ (t : List ℕ). blank ++ t) word_is.parts;
       is_space = each_run is_space s.text;
       some_space = space_before s stops there;
       is_key = word_is.is_key;
@@ -158,23 +159,23 @@ one_more s m ms rest stops there is_m others = record {
       value_at = omega (arith, word_is.value_at, past_index is_space s);
     }
 
-steps_take : (s : Piece) (ms : List Modifier) (rest : Piece) → Stops is_word_byte s.text → Steps no_modifier modifier_at s ms rest → TakesWords s ms rest
+steps_take : (s : Rest) (ms : List Modifier) (rest : Rest) → Stops is_word_byte s.text → Steps no_modifier modifier_at s ms rest → TakesWords s ms rest
 unfolding modifier_at
-steps_take s [] rest stops e = subst (λ (r : Piece). TakesWords s [] r) e (record { own = []; takes = record { parts = refl; index = omega arith }; spells = refl; no_word = stops })
+steps_take s [] rest stops e = subst (λ (r : Rest). TakesWords s [] r) e (record { own = []; takes = record { parts = refl; index = omega arith }; spells = refl; no_word = stops })
 steps_take s (m ∷ ms) rest stops (next, goes, is_m, more) =
-    let after_word : Piece = past is_word_byte (past is_space s) in
+    let after_word : Rest = past is_word_byte (past is_space s) in
     let a = bind_ok (modifier_in (run is_word_byte (past is_space s))) (λ m. Ok (m, after_word)) (m, next) is_m in
     let same = ok_is (a.0, after_word) (m, next) a.2 in
-    let same_m : a.0 ≡ m = ap (λ (x : Modifier × Piece). x.0) same in
-    let same_next : next ≡ after_word = sym (ap (λ (x : Modifier × Piece). x.1) same) in
-    let others : TakesWords after_word ms rest = steps_take after_word ms rest (stops_past is_word_byte (past is_space s).text) (subst (λ (p : Piece). Steps no_modifier modifier_at p ms rest) same_next more) in
+    let same_m : a.0 ≡ m = ap (λ (x : Modifier × Rest). x.0) same in
+    let same_next : next ≡ after_word = sym (ap (λ (x : Modifier × Rest). x.1) same) in
+    let others : TakesWords after_word ms rest = steps_take after_word ms rest (stops_past is_word_byte (past is_space s).text) (subst (λ (p : Rest). Steps no_modifier modifier_at p ms rest) same_next more) in
     one_more s m ms rest stops (flip_false _ goes) (a.1 ∙ ap (λ (m : Modifier). ok_modifier m) same_m) others
   where
     ok_modifier : Modifier → Result Modifier Fault
     ok_modifier m = Ok m
 
 -- what reading modifiers took
-pub record TakesModifiers (s : Piece) (ms : List Modifier) (rest : Piece) : Type 0 where
+pub record TakesModifiers (s : Rest) (ms : List Modifier) (rest : Rest) : Type 0 where
   pub own : List ℕ
   pub last : List ℕ
   pub takes : Takes s (own ++ last) rest
@@ -183,7 +184,7 @@ pub record TakesModifiers (s : Piece) (ms : List Modifier) (rest : Piece) : Type
   pub no_space : Stops is_space rest.text
   pub no_word : Stops is_word_byte rest.text
 
-pub modifiers_take : (s : Piece) (x : List Modifier × Piece) → Stops is_word_byte s.text → modifiers_at s ≡ Ok x → TakesModifiers s x.0 x.1
+pub modifiers_take : (s : Rest) (x : List Modifier × Rest) → Stops is_word_byte s.text → modifiers_at s ≡ Ok x → TakesModifiers s x.0 x.1
 unfolding modifiers_at
 modifiers_take s x stops e =
     let a = bind_ok (many no_modifier modifier_at (suc (length s.text)) s) (λ all. Ok (all.0, past is_space all.1)) x e in
@@ -191,7 +192,7 @@ modifiers_take s x stops e =
     let words : TakesWords s a.0.0 a.0.1 = steps_take s a.0.0 a.0.1 stops read.0 in
     let last : List ℕ = (run is_space a.0.1).text in
     let none : has_word (past is_space a.0.1) ≡ false = flip_true _ read.1 in
-    subst (λ (y : List Modifier × Piece). TakesModifiers s y.0 y.1) (ok_is (a.0.0, past is_space a.0.1) x a.2) (record {
+    subst (λ (y : List Modifier × Rest). TakesModifiers s y.0 y.1) (ok_is (a.0.0, past is_space a.0.1) x a.2) (record {
       own = words.own;
       last = last;
       takes = takes_then s words.own a.0.1 last (past is_space a.0.1) words.takes (takes_run is_space a.0.1);
@@ -202,7 +203,7 @@ modifiers_take s x stops e =
     })
 
 -- what stands before a word that is no modifier
-pub record Refuses (s : Piece) (e : Fault) : Type 0 where
+pub record Refuses (s : Rest) (e : Fault) : Type 0 where
   pub ms : List Modifier
   pub own : List ℕ
   pub last : List ℕ
@@ -216,13 +217,13 @@ pub record Refuses (s : Piece) (e : Fault) : Type 0 where
   pub no_word : Stops is_word_byte rest
   pub bad : BadWord (s.index + length own + length last) word e
 
-pub modifiers_refused : (s : Piece) (e : Fault) → Stops is_word_byte s.text → modifiers_at s ≡ Err e → Refuses s e
+pub modifiers_refused : (s : Rest) (e : Fault) → Stops is_word_byte s.text → modifiers_at s ≡ Err e → Refuses s e
 unfolding modifiers_at modifier_at
 modifiers_refused s e stops h =
     let f : Failing no_modifier modifier_at s e = many_failing no_modifier modifier_at modifier_lt (suc (length s.text)) s e (omega arith) (made_err (many no_modifier modifier_at (suc (length s.text)) s) (λ all. (all.0, past is_space all.1)) e h) in
     let words : TakesWords s f.front f.bad = steps_take s f.front f.bad stops f.steps in
-    let start : Piece = past is_space f.bad in
-    let word : Piece = run is_word_byte start in
+    let start : Rest = past is_space f.bad in
+    let word : Rest = run is_word_byte start in
     let there : has_word start ≡ true = flip_false _ f.goes_on in
     let is_bad : modifier_in word ≡ Err e = made_err (modifier_in word) (λ m. (m, past is_word_byte start)) e f.fails in
     record {

@@ -4,11 +4,11 @@ use Rattle.std.specs.List.{prefix_len}
 use Rattle.std.proofs.lemmas.List.{take-append-drop, take_at, drop_at}
 use Rattle.std.proofs.lemmas.List.Folds.{length-prefix_len}
 use Rattle.std.proofs.lemmas.Bool.Decides.{nat_tests}
-use Rattle.description_words.specs.Text.{Piece, is_space, is_word_byte, run, past}
+use Rattle.description_words.specs.Text.{Rest, is_space, is_word_byte, run, past}
 use Rattle.description_spelling.specs.Heads.{Each, Stops}
 pub use Rattle.description_words.proofs.Fronts.{which, each_run, stops_past, run_again}
 
--- the pieces of a run again
+-- the parts of a run again
 pub run_is : (p : ℕ → Bool) (at : ℕ) (xs rest : List ℕ) → Each p xs → Stops p rest → run p (record { index = at; text = xs ++ rest }) ≡ record { index = at; text = xs }
 run_is p at xs rest each stops = rw (run_again p xs rest each stops, take_at xs rest (length xs) refl) refl
 
@@ -31,15 +31,15 @@ word_stops [] rest each stops = stops
 word_stops (b ∷ bs) rest each stops = no_word b each.0
 
 -- a run's end is the next one's beginning
-pub cut_run : (p : ℕ → Bool) (s : Piece) → s.text ≡ (run p s).text ++ (past p s).text
+pub cut_run : (p : ℕ → Bool) (s : Rest) → s.text ≡ (run p s).text ++ (past p s).text
 cut_run p s = sym (take-append-drop (prefix_len p s.text) s.text)
 
-pub past_index : (p : ℕ → Bool) (s : Piece) → (past p s).index ≡ s.index + length (run p s).text
+pub past_index : (p : ℕ → Bool) (s : Rest) → (past p s).index ≡ s.index + length (run p s).text
 past_index p s = ap (λ (n : ℕ). s.index + n) (sym (length-prefix_len p s.text))
 
--- ---- pieces by their index
+-- ---- rests by their index
 
-abbrev pub at_index : ℕ → List ℕ → Piece
+abbrev pub at_index : ℕ → List ℕ → Rest
 at_index i t = record { index = i; text = t }
 
 pub same_index : (i j : ℕ) (t : List ℕ) → i ≡ j → at_index i t ≡ at_index j t

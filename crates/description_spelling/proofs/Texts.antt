@@ -5,11 +5,12 @@ use Rattle.std.specs.List.{prefix_len}
 use Rattle.std.proofs.lemmas.List.{take-append-drop, take_at, drop_at}
 use Rattle.std.proofs.lemmas.List.Folds.{length-prefix_len}
 use Rattle.std.proofs.lemmas.Bool.Decides.{nat_tests}
+use Rattle.byte_names.specs.Bytes.{left_bracket, backslash, right_bracket}
 use Rattle.description_faults.specs.Fault.{Fault, Expected}
 use Rattle.description_words.specs.declared.version.DescriptionVersion.{DescriptionVersion}
 use Rattle.description_words.specs.declared.version.DescriptionVersion.TheVariants.{One, Two, Three}
 use Rattle.description_words.specs.Version.{is_one}
-use Rattle.description_words.specs.Text.{Piece, is_plain, after}
+use Rattle.description_words.specs.Text.{Rest, is_plain, after}
 use Rattle.description_words.specs.Words.{begins, is_escape, escape_at, literal_len}
 use Rattle.description_words.proofs.Readings.{ok_is, not_ok, chosen, err_is, not_err}
 use Rattle.description_reading.specs.Reading.{doubled_at, text_at}
@@ -42,33 +43,33 @@ text_some Three inner own more bytes (inr h) = omega (arith, ap (length {A = ℕ
 
 -- ---- what is read is spelled so
 
-pub record TakesText (v : DescriptionVersion) (inner : Bool) (s : Piece) (bytes : List ℕ) (rest : Piece) : Type 0 where
+pub record TakesText (v : DescriptionVersion) (inner : Bool) (s : Rest) (bytes : List ℕ) (rest : Rest) : Type 0 where
   pub own : List ℕ
   pub takes : Takes s own rest
   pub spells : SpellsText v inner own rest.text bytes
 
 -- a first byte that is taken, and one after it
-two_bytes : (a b : ℕ) (s : Piece) → begins a s.text ≡ true → begins b (after 1 s).text ≡ true → Takes s (a ∷ b ∷ []) (after 1 (after 1 s)) × (take 1 (after 1 s).text ≡ b ∷ [])
+two_bytes : (a b : ℕ) (s : Rest) → begins a s.text ≡ true → begins b (after 1 s).text ≡ true → Takes s (a ∷ b ∷ []) (after 1 (after 1 s)) × (take 1 (after 1 s).text ≡ b ∷ [])
 two_bytes a b s h k =
     (takes_then s (a ∷ []) (after 1 s) (b ∷ []) (after 1 (after 1 s)) (takes_byte a s h) (takes_byte b (after 1 s) k), ap (take {A = ℕ} 1) (begins_cons b (after 1 s).text k))
 
-escaped : (v : DescriptionVersion) (inner : Bool) (s : Piece) (b : ℕ) → is_one v ≡ false → IsEscapable b → begins 92 s.text ≡ true → begins b (after 1 s).text ≡ true → TakesText v inner s (take 1 (after 1 s).text) (after 1 (after 1 s))
+escaped : (v : DescriptionVersion) (inner : Bool) (s : Rest) (b : ℕ) → is_one v ≡ false → IsEscapable b → begins backslash s.text ≡ true → begins b (after 1 s).text ≡ true → TakesText v inner s (take 1 (after 1 s).text) (after 1 (after 1 s))
 escaped v inner s b h is_b back next =
-    let two = two_bytes 92 b s back next in
-    record { own = 92 ∷ b ∷ []; takes = two.0; spells = rw two.1 (inr (spelled v h)) }
+    let two = two_bytes backslash b s back next in
+    record { own = backslash ∷ b ∷ []; takes = two.0; spells = rw two.1 (inr (spelled v h)) }
   where
-    spelled : (v : DescriptionVersion) → is_one v ≡ false → SpellsEscape v (92 ∷ b ∷ []) (b ∷ [])
+    spelled : (v : DescriptionVersion) → is_one v ≡ false → SpellsEscape v (backslash ∷ b ∷ []) (b ∷ [])
     spelled One h = absurd cc
     spelled Two h = (b, is_b, refl, refl)
     spelled Three h = (b, is_b, refl, refl)
 
-escape_takes : (v : DescriptionVersion) (inner : Bool) (s : Piece) (x : List ℕ × Piece) → is_one v ≡ false → begins 92 s.text ≡ true → escape_at s ≡ Ok x → TakesText v inner s x.0 x.1
+escape_takes : (v : DescriptionVersion) (inner : Bool) (s : Rest) (x : List ℕ × Rest) → is_one v ≡ false → begins backslash s.text ≡ true → escape_at s ≡ Ok x → TakesText v inner s x.0 x.1
 unfolding escape_at
 escape_takes v inner s x h back e =
     elim (chosen (is_escape (after 1 s).text) (Ok (take 1 (after 1 s).text, after 1 (after 1 s))) (Err (Expected (codes "valid escape sequence") s.index)) (Ok x) e) [
-      | inl g ↦ subst (λ (y : List ℕ × Piece). TakesText v inner s y.0 y.1) (ok_is (take 1 (after 1 s).text, after 1 (after 1 s)) x g.1) (elim (or_is (begins 91 (after 1 s).text) (begins 92 (after 1 s).text) (begins 93 (after 1 s).text) g.0) [
-        | inl k ↦ escaped v inner s 91 h (inl refl) back k
-        | inr k ↦ elim k [ inl k ↦ escaped v inner s 92 h (inr (inl refl)) back k | inr k ↦ escaped v inner s 93 h (inr (inr refl)) back k ]
+      | inl g ↦ subst (λ (y : List ℕ × Rest). TakesText v inner s y.0 y.1) (ok_is (take 1 (after 1 s).text, after 1 (after 1 s)) x g.1) (elim (or_is (begins left_bracket (after 1 s).text) (begins backslash (after 1 s).text) (begins right_bracket (after 1 s).text) g.0) [
+        | inl k ↦ escaped v inner s left_bracket h (inl refl) back k
+        | inr k ↦ elim k [ inl k ↦ escaped v inner s backslash h (inr (inl refl)) back k | inr k ↦ escaped v inner s right_bracket h (inr (inr refl)) back k ]
       ])
       | inr g ↦ absurd (not_ok _ x g.1)
     ]
@@ -76,19 +77,19 @@ escape_takes v inner s x h back e =
 not_begins : (a b : ℕ) (bs : List ℕ) → begins a (b ∷ bs) ≡ false → b ≡ a → ⊥
 not_begins a b bs h e = absurd (grind (arith, nat_tests))
 
-not_inside : (inner : Bool) (b : ℕ) (bs : List ℕ) → (inner && begins 93 (b ∷ bs)) ≡ false → inner ≡ true → b ≡ 93 → ⊥
-not_inside true b bs h is_inner e = not_begins 93 b bs h e
+not_inside : (inner : Bool) (b : ℕ) (bs : List ℕ) → (inner && begins right_bracket (b ∷ bs)) ≡ false → inner ≡ true → b ≡ right_bracket → ⊥
+not_inside true b bs h is_inner e = not_begins right_bracket b bs h e
 not_inside false b bs h is_inner e = absurd cc
 
-may_begin : (v : DescriptionVersion) (inner : Bool) (b : ℕ) (bs : List ℕ) → begins 91 (b ∷ bs) ≡ false → (inner && begins 93 (b ∷ bs)) ≡ false → (not (is_one v) && begins 92 (b ∷ bs)) ≡ false → MayBegin v inner b
-may_begin One inner b bs h i k = (not_begins 91 b bs h, not_inside inner b bs i)
-may_begin Two inner b bs h i k = (not_begins 91 b bs h, not_inside inner b bs i, not_begins 92 b bs k)
-may_begin Three inner b bs h i k = (not_begins 91 b bs h, not_inside inner b bs i, not_begins 92 b bs k)
+may_begin : (v : DescriptionVersion) (inner : Bool) (b : ℕ) (bs : List ℕ) → begins left_bracket (b ∷ bs) ≡ false → (inner && begins right_bracket (b ∷ bs)) ≡ false → (not (is_one v) && begins backslash (b ∷ bs)) ≡ false → MayBegin v inner b
+may_begin One inner b bs h i k = (not_begins left_bracket b bs h, not_inside inner b bs i)
+may_begin Two inner b bs h i k = (not_begins left_bracket b bs h, not_inside inner b bs i, not_begins backslash b bs k)
+may_begin Three inner b bs h i k = (not_begins left_bracket b bs h, not_inside inner b bs i, not_begins backslash b bs k)
 
-literal_takes : (v : DescriptionVersion) (inner : Bool) (s : Piece) → 0 < length s.text → begins 91 s.text ≡ false → (inner && begins 93 s.text) ≡ false → (not (is_one v) && begins 92 s.text) ≡ false → TakesText v inner s (take (literal_len v s.text) s.text) (after (literal_len v s.text) s)
+literal_takes : (v : DescriptionVersion) (inner : Bool) (s : Rest) → 0 < length s.text → begins left_bracket s.text ≡ false → (inner && begins right_bracket s.text) ≡ false → (not (is_one v) && begins backslash s.text) ≡ false → TakesText v inner s (take (literal_len v s.text) s.text) (after (literal_len v s.text) s)
 literal_takes v inner s some h i k = go s.text refl some h i k
   where
-    go : (text : List ℕ) → text ≡ s.text → 0 < length text → begins 91 text ≡ false → (inner && begins 93 text) ≡ false → (not (is_one v) && begins 92 text) ≡ false → TakesText v inner s (take (literal_len v s.text) s.text) (after (literal_len v s.text) s)
+    go : (text : List ℕ) → text ≡ s.text → 0 < length text → begins left_bracket text ≡ false → (inner && begins right_bracket text) ≡ false → (not (is_one v) && begins backslash text) ≡ false → TakesText v inner s (take (literal_len v s.text) s.text) (after (literal_len v s.text) s)
     go [] e some h i k = absurd (omega arith)
     go (b ∷ bs) e some h i k =
         let n : ℕ = prefix_len (is_plain v) bs in
@@ -103,84 +104,84 @@ literal_takes v inner s some h i k = go s.text refl some h i k
         let whole : TakesText v inner (record { index = s.index; text = b ∷ bs }) (take (literal_len v (b ∷ bs)) (b ∷ bs)) (after (literal_len v (b ∷ bs)) (record { index = s.index; text = b ∷ bs })) = rw one item in
         subst (λ (t : List ℕ). TakesText v inner (record { index = s.index; text = t }) (take (literal_len v t) t) (after (literal_len v t) (record { index = s.index; text = t }))) e whole
 
-pub text_takes : (v : DescriptionVersion) (inner : Bool) (s : Piece) (x : List ℕ × Piece) → 0 < length s.text → begins 91 s.text ≡ false → (inner && begins 93 s.text) ≡ false → text_at v s ≡ Ok x → TakesText v inner s x.0 x.1
+pub text_takes : (v : DescriptionVersion) (inner : Bool) (s : Rest) (x : List ℕ × Rest) → 0 < length s.text → begins left_bracket s.text ≡ false → (inner && begins right_bracket s.text) ≡ false → text_at v s ≡ Ok x → TakesText v inner s x.0 x.1
 unfolding text_at
 text_takes v inner s x some h i e =
     let n : ℕ = literal_len v s.text in
-    elim (chosen (not (is_one v) && begins 92 s.text) (escape_at s) (Ok (take n s.text, after n s)) (Ok x) e) [
-      | inl g ↦ let p = not_first (is_one v) (begins 92 s.text) g.0 in escape_takes v inner s x p.0 p.1 g.1
-      | inr g ↦ subst (λ (y : List ℕ × Piece). TakesText v inner s y.0 y.1) (ok_is (take n s.text, after n s) x g.1) (literal_takes v inner s some h i g.0)
+    elim (chosen (not (is_one v) && begins backslash s.text) (escape_at s) (Ok (take n s.text, after n s)) (Ok x) e) [
+      | inl g ↦ let p = not_first (is_one v) (begins backslash s.text) g.0 in escape_takes v inner s x p.0 p.1 g.1
+      | inr g ↦ subst (λ (y : List ℕ × Rest). TakesText v inner s y.0 y.1) (ok_is (take n s.text, after n s) x g.1) (literal_takes v inner s some h i g.0)
     ]
 
-pub doubled_takes : (v : DescriptionVersion) (inner : Bool) (s : Piece) (x : List ℕ × Piece) → doubled_at v s ≡ Some x → TakesText v inner s x.0 x.1
+pub doubled_takes : (v : DescriptionVersion) (inner : Bool) (s : Rest) (x : List ℕ × Rest) → doubled_at v s ≡ Some x → TakesText v inner s x.0 x.1
 unfolding doubled_at
 doubled_takes v inner s x e =
-    let it : List ℕ × Piece = (take 1 (after 1 s).text, after 1 (after 1 s)) in
-    elim (chosen (is_one v && (begins 91 s.text && begins 91 (after 1 s).text)) (Some it) None (Some x) e) [
+    let it : List ℕ × Rest = (take 1 (after 1 s).text, after 1 (after 1 s)) in
+    elim (chosen (is_one v && (begins left_bracket s.text && begins left_bracket (after 1 s).text)) (Some it) None (Some x) e) [
       | inl h ↦
-          let a = both (is_one v) (begins 91 s.text && begins 91 (after 1 s).text) h.0 in
-          let b = both (begins 91 s.text) (begins 91 (after 1 s).text) a.1 in
-          let two = two_bytes 91 91 s b.0 b.1 in
-          subst (λ (y : List ℕ × Piece). TakesText v inner s y.0 y.1) (some_is it x h.1) (record { own = 91 ∷ 91 ∷ []; takes = two.0; spells = rw two.1 (inr (spelled v a.0)) })
+          let a = both (is_one v) (begins left_bracket s.text && begins left_bracket (after 1 s).text) h.0 in
+          let b = both (begins left_bracket s.text) (begins left_bracket (after 1 s).text) a.1 in
+          let two = two_bytes left_bracket left_bracket s b.0 b.1 in
+          subst (λ (y : List ℕ × Rest). TakesText v inner s y.0 y.1) (some_is it x h.1) (record { own = left_bracket ∷ left_bracket ∷ []; takes = two.0; spells = rw two.1 (inr (spelled v a.0)) })
       | inr h ↦ absurd (none_not x h.1)
     ]
   where
-    some_is : (a b : List ℕ × Piece) → Some a ≡ Some b → a ≡ b
+    some_is : (a b : List ℕ × Rest) → Some a ≡ Some b → a ≡ b
     some_is a b e = cc
 
-    none_not : (a : List ℕ × Piece) → None ≡ Some a → ⊥
+    none_not : (a : List ℕ × Rest) → None ≡ Some a → ⊥
     none_not a e = cc
 
-    spelled : (v : DescriptionVersion) → is_one v ≡ true → SpellsEscape v (91 ∷ 91 ∷ []) (91 ∷ [])
+    spelled : (v : DescriptionVersion) → is_one v ≡ true → SpellsEscape v (left_bracket ∷ left_bracket ∷ []) (left_bracket ∷ [])
     spelled One h = (refl, refl)
     spelled Two h = absurd cc
     spelled Three h = absurd cc
 
-pub text_refused : (v : DescriptionVersion) (s : Piece) (e : Fault) → text_at v s ≡ Err e → BadEscape v s.index s.text e
+pub text_refused : (v : DescriptionVersion) (s : Rest) (e : Fault) → text_at v s ≡ Err e → BadEscape v s.index s.text e
 unfolding text_at escape_at
 text_refused v s e h =
     let n : ℕ = literal_len v s.text in
-    elim (chosen (not (is_one v) && begins 92 s.text) (escape_at s) (Ok (take n s.text, after n s)) (Err e) h) [
+    elim (chosen (not (is_one v) && begins backslash s.text) (escape_at s) (Ok (take n s.text, after n s)) (Err e) h) [
       | inl k ↦ elim (chosen (is_escape (after 1 s).text) (Ok (take 1 (after 1 s).text, after 1 (after 1 s))) (Err (Expected (codes "valid escape sequence") s.index)) (Err e) k.1) [
         | inl c ↦ absurd (not_err (take 1 (after 1 s).text, after 1 (after 1 s)) e c.1)
-        | inr c ↦ bad v k.0 c.0 (sym (err_is {A = List ℕ × Piece} _ e c.1))
+        | inr c ↦ bad v k.0 c.0 (sym (err_is {A = List ℕ × Rest} _ e c.1))
       ]
       | inr k ↦ absurd (not_err (take n s.text, after n s) e k.1)
     ]
   where
-    bad : (v : DescriptionVersion) → (not (is_one v) && begins 92 s.text) ≡ true → is_escape (after 1 s).text ≡ false → e ≡ Expected (codes "valid escape sequence") s.index → BadEscape v s.index s.text e
+    bad : (v : DescriptionVersion) → (not (is_one v) && begins backslash s.text) ≡ true → is_escape (after 1 s).text ≡ false → e ≡ Expected (codes "valid escape sequence") s.index → BadEscape v s.index s.text e
     bad One k c f = absurd cc
-    bad Two k c f = (drop 1 s.text, begins_cons 92 s.text k, c, f)
-    bad Three k c f = (drop 1 s.text, begins_cons 92 s.text k, c, f)
+    bad Two k c f = (drop 1 s.text, begins_cons backslash s.text k, c, f)
+    bad Three k c f = (drop 1 s.text, begins_cons backslash s.text k, c, f)
 
 -- ---- what is spelled so is read
 
 may_not : (a b : ℕ) (bs : List ℕ) → (b ≡ a → ⊥) → begins a (b ∷ bs) ≡ false
 may_not a b bs h = grind (arith, nat_tests)
 
-not_open : (v : DescriptionVersion) (inner : Bool) (b : ℕ) (bs : List ℕ) → MayBegin v inner b → begins 91 (b ∷ bs) ≡ false
-not_open One inner b bs h = may_not 91 b bs h.0
-not_open Two inner b bs h = may_not 91 b bs h.0
-not_open Three inner b bs h = may_not 91 b bs h.0
+not_open : (v : DescriptionVersion) (inner : Bool) (b : ℕ) (bs : List ℕ) → MayBegin v inner b → begins left_bracket (b ∷ bs) ≡ false
+not_open One inner b bs h = may_not left_bracket b bs h.0
+not_open Two inner b bs h = may_not left_bracket b bs h.0
+not_open Three inner b bs h = may_not left_bracket b bs h.0
 
-not_close : (v : DescriptionVersion) (inner : Bool) (b : ℕ) (bs : List ℕ) → MayBegin v inner b → (inner && begins 93 (b ∷ bs)) ≡ false
+not_close : (v : DescriptionVersion) (inner : Bool) (b : ℕ) (bs : List ℕ) → MayBegin v inner b → (inner && begins right_bracket (b ∷ bs)) ≡ false
 not_close v false b bs h = refl
-not_close One true b bs h = may_not 93 b bs (h.1 refl)
-not_close Two true b bs h = may_not 93 b bs (h.1 refl)
-not_close Three true b bs h = may_not 93 b bs (h.1 refl)
+not_close One true b bs h = may_not right_bracket b bs (h.1 refl)
+not_close Two true b bs h = may_not right_bracket b bs (h.1 refl)
+not_close Three true b bs h = may_not right_bracket b bs (h.1 refl)
 
-not_back : (v : DescriptionVersion) (inner : Bool) (b : ℕ) (bs : List ℕ) → MayBegin v inner b → (not (is_one v) && begins 92 (b ∷ bs)) ≡ false
+not_back : (v : DescriptionVersion) (inner : Bool) (b : ℕ) (bs : List ℕ) → MayBegin v inner b → (not (is_one v) && begins backslash (b ∷ bs)) ≡ false
 not_back One inner b bs h = refl
-not_back Two inner b bs h = may_not 92 b bs h.2
-not_back Three inner b bs h = may_not 92 b bs h.2
+not_back Two inner b bs h = may_not backslash b bs h.2
+not_back Three inner b bs h = may_not backslash b bs h.2
 
 -- a text that a literal or an escape begins
 pub record BeginsText (v : DescriptionVersion) (inner : Bool) (at : ℕ) (own rest bytes : List ℕ) : Type 0 where
-  pub no_end : (inner && begins 93 (own ++ rest)) ≡ false
-  pub reads : ((doubled_at v (at_index at (own ++ rest)) ≡ None) × (begins 91 (own ++ rest) ≡ false) × (text_at v (at_index at (own ++ rest)) ≡ Ok (bytes, at_index (at + length own) rest)))
+  pub no_end : (inner && begins right_bracket (own ++ rest)) ≡ false
+  pub reads : ((doubled_at v (at_index at (own ++ rest)) ≡ None) × (begins left_bracket (own ++ rest) ≡ false) × (text_at v (at_index at (own ++ rest)) ≡ Ok (bytes, at_index (at + length own) rest)))
       ⊎ (doubled_at v (at_index at (own ++ rest)) ≡ Some (bytes, at_index (at + length own) rest))
 
-pub no_doubled : (v : DescriptionVersion) (s : Piece) → begins 91 s.text ≡ false → doubled_at v s ≡ None
+pub no_doubled : (v : DescriptionVersion) (s : Rest) → begins left_bracket s.text ≡ false → doubled_at v s ≡ None
 unfolding doubled_at
 no_doubled One s h = rw h refl
 no_doubled Two s h = refl
@@ -198,13 +199,13 @@ literal_again v inner at (b ∷ bs) rest h =
       reads = inl (no_doubled v (at_index at (b ∷ (bs ++ rest))) opens, opens, rw (not_back v inner b (bs ++ rest) h.0, n, one, take_at bs rest (length bs) refl, drop_at bs rest (length bs) refl) refl);
     }
 
-abbrev ok_text : List ℕ → Piece → Result (List ℕ × Piece) Fault
+abbrev ok_text : List ℕ → Rest → Result (List ℕ × Rest) Fault
 ok_text bytes p = Ok (bytes, p)
 
 two_on : (at : ℕ) (rest : List ℕ) → at_index (at + 1 + 1) rest ≡ at_index (at + 2) rest
 two_on at rest = same_index _ _ rest (omega arith)
 
-escaped_again : (at b : ℕ) (rest : List ℕ) → IsEscapable b → escape_at (at_index at (92 ∷ b ∷ rest)) ≡ ok_text (b ∷ []) (at_index (at + 1 + 1) rest)
+escaped_again : (at b : ℕ) (rest : List ℕ) → IsEscapable b → escape_at (at_index at (backslash ∷ b ∷ rest)) ≡ ok_text (b ∷ []) (at_index (at + 1 + 1) rest)
 unfolding escape_at
 escaped_again at b rest (inl e) = rw e refl
 escaped_again at b rest (inr (inl e)) = rw e refl
@@ -214,16 +215,16 @@ no_close : (inner : Bool) → (inner && false) ≡ false
 no_close true = refl
 no_close false = refl
 
-back_again : (v : DescriptionVersion) (inner : Bool) (at b : ℕ) (rest : List ℕ) → is_one v ≡ false → IsEscapable b → BeginsText v inner at (92 ∷ b ∷ []) rest (b ∷ [])
+back_again : (v : DescriptionVersion) (inner : Bool) (at b : ℕ) (rest : List ℕ) → is_one v ≡ false → IsEscapable b → BeginsText v inner at (backslash ∷ b ∷ []) rest (b ∷ [])
 unfolding text_at
 back_again v inner at b rest h is_b = record {
   no_end = no_close inner;
-  reads = inl (no_doubled v (at_index at (92 ∷ b ∷ rest)) refl, refl, rw h (escaped_again at b rest is_b ∙ ap (ok_text (b ∷ [])) (two_on at rest)));
+  reads = inl (no_doubled v (at_index at (backslash ∷ b ∷ rest)) refl, refl, rw h (escaped_again at b rest is_b ∙ ap (ok_text (b ∷ [])) (two_on at rest)));
 }
 
 escape_again : (v : DescriptionVersion) (inner : Bool) (at : ℕ) (own bytes rest : List ℕ) → SpellsEscape v own bytes → BeginsText v inner at own rest bytes
 unfolding doubled_at
-escape_again One inner at own bytes rest (e, f) = rw (e, f) (record { no_end = no_close inner; reads = inr (ap (λ (p : Piece). Some (91 ∷ [], p)) (two_on at rest)) })
+escape_again One inner at own bytes rest (e, f) = rw (e, f) (record { no_end = no_close inner; reads = inr (ap (λ (p : Rest). Some (left_bracket ∷ [], p)) (two_on at rest)) })
 escape_again Two inner at own bytes rest (b, is_b, e, f) = rw (e, f) (back_again Two inner at b rest refl is_b)
 escape_again Three inner at own bytes rest (b, is_b, e, f) = rw (e, f) (back_again Three inner at b rest refl is_b)
 
@@ -234,14 +235,14 @@ text_again v inner at own bytes rest (inr h) = escape_again v inner at own bytes
 -- a bad escape is refused
 pub record RefusesText (v : DescriptionVersion) (at : ℕ) (text : List ℕ) (e : Fault) : Type 0 where
   pub some : 0 < length text
-  pub no_end : begins 93 text ≡ false
+  pub no_end : begins right_bracket text ≡ false
   pub single : doubled_at v (at_index at text) ≡ None
-  pub no_bracket : begins 91 text ≡ false
+  pub no_bracket : begins left_bracket text ≡ false
   pub refuses : text_at v (at_index at text) ≡ Err e
 
-escape_refused : (v : DescriptionVersion) (at : ℕ) (rest : List ℕ) (e : Fault) → is_one v ≡ false → is_escape rest ≡ false → e ≡ Expected (codes "valid escape sequence") at → RefusesText v at (92 ∷ rest) e
+escape_refused : (v : DescriptionVersion) (at : ℕ) (rest : List ℕ) (e : Fault) → is_one v ≡ false → is_escape rest ≡ false → e ≡ Expected (codes "valid escape sequence") at → RefusesText v at (backslash ∷ rest) e
 unfolding text_at escape_at
-escape_refused v at rest e h none f = record { some = omega arith; no_end = refl; single = no_doubled v (at_index at (92 ∷ rest)) refl; no_bracket = refl; refuses = rw (h, none, f) refl }
+escape_refused v at rest e h none f = record { some = omega arith; no_end = refl; single = no_doubled v (at_index at (backslash ∷ rest)) refl; no_bracket = refl; refuses = rw (h, none, f) refl }
 
 pub bad_escape_again : (v : DescriptionVersion) (at : ℕ) (text : List ℕ) (e : Fault) → BadEscape v at text e → RefusesText v at text e
 bad_escape_again One at text e h = absurd h

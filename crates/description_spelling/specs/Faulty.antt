@@ -1,12 +1,13 @@
 -- The first fault of a text that is no description. Each text stands from an index on.
 use Rattle.std.specs.Prelude.{◌≡◌, ℕ, zero, suc, ◌+◌, ◌<◌, Bool, true, false, List, [], ◌∷◌, ◌++◌, length, Err, codes, ◌⊎◌}
+use Rattle.byte_names.specs.Bytes.{colon, left_bracket, backslash, right_bracket}
 use Rattle.description_faults.specs.Fault.{Fault, UnclosedOpeningBracket, InvalidModifier, MissingComponentName, Expected, NotSupported}
 use Rattle.description_items.specs.Tree.{Tree, Trees}
 use Rattle.description_tables.specs.Component.{component_of}
 use Rattle.description_words.specs.declared.version.DescriptionVersion.{DescriptionVersion}
 use Rattle.description_words.specs.declared.version.DescriptionVersion.TheVariants.{One, Two, Three}
 use Rattle.description_words.specs.Version.{is_three}
-use Rattle.description_words.specs.Text.{Piece, is_space, is_word_byte, is_no_colon}
+use Rattle.description_words.specs.Text.{Rest, is_space, is_word_byte, is_no_colon}
 use Rattle.description_words.specs.Words.{Modifier, is_named, begins, is_escape}
 use Rattle.description_spelling.specs.Heads.{Each, Stops, IsWord, SpellsHead, SpellsOpening, SpellsNesting}
 use Rattle.description_spelling.specs.Spelling.{SpellsItems, SpellsNested, SpellsAlternatives}
@@ -17,8 +18,8 @@ use Rattle.description_spelling.specs.Spelling.{SpellsItems, SpellsNested, Spell
 abbrev pub BadWord : ℕ → List ℕ → Fault → Type 0
 BadWord at word fault =
     (Each is_no_colon word × (fault ≡ InvalidModifier word at))
-    ⊎ ((value : List ℕ) × (word ≡ 58 ∷ value) × (fault ≡ InvalidModifier [] at))
-    ⊎ ((key : List ℕ) × (0 < length key) × Each is_no_colon key × (word ≡ key ++ 58 ∷ []) × (fault ≡ InvalidModifier [] (at + length word)))
+    ⊎ ((value : List ℕ) × (word ≡ colon ∷ value) × (fault ≡ InvalidModifier [] at))
+    ⊎ ((key : List ℕ) × (0 < length key) × Each is_no_colon key × (word ≡ key ++ colon ∷ []) × (fault ≡ InvalidModifier [] (at + length word)))
 
 -- the white space after the bracket, if any, else the bracket
 abbrev pub missing_at : ℕ → List ℕ → ℕ
@@ -27,23 +28,23 @@ missing_at at (b ∷ bs) = at + 1
 
 -- in version 1 a second bracket makes an escape
 abbrev pub IsSingle : DescriptionVersion → List ℕ → Type 0
-IsSingle One rest = begins 91 rest ≡ false
+IsSingle One rest = begins left_bracket rest ≡ false
 IsSingle Two rest = Unit {0}
 IsSingle Three rest = Unit {0}
 
 pub record LacksName (v : DescriptionVersion) (at : ℕ) (text : List ℕ) (fault : Fault) : Type 0 where
-  pub space : List ℕ
+  pub blank : List ℕ
   pub rest : List ℕ
-  pub parts : text ≡ 91 ∷ (space ++ rest)
-  pub single : IsSingle v (space ++ rest)
-  pub spaces : Each is_space space
+  pub parts : text ≡ left_bracket ∷ (blank ++ rest)
+  pub single : IsSingle v (blank ++ rest)
+  pub spaces : Each is_space blank
   pub no_space : Stops is_space rest
   pub no_word : Stops is_word_byte rest
-  pub fault_is : fault ≡ MissingComponentName (missing_at at space)
+  pub fault_is : fault ≡ MissingComponentName (missing_at at blank)
 
 pub record HasBadWord (v : DescriptionVersion) (at : ℕ) (text : List ℕ) (fault : Fault) : Type 0 where
   pub head : List ℕ
-  pub name : Piece
+  pub name : Rest
   pub modifiers : List Modifier
   pub word : List ℕ
   pub rest : List ℕ
@@ -56,30 +57,30 @@ pub record HasBadWord (v : DescriptionVersion) (at : ℕ) (text : List ℕ) (fau
 
 pub record IsUnclosed (v : DescriptionVersion) (at : ℕ) (text : List ℕ) (fault : Fault) : Type 0 where
   pub head : List ℕ
-  pub name : Piece
+  pub name : Rest
   pub modifiers : List Modifier
   pub rest : List ℕ
   pub parts : text ≡ head ++ rest
   pub is_head : SpellsHead v at head name modifiers
   pub no_space : Stops is_space rest
   pub no_word : Stops is_word_byte rest
-  pub open_still : begins 93 rest ≡ false
+  pub open_still : begins right_bracket rest ≡ false
   pub fault_is : fault ≡ UnclosedOpeningBracket at
 
 -- what is spelled well and means no component
 pub record MeansNothing (v : DescriptionVersion) (at : ℕ) (text : List ℕ) (fault : Fault) : Type 0 where
   pub head : List ℕ
-  pub name : Piece
+  pub name : Rest
   pub modifiers : List Modifier
   pub rest : List ℕ
-  pub parts : text ≡ head ++ 93 ∷ rest
+  pub parts : text ≡ head ++ right_bracket ∷ rest
   pub is_head : SpellsHead v at head name modifiers
   pub means : component_of v name modifiers ≡ Err fault
 
 abbrev pub BadEscape : DescriptionVersion → ℕ → List ℕ → Fault → Type 0
 BadEscape One at text fault = ⊥
-BadEscape Two at text fault = (rest : List ℕ) × (text ≡ 92 ∷ rest) × (is_escape rest ≡ false) × (fault ≡ Expected (codes "valid escape sequence") at)
-BadEscape Three at text fault = (rest : List ℕ) × (text ≡ 92 ∷ rest) × (is_escape rest ≡ false) × (fault ≡ Expected (codes "valid escape sequence") at)
+BadEscape Two at text fault = (rest : List ℕ) × (text ≡ backslash ∷ rest) × (is_escape rest ≡ false) × (fault ≡ Expected (codes "valid escape sequence") at)
+BadEscape Three at text fault = (rest : List ℕ) × (text ≡ backslash ∷ rest) × (is_escape rest ≡ false) × (fault ≡ Expected (codes "valid escape sequence") at)
 
 -- ---- nested items
 
@@ -92,7 +93,7 @@ pub record LacksSpace (v : DescriptionVersion) (name what : List ℕ) (at : ℕ)
   pub first : List ℕ
   pub word : List ℕ
   pub rest : List ℕ
-  pub parts : text ≡ 91 ∷ (first ++ (word ++ rest))
+  pub parts : text ≡ left_bracket ∷ (first ++ (word ++ rest))
   pub is_first : Each is_space first
   pub is_word : IsWord word
   pub is_name : is_named v word name ≡ true
@@ -107,7 +108,7 @@ pub record LacksBracket (v : DescriptionVersion) (name : List ℕ) (at : ℕ) (t
   pub parts : text ≡ opening ++ rest
   pub is_opening : SpellsOpening v name opening
   pub no_space : Stops is_space rest
-  pub no_bracket : begins 91 rest ≡ false
+  pub no_bracket : begins left_bracket rest ≡ false
   pub fault_is : fault ≡ Expected (codes "opening bracket") (at + length opening)
 
 -- the fault of a nested description is the text's
@@ -128,7 +129,7 @@ pub record IsNestingUnclosed (v : DescriptionVersion) (name : List ℕ) (Inside 
   pub is_opening : SpellsOpening v name opening
   pub is_inside : Inside inside rest
   pub no_space : Stops is_space rest
-  pub open_still : begins 93 rest ≡ false
+  pub open_still : begins right_bracket rest ≡ false
   pub fault_is : fault ≡ UnclosedOpeningBracket at
 
 -- versions 1 and 2 have no nested items
@@ -137,7 +138,7 @@ pub record IsUnsupported (v : DescriptionVersion) (name : List ℕ) (Inside : Li
   pub rest : List ℕ
   pub parts : text ≡ own ++ rest
   pub not_three : is_three v ≡ false
-  pub is_own : SpellsNesting v name own (λ inside. Inside inside (93 ∷ rest))
+  pub is_own : SpellsNesting v name own (λ inside. Inside inside (right_bracket ∷ rest))
   pub fault_is : fault ≡ NotSupported (codes "nested item") (codes "versions 1 and 2") at
 
 abbrev pub BadNesting : DescriptionVersion → List ℕ → List ℕ → (List ℕ → Type 0) → (List ℕ → List ℕ → Type 0) → Wrong → Wrong
@@ -154,7 +155,7 @@ IsOne v levels inside rest = (t : Tree) × SpellsNested v levels inside t
 
 -- one nested description or more, and no other behind them
 abbrev pub AreSome : DescriptionVersion → ℕ → List ℕ → List ℕ → Type 0
-AreSome v levels inside rest = (ts : Trees) × (0 < length inside) × SpellsAlternatives v levels inside ts × (begins 91 rest ≡ false)
+AreSome v levels inside rest = (ts : Trees) × (0 < length inside) × SpellsAlternatives v levels inside ts × (begins left_bracket rest ≡ false)
 
 -- what stands before a nested description with a fault: nothing, or alternatives
 abbrev pub IsNothing : List ℕ → Type 0
@@ -193,9 +194,9 @@ pub record FaultyItems (v : DescriptionVersion) (inner : Bool) (levels : ℕ) (D
 
 -- a nested description opens one level more than there may be; or it holds a fault; or the text ends in it
 unfoldable pub FaultyNested : DescriptionVersion → ℕ → Wrong
-FaultyNested v zero at text fault = (rest : List ℕ) × (text ≡ 91 ∷ rest) × (fault ≡ NotSupported (codes "nesting past 127 levels") (codes "format descriptions") at)
+FaultyNested v zero at text fault = (rest : List ℕ) × (text ≡ left_bracket ∷ rest) × (fault ≡ NotSupported (codes "nesting past 127 levels") (codes "format descriptions") at)
 FaultyNested v (suc levels) at text fault =
-    (rest : List ℕ) × (text ≡ 91 ∷ rest) × (FaultyItems v true levels (FaultyNested v levels) (at + 1) rest fault
+    (rest : List ℕ) × (text ≡ left_bracket ∷ rest) × (FaultyItems v true levels (FaultyNested v levels) (at + 1) rest fault
     ⊎ ((items : Trees) × SpellsItems v true levels rest items × (fault ≡ UnclosedOpeningBracket at)))
 
 -- the first fault of the whole text

@@ -1,10 +1,11 @@
 -- How literals and what stands in brackets are spelled. A text with words to point at stands from an index on.
 use Rattle.std.specs.Prelude.{◌≡◌, ℕ, ◌+◌, ◌<◌, ◌||◌, Bool, true, false, List, [], ◌∷◌, ◌++◌, length, Ok, codes, ◌⊎◌}
+use Rattle.byte_names.specs.Bytes.{colon, left_bracket, backslash, right_bracket}
 use Rattle.description_items.specs.declared.component.Component.{Component}
 use Rattle.description_tables.specs.Component.{component_of}
 use Rattle.description_words.specs.declared.version.DescriptionVersion.{DescriptionVersion}
 use Rattle.description_words.specs.declared.version.DescriptionVersion.TheVariants.{One, Two, Three}
-use Rattle.description_words.specs.Text.{Piece, is_space, is_word_byte, is_plain, is_no_colon}
+use Rattle.description_words.specs.Text.{Rest, is_space, is_word_byte, is_plain, is_no_colon}
 use Rattle.description_words.specs.Words.{Modifier, is_named}
 pub use Rattle.description_words.specs.Text.{Each, Stops}
 
@@ -14,15 +15,15 @@ IsWord w = (0 < length w) × Each is_word_byte w
 
 -- white space, a key without a colon, a colon, a value
 pub record SpellsModifier (at : ℕ) (own : List ℕ) (m : Modifier) : Type 0 where
-  pub space : List ℕ
-  pub parts : own ≡ space ++ (m.key.text ++ 58 ∷ m.value.text)
-  pub is_space : Each is_space space
-  pub some_space : 0 < length space
+  pub blank : List ℕ
+  pub parts : own ≡ blank ++ (m.key.text ++ colon ∷ m.value.text)
+  pub is_space : Each is_space blank
+  pub some_space : 0 < length blank
   pub is_key : IsWord m.key.text
   pub no_colon : Each is_no_colon m.key.text
   pub is_value : IsWord m.value.text
-  pub key_at : m.key.index ≡ at + length space
-  pub value_at : m.value.index ≡ at + length space + length m.key.text + 1
+  pub key_at : m.key.index ≡ at + length blank
+  pub value_at : m.value.index ≡ at + length blank + length m.key.text + 1
 
 -- one after the other
 abbrev pub SpellsModifiers : ℕ → List ℕ → List Modifier → Type 0
@@ -34,11 +35,11 @@ abbrev pub is_nesting : DescriptionVersion → List ℕ → Bool
 is_nesting v word = is_named v word (codes "optional") || is_named v word (codes "first")
 
 -- a bracket, a name, its modifiers, and white space where it may stand
-pub record SpellsHead (v : DescriptionVersion) (at : ℕ) (own : List ℕ) (name : Piece) (ms : List Modifier) : Type 0 where
+pub record SpellsHead (v : DescriptionVersion) (at : ℕ) (own : List ℕ) (name : Rest) (ms : List Modifier) : Type 0 where
   pub first : List ℕ
   pub middle : List ℕ
   pub last : List ℕ
-  pub parts : own ≡ 91 ∷ (first ++ (name.text ++ (middle ++ last)))
+  pub parts : own ≡ left_bracket ∷ (first ++ (name.text ++ (middle ++ last)))
   pub is_first : Each is_space first
   pub is_name : IsWord name.text
   pub no_nesting : is_nesting v name.text ≡ false
@@ -49,17 +50,17 @@ pub record SpellsHead (v : DescriptionVersion) (at : ℕ) (own : List ℕ) (name
 -- a head and its closing bracket, with a name and modifiers that mean a component; where it stands does not matter
 pub record SpellsComponent (v : DescriptionVersion) (own : List ℕ) (c : Component) : Type 0 where
   pub head : List ℕ
-  pub name : Piece
+  pub name : Rest
   pub modifiers : List Modifier
-  pub parts : own ≡ head ++ 93 ∷ []
+  pub parts : own ≡ head ++ right_bracket ∷ []
   pub is_head : SpellsHead v 0 head name modifiers
   pub means : component_of v name modifiers ≡ Ok c
 
 -- a byte that a literal may begin with; inside a nested description a closing bracket ends it
 abbrev pub MayBegin : DescriptionVersion → Bool → ℕ → Type 0
-MayBegin One inner b = (b ≡ 91 → ⊥) × (inner ≡ true → b ≡ 93 → ⊥)
-MayBegin Two inner b = (b ≡ 91 → ⊥) × (inner ≡ true → b ≡ 93 → ⊥) × (b ≡ 92 → ⊥)
-MayBegin Three inner b = (b ≡ 91 → ⊥) × (inner ≡ true → b ≡ 93 → ⊥) × (b ≡ 92 → ⊥)
+MayBegin One inner b = (b ≡ left_bracket → ⊥) × (inner ≡ true → b ≡ right_bracket → ⊥)
+MayBegin Two inner b = (b ≡ left_bracket → ⊥) × (inner ≡ true → b ≡ right_bracket → ⊥) × (b ≡ backslash → ⊥)
+MayBegin Three inner b = (b ≡ left_bracket → ⊥) × (inner ≡ true → b ≡ right_bracket → ⊥) × (b ≡ backslash → ⊥)
 
 -- a literal as it stands, as long as it goes on
 abbrev pub SpellsLiteral : DescriptionVersion → Bool → List ℕ → List ℕ → Type 0
@@ -67,30 +68,30 @@ SpellsLiteral v inner [] more = ⊥
 SpellsLiteral v inner (b ∷ bs) more = MayBegin v inner b × Each (is_plain v) bs × Stops (is_plain v) more
 
 abbrev pub IsEscapable : ℕ → Type 0
-IsEscapable b = (b ≡ 91) ⊎ (b ≡ 92) ⊎ (b ≡ 93)
+IsEscapable b = (b ≡ left_bracket) ⊎ (b ≡ backslash) ⊎ (b ≡ right_bracket)
 
 -- two brackets in version 1; else a backslash and what it takes as it stands
 abbrev pub SpellsEscape : DescriptionVersion → List ℕ → List ℕ → Type 0
-SpellsEscape One own bytes = (own ≡ 91 ∷ 91 ∷ []) × (bytes ≡ 91 ∷ [])
-SpellsEscape Two own bytes = (b : ℕ) × IsEscapable b × (own ≡ 92 ∷ b ∷ []) × (bytes ≡ b ∷ [])
-SpellsEscape Three own bytes = (b : ℕ) × IsEscapable b × (own ≡ 92 ∷ b ∷ []) × (bytes ≡ b ∷ [])
+SpellsEscape One own bytes = (own ≡ left_bracket ∷ left_bracket ∷ []) × (bytes ≡ left_bracket ∷ [])
+SpellsEscape Two own bytes = (b : ℕ) × IsEscapable b × (own ≡ backslash ∷ b ∷ []) × (bytes ≡ b ∷ [])
+SpellsEscape Three own bytes = (b : ℕ) × IsEscapable b × (own ≡ backslash ∷ b ∷ []) × (bytes ≡ b ∷ [])
 
 -- a bracket, white space where it may stand, a nesting name, and white space that must
 pub record SpellsOpening (v : DescriptionVersion) (name own : List ℕ) : Type 0 where
   pub first : List ℕ
   pub word : List ℕ
-  pub space : List ℕ
-  pub parts : own ≡ 91 ∷ (first ++ (word ++ space))
+  pub blank : List ℕ
+  pub parts : own ≡ left_bracket ∷ (first ++ (word ++ blank))
   pub is_first : Each is_space first
   pub is_word : IsWord word
   pub is_name : is_named v word name ≡ true
-  pub spaces : Each is_space space
-  pub some_space : 0 < length space
+  pub spaces : Each is_space blank
+  pub some_space : 0 < length blank
 
 -- an opening, what is nested, and the closing bracket
 pub record SpellsNesting (v : DescriptionVersion) (name own : List ℕ) (Inside : List ℕ → Type 0) : Type 0 where
   pub opening : List ℕ
   pub inside : List ℕ
-  pub parts : own ≡ opening ++ (inside ++ 93 ∷ [])
+  pub parts : own ≡ opening ++ (inside ++ right_bracket ∷ [])
   pub is_opening : SpellsOpening v name opening
   pub is_inside : Inside inside

@@ -1,5 +1,6 @@
 -- What descriptions are.
 use Rattle.std.specs.Prelude.{◌≡◌, ℕ, suc, ◌<◌, Bool, true, false, List, [], ◌∷◌, ◌++◌, length, codes, ◌⊎◌}
+use Rattle.byte_names.specs.Bytes.{left_bracket, right_bracket}
 use Rattle.description_items.specs.Tree.{Tree, Literal, Part, Compound, Optional, First, Trees, none, also, listed}
 use Rattle.description_words.specs.declared.version.DescriptionVersion.{DescriptionVersion}
 use Rattle.description_words.specs.Version.{is_three}
@@ -22,7 +23,7 @@ abbrev mutual
 
   -- a nested description between its brackets, and the white space after it
   pub SpellsNested : DescriptionVersion → ℕ → List ℕ → Tree → Type 0
-  SpellsNested v levels own (Compound ts) = (fewer : ℕ) × (text space : List ℕ) × (levels ≡ suc fewer) × (own ≡ 91 ∷ (text ++ 93 ∷ space)) × Each is_space space × SpellsItems v true fewer text ts
+  SpellsNested v levels own (Compound ts) = (fewer : ℕ) × (text blank : List ℕ) × (levels ≡ suc fewer) × (own ≡ left_bracket ∷ (text ++ right_bracket ∷ blank)) × Each is_space blank × SpellsItems v true fewer text ts
   SpellsNested v levels own (Literal bytes) = ⊥
   SpellsNested v levels own (Part c) = ⊥
   SpellsNested v levels own (Optional format t) = ⊥

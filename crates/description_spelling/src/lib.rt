@@ -1,11 +1,3 @@
-//! What descriptions of versions 1, 2 and 3 are, and the first fault of any other text.
+//! What descriptions of versions 1, 2 and 3 are, and the first fault of any other text: relations in
+//! `specs/`, and in `proofs/` that these are what is read. There is no code here.
 #![tactic(auto)]
-
-ghost use Rattle.std.specs.Prelude.{ℕ, List};
-ghost use Rattle.description_words.specs.declared.version.DescriptionVersion.{DescriptionVersion};
-ghost use Rattle.description_spelling.specs.Outcomes.{OneOutcome};
-
-/// In each version a text spells one tree or has one fault, and not both.
-pub fn one_outcome()
-    ensures { (version : DescriptionVersion) (text : List ℕ) → OneOutcome version text }
-{}

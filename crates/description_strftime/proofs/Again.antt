@@ -2,10 +2,11 @@
 use Rattle.std.proofs.Common.{◌≡◌, ℕ, ◌+◌, ◌<◌, ◌==◌, true, false, List, [], ◌∷◌, ◌++◌, length, take, Option, Some, Result, Ok, refl, ap, ◌∙◌, append_assoc, arith, inl, inr}
 use Rattle.std.proofs.lemmas.List.{length-append, take_at, drop_at}
 use Rattle.std.proofs.lemmas.Bool.Decides.{nat_tests}
+use Rattle.byte_names.specs.Bytes.{percent}
 use Rattle.description_date_modifiers.specs.declared.choices.Padding.{Padding}
 use Rattle.description_faults.specs.Fault.{Fault}
 use Rattle.description_items.specs.Tree.{Tree, Literal}
-use Rattle.description_words.specs.Text.{Piece, after}
+use Rattle.description_words.specs.Text.{Rest, after}
 use Rattle.description_words.specs.Words.{begins}
 use Rattle.description_strftime.specs.Text.{is_plain, Each, Stops}
 use Rattle.description_strftime.specs.Letters.{letter_items}
@@ -16,7 +17,7 @@ use Rattle.description_strftime.proofs.Flags.{at_index, no_flag, flag_again, pas
 use Rattle.description_words.proofs.Fronts.{run_again}
 
 abbrev pub Step : Type 0
-Step = Result (List Tree × Piece) Fault
+Step = Result (List Tree × Rest) Fault
 
 abbrev pub done : List Tree → ℕ → List ℕ → Step
 done items i text = Ok (items, at_index i text)
@@ -25,32 +26,32 @@ done_at : (items : List Tree) (i j : ℕ) (text : List ℕ) → i ≡ j → done
 done_at items i j text e = ap (λ (n : ℕ). done items n text) e
 
 -- a conversion is its flag and then its letter
-pub conversion_again : (percent i : ℕ) (flag : Option Padding) (b : ℕ) (rest : List ℕ) → IsNoFlag flag b → conversion_at percent (at_index i (flag_text flag ++ b ∷ rest)) ≡ letter_at percent flag (at_index (i + length (flag_text flag)) (b ∷ rest))
+pub conversion_again : (start i : ℕ) (flag : Option Padding) (b : ℕ) (rest : List ℕ) → IsNoFlag flag b → conversion_at start (at_index i (flag_text flag ++ b ∷ rest)) ≡ letter_at start flag (at_index (i + length (flag_text flag)) (b ∷ rest))
 unfolding conversion_at
-conversion_again percent i flag b rest h = rw (flag_again flag b rest h, past_again flag i (b ∷ rest)) refl
+conversion_again start i flag b rest h = rw (flag_again flag b rest h, past_again flag i (b ∷ rest)) refl
 
-letter_again : (percent i : ℕ) (flag : Option Padding) (b : ℕ) (rest : List ℕ) (items : List Tree) → letter_items flag b ≡ Some items → letter_at percent flag (at_index i (b ∷ rest)) ≡ done items (i + 1) rest
+letter_again : (start i : ℕ) (flag : Option Padding) (b : ℕ) (rest : List ℕ) (items : List Tree) → letter_items flag b ≡ Some items → letter_at start flag (at_index i (b ∷ rest)) ≡ done items (i + 1) rest
 unfolding letter_at
-letter_again percent i flag b rest items e = rw e refl
+letter_again start i flag b rest items e = rw e refl
 
-pub percent_again : (i : ℕ) (rest : List ℕ) → strftime_step (at_index i (37 ∷ rest)) ≡ conversion_at i (at_index (i + 1) rest)
+pub percent_again : (i : ℕ) (rest : List ℕ) → strftime_step (at_index i (percent ∷ rest)) ≡ conversion_at i (at_index (i + 1) rest)
 unfolding strftime_step
 percent_again i rest = refl
 
 spelled_again : (i : ℕ) (own more : List ℕ) (items : List Tree) → SpellsConversion own items → strftime_step (at_index i (own ++ more)) ≡ done items (i + length own) more
 spelled_again i own more items h =
     let front : List ℕ = flag_text h.flag in
-    let regroup : own ++ more ≡ 37 ∷ (front ++ h.letter ∷ more) = rw h.parts (ap (λ (l : List ℕ). 37 ∷ l) (append_assoc front (h.letter ∷ []) more)) in
+    let regroup : own ++ more ≡ percent ∷ (front ++ h.letter ∷ more) = rw h.parts (ap (λ (l : List ℕ). percent ∷ l) (append_assoc front (h.letter ∷ []) more)) in
     let len : i + 1 + length front + 1 ≡ i + length own = omega (arith, ap (length {A = ℕ}) h.parts, length-append front (h.letter ∷ [])) in
     rw regroup (percent_again i (front ++ h.letter ∷ more)
     ∙ conversion_again i (i + 1) h.flag h.letter more (no_flag h.flag h.letter items h.means)
     ∙ letter_again i (i + 1 + length front) h.flag h.letter more items h.means
     ∙ done_at items (i + 1 + length front + 1) (i + length own) more len)
 
-plain_is : (b : ℕ) → is_plain b ≡ true → (b == 37) ≡ false
+plain_is : (b : ℕ) → is_plain b ≡ true → (b == percent) ≡ false
 plain_is b e = grind (arith, nat_tests)
 
-plain_reads : (i : ℕ) (text : List ℕ) → begins 37 text ≡ false → strftime_step (at_index i text) ≡ Ok (Literal (take (plain_len text) text) ∷ [], after (plain_len text) (at_index i text))
+plain_reads : (i : ℕ) (text : List ℕ) → begins percent text ≡ false → strftime_step (at_index i text) ≡ Ok (Literal (take (plain_len text) text) ∷ [], after (plain_len text) (at_index i text))
 unfolding strftime_step
 plain_reads i text e = rw e refl
 

@@ -8,7 +8,7 @@ use Rattle.description_strftime.specs.Text.{is_plain, Stops}
 use Rattle.description_strftime.specs.Spelled.{SpellsText, SpellsFront, SpellsStrftime}
 use Rattle.description_strftime.specs.Faulty.{BadConversion, FaultyStrftime}
 use Rattle.description_strftime.specs.Joined.{EndsInLiteral}
-use Rattle.description_strftime.specs.Further.{further}
+use Rattle.description_faults.specs.Further.{further}
 use Rattle.description_strftime.proofs.Joins.{each_append, front_longer, front_joins, ends_or_closed}
 
 -- the parts of two texts, one after the other

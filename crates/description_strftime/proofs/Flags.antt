@@ -4,13 +4,13 @@ use Rattle.std.proofs.lemmas.Bool.Decides.{nat_tests}
 use Rattle.description_date_modifiers.specs.declared.choices.Padding.{Padding}
 use Rattle.description_date_modifiers.specs.declared.choices.Padding.TheVariants as padding
 use Rattle.description_items.specs.Tree.{Tree}
-use Rattle.description_words.specs.Text.{Piece}
+use Rattle.description_words.specs.Text.{Rest}
 use Rattle.description_strftime.specs.Letters.{flag_of, day_number, year_number, time_number, unpadded, component_of, text_of, item_of, composite, letter_items}
 use Rattle.description_strftime.specs.Reading.{flag_at, past_flag}
 use Rattle.description_strftime.specs.Spelled.{flag_text}
 use Rattle.description_strftime.specs.Faulty.{IsNoFlag}
 
-abbrev pub at_index : ℕ → List ℕ → Piece
+abbrev pub at_index : ℕ → List ℕ → Rest
 at_index i text = record { index = i; text = text }
 
 eqb_is : (a b : ℕ) → (a == b) ≡ true → a ≡ b
@@ -51,7 +51,7 @@ flag_takes i (b ∷ bs) = go (flag_of b) refl
     go None e = refl
     go (Some p) e = ap (λ (t : List ℕ). t ++ bs) (sym (flag_is b p e))
 
-pub flag_index : (flag : Option Padding) (s : Piece) → (past_flag flag s).index ≡ s.index + length (flag_text flag)
+pub flag_index : (flag : Option Padding) (s : Rest) → (past_flag flag s).index ≡ s.index + length (flag_text flag)
 flag_index None s = omega arith
 flag_index (Some padding.Space) s = omega arith
 flag_index (Some padding.None) s = omega arith

@@ -5,11 +5,12 @@ use Rattle.std.specs.Option.{ok_or}
 use Rattle.std.specs.List.{prefix_len}
 use Rattle.std.proofs.lemmas.List.{append-nil, take-append-drop}
 use Rattle.std.proofs.lemmas.Bool.Decides.{nat_tests}
+use Rattle.byte_names.specs.Bytes.{percent}
 use Rattle.description_date_modifiers.specs.declared.choices.Padding.{Padding}
 use Rattle.description_faults.specs.Fault.{Fault, InvalidComponentName, Expected}
 use Rattle.description_faults.specs.Answer.{◌>>=◌}
 use Rattle.description_items.specs.Tree.{Tree, Literal}
-use Rattle.description_words.specs.Text.{Piece, after}
+use Rattle.description_words.specs.Text.{Rest, after}
 use Rattle.description_strftime.specs.Text.{is_continuation}
 use Rattle.description_strftime.specs.Letters.{letter_items, refused}
 use Rattle.description_strftime.specs.Reading.{flag_at, past_flag, refusal, letter_at, conversion_at, plain_len, strftime_step}
@@ -25,28 +26,28 @@ failed fault = Err fault
 pub err_is : (d e : Fault) → failed d ≡ failed e → d ≡ e
 err_is d e h = cc
 
-not_err : (x : List Tree × Piece) (e : Fault) → Ok x ≡ failed e → ⊥
+not_err : (x : List Tree × Rest) (e : Fault) → Ok x ≡ failed e → ⊥
 not_err x e h = cc
 
 -- a letter that was refused
-record RefusesLetter (flag : Option Padding) (s : Piece) (b : ℕ) (fault : Fault) : Type 0 where
+record RefusesLetter (flag : Option Padding) (s : Rest) (b : ℕ) (fault : Fault) : Type 0 where
   no_letter : letter_items flag b ≡ None
   fault_is : fault ≡ refusal (refused b) s
 
-found_err : (o : Option (List Tree)) (d e : Fault) (s : Piece) → (ok_or o d >>= λ items. Ok (items, s)) ≡ failed e → (o ≡ None) × (e ≡ d)
+found_err : (o : Option (List Tree)) (d e : Fault) (s : Rest) → (ok_or o d >>= λ items. Ok (items, s)) ≡ failed e → (o ≡ None) × (e ≡ d)
 found_err (Some x) d e s h = absurd (not_err (x, s) e h)
 found_err None d e s h = (refl, sym (err_is d e h))
 
-letter_refused : (percent : ℕ) (flag : Option Padding) (i b : ℕ) (bs : List ℕ) (fault : Fault) → letter_at percent flag (at_index i (b ∷ bs)) ≡ Err fault → RefusesLetter flag (at_index i (b ∷ bs)) b fault
+letter_refused : (start : ℕ) (flag : Option Padding) (i b : ℕ) (bs : List ℕ) (fault : Fault) → letter_at start flag (at_index i (b ∷ bs)) ≡ Err fault → RefusesLetter flag (at_index i (b ∷ bs)) b fault
 unfolding letter_at
-letter_refused percent flag i b bs fault e =
-    let s : Piece = at_index i (b ∷ bs) in
+letter_refused start flag i b bs fault e =
+    let s : Rest = at_index i (b ∷ bs) in
     let h = found_err (letter_items flag b) (refusal (refused b) s) fault (after 1 s) e in
     record { no_letter = h.0; fault_is = h.1 }
 
-letter_lacking : (percent : ℕ) (flag : Option Padding) (i : ℕ) (fault : Fault) → letter_at percent flag (at_index i []) ≡ Err fault → fault ≡ Expected (codes "component letter") percent
+letter_lacking : (start : ℕ) (flag : Option Padding) (i : ℕ) (fault : Fault) → letter_at start flag (at_index i []) ≡ Err fault → fault ≡ Expected (codes "component letter") start
 unfolding letter_at
-letter_lacking percent flag i fault e = sym (err_is (Expected (codes "component letter") percent) fault e)
+letter_lacking start flag i fault e = sym (err_is (Expected (codes "component letter") start) fault e)
 
 pub one_more : (n : ℕ) (b : ℕ) (bs : List ℕ) → take (1 + n) (b ∷ bs) ≡ b ∷ take n bs
 one_more n b bs = let one : 1 + n ≡ suc n = omega arith in rw one refl
@@ -90,14 +91,14 @@ none_behind : (i : ℕ) (text : List ℕ) (b : ℕ) (bs : List ℕ) (flag : Opti
 none_behind i text b bs None e h = sym (ap flag_at h) ∙ e
 none_behind i text b bs (Some p) e h = tt
 
-conversion_refused : (at : ℕ) (text : List ℕ) (fault : Fault) → conversion_at at (at_index (at + 1) text) ≡ Err fault → BadConversion at (37 ∷ text) fault
+conversion_refused : (at : ℕ) (text : List ℕ) (fault : Fault) → conversion_at at (at_index (at + 1) text) ≡ Err fault → BadConversion at (percent ∷ text) fault
 unfolding conversion_at
 conversion_refused at text fault e = go (past_flag flag (at_index (at + 1) text)).text refl
   where
     flag : Option Padding
     flag = flag_at text
 
-    m : Piece
+    m : Rest
     m = past_flag flag (at_index (at + 1) text)
 
     whole : text ≡ flag_text flag ++ m.text
@@ -106,31 +107,31 @@ conversion_refused at text fault e = go (past_flag flag (at_index (at + 1) text)
     index : m.index ≡ at + length (head flag)
     index = omega (arith, flag_index flag (at_index (at + 1) text))
 
-    go : (t : List ℕ) → m.text ≡ t → BadConversion at (37 ∷ text) fault
+    go : (t : List ℕ) → m.text ≡ t → BadConversion at (percent ∷ text) fault
     go [] is_t = inl (record {
       flag = flag;
-      parts = ap (λ (l : List ℕ). 37 ∷ l) (whole ∙ (ap (λ (l : List ℕ). flag_text flag ++ l) is_t ∙ append-nil (flag_text flag)));
+      parts = ap (λ (l : List ℕ). percent ∷ l) (whole ∙ (ap (λ (l : List ℕ). flag_text flag ++ l) is_t ∙ append-nil (flag_text flag)));
       fault_is = letter_lacking at flag m.index fault (subst (λ (l : List ℕ). letter_at at flag (at_index m.index l) ≡ Err fault) is_t e);
     })
     go (b ∷ bs) is_t =
         let here : letter_at at flag (at_index (at + length (head flag)) (b ∷ bs)) ≡ Err fault = subst (λ (k : ℕ). letter_at at flag (at_index k (b ∷ bs)) ≡ Err fault) index (subst (λ (l : List ℕ). letter_at at flag (at_index m.index l) ≡ Err fault) is_t e) in
         let bad : BadConversion at (head flag ++ b ∷ bs) fault = refusal_is at flag b bs fault (none_behind (at + 1) text b bs flag refl is_t) (letter_refused at flag (at + length (head flag)) b bs fault here) in
-        subst (λ (l : List ℕ). BadConversion at (37 ∷ l) fault) (sym (whole ∙ ap (λ (l : List ℕ). flag_text flag ++ l) is_t)) bad
+        subst (λ (l : List ℕ). BadConversion at (percent ∷ l) fault) (sym (whole ∙ ap (λ (l : List ℕ). flag_text flag ++ l) is_t)) bad
 
-percent_is : (b : ℕ) → (b == 37) ≡ true → 37 ≡ b
+percent_is : (b : ℕ) → (b == percent) ≡ true → percent ≡ b
 percent_is b e = grind (arith, nat_tests)
 
 step_refused : (at : ℕ) (text : List ℕ) (fault : Fault) → strftime_step (at_index at text) ≡ Err fault → BadConversion at text fault
 unfolding strftime_step
 step_refused at [] fault e = absurd (not_err _ fault e)
-step_refused at (b ∷ bs) fault e = go (b == 37) refl e
+step_refused at (b ∷ bs) fault e = go (b == percent) refl e
   where
     n : ℕ
     n = plain_len (b ∷ bs)
 
-    go : (t : _) → (b == 37) ≡ t → cond t (conversion_at at (at_index (at + 1) bs)) (Ok (Literal (take n (b ∷ bs)) ∷ [], after n (at_index at (b ∷ bs)))) ≡ Err fault → BadConversion at (b ∷ bs) fault
+    go : (t : _) → (b == percent) ≡ t → cond t (conversion_at at (at_index (at + 1) bs)) (Ok (Literal (take n (b ∷ bs)) ∷ [], after n (at_index at (b ∷ bs)))) ≡ Err fault → BadConversion at (b ∷ bs) fault
     go true is_t h = subst (λ (c : ℕ). BadConversion at (c ∷ bs) fault) (percent_is b is_t) (conversion_refused at bs fault h)
     go false is_t h = absurd (not_err _ fault h)
 
-pub part_refused : (s : Piece) (fault : Fault) → strftime_step s ≡ Err fault → BadConversion s.index s.text fault
+pub part_refused : (s : Rest) (fault : Fault) → strftime_step s ≡ Err fault → BadConversion s.index s.text fault
 part_refused s fault e = step_refused s.index s.text fault e

@@ -18,20 +18,20 @@ use Rattle.description_words.proofs.Fronts.{run_again}
 use Rattle.description_strftime.proofs.Again.{conversion_again, percent_again}
 use Rattle.description_strftime.proofs.Refused.{failed, one_more}
 
-letter_lacks : (percent i : ℕ) (flag : Option Padding) → letter_at percent flag (past_flag flag (at_index i (flag_text flag))) ≡ failed (Expected (codes "component letter") percent)
+letter_lacks : (start i : ℕ) (flag : Option Padding) → letter_at start flag (past_flag flag (at_index i (flag_text flag))) ≡ failed (Expected (codes "component letter") start)
 unfolding letter_at
-letter_lacks percent i None = refl
-letter_lacks percent i (Some padding.Space) = refl
-letter_lacks percent i (Some padding.None) = refl
-letter_lacks percent i (Some padding.Zero) = refl
+letter_lacks start i None = refl
+letter_lacks start i (Some padding.Space) = refl
+letter_lacks start i (Some padding.None) = refl
+letter_lacks start i (Some padding.Zero) = refl
 
 lacks_again : (at : ℕ) (flag : Option Padding) → strftime_step (at_index at (head flag)) ≡ failed (Expected (codes "component letter") at)
 unfolding conversion_at
 lacks_again at flag = percent_again at (flag_text flag) ∙ rw (flag_alone flag) (letter_lacks at (at + 1) flag)
 
-letter_fails : (percent i : ℕ) (flag : Option Padding) (b : ℕ) (bs : List ℕ) → letter_items flag b ≡ None → letter_at percent flag (at_index i (b ∷ bs)) ≡ failed (refusal (refused b) (at_index i (b ∷ bs)))
+letter_fails : (start i : ℕ) (flag : Option Padding) (b : ℕ) (bs : List ℕ) → letter_items flag b ≡ None → letter_at start flag (at_index i (b ∷ bs)) ≡ failed (refusal (refused b) (at_index i (b ∷ bs)))
 unfolding letter_at
-letter_fails percent i flag b bs e = rw e refl
+letter_fails start i flag b bs e = rw e refl
 
 same_place : (at : ℕ) (flag : Option Padding) (r : Option (List ℕ)) (text : List ℕ) → refusal r (at_index (at + 1 + length (flag_text flag)) text) ≡ refusal r (at_index (at + length (head flag)) text)
 same_place at flag r text = ap (λ (i : ℕ). refusal r (at_index i text)) (omega arith)

@@ -4,7 +4,7 @@ use Rattle.std.proofs.lemmas.List.{length-append, nil_from_length}
 use Rattle.std.proofs.lemmas.Bool.Decides.{nat_tests}
 use Rattle.description_faults.specs.Fault.{Fault}
 use Rattle.description_items.specs.Tree.{Tree}
-use Rattle.description_words.specs.Text.{Piece, whole}
+use Rattle.description_words.specs.Text.{Rest, whole}
 use Rattle.description_words.proofs.Readings.{bind_ok, ok_is, made_err, and_then_ok, and_then_err}
 use Rattle.description_words.proofs.Steps.{Steps, Failing, many_steps, many_failing, steps_many, steps_failing}
 use Rattle.description_strftime.specs.Text.{joined}
@@ -18,10 +18,10 @@ use Rattle.description_strftime.proofs.Again.{part_again, part_some}
 use Rattle.description_strftime.proofs.Refused.{part_refused}
 use Rattle.description_strftime.proofs.RefusedAgain.{bad_again, bad_some}
 
-abbrev Goes : Piece → List (List Tree) → Piece → Type 0
+abbrev Goes : Rest → List (List Tree) → Rest → Type 0
 Goes s parts t = Steps at_end strftime_step s parts t
 
-no_text : (s : Piece) → at_end s ≡ true → s.text ≡ []
+no_text : (s : Rest) → at_end s ≡ true → s.text ≡ []
 no_text s e = nil_from_length s.text (length_is (length s.text) e)
   where
     length_is : (n : ℕ) → (n == 0) ≡ true → n ≡ 0
@@ -31,8 +31,8 @@ not_end : (i : ℕ) (text : List ℕ) → 0 < length text → at_end (at_index i
 not_end i text some = grind (arith, nat_tests)
 
 -- steps spell parts, and go on by as many bytes as they take
-goes_spelled : (s : Piece) (parts : List (List Tree)) (t : Piece) → Goes s parts t → SpellsFront s.text parts t.text × (s.index + length s.text ≡ t.index + length t.text)
-goes_spelled s [] t e = (ap (λ (p : Piece). p.text) e, ap (λ (p : Piece). p.index + length p.text) e)
+goes_spelled : (s : Rest) (parts : List (List Tree)) (t : Rest) → Goes s parts t → SpellsFront s.text parts t.text × (s.index + length s.text ≡ t.index + length t.text)
+goes_spelled s [] t e = (ap (λ (p : Rest). p.text) e, ap (λ (p : Rest). p.index + length p.text) e)
 goes_spelled s (part ∷ parts) t (m, more, is_part, others) =
     let one : TakesPart s part m = part_takes s (part, m) more is_part in
     let rest = goes_spelled m parts t others in
@@ -50,7 +50,7 @@ spelled_goes i text (part ∷ parts) rest (own, more, is_text, is_part, others) 
     let all : Goes (at_index i (own ++ more)) (part ∷ parts) (at_index j rest) = (at_index after more, not_end i (own ++ more) some_text, step, goes) in
     (j, subst (λ (t : List ℕ). Goes (at_index i t) (part ∷ parts) (at_index j rest)) (sym is_text) all, omega (arith, len, ap (length {A = ℕ}) is_text, length-append own more))
 
-abbrev items_of : List (List Tree) × Piece → Result (List Tree) Fault
+abbrev items_of : List (List Tree) × Rest → Result (List Tree) Fault
 items_of parts = Ok (joined parts.0)
 
 enough : (text : List ℕ) → length text < suc (length text)
@@ -74,7 +74,7 @@ spelled_is_read text items h =
 pub refused_is_faulty : (text : List ℕ) (fault : Fault) → read_strftime text ≡ Err fault → FaultyStrftime text fault
 unfolding read_strftime
 refused_is_faulty text fault e =
-    let fails = made_err (all_parts text) (λ (parts : List (List Tree) × Piece). joined parts.0) fault e in
+    let fails = made_err (all_parts text) (λ (parts : List (List Tree) × Rest). joined parts.0) fault e in
     let stop : Failing at_end strftime_step (whole text) fault = many_failing at_end strftime_step step_lt (suc (length text)) (whole text) fault (enough text) fails in
     let front = goes_spelled (whole text) stop.front stop.bad stop.steps in
     record { parts = stop.front; bad = stop.bad.text; at = stop.bad.index; front = front.0; place = omega (arith, front.1); is_bad = part_refused stop.bad fault stop.fails }

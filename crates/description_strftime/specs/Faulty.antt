@@ -1,5 +1,6 @@
 -- The first fault of a text that is none of strftime.
 use Rattle.std.specs.Prelude.{◌≡◌, ℕ, ◌+◌, List, ◌∷◌, ◌++◌, length, Option, Some, None, codes, ◌⊎◌}
+use Rattle.byte_names.specs.Bytes.{percent}
 use Rattle.description_date_modifiers.specs.declared.choices.Padding.{Padding}
 use Rattle.description_faults.specs.Fault.{Fault, InvalidComponentName, Expected, NotSupported}
 use Rattle.description_items.specs.Tree.{Tree}
@@ -9,7 +10,7 @@ use Rattle.description_strftime.specs.Spelled.{flag_text, SpellsFront}
 
 -- what stands before the letter
 abbrev pub head : Option Padding → List ℕ
-head flag = 37 ∷ flag_text flag
+head flag = percent ∷ flag_text flag
 
 -- the text ends where the letter is due
 pub record LacksLetter (at : ℕ) (text : List ℕ) (fault : Fault) : Type 0 where

@@ -1,6 +1,7 @@
 -- What the letters of strftime stand for: those of POSIX in its C locale, and the usual ones of GNU.
 use Rattle.std.specs.Prelude.{ℕ, ◌==◌, ◌||◌, Bool, true, false, List, [], ◌∷◌, map, Option, Some, None, if◌then◌else◌, codes}
 use Rattle.std.specs.Option.{option_map, option_or, unwrap_or}
+use Rattle.byte_names.specs.Bytes.{tab, line_feed, percent}
 use Rattle.description_date_modifiers.specs.declared.choices.Padding.{Padding}
 use Rattle.description_date_modifiers.specs.declared.choices.Padding.TheVariants as padding
 use Rattle.description_items.specs.declared.component.Component.{Component}
@@ -82,9 +83,9 @@ component_of flag letter =
 -- a line feed, a tab, a percent sign
 unfoldable pub text_of : ℕ → Option (List ℕ)
 text_of letter =
-    if is_in (codes "n") letter then Some (10 ∷ [])
-    else (if is_in (codes "t") letter then Some (9 ∷ [])
-    else (if is_in (codes "%") letter then Some (37 ∷ [])
+    if is_in (codes "n") letter then Some (line_feed ∷ [])
+    else (if is_in (codes "t") letter then Some (tab ∷ [])
+    else (if is_in (codes "%") letter then Some (percent ∷ [])
     else None))
 
 -- the one item that a letter stands for

@@ -1,6 +1,5 @@
 pub mod Composites
 pub mod Faulty
-pub mod Further
 pub mod Joined
 pub mod Letters
 pub mod Outcomes

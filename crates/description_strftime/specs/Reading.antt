@@ -2,11 +2,12 @@
 use Rattle.std.specs.Prelude.{ℕ, suc, ◌+◌, ◌==◌, Bool, List, [], ◌∷◌, length, take, drop, Option, Some, None, Result, Ok, Err, if◌then◌else◌, codes}
 use Rattle.std.specs.List.{prefix_len}
 use Rattle.std.specs.Option.{ok_or}
+use Rattle.byte_names.specs.Bytes.{percent}
 use Rattle.description_date_modifiers.specs.declared.choices.Padding.{Padding}
 use Rattle.description_faults.specs.Fault.{Fault, InvalidComponentName, Expected, NotSupported}
 use Rattle.description_faults.specs.Answer.{◌>>=◌}
 use Rattle.description_items.specs.Tree.{Tree, Literal}
-use Rattle.description_words.specs.Text.{Piece, after, whole}
+use Rattle.description_words.specs.Text.{Rest, after, whole}
 use Rattle.description_words.specs.Many.{many}
 use Rattle.description_words.specs.Words.{begins}
 use Rattle.description_strftime.specs.Letters.{flag_of, letter_items, refused}
@@ -21,38 +22,38 @@ abbrev pub flag_at : List ℕ → Option Padding
 flag_at [] = None
 flag_at (b ∷ bs) = flag_of b
 
-abbrev pub past_flag : Option Padding → Piece → Piece
-past_flag None s = s
-past_flag (Some padding) s = after 1 s
+abbrev pub past_flag : Option Padding → Rest → Rest
+past_flag None here = here
+past_flag (Some padding) here = after 1 here
 
 -- what is wrong with a character that stands for nothing
-abbrev pub refusal : Option (List ℕ) → Piece → Fault
-refusal (Some what) s = NotSupported what (codes "strftime") s.index
-refusal None s = InvalidComponentName (take (character_len s.text) s.text) s.index
+abbrev pub refusal : Option (List ℕ) → Rest → Fault
+refusal (Some what) here = NotSupported what (codes "strftime") here.index
+refusal None here = InvalidComponentName (take (character_len here.text) here.text) here.index
 
-abbrev pub letter_in : List ℕ → ℕ → Option Padding → Piece → Result (List Tree × Piece) Fault
-letter_in [] percent flag s = Err (Expected (codes "component letter") percent)
-letter_in (b ∷ bs) percent flag s = ok_or (letter_items flag b) (refusal (refused b) s) >>= λ items. Ok (items, after 1 s)
+abbrev pub letter_in : List ℕ → ℕ → Option Padding → Rest → Result (List Tree × Rest) Fault
+letter_in [] start flag here = Err (Expected (codes "component letter") start)
+letter_in (b ∷ bs) start flag here = ok_or (letter_items flag b) (refusal (refused b) here) >>= λ items. Ok (items, after 1 here)
 
 -- a letter behind a percent sign and a flag
-unfoldable pub letter_at : ℕ → Option Padding → Piece → Result (List Tree × Piece) Fault
-letter_at percent flag s = letter_in s.text percent flag s
+unfoldable pub letter_at : ℕ → Option Padding → Rest → Result (List Tree × Rest) Fault
+letter_at start flag here = letter_in here.text start flag here
 
 -- what stands behind a percent sign
-unfoldable pub conversion_at : ℕ → Piece → Result (List Tree × Piece) Fault
-conversion_at percent s = letter_at percent (flag_at s.text) (past_flag (flag_at s.text) s)
+unfoldable pub conversion_at : ℕ → Rest → Result (List Tree × Rest) Fault
+conversion_at start here = letter_at start (flag_at here.text) (past_flag (flag_at here.text) here)
 
 abbrev pub plain_len : List ℕ → ℕ
 plain_len text = prefix_len is_plain text
 
 -- a conversion, or a literal up to the next percent sign
-unfoldable pub strftime_step : Piece → Result (List Tree × Piece) Fault
-strftime_step s =
-    if begins 37 s.text then conversion_at s.index (after 1 s)
-    else Ok (Literal (take (plain_len s.text) s.text) ∷ [], after (plain_len s.text) s)
+unfoldable pub strftime_step : Rest → Result (List Tree × Rest) Fault
+strftime_step here =
+    if begins percent here.text then conversion_at here.index (after 1 here)
+    else Ok (Literal (take (plain_len here.text) here.text) ∷ [], after (plain_len here.text) here)
 
-abbrev pub at_end : Piece → Bool
-at_end s = length s.text == 0
+abbrev pub at_end : Rest → Bool
+at_end here = length here.text == 0
 
 -- all of a text
 unfoldable pub read_strftime : List ℕ → Result (List Tree) Fault

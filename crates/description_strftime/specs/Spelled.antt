@@ -1,5 +1,6 @@
 -- The texts of strftime: which items a text spells.
 use Rattle.std.specs.Prelude.{◌≡◌, ℕ, ◌<◌, List, [], ◌∷◌, ◌++◌, length, Option, Some, None, codes, ◌⊎◌}
+use Rattle.byte_names.specs.Bytes.{percent}
 use Rattle.description_date_modifiers.specs.declared.choices.Padding.{Padding}
 use Rattle.description_date_modifiers.specs.declared.choices.Padding.TheVariants as padding
 use Rattle.description_items.specs.Tree.{Tree, Literal}
@@ -24,7 +25,7 @@ pub record SpellsText (own rest : List ℕ) (items : List Tree) : Type 0 where
 pub record SpellsConversion (own : List ℕ) (items : List Tree) : Type 0 where
   pub flag : Option Padding
   pub letter : ℕ
-  pub parts : own ≡ 37 ∷ (flag_text flag ++ letter ∷ [])
+  pub parts : own ≡ percent ∷ (flag_text flag ++ letter ∷ [])
   pub means : letter_items flag letter ≡ Some items
 
 -- a part of a text, where this rest follows

@@ -1,11 +1,12 @@
 -- Bytes of a text of strftime, and lists of items.
 use Rattle.std.specs.Prelude.{ℕ, ◌==◌, ◌&&◌, not, nat_le, nat_lt, Bool, List, [], ◌∷◌, ◌++◌}
+use Rattle.byte_names.specs.Bytes.{percent}
 use Rattle.description_items.specs.Tree.{Tree}
 pub use Rattle.description_words.specs.Text.{Each, Stops}
 
 -- what a literal is made of: all but the percent sign
 abbrev pub is_plain : ℕ → Bool
-is_plain b = not (b == 37)
+is_plain b = not (b == percent)
 
 -- a byte of a character, behind its first one
 abbrev pub is_continuation : ℕ → Bool

@@ -1,21 +1,21 @@
 //! Conversions, a percent sign and a letter each, and the literals between them.
 
-ghost use Rattle.std.specs.Prelude.{◌≡◌, ◌<◌, length};
+ghost use Rattle.std.specs.Prelude.{◌≡◌, ◌<◌, true, IfOk, length};
 ghost use Rattle.std.specs.List.{prefix_len};
 ghost use Rattle.std.specs.Str.{IsCharBoundary};
 ghost use Rattle.description_faults.specs.Answer.{Answers};
 ghost use Rattle.description_faults.specs.Fault.{fault_of};
-ghost use Rattle.description_words.specs.Views.{piece};
+ghost use Rattle.description_words.specs.Views.{rest_of};
 ghost use Rattle.description_strftime.specs.Letters.{refused};
 ghost use Rattle.description_strftime.specs.Text.{is_plain, is_continuation};
 ghost use Rattle.description_strftime.specs.Reading.{character_len, flag_at, past_flag, refusal, letter_at, conversion_at, plain_len, strftime_step};
-ghost use Rattle.description_strftime.specs.Views.{items_spelled};
+ghost use Rattle.description_strftime.specs.Views.{items_spelled, is_of_text_part};
 
 use crate::letters::{Spelled, flag_of, refused, spelled_by};
 use description_faults::InvalidFormatDescription;
 use description_items::BorrowedFormatItem;
 use description_items::modifier::Padding;
-use description_words::{Left, begins, cut};
+use description_words::{Rest, begins, cut};
 
 fn continuation_len(text: &[u8]) -> usize
     ensures value { result ≡ prefix_len is_continuation text.now }
@@ -50,11 +50,11 @@ fn plain_len(text: &str) -> usize
 }
 
 // What is wrong with a character that stands for nothing.
-fn refusal<'a>(first: u8, left: Left<'a>) -> InvalidFormatDescription<'a>
-    requires { 0 < length left.text.now }
-    ensures value { fault_of result ≡ refusal (refused first) (piece left.entry) }
+fn refusal<'a>(first: u8, here: Rest<'a>) -> InvalidFormatDescription<'a>
+    requires { 0 < length here.text.now }
+    ensures value { fault_of result ≡ refusal (refused first) (rest_of here.entry) }
 {
-    let index = left.index;
+    let index = here.index;
     match refused(first) {
         Some(what) => InvalidFormatDescription::NotSupported {
             what,
@@ -62,7 +62,7 @@ fn refusal<'a>(first: u8, left: Left<'a>) -> InvalidFormatDescription<'a>
             index,
         },
         None => InvalidFormatDescription::InvalidComponentName {
-            name: cut(left, character_len(left.text)).0.text,
+            name: cut(here, character_len(here.text)).0.text,
             index,
         },
     }
@@ -71,59 +71,62 @@ fn refusal<'a>(first: u8, left: Left<'a>) -> InvalidFormatDescription<'a>
 // A letter behind a percent sign and a flag, and what follows it.
 #[tactic(auto, unfolding(crate::specs::Reading::letter_at))]
 fn letter<'a>(
-    percent: usize,
+    start: usize,
     flag: Option<Padding>,
-    left: Left<'a>,
-) -> Result<(Spelled<'a>, Left<'a>), InvalidFormatDescription<'a>>
-    ensures value { Answers (λ x. (items_spelled x.0, piece x.1)) result (letter_at percent flag (piece left.entry)) }
+    here: Rest<'a>,
+) -> Result<(Spelled<'a>, Rest<'a>), InvalidFormatDescription<'a>>
+    ensures value { Answers (λ x. (items_spelled x.0, rest_of x.1)) result (letter_at start flag (rest_of here.entry)) }
+    ensures form { IfOk result (λ x. is_of_text_part x.0 ≡ true) }
 {
-    let [first, ..] = left.text.as_bytes() else {
+    let [first, ..] = here.text.as_bytes() else {
         return Err(InvalidFormatDescription::Expected {
             what: "component letter",
-            index: percent,
+            index: start,
         });
     };
     match spelled_by(flag, *first) {
-        Some(spelled) => Ok((spelled, cut(left, 1).1)),
-        None => Err(refusal(*first, left)),
+        Some(spelled) => Ok((spelled, cut(here, 1).1)),
+        None => Err(refusal(*first, here)),
     }
 }
 
 // The flag at the front, and what follows it.
-fn flag(left: Left<'_>) -> (Option<Padding>, Left<'_>)
-    ensures flag { result.0 ≡ flag_at left.entry.text.now }
-    ensures rest { piece result.1 ≡ past_flag (flag_at left.entry.text.now) (piece left.entry) }
+fn flag(here: Rest<'_>) -> (Option<Padding>, Rest<'_>)
+    ensures flag { result.0 ≡ flag_at here.entry.text.now }
+    ensures rest { rest_of result.1 ≡ past_flag (flag_at here.entry.text.now) (rest_of here.entry) }
 {
-    if let [first, ..] = left.text.as_bytes()
+    if let [first, ..] = here.text.as_bytes()
         && let Some(padding) = flag_of(*first)
     {
-        return (Some(padding), cut(left, 1).1);
+        return (Some(padding), cut(here, 1).1);
     }
-    (None, left)
+    (None, here)
 }
 
 // What stands behind a percent sign, and what follows it.
 #[tactic(auto, unfolding(crate::specs::Reading::conversion_at))]
 fn conversion<'a>(
-    percent: usize,
-    left: Left<'a>,
-) -> Result<(Spelled<'a>, Left<'a>), InvalidFormatDescription<'a>>
-    ensures value { Answers (λ x. (items_spelled x.0, piece x.1)) result (conversion_at percent (piece left.entry)) }
+    start: usize,
+    here: Rest<'a>,
+) -> Result<(Spelled<'a>, Rest<'a>), InvalidFormatDescription<'a>>
+    ensures value { Answers (λ x. (items_spelled x.0, rest_of x.1)) result (conversion_at start (rest_of here.entry)) }
+    ensures form { IfOk result (λ x. is_of_text_part x.0 ≡ true) }
 {
-    let (flag, rest) = flag(left);
-    letter(percent, flag, rest)
+    let (flag, rest) = flag(here);
+    letter(start, flag, rest)
 }
 
 /// The part of a text at its front, a conversion or a literal, and what follows it.
 #[tactic(auto, unfolding(crate::specs::Reading::strftime_step))]
-pub fn part<'a>(left: Left<'a>) -> Result<(Spelled<'a>, Left<'a>), InvalidFormatDescription<'a>>
-    ensures value { Answers (λ x. (items_spelled x.0, piece x.1)) result (strftime_step (piece left.entry)) }
+pub fn part<'a>(here: Rest<'a>) -> Result<(Spelled<'a>, Rest<'a>), InvalidFormatDescription<'a>>
+    ensures value { Answers (λ x. (items_spelled x.0, rest_of x.1)) result (strftime_step (rest_of here.entry)) }
+    ensures form { IfOk result (λ x. is_of_text_part x.0 ≡ true) }
 {
-    if begins(left.text, b'%') {
-        let (_, rest) = cut(left, 1);
-        return conversion(left.index, rest);
+    if begins(here.text, b'%') {
+        let (_, rest) = cut(here, 1);
+        return conversion(here.index, rest);
     }
-    let (front, rest) = cut(left, plain_len(left.text));
+    let (front, rest) = cut(here, plain_len(here.text));
     Ok((
         Spelled::Item(BorrowedFormatItem::StringLiteral(front.text)),
         rest,

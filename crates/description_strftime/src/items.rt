@@ -1,9 +1,10 @@
 //! The items of the parts of a text, one after the other.
 
-ghost use Rattle.std.specs.Prelude.{◌≡◌, ◌++◌, IfOk, map};
+ghost use Rattle.std.specs.Prelude.{◌≡◌, ◌++◌, true, IfOk, map};
+ghost use Rattle.description_items.specs.Forms.{is_of_text, are_of_text};
 ghost use Rattle.description_items.specs.Tree.{tree_of, trees};
 ghost use Rattle.description_strftime.specs.Letters.{offset, separator, part_of};
-ghost use Rattle.description_strftime.specs.Views.{items_spelled};
+ghost use Rattle.description_strftime.specs.Views.{items_spelled, is_of_text_part};
 
 use crate::letters::{Spelled, item_of};
 use description_items::modifier::{OffsetHour, OffsetMinute, Padding};
@@ -27,6 +28,7 @@ fn separator(byte: u8) -> &'static str
 #[tactic(auto, unfolding(crate::specs::Letters::part_of))]
 fn part_of(byte: u8) -> BorrowedFormatItem<'static>
     ensures value { tree_of result ≡ part_of byte }
+    ensures form { is_of_text result ≡ true }
 {
     match item_of(None, byte) {
         Some(item) => item,
@@ -40,6 +42,7 @@ fn push_composite(
     letters: &'static str,
 ) -> Result<(), AllocError>
     ensures items { IfOk result (λ _. trees all.new.items ≡ trees all.old.items ++ map part_of letters.now) }
+    ensures form { IfOk result (λ _. are_of_text all.old.items ≡ true → are_of_text all.new.items ≡ true) }
 {
     for byte in letters.as_bytes() {
         all.push(part_of(*byte))?;
@@ -50,6 +53,7 @@ fn push_composite(
 // The hours and the minutes of an offset, behind the others.
 fn push_offset(all: &mut Vec<BorrowedFormatItem<'_>>) -> Result<(), AllocError>
     ensures items { IfOk result (λ _. trees all.new.items ≡ trees all.old.items ++ offset) }
+    ensures form { IfOk result (λ _. are_of_text all.old.items ≡ true → are_of_text all.new.items ≡ true) }
 {
     let padding = Padding::Zero;
     let hour = OffsetHour {
@@ -68,6 +72,7 @@ pub fn push_part<'a>(
     part: Spelled<'a>,
 ) -> Result<(), AllocError>
     ensures items { IfOk result (λ _. trees all.new.items ≡ trees all.old.items ++ items_spelled part.entry) }
+    ensures form { IfOk result (λ _. are_of_text all.old.items ≡ true → is_of_text_part part.entry ≡ true → are_of_text all.new.items ≡ true) }
 {
     match part {
         Spelled::Item(item) => {

@@ -5,15 +5,9 @@ ghost use Rattle.description_faults.specs.Fault.{Fault};
 ghost use Rattle.description_items.specs.Tree.{Tree};
 ghost use Rattle.description_strftime.specs.Composites.{SpellSame};
 ghost use Rattle.description_strftime.specs.Faulty.{FaultyStrftime};
-ghost use Rattle.description_strftime.specs.Further.{further};
+ghost use Rattle.description_faults.specs.Further.{further};
 ghost use Rattle.description_strftime.specs.Joined.{Joins};
-ghost use Rattle.description_strftime.specs.Outcomes.{OneOutcome};
 ghost use Rattle.description_strftime.specs.Spelled.{SpellsStrftime};
-
-/// Each text spells one list of items or has one fault, and none does both.
-pub fn one_outcome()
-    ensures holds { (text : List ℕ) → OneOutcome text }
-{}
 
 /// Of two texts that spell items, the one followed by the other spells the items of both. Where a literal ends
 /// the first text and one begins the second, these two are one literal there.

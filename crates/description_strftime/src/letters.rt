@@ -1,10 +1,11 @@
 //! What letters stand for.
 
-ghost use Rattle.std.specs.Prelude.{◌≡◌, ◌<◌, IfSome};
+ghost use Rattle.std.specs.Prelude.{◌≡◌, ◌<◌, true, IfSome};
 ghost use Rattle.std.specs.Option.{option_map};
+ghost use Rattle.description_items.specs.Forms.{is_of_text};
 ghost use Rattle.description_items.specs.Tree.{tree_of};
 ghost use Rattle.description_strftime.specs.Letters.{flag_of, text_of, item_of, composite, letter_items, refused};
-ghost use Rattle.description_strftime.specs.Views.{items_spelled};
+ghost use Rattle.description_strftime.specs.Views.{items_spelled, is_of_text_part};
 
 use crate::numbers::component_of;
 use description_items::BorrowedFormatItem;
@@ -53,6 +54,7 @@ fn text_of(letter: u8) -> Option<&'static str>
 #[tactic(auto, unfolding(crate::specs::Letters::item_of))]
 pub fn item_of(flag: Option<Padding>, letter: u8) -> Option<BorrowedFormatItem<'static>>
     ensures value { option_map (λ item. tree_of item) result ≡ item_of flag letter }
+    ensures form { IfSome result (λ item. is_of_text item ≡ true) }
     ensures ascii { IfSome result (λ _. letter < 128) }
 {
     if let Some(component) = component_of(flag, letter) {
@@ -85,6 +87,7 @@ fn composite(letter: u8) -> Option<&'static str>
 #[tactic(auto, unfolding(crate::specs::Letters::letter_items))]
 pub fn spelled_by(flag: Option<Padding>, letter: u8) -> Option<Spelled<'static>>
     ensures value { option_map (λ s. items_spelled s) result ≡ letter_items flag letter }
+    ensures form { IfSome result (λ part. is_of_text_part part ≡ true) }
     ensures ascii { IfSome result (λ _. letter < 128) }
 {
     if let Some(item) = item_of(flag, letter) {

@@ -1,8 +1,9 @@
 //! Descriptions by letters.
 
-ghost use Rattle.std.specs.Prelude.{List, Ok, Err};
+ghost use Rattle.std.specs.Prelude.{◌≡◌, true, List, Ok, Err, IfOk};
 ghost use Rattle.description_faults.specs.Answer.{Gives};
 ghost use Rattle.description_faults.specs.Fault.{Fault};
+ghost use Rattle.description_items.specs.Forms.{are_of_text};
 ghost use Rattle.description_items.specs.Tree.{Tree, trees};
 ghost use Rattle.description_strftime.specs.Reading.{read_strftime};
 ghost use Rattle.description_strftime.specs.Spelled.{SpellsStrftime};
@@ -51,6 +52,8 @@ pub fn parse_strftime_borrowed<'a>(
     text: &'a str,
 ) -> Result<Vec<BorrowedFormatItem<'a>>, DescriptionFault<'a>>
     ensures outcome { IsOutcome text.now result }
+    // Literals are text, not bytes.
+    ensures form { IfOk result (λ items. are_of_text items.items ≡ true) }
     // What is spelled is answered, unless memory runs out.
     ensures items { (items : List Tree) → SpellsStrftime text.now items → Gives (λ v. trees v.items) result (Ok items) }
     ensures fault { (fault : Fault) → FaultyStrftime text.now fault → Gives (λ v. trees v.items) result (Err fault) }
@@ -64,6 +67,7 @@ fn items_of_strftime<'a>(
     text: &'a str,
 ) -> Result<Vec<BorrowedFormatItem<'a>>, DescriptionFault<'a>>
     ensures value { Gives (λ v. trees v.items) result (read_strftime text.now) }
+    ensures form { IfOk result (λ items. are_of_text items.items ≡ true) }
 {
     let mut all = Vec::new(alloc);
     let mut rest = whole_of(text);

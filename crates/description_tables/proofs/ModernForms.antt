@@ -16,7 +16,9 @@ use Rattle.description_time_modifiers.specs.declared.choices.UnixTimestampPrecis
 use Rattle.description_time_modifiers.specs.declared.choices.UnixTimestampPrecision.TheVariants as unit
 use Rattle.description_items.specs.declared.component.Component.{Component}
 use Rattle.description_items.specs.declared.component.Component.TheVariants as component
-use Rattle.std.specs.Option.{option_map}
+use Rattle.std.specs.Option.{option_map, option_and_then}
+use Rattle.description_time_modifiers.specs.Ignored.{ignored}
+use Rattle.description_time_modifiers.specs.declared.ignore.Ignore.{Ignore}
 use Rattle.description_items.specs.Modern.{modern, modern_month, modern_weekday, modern_week_number, modern_year, modern_hour, modern_timestamp}
 use Rattle.description_words.specs.declared.version.DescriptionVersion.{DescriptionVersion}
 use Rattle.description_tables.specs.declared.names.Name.{Name}
@@ -72,9 +74,9 @@ made_is v name.WeekNumber c = week_is _ _
 made_is v name.Year c = year_is _ _ _ _ _
 made_is v name.Hour c = hour_is _ _
 made_is v name.UnixTimestamp c = timestamp_is _ _
-made_is v name.Ignore c = ignored c.count
+made_is v name.Ignore c = of_ignored (option_and_then ignored c.count)
   where
-    ignored : (count : Option ℕ) → IfSome (option_map (λ n. component.Ignore (record { count = n })) count) IsModern
-    ignored None = tt
-    ignored (Some n) = refl
+    of_ignored : (o : Option Ignore) → IfSome (option_map (λ i. component.Ignore i) o) IsModern
+    of_ignored None = tt
+    of_ignored (Some i) = refl
 made_is v n c = refl

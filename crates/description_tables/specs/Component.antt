@@ -5,7 +5,7 @@ use Rattle.description_faults.specs.Answer.{◌>>=◌}
 use Rattle.description_items.specs.declared.component.Component.{Component}
 use Rattle.description_words.specs.declared.version.DescriptionVersion.{DescriptionVersion}
 use Rattle.description_words.specs.Version.{is_three}
-use Rattle.description_words.specs.Text.{Piece}
+use Rattle.description_words.specs.Text.{Rest}
 use Rattle.description_words.specs.Words.{Modifier}
 use Rattle.description_tables.specs.declared.names.Name.{Name}
 use Rattle.description_tables.specs.declared.keys.Key.{Key}
@@ -20,7 +20,7 @@ abbrev pub found : {A : Type 0} → Option A → Fault → Result A Fault
 found None fault = Err fault
 found (Some x) fault = Ok x
 
-abbrev pub bad : Piece → Fault
+abbrev pub bad : Rest → Fault
 bad word = InvalidModifier word.text word.index
 
 -- the key among those of the component
@@ -28,7 +28,7 @@ abbrev pub key_among : Option Key → Name → Fault → Result Key Fault
 key_among None n fault = Err fault
 key_among (Some k) n fault = if has_key k n then Ok k else Err fault
 
-abbrev pub key_in : DescriptionVersion → Name → Piece → Result Key Fault
+abbrev pub key_in : DescriptionVersion → Name → Rest → Result Key Fault
 key_in v n word = key_among (key_of v word.text) n (bad word)
 
 -- its key, then in version 3 that it is the first with that key, then its value
@@ -50,11 +50,11 @@ combined v n c (m ∷ ms) = do
   k ← key_in v n m.key
   (if is_three v && not (is_carried n c.repr k) then Err (InvalidModifierCombination m.key.text (name_text n) m.key.index) else combined v n c ms)
 
-unfoldable pub named : DescriptionVersion → Piece → Result Name Fault
+unfoldable pub named : DescriptionVersion → Rest → Result Name Fault
 named v word = found (name_of v word.text) (InvalidComponentName word.text word.index)
 
 -- the name, then each modifier in turn, then combinations, then what is required
-unfoldable pub component_of : DescriptionVersion → Piece → List Modifier → Result Component Fault
+unfoldable pub component_of : DescriptionVersion → Rest → List Modifier → Result Component Fault
 component_of v word ms = do
   n ← named v word
   c ← with_modifiers v n nothing ms

@@ -1,6 +1,6 @@
 -- The component that a name and its chosen values make; the defaults where nothing was chosen.
 use Rattle.std.specs.Prelude.{Bool, true, false, Option, Some}
-use Rattle.std.specs.Option.{option_map, unwrap_or}
+use Rattle.std.specs.Option.{option_map, option_and_then, unwrap_or}
 use Rattle.description_date_modifiers.specs.declared.choices.Padding.TheVariants as padding
 use Rattle.description_date_modifiers.specs.declared.choices.MonthRepr.{MonthRepr}
 use Rattle.description_date_modifiers.specs.declared.choices.MonthRepr.TheVariants as month
@@ -12,6 +12,7 @@ use Rattle.description_date_modifiers.specs.declared.choices.YearRepr.{YearRepr}
 use Rattle.description_date_modifiers.specs.declared.choices.YearRepr.TheVariants as year
 use Rattle.description_date_modifiers.specs.declared.choices.YearRange.{YearRange}
 use Rattle.description_date_modifiers.specs.declared.choices.YearRange.TheVariants as range
+use Rattle.description_time_modifiers.specs.Ignored.{ignored}
 use Rattle.description_time_modifiers.specs.declared.choices.SubsecondDigits.TheVariants as digits
 use Rattle.description_time_modifiers.specs.declared.choices.UnixTimestampPrecision.TheVariants as unit
 use Rattle.description_time_modifiers.specs.declared.choices.TrailingInput.TheVariants as trailing
@@ -98,5 +99,5 @@ made v name.Period c = Some (period_made c)
 made v name.OffsetHour c = Some (offset_hour_made c)
 made v name.UnixTimestamp c = Some (unix_timestamp_made c)
 made v name.Subsecond c = Some (component.Subsecond (record { digits = unwrap_or c.digits digits.OneOrMore }))
-made v name.Ignore c = option_map (λ n. component.Ignore (record { count = n })) c.count
+made v name.Ignore c = option_map (λ i. component.Ignore i) (option_and_then ignored c.count)
 made v name.End c = Some (component.End (record { trailing_input = unwrap_or c.trailing_input trailing.Prohibit }))

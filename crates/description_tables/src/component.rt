@@ -3,7 +3,7 @@
 ghost use Rattle.std.specs.Prelude.{◌≡◌, Result, IfOk};
 ghost use Rattle.description_faults.specs.Answer.{Answers};
 ghost use Rattle.description_items.specs.Modern.{modern};
-ghost use Rattle.description_words.specs.Views.{piece, modifier, modifiers};
+ghost use Rattle.description_words.specs.Views.{rest_of, modifier, modifiers};
 ghost use Rattle.description_tables.specs.Component.{key_in, with_modifier, with_modifiers, combined, named, component_of};
 ghost use Rattle.description_tables.specs.Chosen.{nothing};
 
@@ -13,15 +13,15 @@ use crate::made::made;
 use crate::names::{Name, name_of, name_text};
 use description_faults::InvalidFormatDescription;
 use description_items::Component;
-use description_words::{DescriptionVersion, Left, Modifier};
+use description_words::{DescriptionVersion, Modifier, Rest};
 
 // The key that a word names, if the component has it.
 fn key_in<'a>(
     version: DescriptionVersion,
     name: Name,
-    word: Left<'a>,
+    word: Rest<'a>,
 ) -> Result<Key, InvalidFormatDescription<'a>>
-    ensures { Answers (λ k. k) result (key_in version name (piece word.entry)) }
+    ensures { Answers (λ k. k) result (key_in version name (rest_of word.entry)) }
 {
     match key_of(version, word.text) {
         Some(key) if has_key(name, key) => Ok(key),
@@ -98,9 +98,9 @@ fn combined<'a>(
 #[tactic(auto, unfolding(crate::specs::Component::named))]
 fn named<'a>(
     version: DescriptionVersion,
-    word: Left<'a>,
+    word: Rest<'a>,
 ) -> Result<Name, InvalidFormatDescription<'a>>
-    ensures { Answers (λ n. n) result (named version (piece word.entry)) }
+    ensures { Answers (λ n. n) result (named version (rest_of word.entry)) }
 {
     match name_of(version, word.text) {
         Some(name) => Ok(name),
@@ -116,10 +116,10 @@ fn named<'a>(
 #[tactic(auto, unfolding(crate::specs::Component::component_of))]
 pub fn component_of<'a>(
     version: DescriptionVersion,
-    word: Left<'a>,
+    word: Rest<'a>,
     all: &[Modifier<'a>],
 ) -> Result<Component, InvalidFormatDescription<'a>>
-    ensures value { Answers (λ c. c) result (component_of version (piece word.entry) (modifiers all.now)) }
+    ensures value { Answers (λ c. c) result (component_of version (rest_of word.entry) (modifiers all.now)) }
     // The older forms have no name of their own.
     ensures modern { IfOk result (λ component. modern component ≡ component) }
 {

@@ -178,9 +178,7 @@ pub fn made(version: DescriptionVersion, name: Name, chosen: Chosen) -> Option<C
             digits: chosen.digits.unwrap_or(SubsecondDigits::OneOrMore),
         }),
         Name::OffsetHour => offset_hour(chosen),
-        Name::Ignore => Component::Ignore(modifier::Ignore {
-            count: chosen.count?,
-        }),
+        Name::Ignore => Component::Ignore(modifier::Ignore::count(chosen.count?)?),
         Name::UnixTimestamp => unix_timestamp(chosen),
         Name::End => Component::End(modifier::End {
             trailing_input: chosen.trailing_input.unwrap_or(TrailingInput::Prohibit),

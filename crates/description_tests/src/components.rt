@@ -1,6 +1,6 @@
 //! Names and modifiers, and the components that they mean.
 
-use crate::support::{row, version_of};
+use crate::support::{failure, row, version_of};
 use description_faults::InvalidFormatDescription;
 use description_items::Component;
 use description_tables::component_of;
@@ -14,22 +14,21 @@ fn meaning<'a>(
     alloc: Global,
     version: DescriptionVersion,
     text: &'a str,
-) -> Option<Result<Component, InvalidFormatDescription<'a>>> {
+) -> Result<Result<Component, InvalidFormatDescription<'a>>, Fail> {
     let Ok((name, rest)) = name_of(0, whole_of(text)) else {
-        return None;
+        return Err(Fail::from("no name"));
     };
-    let Ok((all, _)) = modifiers_of(alloc, rest) else {
-        return None;
-    };
-    Some(component_of(version, name, all.as_slice()))
+    match modifiers_of(alloc, rest) {
+        Ok((all, _)) => Ok(component_of(version, name, all.as_slice())),
+        Err(fault) => Err(failure(fault)),
+    }
 }
 
 // The same in words, or what is wrong with them.
 fn told(alloc: Global, version: DescriptionVersion, text: &str) -> Result<String, Fail> {
-    match meaning(alloc, version, text) {
-        Some(Ok(component)) => Ok(format!(in alloc; "{component:?}")?),
-        Some(Err(fault)) => Ok(format!(in alloc; "{fault}")?),
-        None => Err(Fail::from("no component")),
+    match meaning(alloc, version, text)? {
+        Ok(component) => Ok(format!(in alloc; "{component:?}")?),
+        Err(fault) => Ok(format!(in alloc; "{fault}")?),
     }
 }
 

@@ -2,7 +2,7 @@
 
 use description_items::modifier::*;
 use description_items::{
-    BorrowedFormatItem, Component, DifferentVariant, Iso8601, Rfc2822, Rfc3339,
+    BorrowedFormatItem, Component, DifferentVariant, Iso8601, Period as HalfOfDay, Rfc2822, Rfc3339,
 };
 use std::test::Fail;
 
@@ -69,6 +69,14 @@ const TEXTS: &str = r#"
 Optional(StringLiteral("x"))
 First([StringLiteral("x"), Component(Day(Day { padding: None }))])
 value was of a different variant"#;
+
+#[test]
+fn halves_of_a_day(rt: HostRuntime) -> Result<(), Fail> {
+    let (am, pm) = (HalfOfDay::Am, HalfOfDay::Pm);
+    assert_eq!(rt; [am == am, am == pm, pm == pm], [true, false, true]);
+    assert_eq!(rt; format!(in rt.alloc(); "{am:?} {pm:?}")?.as_str(), "Am Pm");
+    Ok(())
+}
 
 #[test]
 fn formats_equal_themselves(rt: HostRuntime) {

@@ -40,3 +40,19 @@ pub fn fault_told(alloc: Global, fault: DescriptionFault<'_>) -> Result<String, 
         DescriptionFault::Memory => Err(Fail::from(AllocError)),
     }
 }
+
+/// What a call gives, where memory doesn't run out and the text has no fault.
+pub fn given<T>(answer: Result<T, DescriptionFault<'_>>) -> Result<T, Fail> {
+    match answer {
+        Ok(given) => Ok(given),
+        Err(fault) => Err(failure(fault)),
+    }
+}
+
+/// Why a call that should give something gives nothing.
+pub fn failure(fault: DescriptionFault<'_>) -> Fail {
+    match fault {
+        DescriptionFault::Memory => Fail::from(AllocError),
+        DescriptionFault::Description(_) => Fail::from("a fault"),
+    }
+}

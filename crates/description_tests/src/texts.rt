@@ -1,6 +1,6 @@
 //! Descriptions of versions 1, 2 and 3, told in words.
 
-use crate::support::{LATER, THREE, fault_told, row, version_of};
+use crate::support::{LATER, THREE, TWO, fault_told, given, row, version_of};
 use description::{Description, DescriptionVersion, parse, parse_borrowed};
 use std::alloc::Global;
 use std::process::Abort;
@@ -13,6 +13,17 @@ fn told(alloc: Global, version: DescriptionVersion, text: &str) -> Result<String
         Ok(Description::V3(tree)) => Ok(format!(in alloc; "{tree:?}")?),
         Err(fault) => fault_told(alloc, fault),
     }
+}
+
+#[test]
+fn descriptions_as_they_are_shown(rt: HostRuntime) -> Result<(), Fail> {
+    let items = given(parse_borrowed(rt.alloc(), TWO, "x"))?;
+    let tree = given(parse_borrowed(rt.alloc(), THREE, ""))?;
+    let told = format!(in rt.alloc(); "{items:?} {tree:?}")?;
+    let wanted =
+        "Items([StringLiteral(\"x\")]) V3(FormatDescriptionV3 { inner: OwnedCompound([]), max_bytes_needed: 0 })";
+    assert_eq!(rt; told.as_str(), wanted);
+    Ok(())
 }
 
 // A row holds in each version that it names.

@@ -103,6 +103,14 @@ fn components_reserve_their_longest_value(rt: HostRuntime) -> Result<(), Fail> {
 }
 
 #[test]
+fn lent_nodes(rt: HostRuntime) -> Result<(), Fail> {
+    let lent = Lent { items: &[] };
+    let told = format!(in rt.alloc(); "{lent:?}")?;
+    assert_eq!(rt; told.as_str(), "Lent { items: [] }");
+    Ok(())
+}
+
+#[test]
 fn lent_trees(rt: HostRuntime) -> Result<(), Fail> {
     let none = Lent { items: &[] };
     let four = told(

@@ -1,10 +1,11 @@
 //! The words of a description.
 
-use crate::support::{ONE, THREE, TWO};
+use crate::support::{ONE, THREE, TWO, failure};
 use description_faults::{DescriptionFault, InvalidFormatDescription};
 use description_words::{
     begins, closed, cut, escape, is_named, literal, modifiers_of, name_of, past_space, whole_of,
 };
+use std::test::Fail;
 
 #[test]
 fn versions_and_names(rt: HostRuntime) {
@@ -46,15 +47,16 @@ fn missing_names(rt: HostRuntime) {
 }
 
 #[test]
-fn modifiers_are_cut_at_their_first_colon(rt: HostRuntime) {
+fn modifiers_are_cut_at_their_first_colon(rt: HostRuntime) -> Result<(), Fail> {
     match modifiers_of(rt.alloc(), whole_of(" a:b:c  key:value ]")) {
         Ok((all, rest)) => {
             assert_eq!(rt; (all.len(), rest.text), (2, "]"));
             let (one, other) = (all[0], all[1]);
             assert_eq!(rt; (one.key.text, one.value.text), ("a", "b:c"));
             assert_eq!(rt; (other.key.index, other.value.index), (8, 12));
+            Ok(())
         }
-        Err(fault) => assert!(rt; fault == DescriptionFault::Memory),
+        Err(fault) => Err(failure(fault)),
     }
 }
 

@@ -1,5 +1,5 @@
-//! Where a description ends, and what it passes over.
-ghost use Rattle.std.specs.Prelude.{◌≡◌, ℕ, nat_eq, if◌then◌else◌, Option, Some, None};
+//! Where a description ends.
+ghost use Rattle.std.specs.Prelude.{◌≡◌};
 ghost use Rattle.description_time_modifiers.specs.declared.choices.TrailingInput.TheVariants as TrailingInput;
 
 use crate::choices::TrailingInput;
@@ -27,32 +27,5 @@ impl End {
         ensures value { result ≡ record self { trailing_input = trailing_input } }
     {
         End { trailing_input }
-    }
-}
-
-/// A number of bytes that are passed over unread, at least one.
-#[derive(Clone, Copy, Debug, PartialEq, Eq)]
-pub struct Ignore {
-    /// The number of bytes.
-    pub count: u16,
-}
-
-impl Ignore {
-    /// So many bytes, unless that is none.
-    pub fn count(count: u16) -> Option<Ignore>
-        ensures value { result ≡ (if nat_eq count 0 then None else Some (record { count = count })) }
-    {
-        if count == 0 {
-            None
-        } else {
-            Some(Ignore { count })
-        }
-    }
-
-    /// The same with so many bytes, unless that is none.
-    pub fn with_count(self, count: u16) -> Option<Ignore>
-        ensures value { result ≡ (if nat_eq count 0 then None else Some (record self { count = count })) }
-    {
-        Ignore::count(count)
     }
 }

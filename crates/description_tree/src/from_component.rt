@@ -2,16 +2,15 @@
 
 ghost use Rattle.std.specs.Prelude.{◌≡◌, false, IfSome};
 ghost use Rattle.std.specs.Option.{IsNone};
-ghost use Rattle.description_items.specs.Tree.{Part};
 ghost use Rattle.description_items.specs.Modern.{modern};
-ghost use Rattle.description_tree.specs.Inner.{inner_tree};
+ghost use Rattle.description_tree.specs.Forms.{IsPart};
 ghost use Rattle.description_tree.specs.Kinds.{is_date_part, is_year_part, is_time_part};
 
 use crate::inner::{FormatDescriptionV3Inner, FormatDescriptionV3Inner as Inner};
 use description_items::Component;
 
 impl<'a> From<Component> for FormatDescriptionV3Inner<'a> {
-    ghost from_gives = { λ component node. inner_tree node ≡ Part (modern component) };
+    ghost from_gives = { λ component node. IsPart (modern component) node };
 
     fn from(component: Component) -> Self {
         let component = component.modern();
@@ -30,7 +29,7 @@ impl<'a> From<Component> for FormatDescriptionV3Inner<'a> {
 
 // The node of a day, a month, a weekday or a week.
 fn date_node<'a>(component: Component) -> Option<FormatDescriptionV3Inner<'a>>
-    ensures value { IfSome result (λ node. inner_tree node ≡ Part component) }
+    ensures value { IfSome result (λ node. IsPart component node) }
     ensures none { IsNone result → is_date_part component ≡ false }
 {
     let node = match component {
@@ -53,7 +52,7 @@ fn date_node<'a>(component: Component) -> Option<FormatDescriptionV3Inner<'a>>
 
 // The node of a year.
 fn year_node<'a>(component: Component) -> Option<FormatDescriptionV3Inner<'a>>
-    ensures value { IfSome result (λ node. inner_tree node ≡ Part component) }
+    ensures value { IfSome result (λ node. IsPart component node) }
     ensures none { IsNone result → is_year_part component ≡ false }
 {
     let node = match component {
@@ -78,7 +77,7 @@ fn year_node<'a>(component: Component) -> Option<FormatDescriptionV3Inner<'a>>
 
 // The node of a part of a time, of an offset or of the text itself.
 fn time_node<'a>(component: Component) -> Option<FormatDescriptionV3Inner<'a>>
-    ensures value { IfSome result (λ node. inner_tree node ≡ Part component) }
+    ensures value { IfSome result (λ node. IsPart component node) }
     ensures none { IsNone result → is_time_part component ≡ false }
 {
     let node = match component {

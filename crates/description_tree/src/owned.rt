@@ -1,7 +1,8 @@
 //! Copies that lend nothing.
 
-ghost use Rattle.std.specs.Prelude.{◌≡◌, IfOk};
+ghost use Rattle.std.specs.Prelude.{◌≡◌, true, IfOk};
 ghost use Rattle.description_items.specs.Tree.{Optional};
+ghost use Rattle.description_tree.specs.Forms.{is_owned, are_owned};
 ghost use Rattle.description_tree.specs.Inner.{inner_tree, inner_trees};
 
 use crate::inner::FormatDescriptionV3Inner as Inner;
@@ -10,7 +11,8 @@ use std::alloc::{AllocError, Global};
 // A copy of the node and all that is in it.
 #[cycle(owned)]
 pub(crate) fn owned<'b>(alloc: Global, node: &Inner<'_>) -> Result<Inner<'b>, AllocError>
-    ensures { IfOk result (λ copy. inner_tree copy ≡ inner_tree node.now) }
+    ensures tree { IfOk result (λ copy. inner_tree copy ≡ inner_tree node.now) }
+    ensures owned { IfOk result (λ copy. is_owned copy ≡ true) }
 {
     if let Some(component) = node.component() {
         return Ok(Inner::from(component));
@@ -31,7 +33,8 @@ pub(crate) fn owned<'b>(alloc: Global, node: &Inner<'_>) -> Result<Inner<'b>, Al
 // An optional node round a copy of this one.
 #[cycle(owned)]
 fn optional<'b>(alloc: Global, format: bool, node: &Inner<'_>) -> Result<Inner<'b>, AllocError>
-    ensures { IfOk result (λ copy. inner_tree copy ≡ Optional format (inner_tree node.now)) }
+    ensures tree { IfOk result (λ copy. inner_tree copy ≡ Optional format (inner_tree node.now)) }
+    ensures owned { IfOk result (λ copy. is_owned copy ≡ true) }
 {
     let copy = owned(alloc, node)?;
     let item = Box::new(alloc, copy)?;
@@ -41,7 +44,8 @@ fn optional<'b>(alloc: Global, format: bool, node: &Inner<'_>) -> Result<Inner<'
 // Copies of all of them.
 #[cycle(owned)]
 fn all_owned<'b>(alloc: Global, nodes: &[Inner<'_>]) -> Result<Vec<Inner<'b>>, AllocError>
-    ensures { IfOk result (λ copies. inner_trees copies.items ≡ inner_trees nodes.now) }
+    ensures trees { IfOk result (λ copies. inner_trees copies.items ≡ inner_trees nodes.now) }
+    ensures owned { IfOk result (λ copies. are_owned copies.items ≡ true) }
 {
     let mut copies = Vec::new(alloc);
     for node in nodes {

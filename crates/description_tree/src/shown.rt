@@ -1,7 +1,7 @@
 //! Trees as a programmer reads them.
 
 use crate::FormatDescriptionV3;
-use crate::inner::FormatDescriptionV3Inner as Inner;
+use crate::inner::{FormatDescriptionV3Inner as Inner, Lent};
 use std::fmt;
 
 impl fmt::Debug for FormatDescriptionV3<'_> {
@@ -19,6 +19,14 @@ impl fmt::Debug for Inner<'_> {
     }
 }
 
+impl fmt::Debug for Lent<'_> {
+    fn fmt<W: fmt::Write>(&self, f: &mut fmt::Formatter<W>) -> fmt::Result {
+        f.write_str("Lent { items: ")?;
+        write_nodes(self.items, f)?;
+        f.write_str(" }")
+    }
+}
+
 #[cycle(shown)]
 fn write_node<W: fmt::Write>(node: &Inner<'_>, f: &mut fmt::Formatter<W>) -> fmt::Result {
     if let Some(component) = node.component() {
@@ -27,14 +35,8 @@ fn write_node<W: fmt::Write>(node: &Inner<'_>, f: &mut fmt::Formatter<W>) -> fmt
     match node {
         Inner::BorrowedLiteral(text) => write!(f, "BorrowedLiteral({text:?})"),
         Inner::OwnedLiteral(text) => write!(f, "OwnedLiteral({text:?})"),
-        Inner::BorrowedCompound(lent) => {
-            f.write_str("BorrowedCompound([")?;
-            write_nodes(lent.items, f)
-        }
-        Inner::OwnedCompound(items) => {
-            f.write_str("OwnedCompound([")?;
-            write_nodes(items, f)
-        }
+        Inner::BorrowedCompound(lent) => write_list("BorrowedCompound", lent.items, f),
+        Inner::OwnedCompound(items) => write_list("OwnedCompound", items, f),
         Inner::BorrowedOptional { format, item } => {
             write!(f, "BorrowedOptional {{ format: {format}, item: ")?;
             write_node(item, f)?;
@@ -45,26 +47,33 @@ fn write_node<W: fmt::Write>(node: &Inner<'_>, f: &mut fmt::Formatter<W>) -> fmt
             write_node(item, f)?;
             f.write_str(" }")
         }
-        Inner::BorrowedFirst(lent) => {
-            f.write_str("BorrowedFirst([")?;
-            write_nodes(lent.items, f)
-        }
-        Inner::OwnedFirst(items) => {
-            f.write_str("OwnedFirst([")?;
-            write_nodes(items, f)
-        }
+        Inner::BorrowedFirst(lent) => write_list("BorrowedFirst", lent.items, f),
+        Inner::OwnedFirst(items) => write_list("OwnedFirst", items, f),
         _ => unreachable!(),
     }
 }
 
-// Nodes with a comma between them, up to the brackets that close their list.
+// A node that has a list, by its name.
+#[cycle(shown)]
+fn write_list<W: fmt::Write>(
+    name: &str,
+    nodes: &[Inner<'_>],
+    f: &mut fmt::Formatter<W>,
+) -> fmt::Result {
+    write!(f, "{name}(")?;
+    write_nodes(nodes, f)?;
+    f.write_str(")")
+}
+
+// Nodes between brackets, with a comma between them.
 #[cycle(shown)]
 fn write_nodes<W: fmt::Write>(nodes: &[Inner<'_>], f: &mut fmt::Formatter<W>) -> fmt::Result {
+    f.write_str("[")?;
     for (index, node) in nodes.iter().enumerate() {
         if index > 0 {
             f.write_str(", ")?;
         }
         write_node(node, f)?;
     }
-    f.write_str("])")
+    f.write_str("]")
 }

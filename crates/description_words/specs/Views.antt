@@ -1,15 +1,15 @@
--- Pieces of the code as pieces of the definitions.
+-- Rests and modifiers of the code as those of the definitions.
 use Rattle.std.specs.Prelude.{List, map}
-use Rattle.description_words.specs.declared.left.Left.{Left}
-use Rattle.description_words.specs.declared.modifiers.Modifier as code
-use Rattle.description_words.specs.Text.{Piece}
+use Rattle.description_words.specs.declared.rest.Rest as code
+use Rattle.description_words.specs.declared.modifiers.Modifier as code_modifier
+use Rattle.description_words.specs.Text.{Rest}
 use Rattle.description_words.specs.Words.{Modifier}
 
-abbrev pub piece : Left → Piece
-piece s = record { index = s.index; text = s.text.now }
+abbrev pub rest_of : code.Rest → Rest
+rest_of here = record { index = here.index; text = here.text.now }
 
-abbrev pub modifier : code.Modifier → Modifier
-modifier m = record { key = piece m.key; value = piece m.value }
+abbrev pub modifier : code_modifier.Modifier → Modifier
+modifier m = record { key = rest_of m.key; value = rest_of m.value }
 
-abbrev pub modifiers : List code.Modifier → List Modifier
+abbrev pub modifiers : List code_modifier.Modifier → List Modifier
 modifiers ms = map modifier ms

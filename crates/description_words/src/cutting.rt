@@ -1,34 +1,34 @@
-//! Pieces cut off a text.
+//! Parts cut off a text.
 
 ghost use Rattle.std.specs.Prelude.{◌≡◌, take};
 ghost use Rattle.std.specs.Str.{IsCharBoundary};
 ghost use Rattle.description_words.specs.Text.{after, whole};
-ghost use Rattle.description_words.specs.Views.{piece};
+ghost use Rattle.description_words.specs.Views.{rest_of};
 
-use crate::left::Left;
+use crate::rest::Rest;
 
 /// All of a text.
-pub fn whole_of<'a>(text: &'a str) -> Left<'a>
-    ensures value { piece result ≡ whole text.now }
+pub fn whole_of<'a>(text: &'a str) -> Rest<'a>
+    ensures value { rest_of result ≡ whole text.now }
 {
     let _len = text.len();
-    Left { index: 0, text }
+    Rest { index: 0, text }
 }
 
 /// The first `len` bytes, and what follows them.
-pub fn cut<'a>(left: Left<'a>, len: usize) -> (Left<'a>, Left<'a>)
-    requires { IsCharBoundary left.text.now len }
-    ensures front { (piece result.0).index ≡ left.entry.index }
-    ensures text { (piece result.0).text ≡ take len left.entry.text.now }
-    ensures back { piece result.1 ≡ after len (piece left.entry) }
+pub fn cut<'a>(here: Rest<'a>, len: usize) -> (Rest<'a>, Rest<'a>)
+    requires { IsCharBoundary here.text.now len }
+    ensures front { (rest_of result.0).index ≡ here.entry.index }
+    ensures text { (rest_of result.0).text ≡ take len here.entry.text.now }
+    ensures back { rest_of result.1 ≡ after len (rest_of here.entry) }
 {
-    let front = Left {
-        index: left.index,
-        text: &left.text[..len],
+    let front = Rest {
+        index: here.index,
+        text: &here.text[..len],
     };
-    let back = Left {
-        index: left.index + len,
-        text: &left.text[len..],
+    let back = Rest {
+        index: here.index + len,
+        text: &here.text[len..],
     };
     (front, back)
 }

@@ -2,17 +2,17 @@
 #![tactic(auto)]
 
 mod cutting;
-mod left;
 mod literals;
 mod modifiers;
 mod names;
+mod rest;
 mod runs;
 mod version;
 
 pub use cutting::{cut, whole_of};
-pub use left::Left;
 pub use literals::{escape, literal};
 pub use modifiers::{Modifier, modifiers_of};
 pub use names::{begins, closed, is_named, name_of};
+pub use rest::Rest;
 pub use runs::past_space;
 pub use version::DescriptionVersion;

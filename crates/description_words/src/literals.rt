@@ -5,11 +5,11 @@ ghost use Rattle.std.specs.Str.{IsCharBoundary};
 ghost use Rattle.description_faults.specs.Answer.{Answers};
 ghost use Rattle.description_words.specs.Text.{after};
 ghost use Rattle.description_words.specs.Words.{literal_len, escape_at};
-ghost use Rattle.description_words.specs.Views.{piece};
+ghost use Rattle.description_words.specs.Views.{rest_of};
 
 use crate::cutting::cut;
-use crate::left::Left;
 use crate::names::begins;
+use crate::rest::Rest;
 use crate::runs::plain_len;
 use crate::version::DescriptionVersion;
 use description_faults::InvalidFormatDescription;
@@ -31,29 +31,29 @@ fn literal_len(version: DescriptionVersion, text: &str) -> usize
 }
 
 /// The literal that a text begins with, whatever its first byte is, and what follows it.
-pub fn literal<'a>(version: DescriptionVersion, left: Left<'a>) -> (&'a str, Left<'a>)
-    requires { 0 < length left.text.now }
-    ensures bytes { result.0.now ≡ take (literal_len version left.entry.text.now) left.entry.text.now }
-    ensures rest { piece result.1 ≡ after (literal_len version left.entry.text.now) (piece left.entry) }
+pub fn literal<'a>(version: DescriptionVersion, here: Rest<'a>) -> (&'a str, Rest<'a>)
+    requires { 0 < length here.text.now }
+    ensures bytes { result.0.now ≡ take (literal_len version here.entry.text.now) here.entry.text.now }
+    ensures rest { rest_of result.1 ≡ after (literal_len version here.entry.text.now) (rest_of here.entry) }
 {
-    let (front, rest) = cut(left, literal_len(version, left.text));
+    let (front, rest) = cut(here, literal_len(version, here.text));
     (front.text, rest)
 }
 
 /// The bracket or backslash behind a backslash, and what follows it.
 #[tactic(auto, unfolding(crate::specs::Words::escape_at))]
-pub fn escape<'a>(left: Left<'a>) -> Result<(&'a str, Left<'a>), InvalidFormatDescription<'a>>
-    requires { IsCharBoundary left.text.now 1 }
-    ensures value { Answers (λ x. (x.0.now, piece x.1)) result (escape_at (piece left.entry)) }
+pub fn escape<'a>(here: Rest<'a>) -> Result<(&'a str, Rest<'a>), InvalidFormatDescription<'a>>
+    requires { IsCharBoundary here.text.now 1 }
+    ensures value { Answers (λ x. (x.0.now, rest_of x.1)) result (escape_at (rest_of here.entry)) }
 {
-    let (_, rest) = cut(left, 1);
+    let (_, rest) = cut(here, 1);
     if begins(rest.text, b'[') || begins(rest.text, b'\\') || begins(rest.text, b']') {
         let (front, rest) = cut(rest, 1);
         Ok((front.text, rest))
     } else {
         Err(InvalidFormatDescription::Expected {
             what: "valid escape sequence",
-            index: left.index,
+            index: here.index,
         })
     }
 }

@@ -4,10 +4,10 @@ ghost use Rattle.std.specs.Prelude.{◌≡◌, List};
 ghost use Rattle.description_faults.specs.Answer.{Answers, Gives};
 ghost use Rattle.description_words.specs.Text.{is_space, is_word_byte, past};
 ghost use Rattle.description_words.specs.Words.{has_word, modifier_in, modifier_at, modifiers_at};
-ghost use Rattle.description_words.specs.Views.{piece, modifier, modifiers};
+ghost use Rattle.description_words.specs.Views.{rest_of, modifier, modifiers};
 
 use crate::cutting::cut;
-use crate::left::Left;
+use crate::rest::Rest;
 use crate::runs::{is_word_byte, key_len, past_space, word};
 use description_faults::{DescriptionFault, InvalidFormatDescription};
 use std::alloc::Global;
@@ -16,15 +16,15 @@ use std::alloc::Global;
 #[derive(Clone, Copy)]
 pub struct Modifier<'a> {
     /// What stands before the colon.
-    pub key: Left<'a>,
+    pub key: Rest<'a>,
     /// What stands after it.
-    pub value: Left<'a>,
+    pub value: Rest<'a>,
 }
 
 // The key and the value of a word.
 #[tactic(auto, unfolding(crate::specs::Words::modifier_in))]
-fn modifier_in<'a>(word: Left<'a>) -> Result<Modifier<'a>, InvalidFormatDescription<'a>>
-    ensures { Answers modifier result (modifier_in (piece word.entry)) }
+fn modifier_in<'a>(word: Rest<'a>) -> Result<Modifier<'a>, InvalidFormatDescription<'a>>
+    ensures { Answers modifier result (modifier_in (rest_of word.entry)) }
 {
     let len = key_len(word.text);
     if len == word.text.len() {
@@ -51,10 +51,10 @@ fn modifier_in<'a>(word: Left<'a>) -> Result<Modifier<'a>, InvalidFormatDescript
 }
 
 // Whether a word follows the white space.
-fn has_word(left: Left<'_>) -> bool
-    ensures { result ≡ has_word (past is_space (piece left.entry)) }
+fn has_word(here: Rest<'_>) -> bool
+    ensures { result ≡ has_word (past is_space (rest_of here.entry)) }
 {
-    let start = past_space(left);
+    let start = past_space(here);
     match start.text.as_bytes() {
         [first, ..] => is_word_byte(*first),
         [] => false,
@@ -63,10 +63,10 @@ fn has_word(left: Left<'_>) -> bool
 
 // The modifier behind the white space, and what follows it.
 #[tactic(auto, unfolding(crate::specs::Words::modifier_at))]
-fn modifier_of<'a>(left: Left<'a>) -> Result<(Modifier<'a>, Left<'a>), InvalidFormatDescription<'a>>
-    ensures { Answers (λ x. (modifier x.0, piece x.1)) result (modifier_at (piece left.entry)) }
+fn modifier_of<'a>(here: Rest<'a>) -> Result<(Modifier<'a>, Rest<'a>), InvalidFormatDescription<'a>>
+    ensures { Answers (λ x. (modifier x.0, rest_of x.1)) result (modifier_at (rest_of here.entry)) }
 {
-    let (front, rest) = word(past_space(left));
+    let (front, rest) = word(past_space(here));
     let modifier = modifier_in(front)?;
     Ok((modifier, rest))
 }
@@ -76,12 +76,12 @@ fn modifier_of<'a>(left: Left<'a>) -> Result<(Modifier<'a>, Left<'a>), InvalidFo
 #[tactic(auto, unfolding(crate::specs::Words::modifiers_at))]
 pub fn modifiers_of<'a>(
     alloc: Global,
-    left: Left<'a>,
-) -> Result<(Vec<Modifier<'a>>, Left<'a>), DescriptionFault<'a>>
-    ensures value { Gives (λ x. (modifiers x.0.items, piece x.1)) result (modifiers_at (piece left.entry)) }
+    here: Rest<'a>,
+) -> Result<(Vec<Modifier<'a>>, Rest<'a>), DescriptionFault<'a>>
+    ensures value { Gives (λ x. (modifiers x.0.items, rest_of x.1)) result (modifiers_at (rest_of here.entry)) }
 {
     let mut all = Vec::new(alloc);
-    let mut rest = left;
+    let mut rest = here;
     while has_word(rest) {
         let (modifier, after) = modifier_of(rest)?;
         all.push(modifier)?;

@@ -4,10 +4,10 @@ ghost use Rattle.std.specs.Prelude.{◌≡◌, ◌<◌, IsTrue};
 ghost use Rattle.std.specs.Str.{IsCharBoundary};
 ghost use Rattle.description_faults.specs.Answer.{Answers};
 ghost use Rattle.description_words.specs.Words.{is_named, begins, name_at, closed_at};
-ghost use Rattle.description_words.specs.Views.{piece};
+ghost use Rattle.description_words.specs.Views.{rest_of};
 
 use crate::cutting::cut;
-use crate::left::Left;
+use crate::rest::Rest;
 use crate::runs::{past_space, word};
 use crate::version::DescriptionVersion;
 use description_faults::InvalidFormatDescription;
@@ -37,28 +37,28 @@ pub fn begins(text: &str, byte: u8) -> bool
 #[tactic(auto, unfolding(crate::specs::Words::name_at))]
 pub fn name_of<'a>(
     bracket: usize,
-    left: Left<'a>,
-) -> Result<(Left<'a>, Left<'a>), InvalidFormatDescription<'a>>
-    ensures value { Answers (λ x. (piece x.0, piece x.1)) result (name_at bracket (piece left.entry)) }
+    here: Rest<'a>,
+) -> Result<(Rest<'a>, Rest<'a>), InvalidFormatDescription<'a>>
+    ensures value { Answers (λ x. (rest_of x.0, rest_of x.1)) result (name_at bracket (rest_of here.entry)) }
 {
-    let start = past_space(left);
+    let start = past_space(here);
     let (name, rest) = word(start);
     if name.text.is_empty() {
-        if start.text.len() == left.text.len() {
+        if start.text.len() == here.text.len() {
             return Err(InvalidFormatDescription::MissingComponentName { index: bracket });
         }
-        return Err(InvalidFormatDescription::MissingComponentName { index: left.index });
+        return Err(InvalidFormatDescription::MissingComponentName { index: here.index });
     }
     Ok((name, rest))
 }
 
 /// What follows the closing bracket, which must stand here.
 #[tactic(auto, unfolding(crate::specs::Words::closed_at))]
-pub fn closed<'a>(bracket: usize, left: Left<'a>) -> Result<Left<'a>, InvalidFormatDescription<'a>>
-    ensures value { Answers piece result (closed_at bracket (piece left.entry)) }
+pub fn closed<'a>(bracket: usize, here: Rest<'a>) -> Result<Rest<'a>, InvalidFormatDescription<'a>>
+    ensures value { Answers rest_of result (closed_at bracket (rest_of here.entry)) }
 {
-    if begins(left.text, b']') {
-        Ok(cut(left, 1).1)
+    if begins(here.text, b']') {
+        Ok(cut(here, 1).1)
     } else {
         Err(InvalidFormatDescription::UnclosedOpeningBracket { index: bracket })
     }

@@ -4,10 +4,10 @@ ghost use Rattle.std.specs.Prelude.{◌≡◌, ◌+◌, ◌<◌, length};
 ghost use Rattle.std.specs.List.{prefix_len};
 ghost use Rattle.std.specs.Str.{IsCharBoundary};
 ghost use Rattle.description_words.specs.Text.{is_space, is_word_byte, is_plain, is_no_colon, run, past};
-ghost use Rattle.description_words.specs.Views.{piece};
+ghost use Rattle.description_words.specs.Views.{rest_of};
 
 use crate::cutting::cut;
-use crate::left::Left;
+use crate::rest::Rest;
 use crate::version::DescriptionVersion;
 
 fn is_space(byte: u8) -> bool
@@ -71,18 +71,18 @@ pub fn key_len(text: &str) -> usize
 }
 
 /// What follows the white space.
-pub fn past_space<'a>(left: Left<'a>) -> Left<'a>
-    ensures value { piece result ≡ past is_space (piece left.entry) }
+pub fn past_space<'a>(here: Rest<'a>) -> Rest<'a>
+    ensures value { rest_of result ≡ past is_space (rest_of here.entry) }
 {
-    let len = space_len(left.text.as_bytes());
-    cut(left, len).1
+    let len = space_len(here.text.as_bytes());
+    cut(here, len).1
 }
 
 /// The word at the front, and what follows it.
-pub fn word<'a>(left: Left<'a>) -> (Left<'a>, Left<'a>)
-    ensures front { piece result.0 ≡ run is_word_byte (piece left.entry) }
-    ensures back { piece result.1 ≡ past is_word_byte (piece left.entry) }
+pub fn word<'a>(here: Rest<'a>) -> (Rest<'a>, Rest<'a>)
+    ensures front { rest_of result.0 ≡ run is_word_byte (rest_of here.entry) }
+    ensures back { rest_of result.1 ≡ past is_word_byte (rest_of here.entry) }
 {
-    let len = word_len(left.text.as_bytes());
-    cut(left, len)
+    let len = word_len(here.text.as_bytes());
+    cut(here, len)
 }

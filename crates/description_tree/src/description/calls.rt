@@ -1,7 +1,8 @@
 //! What a description of version 3 has.
 
-ghost use Rattle.std.specs.Prelude.{◌≡◌, ◌^◌, ◌≤◌, ◌↔◌, IsErr, IfOk, IfErr};
-ghost use Rattle.description_tree.specs.Description.{v3_tree};
+ghost use Rattle.std.specs.Prelude.{◌≡◌, ◌^◌, ◌≤◌, ◌↔◌, true, IsErr, IfOk, IfErr};
+ghost use Rattle.description_tree.specs.Description.{v3_node, v3_tree};
+ghost use Rattle.description_tree.specs.Forms.{is_owned};
 ghost use Rattle.description_tree.specs.Inner.{inner_tree};
 ghost use Rattle.description_tree.specs.Reserved.{reserved, IsLongest};
 
@@ -14,7 +15,8 @@ use std::alloc::{AllocError, Global};
 impl<'a> FormatDescriptionV3<'a> {
     /// Its tree.
     pub fn inner(&self) -> &FormatDescriptionV3Inner<'a>
-        ensures { inner_tree result.now ≡ v3_tree self.now }
+        ensures node { result.now ≡ v3_node self.now }
+        ensures tree { inner_tree result.now ≡ v3_tree self.now }
     {
         &self.inner
     }
@@ -32,6 +34,7 @@ impl<'a> FormatDescriptionV3<'a> {
     /// Refused where memory runs out.
     pub fn to_owned<'b>(&self, alloc: Global) -> Result<FormatDescriptionV3<'b>, AllocError>
         ensures tree { IfOk result (λ copy. v3_tree copy ≡ v3_tree self.now) }
+        ensures owned { IfOk result (λ copy. is_owned (v3_node copy) ≡ true) }
     {
         Ok(FormatDescriptionV3 {
             inner: owned(alloc, &self.inner)?,
@@ -45,6 +48,7 @@ impl<'a> FormatDescriptionV3Inner<'a> {
     pub fn into_opaque(self) -> Result<FormatDescriptionV3<'a>, FormatDescriptionV3Inner<'a>>
         ensures refused { IsErr result ↔ (2 ^ 64 ≤ reserved (inner_tree self.entry)) }
         ensures tree { IfOk result (λ description. v3_tree description ≡ inner_tree self.entry) }
+        ensures node { IfOk result (λ description. v3_node description ≡ self.entry) }
         ensures kept { IfErr result (λ node. node ≡ self.entry) }
     {
         match reserved(&self) {

@@ -2,9 +2,11 @@ use Rattle.std.proofs.Common.{refl, ◌≡◌, ◌++◌, ◌∷◌, [], rules, f
 use Rattle.std.proofs.lemmas.Result.{err_from_is_err_and}
 use Rattle.std.proofs.lemmas.List.{map_push}
 use Rattle.description_tree.specs.Inner.{inner_tree, inner_trees}
-use Rattle.description_tree.proofs.InnerTrees.{tree-OwnedFirst, tree-OwnedOptional}
+use Rattle.description_items.proofs.FormLists.{all_push}
+use Rattle.description_tree.specs.Forms.{is_read}
+use Rattle.description_tree.proofs.InnerTrees.{tree-OwnedFirst, tree-OwnedOptional, read-OwnedFirst, read-OwnedOptional}
 use Rattle.description_words.specs.Version.{is_three}
-use Rattle.description_words.specs.Views.{piece}
+use Rattle.description_words.specs.Views.{rest_of}
 use Rattle.description_words.proofs.Many.{many_goes_on, many_fails, many_ends}
 use Rattle.description_words.proofs.Readings.{not_true, not_false}
 use Rattle.description_reading.specs.Reading.{no_bracket, is_end, element_at, nested_at, first_at, optional_at}
@@ -14,63 +16,81 @@ use Rattle.description_reading.proofs.nested.+nested.Goals as goal
 pub alternatives-returns-in_err-item : goal.alternatives-returns-in_err-item
 alternatives-returns-in_err-item t c =
     let p = err_from_is_err_and c.from_residual.result c.from_residual.ensures.1 in
-    rw (p.1, p.2) (many_fails no_bracket (nested_at c.args.version c.args.levels) _ (inner_trees c.others.all.items) (piece c.others.rest) c.in_err-item.field-0.0 c.others.invariant (not_true _ c.begins.result c.begins.ensures.value c.others-test.true) c.in_err-item.ensures)
+    rw (p.1, p.2) (record { value = many_fails no_bracket (nested_at c.args.version c.args.levels) _ (inner_trees c.others.all.items) (rest_of c.others.rest) c.in_err-item.field-0.0 c.others.invariant.read (not_true _ c.begins.result c.begins.ensures.value c.others-test.true) c.in_err-item.ensures.value; form = tt })
 
 pub alternatives-others-smaller : goal.alternatives-others-smaller
-alternatives-others-smaller t c = nested_lt c.args.version c.args.levels (piece c.others.rest) (inner_tree c.in_ok-item.item, piece c.in_ok-item.after) c.in_ok-item.ensures
+alternatives-others-smaller t c = nested_lt c.args.version c.args.levels (rest_of c.others.rest) (inner_tree c.in_ok-item.item, rest_of c.in_ok-item.after) c.in_ok-item.ensures.value
 
 pub alternatives-others-preserved : goal.alternatives-others-preserved
 alternatives-others-preserved t c =
-    let less = nested_lt c.args.version c.args.levels (piece c.others.rest) (inner_tree c.in_ok-item.item, piece c.in_ok-item.after) c.in_ok-item.ensures in
+    let less = nested_lt c.args.version c.args.levels (rest_of c.others.rest) (inner_tree c.in_ok-item.item, rest_of c.in_ok-item.after) c.in_ok-item.ensures.value in
     let e : inner_trees c.push.new.self.items ≡ inner_trees c.others.all.items ++ inner_tree c.in_ok-item.item ∷ [] = rw c.in_ok-push.ensures.items (map_push _ c.others.all.items c.in_ok-item.item) in
-    rw e (many_goes_on no_bracket (nested_at c.args.version c.args.levels) _ (inner_trees c.others.all.items) (piece c.others.rest) (inner_tree c.in_ok-item.item) (piece c.in_ok-item.after) c.others.invariant (not_true _ c.begins.result c.begins.ensures.value c.others-test.true) less c.in_ok-item.ensures)
+    record {
+      read = rw e (many_goes_on no_bracket (nested_at c.args.version c.args.levels) _ (inner_trees c.others.all.items) (rest_of c.others.rest) (inner_tree c.in_ok-item.item) (rest_of c.in_ok-item.after) c.others.invariant.read (not_true _ c.begins.result c.begins.ensures.value c.others-test.true) less c.in_ok-item.ensures.value);
+      form = rw c.in_ok-push.ensures.items (all_push is_read c.others.all.items c.in_ok-item.item c.others.invariant.form c.in_ok-item.ensures.form);
+    }
 
 pub alternatives-returns : goal.alternatives-returns
-alternatives-returns t c = many_ends no_bracket (nested_at c.args.version c.args.levels) _ (inner_trees c.others.all.items) (piece c.others.rest) c.others.invariant (not_false _ c.begins.result c.begins.ensures.value c.others-test.false)
+alternatives-returns t c = record {
+  value = many_ends no_bracket (nested_at c.args.version c.args.levels) _ (inner_trees c.others.all.items) (rest_of c.others.rest) c.others.invariant.read (not_false _ c.begins.result c.begins.ensures.value c.others-test.false);
+  form = c.others.invariant.form;
+}
 
 pub items-returns-in_err-item : goal.items-returns-in_err-item
 items-returns-in_err-item t c =
     let p = err_from_is_err_and c.from_residual.result c.from_residual.ensures.1 in
-    let more : is_end c.args.inner (piece c.items.rest) ≡ false = search rules in
-    rw (p.1, p.2) (many_fails (is_end c.args.inner) (element_at c.args.version (nested_at c.args.version c.args.levels)) _ (inner_trees c.items.all.items) (piece c.items.rest) c.in_err-item.field-0.0 c.items.invariant more c.in_err-item.ensures)
+    let more : is_end c.args.inner (rest_of c.items.rest) ≡ false = search rules in
+    rw (p.1, p.2) (record { value = many_fails (is_end c.args.inner) (element_at c.args.version (nested_at c.args.version c.args.levels)) _ (inner_trees c.items.all.items) (rest_of c.items.rest) c.in_err-item.field-0.0 c.items.invariant.read more c.in_err-item.ensures.value; form = tt })
 
 pub items-items-smaller : goal.items-items-smaller
 items-items-smaller t c =
-    let more : is_end c.args.inner (piece c.items.rest) ≡ false = search rules in
-    item_lt c.args.version c.args.inner (nested_at c.args.version c.args.levels) (nested_lt c.args.version c.args.levels) (piece c.items.rest) (inner_tree c.in_ok-item.item, piece c.in_ok-item.after) more c.in_ok-item.ensures
+    let more : is_end c.args.inner (rest_of c.items.rest) ≡ false = search rules in
+    item_lt c.args.version c.args.inner (nested_at c.args.version c.args.levels) (nested_lt c.args.version c.args.levels) (rest_of c.items.rest) (inner_tree c.in_ok-item.item, rest_of c.in_ok-item.after) more c.in_ok-item.ensures.value
 
 pub items-items-preserved : goal.items-items-preserved
 items-items-preserved t c =
-    let more : is_end c.args.inner (piece c.items.rest) ≡ false = search rules in
-    let less = item_lt c.args.version c.args.inner (nested_at c.args.version c.args.levels) (nested_lt c.args.version c.args.levels) (piece c.items.rest) (inner_tree c.in_ok-item.item, piece c.in_ok-item.after) more c.in_ok-item.ensures in
+    let more : is_end c.args.inner (rest_of c.items.rest) ≡ false = search rules in
+    let less = item_lt c.args.version c.args.inner (nested_at c.args.version c.args.levels) (nested_lt c.args.version c.args.levels) (rest_of c.items.rest) (inner_tree c.in_ok-item.item, rest_of c.in_ok-item.after) more c.in_ok-item.ensures.value in
     let e : inner_trees c.push.new.self.items ≡ inner_trees c.items.all.items ++ inner_tree c.in_ok-item.item ∷ [] = rw c.in_ok-push.ensures.items (map_push _ c.items.all.items c.in_ok-item.item) in
-    rw e (many_goes_on (is_end c.args.inner) (element_at c.args.version (nested_at c.args.version c.args.levels)) _ (inner_trees c.items.all.items) (piece c.items.rest) (inner_tree c.in_ok-item.item) (piece c.in_ok-item.after) c.items.invariant more less c.in_ok-item.ensures)
+    record {
+      read = rw e (many_goes_on (is_end c.args.inner) (element_at c.args.version (nested_at c.args.version c.args.levels)) _ (inner_trees c.items.all.items) (rest_of c.items.rest) (inner_tree c.in_ok-item.item) (rest_of c.in_ok-item.after) c.items.invariant.read more less c.in_ok-item.ensures.value);
+      form = rw c.in_ok-push.ensures.items (all_push is_read c.items.all.items c.in_ok-item.item c.items.invariant.form c.in_ok-item.ensures.form);
+    }
 
 pub items-returns : goal.items-returns
 items-returns t c =
-    let ended : is_end c.args.inner (piece c.items.rest) ≡ true = search rules in
-    many_ends (is_end c.args.inner) (element_at c.args.version (nested_at c.args.version c.args.levels)) _ (inner_trees c.items.all.items) (piece c.items.rest) c.items.invariant ended
+    let ended : is_end c.args.inner (rest_of c.items.rest) ≡ true = search rules in
+    record {
+      value = many_ends (is_end c.args.inner) (element_at c.args.version (nested_at c.args.version c.args.levels)) _ (inner_trees c.items.all.items) (rest_of c.items.rest) c.items.invariant.read ended;
+      form = c.items.invariant.form;
+    }
 
 pub first-returns-in_err-rest : goal.first-returns-in_err-rest
 unfolding first_at
 first-returns-in_err-rest t c =
     let p = err_from_is_err_and c.from_residual-in_err-rest.result c.from_residual-in_err-rest.ensures.1 in
-    rw (p.1, p.2) (rw (c.in_ok-start.ensures.value, c.in_ok-all.ensures, c.in_err-rest.ensures.value) refl)
+    rw (p.1, p.2) (record { value = rw (c.in_ok-start.ensures.value, c.in_ok-all.ensures.value, c.in_err-rest.ensures.value) refl; form = tt })
 
 pub first-returns-then-not-is_three : goal.first-returns-then-not-is_three
 unfolding first_at
 first-returns-then-not-is_three t c =
     let older : is_three c.args.version ≡ false = sym c.is_three.ensures.value ∙ c.if-not-is_three.true in
-    rw (c.in_ok-start.ensures.value, c.in_ok-all.ensures, c.in_ok-rest.ensures.value, older, c.unsupported.ensures) refl
+    record { value = rw (c.in_ok-start.ensures.value, c.in_ok-all.ensures.value, c.in_ok-rest.ensures.value, older, c.unsupported.ensures) refl; form = tt }
 
 pub first-returns : goal.first-returns
 unfolding first_at
 first-returns t c =
     let third : is_three c.args.version ≡ true = sym c.is_three.ensures.value ∙ c.if-not-is_three.false in
-    rw (c.in_ok-start.ensures.value, c.in_ok-all.ensures, c.in_ok-rest.ensures.value, third, tree-OwnedFirst c.in_ok-all.all) refl
+    record {
+      value = rw (c.in_ok-start.ensures.value, c.in_ok-all.ensures.value, c.in_ok-rest.ensures.value, third, tree-OwnedFirst c.in_ok-all.all) refl;
+      form = rw (read-OwnedFirst c.in_ok-all.all) c.in_ok-all.ensures.form;
+    }
 
 pub optional-returns : goal.optional-returns
 unfolding optional_at
 optional-returns t c =
     let third : is_three c.args.version ≡ true = sym c.is_three.ensures.value ∙ c.if-not-is_three.false in
-    rw (c.in_ok-start.ensures.value, c.in_ok-item.ensures, c.in_ok-rest.ensures.value, third, tree-OwnedOptional true c.in_ok-item-2.item, c.in_ok-item-2.ensures.ok) refl
+    record {
+      value = rw (c.in_ok-start.ensures.value, c.in_ok-item.ensures.value, c.in_ok-rest.ensures.value, third, tree-OwnedOptional true c.in_ok-item-2.item, c.in_ok-item-2.ensures.ok) refl;
+      form = rw (read-OwnedOptional true c.in_ok-item-2.item, c.in_ok-item-2.ensures.ok) c.in_ok-item.ensures.form;
+    }
