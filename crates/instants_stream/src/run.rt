@@ -9,8 +9,8 @@ ghost use Rattle.instants_stream.specs.Answers.{output, owed, due, answer_or_lon
 
 use crate::answers_lines::AnswersLines;
 use crate::search::{LINE_FEED, line_len};
-use instants_devices::{ByteReader, ByteWriter, DeviceFailed, FrontWriter, write_all};
 use instants_answers::Answer;
+use instants_devices::{ByteReader, ByteWriter, DeviceFailed, FrontWriter, write_all};
 
 /// Which device ended a run.
 #[derive(Clone, Copy, Debug, PartialEq, Eq)]

@@ -62,7 +62,7 @@ pub fn any_byte(bytes: &[u8]) -> Option<&[u8]>
 {
     match bytes {
         [_, rest @ ..] => Some(rest),
-        [] => None,
+        _ => None,
     }
 }
 

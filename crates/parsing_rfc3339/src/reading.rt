@@ -160,14 +160,28 @@ pub(crate) fn quick_front(bytes: &[u8]) -> Option<(Written, &[u8])>
     ensures offset_hour { IfSome result (λ x. x.0.offset_hour ≤ 23) }
     ensures offset_minute { IfSome result (λ x. x.0.offset_minute < 100) }
 {
-    let (date, rest) = quick_date(bytes)?;
+    let ((year, month, day), rest) = quick_date(bytes)?;
     let rest = any_byte(rest)?;
-    let (clock, rest) = quick_clock(rest)?;
+    let ((hour, minute, second), rest) = quick_clock(rest)?;
     let Ok((nanosecond, rest)) = subsecond(rest) else {
         return None;
     };
-    let (offset, rest) = quick_offset(rest)?;
-    Some((written(date, clock, nanosecond, offset), rest))
+    let ((offset_is_negative, offset_hour, offset_minute), rest) = quick_offset(rest)?;
+    Some((
+        Written {
+            year,
+            month,
+            day,
+            hour,
+            minute,
+            second,
+            nanosecond,
+            offset_is_negative,
+            offset_hour,
+            offset_minute,
+        },
+        rest,
+    ))
 }
 
 /// The numbers at the front of the bytes, and the rest, piece by piece.
