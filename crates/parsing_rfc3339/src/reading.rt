@@ -153,6 +153,8 @@ fn written(
 }
 
 /// The numbers at the front of the bytes, and the rest, where no piece of them is missing.
+///
+/// Each number is named by itself: whole tuples handed on would be kept in memory, at some ten instructions a line.
 #[tactic(auto, unfolding(crate::specs::Reading::rfc3339))]
 #[inline(always)]
 pub(crate) fn quick_front(bytes: &[u8]) -> Option<(Written, &[u8])>
