@@ -5,7 +5,7 @@ use Rattle.std.specs.Result.{result_ok}
 use Rattle.datetime_wall.specs.Wall.{Shown, instant, shown_at}
 use Rattle.parsing_pieces.specs.Fault.{Fault, insufficient}
 use Rattle.parsing_rfc3339.specs.Direct.{direct}
-use Rattle.instants_lines.specs.Text.{moment_text, has_written_year}
+use Rattle.instants_answers.specs.Text.{moment_text, has_written_year}
 use Rattle.instants.specs.Refusal.{Refusal, year, refusal_of, refusal_said, refusal_text}
 use Rattle.instants.specs.declared.line_fault.LineFault.{LineFault}
 use Rattle.instants.specs.declared.source.Source.{Source}

@@ -6,20 +6,20 @@ pub mod laws;
 mod line_fault;
 mod program;
 mod program_fault;
+mod runs;
 mod source;
-mod stream;
 mod timeline;
 
+pub use instants_answers::{Answer, fits_line, rfc3339_line};
 pub use instants_devices::{
     BlockWriter, ByteReader, ByteWriter, CutReader, CutWriter, DeviceFailed, FrontWriter,
     StdReader, StdWriter,
 };
-pub use instants_lines::{Answer, fits_line, rfc3339_line};
 pub use instants_stream::RunFault;
 pub use instants_words::{SourceText, Words, WordsFault, read_words};
 pub use line_fault::LineFault;
 pub use program::run_words;
 pub use program_fault::ProgramFault;
+pub use runs::run;
 pub use source::Source;
-pub use stream::run;
 pub use timeline::{NewFault, Timeline};

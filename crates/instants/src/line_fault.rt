@@ -1,7 +1,7 @@
 //! Why a line has no place on the timeline.
 ghost use Rattle.std.specs.Prelude.{◌≡◌, ◌≢◌, ◌≤◌, codes, length};
 
-use instants_lines::Answer;
+use instants_answers::Answer;
 use parsing::{Parse, ParseFromDescription, TryFromParsed};
 
 /// Why a line has no place on the timeline. The names are those of components.

@@ -1,6 +1,6 @@
 pub mod Lines
 pub mod Progress
-pub mod Chunks
-pub mod ChunkSteps
+pub mod Together
+pub mod ReadSteps
 pub mod Pending
 pub mod Searched

@@ -1,11 +1,12 @@
 -- What is written for a stream of bytes. The answer to a line is a function of its bytes.
 use Rattle.std.specs.Prelude.{ℕ, Bool, ◌||◌, Option, None, Some, List, [], ◌∷◌, ◌++◌, length, nat_lt, if◌then◌else◌, codes}
 use Rattle.std.specs.List.{flat_map}
+use Rattle.byte_names.specs.Bytes.{line_feed}
 use Rattle.instants_stream.specs.Lines.{lines, whole_lines}
 
 -- the answer to a line, or that it is too long, and a line feed
 unfoldable pub answer_or_long : (List ℕ → List ℕ) → Bool → List ℕ → List ℕ
-answer_or_long answer is_long line = (if is_long then codes "! long" else answer line) ++ 10 ∷ []
+answer_or_long answer is_long line = (if is_long then codes "! long" else answer line) ++ line_feed ∷ []
 
 -- what is written for one line
 unfoldable pub answered : (List ℕ → List ℕ) → ℕ → List ℕ → List ℕ

@@ -1,6 +1,7 @@
 -- The lines of a stream of bytes.
 use Rattle.std.specs.Prelude.{◌≡◌, ℕ, false, List, [], ◌∷◌, ◌++◌, ◌==◌}
 use Rattle.std.specs.List.{All, slice_split}
+use Rattle.byte_names.specs.Bytes.{line_feed}
 
 -- the lists but the last
 abbrev pub but_last : List (List ℕ) → List (List ℕ)
@@ -21,7 +22,7 @@ if_nonempty (b ∷ bytes) = (b ∷ bytes) ∷ []
 
 -- the parts between line feeds, at least one, as `split(|b| *b == b'\n')` gives them
 unfoldable pub parts : List ℕ → List (List ℕ)
-parts bytes = slice_split (λ b. b == 10) bytes
+parts bytes = slice_split (λ b. b == line_feed) bytes
 
 -- the lines whose line feed stands in the bytes: each part but the last
 unfoldable pub whole_lines : List ℕ → List (List ℕ)
@@ -37,4 +38,4 @@ lines bytes = whole_lines bytes ++ if_nonempty (last_part bytes)
 
 -- no byte is a line feed
 abbrev pub HasNoLineFeed : List ℕ → Type 0
-HasNoLineFeed bytes = All (λ b. (b == 10) ≡ false) bytes
+HasNoLineFeed bytes = All (λ b. (b == line_feed) ≡ false) bytes

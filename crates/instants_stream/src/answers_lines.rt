@@ -2,7 +2,7 @@
 
 ghost use Rattle.std.specs.Prelude.{◌≡◌, ◌≤◌, ℕ, List, length};
 
-use instants_lines::Answer;
+use instants_answers::Answer;
 
 /// What answers each line by itself.
 pub trait AnswersLines {

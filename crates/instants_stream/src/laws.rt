@@ -1,12 +1,13 @@
 //! Laws of the definitions.
 
 ghost use Rattle.std.specs.Prelude.{◌≡◌, ◌++◌, ◌⊎◌, ◌∷◌, [], ℕ, List};
+ghost use Rattle.byte_names.specs.Bytes.{line_feed};
 ghost use Rattle.instants_stream.specs.Answers.{output};
 
 /// Where the first stream is empty or ends in a line feed, the output of two streams joined is
 /// their outputs joined.
 pub fn joined_streams()
     ensures { (answer : List ℕ → List ℕ) (limit : ℕ) (first second : List ℕ)
-        → ((first ≡ []) ⊎ ((front : List ℕ) × (first ≡ front ++ 10 ∷ [])))
+        → ((first ≡ []) ⊎ ((front : List ℕ) × (first ≡ front ++ line_feed ∷ [])))
         → output answer limit (first ++ second) ≡ output answer limit first ++ output answer limit second }
 {}

@@ -2,14 +2,15 @@
 
 ghost use Rattle.std.specs.Prelude.{◌≡◌, ◌-◌, ◌<◌, ◌≤◌, ◌↔◌, ℕ, true, false, List, [], ◌∷◌, ◌++◌, codes, length, take, drop, Some, Err, IsTrue, IfSome, IfOk, OnOk, OnErr};
 ghost use Rattle.std.specs.Io.KnownBytes.{Consumes, Appends};
+ghost use Rattle.byte_names.specs.Bytes.{line_feed};
 ghost use Rattle.instants_devices.specs.Told.{ConsumesOrUntold, AppendsFront};
 ghost use Rattle.instants_stream.specs.Lines.{HasNoLineFeed, whole_lines, last_part};
 ghost use Rattle.instants_stream.specs.Answers.{output, owed, due, answer_or_long, answers_to};
 
 use crate::answers_lines::AnswersLines;
 use crate::search::{LINE_FEED, line_len};
+use instants_answers::Answer;
 use instants_devices::{ByteReader, ByteWriter, DeviceFailed, FrontWriter, write_all};
-use instants_lines::Answer;
 
 /// Which device ended a run.
 #[derive(Clone, Copy, Debug, PartialEq, Eq)]
@@ -25,9 +26,9 @@ pub enum RunFault {
 #[inline(never)]
 fn write_long<W: ByteWriter>(writer: &mut W) -> Result<(), DeviceFailed>
     requires { W.failed writer.old ≡ false }
-    ensures written { OnOk result (Appends (W.held writer.old) (W.held writer.new) (codes "! long" ++ 10 ∷ [])) }
+    ensures written { OnOk result (Appends (W.held writer.old) (W.held writer.new) (codes "! long" ++ line_feed ∷ [])) }
     ensures ok { OnOk result (W.failed writer.new ≡ W.failed writer.old) }
-    ensures front { OnErr result (AppendsFront (W.held writer.old) (W.held writer.new) (codes "! long" ++ 10 ∷ [])) }
+    ensures front { OnErr result (AppendsFront (W.held writer.old) (W.held writer.new) (codes "! long" ++ line_feed ∷ [])) }
     ensures err { OnErr result (W.failed writer.new ≡ true) }
 {
     write_all(writer, b"! long\n")

@@ -1,6 +1,7 @@
 //! The search for a line feed, which looks at each byte once, 16 of them at a time.
 
 ghost use Rattle.std.specs.Prelude.{◌≡◌, ◌<◌, ◌≤◌, length, take, slice_index, IfSome, IfNone};
+ghost use Rattle.byte_names.specs.Bytes.{line_feed};
 ghost use Rattle.instants_stream.specs.Lines.{HasNoLineFeed};
 
 use std::simd::prelude::*;
@@ -17,7 +18,7 @@ fn before_line_feed(bytes: &[u8]) -> Option<usize>
     ensures none { IfNone result (HasNoLineFeed (take LANES bytes.now)) }
     ensures within { IfSome result (λ len. len < LANES) }
     ensures before { IfSome result (λ len. HasNoLineFeed (take len bytes.now)) }
-    ensures line_feed { IfSome result (λ len. slice_index bytes.now len ≡ 10) }
+    ensures line_feed { IfSome result (λ len. slice_index bytes.now len ≡ line_feed) }
 {
     let line_feeds = u8x16::from_slice(bytes).simd_eq(u8x16::splat(LINE_FEED));
     let places = line_feeds.to_bitmask();
@@ -32,7 +33,7 @@ fn before_line_feed(bytes: &[u8]) -> Option<usize>
 fn first_line_feed(bytes: &[u8]) -> Option<usize>
     ensures none { IfNone result (HasNoLineFeed bytes.now) }
     ensures within { IfSome result (λ len. len < length bytes.now) }
-    ensures line_feed { IfSome result (λ len. slice_index bytes.now len ≡ 10) }
+    ensures line_feed { IfSome result (λ len. slice_index bytes.now len ≡ line_feed) }
     ensures before { IfSome result (λ len. HasNoLineFeed (take len bytes.now)) }
 {
     bytes.iter().position(|byte| *byte == LINE_FEED)
@@ -45,7 +46,7 @@ pub(crate) fn line_len(bytes: &[u8], searched: usize) -> Option<usize>
     requires free { HasNoLineFeed (take searched bytes.now) }
     ensures none { IfNone result (HasNoLineFeed bytes.now) }
     ensures within { IfSome result (λ len. len < length bytes.now) }
-    ensures line_feed { IfSome result (λ len. slice_index bytes.now len ≡ 10) }
+    ensures line_feed { IfSome result (λ len. slice_index bytes.now len ≡ line_feed) }
     ensures before { IfSome result (λ len. HasNoLineFeed (take len bytes.now)) }
 {
     let mut at = searched;

@@ -4,11 +4,12 @@ use instants_devices::{ByteReader, ByteWriter, DeviceFailed, StdReader, StdWrite
 use std::io::{Error, ErrorKind, Read, Result as IoResult, Write};
 use std::process::Abort;
 
-// A device of std whose call at one place fails once. It gives and takes one byte a call.
+// A device of std whose call at one place fails once. It gives and takes so many bytes a call.
 #[derive(Drop)]
 struct Counted<'a> {
     calls: &'a mut u8,
     fails_at: u8,
+    moves: usize,
 }
 
 impl Counted<'_> {
@@ -29,7 +30,7 @@ impl Read for Counted<'_> {
 
     fn read(&mut self, into: &mut [u8]) -> IoResult<usize> {
         self.answer()?;
-        Ok(into.len().min(1))
+        Ok(into.len().min(self.moves))
     }
 }
 
@@ -40,7 +41,7 @@ impl Write for Counted<'_> {
 
     fn write(&mut self, from: &[u8]) -> IoResult<usize> {
         self.answer()?;
-        Ok(from.len().min(1))
+        Ok(from.len().min(self.moves))
     }
 
     fn flush(&mut self) -> IoResult<()> {
@@ -48,18 +49,19 @@ impl Write for Counted<'_> {
     }
 }
 
-// So many reads work and are one call each; the next one fails and is one call too.
-fn check_reads(rt: &impl Abort, works: u8) {
+// So many reads work, and are one call each, also where they give nothing; the next one fails and is one call too.
+fn check_reads(rt: &impl Abort, works: u8, moves: usize) {
     let mut calls = 0;
     {
         let mut into = [0; 4];
         let mut reader = StdReader::new(Counted {
             calls: &mut calls,
             fails_at: works,
+            moves,
         });
         for _ in 0..works {
             assert!(rt; !reader.has_failed());
-            assert!(rt; reader.read(&mut into) == Ok(1));
+            assert!(rt; reader.read(&mut into) == Ok(moves.min(4)));
         }
         assert!(rt; !reader.has_failed());
         assert!(rt; reader.read(&mut into) == Err(DeviceFailed));
@@ -71,7 +73,8 @@ fn check_reads(rt: &impl Abort, works: u8) {
 #[test]
 fn reads(rt: HostRuntime) {
     for works in [0, 1, 10, 11, 12, 100] {
-        check_reads(&rt, works);
+        check_reads(&rt, works, 0);
+        check_reads(&rt, works, 1);
     }
 }
 
@@ -82,6 +85,7 @@ fn check_writes(rt: &impl Abort, writes: u8, fails_at: u8, wanted: u8) {
         let mut writer = StdWriter::new(Counted {
             calls: &mut calls,
             fails_at,
+            moves: 1,
         });
         for _ in 0..writes {
             if !writer.has_failed() {

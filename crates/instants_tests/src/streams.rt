@@ -1,8 +1,8 @@
 //! Runs over readers and writers that fail, with reads and writes of every size.
 
 use crate::support::{Counting, Full, OUTPUT, STREAM};
+use instants_answers::Answer;
 use instants_devices::{ByteReader, ByteWriter, CutReader, CutWriter, StdWriter};
-use instants_lines::Answer;
 use instants_stream::{AnswersLines, RunFault, run_lines};
 use std::process::Abort;
 use std::test::Fail;

@@ -2,7 +2,7 @@
 
 use calendar::{Date, Month, Time, UtcOffset};
 use datetime::OffsetDateTime;
-use instants_lines::{Answer, fits_line, has_written_year, is_target, rfc3339_line};
+use instants_answers::{Answer, fits_line, has_written_year, is_target, rfc3339_line};
 use std::process::Abort;
 
 // A moment by its year, month, day, second of the day, nanosecond, and offset in seconds.

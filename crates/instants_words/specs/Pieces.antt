@@ -4,6 +4,7 @@ use Rattle.std.specs.Char.{is_ascii_digit}
 use Rattle.std.specs.List.{list_all}
 use Rattle.std.specs.Str.{bytes_eq}
 use Rattle.std.specs.Str.Parse.{digits_value}
+use Rattle.byte_names.specs.Bytes.{plus, hyphen, colon}
 use Rattle.instants_words.specs.declared.sources.SourceText.{SourceText}
 use Rattle.instants_words.specs.declared.sources.SourceText.TheVariants.{Rfc3339}
 
@@ -23,16 +24,16 @@ clock_seconds (Some hour) (Some minute) = Some (hour * 3600 + minute * 60)
 clock_seconds (Some hour) None = None
 clock_seconds None minute = None
 
--- a plus, 43, or a minus, 45, before a number
+-- a plus or a minus before a number
 abbrev pub with_sign : ℕ → Option ℕ → Option ℤ
 with_sign sign None = None
 with_sign sign (Some number) =
-    if sign == 43 then Some (pos number) else (if sign == 45 then Some (neg_ℤ (pos number)) else None)
+    if sign == plus then Some (pos number) else (if sign == hyphen then Some (neg_ℤ (pos number)) else None)
 
 -- an offset from UTC as `+HH:MM` or `-HH:MM`, which RFC 3339, section 5.6, calls a time-numoffset, in seconds
 unfoldable pub offset_said : List ℕ → Option ℤ
-offset_said (sign ∷ h ∷ i ∷ colon ∷ m ∷ n ∷ []) =
-    if colon == 58 then with_sign sign (clock_seconds (number_said 0 23 2 (h ∷ i ∷ [])) (number_said 0 59 2 (m ∷ n ∷ []))) else None
+offset_said (sign ∷ h ∷ i ∷ mark ∷ m ∷ n ∷ []) =
+    if mark == colon then with_sign sign (clock_seconds (number_said 0 23 2 (h ∷ i ∷ [])) (number_said 0 59 2 (m ∷ n ∷ []))) else None
 offset_said _ = None
 
 -- `-` says that no offset is assumed

@@ -4,7 +4,7 @@ use Rattle.std.specs.Int.Bits.{bit_and}
 use Rattle.std.specs.Char.{is_ascii_digit}
 use Rattle.std.proofs.lemmas.Bool.Decides.{nat_tests}
 use Rattle.std.proofs.lemmas.List.{take_all}
-use Rattle.parsing_pieces.specs.Pieces.{digits, byte, byte_of}
+use Rattle.parsing_pieces.specs.Pieces.{digits, byte, skip_of}
 use Rattle.parsing_pieces.proofs.Fixed.{digits_four, digits_eight, digits_two_there, joined}
 use Rattle.parsing_pieces.proofs.Lanes.{digit_lane}
 
@@ -24,8 +24,8 @@ pub eight_at : (a b c d e f g h : ℕ) (rest : List ℕ) → a ≤ 9 → b ≤ 9
 eight_at a b c d e f g h rest ha hb hc hd he hf hg hh = digits_eight _ ∙ ap (joined 10_000 (digits 4)) (four_at a b c d _ ha hb hc hd) ∙ rw (four_at e f g h rest he hf hg hh) refl
 
 -- a byte at the front
-pub byte_at : (p : ℕ) (rest : List ℕ) → byte p (p ∷ rest) ≡ Some (p, rest)
-unfolding byte_of
+pub byte_at : (p : ℕ) (rest : List ℕ) → byte p (p ∷ rest) ≡ Some (tt, rest)
+unfolding skip_of
 byte_at p rest = let e : eqb p p ≡ true = grind (arith, nat_tests) in rw e refl
 
 -- a digit and what it counts

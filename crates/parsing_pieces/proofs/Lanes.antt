@@ -3,7 +3,7 @@ use Rattle.std.proofs.Common.{◌≡◌, ℕ, ◌+◌, ◌*◌, ◌/◌, ◌%◌
 use Rattle.std.specs.Int.Bits.{bit_and}
 use Rattle.std.proofs.lemmas.Nat.{and_block, and_le_r, and_mask}
 use Rattle.std.proofs.lemmas.Nat.Bits.{and_high_mask}
-use Rattle.parsing_pieces.specs.Words.{word, paired}
+use Rattle.parsing_pieces.specs.Chunks.{chunk, paired}
 
 -- a test of the lowest byte and of the rest
 pub record Split (x b y m q p : ℕ) : Type 0 where
@@ -44,17 +44,17 @@ pub pairs : (d rest : ℕ) → d * 10 + rest % 256 < 256 → Pairs d rest
 pairs d rest small = record { low = omega arith; high = omega arith }
 
 -- the bytes of a number, one by one
-pub word_eight : (bytes : List ℕ) → 8 ≤ length bytes → word (take 8 bytes) ≡ get_or bytes 0 0 + get_or bytes 1 0 * 256 + get_or bytes 2 0 * 65_536 + get_or bytes 3 0 * 16_777_216 + get_or bytes 4 0 * 4_294_967_296 + get_or bytes 5 0 * 1_099_511_627_776 + get_or bytes 6 0 * 281_474_976_710_656 + get_or bytes 7 0 * 72_057_594_037_927_936
-unfolding word
-word_eight [] le = absurd (omega arith)
-word_eight (a ∷ []) le = absurd (omega arith)
-word_eight (a ∷ b ∷ []) le = absurd (omega arith)
-word_eight (a ∷ b ∷ c ∷ []) le = absurd (omega arith)
-word_eight (a ∷ b ∷ c ∷ d ∷ []) le = absurd (omega arith)
-word_eight (a ∷ b ∷ c ∷ d ∷ e ∷ []) le = absurd (omega arith)
-word_eight (a ∷ b ∷ c ∷ d ∷ e ∷ f ∷ []) le = absurd (omega arith)
-word_eight (a ∷ b ∷ c ∷ d ∷ e ∷ f ∷ g ∷ []) le = absurd (omega arith)
-word_eight (a ∷ b ∷ c ∷ d ∷ e ∷ f ∷ g ∷ h ∷ rest) le = omega arith
+pub chunk_eight : (bytes : List ℕ) → 8 ≤ length bytes → chunk (take 8 bytes) ≡ get_or bytes 0 0 + get_or bytes 1 0 * 256 + get_or bytes 2 0 * 65_536 + get_or bytes 3 0 * 16_777_216 + get_or bytes 4 0 * 4_294_967_296 + get_or bytes 5 0 * 1_099_511_627_776 + get_or bytes 6 0 * 281_474_976_710_656 + get_or bytes 7 0 * 72_057_594_037_927_936
+unfolding chunk
+chunk_eight [] le = absurd (omega arith)
+chunk_eight (a ∷ []) le = absurd (omega arith)
+chunk_eight (a ∷ b ∷ []) le = absurd (omega arith)
+chunk_eight (a ∷ b ∷ c ∷ []) le = absurd (omega arith)
+chunk_eight (a ∷ b ∷ c ∷ d ∷ []) le = absurd (omega arith)
+chunk_eight (a ∷ b ∷ c ∷ d ∷ e ∷ []) le = absurd (omega arith)
+chunk_eight (a ∷ b ∷ c ∷ d ∷ e ∷ f ∷ []) le = absurd (omega arith)
+chunk_eight (a ∷ b ∷ c ∷ d ∷ e ∷ f ∷ g ∷ []) le = absurd (omega arith)
+chunk_eight (a ∷ b ∷ c ∷ d ∷ e ∷ f ∷ g ∷ h ∷ rest) le = omega arith
 
 -- each byte under its mask
 abbrev pub Masked : List ℕ → List ℕ → List ℕ → Type 0
@@ -69,20 +69,20 @@ AreBytes [] = Unit {0}
 AreBytes (b ∷ bs) = (b < 256) × AreBytes bs
 
 -- a test of a whole number is one of each byte
-pub masked : (bs ms ps : List ℕ) → AreBytes bs → AreBytes ms → AreBytes ps → bit_and (word bs) (word ms) ≡ word ps → Masked bs ms ps
-unfolding word
+pub masked : (bs ms ps : List ℕ) → AreBytes bs → AreBytes ms → AreBytes ps → bit_and (chunk bs) (chunk ms) ≡ chunk ps → Masked bs ms ps
+unfolding chunk
 masked [] ms ps hb hm hp e = tt
 masked (b ∷ bs) [] ps hb hm hp e = tt
 masked (b ∷ bs) (m ∷ ms) [] hb hm hp e = tt
 masked (b ∷ bs) (m ∷ ms) (p ∷ ps) hb hm hp e =
-    let parts = split (word bs) b (word ms) m (word ps) p hb.0 hm.0 hp.0 e in
+    let parts = split (chunk bs) b (chunk ms) m (chunk ps) p hb.0 hm.0 hp.0 e in
     (parts.low, masked bs ms ps hb.1 hm.1 hp.1 parts.high)
 
 -- the pair of a byte and the next one
-pub pair_here : (d e : ℕ) (ds : List ℕ) → d ≤ 9 → e ≤ 9 → paired (word (d ∷ e ∷ ds)) % 256 ≡ d * 10 + e
-unfolding word
-pair_here d e ds low high = omega (arith, (pairs d (word ds * 256 + e) (omega arith)).low)
+pub pair_here : (d e : ℕ) (ds : List ℕ) → d ≤ 9 → e ≤ 9 → paired (chunk (d ∷ e ∷ ds)) % 256 ≡ d * 10 + e
+unfolding chunk
+pair_here d e ds low high = omega (arith, (pairs d (chunk ds * 256 + e) (omega arith)).low)
 
-pub pair_next : (d e : ℕ) (ds : List ℕ) → d ≤ 9 → e ≤ 9 → paired (word (d ∷ e ∷ ds)) / 256 ≡ paired (word (e ∷ ds))
-unfolding word
-pair_next d e ds low high = (pairs d (word ds * 256 + e) (omega arith)).high
+pub pair_next : (d e : ℕ) (ds : List ℕ) → d ≤ 9 → e ≤ 9 → paired (chunk (d ∷ e ∷ ds)) / 256 ≡ paired (chunk (e ∷ ds))
+unfolding chunk
+pair_next d e ds low high = (pairs d (chunk ds * 256 + e) (omega arith)).high

@@ -1,10 +1,10 @@
-pub mod ClockWords
+pub mod ClockChunks
 pub mod Decimal
-pub mod DigitWords
+pub mod DigitChunks
 pub mod Fixed
-pub mod Fractions
+pub mod FractionDigits
 pub mod Fronts
 pub mod Lanes
 pub mod Numbers
 pub mod Padding
-pub mod YearMonthWords
+pub mod YearMonthChunks

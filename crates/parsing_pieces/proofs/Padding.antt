@@ -11,10 +11,10 @@ use Rattle.std.proofs.lemmas.Simd.{length-replicate}
 use Rattle.std.proofs.lemmas.Nat.{pow-add, and_mask}
 use Rattle.std.proofs.Math.Nat.{add-mul-mod_self_right, mod-eq_of_lt, pow-le-pow_right}
 use Rattle.parsing_pieces.specs.Pieces.{digits, digit_count, digit_run, fraction, nanoseconds_of}
-use Rattle.parsing_pieces.specs.Words.{word, padded}
+use Rattle.parsing_pieces.specs.Chunks.{chunk, padded}
 use Rattle.parsing_pieces.proofs.Decimal.{value_append, value_after, count_front}
-use Rattle.parsing_pieces.proofs.DigitWords.{EightWord, eight_read}
-use Rattle.parsing_pieces.proofs.Fractions.{Read, digits_read, none_there, short_fraction}
+use Rattle.parsing_pieces.proofs.DigitChunks.{EightChunk, eight_read}
+use Rattle.parsing_pieces.proofs.FractionDigits.{Read, digits_read, none_there, short_fraction}
 
 byte_power : (n : ℕ) → 2 ^ (8 * suc n) ≡ 2 ^ (8 * n) * 256
 byte_power n = ap (λ (k : ℕ). 2 ^ k) (let e : 8 * suc n ≡ 8 * n + 8 = omega arith in e) ∙ pow-add 2 (8 * n) 8
@@ -22,26 +22,26 @@ byte_power n = ap (λ (k : ℕ). 2 ^ k) (let e : 8 * suc n ≡ 8 * n + 8 = omega
 one_more : (w b p q : ℕ) → w < p → b < 256 → q ≡ p * 256 → w * 256 + b < q
 one_more w b p q h k e = omega arith
 
-pub word_below : (bytes : List ℕ) → ((k : ℕ) → get_or bytes k 0 < 256) → word bytes < 2 ^ (8 * length bytes)
-unfolding word
-word_below [] fit = lit< tt
-word_below (b ∷ bs) fit = one_more (word bs) b (2 ^ (8 * length bs)) (2 ^ (8 * suc (length bs))) (word_below bs (λ k. fit (suc k))) (fit 0) (byte_power (length bs))
+pub chunk_below : (bytes : List ℕ) → ((k : ℕ) → get_or bytes k 0 < 256) → chunk bytes < 2 ^ (8 * length bytes)
+unfolding chunk
+chunk_below [] fit = lit< tt
+chunk_below (b ∷ bs) fit = one_more (chunk bs) b (2 ^ (8 * length bs)) (2 ^ (8 * suc (length bs))) (chunk_below bs (λ k. fit (suc k))) (fit 0) (byte_power (length bs))
 
-pub short_fits : (bytes : List ℕ) → length bytes ≤ 7 → ((k : ℕ) → get_or bytes k 0 < 256) → word bytes < 2 ^ 56
-short_fits bytes le fit = omega (arith, word_below bytes fit, (let most : 2 ^ (8 * length bytes) ≤ 2 ^ 56 = pow-le-pow_right {n = 2} (lit< tt) {i = 8 * length bytes} {j = 56} (omega arith) in most))
+pub short_fits : (bytes : List ℕ) → length bytes ≤ 7 → ((k : ℕ) → get_or bytes k 0 < 256) → chunk bytes < 2 ^ 56
+short_fits bytes le fit = omega (arith, chunk_below bytes fit, (let most : 2 ^ (8 * length bytes) ≤ 2 ^ 56 = pow-le-pow_right {n = 2} (lit< tt) {i = 8 * length bytes} {j = 56} (omega arith) in most))
 
 drop_fit : (n : ℕ) (bytes : List ℕ) → ((k : ℕ) → get_or bytes k 0 < 256) → (k : ℕ) → get_or (drop n bytes) k 0 < 256
 drop_fit zero bytes fit k = fit k
 drop_fit (suc n) [] fit k = lit< tt
 drop_fit (suc n) (b ∷ bs) fit k = drop_fit n bs (λ j. fit (suc j)) k
 
-pub drop_fits : (n : ℕ) (bytes : List ℕ) → length bytes < 8 → ((k : ℕ) → get_or bytes k 0 < 256) → word (drop n bytes) < 2 ^ 56
+pub drop_fits : (n : ℕ) (bytes : List ℕ) → length bytes < 8 → ((k : ℕ) → get_or bytes k 0 < 256) → chunk (drop n bytes) < 2 ^ 56
 drop_fits n bytes lt fit = short_fits (drop n bytes) (omega (arith, length-drop n bytes)) (drop_fit n bytes fit)
 
 -- one byte more in front
-pub word_drop : (n : ℕ) (bytes : List ℕ) → n < length bytes → word (drop n bytes) ≡ word (drop (n + 1) bytes) * 256 + get_or bytes n 0
-unfolding word
-word_drop n bytes lt = ap word (drop_more bytes n 0 lt)
+pub chunk_drop : (n : ℕ) (bytes : List ℕ) → n < length bytes → chunk (drop n bytes) ≡ chunk (drop (n + 1) bytes) * 256 + get_or bytes n 0
+unfolding chunk
+chunk_drop n bytes lt = ap chunk (drop_more bytes n 0 lt)
 
 -- the table of ones
 abbrev pub ones : List ℕ
@@ -54,17 +54,17 @@ ones_at n h = eqb-true _ _ (agree_below_at (λ (k : ℕ). eqb (get_or ones k 0) 
 abbrev pub zeros : List ℕ
 zeros = 3_472_328_296_227_680_304 ∷ 3_472_328_296_227_680_256 ∷ 3_472_328_296_227_667_968 ∷ 3_472_328_296_224_522_240 ∷ 3_472_328_295_419_215_872 ∷ 3_472_328_089_260_785_664 ∷ 3_472_275_312_702_652_416 ∷ 3_458_764_513_820_540_928 ∷ 0 ∷ []
 
-pub zeros_at : (n : ℕ) → n < 9 → get_or zeros n 0 ≡ word (replicate (8 - n) 48) * 2 ^ (8 * n)
-unfolding word
-zeros_at n h = eqb-true _ _ (agree_below_at (λ (k : ℕ). eqb (get_or zeros k 0) (word (replicate (8 - k) 48) * 2 ^ (8 * k))) (λ _. true) 9 n refl h)
+pub zeros_at : (n : ℕ) → n < 9 → get_or zeros n 0 ≡ chunk (replicate (8 - n) 48) * 2 ^ (8 * n)
+unfolding chunk
+zeros_at n h = eqb-true _ _ (agree_below_at (λ (k : ℕ). eqb (get_or zeros k 0) (chunk (replicate (8 - k) 48) * 2 ^ (8 * k))) (λ _. true) 9 n refl h)
 
 appended : (x y b p q : ℕ) → q ≡ p * 256 → (x + y * p) * 256 + b ≡ x * 256 + b + y * q
 appended x y b p q e = rw e (omega arith)
 
-pub word_append : (xs ys : List ℕ) → word (xs ++ ys) ≡ word xs + word ys * 2 ^ (8 * length xs)
-unfolding word
-word_append [] ys = omega arith
-word_append (x ∷ xs) ys = rw (word_append xs ys) (appended (word xs) (word ys) x (2 ^ (8 * length xs)) (2 ^ (8 * suc (length xs))) (byte_power (length xs)))
+pub chunk_append : (xs ys : List ℕ) → chunk (xs ++ ys) ≡ chunk xs + chunk ys * 2 ^ (8 * length xs)
+unfolding chunk
+chunk_append [] ys = omega arith
+chunk_append (x ∷ xs) ys = rw (chunk_append xs ys) (appended (chunk xs) (chunk ys) x (2 ^ (8 * length xs)) (2 ^ (8 * suc (length xs))) (byte_power (length xs)))
 
 zeros_value : (m : ℕ) → digits_value_after 10 0 (replicate m 48) ≡ 0
 zeros_value zero = refl
@@ -133,31 +133,31 @@ module _ (bytes : List ℕ) (k : ℕ) (few : k ≤ 8) (within : k ≤ length byt
   pub padded_rest : drop 8 (padded k bytes) ≡ []
   padded_rest = drop_all 8 (padded k bytes) (omega (arith, padded_long))
 
-  sum : word (padded k bytes) ≡ word (take k bytes) + word (replicate (8 - k) 48) * 2 ^ (8 * k)
-  sum = word_append (take k bytes) (replicate (8 - k) 48) ∙ rw long refl
+  sum : chunk (padded k bytes) ≡ chunk (take k bytes) + chunk (replicate (8 - k) 48) * 2 ^ (8 * k)
+  sum = chunk_append (take k bytes) (replicate (8 - k) 48) ∙ rw long refl
 
-  -- the first bytes of a word, and zeros behind them
-  pub padded_is : bit_and (word (take 8 bytes)) (2 ^ (8 * k) - 1) + word (replicate (8 - k) 48) * 2 ^ (8 * k) ≡ word (padded k bytes)
+  -- the first bytes of a chunk, and zeros behind them
+  pub padded_is : bit_and (chunk (take 8 bytes)) (2 ^ (8 * k) - 1) + chunk (replicate (8 - k) 48) * 2 ^ (8 * k) ≡ chunk (padded k bytes)
   padded_is =
       let front : take k (take 8 bytes) ≡ take k bytes = take-take k 8 bytes few in
-      let parts : word (take 8 bytes) ≡ word (take k bytes) + word (drop k (take 8 bytes)) * 2 ^ (8 * k) =
-      ap word (sym (take-append-drop k (take 8 bytes))) ∙ word_append (take k (take 8 bytes)) (drop k (take 8 bytes)) ∙ rw front (rw long refl) in
-      let below : word (take k bytes) < 2 ^ (8 * k) = rw long at (word_below (take k bytes) (take_fit k bytes fit)) in
-      let mask : bit_and (word (take 8 bytes)) (2 ^ (8 * k) - 1) ≡ word (take k bytes) = and_mask (word (take 8 bytes)) (8 * k) ∙ masked_sum (word (take 8 bytes)) (word (take k bytes)) (word (drop k (take 8 bytes))) (2 ^ (8 * k)) parts below in
+      let parts : chunk (take 8 bytes) ≡ chunk (take k bytes) + chunk (drop k (take 8 bytes)) * 2 ^ (8 * k) =
+      ap chunk (sym (take-append-drop k (take 8 bytes))) ∙ chunk_append (take k (take 8 bytes)) (drop k (take 8 bytes)) ∙ rw front (rw long refl) in
+      let below : chunk (take k bytes) < 2 ^ (8 * k) = rw long at (chunk_below (take k bytes) (take_fit k bytes fit)) in
+      let mask : bit_and (chunk (take 8 bytes)) (2 ^ (8 * k) - 1) ≡ chunk (take k bytes) = and_mask (chunk (take 8 bytes)) (8 * k) ∙ masked_sum (chunk (take 8 bytes)) (chunk (take k bytes)) (chunk (drop k (take 8 bytes))) (2 ^ (8 * k)) parts below in
       rw mask (sym sum)
 
-  below : word (padded k bytes) < 2 ^ 64
-  below = rw padded_long at (word_below (padded k bytes) padded_fit)
+  below : chunk (padded k bytes) < 2 ^ 64
+  below = rw padded_long at (chunk_below (padded k bytes) padded_fit)
 
-  pub padded_below : Fits w64 (word (padded k bytes))
+  pub padded_below : Fits w64 (chunk (padded k bytes))
   padded_below = record { fits = below }
 
   -- what the test of the first bytes with zeros behind them says
   pub record PaddedRead : Type 0 where
-    pub eight : EightWord (padded k bytes) (word (padded k bytes))
+    pub eight : EightChunk (padded k bytes) (chunk (padded k bytes))
     pub rest : drop 8 (padded k bytes) ≡ []
 
-  pub padded_read : bit_and (word (padded k bytes)) 17_361_641_481_138_401_520 ≡ 3_472_328_296_227_680_304 → bit_and ((word (padded k bytes) + 434_041_037_028_460_038) % 2 ^ 64) 17_361_641_481_138_401_520 ≡ 3_472_328_296_227_680_304 → PaddedRead
+  pub padded_read : bit_and (chunk (padded k bytes)) 17_361_641_481_138_401_520 ≡ 3_472_328_296_227_680_304 → bit_and ((chunk (padded k bytes) + 434_041_037_028_460_038) % 2 ^ 64) 17_361_641_481_138_401_520 ≡ 3_472_328_296_227_680_304 → PaddedRead
   padded_read here more =
       let r = eight_read (padded k bytes) (omega (arith, padded_long)) padded_fit (rw padded_whole here) (rw padded_whole more) in
       record { eight = rw padded_whole at r; rest = padded_rest }

@@ -4,4 +4,4 @@ pub mod FaultText
 pub mod Pieces
 pub mod Readings
 pub mod ShortName
-pub mod Words
+pub mod Chunks

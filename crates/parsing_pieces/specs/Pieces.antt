@@ -4,6 +4,7 @@ use Rattle.std.specs.List.{prefix_len}
 use Rattle.std.specs.Char.{is_ascii_digit}
 use Rattle.std.specs.Str.Parse.{digits_value}
 use Rattle.std.specs.Borrow.{Bor}
+use Rattle.byte_names.specs.Bytes.{plus, hyphen}
 
 abbrev pub Piece : Type 0 → Type 0
 Piece A = List ℕ → Option (A × List ℕ)
@@ -15,6 +16,10 @@ cut_view r = option_map (λ p. (p.0, p.1.now)) r
 -- the same for a value that is bytes
 abbrev pub run_view : Option (Bor (List ℕ) × Bor (List ℕ)) → Option (List ℕ × List ℕ)
 run_view r = option_map (λ p. (p.0.now, p.1.now)) r
+
+-- what stands behind what a function cut off, which tells no value
+abbrev pub rest_view : Option (Bor (List ℕ)) → Option (Unit {0} × List ℕ)
+rest_view r = option_map (λ rest. (tt, rest.now)) r
 
 -- how many digits the bytes begin with
 abbrev pub digit_count : List ℕ → ℕ
@@ -41,12 +46,17 @@ unfoldable pub byte_of : (ℕ → Bool) → Piece ℕ
 byte_of p [] = None
 byte_of p (x ∷ rest) = if p x then Some (x, rest) else None
 
-abbrev pub byte : ℕ → Piece ℕ
-byte c = byte_of (λ x. x == c)
-
-abbrev pub any_byte : Piece ℕ
-any_byte = byte_of (λ _. true)
-
 -- `+` or `-`
 abbrev pub sign : Piece ℕ
-sign = byte_of (λ x. (x == 43) || (x == 45))
+sign = byte_of (λ x. (x == plus) || (x == hyphen))
+
+-- one byte that passes, and which one it is does not matter
+unfoldable pub skip_of : (ℕ → Bool) → Piece (Unit {0})
+skip_of p [] = None
+skip_of p (x ∷ rest) = if p x then Some (tt, rest) else None
+
+abbrev pub byte : ℕ → Piece (Unit {0})
+byte c = skip_of (λ x. x == c)
+
+abbrev pub any_byte : Piece (Unit {0})
+any_byte = skip_of (λ _. true)

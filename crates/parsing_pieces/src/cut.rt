@@ -42,26 +42,26 @@ pub fn four_digits(bytes: &[u8]) -> Option<(u16, &[u8])>
     Some((u16::from(high) * 100 + u16::from(low), rest))
 }
 
-/// The byte `wanted`.
-#[tactic(auto, unfolding(crate::specs::Pieces::byte_of))]
+/// What stands behind the byte `wanted`.
+#[tactic(auto, unfolding(crate::specs::Pieces::skip_of))]
 #[inline(always)]
-pub fn byte(wanted: u8, bytes: &[u8]) -> Option<(u8, &[u8])>
-    ensures { Pieces.cut_view result ≡ Pieces.byte wanted bytes.now }
+pub fn byte(wanted: u8, bytes: &[u8]) -> Option<&[u8]>
+    ensures { Pieces.rest_view result ≡ Pieces.byte wanted bytes.now }
 {
     match bytes {
-        [b, rest @ ..] if *b == wanted => Some((*b, rest)),
+        [b, rest @ ..] if *b == wanted => Some(rest),
         _ => None,
     }
 }
 
-/// Any byte.
-#[tactic(auto, unfolding(crate::specs::Pieces::byte_of))]
+/// What stands behind any byte.
+#[tactic(auto, unfolding(crate::specs::Pieces::skip_of))]
 #[inline(always)]
-pub fn any_byte(bytes: &[u8]) -> Option<(u8, &[u8])>
-    ensures { Pieces.cut_view result ≡ Pieces.any_byte bytes.now }
+pub fn any_byte(bytes: &[u8]) -> Option<&[u8]>
+    ensures { Pieces.rest_view result ≡ Pieces.any_byte bytes.now }
 {
     match bytes {
-        [b, rest @ ..] => Some((*b, rest)),
+        [_, rest @ ..] => Some(rest),
         _ => None,
     }
 }
@@ -76,4 +76,28 @@ pub fn sign(bytes: &[u8]) -> Option<(u8, &[u8])>
         [b, rest @ ..] if *b == b'+' || *b == b'-' => Some((*b, rest)),
         _ => None,
     }
+}
+
+// How many digits the bytes begin with.
+#[inline(always)]
+#[tactic(auto, using(crate::proofs::Decimal::digit_count_within))]
+fn leading_digits(bytes: &[u8]) -> usize
+    ensures count { result ≡ Pieces.digit_count bytes.now }
+    ensures within { result ≤ length bytes.now }
+{
+    bytes.iter().take_while(|b| b.is_ascii_digit()).count()
+}
+
+/// All digits that are there, at least one.
+#[inline(always)]
+#[tactic(auto, using(crate::proofs::Decimal::count_front), unfolding(crate::specs::Pieces::digit_run))]
+pub fn digit_run(bytes: &[u8]) -> Option<(&[u8], &[u8])>
+    ensures cut { Pieces.run_view result ≡ Pieces.digit_run bytes.now }
+    ensures all { IfSome result (λ x. Pieces.digit_count x.0.now ≡ length x.0.now) }
+{
+    let n = leading_digits(bytes);
+    if n == 0 {
+        return None;
+    }
+    Some(bytes.split_at(n))
 }

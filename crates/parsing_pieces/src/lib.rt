@@ -1,12 +1,12 @@
 //! What readings of texts share: the faults, and the pieces that texts are cut into.
 #![tactic(auto)]
 
+mod chunk;
 mod cut;
 mod fault;
-mod run;
-mod word;
+mod fractions;
 
-pub use cut::{any_byte, byte, four_digits, sign, two_digits};
+pub use chunk::{clock, nine_digits, year_month};
+pub use cut::{any_byte, byte, digit_run, four_digits, sign, two_digits};
 pub use fault::{Parse, ParseFromDescription, TryFromParsed};
-pub use run::{digit_run, fraction};
-pub use word::{clock, nine_digits, year_month};
+pub use fractions::fraction;

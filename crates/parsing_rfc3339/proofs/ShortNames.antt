@@ -1,6 +1,7 @@
 -- The names of components that faults carry are short.
 use Rattle.std.proofs.Common.{◌≡◌, ℕ, Bool, true, false, List, [], ◌∷◌, Option, Some, None, Result, Ok, Err, lit<}
 use Rattle.std.specs.Prelude.{IfErr, codes, nat_lt, nat_le, pos}
+use Rattle.byte_names.specs.Bytes.{hyphen, colon, dot}
 use Rattle.calendar_count.specs.declared.component_range.ComponentRange.{ComponentRange}
 use Rattle.datetime_wall.specs.Wall.{Shown}
 use Rattle.parsing_pieces.specs.Fault.{Fault, literal, component}
@@ -41,24 +42,24 @@ date_short : (bytes : List ℕ) → IfErr (date bytes) HasShortName
 unfolding date
 date_short b0 =
     then_short _ _ (piece_short (component (codes "year")) (digits 4 b0) (lit< tt)) (λ year b1.
-    then_short _ _ (piece_short literal (byte 45 b1) tt) (λ dash b2.
+    then_short _ _ (piece_short literal (byte hyphen b1) tt) (λ skipped b2.
     then_short _ _ (piece_short (component (codes "month")) (digits 2 b2) (lit< tt)) (λ month b3.
     then_short _ _ (require_short (nat_lt 0 month) (component (codes "month")) b3 (lit< tt)) (λ some b4.
-    then_short _ _ (piece_short literal (byte 45 b4) tt) (λ dash b5.
+    then_short _ _ (piece_short literal (byte hyphen b4) tt) (λ skipped b5.
     then_short _ _ (piece_short (component (codes "day")) (digits 2 b5) (lit< tt)) (λ day b6. tt))))))
 
 subsecond_short : (bytes : List ℕ) → IfErr (subsecond bytes) HasShortName
 unfolding subsecond
 subsecond_short bytes =
-    entered_short (byte 46 bytes) _ _ bytes (λ point rest. piece_short (component (codes "subsecond")) (fraction rest) (lit< tt)) tt
+    entered_short (byte dot bytes) _ _ bytes (λ point rest. piece_short (component (codes "subsecond")) (fraction rest) (lit< tt)) tt
 
 clock_short : (bytes : List ℕ) → IfErr (clock bytes) HasShortName
 unfolding clock
 clock_short b0 =
     then_short _ _ (piece_short (component (codes "hour")) (digits 2 b0) (lit< tt)) (λ hour b1.
-    then_short _ _ (piece_short literal (byte 58 b1) tt) (λ colon b2.
+    then_short _ _ (piece_short literal (byte colon b1) tt) (λ skipped b2.
     then_short _ _ (piece_short (component (codes "minute")) (digits 2 b2) (lit< tt)) (λ minute b3.
-    then_short _ _ (piece_short literal (byte 58 b3) tt) (λ colon b4.
+    then_short _ _ (piece_short literal (byte colon b3) tt) (λ skipped b4.
     then_short _ _ (piece_short (component (codes "second")) (digits 2 b4) (lit< tt)) (λ second b5. tt)))))
 
 signed_offset_short : (bytes : List ℕ) → IfErr (signed_offset bytes) HasShortName
@@ -67,7 +68,7 @@ signed_offset_short b0 =
     then_short _ _ (piece_short (component (codes "offset hour")) (sign b0) (lit< tt)) (λ s b1.
     then_short _ _ (piece_short (component (codes "offset hour")) (digits 2 b1) (lit< tt)) (λ hour b2.
     then_short _ _ (require_short (nat_le hour 23) (component (codes "offset hour")) b2 (lit< tt)) (λ some b3.
-    then_short _ _ (piece_short literal (byte 58 b3) tt) (λ colon b4.
+    then_short _ _ (piece_short literal (byte colon b3) tt) (λ skipped b4.
     then_short _ _ (piece_short (component (codes "offset minute")) (digits 2 b4) (lit< tt)) (λ minute b5. tt)))))
 
 offset_short : (bytes : List ℕ) → IfErr (offset bytes) HasShortName

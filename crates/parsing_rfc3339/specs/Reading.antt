@@ -1,7 +1,8 @@
 -- RFC 3339, section 5.6: a full date, any one byte, a full time with its offset.
 use Rattle.std.specs.Prelude.{ℕ, ◌||◌, Bool, false, codes, nat_le, nat_lt, ◌==◌}
+use Rattle.byte_names.specs.Bytes.{hyphen, colon, dot, upper_z, lower_z}
 use Rattle.parsing_pieces.specs.Fault.{literal, component}
-use Rattle.parsing_pieces.specs.Pieces.{Piece, digits, fraction, byte, byte_of, any_byte, sign}
+use Rattle.parsing_pieces.specs.Pieces.{Piece, digits, fraction, byte, skip_of, any_byte, sign}
 use Rattle.parsing_pieces.specs.Readings.{Reading, ◌or◌, ◌>>=◌, ◌>>◌, give, if_there, require}
 use Rattle.parsing_rfc3339.specs.declared.written.Written.{Written}
 
@@ -9,10 +10,10 @@ use Rattle.parsing_rfc3339.specs.declared.written.Written.{Written}
 unfoldable pub date : Reading (ℕ × ℕ × ℕ)
 date = do
   year ← digits 4 or component (codes "year")
-  byte 45 or literal
+  byte hyphen or literal
   month ← digits 2 or component (codes "month")
   require (nat_lt 0 month) (component (codes "month"))
-  byte 45 or literal
+  byte hyphen or literal
   day ← digits 2 or component (codes "day")
   give (year, month, day)
 
@@ -20,19 +21,19 @@ date = do
 unfoldable pub clock : Reading (ℕ × ℕ × ℕ)
 clock = do
   hour ← digits 2 or component (codes "hour")
-  byte 58 or literal
+  byte colon or literal
   minute ← digits 2 or component (codes "minute")
-  byte 58 or literal
+  byte colon or literal
   second ← digits 2 or component (codes "second")
   give (hour, minute, second)
 
 -- `.52`, or nothing
 unfoldable pub subsecond : Reading ℕ
-subsecond = if_there (byte 46) (λ _. fraction or component (codes "subsecond")) (give 0)
+subsecond = if_there (byte dot) (λ _. fraction or component (codes "subsecond")) (give 0)
 
 -- `Z` or `z`
-unfoldable pub zulu : Piece ℕ
-zulu = byte_of (λ c. (c == 90) || (c == 122))
+unfoldable pub zulu : Piece (Unit {0})
+zulu = skip_of (λ c. (c == upper_z) || (c == lower_z))
 
 -- a sign, hours of at most 23 and minutes, all under the sign
 unfoldable pub signed_offset : Reading (Bool × ℕ × ℕ)
@@ -40,9 +41,9 @@ signed_offset = do
   s ← sign or component (codes "offset hour")
   hour ← digits 2 or component (codes "offset hour")
   require (nat_le hour 23) (component (codes "offset hour"))
-  byte 58 or literal
+  byte colon or literal
   minute ← digits 2 or component (codes "offset minute")
-  give (s == 45, hour, minute)
+  give (s == hyphen, hour, minute)
 
 unfoldable pub offset : Reading (Bool × ℕ × ℕ)
 offset = if_there zulu (λ _. give (false, 0, 0)) signed_offset

@@ -56,23 +56,14 @@ pub fn read_quickly(input: &[u8]) -> Option<OffsetDateTime>
     Some(moment)
 }
 
+// The same moment or fault as `read`, piece by piece.
 #[tactic(auto, unfolding(crate::specs::Direct::direct, crate::specs::Direct::moment))]
 #[cold]
-fn moment_by_pieces(input: &[u8]) -> Result<OffsetDateTime, Parse>
+fn read_by_pieces(input: &[u8]) -> Result<OffsetDateTime, Parse>
     ensures { Gives (λ d. d) fault_of result (direct input.now) }
 {
     let (written, rest) = front(input)?;
     resolved(written, rest)
-}
-
-#[inline(always)]
-fn moment(input: &[u8]) -> Result<OffsetDateTime, Parse>
-    ensures { Gives (λ d. d) fault_of result (direct input.now) }
-{
-    match read_quickly(input) {
-        Some(moment) => Ok(moment),
-        None => moment_by_pieces(input),
-    }
 }
 
 /// The moment that a text of RFC 3339, section 5.6, names, with any one byte between date and time.
@@ -84,5 +75,8 @@ pub fn read(input: &[u8]) -> Result<OffsetDateTime, Parse>
     ensures gives { Gives (λ d. d) fault_of result (direct input.now) }
     ensures short_name { IfErr result (λ e. HasShortName (fault_of e)) }
 {
-    moment(input)
+    match read_quickly(input) {
+        Some(moment) => Ok(moment),
+        None => read_by_pieces(input),
+    }
 }

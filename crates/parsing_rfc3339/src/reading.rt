@@ -1,13 +1,12 @@
 //! Readings of the parts of a text.
 ghost use Rattle.std.specs.Prelude.{◌≡◌, ◌≤◌, ◌<◌, IfOk, IfSome, Ok};
 ghost use Rattle.parsing_pieces.specs.FaultOf.{Gives, reading_fault};
-ghost use Rattle.parsing_pieces.specs.Pieces.{cut_view};
+ghost use Rattle.parsing_pieces.specs.Pieces.{rest_view};
 ghost use Rattle.parsing_rfc3339.specs.Reading as Reading;
 
 use crate::written::Written;
-use parsing_pieces::{
-    ParseFromDescription, any_byte, byte, four_digits, fraction, sign, two_digits, year_month,
-};
+use parsing_pieces::ParseFromDescription::{self, InvalidComponent, InvalidLiteral};
+use parsing_pieces::{any_byte, byte, four_digits, fraction, sign, two_digits, year_month};
 
 // The date at the front, where no piece of it is missing.
 #[tactic(auto, unfolding(crate::specs::Reading::date))]
@@ -27,14 +26,14 @@ fn quick_date(bytes: &[u8]) -> Option<((u16, u8, u8), &[u8])>
 fn date(bytes: &[u8]) -> Result<((u16, u8, u8), &[u8]), ParseFromDescription>
     ensures { Gives (λ x. (x.0, x.1.now)) reading_fault result (Reading.date bytes.now) }
 {
-    let (year, rest) = four_digits(bytes).ok_or(ParseFromDescription::InvalidComponent("year"))?;
-    let (_, rest) = byte(b'-', rest).ok_or(ParseFromDescription::InvalidLiteral)?;
-    let (month, rest) = two_digits(rest).ok_or(ParseFromDescription::InvalidComponent("month"))?;
+    let (year, rest) = four_digits(bytes).ok_or(InvalidComponent("year"))?;
+    let rest = byte(b'-', rest).ok_or(InvalidLiteral)?;
+    let (month, rest) = two_digits(rest).ok_or(InvalidComponent("month"))?;
     if month == 0 {
-        return Err(ParseFromDescription::InvalidComponent("month"));
+        return Err(InvalidComponent("month"));
     }
-    let (_, rest) = byte(b'-', rest).ok_or(ParseFromDescription::InvalidLiteral)?;
-    let (day, rest) = two_digits(rest).ok_or(ParseFromDescription::InvalidComponent("day"))?;
+    let rest = byte(b'-', rest).ok_or(InvalidLiteral)?;
+    let (day, rest) = two_digits(rest).ok_or(InvalidComponent("day"))?;
     Ok(((year, month, day), rest))
 }
 
@@ -42,11 +41,11 @@ fn date(bytes: &[u8]) -> Result<((u16, u8, u8), &[u8]), ParseFromDescription>
 fn clock(bytes: &[u8]) -> Result<((u8, u8, u8), &[u8]), ParseFromDescription>
     ensures { Gives (λ x. (x.0, x.1.now)) reading_fault result (Reading.clock bytes.now) }
 {
-    let (hour, rest) = two_digits(bytes).ok_or(ParseFromDescription::InvalidComponent("hour"))?;
-    let (_, rest) = byte(b':', rest).ok_or(ParseFromDescription::InvalidLiteral)?;
-    let (minute, rest) = two_digits(rest).ok_or(ParseFromDescription::InvalidComponent("minute"))?;
-    let (_, rest) = byte(b':', rest).ok_or(ParseFromDescription::InvalidLiteral)?;
-    let (second, rest) = two_digits(rest).ok_or(ParseFromDescription::InvalidComponent("second"))?;
+    let (hour, rest) = two_digits(bytes).ok_or(InvalidComponent("hour"))?;
+    let rest = byte(b':', rest).ok_or(InvalidLiteral)?;
+    let (minute, rest) = two_digits(rest).ok_or(InvalidComponent("minute"))?;
+    let rest = byte(b':', rest).ok_or(InvalidLiteral)?;
+    let (second, rest) = two_digits(rest).ok_or(InvalidComponent("second"))?;
     Ok(((hour, minute, second), rest))
 }
 
@@ -65,19 +64,19 @@ fn subsecond(bytes: &[u8]) -> Result<(u32, &[u8]), ParseFromDescription>
     ensures gives { Gives (λ x. (x.0, x.1.now)) reading_fault result (Reading.subsecond bytes.now) }
     ensures bound { IfOk result (λ x. x.0 < 1_000_000_000) }
 {
-    let Some((_, rest)) = byte(b'.', bytes) else {
+    let Some(rest) = byte(b'.', bytes) else {
         return Ok((0, bytes));
     };
-    fraction(rest).ok_or(ParseFromDescription::InvalidComponent("subsecond"))
+    fraction(rest).ok_or(InvalidComponent("subsecond"))
 }
 
-#[tactic(auto, unfolding(crate::specs::Reading::zulu, parsing_pieces::specs::Pieces::byte_of))]
+#[tactic(auto, unfolding(crate::specs::Reading::zulu, parsing_pieces::specs::Pieces::skip_of))]
 #[inline(always)]
-fn zulu(bytes: &[u8]) -> Option<(u8, &[u8])>
-    ensures { cut_view result ≡ Reading.zulu bytes.now }
+fn zulu(bytes: &[u8]) -> Option<&[u8]>
+    ensures { rest_view result ≡ Reading.zulu bytes.now }
 {
     match bytes {
-        [b, rest @ ..] if *b == b'Z' || *b == b'z' => Some((*b, rest)),
+        [b, rest @ ..] if *b == b'Z' || *b == b'z' => Some(rest),
         _ => None,
     }
 }
@@ -89,17 +88,13 @@ fn signed_offset(bytes: &[u8]) -> Result<((bool, u8, u8), &[u8]), ParseFromDescr
     ensures hour { IfOk result (λ x. x.0.1 ≤ 23) }
     ensures minute { IfOk result (λ x. x.0.2 < 100) }
 {
-    let (mark, rest) = sign(bytes).ok_or(ParseFromDescription::InvalidComponent("offset hour"))?;
-    let (hour, rest) = two_digits(rest).ok_or(ParseFromDescription::InvalidComponent(
-        "offset hour",
-    ))?;
+    let (mark, rest) = sign(bytes).ok_or(InvalidComponent("offset hour"))?;
+    let (hour, rest) = two_digits(rest).ok_or(InvalidComponent("offset hour"))?;
     if hour > 23 {
-        return Err(ParseFromDescription::InvalidComponent("offset hour"));
+        return Err(InvalidComponent("offset hour"));
     }
-    let (_, rest) = byte(b':', rest).ok_or(ParseFromDescription::InvalidLiteral)?;
-    let (minute, rest) = two_digits(rest).ok_or(ParseFromDescription::InvalidComponent(
-        "offset minute",
-    ))?;
+    let rest = byte(b':', rest).ok_or(InvalidLiteral)?;
+    let (minute, rest) = two_digits(rest).ok_or(InvalidComponent("offset minute"))?;
     Ok(((mark == b'-', hour, minute), rest))
 }
 
@@ -110,7 +105,7 @@ fn offset(bytes: &[u8]) -> Result<((bool, u8, u8), &[u8]), ParseFromDescription>
     ensures hour { IfOk result (λ x. x.0.1 ≤ 23) }
     ensures minute { IfOk result (λ x. x.0.2 < 100) }
 {
-    if let Some((_, rest)) = zulu(bytes) {
+    if let Some(rest) = zulu(bytes) {
         return Ok(((false, 0, 0), rest));
     }
     signed_offset(bytes)
@@ -158,6 +153,8 @@ fn written(
 }
 
 /// The numbers at the front of the bytes, and the rest, where no piece of them is missing.
+///
+/// Each number is named by itself: whole tuples handed on would be kept in memory, at some ten instructions a line.
 #[tactic(auto, unfolding(crate::specs::Reading::rfc3339))]
 #[inline(always)]
 pub(crate) fn quick_front(bytes: &[u8]) -> Option<(Written, &[u8])>
@@ -165,14 +162,28 @@ pub(crate) fn quick_front(bytes: &[u8]) -> Option<(Written, &[u8])>
     ensures offset_hour { IfSome result (λ x. x.0.offset_hour ≤ 23) }
     ensures offset_minute { IfSome result (λ x. x.0.offset_minute < 100) }
 {
-    let (date, rest) = quick_date(bytes)?;
-    let (_, rest) = any_byte(rest)?;
-    let (clock, rest) = quick_clock(rest)?;
+    let ((year, month, day), rest) = quick_date(bytes)?;
+    let rest = any_byte(rest)?;
+    let ((hour, minute, second), rest) = quick_clock(rest)?;
     let Ok((nanosecond, rest)) = subsecond(rest) else {
         return None;
     };
-    let (offset, rest) = quick_offset(rest)?;
-    Some((written(date, clock, nanosecond, offset), rest))
+    let ((offset_is_negative, offset_hour, offset_minute), rest) = quick_offset(rest)?;
+    Some((
+        Written {
+            year,
+            month,
+            day,
+            hour,
+            minute,
+            second,
+            nanosecond,
+            offset_is_negative,
+            offset_hour,
+            offset_minute,
+        },
+        rest,
+    ))
 }
 
 /// The numbers at the front of the bytes, and the rest, piece by piece.
@@ -184,7 +195,7 @@ pub fn front(bytes: &[u8]) -> Result<(Written, &[u8]), ParseFromDescription>
     ensures offset_minute { IfOk result (λ x. x.0.offset_minute < 100) }
 {
     let (date, rest) = date(bytes)?;
-    let (_, rest) = any_byte(rest).ok_or(ParseFromDescription::InvalidComponent("separator"))?;
+    let rest = any_byte(rest).ok_or(InvalidComponent("separator"))?;
     let (clock, rest) = clock(rest)?;
     let (nanosecond, rest) = subsecond(rest)?;
     let (offset, rest) = offset(rest)?;

@@ -7,7 +7,7 @@ use Rattle.instants_stream.specs.Lines.{HasNoLineFeed, whole_lines}
 use Rattle.instants_stream.specs.Answers.{answers_to}
 use Rattle.instants_stream.proofs.Lines.{whole_lines_none, last_part_of_none}
 use Rattle.instants_devices.proofs.Told.{AppendsFront-after, AppendsFront-more}
-use Rattle.instants_stream.proofs.Chunks.{answers_to-front, answers_to-next, next_ended, next_lines, next_some, rest_is_last, lines_are_all}
+use Rattle.instants_stream.proofs.Together.{answers_to-front, answers_to-next, next_ended, next_lines, next_some, rest_is_last, lines_are_all}
 use Rattle.instants_stream.proofs.run.answer_lines.Goals as goal
 
 -- an unfinished line has nothing in front of it

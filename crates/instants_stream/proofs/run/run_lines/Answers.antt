@@ -1,4 +1,4 @@
-use Rattle.std.proofs.Common.{◌≡◌, ◌==◌, ℕ, ◌+◌, ◌-◌, ◌≤◌, ◌<◌, ◌⊎◌, ◌&&◌, zero, suc, Bool, true, false, [], ◌++◌, length, take, refl, ap, ◌∙◌, inl, inr, arith, length-take, length-drop, length-append}
+use Rattle.std.proofs.Common.{◌≡◌, ◌==◌, ℕ, ◌+◌, ◌-◌, ◌≤◌, ◌<◌, ◌⊎◌, ◌&&◌, zero, suc, Bool, true, false, [], ◌++◌, length, take, refl, ap, ◌∙◌, inl, inr, arith}
 use Rattle.std.proofs.Math.Dec.{eqb-suc-zero}
 use Rattle.std.specs.Io.KnownBytes.{IsAtEnd}
 use Rattle.std.proofs.lemmas.Grind.{common_steps}
@@ -7,7 +7,7 @@ use Rattle.instants_stream.specs.Lines.{HasNoLineFeed, last_part}
 use Rattle.instants_devices.proofs.Told.{on_ok, on_err}
 use Rattle.instants_stream.proofs.Lines.{last_part_free}
 use Rattle.instants_stream.proofs.Progress.{Progress, begins, pauses, fails_at_end, through_with_rest, through, fails_at_flush, done, Through}
-use Rattle.instants_stream.proofs.ChunkSteps.{chunk_step, chunk_fails, forgets}
+use Rattle.instants_stream.proofs.ReadSteps.{more_step, more_fails, forgets}
 use Rattle.instants_stream.proofs.Pending.{pending, length-pending, pending_more, pending_rest, pending_moved, pending_kept, pending_same, size_kept}
 use Rattle.instants_stream.proofs.run.run_lines.Goals as goal
 use Rattle.instants_stream.proofs.run.run_lines.Goals.{In-Ok-answer_lines, In-Ok, After-flush, then-is_long+else-is_err, then-is_long-via-then-is_long, then-is_long-via-else-is_long+then-start-filled, else-is_long+else-start-filled}
@@ -38,7 +38,7 @@ returns-in_default-answer_lines-clause-write g c =
     let more = pending_more buffer into start filled count (length buffer - filled) i.ordered fits c.in-Ok.ensures.within in
     let wrote = rw more at c.in_default-answer_lines.ensures.front in
     let into_size : length into ≡ length buffer - filled = grind (arith, common_steps) in
-    λ _. chunk_fails _ _ _ _ _ _ _ _ _ _ _ i.progress i.free c.in-Ok.ensures.moved wrote
+    λ _. more_fails _ _ _ _ _ _ _ _ _ _ _ i.progress i.free c.in-Ok.ensures.moved wrote
 
 -- a line stays too long exactly if no line feed ended it
 still_long : (was : Bool) (answered : ℕ) → ((0 < answered) × ((was && (answered == 0)) ≡ false)) ⊎ ((answered ≡ 0) × ((was && (answered == 0)) ≡ was))
@@ -69,7 +69,7 @@ stands g c is_long which =
     let whole = length-pending (put_mid filled k buffer into) start (filled + count) (omega arith) in
     let ordered : start + answered ≤ filled + count = omega (arith, c.in-Ok-answer_lines.ensures.within, whole, i.ordered) in
     let line_is : pending (put_mid filled k buffer into) (start + answered) (filled + count) ≡ last_part (pending buffer start filled ++ take count into) = pending_rest (put_mid filled k buffer into) start (filled + count) answered ordered ∙ c.in-Ok-answer_lines.ensures.rest ∙ ap last_part more in
-    let progress = chunk_step (g.A.AnswersLines.answer c.args.answers.now) c.args.limit (g.R.ByteReader.left c.args.reader.now) (g.R.ByteReader.left c.loop-count.reader) (g.R.ByteReader.left c.read.new.self) (g.W.ByteWriter.held c.args.writer.now) (g.W.ByteWriter.held c.loop-count.writer) (g.W.ByteWriter.held c.answer_lines.new.writer) (pending buffer start filled) (take count into) c.loop-count.is_long i.progress i.free c.in-Ok.ensures.moved answered is_long
+    let progress = more_step (g.A.AnswersLines.answer c.args.answers.now) c.args.limit (g.R.ByteReader.left c.args.reader.now) (g.R.ByteReader.left c.loop-count.reader) (g.R.ByteReader.left c.read.new.self) (g.W.ByteWriter.held c.args.writer.now) (g.W.ByteWriter.held c.loop-count.writer) (g.W.ByteWriter.held c.answer_lines.new.writer) (pending buffer start filled) (take count into) c.loop-count.is_long i.progress i.free c.in-Ok.ensures.moved answered is_long
     (rw more at c.in-Ok-answer_lines.ensures.some) (rw more at c.in-Ok-answer_lines.ensures.none) which (rw more at c.in-Ok-answer_lines.ensures.written) in
     (rw line_is progress, rw line_is (last_part_free (pending buffer start filled ++ take count into)), ordered, next_fits)
 

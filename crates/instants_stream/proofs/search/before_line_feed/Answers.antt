@@ -1,4 +1,4 @@
-use Rattle.std.proofs.Common.{◌≡◌, ℕ, ◌==◌, ◌<◌, map, take, arith, w8}
+use Rattle.std.proofs.Common.{ℕ, ◌==◌, take, arith, w8}
 use Rattle.std.proofs.lemmas.List.{length-take-le}
 use Rattle.std.proofs.lemmas.Simd.{bitmask_splat}
 use Rattle.instants_stream.proofs.Searched.{none_set, lowest_set, lowest_within}

@@ -1,0 +1,91 @@
+//! The answer to one line, in storage of fixed size.
+
+ghost use Rattle.std.specs.Prelude.{◌≡◌, ◌+◌, ◌≤◌, [], ◌∷◌, ◌++◌, length, take};
+
+use std::marker::Model;
+
+/// The bytes of an answer, at most 64 of them.
+#[derive(Clone, Copy, Debug, PartialEq, Eq)]
+pub struct Answer {
+    bytes: [u8; 64],
+    len: usize,
+}
+
+// Clauses see the bytes. Those of the storage that are not in use are zero, so that equal answers
+// are equal fields.
+impl Model for Answer {
+    ghost use Rattle.std.specs.Prelude.{◌≡◌, ℕ, List, length, take};
+    ghost use Rattle.instants_answers.specs.Padded.{IsPadded, padded, padded-take};
+
+    ghost Value = { List ℕ };
+
+    ghost view = { λ a. take a.len a.bytes };
+
+    ghost invariant = { λ a. IsPadded a.len a.bytes };
+
+    ghost inverse = { λ v. record { bytes = padded v; len = length v } };
+
+    ghost use Rattle.std.proofs.Common.{ap₂};
+
+    ghost inverse_ok = { λ a h. ap₂ (λ (b : List ℕ) (n : ℕ). record { bytes = b; len = n }) (padded-take a.len a.bytes h).1 (padded-take a.len a.bytes h).0 };
+}
+
+impl Answer {
+    /// No bytes yet.
+    #[inline(always)]
+    pub fn new() -> Self
+        ensures { result ≡ [] }
+    {
+        Answer {
+            bytes: [0; 64],
+            len: 0,
+        }
+    }
+
+    /// Takes all bytes away.
+    #[inline(always)]
+    pub fn clear(&mut self)
+        ensures { self.new ≡ [] }
+    {
+        *self = Answer::new();
+    }
+
+    /// The bytes.
+    #[inline(always)]
+    pub fn as_bytes(&self) -> &[u8]
+        ensures bytes { result.now ≡ self.now }
+        ensures most { length self.now ≤ 64 }
+    {
+        &self.bytes[..self.len]
+    }
+
+    /// The bytes with others behind them, and how many they are.
+    #[inline(always)]
+    pub fn padded(&self) -> (&[u8; 64], usize)
+        ensures front { take result.1 result.0.now ≡ self.now }
+        ensures len { result.1 ≡ length self.now }
+    {
+        (&self.bytes, self.len)
+    }
+
+    /// Adds a byte.
+    #[inline(always)]
+    pub fn push(&mut self, byte: u8)
+        requires { length self.old + 1 ≤ 64 }
+        ensures { self.new ≡ self.old ++ byte ∷ [] }
+    {
+        self.bytes[self.len] = byte;
+        self.len += 1;
+    }
+
+    /// Adds bytes.
+    #[inline(always)]
+    pub fn push_bytes(&mut self, bytes: &[u8])
+        requires { length self.old + length bytes.now ≤ 64 }
+        ensures { self.new ≡ self.old ++ bytes.now }
+    {
+        let end = self.len + bytes.len();
+        self.bytes[self.len..end].copy_from_slice(bytes);
+        self.len = end;
+    }
+}

@@ -1,0 +1,61 @@
+//! Decimal digits of fixed width, added to an answer.
+
+ghost use Rattle.std.specs.Prelude.{◌≡◌, ◌+◌, ◌/◌, ◌%◌, ◌<◌, ◌≤◌, ◌++◌, length};
+ghost use Rattle.byte_names.specs.Bytes.{digit_zero};
+ghost use Rattle.instants_answers.specs.Decimal.{decimal};
+
+use crate::answer::Answer;
+
+// The two digits of each number below 100.
+static PAIRS: [u8; 200] =
+    *b"0001020304050607080910111213141516171819202122232425262728293031323334353637383940414243444546474849\
+    5051525354555657585960616263646566676869707172737475767778798081828384858687888990919293949596979899";
+
+#[inline(always)]
+pub(crate) fn pair(number: u32) -> (u8, u8)
+    requires { number < 100 }
+    ensures tens { result.0 ≡ digit_zero + number / 10 }
+    ensures ones { result.1 ≡ digit_zero + number % 10 }
+{
+    let at = number as usize * 2;
+    (PAIRS[at], PAIRS[at + 1])
+}
+
+#[inline(always)]
+#[tactic(auto, unfolding(crate::specs::Decimal::decimal))]
+pub(crate) fn push_two(answer: &mut Answer, number: u32)
+    requires room { length answer.old + 2 ≤ 64 }
+    requires small { number < 100 }
+    ensures digits { answer.new ≡ answer.old ++ decimal 2 number }
+    ensures len { length answer.new ≡ length answer.old + 2 }
+{
+    let (tens, ones) = pair(number);
+    answer.push(tens);
+    answer.push(ones);
+}
+
+#[inline(always)]
+#[tactic(auto, using(crate::proofs::DecimalLemmas::four_digits))]
+pub(crate) fn push_four(answer: &mut Answer, number: u32)
+    requires room { length answer.old + 4 ≤ 64 }
+    requires small { number < 10_000 }
+    ensures digits { answer.new ≡ answer.old ++ decimal 4 number }
+    ensures len { length answer.new ≡ length answer.old + 4 }
+{
+    push_two(answer, number / 100);
+    push_two(answer, number % 100);
+}
+
+#[inline(always)]
+#[tactic(auto, using(crate::proofs::DecimalLemmas::nine_digits))]
+pub(crate) fn push_nine(answer: &mut Answer, number: u32)
+    requires room { length answer.old + 9 ≤ 64 }
+    requires small { number < 1_000_000_000 }
+    ensures digits { answer.new ≡ answer.old ++ decimal 9 number }
+    ensures len { length answer.new ≡ length answer.old + 9 }
+{
+    let front = number / 10_000;
+    answer.push(b'0' + (front / 10_000) as u8);
+    push_four(answer, front % 10_000);
+    push_four(answer, number % 10_000);
+}

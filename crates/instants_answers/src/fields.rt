@@ -1,0 +1,63 @@
+//! The date, the time and the offset of a line, added to an answer.
+
+ghost use Rattle.std.specs.Prelude.{◌≡◌, ◌+◌, ◌<◌, ◌≤◌, ◌++◌, length, pos, unsigned_abs, if◌then◌else◌};
+ghost use Rattle.std.specs.Ordering.{int_eq};
+ghost use Rattle.instants_answers.specs.Text.{date_text, time_text, offset_text};
+
+use crate::answer::Answer;
+use crate::digits::{push_four, push_nine, push_two};
+
+#[inline(always)]
+#[tactic(auto, unfolding(crate::specs::Text::date_text))]
+pub(crate) fn push_date(answer: &mut Answer, year: u32, month: u32, day: u32)
+    requires room { length answer.old + 10 ≤ 64 }
+    requires year { year < 10_000 }
+    requires month { month < 100 }
+    requires day { day < 100 }
+    ensures text { answer.new ≡ answer.old ++ date_text (record { year = pos year; month = month; day = day }) }
+    ensures len { length answer.new ≡ length answer.old + 10 }
+{
+    push_four(answer, year);
+    answer.push(b'-');
+    push_two(answer, month);
+    answer.push(b'-');
+    push_two(answer, day);
+}
+
+#[inline(always)]
+#[tactic(auto, unfolding(crate::specs::Text::time_text))]
+pub(crate) fn push_time(answer: &mut Answer, second: u32, nanosecond: u32)
+    requires room { length answer.old + 18 ≤ 64 }
+    requires second { second < 86_400 }
+    requires nanosecond { nanosecond < 1_000_000_000 }
+    ensures text { answer.new ≡ answer.old ++ time_text second nanosecond }
+    ensures len { length answer.new ≡ length answer.old + 18 }
+{
+    let minute = second / 60;
+    push_two(answer, minute / 60);
+    answer.push(b':');
+    push_two(answer, minute % 60);
+    answer.push(b':');
+    push_two(answer, second % 60);
+    answer.push(b'.');
+    push_nine(answer, nanosecond);
+}
+
+#[inline(always)]
+#[tactic(auto, unfolding(crate::specs::Text::offset_text))]
+pub(crate) fn push_offset(answer: &mut Answer, seconds: i32)
+    requires room { length answer.old + 6 ≤ 64 }
+    requires range { unsigned_abs seconds ≤ 86_340 }
+    ensures text { answer.new ≡ answer.old ++ offset_text seconds }
+    ensures len { length answer.new ≡ length answer.old + (if int_eq seconds (pos 0) then 1 else 6) }
+{
+    if seconds == 0 {
+        answer.push(b'Z');
+        return;
+    }
+    let minutes = seconds.unsigned_abs() / 60;
+    answer.push(if seconds < 0 { b'-' } else { b'+' });
+    push_two(answer, minutes / 60);
+    answer.push(b':');
+    push_two(answer, minutes % 60);
+}
