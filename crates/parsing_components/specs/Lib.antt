@@ -1,0 +1,3 @@
+pub mod Component
+pub mod Ranged
+pub mod Allowed
