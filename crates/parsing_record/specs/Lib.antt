@@ -3,3 +3,4 @@ pub mod Parts
 pub mod Put
 pub mod Meaning
 pub mod Reads
+pub mod Tally

@@ -39,3 +39,10 @@ reading language t = meaning (reads language t)
 
 abbrev pub reading_of_all : Language → Trees → Meaning
 reading_of_all language ts = meaning (all_of (each_reads language ts))
+
+-- how many items are begun in it, the item itself among them
+abbrev pub tried : Language → Tree → Record → List ℕ → ℕ
+tried language t r bytes = (reads language t r bytes).1
+
+abbrev pub tried_in_all : Language → Trees → Record → List ℕ → ℕ
+tried_in_all language ts r bytes = (all_of (each_reads language ts) r bytes).1

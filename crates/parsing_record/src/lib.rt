@@ -8,6 +8,8 @@ mod items;
 mod offset;
 mod parsed;
 mod put;
+mod tally;
 mod years;
 
 pub use parsed::Parsed;
+pub use tally::{ItemTally, NoTally, Tally};

@@ -8,7 +8,7 @@ use Rattle.parsing_pieces.specs.Fault.{Fault}
 use Rattle.parsing_pieces.specs.FaultOf.{reading_fault}
 use Rattle.parsing_record.specs.Record.{Record}
 use Rattle.parsing_record.specs.Meaning.{Answer, Counted, then_counted, all_of, first_of, first_success, or_next, or_found, found_or}
-use Rattle.parsing_record.specs.Reads.{Language, reads, each_reads, reading, reading_of_all}
+use Rattle.parsing_record.specs.Reads.{Language, reads, each_reads, reading, reading_of_all, tried, tried_in_all}
 
 -- the trees of the items from a place on
 abbrev pub from : {X : Type 0} → (X → Tree) → List X → ℕ → Trees
@@ -74,3 +74,43 @@ kept_new (Some g) kept refused b known e is = absurd cc
 pub kept_old : (so_far kept : Option ParseFromDescription) (refused : ParseFromDescription) (b : Bool) → is_some so_far ≡ not b → b ≡ false → kept ≡ so_far → option_map reading_fault kept ≡ Some (first_fault (option_map reading_fault so_far) (reading_fault refused))
 kept_old None kept refused b known e is = absurd cc
 kept_old (Some g) kept refused b known e is = ap (option_map reading_fault) is
+
+-- ---- how many items are begun
+
+pub goes_on_tried : {X : Type 0} (l : Language) (t : X → Tree) (xs : List X) (i : ℕ) (x : X) (r next : Record) (bytes rest : List ℕ) → i < length xs → x ≡ get_or xs i x → reading l (t x) r bytes ≡ Ok (next, rest) → tried_in_all l (from t xs i) r bytes ≡ tried l (t x) r bytes + tried_in_all l (from t xs (i + 1)) next rest
+unfolding all_of each_reads
+goes_on_tried l t xs i x r next bytes rest lt e read =
+    ap (λ ts. tried_in_all l ts r bytes) (split t xs i x lt e) ∙ ap (λ a. (then_counted a (reads l (t x) r bytes).1 (all_of (each_reads l (from t xs (i + 1))))).1) read
+
+pub stops_tried : {X : Type 0} (l : Language) (t : X → Tree) (xs : List X) (i : ℕ) (x : X) (r : Record) (bytes : List ℕ) (fault : Fault) → i < length xs → x ≡ get_or xs i x → reading l (t x) r bytes ≡ Err fault → tried_in_all l (from t xs i) r bytes ≡ tried l (t x) r bytes
+unfolding all_of each_reads
+stops_tried l t xs i x r bytes fault lt e read =
+    ap (λ ts. tried_in_all l ts r bytes) (split t xs i x lt e) ∙ ap (λ a. (then_counted a (reads l (t x) r bytes).1 (all_of (each_reads l (from t xs (i + 1))))).1) read
+
+pub ends_tried : {X : Type 0} (l : Language) (t : X → Tree) (xs : List X) (i : ℕ) (r : Record) (bytes : List ℕ) → length xs ≤ i → tried_in_all l (from t xs i) r bytes ≡ 0
+unfolding all_of each_reads
+ends_tried l t xs i r bytes le = rw (drop_all i xs le) refl
+
+-- how many are begun of what is still to come
+abbrev pub tried_after : Option Fault → List Counted → Record → List ℕ → ℕ
+tried_after None cs r bytes = (first_of cs r bytes).1
+tried_after (Some f) cs r bytes = (first_success cs r bytes).1
+
+pub after_refused_tried : {X : Type 0} (l : Language) (t : X → Tree) (xs : List X) (i : ℕ) (x : X) (r : Record) (bytes : List ℕ) (so_far : Option Fault) (fault : Fault) → i < length xs → x ≡ get_or xs i x → reading l (t x) r bytes ≡ Err fault → tried_after so_far (each_reads l (from t xs i)) r bytes ≡ tried l (t x) r bytes + tried_after (Some (first_fault so_far fault)) (each_reads l (from t xs (i + 1))) r bytes
+unfolding first_of first_success each_reads
+after_refused_tried l t xs i x r bytes None fault lt e read =
+    ap (λ ts. tried_after None (each_reads l ts) r bytes) (split t xs i x lt e) ∙ ap (λ a. (or_found a (reads l (t x) r bytes).1 (first_success (each_reads l (from t xs (i + 1))) r bytes)).1) read
+after_refused_tried l t xs i x r bytes (Some g) fault lt e read =
+    ap (λ ts. tried_after (Some g) (each_reads l ts) r bytes) (split t xs i x lt e) ∙ ap (λ a. (or_next a (reads l (t x) r bytes).1 (first_success (each_reads l (from t xs (i + 1))) r bytes)).1) read
+
+pub after_read_tried : {X : Type 0} (l : Language) (t : X → Tree) (xs : List X) (i : ℕ) (x : X) (r : Record) (bytes : List ℕ) (so_far : Option Fault) (found : Record × List ℕ) → i < length xs → x ≡ get_or xs i x → reading l (t x) r bytes ≡ Ok found → tried_after so_far (each_reads l (from t xs i)) r bytes ≡ tried l (t x) r bytes
+unfolding first_of first_success each_reads
+after_read_tried l t xs i x r bytes None found lt e read =
+    ap (λ ts. tried_after None (each_reads l ts) r bytes) (split t xs i x lt e) ∙ ap (λ a. (or_found a (reads l (t x) r bytes).1 (first_success (each_reads l (from t xs (i + 1))) r bytes)).1) read
+after_read_tried l t xs i x r bytes (Some g) found lt e read =
+    ap (λ ts. tried_after (Some g) (each_reads l ts) r bytes) (split t xs i x lt e) ∙ ap (λ a. (or_next a (reads l (t x) r bytes).1 (first_success (each_reads l (from t xs (i + 1))) r bytes)).1) read
+
+pub after_all_tried : {X : Type 0} (l : Language) (t : X → Tree) (xs : List X) (i : ℕ) (r : Record) (bytes : List ℕ) (so_far : Option Fault) → length xs ≤ i → tried_after so_far (each_reads l (from t xs i)) r bytes ≡ 0
+unfolding first_of first_success each_reads
+after_all_tried l t xs i r bytes None le = rw (drop_all i xs le) refl
+after_all_tried l t xs i r bytes (Some f) le = rw (drop_all i xs le) refl
