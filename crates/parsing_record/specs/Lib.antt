@@ -4,3 +4,4 @@ pub mod Put
 pub mod Meaning
 pub mod Reads
 pub mod Tally
+pub mod Tame
