@@ -3,5 +3,6 @@ pub mod Signed
 pub mod Counting
 pub mod Places
 pub mod Days
+pub mod Years
 pub mod TheDay
 pub mod Steps

@@ -1,11 +1,2 @@
-pub use Rattle.parsing_pieces.specs.Fault
-pub use Rattle.parsing_pieces.specs.FaultOf
-pub use Rattle.parsing_pieces.specs.FaultText
-pub use Rattle.parsing_pieces.specs.ShortName
-pub use Rattle.parsing_pieces.specs.Pieces
-pub use Rattle.parsing_pieces.specs.Readings
-pub use Rattle.parsing_resolution.specs.MonthEnd
-pub use Rattle.parsing_resolution.specs.Resolution
-pub use Rattle.parsing_resolution.specs.StandIn
-pub use Rattle.parsing_rfc3339.specs.Reading
-pub use Rattle.parsing_rfc3339.specs.Direct
+pub mod Error
+pub mod Laws

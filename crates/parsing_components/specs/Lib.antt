@@ -1,0 +1,4 @@
+pub mod Component
+pub mod Ranged
+pub mod Allowed
+pub mod Tame

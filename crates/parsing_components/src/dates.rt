@@ -1,0 +1,230 @@
+//! The parts of a date but the year.
+ghost use Rattle.std.specs.Prelude.{◌≡◌, true, false, Some, option_map, IfSome};
+ghost use Rattle.parsing_pieces.specs.Pieces.{cut_view};
+ghost use Rattle.parsing_shapes.specs.Shape.{taken, digits_between};
+ghost use Rattle.parsing_shapes.specs.Numbers.{padded, year, century, offset_hour, timestamp};
+ghost use Rattle.parsing_shapes.specs.Names.{named, period, short_months, long_months, short_weekdays, long_weekdays};
+ghost use Rattle.parsing_components.specs.Allowed.{IsAllowed};
+ghost use Rattle.parsing_components.specs.Ranged.{kept, says, entry, between, up_to, since_epoch, counted, months, from_sunday, from_monday};
+ghost use Rattle.parsing_components.specs.Component as Components;
+ghost use Rattle.parsing_components.specs.declared.read.Read.TheVariants as read;
+
+use crate::read::Read;
+use crate::years::year_piece;
+use calendar_count::{Month, Weekday};
+use description_items::Component;
+use description_items::modifier::Padding;
+use parsing_shapes::{
+    digits_between, long_month, long_weekday, padded, padded_two, short_month, short_weekday,
+};
+
+#[inline(always)]
+fn day(padding: Padding, bytes: &[u8]) -> Option<(Read, &[u8])>
+    ensures reads { cut_view result ≡ says (between 1 31 read.Day) (taken (padded padding 2 2)) bytes.now }
+    ensures allowed { IfSome result (λ x. IsAllowed x.0) }
+{
+    let (n, rest) = padded_two(padding, bytes)?;
+    if n < 1 || n > 31 {
+        return None;
+    }
+    Some((Read::Day(n), rest))
+}
+
+#[inline(always)]
+fn iso_week(padding: Padding, bytes: &[u8]) -> Option<(Read, &[u8])>
+    ensures reads { cut_view result ≡ says (between 1 53 read.IsoWeek) (taken (padded padding 2 2)) bytes.now }
+    ensures allowed { IfSome result (λ x. IsAllowed x.0) }
+{
+    let (n, rest) = padded_two(padding, bytes)?;
+    if n < 1 || n > 53 {
+        return None;
+    }
+    Some((Read::IsoWeek(n), rest))
+}
+
+#[inline(always)]
+fn sunday_week(padding: Padding, bytes: &[u8]) -> Option<(Read, &[u8])>
+    ensures reads { cut_view result ≡ says (between 0 53 read.SundayWeek) (taken (padded padding 2 2)) bytes.now }
+    ensures allowed { IfSome result (λ x. IsAllowed x.0) }
+{
+    let (n, rest) = padded_two(padding, bytes)?;
+    if n > 53 {
+        return None;
+    }
+    Some((Read::SundayWeek(n), rest))
+}
+
+#[inline(always)]
+fn monday_week(padding: Padding, bytes: &[u8]) -> Option<(Read, &[u8])>
+    ensures reads { cut_view result ≡ says (between 0 53 read.MondayWeek) (taken (padded padding 2 2)) bytes.now }
+    ensures allowed { IfSome result (λ x. IsAllowed x.0) }
+{
+    let (n, rest) = padded_two(padding, bytes)?;
+    if n > 53 {
+        return None;
+    }
+    Some((Read::MondayWeek(n), rest))
+}
+
+#[inline(always)]
+fn ordinal(padding: Padding, bytes: &[u8]) -> Option<(Read, &[u8])>
+    ensures reads { cut_view result ≡ says (between 1 366 read.Ordinal) (taken (padded padding 3 3)) bytes.now }
+    ensures allowed { IfSome result (λ x. IsAllowed x.0) }
+{
+    let (n, rest) = padded(padding, 3, 3, bytes)?;
+    if n < 1 || n > 366 {
+        return None;
+    }
+    Some((Read::Ordinal(n as u16), rest))
+}
+
+#[inline(always)]
+fn month_short(case_sensitive: bool, bytes: &[u8]) -> Option<(Read, &[u8])>
+    ensures reads { cut_view result ≡ says (λ x. Some (read.Month x)) (taken (named case_sensitive short_months)) bytes.now }
+    ensures allowed { IfSome result (λ x. IsAllowed x.0) }
+{
+    let (month, rest) = short_month(case_sensitive, bytes)?;
+    Some((Read::Month(month), rest))
+}
+
+#[inline(always)]
+fn weekday_short(case_sensitive: bool, bytes: &[u8]) -> Option<(Read, &[u8])>
+    ensures reads { cut_view result ≡ says (λ x. Some (read.Weekday x)) (taken (named case_sensitive short_weekdays)) bytes.now }
+    ensures allowed { IfSome result (λ x. IsAllowed x.0) }
+{
+    let (weekday, rest) = short_weekday(case_sensitive, bytes)?;
+    Some((Read::Weekday(weekday), rest))
+}
+
+#[inline(always)]
+fn month_long(case_sensitive: bool, bytes: &[u8]) -> Option<(Read, &[u8])>
+    ensures reads { cut_view result ≡ says (λ x. Some (read.Month x)) (taken (named case_sensitive long_months)) bytes.now }
+    ensures allowed { IfSome result (λ x. IsAllowed x.0) }
+{
+    let (month, rest) = long_month(case_sensitive, bytes)?;
+    Some((Read::Month(month), rest))
+}
+
+#[inline(always)]
+fn weekday_long(case_sensitive: bool, bytes: &[u8]) -> Option<(Read, &[u8])>
+    ensures reads { cut_view result ≡ says (λ x. Some (read.Weekday x)) (taken (named case_sensitive long_weekdays)) bytes.now }
+    ensures allowed { IfSome result (λ x. IsAllowed x.0) }
+{
+    let (weekday, rest) = long_weekday(case_sensitive, bytes)?;
+    Some((Read::Weekday(weekday), rest))
+}
+
+#[tactic(auto, using(crate::proofs::Entries::month_entry, crate::proofs::Entries::no_month))]
+fn month_number(padding: Padding, bytes: &[u8]) -> Option<(Read, &[u8])>
+    ensures reads { cut_view result ≡ says (λ n. option_map read.Month (counted true months n)) (taken (padded padding 2 2)) bytes.now }
+    ensures allowed { IfSome result (λ x. IsAllowed x.0) }
+{
+    let (n, rest) = padded_two(padding, bytes)?;
+    if n < 1 || n > 12 {
+        return None;
+    }
+    Some((Read::Month(Month::from_number(n)), rest))
+}
+
+// The day of the week so many days after Sunday.
+#[tactic(auto, using(crate::proofs::Entries::past_sunday))]
+fn after_sunday(n: u32) -> Option<Weekday>
+    ensures { result ≡ entry from_sunday n }
+{
+    match n {
+        0 => Some(Weekday::Sunday),
+        1 => Some(Weekday::Monday),
+        2 => Some(Weekday::Tuesday),
+        3 => Some(Weekday::Wednesday),
+        4 => Some(Weekday::Thursday),
+        5 => Some(Weekday::Friday),
+        6 => Some(Weekday::Saturday),
+        _ => None,
+    }
+}
+
+// The day of the week so many days after Monday.
+#[tactic(auto, using(crate::proofs::Entries::past_monday))]
+fn after_monday(n: u32) -> Option<Weekday>
+    ensures { result ≡ entry from_monday n }
+{
+    match n {
+        0 => Some(Weekday::Monday),
+        1 => Some(Weekday::Tuesday),
+        2 => Some(Weekday::Wednesday),
+        3 => Some(Weekday::Thursday),
+        4 => Some(Weekday::Friday),
+        5 => Some(Weekday::Saturday),
+        6 => Some(Weekday::Sunday),
+        _ => None,
+    }
+}
+
+#[inline(always)]
+#[tactic(auto, using(crate::proofs::Entries::counted_from_one, crate::proofs::Entries::counted_none))]
+fn sunday_counted(one_indexed: bool, n: u32) -> Option<Weekday>
+    ensures { result ≡ counted one_indexed from_sunday n }
+{
+    if !one_indexed {
+        return after_sunday(n);
+    }
+    if n == 0 {
+        return None;
+    }
+    after_sunday(n - 1)
+}
+
+fn sunday_number(one_indexed: bool, bytes: &[u8]) -> Option<(Read, &[u8])>
+    ensures reads { cut_view result ≡ says (λ n. option_map read.Weekday (counted one_indexed from_sunday n)) (taken (digits_between 1 1)) bytes.now }
+    ensures allowed { IfSome result (λ x. IsAllowed x.0) }
+{
+    let (n, rest) = digits_between(1, 1, bytes)?;
+    let weekday = sunday_counted(one_indexed, n)?;
+    Some((Read::Weekday(weekday), rest))
+}
+
+#[inline(always)]
+#[tactic(auto, using(crate::proofs::Entries::counted_from_one, crate::proofs::Entries::counted_none))]
+fn monday_counted(one_indexed: bool, n: u32) -> Option<Weekday>
+    ensures { result ≡ counted one_indexed from_monday n }
+{
+    if !one_indexed {
+        return after_monday(n);
+    }
+    if n == 0 {
+        return None;
+    }
+    after_monday(n - 1)
+}
+
+fn monday_number(one_indexed: bool, bytes: &[u8]) -> Option<(Read, &[u8])>
+    ensures reads { cut_view result ≡ says (λ n. option_map read.Weekday (counted one_indexed from_monday n)) (taken (digits_between 1 1)) bytes.now }
+    ensures allowed { IfSome result (λ x. IsAllowed x.0) }
+{
+    let (n, rest) = digits_between(1, 1, bytes)?;
+    let weekday = monday_counted(one_indexed, n)?;
+    Some((Read::Weekday(weekday), rest))
+}
+
+// The parts of a date but the year.
+#[tactic(auto, unfolding(crate::specs::Component::date_piece))]
+pub(crate) fn date_piece(component: Component, bytes: &[u8]) -> Option<(Read, &[u8])>
+    ensures reads { cut_view result ≡ Components.date_piece component bytes.now }
+    ensures allowed { IfSome result (λ x. IsAllowed x.0) }
+{
+    match component {
+        Component::Day(m) => day(m.padding, bytes),
+        Component::MonthShort(m) => month_short(m.case_sensitive, bytes),
+        Component::MonthLong(m) => month_long(m.case_sensitive, bytes),
+        Component::MonthNumerical(m) => month_number(m.padding, bytes),
+        Component::Ordinal(m) => ordinal(m.padding, bytes),
+        Component::WeekdayShort(m) => weekday_short(m.case_sensitive, bytes),
+        Component::WeekdayLong(m) => weekday_long(m.case_sensitive, bytes),
+        Component::WeekdaySunday(m) => sunday_number(m.one_indexed, bytes),
+        Component::WeekdayMonday(m) => monday_number(m.one_indexed, bytes),
+        Component::WeekNumberIso(m) => iso_week(m.padding, bytes),
+        Component::WeekNumberSunday(m) => sunday_week(m.padding, bytes),
+        Component::WeekNumberMonday(m) => monday_week(m.padding, bytes),
+        other => year_piece(other, bytes),
+    }
+}

@@ -1,0 +1,7 @@
+pub mod Record
+pub mod Parts
+pub mod Put
+pub mod Meaning
+pub mod Reads
+pub mod Tally
+pub mod Tame

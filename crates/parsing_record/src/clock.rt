@@ -1,0 +1,169 @@
+//! The time of day of a record.
+ghost use Rattle.std.specs.Prelude.{◌≡◌, pos, neg_ℤ, Some, option_map, unsigned_abs};
+ghost use Rattle.std.specs.Int.{is_in_range};
+ghost use Rattle.calendar_count.specs.Range.{greatest_year};
+ghost use Rattle.parsing_record.specs.Record.{set_if, with_if, is_up_to, is_between, century_sign, InRange, InSigned, Reaches};
+ghost use Rattle.parsing_components.specs.Ranged.{greatest_century, nanoseconds_before_epoch, nanoseconds_after_epoch};
+
+use crate::parsed::Parsed;
+
+impl Parsed {
+    /// The hour of the day.
+    pub fn hour_24(&self) -> Option<u8>
+        ensures value { result ≡ self.now.hour_24 }
+        ensures bound { InRange 0 23 result }
+    {
+        self.parts.time.hour_24
+    }
+
+    /// Sets the hour of the day, if it is in its range.
+    pub fn set_hour_24(&mut self, value: u8) -> Option<()>
+        ensures { (result, self.new) ≡ set_if (is_in_range 0 23 value) self.old (record self.old { hour_24 = Some value }) }
+    {
+        if value > 23 {
+            return None;
+        }
+        self.parts.time.hour_24 = Some(value);
+        Some(())
+    }
+
+    /// The record with the hour of the day, if it is in its range.
+    pub fn with_hour_24(mut self, value: u8) -> Option<Self>
+        ensures { result ≡ with_if (is_in_range 0 23 value) (record self { hour_24 = Some value }) }
+    {
+        self.set_hour_24(value)?;
+        Some(self)
+    }
+
+    /// The hour of a half day.
+    pub fn hour_12(&self) -> Option<u8>
+        ensures value { result ≡ self.now.hour_12 }
+        ensures bound { InRange 1 12 result }
+    {
+        self.parts.time.hour_12
+    }
+
+    /// Sets the hour of a half day, if it is in its range.
+    pub fn set_hour_12(&mut self, value: u8) -> Option<()>
+        ensures { (result, self.new) ≡ set_if (is_in_range 1 12 value) self.old (record self.old { hour_12 = Some value }) }
+    {
+        if value < 1 || value > 12 {
+            return None;
+        }
+        self.parts.time.hour_12 = Some(value);
+        Some(())
+    }
+
+    /// The record with the hour of a half day, if it is in its range.
+    pub fn with_hour_12(mut self, value: u8) -> Option<Self>
+        ensures { result ≡ with_if (is_in_range 1 12 value) (record self { hour_12 = Some value }) }
+    {
+        self.set_hour_12(value)?;
+        Some(self)
+    }
+
+    /// Whether it is the later half of the day.
+    pub fn hour_12_is_pm(&self) -> Option<bool>
+        ensures value { result ≡ self.now.hour_12_is_pm }
+    {
+        self.parts.time.hour_12_is_pm
+    }
+
+    /// Sets whether it is the later half of the day.
+    pub fn set_hour_12_is_pm(&mut self, value: bool) -> Option<()>
+        ensures always { result ≡ Some tt }
+        ensures set { self.new ≡ record self.old { hour_12_is_pm = Some value } }
+    {
+        self.parts.time.hour_12_is_pm = Some(value);
+        Some(())
+    }
+
+    /// The record with whether it is the later half of the day.
+    pub fn with_hour_12_is_pm(mut self, value: bool) -> Option<Self>
+        ensures { result ≡ Some (record self { hour_12_is_pm = Some value }) }
+    {
+        self.set_hour_12_is_pm(value)?;
+        Some(self)
+    }
+
+    /// The minute.
+    pub fn minute(&self) -> Option<u8>
+        ensures value { result ≡ self.now.minute }
+        ensures bound { InRange 0 59 result }
+    {
+        self.parts.time.minute
+    }
+
+    /// Sets the minute, if it is in its range.
+    pub fn set_minute(&mut self, value: u8) -> Option<()>
+        ensures { (result, self.new) ≡ set_if (is_in_range 0 59 value) self.old (record self.old { minute = Some value }) }
+    {
+        if value > 59 {
+            return None;
+        }
+        self.parts.time.minute = Some(value);
+        Some(())
+    }
+
+    /// The record with the minute, if it is in its range.
+    pub fn with_minute(mut self, value: u8) -> Option<Self>
+        ensures { result ≡ with_if (is_in_range 0 59 value) (record self { minute = Some value }) }
+    {
+        self.set_minute(value)?;
+        Some(self)
+    }
+
+    /// The second.
+    pub fn second(&self) -> Option<u8>
+        ensures value { result ≡ self.now.second }
+        ensures bound { InRange 0 60 result }
+    {
+        self.parts.time.second
+    }
+
+    /// Sets the second, if it is in its range.
+    pub fn set_second(&mut self, value: u8) -> Option<()>
+        ensures { (result, self.new) ≡ set_if (is_in_range 0 60 value) self.old (record self.old { second = Some value }) }
+    {
+        if value > 60 {
+            return None;
+        }
+        self.parts.time.second = Some(value);
+        Some(())
+    }
+
+    /// The record with the second, if it is in its range.
+    pub fn with_second(mut self, value: u8) -> Option<Self>
+        ensures { result ≡ with_if (is_in_range 0 60 value) (record self { second = Some value }) }
+    {
+        self.set_second(value)?;
+        Some(self)
+    }
+
+    /// The fraction of the second, in nanoseconds.
+    pub fn subsecond(&self) -> Option<u32>
+        ensures value { result ≡ self.now.subsecond }
+        ensures bound { InRange 0 999_999_999 result }
+    {
+        self.parts.time.subsecond
+    }
+
+    /// Sets the fraction of the second, in nanoseconds, if it is in its range.
+    pub fn set_subsecond(&mut self, value: u32) -> Option<()>
+        ensures { (result, self.new) ≡ set_if (is_in_range 0 999_999_999 value) self.old (record self.old { subsecond = Some value }) }
+    {
+        if value > 999_999_999 {
+            return None;
+        }
+        self.parts.time.subsecond = Some(value);
+        Some(())
+    }
+
+    /// The record with the fraction of the second, in nanoseconds, if it is in its range.
+    pub fn with_subsecond(mut self, value: u32) -> Option<Self>
+        ensures { result ≡ with_if (is_in_range 0 999_999_999 value) (record self { subsecond = Some value }) }
+    {
+        self.set_subsecond(value)?;
+        Some(self)
+    }
+}

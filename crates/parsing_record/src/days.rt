@@ -1,0 +1,194 @@
+//! The days of a record: months, weeks, weekdays.
+ghost use Rattle.std.specs.Prelude.{◌≡◌, pos, neg_ℤ, Some, option_map, unsigned_abs};
+ghost use Rattle.std.specs.Int.{is_in_range};
+ghost use Rattle.calendar_count.specs.Range.{greatest_year};
+ghost use Rattle.parsing_record.specs.Record.{set_if, with_if, is_up_to, is_between, century_sign, InRange, InSigned, Reaches};
+ghost use Rattle.parsing_components.specs.Ranged.{greatest_century, nanoseconds_before_epoch, nanoseconds_after_epoch};
+
+use crate::parsed::Parsed;
+use calendar_count::{Month, Weekday};
+
+impl Parsed {
+    /// The month.
+    pub fn month(&self) -> Option<Month>
+        ensures value { result ≡ self.now.month }
+    {
+        self.parts.date.month
+    }
+
+    /// Sets the month.
+    pub fn set_month(&mut self, value: Month) -> Option<()>
+        ensures always { result ≡ Some tt }
+        ensures set { self.new ≡ record self.old { month = Some value } }
+    {
+        self.parts.date.month = Some(value);
+        Some(())
+    }
+
+    /// The record with the month.
+    pub fn with_month(mut self, value: Month) -> Option<Self>
+        ensures { result ≡ Some (record self { month = Some value }) }
+    {
+        self.set_month(value)?;
+        Some(self)
+    }
+
+    /// The week, counted from the year's first Sunday.
+    pub fn sunday_week_number(&self) -> Option<u8>
+        ensures value { result ≡ self.now.sunday_week_number }
+        ensures bound { InRange 0 53 result }
+    {
+        self.parts.date.sunday_week
+    }
+
+    /// Sets the week, counted from the year's first Sunday, if it is in its range.
+    pub fn set_sunday_week_number(&mut self, value: u8) -> Option<()>
+        ensures { (result, self.new) ≡ set_if (is_in_range 0 53 value) self.old (record self.old { sunday_week_number = Some value }) }
+    {
+        if value > 53 {
+            return None;
+        }
+        self.parts.date.sunday_week = Some(value);
+        Some(())
+    }
+
+    /// The record with the week, counted from the year's first Sunday, if it is in its range.
+    pub fn with_sunday_week_number(mut self, value: u8) -> Option<Self>
+        ensures { result ≡ with_if (is_in_range 0 53 value) (record self { sunday_week_number = Some value }) }
+    {
+        self.set_sunday_week_number(value)?;
+        Some(self)
+    }
+
+    /// The week, counted from the year's first Monday.
+    pub fn monday_week_number(&self) -> Option<u8>
+        ensures value { result ≡ self.now.monday_week_number }
+        ensures bound { InRange 0 53 result }
+    {
+        self.parts.date.monday_week
+    }
+
+    /// Sets the week, counted from the year's first Monday, if it is in its range.
+    pub fn set_monday_week_number(&mut self, value: u8) -> Option<()>
+        ensures { (result, self.new) ≡ set_if (is_in_range 0 53 value) self.old (record self.old { monday_week_number = Some value }) }
+    {
+        if value > 53 {
+            return None;
+        }
+        self.parts.date.monday_week = Some(value);
+        Some(())
+    }
+
+    /// The record with the week, counted from the year's first Monday, if it is in its range.
+    pub fn with_monday_week_number(mut self, value: u8) -> Option<Self>
+        ensures { result ≡ with_if (is_in_range 0 53 value) (record self { monday_week_number = Some value }) }
+    {
+        self.set_monday_week_number(value)?;
+        Some(self)
+    }
+
+    /// The week of ISO 8601.
+    pub fn iso_week_number(&self) -> Option<u8>
+        ensures value { result ≡ self.now.iso_week_number }
+        ensures bound { InRange 1 53 result }
+    {
+        self.parts.date.iso_week
+    }
+
+    /// Sets the week of ISO 8601, if it is in its range.
+    pub fn set_iso_week_number(&mut self, value: u8) -> Option<()>
+        ensures { (result, self.new) ≡ set_if (is_in_range 1 53 value) self.old (record self.old { iso_week_number = Some value }) }
+    {
+        if value < 1 || value > 53 {
+            return None;
+        }
+        self.parts.date.iso_week = Some(value);
+        Some(())
+    }
+
+    /// The record with the week of ISO 8601, if it is in its range.
+    pub fn with_iso_week_number(mut self, value: u8) -> Option<Self>
+        ensures { result ≡ with_if (is_in_range 1 53 value) (record self { iso_week_number = Some value }) }
+    {
+        self.set_iso_week_number(value)?;
+        Some(self)
+    }
+
+    /// The weekday.
+    pub fn weekday(&self) -> Option<Weekday>
+        ensures value { result ≡ self.now.weekday }
+    {
+        self.parts.date.weekday
+    }
+
+    /// Sets the weekday.
+    pub fn set_weekday(&mut self, value: Weekday) -> Option<()>
+        ensures always { result ≡ Some tt }
+        ensures set { self.new ≡ record self.old { weekday = Some value } }
+    {
+        self.parts.date.weekday = Some(value);
+        Some(())
+    }
+
+    /// The record with the weekday.
+    pub fn with_weekday(mut self, value: Weekday) -> Option<Self>
+        ensures { result ≡ Some (record self { weekday = Some value }) }
+    {
+        self.set_weekday(value)?;
+        Some(self)
+    }
+
+    /// The day of the year.
+    pub fn ordinal(&self) -> Option<u16>
+        ensures value { result ≡ self.now.ordinal }
+        ensures bound { InRange 1 366 result }
+    {
+        self.parts.date.ordinal
+    }
+
+    /// Sets the day of the year, if it is in its range.
+    pub fn set_ordinal(&mut self, value: u16) -> Option<()>
+        ensures { (result, self.new) ≡ set_if (is_in_range 1 366 value) self.old (record self.old { ordinal = Some value }) }
+    {
+        if value < 1 || value > 366 {
+            return None;
+        }
+        self.parts.date.ordinal = Some(value);
+        Some(())
+    }
+
+    /// The record with the day of the year, if it is in its range.
+    pub fn with_ordinal(mut self, value: u16) -> Option<Self>
+        ensures { result ≡ with_if (is_in_range 1 366 value) (record self { ordinal = Some value }) }
+    {
+        self.set_ordinal(value)?;
+        Some(self)
+    }
+
+    /// The day of the month.
+    pub fn day(&self) -> Option<u8>
+        ensures value { result ≡ self.now.day }
+        ensures bound { InRange 1 31 result }
+    {
+        self.parts.date.day
+    }
+
+    /// Sets the day of the month, if it is in its range.
+    pub fn set_day(&mut self, value: u8) -> Option<()>
+        ensures { (result, self.new) ≡ set_if (is_in_range 1 31 value) self.old (record self.old { day = Some value }) }
+    {
+        if value < 1 || value > 31 {
+            return None;
+        }
+        self.parts.date.day = Some(value);
+        Some(())
+    }
+
+    /// The record with the day of the month, if it is in its range.
+    pub fn with_day(mut self, value: u8) -> Option<Self>
+        ensures { result ≡ with_if (is_in_range 1 31 value) (record self { day = Some value }) }
+    {
+        self.set_day(value)?;
+        Some(self)
+    }
+}

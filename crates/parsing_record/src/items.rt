@@ -1,0 +1,201 @@
+//! Reading by the items of a description.
+ghost use Rattle.std.specs.Prelude.{◌≡◌, map};
+ghost use Rattle.description_items.specs.Tree.{tree_of, trees, listed};
+ghost use Rattle.parsing_pieces.specs.FaultOf.{Gives, reading_fault};
+ghost use Rattle.parsing_components.specs.Component.{reads_component, reads_component_v3};
+ghost use Rattle.parsing_record.specs.Meaning.{Answers, Reads, literally, first_of, meaning};
+ghost use Rattle.parsing_record.specs.Reads.{putting, reading, reading_of_all, each_reads, tried, tried_in_all};
+
+use crate::parsed::Parsed;
+use crate::tally::{NoTally, Tally};
+use description_items::{BorrowedFormatItem, Component};
+use parsing_components::{read_component, read_component_v3};
+use parsing_pieces::ParseFromDescription;
+
+impl Parsed {
+    /// The bytes after the literal, which have to begin with it.
+    #[inline(always)]
+    #[tactic(auto, unfolding(crate::specs::Meaning::literally))]
+    pub fn parse_literal<'a>(
+        input: &'a [u8],
+        literal: &[u8],
+    ) -> Result<&'a [u8], ParseFromDescription>
+        ensures { Gives (λ rest. (tt, rest.now)) reading_fault result (literally literal.now input.now) }
+    {
+        match input.strip_prefix(literal) {
+            Some(rest) => Ok(rest),
+            None => Err(ParseFromDescription::InvalidLiteral),
+        }
+    }
+
+    /// Reads the component at the front of the bytes into the record, and returns the bytes after it.
+    #[inline(always)]
+    pub fn parse_component<'a>(
+        &mut self,
+        input: &'a [u8],
+        component: Component,
+    ) -> Result<&'a [u8], ParseFromDescription>
+        ensures { Reads result self.old self.new (putting (reads_component component) self.old input.now) }
+    {
+        let (read, rest) = read_component(component, input)?;
+        self.put(read);
+        Ok(rest)
+    }
+
+    /// Reads the component at the front of the bytes as a description of version 3 does, and returns the bytes after it.
+    ///
+    /// It differs for ignored bytes alone: no character may go on behind them.
+    #[inline(always)]
+    pub fn parse_component_v3<'a>(
+        &mut self,
+        input: &'a [u8],
+        component: Component,
+    ) -> Result<&'a [u8], ParseFromDescription>
+        ensures { Reads result self.old self.new (putting (reads_component_v3 component) self.old input.now) }
+    {
+        let (read, rest) = read_component_v3(component, input)?;
+        self.put(read);
+        Ok(rest)
+    }
+
+    /// Reads by the item at the front of the bytes into the record, and returns the bytes after what was read.
+    pub fn parse_item<'a>(
+        &mut self,
+        input: &'a [u8],
+        item: &BorrowedFormatItem<'_>,
+    ) -> Result<&'a [u8], ParseFromDescription>
+        ensures { Reads result self.old self.new (reading reads_component (tree_of item.now) self.old input.now) }
+    {
+        self.parse_item_tallied(input, item, &mut NoTally)
+    }
+
+    /// The same, and the tally is told of each item that is begun.
+    pub fn parse_item_tallied<'a, T: Tally>(
+        &mut self,
+        input: &'a [u8],
+        item: &BorrowedFormatItem<'_>,
+        tally: &mut T,
+    ) -> Result<&'a [u8], ParseFromDescription>
+        ensures reads { Reads result self.old self.new (reading reads_component (tree_of item.now) self.old input.now) }
+        ensures tally { T.grows tally.old tally.new (tried reads_component (tree_of item.now) self.old input.now) }
+    {
+        let before = *self;
+        let answer = read_item(item, input, self, tally);
+        if answer.is_err() {
+            *self = before;
+        }
+        answer
+    }
+
+    /// Reads by the items, each behind what the one before it read, and returns the bytes after them.
+    pub fn parse_items<'a>(
+        &mut self,
+        input: &'a [u8],
+        items: &[BorrowedFormatItem<'_>],
+    ) -> Result<&'a [u8], ParseFromDescription>
+        ensures { Reads result self.old self.new (reading_of_all reads_component (listed (trees items.now)) self.old input.now) }
+    {
+        self.parse_items_tallied(input, items, &mut NoTally)
+    }
+
+    /// The same, and the tally is told of each item that is begun.
+    pub fn parse_items_tallied<'a, T: Tally>(
+        &mut self,
+        input: &'a [u8],
+        items: &[BorrowedFormatItem<'_>],
+        tally: &mut T,
+    ) -> Result<&'a [u8], ParseFromDescription>
+        ensures reads { Reads result self.old self.new (reading_of_all reads_component (listed (trees items.now)) self.old input.now) }
+        ensures tally { T.grows tally.old tally.new (tried_in_all reads_component (listed (trees items.now)) self.old input.now) }
+    {
+        let before = *self;
+        let answer = read_items(items, input, self, tally);
+        if answer.is_err() {
+            *self = before;
+        }
+        answer
+    }
+}
+
+// Reads by one item, and tells the tally; a refusal leaves what was read before it in the record.
+#[tactic(auto, unfolding(crate::specs::Reads::reads, crate::specs::Meaning::optionally))]
+#[cycle(reading)]
+fn read_item<'a, T: Tally>(
+    item: &BorrowedFormatItem<'_>,
+    input: &'a [u8],
+    parsed: &mut Parsed,
+    tally: &mut T,
+) -> Result<&'a [u8], ParseFromDescription>
+    ensures answer { Answers result parsed.new (reading reads_component (tree_of item.now) parsed.old input.now) }
+    ensures tally { T.grows tally.old tally.new (tried reads_component (tree_of item.now) parsed.old input.now) }
+{
+    tally.begin();
+    match item {
+        BorrowedFormatItem::Literal(literal) => Parsed::parse_literal(input, literal),
+        BorrowedFormatItem::StringLiteral(literal) => Parsed::parse_literal(
+            input,
+            literal.as_bytes(),
+        ),
+        BorrowedFormatItem::Component(component) => parsed.parse_component(input, *component),
+        BorrowedFormatItem::Compound(items) => read_items(items, input, parsed, tally),
+        BorrowedFormatItem::Optional(item) => {
+            let before = *parsed;
+            match read_item(item, input, parsed, tally) {
+                Ok(rest) => Ok(rest),
+                Err(_) => {
+                    *parsed = before;
+                    Ok(input)
+                }
+            }
+        }
+        BorrowedFormatItem::First(items) => read_first(items, input, parsed, tally),
+    }
+}
+
+// Reads by each item in turn.
+#[cycle(reading)]
+fn read_items<'a, T: Tally>(
+    items: &[BorrowedFormatItem<'_>],
+    input: &'a [u8],
+    parsed: &mut Parsed,
+    tally: &mut T,
+) -> Result<&'a [u8], ParseFromDescription>
+    ensures answer { Answers result parsed.new (reading_of_all reads_component (listed (trees items.now)) parsed.old input.now) }
+    ensures tally { T.grows tally.old tally.new (tried_in_all reads_component (listed (trees items.now)) parsed.old input.now) }
+{
+    let mut rest = input;
+    for item in items {
+        rest = read_item(item, rest, parsed, tally)?;
+    }
+    Ok(rest)
+}
+
+// Reads by the first item that reads.
+#[cycle(reading)]
+fn read_first<'a, T: Tally>(
+    items: &[BorrowedFormatItem<'_>],
+    input: &'a [u8],
+    parsed: &mut Parsed,
+    tally: &mut T,
+) -> Result<&'a [u8], ParseFromDescription>
+    ensures answer { Answers result parsed.new (first_of (each_reads reads_component (listed (trees items.now))) parsed.old input.now).0 }
+    ensures tally { T.grows tally.old tally.new (first_of (each_reads reads_component (listed (trees items.now))) parsed.old input.now).1 }
+{
+    let before = *parsed;
+    let mut fault = None;
+    for item in items {
+        match read_item(item, input, parsed, tally) {
+            Ok(rest) => return Ok(rest),
+            Err(refused) => {
+                *parsed = before;
+                if fault.is_none() {
+                    fault = Some(refused);
+                }
+            }
+        }
+    }
+    match fault {
+        None => Ok(input),
+        Some(refused) => Err(refused),
+    }
+}

@@ -1,0 +1,15 @@
+//! The record of components that a description or a format reads into.
+#![tactic(auto)]
+
+mod clock;
+mod conversions;
+mod days;
+mod items;
+mod offset;
+mod parsed;
+mod put;
+mod tally;
+mod years;
+
+pub use parsed::Parsed;
+pub use tally::{ItemTally, NoTally, Tally};

@@ -1,0 +1,182 @@
+//! The offset of a record, and its Unix time.
+ghost use Rattle.std.specs.Prelude.{◌≡◌, pos, neg_ℤ, Some, option_map, unsigned_abs};
+ghost use Rattle.std.specs.Int.{is_in_range};
+ghost use Rattle.calendar_count.specs.Range.{greatest_year};
+ghost use Rattle.parsing_record.specs.Record.{set_if, with_if, is_up_to, is_between, century_sign, InRange, InSigned, Reaches};
+ghost use Rattle.parsing_components.specs.Ranged.{greatest_century, nanoseconds_before_epoch, nanoseconds_after_epoch};
+ghost use Rattle.parsing_record.specs.Parts.{under_sign};
+
+use crate::parsed::Parsed;
+use calendar_count::range::{LAST_COUNT, UNIX_EPOCH};
+
+const DAY_NANOSECONDS: i128 = 86_400_000_000_000;
+
+const LEAST_NANOSECONDS: i128 = -(UNIX_EPOCH as i128) * DAY_NANOSECONDS;
+
+const GREATEST_NANOSECONDS: i128 = (LAST_COUNT as i128 + 1 - UNIX_EPOCH as i128) * DAY_NANOSECONDS - 1;
+
+impl Parsed {
+    /// The hours of the offset.
+    pub fn offset_hour(&self) -> Option<i8>
+        ensures value { result ≡ self.now.offset_hour }
+        ensures bound { Reaches 25 result }
+    {
+        self.offset_hour
+    }
+
+    /// Sets the hours of the offset, if it is in its range.
+    pub fn set_offset_hour(&mut self, value: i8) -> Option<()>
+        ensures { (result, self.new) ≡ set_if (is_up_to 25 value) self.old (record self.old { offset_hour = Some value }) }
+    {
+        if value < -25 || value > 25 {
+            return None;
+        }
+        self.offset_hour = Some(value);
+        Some(())
+    }
+
+    /// The record with the hours of the offset, if it is in its range.
+    pub fn with_offset_hour(mut self, value: i8) -> Option<Self>
+        ensures { result ≡ with_if (is_up_to 25 value) (record self { offset_hour = Some value }) }
+    {
+        self.set_offset_hour(value)?;
+        Some(self)
+    }
+
+    /// The minutes of the offset, whatever their sign.
+    pub fn offset_minute(&self) -> Option<u8>
+        ensures value { result ≡ option_map unsigned_abs self.now.offset_minute }
+        ensures bound { InRange 0 59 result }
+    {
+        Some(self.offset_minute?.unsigned_abs())
+    }
+
+    /// The minutes of the offset under their sign: what was set, negated behind an hour that was read with a minus.
+    pub fn offset_minute_signed(&self) -> Option<i8>
+        ensures value { result ≡ under_sign self.now.offset_is_negative self.now.offset_minute }
+        ensures bound { Reaches 59 result }
+    {
+        let value = self.offset_minute?;
+        Some(if self.offset_is_negative { -value } else { value })
+    }
+
+    /// Sets the minutes of the offset as they stand, if they are in their range.
+    pub fn set_offset_minute(&mut self, value: u8) -> Option<()>
+        ensures { (result, self.new) ≡ set_if (is_in_range 0 59 value) self.old (record self.old { offset_minute = Some (pos value) }) }
+    {
+        if value > 59 {
+            return None;
+        }
+        self.offset_minute = Some(value as i8);
+        Some(())
+    }
+
+    /// The record with the minutes of the offset as they stand, if they are in their range.
+    pub fn with_offset_minute(mut self, value: u8) -> Option<Self>
+        ensures { result ≡ with_if (is_in_range 0 59 value) (record self { offset_minute = Some (pos value) }) }
+    {
+        self.set_offset_minute(value)?;
+        Some(self)
+    }
+
+    /// Sets the minutes of the offset as they stand, if they are in their range.
+    pub fn set_offset_minute_signed(&mut self, value: i8) -> Option<()>
+        ensures { (result, self.new) ≡ set_if (is_up_to 59 value) self.old (record self.old { offset_minute = Some value }) }
+    {
+        if value < -59 || value > 59 {
+            return None;
+        }
+        self.offset_minute = Some(value);
+        Some(())
+    }
+
+    /// The record with the minutes of the offset as they stand, if they are in their range.
+    pub fn with_offset_minute_signed(mut self, value: i8) -> Option<Self>
+        ensures { result ≡ with_if (is_up_to 59 value) (record self { offset_minute = Some value }) }
+    {
+        self.set_offset_minute_signed(value)?;
+        Some(self)
+    }
+
+    /// The seconds of the offset, whatever their sign.
+    pub fn offset_second(&self) -> Option<u8>
+        ensures value { result ≡ option_map unsigned_abs self.now.offset_second }
+        ensures bound { InRange 0 59 result }
+    {
+        Some(self.offset_second?.unsigned_abs())
+    }
+
+    /// The seconds of the offset under their sign: what was set, negated behind an hour that was read with a minus.
+    pub fn offset_second_signed(&self) -> Option<i8>
+        ensures value { result ≡ under_sign self.now.offset_is_negative self.now.offset_second }
+        ensures bound { Reaches 59 result }
+    {
+        let value = self.offset_second?;
+        Some(if self.offset_is_negative { -value } else { value })
+    }
+
+    /// Sets the seconds of the offset as they stand, if they are in their range.
+    pub fn set_offset_second(&mut self, value: u8) -> Option<()>
+        ensures { (result, self.new) ≡ set_if (is_in_range 0 59 value) self.old (record self.old { offset_second = Some (pos value) }) }
+    {
+        if value > 59 {
+            return None;
+        }
+        self.offset_second = Some(value as i8);
+        Some(())
+    }
+
+    /// The record with the seconds of the offset as they stand, if they are in their range.
+    pub fn with_offset_second(mut self, value: u8) -> Option<Self>
+        ensures { result ≡ with_if (is_in_range 0 59 value) (record self { offset_second = Some (pos value) }) }
+    {
+        self.set_offset_second(value)?;
+        Some(self)
+    }
+
+    /// Sets the seconds of the offset as they stand, if they are in their range.
+    pub fn set_offset_second_signed(&mut self, value: i8) -> Option<()>
+        ensures { (result, self.new) ≡ set_if (is_up_to 59 value) self.old (record self.old { offset_second = Some value }) }
+    {
+        if value < -59 || value > 59 {
+            return None;
+        }
+        self.offset_second = Some(value);
+        Some(())
+    }
+
+    /// The record with the seconds of the offset as they stand, if they are in their range.
+    pub fn with_offset_second_signed(mut self, value: i8) -> Option<Self>
+        ensures { result ≡ with_if (is_up_to 59 value) (record self { offset_second = Some value }) }
+    {
+        self.set_offset_second_signed(value)?;
+        Some(self)
+    }
+
+    /// The nanoseconds since 1970 began in UTC.
+    pub fn unix_timestamp_nanos(&self) -> Option<i128>
+        ensures value { result ≡ self.now.unix_timestamp_nanos }
+        ensures bound { InSigned (neg_ℤ (pos nanoseconds_before_epoch)) (pos nanoseconds_after_epoch) result }
+    {
+        self.parts.unix_nanoseconds
+    }
+
+    /// Sets the nanoseconds since 1970 began in UTC, if it is in its range.
+    pub fn set_unix_timestamp_nanos(&mut self, value: i128) -> Option<()>
+        ensures { (result, self.new) ≡ set_if (is_between (neg_ℤ (pos nanoseconds_before_epoch)) (pos nanoseconds_after_epoch) value) self.old (record self.old { unix_timestamp_nanos = Some value }) }
+    {
+        if value < LEAST_NANOSECONDS || value > GREATEST_NANOSECONDS {
+            return None;
+        }
+        self.parts.unix_nanoseconds = Some(value);
+        Some(())
+    }
+
+    /// The record with the nanoseconds since 1970 began in UTC, if it is in its range.
+    pub fn with_unix_timestamp_nanos(mut self, value: i128) -> Option<Self>
+        ensures { result ≡ with_if (is_between (neg_ℤ (pos nanoseconds_before_epoch)) (pos nanoseconds_after_epoch) value) (record self { unix_timestamp_nanos = Some value }) }
+    {
+        self.set_unix_timestamp_nanos(value)?;
+        Some(self)
+    }
+}

@@ -1,0 +1,193 @@
+//! The years of a record.
+ghost use Rattle.std.specs.Prelude.{◌≡◌, pos, neg_ℤ, Some, option_map, unsigned_abs};
+ghost use Rattle.std.specs.Int.{is_in_range};
+ghost use Rattle.calendar_count.specs.Range.{greatest_year};
+ghost use Rattle.parsing_record.specs.Record.{set_if, with_if, is_up_to, is_between, century_sign, InRange, InSigned, Reaches};
+ghost use Rattle.parsing_components.specs.Ranged.{greatest_century, nanoseconds_before_epoch, nanoseconds_after_epoch};
+
+use crate::parsed::Parsed;
+use calendar_count::range::GREATEST_YEAR;
+
+const GREATEST_CENTURY: i16 = 9_999;
+
+impl Parsed {
+    /// The year.
+    pub fn year(&self) -> Option<i32>
+        ensures value { result ≡ self.now.year }
+        ensures bound { Reaches greatest_year result }
+    {
+        self.parts.date.year.year
+    }
+
+    /// Sets the year, if it is in its range.
+    pub fn set_year(&mut self, value: i32) -> Option<()>
+        ensures { (result, self.new) ≡ set_if (is_up_to greatest_year value) self.old (record self.old { year = Some value }) }
+    {
+        if value < -GREATEST_YEAR || value > GREATEST_YEAR {
+            return None;
+        }
+        self.parts.date.year.year = Some(value);
+        Some(())
+    }
+
+    /// The record with the year, if it is in its range.
+    pub fn with_year(mut self, value: i32) -> Option<Self>
+        ensures { result ≡ with_if (is_up_to greatest_year value) (record self { year = Some value }) }
+    {
+        self.set_year(value)?;
+        Some(self)
+    }
+
+    /// The century.
+    pub fn year_century(&self) -> Option<i16>
+        ensures value { result ≡ self.now.year_century }
+        ensures bound { Reaches greatest_century result }
+    {
+        self.parts.date.year.century
+    }
+
+    /// Whether the century is behind a minus, which -0 has too.
+    pub fn year_century_is_negative(&self) -> Option<bool>
+        ensures { result ≡ option_map (λ _. self.now.year_century_is_negative) self.now.year_century }
+    {
+        self.parts.date.year.century?;
+        Some(self.parts.date.year.century_is_negative)
+    }
+
+    /// Sets the century, if it is in its range, with its sign, which is said for 0 alone.
+    pub fn set_year_century(&mut self, value: i16, is_negative: bool) -> Option<()>
+        ensures { (result, self.new) ≡ set_if (is_up_to greatest_century value) self.old (record self.old { year_century = Some value; year_century_is_negative = century_sign value is_negative }) }
+    {
+        if value < -GREATEST_CENTURY || value > GREATEST_CENTURY {
+            return None;
+        }
+        self.parts.date.year.century = Some(value);
+        self.parts.date.year.century_is_negative = if value == 0 { is_negative } else { value < 0 };
+        Some(())
+    }
+
+    /// The record with the century, if it is in its range, and its sign, which is said for 0 alone.
+    pub fn with_year_century(mut self, value: i16, is_negative: bool) -> Option<Self>
+        ensures { result ≡ with_if (is_up_to greatest_century value) (record self { year_century = Some value; year_century_is_negative = century_sign value is_negative }) }
+    {
+        self.set_year_century(value, is_negative)?;
+        Some(self)
+    }
+
+    /// The last two digits of the year.
+    pub fn year_last_two(&self) -> Option<u8>
+        ensures value { result ≡ self.now.year_last_two }
+        ensures bound { InRange 0 99 result }
+    {
+        self.parts.date.year.last_two
+    }
+
+    /// Sets the last two digits of the year, if it is in its range.
+    pub fn set_year_last_two(&mut self, value: u8) -> Option<()>
+        ensures { (result, self.new) ≡ set_if (is_in_range 0 99 value) self.old (record self.old { year_last_two = Some value }) }
+    {
+        if value > 99 {
+            return None;
+        }
+        self.parts.date.year.last_two = Some(value);
+        Some(())
+    }
+
+    /// The record with the last two digits of the year, if it is in its range.
+    pub fn with_year_last_two(mut self, value: u8) -> Option<Self>
+        ensures { result ≡ with_if (is_in_range 0 99 value) (record self { year_last_two = Some value }) }
+    {
+        self.set_year_last_two(value)?;
+        Some(self)
+    }
+
+    /// The year of ISO 8601, to which its weeks belong.
+    pub fn iso_year(&self) -> Option<i32>
+        ensures value { result ≡ self.now.iso_year }
+        ensures bound { Reaches greatest_year result }
+    {
+        self.parts.date.iso_year.year
+    }
+
+    /// Sets the year of ISO 8601, to which its weeks belong, if it is in its range.
+    pub fn set_iso_year(&mut self, value: i32) -> Option<()>
+        ensures { (result, self.new) ≡ set_if (is_up_to greatest_year value) self.old (record self.old { iso_year = Some value }) }
+    {
+        if value < -GREATEST_YEAR || value > GREATEST_YEAR {
+            return None;
+        }
+        self.parts.date.iso_year.year = Some(value);
+        Some(())
+    }
+
+    /// The record with the year of ISO 8601, to which its weeks belong, if it is in its range.
+    pub fn with_iso_year(mut self, value: i32) -> Option<Self>
+        ensures { result ≡ with_if (is_up_to greatest_year value) (record self { iso_year = Some value }) }
+    {
+        self.set_iso_year(value)?;
+        Some(self)
+    }
+
+    /// The century of that year.
+    pub fn iso_year_century(&self) -> Option<i16>
+        ensures value { result ≡ self.now.iso_year_century }
+        ensures bound { Reaches greatest_century result }
+    {
+        self.parts.date.iso_year.century
+    }
+
+    /// Whether the century of that year is behind a minus, which -0 has too.
+    pub fn iso_year_century_is_negative(&self) -> Option<bool>
+        ensures { result ≡ option_map (λ _. self.now.iso_year_century_is_negative) self.now.iso_year_century }
+    {
+        self.parts.date.iso_year.century?;
+        Some(self.parts.date.iso_year.century_is_negative)
+    }
+
+    /// Sets the century of that year, if it is in its range, with its sign, which is said for 0 alone.
+    pub fn set_iso_year_century(&mut self, value: i16, is_negative: bool) -> Option<()>
+        ensures { (result, self.new) ≡ set_if (is_up_to greatest_century value) self.old (record self.old { iso_year_century = Some value; iso_year_century_is_negative = century_sign value is_negative }) }
+    {
+        if value < -GREATEST_CENTURY || value > GREATEST_CENTURY {
+            return None;
+        }
+        self.parts.date.iso_year.century = Some(value);
+        self.parts.date.iso_year.century_is_negative = if value == 0 { is_negative } else { value < 0 };
+        Some(())
+    }
+
+    /// The record with the century of that year, if it is in its range, and its sign, which is said for 0 alone.
+    pub fn with_iso_year_century(mut self, value: i16, is_negative: bool) -> Option<Self>
+        ensures { result ≡ with_if (is_up_to greatest_century value) (record self { iso_year_century = Some value; iso_year_century_is_negative = century_sign value is_negative }) }
+    {
+        self.set_iso_year_century(value, is_negative)?;
+        Some(self)
+    }
+
+    /// The last two digits of that year.
+    pub fn iso_year_last_two(&self) -> Option<u8>
+        ensures value { result ≡ self.now.iso_year_last_two }
+        ensures bound { InRange 0 99 result }
+    {
+        self.parts.date.iso_year.last_two
+    }
+
+    /// Sets the last two digits of that year, if it is in its range.
+    pub fn set_iso_year_last_two(&mut self, value: u8) -> Option<()>
+        ensures { (result, self.new) ≡ set_if (is_in_range 0 99 value) self.old (record self.old { iso_year_last_two = Some value }) }
+    {
+        if value > 99 {
+            return None;
+        }
+        self.parts.date.iso_year.last_two = Some(value);
+        Some(())
+    }
+
+    /// The record with the last two digits of that year, if it is in its range.
+    pub fn with_iso_year_last_two(mut self, value: u8) -> Option<Self>
+        ensures { result ≡ with_if (is_in_range 0 99 value) (record self { iso_year_last_two = Some value }) }
+    {
+        self.set_iso_year_last_two(value)?;
+        Some(self)
+    }
+}

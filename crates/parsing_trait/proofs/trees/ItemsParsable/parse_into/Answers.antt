@@ -1,0 +1,17 @@
+use Rattle.std.proofs.Common.{rules}
+use Rattle.description_items.specs.Tree.{tree_of, trees, listed}
+use Rattle.description_tree.specs.Description.{v3_tree}
+use Rattle.parsing_pieces.specs.FaultOf.{reading_fault}
+use Rattle.parsing_components.specs.Component.{reads_component, reads_component_v3}
+use Rattle.parsing_components.specs.Tame.{component_tame, component_tame_v3}
+use Rattle.parsing_record.specs.Tame.{tree_tame, in_turn_tame}
+use Rattle.parsing_trait.proofs.TameLemmas.{short_of, end_of}
+use Rattle.parsing_trait.proofs.trees.ItemsParsable.parse_into.Goals as goal
+
+pub returns-in_err-parse_items-clause-short_name : goal.returns-in_err-parse_items-clause-short_name
+returns-in_err-parse_items-clause-short_name c =
+    let short = short_of c.args.input.now _ _ (in_turn_tame reads_component component_tame (listed (trees c.args.self.now.0.now)) c.args.parsed.now c.args.input.now) c.in_err-parse_items.ensures.0 in
+    search rules
+
+pub returns-clause-end : goal.returns-clause-end
+returns-clause-end c = end_of c.args.input.now _ _ _ (in_turn_tame reads_component component_tame (listed (trees c.args.self.now.0.now)) c.args.parsed.now c.args.input.now) c.in_ok-parse_items.ensures

@@ -1,0 +1,140 @@
+//! What bytes can be read by.
+ghost use Rattle.std.specs.Prelude.{◌≡◌, ℕ, List, Option, None, Result, min, IfOk, IfErr};
+ghost use Rattle.datetime_wall.specs.Wall.{Shown};
+ghost use Rattle.parsing_pieces.specs.Fault.{Fault};
+ghost use Rattle.parsing_pieces.specs.FaultOf.{Gives, fault_of};
+ghost use Rattle.parsing_pieces.specs.ShortName.{HasShortName};
+ghost use Rattle.parsing_components.specs.Tame.{EndsWith};
+ghost use Rattle.parsing_record.specs.Record.{Record};
+ghost use Rattle.parsing_record.specs.Meaning.{Counted, meaning};
+ghost use Rattle.parsing_record.specs.Tally.{greatest_count};
+ghost use Rattle.parsing_trait.specs.Whole.{ReadsInto, whole, names, date_named, time_named, offset_named, wall_named, utc_named, timestamp_named};
+
+use calendar::{Date, Time, UtcOffset};
+use datetime_types::{OffsetDateTime, PlainDateTime, Timestamp, UtcDateTime};
+use parsing_pieces::{Parse, ParseFromDescription};
+use parsing_record::Parsed;
+
+/// A description or a format that bytes are read by.
+pub trait Parsable {
+    // From a record and bytes a record and the rest, or a fault, and how many items were begun.
+    ghost reading: { Self → Counted };
+
+    // The moment that all of the bytes name, with these defaults.
+    ghost moment: { Self → Option Record → List ℕ → Result Shown Fault };
+
+    /// Reads the front of the bytes into the record, and returns the rest.
+    fn parse_into<'a>(&self, input: &'a [u8], parsed: &mut Parsed) -> Result<&'a [u8], Parse>
+        ensures reads { ReadsInto result parsed.old parsed.new (reading self.now parsed.old input.now).0 }
+        ensures end { IfOk result (λ rest. EndsWith input.now rest.now) }
+        ensures short_name { IfErr result (λ e. HasShortName (fault_of e)) };
+
+    /// The same, with the number of items whose reading began, or the greatest number where they are more.
+    fn parse_into_counted<'a>(
+        &self,
+        input: &'a [u8],
+        parsed: &mut Parsed,
+    ) -> (Result<&'a [u8], Parse>, u128)
+        ensures reads { ReadsInto result.0 parsed.old parsed.new (reading self.now parsed.old input.now).0 }
+        ensures tried { result.1 ≡ min (reading self.now parsed.old input.now).1 greatest_count };
+
+    /// Reads all of the bytes, from the defaults where there are any.
+    #[tactic(auto, unfolding(crate::specs::Whole::whole))]
+    fn parse_internal(&self, input: &[u8], defaults: Option<Parsed>) -> Result<Parsed, Parse>
+        ensures record { Gives (λ r. r) fault_of result (whole (meaning (reading self.now)) defaults input.now) }
+        ensures short_name { IfErr result (λ e. HasShortName (fault_of e)) }
+    {
+        let mut parsed = match defaults {
+            Some(defaults) => defaults,
+            None => Parsed::new(),
+        };
+        let rest = self.parse_into(input, &mut parsed)?;
+        if !rest.is_empty() {
+            return Err(ParseFromDescription::UnexpectedTrailingCharacters.into());
+        }
+        Ok(parsed)
+    }
+
+    /// Reads all of the bytes.
+    fn parse(&self, input: &[u8]) -> Result<Parsed, Parse>
+        ensures record { Gives (λ r. r) fault_of result (whole (meaning (reading self.now)) None input.now) }
+        ensures short_name { IfErr result (λ e. HasShortName (fault_of e)) }
+    {
+        self.parse_internal(input, None)
+    }
+
+    /// The date that all of the bytes name.
+    fn parse_date(&self, input: &[u8], defaults: Option<Parsed>) -> Result<Date, Parse>
+        ensures value { Gives (λ value. value) fault_of result (names date_named (whole (meaning (reading self.now)) defaults input.now)) }
+        ensures short_name { IfErr result (λ e. HasShortName (fault_of e)) }
+    {
+        match self.parse_internal(input, defaults) {
+            Ok(parsed) => Ok(Date::try_from(parsed)?),
+            Err(fault) => Err(fault),
+        }
+    }
+
+    /// The time of day that all of the bytes name.
+    fn parse_time(&self, input: &[u8], defaults: Option<Parsed>) -> Result<Time, Parse>
+        ensures value { Gives (λ value. value) fault_of result (names time_named (whole (meaning (reading self.now)) defaults input.now)) }
+        ensures short_name { IfErr result (λ e. HasShortName (fault_of e)) }
+    {
+        match self.parse_internal(input, defaults) {
+            Ok(parsed) => Ok(Time::try_from(parsed)?),
+            Err(fault) => Err(fault),
+        }
+    }
+
+    /// The offset that all of the bytes name.
+    fn parse_offset(&self, input: &[u8], defaults: Option<Parsed>) -> Result<UtcOffset, Parse>
+        ensures value { Gives (λ value. value) fault_of result (names offset_named (whole (meaning (reading self.now)) defaults input.now)) }
+        ensures short_name { IfErr result (λ e. HasShortName (fault_of e)) }
+    {
+        match self.parse_internal(input, defaults) {
+            Ok(parsed) => Ok(UtcOffset::try_from(parsed)?),
+            Err(fault) => Err(fault),
+        }
+    }
+
+    /// The date and the time of day that all of the bytes name.
+    fn parse_plain_date_time(&self, input: &[u8], defaults: Option<Parsed>) -> Result<PlainDateTime, Parse>
+        ensures value { Gives (λ value. value) fault_of result (names wall_named (whole (meaning (reading self.now)) defaults input.now)) }
+        ensures short_name { IfErr result (λ e. HasShortName (fault_of e)) }
+    {
+        match self.parse_internal(input, defaults) {
+            Ok(parsed) => Ok(PlainDateTime::try_from(parsed)?),
+            Err(fault) => Err(fault),
+        }
+    }
+
+    /// The moment, in UTC that all of the bytes name.
+    fn parse_utc_date_time(&self, input: &[u8], defaults: Option<Parsed>) -> Result<UtcDateTime, Parse>
+        ensures value { Gives (λ value. value) fault_of result (names utc_named (whole (meaning (reading self.now)) defaults input.now)) }
+        ensures short_name { IfErr result (λ e. HasShortName (fault_of e)) }
+    {
+        match self.parse_internal(input, defaults) {
+            Ok(parsed) => Ok(UtcDateTime::try_from(parsed)?),
+            Err(fault) => Err(fault),
+        }
+    }
+
+    /// The instant that all of the bytes name.
+    fn parse_timestamp(&self, input: &[u8], defaults: Option<Parsed>) -> Result<Timestamp, Parse>
+        ensures value { Gives (λ value. value) fault_of result (names timestamp_named (whole (meaning (reading self.now)) defaults input.now)) }
+        ensures short_name { IfErr result (λ e. HasShortName (fault_of e)) }
+    {
+        match self.parse_internal(input, defaults) {
+            Ok(parsed) => Ok(Timestamp::try_from(parsed)?),
+            Err(fault) => Err(fault),
+        }
+    }
+
+    /// The moment that all of the bytes name, with its offset.
+    fn parse_offset_date_time(
+        &self,
+        input: &[u8],
+        defaults: Option<Parsed>,
+    ) -> Result<OffsetDateTime, Parse>
+        ensures value { Gives (λ value. value) fault_of result (moment self.now defaults input.now) }
+        ensures short_name { IfErr result (λ e. HasShortName (fault_of e)) };
+}
