@@ -2,7 +2,7 @@
 ghost use Rattle.std.specs.Prelude.{◌≡◌, ◌≢◌, ◌≤◌, codes, length};
 
 use instants_answers::Answer;
-use parsing::{Parse, ParseFromDescription, TryFromParsed};
+use parsing_pieces::{Parse, ParseFromDescription, TryFromParsed};
 
 /// Why a line has no place on the timeline. The names are those of components.
 #[derive(Clone, Copy, Debug, PartialEq, Eq)]

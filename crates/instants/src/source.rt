@@ -2,8 +2,10 @@
 ghost use Rattle.std.specs.Prelude.{◌≡◌};
 
 use datetime_types::OffsetDateTime;
+use description_formats::Rfc3339;
 use instants_words::SourceText;
-use parsing::{Parse, Rfc3339, TwoRoads};
+use parsing_pieces::Parse;
+use parsing_roads::TwoRoads;
 
 /// One way to write a date-time.
 #[derive(Clone, Copy, Debug, PartialEq, Eq)]

@@ -16,7 +16,7 @@ use datetime_types::OffsetDateTime;
 use instants_answers::{Answer, has_written_year, write_line};
 use instants_stream::AnswersLines;
 use instants_words::SourceText;
-use parsing::Parse;
+use parsing_pieces::Parse;
 use std::alloc::{AllocError, Global};
 use std::marker::Model;
 

@@ -9,4 +9,5 @@ pub use error::Error;
 pub use parsing_pieces::{Parse, ParseFromDescription, TryFromParsed};
 pub use parsing_record::Parsed;
 pub use parsing_resolution::is_valid_leap_second_stand_in;
-pub use parsing_trait::{Items, Parsable, TwoRoads};
+pub use parsing_roads::TwoRoads;
+pub use parsing_trait::{Items, Parsable};

@@ -1,5 +1,5 @@
 -- What a component leaves is the end of what was there, and the name in its fault is short.
-use Rattle.std.proofs.Common.{◌≡◌, ℕ, zero, suc, ◌≤◌, ◌++◌, ◌-◌, ◌+◌, ◌*◌, Bool, true, false, cond, List, [], ◌∷◌, length, take, drop, Option, Some, None, Result, Ok, Err, refl, sym, ap, ◌∙◌, arith, take-append-drop}
+use Rattle.std.proofs.Common.{◌≡◌, ℕ, zero, suc, ◌++◌, Bool, true, false, cond, List, [], ◌∷◌, length, take, drop, Option, Some, None, Result, Ok, Err, refl, sym, arith, take-append-drop}
 use Rattle.std.specs.Prelude.{nat_le, option_map, codes}
 use Rattle.std.proofs.lemmas.List.{append-nil}
 use Rattle.calendar_count.specs.Range.{greatest_year}
@@ -10,10 +10,9 @@ use Rattle.description_items.specs.declared.component.Component.TheVariants as c
 use Rattle.description_items.specs.Modern.{modern}
 use Rattle.parsing_pieces.specs.Fault.{Fault}
 use Rattle.parsing_pieces.specs.Fault as fault
-use Rattle.parsing_pieces.specs.Pieces.{Piece}
 use Rattle.parsing_pieces.specs.Readings.{Reading, piece_or}
 use Rattle.parsing_pieces.specs.ShortName.{HasShortName}
-use Rattle.parsing_shapes.specs.Shape.{Shape, greatest, or_before, front, taken, digits_between, fraction_between}
+use Rattle.parsing_shapes.specs.Shape.{Shape, greatest, or_before, front, taken, digits_between}
 use Rattle.parsing_shapes.specs.Numbers.{padded, year, century, offset_hour, timestamp}
 use Rattle.parsing_shapes.specs.Names.{named, period, short_months, long_months, short_weekdays, long_weekdays}
 use Rattle.parsing_components.specs.Ranged.{kept, says, between, up_to, since_epoch, counted, months, from_sunday, from_monday, greatest_century}

@@ -106,7 +106,10 @@ fn unix_subsecond(nanoseconds: i128, subsecond: Option<u32>) -> Result<Timestamp
 /// The moment that the parts name: Unix nanoseconds that are there, in UTC, with a subsecond in place of theirs; else
 /// the date, the time of day and the offset.
 #[tactic(auto, unfolding(crate::specs::NamedMoment::named_moment))]
-pub fn offset_date_time(parts: &MomentParts, offset: &OffsetParts) -> Result<OffsetDateTime, TryFromParsed>
+pub fn offset_date_time(
+    parts: &MomentParts,
+    offset: &OffsetParts,
+) -> Result<OffsetDateTime, TryFromParsed>
     ensures { Gives (λ m. m) resolution_fault result (named_moment parts.now offset.now) }
 {
     let Some(nanoseconds) = parts.unix_nanoseconds else {
@@ -119,7 +122,10 @@ pub fn offset_date_time(parts: &MomentParts, offset: &OffsetParts) -> Result<Off
 /// The same in UTC, which is also the offset that is not there. Where the calendar does not have the day in UTC, the
 /// year is out of range.
 #[tactic(auto, unfolding(crate::specs::NamedMoment::named_utc))]
-pub fn utc_date_time(parts: &MomentParts, offset: &OffsetParts) -> Result<UtcDateTime, TryFromParsed>
+pub fn utc_date_time(
+    parts: &MomentParts,
+    offset: &OffsetParts,
+) -> Result<UtcDateTime, TryFromParsed>
     ensures { Gives (λ i. i) resolution_fault result (named_utc parts.now offset.now) }
 {
     let Some(nanoseconds) = parts.unix_nanoseconds else {

@@ -1,5 +1,5 @@
 -- What a component sets in a record.
-use Rattle.std.specs.Prelude.{ℕ, pos, Some}
+use Rattle.std.specs.Prelude.{pos, Some}
 use Rattle.parsing_components.specs.declared.read.Read.{Read}
 use Rattle.parsing_components.specs.declared.read.Read.TheVariants as read
 use Rattle.parsing_record.specs.Record.{Record}

@@ -1,9 +1,8 @@
 -- What a tree of items reads.
-use Rattle.std.specs.Prelude.{ℕ, ◌+◌, Bool, true, false, List, [], ◌∷◌}
+use Rattle.std.specs.Prelude.{ℕ, List, [], ◌∷◌}
 use Rattle.description_items.specs.declared.component.Component.{Component}
-use Rattle.description_items.specs.Tree.{Tree, Trees, Literal, Part, Compound, Optional, First, none, also, listed}
+use Rattle.description_items.specs.Tree.{Tree, Trees, Literal, Part, Compound, Optional, First, none, also}
 use Rattle.parsing_pieces.specs.Readings.{Reading, then_read, give}
-use Rattle.parsing_components.specs.Component.{reads_component, reads_component_v3}
 use Rattle.parsing_components.specs.declared.read.Read.{Read}
 use Rattle.parsing_record.specs.Record.{Record}
 use Rattle.parsing_record.specs.Put.{put}

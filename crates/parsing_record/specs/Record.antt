@@ -1,5 +1,5 @@
 -- What a record holds, by its fields, and the range of each.
-use Rattle.std.specs.Prelude.{ℕ, ◌≤◌, ℤ, pos, neg_ℤ, ◌≤ℤ◌, ◌&&◌, Bool, true, false, Option, Some, None, IfSome, if◌then◌else◌, int_le, int_lt}
+use Rattle.std.specs.Prelude.{ℕ, ◌≤◌, ℤ, pos, neg_ℤ, ◌≤ℤ◌, ◌&&◌, Bool, false, Option, Some, None, IfSome, if◌then◌else◌, int_le, int_lt}
 use Rattle.std.specs.Ordering.{int_eq}
 use Rattle.calendar_count.specs.Range.{greatest_year}
 use Rattle.parsing_components.specs.Ranged.{greatest_century, nanoseconds_before_epoch, nanoseconds_after_epoch}

@@ -1,17 +1,17 @@
 -- What a tree leaves is the end of what was there, and the name in its fault is short.
-use Rattle.std.proofs.Common.{◌≡◌, ℕ, ◌++◌, Bool, true, false, cond, List, [], ◌∷◌, length, take, drop, Option, Some, None, Result, Ok, Err, refl, sym, ap, ◌∙◌, take-append-drop}
+use Rattle.std.proofs.Common.{ℕ, ◌++◌, Bool, true, false, cond, List, [], ◌∷◌, length, take, drop, Option, Some, None, Result, Ok, Err, refl, sym, ap, ◌∙◌, take-append-drop}
 use Rattle.std.specs.Prelude.{bytes_eq}
 use Rattle.std.proofs.lemmas.List.{append_assoc}
 use Rattle.description_items.specs.declared.component.Component.{Component}
 use Rattle.description_items.specs.Tree.{Tree, Trees, Literal, Part, Compound, Optional, First, none, also}
 use Rattle.parsing_pieces.specs.Fault.{Fault, literal}
 use Rattle.parsing_pieces.specs.ShortName.{HasShortName}
-use Rattle.parsing_pieces.specs.Readings.{Reading, then_read}
+use Rattle.parsing_pieces.specs.Readings.{then_read}
 use Rattle.parsing_components.specs.Tame.{EndsWith, Tame, IsTame}
 use Rattle.parsing_record.specs.Record.{Record}
 use Rattle.parsing_record.specs.Put.{put}
-use Rattle.parsing_record.specs.Meaning.{Answer, Meaning, Counted, meaning, more, literally, unchanged, then_counted, all_of, or_unchanged, optionally, or_next, first_success, found_or, or_found, first_of}
-use Rattle.parsing_record.specs.Reads.{Language, putting, reads, each_reads}
+use Rattle.parsing_record.specs.Meaning.{Answer, Meaning, Counted, meaning, literally, then_counted, all_of, or_unchanged, optionally, or_next, first_success, found_or, or_found, first_of}
+use Rattle.parsing_record.specs.Reads.{Language, reads, each_reads}
 
 abbrev pub IsTameMeaning : Meaning → Type 0
 IsTameMeaning m = (r : Record) (bytes : List ℕ) → Tame bytes (m r bytes)
@@ -88,6 +88,7 @@ IsTameLanguage language = (c : Component) → IsTame (language c)
 
 mutual
   unfolding reads each_reads
+
   pub tree_tame : (language : Language) → IsTameLanguage language → (t : Tree) → IsTameMeaning (meaning (reads language t))
   tree_tame language h (Literal text) r bytes = kept (λ _. r) bytes (literally text bytes) (literally_tame text bytes)
   tree_tame language h (Part c) r bytes = kept (λ said. put said r) bytes (language c bytes) (h c bytes)

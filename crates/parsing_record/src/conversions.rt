@@ -66,11 +66,7 @@ impl TryFrom<Parsed> for PlainDateTime {
 
     #[inline(always)]
     fn try_from(parsed: Parsed) -> Result<PlainDateTime, TryFromParsed> {
-        parsing_moments::plain_date_time(
-            false,
-            &parsed.parts.date,
-            &parsed.parts.time,
-        )
+        parsing_moments::plain_date_time(false, &parsed.parts.date, &parsed.parts.time)
     }
 }
 

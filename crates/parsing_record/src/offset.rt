@@ -13,7 +13,8 @@ const DAY_NANOSECONDS: i128 = 86_400_000_000_000;
 
 const LEAST_NANOSECONDS: i128 = -(UNIX_EPOCH as i128) * DAY_NANOSECONDS;
 
-const GREATEST_NANOSECONDS: i128 = (LAST_COUNT as i128 + 1 - UNIX_EPOCH as i128) * DAY_NANOSECONDS - 1;
+const GREATEST_NANOSECONDS: i128 = (LAST_COUNT as i128 + 1 - UNIX_EPOCH as i128) * DAY_NANOSECONDS
+    - 1;
 
 impl Parsed {
     /// The hours of the offset.
@@ -57,7 +58,11 @@ impl Parsed {
         ensures bound { Reaches 59 result }
     {
         let value = self.offset_minute?;
-        Some(if self.offset_is_negative { -value } else { value })
+        Some(if self.offset_is_negative {
+            -value
+        } else {
+            value
+        })
     }
 
     /// Sets the minutes of the offset as they stand, if they are in their range.
@@ -112,7 +117,11 @@ impl Parsed {
         ensures bound { Reaches 59 result }
     {
         let value = self.offset_second?;
-        Some(if self.offset_is_negative { -value } else { value })
+        Some(if self.offset_is_negative {
+            -value
+        } else {
+            value
+        })
     }
 
     /// Sets the seconds of the offset as they stand, if they are in their range.

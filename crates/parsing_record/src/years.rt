@@ -152,7 +152,11 @@ impl Parsed {
             return None;
         }
         self.parts.date.iso_year.century = Some(value);
-        self.parts.date.iso_year.century_is_negative = if value == 0 { is_negative } else { value < 0 };
+        self.parts.date.iso_year.century_is_negative = if value == 0 {
+            is_negative
+        } else {
+            value < 0
+        };
         Some(())
     }
 

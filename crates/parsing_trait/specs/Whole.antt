@@ -1,5 +1,5 @@
 -- Reading all of the bytes, and the values that they name.
-use Rattle.std.specs.Prelude.{◌≡◌, ℕ, ℤ, Bool, false, List, [], ◌∷◌, Option, Some, None, Result, Ok, Err, length, ◌==◌, if◌then◌else◌}
+use Rattle.std.specs.Prelude.{◌≡◌, ℕ, ℤ, false, List, Option, Some, None, Result, Ok, Err, length, ◌==◌, if◌then◌else◌}
 use Rattle.std.specs.Borrow.{Bor}
 use Rattle.datetime_wall.specs.Wall.{Shown}
 use Rattle.parsing_pieces.specs.Fault.{Fault, trailing}

@@ -1,10 +1,8 @@
-//! What the formats that standards describe can read.
+//! What bytes can be read by.
 #![tactic(auto)]
 
 mod parsable;
 mod trees;
-mod two_roads;
 
 pub use parsable::Parsable;
 pub use trees::Items;
-pub use two_roads::TwoRoads;

@@ -97,7 +97,11 @@ pub trait Parsable {
     }
 
     /// The date and the time of day that all of the bytes name.
-    fn parse_plain_date_time(&self, input: &[u8], defaults: Option<Parsed>) -> Result<PlainDateTime, Parse>
+    fn parse_plain_date_time(
+        &self,
+        input: &[u8],
+        defaults: Option<Parsed>,
+    ) -> Result<PlainDateTime, Parse>
         ensures value { Gives (λ value. value) fault_of result (names wall_named (whole (meaning (reading self.now)) defaults input.now)) }
         ensures short_name { IfErr result (λ e. HasShortName (fault_of e)) }
     {
@@ -108,7 +112,11 @@ pub trait Parsable {
     }
 
     /// The moment, in UTC that all of the bytes name.
-    fn parse_utc_date_time(&self, input: &[u8], defaults: Option<Parsed>) -> Result<UtcDateTime, Parse>
+    fn parse_utc_date_time(
+        &self,
+        input: &[u8],
+        defaults: Option<Parsed>,
+    ) -> Result<UtcDateTime, Parse>
         ensures value { Gives (λ value. value) fault_of result (names utc_named (whole (meaning (reading self.now)) defaults input.now)) }
         ensures short_name { IfErr result (λ e. HasShortName (fault_of e)) }
     {

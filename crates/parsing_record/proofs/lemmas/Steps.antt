@@ -1,8 +1,8 @@
 -- One item more of a list that is read, whatever the items are: each has a tree.
-use Rattle.std.proofs.Common.{Bool, true, false, not, ◌≡◌, ℕ, suc, ◌+◌, ◌<◌, ◌≤◌, List, [], ◌∷◌, length, get_or, drop, map, Option, Some, None, Result, Ok, Err, refl, sym, ap, ◌∙◌, arith, drop-cons}
+use Rattle.std.proofs.Common.{Bool, true, false, not, ◌≡◌, ℕ, suc, ◌+◌, ◌<◌, ◌≤◌, List, [], length, get_or, drop, map, Option, Some, None, Ok, Err, refl, sym, ap, ◌∙◌, arith, drop-cons}
 use Rattle.std.proofs.lemmas.List.{drop_all}
 use Rattle.std.specs.Prelude.{option_map, is_some}
-use Rattle.description_items.specs.Tree.{Tree, Trees, none, also, listed}
+use Rattle.description_items.specs.Tree.{Tree, Trees, also, listed}
 use Rattle.parsing_pieces.specs.declared.fault.ParseFromDescription.{ParseFromDescription}
 use Rattle.parsing_pieces.specs.Fault.{Fault}
 use Rattle.parsing_pieces.specs.FaultOf.{reading_fault}

@@ -1,4 +1,4 @@
-use Rattle.std.proofs.Common.{rules, ◌≡◌, ℕ, ◌+◌, arith, refl, ◌∙◌, ap, Ok, None, Some, sym, subst}
+use Rattle.std.proofs.Common.{rules, ◌≡◌, ◌+◌, arith, refl, ◌∙◌, ap, Ok, Some, sym, subst}
 use Rattle.std.specs.Prelude.{option_map}
 use Rattle.description_items.specs.Tree.{tree_of}
 use Rattle.parsing_pieces.specs.FaultOf.{reading_fault}
@@ -17,16 +17,17 @@ pub read_items-returns-in_err-rest-clause-tally : goal.read_items-returns-in_err
 read_items-returns-in_err-rest-clause-tally g t c =
     let more = stops_tried reads_component tree_of c.args.items.now c.loop-item.item-index c.item-item.result c.loop-item.parsed c.loop-item.rest.now (reading_fault c.in_err-rest.field-0.0) c.loop-item-test.true c.item-item.is c.in_err-rest.ensures.answer in
     subst (λ n. g.T.Tally.grows c.args.tally.now c.read_item.new.tally n) (sym (c.loop-item.invariant.3 ∙ ap (λ k. c.loop-item.invariant.1 + k) more))
-        (g.met.T.Tally.joins _ _ _ _ _ c.loop-item.invariant.2 c.in_err-rest.ensures.tally)
+    (g.met.T.Tally.joins _ _ _ _ _ c.loop-item.invariant.2 c.in_err-rest.ensures.tally)
 
 pub read_items-loop-item-preserved : goal.read_items-loop-item-preserved
 read_items-loop-item-preserved g t c =
     let begun = tried reads_component (tree_of c.item-item.result) c.loop-item.parsed c.loop-item.rest.now in
-    let more = goes_on_tried reads_component tree_of c.args.items.now c.loop-item.item-index c.item-item.result c.loop-item.parsed c.read_item.new.parsed c.loop-item.rest.now c.in_ok-rest.rest.now c.loop-item-test.true c.item-item.is c.in_ok-rest.ensures.answer in
-    (goes_on reads_component tree_of c.args.items.now c.loop-item.item-index c.item-item.result c.loop-item.parsed c.read_item.new.parsed c.loop-item.rest.now c.in_ok-rest.rest.now _ c.loop-item-test.true c.item-item.is c.in_ok-rest.ensures.answer c.loop-item.invariant.0,
-        c.loop-item.invariant.1 + begun,
-        g.met.T.Tally.joins _ _ _ _ _ c.loop-item.invariant.2 c.in_ok-rest.ensures.tally,
-        omega (arith, more, c.loop-item.invariant.3))
+    let more = goes_on_tried reads_component tree_of c.args.items.now c.loop-item.item-index c.item-item.result c.loop-item.parsed c.read_item.new.parsed c.loop-item.rest.now c.in_ok-rest.rest.now c.loop-item-test.true c.item-item.is c.in_ok-rest.ensures.answer in (
+      goes_on reads_component tree_of c.args.items.now c.loop-item.item-index c.item-item.result c.loop-item.parsed c.read_item.new.parsed c.loop-item.rest.now c.in_ok-rest.rest.now _ c.loop-item-test.true c.item-item.is c.in_ok-rest.ensures.answer c.loop-item.invariant.0,
+      c.loop-item.invariant.1 + begun,
+      g.met.T.Tally.joins _ _ _ _ _ c.loop-item.invariant.2 c.in_ok-rest.ensures.tally,
+      omega (arith, more, c.loop-item.invariant.3),
+    )
 
 pub read_items-returns-clause-answer : goal.read_items-returns-clause-answer
 read_items-returns-clause-answer g t c =
@@ -46,7 +47,7 @@ read_first-returns-in-Ok-clause-tally g t c =
     let same = ap (λ r. tried reads_component (tree_of c.item-item.result) r c.args.input.now) c.loop-item.invariant.1 in
     let more = after_read_tried reads_component tree_of c.args.items.now c.loop-item.item-index c.item-item.result c.args.parsed.now c.args.input.now (option_map reading_fault c.loop-item.fault) (c.read_item.new.parsed, c.in-Ok.rest.now) c.loop-item-test.true c.item-item.is (ap (λ r. reading reads_component (tree_of c.item-item.result) r c.args.input.now) (sym c.loop-item.invariant.1) ∙ c.in-Ok.ensures.answer) in
     subst (λ n. g.T.Tally.grows c.args.tally.now c.read_item.new.tally n) (omega (arith, same, more, c.loop-item.invariant.5))
-        (g.met.T.Tally.joins _ _ _ _ _ c.loop-item.invariant.4 c.in-Ok.ensures.tally)
+    (g.met.T.Tally.joins _ _ _ _ _ c.loop-item.invariant.4 c.in-Ok.ensures.tally)
 
 pub read_first-loop-item-preserved : goal.read_first-loop-item-preserved
 read_first-loop-item-preserved g t c =
@@ -56,13 +57,17 @@ read_first-loop-item-preserved g t c =
     let moved = after_refused reads_component tree_of c.args.items.now c.loop-item.item-index c.item-item.result c.args.parsed.now c.args.input.now (option_map reading_fault c.loop-item.fault) (reading_fault c.in-Err.refused) _ c.loop-item-test.true c.item-item.is refused c.loop-item.invariant.0 in
     let more = after_refused_tried reads_component tree_of c.args.items.now c.loop-item.item-index c.item-item.result c.args.parsed.now c.args.input.now (option_map reading_fault c.loop-item.fault) (reading_fault c.in-Err.refused) c.loop-item-test.true c.item-item.is refused in
     let kept : option_map reading_fault c.if-is_none.fault ≡ Some (first_fault (option_map reading_fault c.loop-item.fault) (reading_fault c.in-Err.refused)) =
-        elim c.if-is_none.branch [
-          | read_first-then-is_none w ↦ kept_new c.loop-item.fault c.if-is_none.fault c.in-Err.refused c.is_none.result c.is_none.ensures w.if-is_none.true w.fault-is
-          | read_first-else-is_none w ↦ kept_old c.loop-item.fault c.if-is_none.fault c.in-Err.refused c.is_none.result c.is_none.ensures w.if-is_none.false w.fault-is
-        ] in
-    (rw kept moved, refl, refl, c.loop-item.invariant.3 + begun,
-        g.met.T.Tally.joins _ _ _ _ _ c.loop-item.invariant.4 c.in-Err.ensures.tally,
-        rw kept (omega (arith, same, more, c.loop-item.invariant.5)))
+    elim c.if-is_none.branch [
+      | read_first-then-is_none w ↦ kept_new c.loop-item.fault c.if-is_none.fault c.in-Err.refused c.is_none.result c.is_none.ensures w.if-is_none.true w.fault-is
+      | read_first-else-is_none w ↦ kept_old c.loop-item.fault c.if-is_none.fault c.in-Err.refused c.is_none.result c.is_none.ensures w.if-is_none.false w.fault-is
+    ] in (
+      rw kept moved,
+      refl,
+      refl,
+      c.loop-item.invariant.3 + begun,
+      g.met.T.Tally.joins _ _ _ _ _ c.loop-item.invariant.4 c.in-Err.ensures.tally,
+      rw kept (omega (arith, same, more, c.loop-item.invariant.5)),
+    )
 
 pub read_first-returns-in-None-clause-answer : goal.read_first-returns-in-None-clause-answer
 read_first-returns-in-None-clause-answer g t c =

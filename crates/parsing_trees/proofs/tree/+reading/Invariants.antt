@@ -11,10 +11,10 @@ use Rattle.parsing_trees.proofs.tree.+reading.Given as goal
 abbrev pub invariant-read_first-loop-node : goal.invariant-read_first-loop-node
 invariant-read_first-loop-node g l =
     ((first_of (each_reads reads_component_v3 (from inner_tree l.fn.nodes 0)) l.fn.parsed l.fn.input).0 ≡ after (option_map reading_fault l.fault) (each_reads reads_component_v3 (from inner_tree l.nodes l.node-index)) l.fn.parsed l.input)
-        × (l.parsed ≡ l.fn.parsed) × (l.before ≡ l.fn.parsed)
-        × (n : ℕ) × g.T.Tally.grows l.fn.tally l.tally n × ((first_of (each_reads reads_component_v3 (from inner_tree l.fn.nodes 0)) l.fn.parsed l.fn.input).1 ≡ n + tried_after (option_map reading_fault l.fault) (each_reads reads_component_v3 (from inner_tree l.nodes l.node-index)) l.fn.parsed l.input)
+    × (l.parsed ≡ l.fn.parsed) × (l.before ≡ l.fn.parsed)
+    × (n : ℕ) × g.T.Tally.grows l.fn.tally l.tally n × ((first_of (each_reads reads_component_v3 (from inner_tree l.fn.nodes 0)) l.fn.parsed l.fn.input).1 ≡ n + tried_after (option_map reading_fault l.fault) (each_reads reads_component_v3 (from inner_tree l.nodes l.node-index)) l.fn.parsed l.input)
 
 abbrev pub invariant-read_nodes-loop-node : goal.invariant-read_nodes-loop-node
 invariant-read_nodes-loop-node g l =
     (reading_of_all reads_component_v3 (from inner_tree l.fn.nodes 0) l.fn.parsed l.fn.input ≡ reading_of_all reads_component_v3 (from inner_tree l.nodes l.node-index) l.parsed l.rest)
-        × (n : ℕ) × g.T.Tally.grows l.fn.tally l.tally n × (tried_in_all reads_component_v3 (from inner_tree l.fn.nodes 0) l.fn.parsed l.fn.input ≡ n + tried_in_all reads_component_v3 (from inner_tree l.nodes l.node-index) l.parsed l.rest)
+    × (n : ℕ) × g.T.Tally.grows l.fn.tally l.tally n × (tried_in_all reads_component_v3 (from inner_tree l.fn.nodes 0) l.fn.parsed l.fn.input ≡ n + tried_in_all reads_component_v3 (from inner_tree l.nodes l.node-index) l.parsed l.rest)

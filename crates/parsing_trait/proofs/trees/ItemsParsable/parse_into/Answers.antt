@@ -1,10 +1,8 @@
 use Rattle.std.proofs.Common.{rules}
-use Rattle.description_items.specs.Tree.{tree_of, trees, listed}
-use Rattle.description_tree.specs.Description.{v3_tree}
-use Rattle.parsing_pieces.specs.FaultOf.{reading_fault}
-use Rattle.parsing_components.specs.Component.{reads_component, reads_component_v3}
-use Rattle.parsing_components.specs.Tame.{component_tame, component_tame_v3}
-use Rattle.parsing_record.specs.Tame.{tree_tame, in_turn_tame}
+use Rattle.description_items.specs.Tree.{trees, listed}
+use Rattle.parsing_components.specs.Component.{reads_component}
+use Rattle.parsing_components.specs.Tame.{component_tame}
+use Rattle.parsing_record.specs.Tame.{in_turn_tame}
 use Rattle.parsing_trait.proofs.TameLemmas.{short_of, end_of}
 use Rattle.parsing_trait.proofs.trees.ItemsParsable.parse_into.Goals as goal
 
