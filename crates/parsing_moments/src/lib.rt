@@ -5,8 +5,6 @@ mod clock;
 pub mod laws;
 mod moment;
 mod parts;
-#[cfg(test)]
-mod tests;
 
 pub use clock::{hour, offset, permitted_time, time};
 pub use moment::{offset_date_time, plain_date_time, timestamp, utc_date_time};

@@ -2,6 +2,10 @@
 #![tactic(auto)]
 
 #[cfg(test)]
+mod dates;
+#[cfg(test)]
+mod moments;
+#[cfg(test)]
 mod pieces;
 #[cfg(test)]
 mod readings;
