@@ -5,3 +5,5 @@
 mod pieces;
 #[cfg(test)]
 mod readings;
+#[cfg(test)]
+mod records;
