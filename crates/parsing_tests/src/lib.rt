@@ -9,3 +9,5 @@ mod moments;
 mod pieces;
 #[cfg(test)]
 mod readings;
+#[cfg(test)]
+mod records;
