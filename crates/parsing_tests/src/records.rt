@@ -3,7 +3,16 @@
 use parsing::Parsed;
 
 // The clock of a record.
-fn clock(parsed: &Parsed) -> (Option<u8>, Option<u8>, Option<bool>, Option<u8>, Option<u8>, Option<u32>) {
+fn clock(
+    parsed: &Parsed,
+) -> (
+    Option<u8>,
+    Option<u8>,
+    Option<bool>,
+    Option<u8>,
+    Option<u8>,
+    Option<u32>,
+) {
     (
         parsed.hour_24(),
         parsed.hour_12(),
@@ -37,7 +46,14 @@ fn clocks(rt: HostRuntime) {
         assert!(rt; parsed.set_minute(minute).is_some());
         assert!(rt; parsed.set_second(second).is_some());
         assert!(rt; parsed.set_subsecond(subsecond).is_some());
-        let wanted = (Some(hour), Some(half), Some(true), Some(minute), Some(second), Some(subsecond));
+        let wanted = (
+            Some(hour),
+            Some(half),
+            Some(true),
+            Some(minute),
+            Some(second),
+            Some(subsecond),
+        );
         assert!(rt; clock(&parsed) == wanted, "{hour}");
         // one past each end is refused, and nothing changes
         assert!(rt; parsed.set_hour_24(24).is_none());
