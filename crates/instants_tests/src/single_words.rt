@@ -4,8 +4,7 @@ use instants_words::{SourceText, WordsFault, read_words};
 use std::alloc::Global;
 use std::process::Abort;
 
-// The target in seconds and the limit that the words give. That memory ran out is fine where the
-// words are.
+// The target in seconds and the limit that the words give.
 fn check(rt: &impl Abort, alloc: Global, words: &[&str], wanted: Result<(i32, usize), WordsFault>) {
     match read_words(alloc, words) {
         Ok(read) => {
@@ -13,7 +12,6 @@ fn check(rt: &impl Abort, alloc: Global, words: &[&str], wanted: Result<(i32, us
             assert!(rt; read.assumed.is_none());
             assert!(rt; read.sources.as_slice() == [SourceText::Rfc3339].as_slice());
         }
-        Err(WordsFault::Memory) => assert!(rt; wanted.is_ok()),
         Err(fault) => assert!(rt; wanted == Err(fault)),
     }
 }

@@ -152,6 +152,9 @@ fn written(
     }
 }
 
+// The bytes of a text without a fraction, in UTC: no text has fewer.
+const SHORTEST: usize = 20;
+
 /// The numbers at the front of the bytes, and the rest, where no piece of them is missing.
 ///
 /// Each number is named by itself: whole tuples handed on would be kept in memory, at some ten instructions a line.
@@ -162,6 +165,9 @@ pub(crate) fn quick_front(bytes: &[u8]) -> Option<(Written, &[u8])>
     ensures offset_hour { IfSome result (λ x. x.0.offset_hour ≤ 23) }
     ensures offset_minute { IfSome result (λ x. x.0.offset_minute < 100) }
 {
+    if bytes.len() < SHORTEST {
+        return None;
+    }
     let ((year, month, day), rest) = quick_date(bytes)?;
     let rest = any_byte(rest)?;
     let ((hour, minute, second), rest) = quick_clock(rest)?;
