@@ -1,4 +1,6 @@
-pub mod Component
+pub mod Read
 pub mod Ranged
-pub mod Allowed
+pub mod Record
+pub mod Component
+pub mod Put
 pub mod Tame

@@ -17,8 +17,8 @@ use Rattle.parsing_shapes.specs.Numbers.{padded, year, century, offset_hour, tim
 use Rattle.parsing_shapes.specs.Names.{named, period, short_months, long_months, short_weekdays, long_weekdays}
 use Rattle.parsing_components.specs.Ranged.{kept, says, between, up_to, since_epoch, counted, months, from_sunday, from_monday, greatest_century}
 use Rattle.parsing_components.specs.Component.{fraction_of, ignored, offset_piece, time_piece, year_piece, date_piece, component_name, time_name, at_end, begins_character, if_whole, reads_modern, reads_component, reads_component_v3}
-use Rattle.parsing_components.specs.declared.read.Read.{Read}
-use Rattle.parsing_components.specs.declared.read.Read.TheVariants as read
+use Rattle.parsing_components.specs.Read.{Read}
+use Rattle.parsing_components.specs.Read as read
 
 -- the bytes end with the rest
 abbrev pub EndsWith : List ℕ → List ℕ → Type 0

@@ -4,12 +4,13 @@ ghost use Rattle.parsing_pieces.specs.Pieces.{cut_view};
 ghost use Rattle.parsing_shapes.specs.Shape.{taken, digits_between};
 ghost use Rattle.parsing_shapes.specs.Numbers.{padded, year, century, offset_hour, timestamp};
 ghost use Rattle.parsing_shapes.specs.Names.{named, period, short_months, long_months, short_weekdays, long_weekdays};
-ghost use Rattle.parsing_components.specs.Allowed.{IsAllowed};
+ghost use Rattle.parsing_components.specs.Record.{IsWithin};
+ghost use Rattle.parsing_components.specs.Put.{Sets};
 ghost use Rattle.parsing_components.specs.Ranged.{kept, says, entry, between, up_to, since_epoch, counted, months, from_sunday, from_monday};
 ghost use Rattle.parsing_components.specs.Component as Components;
-ghost use Rattle.parsing_components.specs.declared.read.Read.TheVariants as read;
+ghost use Rattle.parsing_components.specs.Read as read;
 
-use crate::read::Read;
+use crate::fields::Record;
 use crate::years::year_piece;
 use calendar_count::{Month, Weekday};
 use description_items::Component;
@@ -19,111 +20,131 @@ use parsing_shapes::{
 };
 
 #[inline(always)]
-fn day(padding: Padding, bytes: &[u8]) -> Option<(Read, &[u8])>
-    ensures reads { cut_view result ≡ says (between 1 31 read.Day) (taken (padded padding 2 2)) bytes.now }
-    ensures allowed { IfSome result (λ x. IsAllowed x.0) }
+fn day<'a>(padding: Padding, bytes: &'a [u8], fields: &mut Record) -> Option<&'a [u8]>
+    requires within { IsWithin fields.old }
+    ensures reads { Sets result fields.old fields.new (says (between 1 31 read.Day) (taken (padded padding 2 2)) bytes.now) }
+    ensures within { IsWithin fields.new }
 {
     let (n, rest) = padded_two(padding, bytes)?;
     if n < 1 || n > 31 {
         return None;
     }
-    Some((Read::Day(n), rest))
+    fields.day = Some(n);
+    Some(rest)
 }
 
 #[inline(always)]
-fn iso_week(padding: Padding, bytes: &[u8]) -> Option<(Read, &[u8])>
-    ensures reads { cut_view result ≡ says (between 1 53 read.IsoWeek) (taken (padded padding 2 2)) bytes.now }
-    ensures allowed { IfSome result (λ x. IsAllowed x.0) }
+fn iso_week<'a>(padding: Padding, bytes: &'a [u8], fields: &mut Record) -> Option<&'a [u8]>
+    requires within { IsWithin fields.old }
+    ensures reads { Sets result fields.old fields.new (says (between 1 53 read.IsoWeek) (taken (padded padding 2 2)) bytes.now) }
+    ensures within { IsWithin fields.new }
 {
     let (n, rest) = padded_two(padding, bytes)?;
     if n < 1 || n > 53 {
         return None;
     }
-    Some((Read::IsoWeek(n), rest))
+    fields.iso_week_number = Some(n);
+    Some(rest)
 }
 
 #[inline(always)]
-fn sunday_week(padding: Padding, bytes: &[u8]) -> Option<(Read, &[u8])>
-    ensures reads { cut_view result ≡ says (between 0 53 read.SundayWeek) (taken (padded padding 2 2)) bytes.now }
-    ensures allowed { IfSome result (λ x. IsAllowed x.0) }
+fn sunday_week<'a>(padding: Padding, bytes: &'a [u8], fields: &mut Record) -> Option<&'a [u8]>
+    requires within { IsWithin fields.old }
+    ensures reads { Sets result fields.old fields.new (says (between 0 53 read.SundayWeek) (taken (padded padding 2 2)) bytes.now) }
+    ensures within { IsWithin fields.new }
 {
     let (n, rest) = padded_two(padding, bytes)?;
     if n > 53 {
         return None;
     }
-    Some((Read::SundayWeek(n), rest))
+    fields.sunday_week_number = Some(n);
+    Some(rest)
 }
 
 #[inline(always)]
-fn monday_week(padding: Padding, bytes: &[u8]) -> Option<(Read, &[u8])>
-    ensures reads { cut_view result ≡ says (between 0 53 read.MondayWeek) (taken (padded padding 2 2)) bytes.now }
-    ensures allowed { IfSome result (λ x. IsAllowed x.0) }
+fn monday_week<'a>(padding: Padding, bytes: &'a [u8], fields: &mut Record) -> Option<&'a [u8]>
+    requires within { IsWithin fields.old }
+    ensures reads { Sets result fields.old fields.new (says (between 0 53 read.MondayWeek) (taken (padded padding 2 2)) bytes.now) }
+    ensures within { IsWithin fields.new }
 {
     let (n, rest) = padded_two(padding, bytes)?;
     if n > 53 {
         return None;
     }
-    Some((Read::MondayWeek(n), rest))
+    fields.monday_week_number = Some(n);
+    Some(rest)
 }
 
 #[inline(always)]
-fn ordinal(padding: Padding, bytes: &[u8]) -> Option<(Read, &[u8])>
-    ensures reads { cut_view result ≡ says (between 1 366 read.Ordinal) (taken (padded padding 3 3)) bytes.now }
-    ensures allowed { IfSome result (λ x. IsAllowed x.0) }
+fn ordinal<'a>(padding: Padding, bytes: &'a [u8], fields: &mut Record) -> Option<&'a [u8]>
+    requires within { IsWithin fields.old }
+    ensures reads { Sets result fields.old fields.new (says (between 1 366 read.Ordinal) (taken (padded padding 3 3)) bytes.now) }
+    ensures within { IsWithin fields.new }
 {
     let (n, rest) = padded(padding, 3, 3, bytes)?;
     if n < 1 || n > 366 {
         return None;
     }
-    Some((Read::Ordinal(n as u16), rest))
+    fields.ordinal = Some(n as u16);
+    Some(rest)
 }
 
 #[inline(always)]
-fn month_short(case_sensitive: bool, bytes: &[u8]) -> Option<(Read, &[u8])>
-    ensures reads { cut_view result ≡ says (λ x. Some (read.Month x)) (taken (named case_sensitive short_months)) bytes.now }
-    ensures allowed { IfSome result (λ x. IsAllowed x.0) }
+fn month_short<'a>(case_sensitive: bool, bytes: &'a [u8], fields: &mut Record) -> Option<&'a [u8]>
+    requires within { IsWithin fields.old }
+    ensures reads { Sets result fields.old fields.new (says (λ x. Some (read.Month x)) (taken (named case_sensitive short_months)) bytes.now) }
+    ensures within { IsWithin fields.new }
 {
     let (month, rest) = short_month(case_sensitive, bytes)?;
-    Some((Read::Month(month), rest))
+    fields.month = Some(month);
+    Some(rest)
 }
 
 #[inline(always)]
-fn weekday_short(case_sensitive: bool, bytes: &[u8]) -> Option<(Read, &[u8])>
-    ensures reads { cut_view result ≡ says (λ x. Some (read.Weekday x)) (taken (named case_sensitive short_weekdays)) bytes.now }
-    ensures allowed { IfSome result (λ x. IsAllowed x.0) }
+fn weekday_short<'a>(case_sensitive: bool, bytes: &'a [u8], fields: &mut Record) -> Option<&'a [u8]>
+    requires within { IsWithin fields.old }
+    ensures reads { Sets result fields.old fields.new (says (λ x. Some (read.Weekday x)) (taken (named case_sensitive short_weekdays)) bytes.now) }
+    ensures within { IsWithin fields.new }
 {
     let (weekday, rest) = short_weekday(case_sensitive, bytes)?;
-    Some((Read::Weekday(weekday), rest))
+    fields.weekday = Some(weekday);
+    Some(rest)
 }
 
 #[inline(always)]
-fn month_long(case_sensitive: bool, bytes: &[u8]) -> Option<(Read, &[u8])>
-    ensures reads { cut_view result ≡ says (λ x. Some (read.Month x)) (taken (named case_sensitive long_months)) bytes.now }
-    ensures allowed { IfSome result (λ x. IsAllowed x.0) }
+fn month_long<'a>(case_sensitive: bool, bytes: &'a [u8], fields: &mut Record) -> Option<&'a [u8]>
+    requires within { IsWithin fields.old }
+    ensures reads { Sets result fields.old fields.new (says (λ x. Some (read.Month x)) (taken (named case_sensitive long_months)) bytes.now) }
+    ensures within { IsWithin fields.new }
 {
     let (month, rest) = long_month(case_sensitive, bytes)?;
-    Some((Read::Month(month), rest))
+    fields.month = Some(month);
+    Some(rest)
 }
 
 #[inline(always)]
-fn weekday_long(case_sensitive: bool, bytes: &[u8]) -> Option<(Read, &[u8])>
-    ensures reads { cut_view result ≡ says (λ x. Some (read.Weekday x)) (taken (named case_sensitive long_weekdays)) bytes.now }
-    ensures allowed { IfSome result (λ x. IsAllowed x.0) }
+fn weekday_long<'a>(case_sensitive: bool, bytes: &'a [u8], fields: &mut Record) -> Option<&'a [u8]>
+    requires within { IsWithin fields.old }
+    ensures reads { Sets result fields.old fields.new (says (λ x. Some (read.Weekday x)) (taken (named case_sensitive long_weekdays)) bytes.now) }
+    ensures within { IsWithin fields.new }
 {
     let (weekday, rest) = long_weekday(case_sensitive, bytes)?;
-    Some((Read::Weekday(weekday), rest))
+    fields.weekday = Some(weekday);
+    Some(rest)
 }
 
 #[tactic(auto, using(crate::proofs::Entries::month_entry, crate::proofs::Entries::no_month))]
-fn month_number(padding: Padding, bytes: &[u8]) -> Option<(Read, &[u8])>
-    ensures reads { cut_view result ≡ says (λ n. option_map read.Month (counted true months n)) (taken (padded padding 2 2)) bytes.now }
-    ensures allowed { IfSome result (λ x. IsAllowed x.0) }
+fn month_number<'a>(padding: Padding, bytes: &'a [u8], fields: &mut Record) -> Option<&'a [u8]>
+    requires within { IsWithin fields.old }
+    ensures reads { Sets result fields.old fields.new (says (λ n. option_map read.Month (counted true months n)) (taken (padded padding 2 2)) bytes.now) }
+    ensures within { IsWithin fields.new }
 {
     let (n, rest) = padded_two(padding, bytes)?;
     if n < 1 || n > 12 {
         return None;
     }
-    Some((Read::Month(Month::from_number(n)), rest))
+    fields.month = Some(Month::from_number(n));
+    Some(rest)
 }
 
 // The day of the week so many days after Sunday.
@@ -174,13 +195,15 @@ fn sunday_counted(one_indexed: bool, n: u32) -> Option<Weekday>
     after_sunday(n - 1)
 }
 
-fn sunday_number(one_indexed: bool, bytes: &[u8]) -> Option<(Read, &[u8])>
-    ensures reads { cut_view result ≡ says (λ n. option_map read.Weekday (counted one_indexed from_sunday n)) (taken (digits_between 1 1)) bytes.now }
-    ensures allowed { IfSome result (λ x. IsAllowed x.0) }
+fn sunday_number<'a>(one_indexed: bool, bytes: &'a [u8], fields: &mut Record) -> Option<&'a [u8]>
+    requires within { IsWithin fields.old }
+    ensures reads { Sets result fields.old fields.new (says (λ n. option_map read.Weekday (counted one_indexed from_sunday n)) (taken (digits_between 1 1)) bytes.now) }
+    ensures within { IsWithin fields.new }
 {
     let (n, rest) = digits_between(1, 1, bytes)?;
     let weekday = sunday_counted(one_indexed, n)?;
-    Some((Read::Weekday(weekday), rest))
+    fields.weekday = Some(weekday);
+    Some(rest)
 }
 
 #[inline(always)]
@@ -197,34 +220,37 @@ fn monday_counted(one_indexed: bool, n: u32) -> Option<Weekday>
     after_monday(n - 1)
 }
 
-fn monday_number(one_indexed: bool, bytes: &[u8]) -> Option<(Read, &[u8])>
-    ensures reads { cut_view result ≡ says (λ n. option_map read.Weekday (counted one_indexed from_monday n)) (taken (digits_between 1 1)) bytes.now }
-    ensures allowed { IfSome result (λ x. IsAllowed x.0) }
+fn monday_number<'a>(one_indexed: bool, bytes: &'a [u8], fields: &mut Record) -> Option<&'a [u8]>
+    requires within { IsWithin fields.old }
+    ensures reads { Sets result fields.old fields.new (says (λ n. option_map read.Weekday (counted one_indexed from_monday n)) (taken (digits_between 1 1)) bytes.now) }
+    ensures within { IsWithin fields.new }
 {
     let (n, rest) = digits_between(1, 1, bytes)?;
     let weekday = monday_counted(one_indexed, n)?;
-    Some((Read::Weekday(weekday), rest))
+    fields.weekday = Some(weekday);
+    Some(rest)
 }
 
 // The parts of a date but the year.
 #[tactic(auto, unfolding(crate::specs::Component::date_piece))]
-pub(crate) fn date_piece(component: Component, bytes: &[u8]) -> Option<(Read, &[u8])>
-    ensures reads { cut_view result ≡ Components.date_piece component bytes.now }
-    ensures allowed { IfSome result (λ x. IsAllowed x.0) }
+pub(crate) fn date_piece<'a>(component: Component, bytes: &'a [u8], fields: &mut Record) -> Option<&'a [u8]>
+    requires within { IsWithin fields.old }
+    ensures reads { Sets result fields.old fields.new (Components.date_piece component bytes.now) }
+    ensures within { IsWithin fields.new }
 {
     match component {
-        Component::Day(m) => day(m.padding, bytes),
-        Component::MonthShort(m) => month_short(m.case_sensitive, bytes),
-        Component::MonthLong(m) => month_long(m.case_sensitive, bytes),
-        Component::MonthNumerical(m) => month_number(m.padding, bytes),
-        Component::Ordinal(m) => ordinal(m.padding, bytes),
-        Component::WeekdayShort(m) => weekday_short(m.case_sensitive, bytes),
-        Component::WeekdayLong(m) => weekday_long(m.case_sensitive, bytes),
-        Component::WeekdaySunday(m) => sunday_number(m.one_indexed, bytes),
-        Component::WeekdayMonday(m) => monday_number(m.one_indexed, bytes),
-        Component::WeekNumberIso(m) => iso_week(m.padding, bytes),
-        Component::WeekNumberSunday(m) => sunday_week(m.padding, bytes),
-        Component::WeekNumberMonday(m) => monday_week(m.padding, bytes),
-        other => year_piece(other, bytes),
+        Component::Day(m) => day(m.padding, bytes, fields),
+        Component::MonthShort(m) => month_short(m.case_sensitive, bytes, fields),
+        Component::MonthLong(m) => month_long(m.case_sensitive, bytes, fields),
+        Component::MonthNumerical(m) => month_number(m.padding, bytes, fields),
+        Component::Ordinal(m) => ordinal(m.padding, bytes, fields),
+        Component::WeekdayShort(m) => weekday_short(m.case_sensitive, bytes, fields),
+        Component::WeekdayLong(m) => weekday_long(m.case_sensitive, bytes, fields),
+        Component::WeekdaySunday(m) => sunday_number(m.one_indexed, bytes, fields),
+        Component::WeekdayMonday(m) => monday_number(m.one_indexed, bytes, fields),
+        Component::WeekNumberIso(m) => iso_week(m.padding, bytes, fields),
+        Component::WeekNumberSunday(m) => sunday_week(m.padding, bytes, fields),
+        Component::WeekNumberMonday(m) => monday_week(m.padding, bytes, fields),
+        other => year_piece(other, bytes, fields),
     }
 }

@@ -1,103 +1,124 @@
 //! The parts of an offset, timestamps, and what is passed over.
-ghost use Rattle.std.specs.Prelude.{◌≡◌, ◌≤◌, true, false, Some, option_map, IfSome};
+ghost use Rattle.std.specs.Prelude.{◌≡◌, ◌≤◌, ◌<◌, ◌*◌, ◌^◌, pos, neg_ℤ, true, false, Some, option_map, IfSome};
 ghost use Rattle.parsing_pieces.specs.Pieces.{cut_view};
 ghost use Rattle.parsing_shapes.specs.Shape.{taken, digits_between};
 ghost use Rattle.parsing_shapes.specs.Numbers.{padded, year, century, offset_hour, timestamp};
 ghost use Rattle.parsing_shapes.specs.Names.{named, period, short_months, long_months, short_weekdays, long_weekdays};
-ghost use Rattle.parsing_components.specs.Allowed.{IsAllowed};
-ghost use Rattle.parsing_components.specs.Ranged.{says, between, up_to, since_epoch, counted, months, from_sunday, from_monday};
+ghost use Rattle.parsing_components.specs.Record.{IsWithin, InSigned};
+ghost use Rattle.parsing_components.specs.Put.{Sets, passed};
+ghost use Rattle.parsing_components.specs.Ranged.{nanoseconds_before_epoch, nanoseconds_after_epoch, says, between, up_to, since_epoch, counted, months, from_sunday, from_monday};
 ghost use Rattle.parsing_components.specs.Component as Components;
-ghost use Rattle.parsing_components.specs.declared.read.Read.TheVariants as read;
+ghost use Rattle.parsing_components.specs.Read as read;
 
-use crate::read::Read;
+use crate::fields::Record;
 use description_items::Component;
 use description_items::modifier::Padding;
 use parsing_shapes::{offset_hour, padded_two, timestamp};
 
 #[inline(always)]
-fn offset_minute(padding: Padding, bytes: &[u8]) -> Option<(Read, &[u8])>
-    ensures reads { cut_view result ≡ says (between 0 59 read.OffsetMinute) (taken (padded padding 2 2)) bytes.now }
-    ensures allowed { IfSome result (λ x. IsAllowed x.0) }
+fn offset_minute<'a>(padding: Padding, bytes: &'a [u8], fields: &mut Record) -> Option<&'a [u8]>
+    requires within { IsWithin fields.old }
+    ensures reads { Sets result fields.old fields.new (says (between 0 59 read.OffsetMinute) (taken (padded padding 2 2)) bytes.now) }
+    ensures within { IsWithin fields.new }
 {
     let (n, rest) = padded_two(padding, bytes)?;
     if n > 59 {
         return None;
     }
-    Some((Read::OffsetMinute(n), rest))
+    fields.offset_minute = Some(n as i8);
+    Some(rest)
 }
 
 #[inline(always)]
-fn offset_second(padding: Padding, bytes: &[u8]) -> Option<(Read, &[u8])>
-    ensures reads { cut_view result ≡ says (between 0 59 read.OffsetSecond) (taken (padded padding 2 2)) bytes.now }
-    ensures allowed { IfSome result (λ x. IsAllowed x.0) }
+fn offset_second<'a>(padding: Padding, bytes: &'a [u8], fields: &mut Record) -> Option<&'a [u8]>
+    requires within { IsWithin fields.old }
+    ensures reads { Sets result fields.old fields.new (says (between 0 59 read.OffsetSecond) (taken (padded padding 2 2)) bytes.now) }
+    ensures within { IsWithin fields.new }
 {
     let (n, rest) = padded_two(padding, bytes)?;
     if n > 59 {
         return None;
     }
-    Some((Read::OffsetSecond(n), rest))
+    fields.offset_second = Some(n as i8);
+    Some(rest)
 }
 
 #[inline(always)]
-fn hour_of_offset(padding: Padding, mandatory: bool, bytes: &[u8]) -> Option<(Read, &[u8])>
-    ensures reads { cut_view result ≡ says (up_to 25 (λ negative hour. read.OffsetHour hour negative)) (taken (offset_hour padding mandatory)) bytes.now }
-    ensures allowed { IfSome result (λ x. IsAllowed x.0) }
+fn hour_of_offset<'a>(padding: Padding, mandatory: bool, bytes: &'a [u8], fields: &mut Record) -> Option<&'a [u8]>
+    requires within { IsWithin fields.old }
+    ensures reads { Sets result fields.old fields.new (says (up_to 25 (λ negative hour. read.OffsetHour hour negative)) (taken (offset_hour padding mandatory)) bytes.now) }
+    ensures within { IsWithin fields.new }
 {
     let ((negative, n), rest) = offset_hour(padding, mandatory, bytes)?;
     if n > 25 {
         return None;
     }
     let n = n as i8;
-    Some((
-        Read::OffsetHour(if negative { -n } else { n }, negative),
-        rest,
-    ))
+    fields.offset_hour = Some(if negative { -n } else { n });
+    fields.offset_is_negative = negative;
+    Some(rest)
 }
 
-fn unix(mandatory: bool, most: usize, unit: u32, bytes: &[u8]) -> Option<(Read, &[u8])>
-    requires some { 1 ≤ most }
-    requires fits { most ≤ 23 }
-    requires small { unit ≤ 1_000_000_000 }
-    ensures reads { cut_view result ≡ says (since_epoch read.Unix unit) (taken (timestamp mandatory most)) bytes.now }
-    ensures allowed { IfSome result (λ x. IsAllowed x.0) }
+// The nanoseconds of so many units before or after 1970, if the calendar has them.
+fn nanoseconds(is_negative: bool, count: u128, unit: u32) -> Option<i128>
+    requires fits { count * unit < 2 ^ 128 }
+    ensures value { option_map read.Unix result ≡ since_epoch read.Unix unit (is_negative, count) }
+    ensures bound { InSigned (neg_ℤ (pos nanoseconds_before_epoch)) (pos nanoseconds_after_epoch) result }
 {
-    let ((negative, n), rest) = timestamp(mandatory, most, bytes)?;
-    let n = n * u128::from(unit);
-    let greatest = if negative {
+    let count = count * u128::from(unit);
+    let greatest = if is_negative {
         NANOSECONDS_BEFORE_EPOCH
     } else {
         NANOSECONDS_AFTER_EPOCH
     };
-    if n > greatest {
+    if count > greatest {
         return None;
     }
-    let n = n as i128;
-    Some((Read::Unix(if negative { -n } else { n }), rest))
+    let count = count as i128;
+    Some(if is_negative { -count } else { count })
+}
+
+#[tactic(auto, using(crate::proofs::Timestamps::product_fits))]
+fn unix<'a>(
+    mandatory: bool,
+    most: usize,
+    unit: u32,
+    bytes: &'a [u8],
+    fields: &mut Record,
+) -> Option<&'a [u8]>
+    requires some { 1 ≤ most }
+    requires fits { most ≤ 23 }
+    requires small { unit ≤ 1_000_000_000 }
+    requires within { IsWithin fields.old }
+    ensures reads { Sets result fields.old fields.new (says (since_epoch read.Unix unit) (taken (timestamp mandatory most)) bytes.now) }
+    ensures within { IsWithin fields.new }
+{
+    let ((is_negative, count), rest) = timestamp(mandatory, most, bytes)?;
+    fields.unix_timestamp_nanos = Some(nanoseconds(is_negative, count, unit)?);
+    Some(rest)
 }
 
 #[inline(always)]
 #[tactic(auto, unfolding(crate::specs::Component::ignored))]
-fn ignored(count: u16, bytes: &[u8]) -> Option<(Read, &[u8])>
-    ensures reads { cut_view result ≡ Components.ignored count bytes.now }
-    ensures allowed { IfSome result (λ x. IsAllowed x.0) }
+fn ignored(count: u16, bytes: &[u8]) -> Option<&[u8]>
+    ensures { option_map passed result ≡ Components.ignored count bytes.now }
 {
     let count = usize::from(count);
     if bytes.len() < count {
         return None;
     }
     let (_, rest) = bytes.split_at(count);
-    Some((Read::Nothing, rest))
+    Some(rest)
 }
 
 // So many bytes, behind which no character goes on.
-pub(crate) fn ignored_characters(count: u16, bytes: &[u8]) -> Option<(Read, &[u8])>
-    ensures reads { cut_view result ≡ Components.if_whole (Components.ignored count bytes.now) }
-    ensures allowed { IfSome result (λ x. IsAllowed x.0) }
+pub(crate) fn ignored_characters(count: u16, bytes: &[u8]) -> Option<&[u8]>
+    ensures { option_map passed result ≡ Components.if_whole (Components.ignored count bytes.now) }
 {
-    let (read, rest) = ignored(count, bytes)?;
+    let rest = ignored(count, bytes)?;
     match rest {
         [b, ..] if *b >= 0x80 && *b <= 0xbf => None,
-        _ => Some((read, rest)),
+        _ => Some(rest),
     }
 }
 
@@ -108,18 +129,19 @@ const NANOSECONDS_AFTER_EPOCH: u128 = 31_494_784_780_799_999_999_999;
 
 // The parts of an offset, timestamps, and what is passed over.
 #[tactic(auto, unfolding(crate::specs::Component::offset_piece))]
-pub(crate) fn offset_piece(component: Component, bytes: &[u8]) -> Option<(Read, &[u8])>
-    ensures reads { cut_view result ≡ Components.offset_piece component bytes.now }
-    ensures allowed { IfSome result (λ x. IsAllowed x.0) }
+pub(crate) fn offset_piece<'a>(component: Component, bytes: &'a [u8], fields: &mut Record) -> Option<&'a [u8]>
+    requires within { IsWithin fields.old }
+    ensures reads { Sets result fields.old fields.new (Components.offset_piece component bytes.now) }
+    ensures within { IsWithin fields.new }
 {
     match component {
-        Component::OffsetHour(m) => hour_of_offset(m.padding, m.sign_is_mandatory, bytes),
-        Component::OffsetMinute(m) => offset_minute(m.padding, bytes),
-        Component::OffsetSecond(m) => offset_second(m.padding, bytes),
-        Component::UnixTimestampSecond(m) => unix(m.sign_is_mandatory, 14, 1_000_000_000, bytes),
-        Component::UnixTimestampMillisecond(m) => unix(m.sign_is_mandatory, 17, 1_000_000, bytes),
-        Component::UnixTimestampMicrosecond(m) => unix(m.sign_is_mandatory, 20, 1_000, bytes),
-        Component::UnixTimestampNanosecond(m) => unix(m.sign_is_mandatory, 23, 1, bytes),
+        Component::OffsetHour(m) => hour_of_offset(m.padding, m.sign_is_mandatory, bytes, fields),
+        Component::OffsetMinute(m) => offset_minute(m.padding, bytes, fields),
+        Component::OffsetSecond(m) => offset_second(m.padding, bytes, fields),
+        Component::UnixTimestampSecond(m) => unix(m.sign_is_mandatory, 14, 1_000_000_000, bytes, fields),
+        Component::UnixTimestampMillisecond(m) => unix(m.sign_is_mandatory, 17, 1_000_000, bytes, fields),
+        Component::UnixTimestampMicrosecond(m) => unix(m.sign_is_mandatory, 20, 1_000, bytes, fields),
+        Component::UnixTimestampNanosecond(m) => unix(m.sign_is_mandatory, 23, 1, bytes, fields),
         Component::Ignore(m) => ignored(m.count, bytes),
         _ => None,
     }

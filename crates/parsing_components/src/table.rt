@@ -1,12 +1,15 @@
 //! What a component reads.
-ghost use Rattle.std.specs.Prelude.{◌≡◌, IfOk};
+ghost use Rattle.std.specs.Prelude.{◌≡◌};
 ghost use Rattle.parsing_pieces.specs.FaultOf.{Gives, reading_fault};
-ghost use Rattle.parsing_components.specs.Allowed.{IsAllowed};
+ghost use Rattle.parsing_components.specs.Record.{IsWithin};
+ghost use Rattle.parsing_components.specs.Put.{Reads, putting, passed};
+ghost use Rattle.parsing_pieces.specs.Fault as fault;
+ghost use Rattle.parsing_pieces.specs.Readings.{◌or◌};
 ghost use Rattle.parsing_components.specs.Component as Components;
 
 use crate::dates::date_piece;
 use crate::offsets::ignored_characters;
-use crate::read::Read;
+use crate::fields::Record;
 use description_items::Component;
 use description_items::modifier::TrailingInput;
 use parsing_pieces::ParseFromDescription;
@@ -56,59 +59,84 @@ fn component_name(component: Component) -> &'static str
     }
 }
 
+// The end of the bytes, or all that remains.
 #[inline(always)]
-fn at_end(trailing: TrailingInput, bytes: &[u8]) -> Result<(Read, &[u8]), ParseFromDescription>
-    ensures reads { Gives (λ x. (x.0, x.1.now)) reading_fault result (Components.at_end trailing bytes.now) }
-    ensures allowed { IfOk result (λ x. IsAllowed x.0) }
+fn at_end(trailing: TrailingInput, bytes: &[u8]) -> Result<&[u8], ParseFromDescription>
+    ensures { Gives passed reading_fault result (Components.at_end trailing bytes.now) }
 {
     match trailing {
-        TrailingInput::Discard => Ok((Read::Nothing, &[])),
-        TrailingInput::Prohibit if bytes.is_empty() => Ok((Read::Nothing, bytes)),
+        TrailingInput::Discard => Ok(&[]),
+        TrailingInput::Prohibit if bytes.is_empty() => Ok(bytes),
         TrailingInput::Prohibit => Err(ParseFromDescription::UnexpectedTrailingCharacters),
     }
 }
 
-// What a component of a newer form reads.
-#[tactic(auto, unfolding(crate::specs::Component::reads_modern))]
-fn read_modern(component: Component, bytes: &[u8]) -> Result<(Read, &[u8]), ParseFromDescription>
-    ensures reads { Gives (λ x. (x.0, x.1.now)) reading_fault result (Components.reads_modern component bytes.now) }
-    ensures allowed { IfOk result (λ x. IsAllowed x.0) }
+// What a component reads that is not the end.
+#[inline(always)]
+#[tactic(auto, using(crate::proofs::Settings::said, crate::proofs::Settings::unsaid))]
+fn read_piece<'a>(
+    component: Component,
+    bytes: &'a [u8],
+    fields: &mut Record,
+) -> Result<&'a [u8], ParseFromDescription>
+    requires within { IsWithin fields.old }
+    ensures reads { Reads result fields.old fields.new (putting (Components.date_piece component or fault.component (Components.component_name component)) fields.old bytes.now) }
+    ensures within { IsWithin fields.new }
 {
-    if let Component::End(end) = component {
-        return at_end(end.trailing_input, bytes);
-    }
-    match date_piece(component, bytes) {
-        Some(read) => Ok(read),
+    match date_piece(component, bytes, fields) {
+        Some(rest) => Ok(rest),
         None => Err(ParseFromDescription::InvalidComponent(component_name(component))),
     }
 }
 
-/// What the component says at the front of the bytes, and the bytes after it.
-#[tactic(auto, unfolding(crate::specs::Component::reads_component))]
-pub fn read_component(
+// What a component of a newer form reads.
+#[inline(always)]
+#[tactic(auto, unfolding(crate::specs::Component::reads_modern))]
+fn read_modern<'a>(
     component: Component,
-    bytes: &[u8],
-) -> Result<(Read, &[u8]), ParseFromDescription>
-    ensures reads { Gives (λ x. (x.0, x.1.now)) reading_fault result (Components.reads_component component bytes.now) }
-    ensures allowed { IfOk result (λ x. IsAllowed x.0) }
+    bytes: &'a [u8],
+    fields: &mut Record,
+) -> Result<&'a [u8], ParseFromDescription>
+    requires within { IsWithin fields.old }
+    ensures reads { Reads result fields.old fields.new (putting (Components.reads_modern component) fields.old bytes.now) }
+    ensures within { IsWithin fields.new }
 {
-    read_modern(component.modern(), bytes)
+    match component {
+        Component::End(end) => at_end(end.trailing_input, bytes),
+        other => read_piece(other, bytes, fields),
+    }
 }
 
-/// What the component says as version 3 reads: no character may go on behind ignored bytes.
-#[tactic(auto, unfolding(crate::specs::Component::reads_component_v3))]
-pub fn read_component_v3(
+/// Sets what the component says at the front of the bytes, and returns the bytes after it.
+#[tactic(auto, unfolding(crate::specs::Component::reads_component))]
+pub fn read_component<'a>(
     component: Component,
-    bytes: &[u8],
-) -> Result<(Read, &[u8]), ParseFromDescription>
-    ensures reads { Gives (λ x. (x.0, x.1.now)) reading_fault result (Components.reads_component_v3 component bytes.now) }
-    ensures allowed { IfOk result (λ x. IsAllowed x.0) }
+    bytes: &'a [u8],
+    fields: &mut Record,
+) -> Result<&'a [u8], ParseFromDescription>
+    requires within { IsWithin fields.old }
+    ensures reads { Reads result fields.old fields.new (putting (Components.reads_component component) fields.old bytes.now) }
+    ensures within { IsWithin fields.new }
+{
+    read_modern(component.modern(), bytes, fields)
+}
+
+/// Sets what the component says as version 3 reads: no character may go on behind ignored bytes.
+#[tactic(auto, unfolding(crate::specs::Component::reads_component_v3))]
+pub fn read_component_v3<'a>(
+    component: Component,
+    bytes: &'a [u8],
+    fields: &mut Record,
+) -> Result<&'a [u8], ParseFromDescription>
+    requires within { IsWithin fields.old }
+    ensures reads { Reads result fields.old fields.new (putting (Components.reads_component_v3 component) fields.old bytes.now) }
+    ensures within { IsWithin fields.new }
 {
     match component {
         Component::Ignore(ignore) => match ignored_characters(ignore.count, bytes) {
-            Some(read) => Ok(read),
+            Some(rest) => Ok(rest),
             None => Err(ParseFromDescription::InvalidComponent("ignore")),
         },
-        other => read_component(other, bytes),
+        other => read_component(other, bytes, fields),
     }
 }

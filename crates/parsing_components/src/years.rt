@@ -5,13 +5,14 @@ ghost use Rattle.parsing_shapes.specs.Shape.{taken, digits_between};
 ghost use Rattle.parsing_shapes.specs.Numbers.{padded, year, century, offset_hour, timestamp};
 ghost use Rattle.parsing_shapes.specs.Names.{named, period, short_months, long_months, short_weekdays, long_weekdays};
 ghost use Rattle.calendar_count.specs.Range.{greatest_year};
-ghost use Rattle.parsing_components.specs.Allowed.{IsAllowed};
+ghost use Rattle.parsing_components.specs.Record.{IsWithin};
+ghost use Rattle.parsing_components.specs.Put.{Sets};
 ghost use Rattle.parsing_components.specs.Ranged.{greatest_century, says, between, up_to, since_epoch, counted, months, from_sunday, from_monday};
 ghost use Rattle.parsing_components.specs.Ranged as Ranged;
 ghost use Rattle.parsing_components.specs.Component as Components;
-ghost use Rattle.parsing_components.specs.declared.read.Read.TheVariants as read;
+ghost use Rattle.parsing_components.specs.Read as read;
 
-use crate::read::Read;
+use crate::fields::Record;
 use crate::times::time_piece;
 use description_items::Component;
 use description_items::modifier::Padding;
@@ -27,144 +28,141 @@ fn under(negative: bool, n: u32) -> i32
 }
 
 #[inline(always)]
-fn full_year(
+fn full_year<'a>(
     padding: Padding,
     mandatory: bool,
     extended: bool,
-    bytes: &[u8],
-) -> Option<(Read, &[u8])>
-    ensures reads { cut_view result ≡ says (up_to greatest_year (λ negative y. read.Year y)) (taken (year padding mandatory extended)) bytes.now }
-    ensures allowed { IfSome result (λ x. IsAllowed x.0) }
+    bytes: &'a [u8], fields: &mut Record) -> Option<&'a [u8]>
+    requires within { IsWithin fields.old }
+    ensures reads { Sets result fields.old fields.new (says (up_to greatest_year (λ negative y. read.Year y)) (taken (year padding mandatory extended)) bytes.now) }
+    ensures within { IsWithin fields.new }
 {
     let ((negative, n), rest) = year(padding, mandatory, extended, bytes)?;
-    Some((Read::Year(under(negative, n)), rest))
+    fields.year = Some(under(negative, n));
+    Some(rest)
 }
 
 #[inline(always)]
-fn year_century(
+fn year_century<'a>(
     padding: Padding,
     mandatory: bool,
     extended: bool,
-    bytes: &[u8],
-) -> Option<(Read, &[u8])>
-    ensures reads { cut_view result ≡ says (up_to greatest_century (λ negative c. read.YearCentury c negative)) (taken (century padding mandatory extended)) bytes.now }
-    ensures allowed { IfSome result (λ x. IsAllowed x.0) }
+    bytes: &'a [u8], fields: &mut Record) -> Option<&'a [u8]>
+    requires within { IsWithin fields.old }
+    ensures reads { Sets result fields.old fields.new (says (up_to greatest_century (λ negative c. read.YearCentury c negative)) (taken (century padding mandatory extended)) bytes.now) }
+    ensures within { IsWithin fields.new }
 {
     let ((negative, n), rest) = century(padding, mandatory, extended, bytes)?;
     let n = n as i16;
-    Some((
-        Read::YearCentury(if negative { -n } else { n }, negative),
-        rest,
-    ))
+    fields.year_century = Some(if negative { -n } else { n });
+    fields.year_century_is_negative = negative;
+    Some(rest)
 }
 
 #[inline(always)]
-fn last_two(padding: Padding, bytes: &[u8]) -> Option<(Read, &[u8])>
-    ensures reads { cut_view result ≡ says (between 0 99 read.YearLastTwo) (taken (padded padding 2 2)) bytes.now }
-    ensures allowed { IfSome result (λ x. IsAllowed x.0) }
+fn last_two<'a>(padding: Padding, bytes: &'a [u8], fields: &mut Record) -> Option<&'a [u8]>
+    requires within { IsWithin fields.old }
+    ensures reads { Sets result fields.old fields.new (says (between 0 99 read.YearLastTwo) (taken (padded padding 2 2)) bytes.now) }
+    ensures within { IsWithin fields.new }
 {
     let (n, rest) = padded_two(padding, bytes)?;
-    Some((Read::YearLastTwo(n), rest))
+    fields.year_last_two = Some(n);
+    Some(rest)
 }
 
 #[inline(always)]
-fn iso_full_year(
+fn iso_full_year<'a>(
     padding: Padding,
     mandatory: bool,
     extended: bool,
-    bytes: &[u8],
-) -> Option<(Read, &[u8])>
-    ensures reads { cut_view result ≡ says (up_to greatest_year (λ negative y. read.IsoYear y)) (taken (year padding mandatory extended)) bytes.now }
-    ensures allowed { IfSome result (λ x. IsAllowed x.0) }
+    bytes: &'a [u8], fields: &mut Record) -> Option<&'a [u8]>
+    requires within { IsWithin fields.old }
+    ensures reads { Sets result fields.old fields.new (says (up_to greatest_year (λ negative y. read.IsoYear y)) (taken (year padding mandatory extended)) bytes.now) }
+    ensures within { IsWithin fields.new }
 {
     let ((negative, n), rest) = year(padding, mandatory, extended, bytes)?;
-    Some((Read::IsoYear(under(negative, n)), rest))
+    fields.iso_year = Some(under(negative, n));
+    Some(rest)
 }
 
 #[inline(always)]
-fn iso_year_century(
+fn iso_year_century<'a>(
     padding: Padding,
     mandatory: bool,
     extended: bool,
-    bytes: &[u8],
-) -> Option<(Read, &[u8])>
-    ensures reads { cut_view result ≡ says (up_to greatest_century (λ negative c. read.IsoYearCentury c negative)) (taken (century padding mandatory extended)) bytes.now }
-    ensures allowed { IfSome result (λ x. IsAllowed x.0) }
+    bytes: &'a [u8], fields: &mut Record) -> Option<&'a [u8]>
+    requires within { IsWithin fields.old }
+    ensures reads { Sets result fields.old fields.new (says (up_to greatest_century (λ negative c. read.IsoYearCentury c negative)) (taken (century padding mandatory extended)) bytes.now) }
+    ensures within { IsWithin fields.new }
 {
     let ((negative, n), rest) = century(padding, mandatory, extended, bytes)?;
     let n = n as i16;
-    Some((
-        Read::IsoYearCentury(if negative { -n } else { n }, negative),
-        rest,
-    ))
+    fields.iso_year_century = Some(if negative { -n } else { n });
+    fields.iso_year_century_is_negative = negative;
+    Some(rest)
 }
 
 #[inline(always)]
-fn iso_last_two(padding: Padding, bytes: &[u8]) -> Option<(Read, &[u8])>
-    ensures reads { cut_view result ≡ says (between 0 99 read.IsoYearLastTwo) (taken (padded padding 2 2)) bytes.now }
-    ensures allowed { IfSome result (λ x. IsAllowed x.0) }
+fn iso_last_two<'a>(padding: Padding, bytes: &'a [u8], fields: &mut Record) -> Option<&'a [u8]>
+    requires within { IsWithin fields.old }
+    ensures reads { Sets result fields.old fields.new (says (between 0 99 read.IsoYearLastTwo) (taken (padded padding 2 2)) bytes.now) }
+    ensures within { IsWithin fields.new }
 {
     let (n, rest) = padded_two(padding, bytes)?;
-    Some((Read::IsoYearLastTwo(n), rest))
+    fields.iso_year_last_two = Some(n);
+    Some(rest)
 }
 
 // Years.
 #[tactic(auto, unfolding(crate::specs::Component::year_piece))]
-pub(crate) fn year_piece(component: Component, bytes: &[u8]) -> Option<(Read, &[u8])>
-    ensures reads { cut_view result ≡ Components.year_piece component bytes.now }
-    ensures allowed { IfSome result (λ x. IsAllowed x.0) }
+pub(crate) fn year_piece<'a>(component: Component, bytes: &'a [u8], fields: &mut Record) -> Option<&'a [u8]>
+    requires within { IsWithin fields.old }
+    ensures reads { Sets result fields.old fields.new (Components.year_piece component bytes.now) }
+    ensures within { IsWithin fields.new }
 {
     match component {
         Component::CalendarYearFullExtendedRange(m) => full_year(
             m.padding,
             m.sign_is_mandatory,
             true,
-            bytes,
-        ),
+            bytes, fields),
         Component::CalendarYearFullStandardRange(m) => full_year(
             m.padding,
             m.sign_is_mandatory,
             false,
-            bytes,
-        ),
+            bytes, fields),
         Component::CalendarYearCenturyExtendedRange(m) => year_century(
             m.padding,
             m.sign_is_mandatory,
             true,
-            bytes,
-        ),
+            bytes, fields),
         Component::CalendarYearCenturyStandardRange(m) => year_century(
             m.padding,
             m.sign_is_mandatory,
             false,
-            bytes,
-        ),
-        Component::CalendarYearLastTwo(m) => last_two(m.padding, bytes),
+            bytes, fields),
+        Component::CalendarYearLastTwo(m) => last_two(m.padding, bytes, fields),
         Component::IsoYearFullExtendedRange(m) => iso_full_year(
             m.padding,
             m.sign_is_mandatory,
             true,
-            bytes,
-        ),
+            bytes, fields),
         Component::IsoYearFullStandardRange(m) => iso_full_year(
             m.padding,
             m.sign_is_mandatory,
             false,
-            bytes,
-        ),
+            bytes, fields),
         Component::IsoYearCenturyExtendedRange(m) => iso_year_century(
             m.padding,
             m.sign_is_mandatory,
             true,
-            bytes,
-        ),
+            bytes, fields),
         Component::IsoYearCenturyStandardRange(m) => iso_year_century(
             m.padding,
             m.sign_is_mandatory,
             false,
-            bytes,
-        ),
-        Component::IsoYearLastTwo(m) => iso_last_two(m.padding, bytes),
-        other => time_piece(other, bytes),
+            bytes, fields),
+        Component::IsoYearLastTwo(m) => iso_last_two(m.padding, bytes, fields),
+        other => time_piece(other, bytes, fields),
     }
 }

@@ -1,6 +1,5 @@
 pub mod Record
 pub mod Parts
-pub mod Put
 pub mod Meaning
 pub mod Reads
 pub mod Tally

@@ -5,14 +5,9 @@ use Rattle.parsing_pieces.specs.Fault.{Fault, literal}
 use Rattle.parsing_pieces.specs.FaultOf.{reading_fault}
 use Rattle.parsing_pieces.specs.Readings.{Reading, then_read}
 use Rattle.parsing_pieces.specs.declared.fault.ParseFromDescription.{ParseFromDescription}
-use Rattle.parsing_record.specs.Record.{Record}
+use Rattle.parsing_components.specs.declared.fields.Record.{Record}
 
--- a record and the rest, or a fault
-abbrev pub Answer : Type 0
-Answer = Result (Record × List ℕ) Fault
-
-abbrev pub Meaning : Type 0
-Meaning = Record → Reading Record
+pub use Rattle.parsing_components.specs.Put.{Answer, Meaning, Reads}
 
 -- the same, with the number of items that were begun
 abbrev pub Counted : Type 0
@@ -84,8 +79,3 @@ first_of (c ∷ cs) r bytes = or_found (c r bytes).0 (c r bytes).1 (first_succes
 abbrev pub Answers : Result (Bor (List ℕ)) ParseFromDescription → Record → Answer → Type 0
 Answers (Ok rest) new read = read ≡ Ok (new, rest.now)
 Answers (Err e) new read = read ≡ Err (reading_fault e)
-
--- the same, and a refusal changes nothing
-abbrev pub Reads : Result (Bor (List ℕ)) ParseFromDescription → Record → Record → Answer → Type 0
-Reads (Ok rest) old new read = read ≡ Ok (new, rest.now)
-Reads (Err e) old new read = (read ≡ Err (reading_fault e)) × (new ≡ old)

@@ -21,7 +21,3 @@ offset_parts r = record { hour = r.offset_hour; minute = under_sign r.offset_is_
 
 abbrev pub moment_parts : Record → MomentParts
 moment_parts r = record { date = date_parts r; time = time_parts r; leap_second_is_permitted = r.leap_second_is_permitted; unix_nanoseconds = r.unix_timestamp_nanos }
-
--- the record of these parts, with an offset's hours, minutes and seconds as they were set
-abbrev pub recorded : MomentParts → Option ℤ → Option ℤ → Option ℤ → Bool → Record
-recorded p hour minute second is_negative = record { year = p.date.year.year; year_century = p.date.year.century; year_century_is_negative = p.date.year.century_is_negative; year_last_two = p.date.year.last_two; iso_year = p.date.iso_year.year; iso_year_century = p.date.iso_year.century; iso_year_century_is_negative = p.date.iso_year.century_is_negative; iso_year_last_two = p.date.iso_year.last_two; month = p.date.month; sunday_week_number = p.date.sunday_week; monday_week_number = p.date.monday_week; iso_week_number = p.date.iso_week; weekday = p.date.weekday; ordinal = p.date.ordinal; day = p.date.day; hour_24 = p.time.hour_24; hour_12 = p.time.hour_12; hour_12_is_pm = p.time.hour_12_is_pm; minute = p.time.minute; second = p.time.second; subsecond = p.time.subsecond; offset_hour = hour; offset_minute = minute; offset_second = second; unix_timestamp_nanos = p.unix_nanoseconds; offset_is_negative = is_negative; leap_second_is_permitted = p.leap_second_is_permitted }

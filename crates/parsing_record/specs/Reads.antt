@@ -3,14 +3,12 @@ use Rattle.std.specs.Prelude.{ℕ, List, [], ◌∷◌}
 use Rattle.description_items.specs.declared.component.Component.{Component}
 use Rattle.description_items.specs.Tree.{Tree, Trees, Literal, Part, Compound, Optional, First, none, also}
 use Rattle.parsing_pieces.specs.Readings.{Reading, then_read, give}
-use Rattle.parsing_components.specs.declared.read.Read.{Read}
+use Rattle.parsing_components.specs.Read.{Read}
 use Rattle.parsing_record.specs.Record.{Record}
-use Rattle.parsing_record.specs.Put.{put}
+use Rattle.parsing_components.specs.Put.{put}
 use Rattle.parsing_record.specs.Meaning.{Meaning, Counted, meaning, alone, more, literally, unchanged, all_of, optionally, first_of}
 
--- what a component says, put into the record
-abbrev pub putting : Reading Read → Meaning
-putting reading r bytes = then_read (reading bytes) (λ said. give (put said r))
+pub use Rattle.parsing_components.specs.Put.{putting}
 
 -- what a component reads in the versions before 3 and in strftime, and in version 3
 abbrev pub Language : Type 0

@@ -9,7 +9,7 @@ use Rattle.parsing_pieces.specs.ShortName.{HasShortName}
 use Rattle.parsing_pieces.specs.Readings.{then_read}
 use Rattle.parsing_components.specs.Tame.{EndsWith, Tame, IsTame}
 use Rattle.parsing_record.specs.Record.{Record}
-use Rattle.parsing_record.specs.Put.{put}
+use Rattle.parsing_components.specs.Put.{put}
 use Rattle.parsing_record.specs.Meaning.{Answer, Meaning, Counted, meaning, literally, then_counted, all_of, or_unchanged, optionally, or_next, first_success, found_or, or_found, first_of}
 use Rattle.parsing_record.specs.Reads.{Language, reads, each_reads}
 

@@ -13,7 +13,7 @@ impl Parsed {
         ensures value { result ≡ self.now.hour_24 }
         ensures bound { InRange 0 23 result }
     {
-        self.parts.time.hour_24
+        self.fields.hour_24
     }
 
     /// Sets the hour of the day, if it is in its range.
@@ -23,7 +23,7 @@ impl Parsed {
         if value > 23 {
             return None;
         }
-        self.parts.time.hour_24 = Some(value);
+        self.fields.hour_24 = Some(value);
         Some(())
     }
 
@@ -40,7 +40,7 @@ impl Parsed {
         ensures value { result ≡ self.now.hour_12 }
         ensures bound { InRange 1 12 result }
     {
-        self.parts.time.hour_12
+        self.fields.hour_12
     }
 
     /// Sets the hour of a half day, if it is in its range.
@@ -50,7 +50,7 @@ impl Parsed {
         if value < 1 || value > 12 {
             return None;
         }
-        self.parts.time.hour_12 = Some(value);
+        self.fields.hour_12 = Some(value);
         Some(())
     }
 
@@ -66,7 +66,7 @@ impl Parsed {
     pub fn hour_12_is_pm(&self) -> Option<bool>
         ensures value { result ≡ self.now.hour_12_is_pm }
     {
-        self.parts.time.hour_12_is_pm
+        self.fields.hour_12_is_pm
     }
 
     /// Sets whether it is the later half of the day.
@@ -74,7 +74,7 @@ impl Parsed {
         ensures always { result ≡ Some tt }
         ensures set { self.new ≡ record self.old { hour_12_is_pm = Some value } }
     {
-        self.parts.time.hour_12_is_pm = Some(value);
+        self.fields.hour_12_is_pm = Some(value);
         Some(())
     }
 
@@ -91,7 +91,7 @@ impl Parsed {
         ensures value { result ≡ self.now.minute }
         ensures bound { InRange 0 59 result }
     {
-        self.parts.time.minute
+        self.fields.minute
     }
 
     /// Sets the minute, if it is in its range.
@@ -101,7 +101,7 @@ impl Parsed {
         if value > 59 {
             return None;
         }
-        self.parts.time.minute = Some(value);
+        self.fields.minute = Some(value);
         Some(())
     }
 
@@ -118,7 +118,7 @@ impl Parsed {
         ensures value { result ≡ self.now.second }
         ensures bound { InRange 0 60 result }
     {
-        self.parts.time.second
+        self.fields.second
     }
 
     /// Sets the second, if it is in its range.
@@ -128,7 +128,7 @@ impl Parsed {
         if value > 60 {
             return None;
         }
-        self.parts.time.second = Some(value);
+        self.fields.second = Some(value);
         Some(())
     }
 
@@ -145,7 +145,7 @@ impl Parsed {
         ensures value { result ≡ self.now.subsecond }
         ensures bound { InRange 0 999_999_999 result }
     {
-        self.parts.time.subsecond
+        self.fields.subsecond
     }
 
     /// Sets the fraction of the second, in nanoseconds, if it is in its range.
@@ -155,7 +155,7 @@ impl Parsed {
         if value > 999_999_999 {
             return None;
         }
-        self.parts.time.subsecond = Some(value);
+        self.fields.subsecond = Some(value);
         Some(())
     }
 

@@ -9,19 +9,75 @@ ghost use Rattle.std.specs.Prelude.{◌≡◌, false};
 use crate::parsed::Parsed;
 use calendar::{Date, Time, UtcOffset};
 use datetime_types::{OffsetDateTime, PlainDateTime, Timestamp, UtcDateTime};
-use parsing_moments::OffsetParts;
+use parsing_dates::{DateParts, YearParts};
+use parsing_moments::{MomentParts, OffsetParts, TimeParts};
 use parsing_pieces::TryFromParsed;
 
 impl Parsed {
+    #[inline(always)]
+    fn date_parts(&self) -> DateParts
+        ensures { result ≡ date_parts self.now }
+    {
+        let fields = &self.fields;
+        DateParts {
+            year: YearParts {
+                year: fields.year,
+                century: fields.year_century,
+                century_is_negative: fields.year_century_is_negative,
+                last_two: fields.year_last_two,
+            },
+            iso_year: YearParts {
+                year: fields.iso_year,
+                century: fields.iso_year_century,
+                century_is_negative: fields.iso_year_century_is_negative,
+                last_two: fields.iso_year_last_two,
+            },
+            ordinal: fields.ordinal,
+            month: fields.month,
+            day: fields.day,
+            weekday: fields.weekday,
+            iso_week: fields.iso_week_number,
+            sunday_week: fields.sunday_week_number,
+            monday_week: fields.monday_week_number,
+        }
+    }
+
+    #[inline(always)]
+    fn time_parts(&self) -> TimeParts
+        ensures { result ≡ time_parts self.now }
+    {
+        let fields = &self.fields;
+        TimeParts {
+            hour_24: fields.hour_24,
+            hour_12: fields.hour_12,
+            hour_12_is_pm: fields.hour_12_is_pm,
+            minute: fields.minute,
+            second: fields.second,
+            subsecond: fields.subsecond,
+        }
+    }
+
     // The parts of the offset under their signs.
     #[inline(always)]
     fn offset_parts(&self) -> OffsetParts
         ensures { result ≡ offset_parts self.now }
     {
         OffsetParts {
-            hour: self.offset_hour,
+            hour: self.fields.offset_hour,
             minute: self.offset_minute_signed(),
             second: self.offset_second_signed(),
+        }
+    }
+
+    #[inline(always)]
+    fn moment_parts(&self) -> MomentParts
+        ensures { result ≡ moment_parts self.now }
+    {
+        MomentParts {
+            date: self.date_parts(),
+            time: self.time_parts(),
+            leap_second_is_permitted: self.fields.leap_second_is_permitted,
+            unix_nanoseconds: self.fields.unix_timestamp_nanos,
         }
     }
 }
@@ -33,7 +89,7 @@ impl TryFrom<Parsed> for Date {
 
     #[inline(always)]
     fn try_from(parsed: Parsed) -> Result<Date, TryFromParsed> {
-        parsing_dates::date(&parsed.parts.date)
+        parsing_dates::date(&parsed.date_parts())
     }
 }
 
@@ -44,7 +100,7 @@ impl TryFrom<Parsed> for Time {
 
     #[inline(always)]
     fn try_from(parsed: Parsed) -> Result<Time, TryFromParsed> {
-        parsing_moments::time(false, &parsed.parts.time)
+        parsing_moments::time(false, &parsed.time_parts())
     }
 }
 
@@ -66,7 +122,7 @@ impl TryFrom<Parsed> for PlainDateTime {
 
     #[inline(always)]
     fn try_from(parsed: Parsed) -> Result<PlainDateTime, TryFromParsed> {
-        parsing_moments::plain_date_time(false, &parsed.parts.date, &parsed.parts.time)
+        parsing_moments::plain_date_time(false, &parsed.date_parts(), &parsed.time_parts())
     }
 }
 
@@ -77,7 +133,7 @@ impl TryFrom<Parsed> for OffsetDateTime {
 
     #[inline(always)]
     fn try_from(parsed: Parsed) -> Result<OffsetDateTime, TryFromParsed> {
-        parsing_moments::offset_date_time(&parsed.parts, &parsed.offset_parts())
+        parsing_moments::offset_date_time(&parsed.moment_parts(), &parsed.offset_parts())
     }
 }
 
@@ -88,7 +144,7 @@ impl TryFrom<Parsed> for UtcDateTime {
 
     #[inline(always)]
     fn try_from(parsed: Parsed) -> Result<UtcDateTime, TryFromParsed> {
-        parsing_moments::utc_date_time(&parsed.parts, &parsed.offset_parts())
+        parsing_moments::utc_date_time(&parsed.moment_parts(), &parsed.offset_parts())
     }
 }
 
@@ -99,6 +155,6 @@ impl TryFrom<Parsed> for Timestamp {
 
     #[inline(always)]
     fn try_from(parsed: Parsed) -> Result<Timestamp, TryFromParsed> {
-        parsing_moments::timestamp(&parsed.parts, &parsed.offset_parts())
+        parsing_moments::timestamp(&parsed.moment_parts(), &parsed.offset_parts())
     }
 }

@@ -13,7 +13,7 @@ impl Parsed {
     pub fn month(&self) -> Option<Month>
         ensures value { result ≡ self.now.month }
     {
-        self.parts.date.month
+        self.fields.month
     }
 
     /// Sets the month.
@@ -21,7 +21,7 @@ impl Parsed {
         ensures always { result ≡ Some tt }
         ensures set { self.new ≡ record self.old { month = Some value } }
     {
-        self.parts.date.month = Some(value);
+        self.fields.month = Some(value);
         Some(())
     }
 
@@ -38,7 +38,7 @@ impl Parsed {
         ensures value { result ≡ self.now.sunday_week_number }
         ensures bound { InRange 0 53 result }
     {
-        self.parts.date.sunday_week
+        self.fields.sunday_week_number
     }
 
     /// Sets the week, counted from the year's first Sunday, if it is in its range.
@@ -48,7 +48,7 @@ impl Parsed {
         if value > 53 {
             return None;
         }
-        self.parts.date.sunday_week = Some(value);
+        self.fields.sunday_week_number = Some(value);
         Some(())
     }
 
@@ -65,7 +65,7 @@ impl Parsed {
         ensures value { result ≡ self.now.monday_week_number }
         ensures bound { InRange 0 53 result }
     {
-        self.parts.date.monday_week
+        self.fields.monday_week_number
     }
 
     /// Sets the week, counted from the year's first Monday, if it is in its range.
@@ -75,7 +75,7 @@ impl Parsed {
         if value > 53 {
             return None;
         }
-        self.parts.date.monday_week = Some(value);
+        self.fields.monday_week_number = Some(value);
         Some(())
     }
 
@@ -92,7 +92,7 @@ impl Parsed {
         ensures value { result ≡ self.now.iso_week_number }
         ensures bound { InRange 1 53 result }
     {
-        self.parts.date.iso_week
+        self.fields.iso_week_number
     }
 
     /// Sets the week of ISO 8601, if it is in its range.
@@ -102,7 +102,7 @@ impl Parsed {
         if value < 1 || value > 53 {
             return None;
         }
-        self.parts.date.iso_week = Some(value);
+        self.fields.iso_week_number = Some(value);
         Some(())
     }
 
@@ -118,7 +118,7 @@ impl Parsed {
     pub fn weekday(&self) -> Option<Weekday>
         ensures value { result ≡ self.now.weekday }
     {
-        self.parts.date.weekday
+        self.fields.weekday
     }
 
     /// Sets the weekday.
@@ -126,7 +126,7 @@ impl Parsed {
         ensures always { result ≡ Some tt }
         ensures set { self.new ≡ record self.old { weekday = Some value } }
     {
-        self.parts.date.weekday = Some(value);
+        self.fields.weekday = Some(value);
         Some(())
     }
 
@@ -143,7 +143,7 @@ impl Parsed {
         ensures value { result ≡ self.now.ordinal }
         ensures bound { InRange 1 366 result }
     {
-        self.parts.date.ordinal
+        self.fields.ordinal
     }
 
     /// Sets the day of the year, if it is in its range.
@@ -153,7 +153,7 @@ impl Parsed {
         if value < 1 || value > 366 {
             return None;
         }
-        self.parts.date.ordinal = Some(value);
+        self.fields.ordinal = Some(value);
         Some(())
     }
 
@@ -170,7 +170,7 @@ impl Parsed {
         ensures value { result ≡ self.now.day }
         ensures bound { InRange 1 31 result }
     {
-        self.parts.date.day
+        self.fields.day
     }
 
     /// Sets the day of the month, if it is in its range.
@@ -180,7 +180,7 @@ impl Parsed {
         if value < 1 || value > 31 {
             return None;
         }
-        self.parts.date.day = Some(value);
+        self.fields.day = Some(value);
         Some(())
     }
 

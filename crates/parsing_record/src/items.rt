@@ -37,9 +37,7 @@ impl Parsed {
     ) -> Result<&'a [u8], ParseFromDescription>
         ensures { Reads result self.old self.new (putting (reads_component component) self.old input.now) }
     {
-        let (read, rest) = read_component(component, input)?;
-        self.put(read);
-        Ok(rest)
+        read_component(component, input, &mut self.fields)
     }
 
     /// Reads the component at the front of the bytes as a description of version 3 does, and returns the bytes after it.
@@ -53,9 +51,7 @@ impl Parsed {
     ) -> Result<&'a [u8], ParseFromDescription>
         ensures { Reads result self.old self.new (putting (reads_component_v3 component) self.old input.now) }
     {
-        let (read, rest) = read_component_v3(component, input)?;
-        self.put(read);
-        Ok(rest)
+        read_component_v3(component, input, &mut self.fields)
     }
 
     /// Reads by the item at the front of the bytes into the record, and returns the bytes after what was read.

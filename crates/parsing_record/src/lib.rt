@@ -7,7 +7,6 @@ mod days;
 mod items;
 mod offset;
 mod parsed;
-mod put;
 mod tally;
 mod years;
 

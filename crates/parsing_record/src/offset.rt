@@ -22,7 +22,7 @@ impl Parsed {
         ensures value { result ≡ self.now.offset_hour }
         ensures bound { Reaches 25 result }
     {
-        self.offset_hour
+        self.fields.offset_hour
     }
 
     /// Sets the hours of the offset, if it is in its range.
@@ -32,7 +32,7 @@ impl Parsed {
         if value < -25 || value > 25 {
             return None;
         }
-        self.offset_hour = Some(value);
+        self.fields.offset_hour = Some(value);
         Some(())
     }
 
@@ -49,7 +49,7 @@ impl Parsed {
         ensures value { result ≡ option_map unsigned_abs self.now.offset_minute }
         ensures bound { InRange 0 59 result }
     {
-        Some(self.offset_minute?.unsigned_abs())
+        Some(self.fields.offset_minute?.unsigned_abs())
     }
 
     /// The minutes of the offset under their sign: what was set, negated behind an hour that was read with a minus.
@@ -57,8 +57,8 @@ impl Parsed {
         ensures value { result ≡ under_sign self.now.offset_is_negative self.now.offset_minute }
         ensures bound { Reaches 59 result }
     {
-        let value = self.offset_minute?;
-        Some(if self.offset_is_negative {
+        let value = self.fields.offset_minute?;
+        Some(if self.fields.offset_is_negative {
             -value
         } else {
             value
@@ -72,7 +72,7 @@ impl Parsed {
         if value > 59 {
             return None;
         }
-        self.offset_minute = Some(value as i8);
+        self.fields.offset_minute = Some(value as i8);
         Some(())
     }
 
@@ -91,7 +91,7 @@ impl Parsed {
         if value < -59 || value > 59 {
             return None;
         }
-        self.offset_minute = Some(value);
+        self.fields.offset_minute = Some(value);
         Some(())
     }
 
@@ -108,7 +108,7 @@ impl Parsed {
         ensures value { result ≡ option_map unsigned_abs self.now.offset_second }
         ensures bound { InRange 0 59 result }
     {
-        Some(self.offset_second?.unsigned_abs())
+        Some(self.fields.offset_second?.unsigned_abs())
     }
 
     /// The seconds of the offset under their sign: what was set, negated behind an hour that was read with a minus.
@@ -116,8 +116,8 @@ impl Parsed {
         ensures value { result ≡ under_sign self.now.offset_is_negative self.now.offset_second }
         ensures bound { Reaches 59 result }
     {
-        let value = self.offset_second?;
-        Some(if self.offset_is_negative {
+        let value = self.fields.offset_second?;
+        Some(if self.fields.offset_is_negative {
             -value
         } else {
             value
@@ -131,7 +131,7 @@ impl Parsed {
         if value > 59 {
             return None;
         }
-        self.offset_second = Some(value as i8);
+        self.fields.offset_second = Some(value as i8);
         Some(())
     }
 
@@ -150,7 +150,7 @@ impl Parsed {
         if value < -59 || value > 59 {
             return None;
         }
-        self.offset_second = Some(value);
+        self.fields.offset_second = Some(value);
         Some(())
     }
 
@@ -167,7 +167,7 @@ impl Parsed {
         ensures value { result ≡ self.now.unix_timestamp_nanos }
         ensures bound { InSigned (neg_ℤ (pos nanoseconds_before_epoch)) (pos nanoseconds_after_epoch) result }
     {
-        self.parts.unix_nanoseconds
+        self.fields.unix_timestamp_nanos
     }
 
     /// Sets the nanoseconds since 1970 began in UTC, if it is in its range.
@@ -177,7 +177,7 @@ impl Parsed {
         if value < LEAST_NANOSECONDS || value > GREATEST_NANOSECONDS {
             return None;
         }
-        self.parts.unix_nanoseconds = Some(value);
+        self.fields.unix_timestamp_nanos = Some(value);
         Some(())
     }
 

@@ -16,7 +16,7 @@ impl Parsed {
         ensures value { result ≡ self.now.year }
         ensures bound { Reaches greatest_year result }
     {
-        self.parts.date.year.year
+        self.fields.year
     }
 
     /// Sets the year, if it is in its range.
@@ -26,7 +26,7 @@ impl Parsed {
         if value < -GREATEST_YEAR || value > GREATEST_YEAR {
             return None;
         }
-        self.parts.date.year.year = Some(value);
+        self.fields.year = Some(value);
         Some(())
     }
 
@@ -43,15 +43,15 @@ impl Parsed {
         ensures value { result ≡ self.now.year_century }
         ensures bound { Reaches greatest_century result }
     {
-        self.parts.date.year.century
+        self.fields.year_century
     }
 
     /// Whether the century is behind a minus, which -0 has too.
     pub fn year_century_is_negative(&self) -> Option<bool>
         ensures { result ≡ option_map (λ _. self.now.year_century_is_negative) self.now.year_century }
     {
-        self.parts.date.year.century?;
-        Some(self.parts.date.year.century_is_negative)
+        self.fields.year_century?;
+        Some(self.fields.year_century_is_negative)
     }
 
     /// Sets the century, if it is in its range, with its sign, which is said for 0 alone.
@@ -61,8 +61,8 @@ impl Parsed {
         if value < -GREATEST_CENTURY || value > GREATEST_CENTURY {
             return None;
         }
-        self.parts.date.year.century = Some(value);
-        self.parts.date.year.century_is_negative = if value == 0 { is_negative } else { value < 0 };
+        self.fields.year_century = Some(value);
+        self.fields.year_century_is_negative = if value == 0 { is_negative } else { value < 0 };
         Some(())
     }
 
@@ -79,7 +79,7 @@ impl Parsed {
         ensures value { result ≡ self.now.year_last_two }
         ensures bound { InRange 0 99 result }
     {
-        self.parts.date.year.last_two
+        self.fields.year_last_two
     }
 
     /// Sets the last two digits of the year, if it is in its range.
@@ -89,7 +89,7 @@ impl Parsed {
         if value > 99 {
             return None;
         }
-        self.parts.date.year.last_two = Some(value);
+        self.fields.year_last_two = Some(value);
         Some(())
     }
 
@@ -106,7 +106,7 @@ impl Parsed {
         ensures value { result ≡ self.now.iso_year }
         ensures bound { Reaches greatest_year result }
     {
-        self.parts.date.iso_year.year
+        self.fields.iso_year
     }
 
     /// Sets the year of ISO 8601, to which its weeks belong, if it is in its range.
@@ -116,7 +116,7 @@ impl Parsed {
         if value < -GREATEST_YEAR || value > GREATEST_YEAR {
             return None;
         }
-        self.parts.date.iso_year.year = Some(value);
+        self.fields.iso_year = Some(value);
         Some(())
     }
 
@@ -133,15 +133,15 @@ impl Parsed {
         ensures value { result ≡ self.now.iso_year_century }
         ensures bound { Reaches greatest_century result }
     {
-        self.parts.date.iso_year.century
+        self.fields.iso_year_century
     }
 
     /// Whether the century of that year is behind a minus, which -0 has too.
     pub fn iso_year_century_is_negative(&self) -> Option<bool>
         ensures { result ≡ option_map (λ _. self.now.iso_year_century_is_negative) self.now.iso_year_century }
     {
-        self.parts.date.iso_year.century?;
-        Some(self.parts.date.iso_year.century_is_negative)
+        self.fields.iso_year_century?;
+        Some(self.fields.iso_year_century_is_negative)
     }
 
     /// Sets the century of that year, if it is in its range, with its sign, which is said for 0 alone.
@@ -151,8 +151,8 @@ impl Parsed {
         if value < -GREATEST_CENTURY || value > GREATEST_CENTURY {
             return None;
         }
-        self.parts.date.iso_year.century = Some(value);
-        self.parts.date.iso_year.century_is_negative = if value == 0 {
+        self.fields.iso_year_century = Some(value);
+        self.fields.iso_year_century_is_negative = if value == 0 {
             is_negative
         } else {
             value < 0
@@ -173,7 +173,7 @@ impl Parsed {
         ensures value { result ≡ self.now.iso_year_last_two }
         ensures bound { InRange 0 99 result }
     {
-        self.parts.date.iso_year.last_two
+        self.fields.iso_year_last_two
     }
 
     /// Sets the last two digits of that year, if it is in its range.
@@ -183,7 +183,7 @@ impl Parsed {
         if value > 99 {
             return None;
         }
-        self.parts.date.iso_year.last_two = Some(value);
+        self.fields.iso_year_last_two = Some(value);
         Some(())
     }
 

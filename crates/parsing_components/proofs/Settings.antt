@@ -1,0 +1,15 @@
+-- What a piece sets is what its reading puts into the record.
+use Rattle.std.proofs.Common.{◌≡◌, ℕ, List, Option, Some, None, Ok, Err, refl}
+use Rattle.parsing_pieces.specs.Fault.{Fault}
+use Rattle.parsing_pieces.specs.Readings.{piece_or, then_read, give}
+use Rattle.parsing_components.specs.Read.{Read}
+use Rattle.parsing_components.specs.declared.fields.Record.{Record}
+use Rattle.parsing_components.specs.Put.{put, set_by}
+
+pub said : (f : Fault) (o : Option (Read × List ℕ)) (old new : Record) (rest : List ℕ) → set_by o old ≡ Some (new, rest) → then_read (piece_or f o) (λ s. give (put s old)) ≡ Ok (new, rest)
+said f None old new rest e = absurd cc
+said f (Some x) old new rest e = cc
+
+pub unsaid : (f : Fault) (o : Option (Read × List ℕ)) (old : Record) → o ≡ None → then_read (piece_or f o) (λ s. give (put s old)) ≡ Err f
+unsaid f None old e = refl
+unsaid f (Some x) old e = absurd cc

@@ -1,0 +1,38 @@
+-- The range of each field of a record.
+use Rattle.std.specs.Prelude.{ℕ, ◌≤◌, ℤ, pos, neg_ℤ, ◌≤ℤ◌, Option, IfSome}
+use Rattle.calendar_count.specs.Range.{greatest_year}
+use Rattle.parsing_components.specs.Ranged.{greatest_century, nanoseconds_before_epoch, nanoseconds_after_epoch}
+use Rattle.parsing_components.specs.declared.fields.Record.{Record}
+
+abbrev pub InRange : ℕ → ℕ → Option ℕ → Type 0
+InRange low high o = IfSome o (λ v. (low ≤ v) × (v ≤ high))
+
+abbrev pub InSigned : ℤ → ℤ → Option ℤ → Type 0
+InSigned low high o = IfSome o (λ v. (low ≤ℤ v) × (v ≤ℤ high))
+
+-- at most so far from 0
+abbrev pub Reaches : ℕ → Option ℤ → Type 0
+Reaches n o = InSigned (neg_ℤ (pos n)) (pos n) o
+
+-- each field that is there is in its range
+pub record IsWithin (r : Record) : Type 0 where
+  pub year : Reaches greatest_year r.year
+  pub year_century : Reaches greatest_century r.year_century
+  pub year_last_two : InRange 0 99 r.year_last_two
+  pub iso_year : Reaches greatest_year r.iso_year
+  pub iso_year_century : Reaches greatest_century r.iso_year_century
+  pub iso_year_last_two : InRange 0 99 r.iso_year_last_two
+  pub sunday_week_number : InRange 0 53 r.sunday_week_number
+  pub monday_week_number : InRange 0 53 r.monday_week_number
+  pub iso_week_number : InRange 1 53 r.iso_week_number
+  pub ordinal : InRange 1 366 r.ordinal
+  pub day : InRange 1 31 r.day
+  pub hour_24 : InRange 0 23 r.hour_24
+  pub hour_12 : InRange 1 12 r.hour_12
+  pub minute : InRange 0 59 r.minute
+  pub second : InRange 0 60 r.second
+  pub subsecond : InRange 0 999_999_999 r.subsecond
+  pub offset_hour : Reaches 25 r.offset_hour
+  pub offset_minute : Reaches 59 r.offset_minute
+  pub offset_second : Reaches 59 r.offset_second
+  pub unix_timestamp_nanos : InSigned (neg_ℤ (pos nanoseconds_before_epoch)) (pos nanoseconds_after_epoch) r.unix_timestamp_nanos
