@@ -57,6 +57,11 @@ abbrev pub Sets : Option (Bor (List ℕ)) → Record → Record → Option (Read
 Sets None old new said = (said ≡ None) × (new ≡ old)
 Sets (Some rest) old new said = set_by said old ≡ Some (new, rest.now)
 
+-- the same where there is a rest; else nothing is said of the bytes
+abbrev pub MaySet : Option (Bor (List ℕ)) → Record → Record → Option (Read × List ℕ) → Type 0
+MaySet None old new said = new ≡ old
+MaySet (Some rest) old new said = set_by said old ≡ Some (new, rest.now)
+
 -- bytes that are passed over say nothing
 abbrev pub passed : Bor (List ℕ) → Read × List ℕ
 passed rest = (read.Nothing, rest.now)
@@ -78,3 +83,8 @@ putting reading r bytes = then_read (reading bytes) (λ said. give (put said r))
 abbrev pub Reads : Result (Bor (List ℕ)) ParseFromDescription → Record → Record → Answer → Type 0
 Reads (Ok rest) old new read = read ≡ Ok (new, rest.now)
 Reads (Err e) old new read = (read ≡ Err (reading_fault e)) × (new ≡ old)
+
+-- the rest and the record after it where there is a rest; else nothing is said of the bytes, and the record is unchanged
+abbrev pub MayRead : Option (Bor (List ℕ)) → Record → Record → Answer → Type 0
+MayRead None old new read = new ≡ old
+MayRead (Some rest) old new read = read ≡ Ok (new, rest.now)

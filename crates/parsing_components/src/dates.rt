@@ -20,7 +20,7 @@ use parsing_shapes::{
 };
 
 #[inline(always)]
-fn day<'a>(padding: Padding, bytes: &'a [u8], fields: &mut Record) -> Option<&'a [u8]>
+pub(crate) fn day<'a>(padding: Padding, bytes: &'a [u8], fields: &mut Record) -> Option<&'a [u8]>
     requires within { IsWithin fields.old }
     ensures reads { Sets result fields.old fields.new (says (between 1 31 read.Day) (taken (padded padding 2 2)) bytes.now) }
     ensures within { IsWithin fields.new }
@@ -90,7 +90,7 @@ fn ordinal<'a>(padding: Padding, bytes: &'a [u8], fields: &mut Record) -> Option
 }
 
 #[inline(always)]
-fn month_short<'a>(case_sensitive: bool, bytes: &'a [u8], fields: &mut Record) -> Option<&'a [u8]>
+pub(crate) fn month_short<'a>(case_sensitive: bool, bytes: &'a [u8], fields: &mut Record) -> Option<&'a [u8]>
     requires within { IsWithin fields.old }
     ensures reads { Sets result fields.old fields.new (says (λ x. Some (read.Month x)) (taken (named case_sensitive short_months)) bytes.now) }
     ensures within { IsWithin fields.new }
@@ -101,7 +101,7 @@ fn month_short<'a>(case_sensitive: bool, bytes: &'a [u8], fields: &mut Record) -
 }
 
 #[inline(always)]
-fn weekday_short<'a>(case_sensitive: bool, bytes: &'a [u8], fields: &mut Record) -> Option<&'a [u8]>
+pub(crate) fn weekday_short<'a>(case_sensitive: bool, bytes: &'a [u8], fields: &mut Record) -> Option<&'a [u8]>
     requires within { IsWithin fields.old }
     ensures reads { Sets result fields.old fields.new (says (λ x. Some (read.Weekday x)) (taken (named case_sensitive short_weekdays)) bytes.now) }
     ensures within { IsWithin fields.new }
@@ -134,7 +134,7 @@ fn weekday_long<'a>(case_sensitive: bool, bytes: &'a [u8], fields: &mut Record) 
 }
 
 #[tactic(auto, using(crate::proofs::Entries::month_entry, crate::proofs::Entries::no_month))]
-fn month_number<'a>(padding: Padding, bytes: &'a [u8], fields: &mut Record) -> Option<&'a [u8]>
+pub(crate) fn month_number<'a>(padding: Padding, bytes: &'a [u8], fields: &mut Record) -> Option<&'a [u8]>
     requires within { IsWithin fields.old }
     ensures reads { Sets result fields.old fields.new (says (λ n. option_map read.Month (counted true months n)) (taken (padded padding 2 2)) bytes.now) }
     ensures within { IsWithin fields.new }

@@ -16,7 +16,7 @@ use description_items::modifier::Padding;
 use parsing_shapes::{offset_hour, padded_two, timestamp};
 
 #[inline(always)]
-fn offset_minute<'a>(padding: Padding, bytes: &'a [u8], fields: &mut Record) -> Option<&'a [u8]>
+pub(crate) fn offset_minute<'a>(padding: Padding, bytes: &'a [u8], fields: &mut Record) -> Option<&'a [u8]>
     requires within { IsWithin fields.old }
     ensures reads { Sets result fields.old fields.new (says (between 0 59 read.OffsetMinute) (taken (padded padding 2 2)) bytes.now) }
     ensures within { IsWithin fields.new }
@@ -44,7 +44,7 @@ fn offset_second<'a>(padding: Padding, bytes: &'a [u8], fields: &mut Record) -> 
 }
 
 #[inline(always)]
-fn hour_of_offset<'a>(padding: Padding, mandatory: bool, bytes: &'a [u8], fields: &mut Record) -> Option<&'a [u8]>
+pub(crate) fn hour_of_offset<'a>(padding: Padding, mandatory: bool, bytes: &'a [u8], fields: &mut Record) -> Option<&'a [u8]>
     requires within { IsWithin fields.old }
     ensures reads { Sets result fields.old fields.new (says (up_to 25 (λ negative hour. read.OffsetHour hour negative)) (taken (offset_hour padding mandatory)) bytes.now) }
     ensures within { IsWithin fields.new }

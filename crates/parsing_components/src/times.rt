@@ -31,7 +31,7 @@ fn hour_12<'a>(padding: Padding, bytes: &'a [u8], fields: &mut Record) -> Option
 }
 
 #[inline(always)]
-fn hour_24<'a>(padding: Padding, bytes: &'a [u8], fields: &mut Record) -> Option<&'a [u8]>
+pub(crate) fn hour_24<'a>(padding: Padding, bytes: &'a [u8], fields: &mut Record) -> Option<&'a [u8]>
     requires within { IsWithin fields.old }
     ensures reads { Sets result fields.old fields.new (says (between 0 23 read.Hour24) (taken (padded padding 2 2)) bytes.now) }
     ensures within { IsWithin fields.new }
@@ -45,7 +45,7 @@ fn hour_24<'a>(padding: Padding, bytes: &'a [u8], fields: &mut Record) -> Option
 }
 
 #[inline(always)]
-fn minute<'a>(padding: Padding, bytes: &'a [u8], fields: &mut Record) -> Option<&'a [u8]>
+pub(crate) fn minute<'a>(padding: Padding, bytes: &'a [u8], fields: &mut Record) -> Option<&'a [u8]>
     requires within { IsWithin fields.old }
     ensures reads { Sets result fields.old fields.new (says (between 0 59 read.Minute) (taken (padded padding 2 2)) bytes.now) }
     ensures within { IsWithin fields.new }
@@ -59,7 +59,7 @@ fn minute<'a>(padding: Padding, bytes: &'a [u8], fields: &mut Record) -> Option<
 }
 
 #[inline(always)]
-fn second<'a>(padding: Padding, bytes: &'a [u8], fields: &mut Record) -> Option<&'a [u8]>
+pub(crate) fn second<'a>(padding: Padding, bytes: &'a [u8], fields: &mut Record) -> Option<&'a [u8]>
     requires within { IsWithin fields.old }
     ensures reads { Sets result fields.old fields.new (says (between 0 60 read.Second) (taken (padded padding 2 2)) bytes.now) }
     ensures within { IsWithin fields.new }

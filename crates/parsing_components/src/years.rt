@@ -28,7 +28,7 @@ fn under(negative: bool, n: u32) -> i32
 }
 
 #[inline(always)]
-fn full_year<'a>(
+pub(crate) fn full_year<'a>(
     padding: Padding,
     mandatory: bool,
     extended: bool,

@@ -1,15 +1,16 @@
 //! Reading by the items of a description.
-ghost use Rattle.std.specs.Prelude.{◌≡◌, map};
+ghost use Rattle.std.specs.Prelude.{◌≡◌, Ok, IfSome, map};
 ghost use Rattle.description_items.specs.Tree.{tree_of, trees, listed};
 ghost use Rattle.parsing_pieces.specs.FaultOf.{Gives, reading_fault};
 ghost use Rattle.parsing_components.specs.Component.{reads_component, reads_component_v3};
+ghost use Rattle.parsing_components.specs.Put.{MayRead};
 ghost use Rattle.parsing_record.specs.Meaning.{Answers, Reads, literally, first_of, meaning};
 ghost use Rattle.parsing_record.specs.Reads.{putting, reading, reading_of_all, each_reads, tried, tried_in_all};
 
 use crate::parsed::Parsed;
 use crate::tally::{NoTally, Tally};
 use description_items::{BorrowedFormatItem, Component};
-use parsing_components::{read_component, read_component_v3};
+use parsing_components::{read_component, read_component_v3, read_usual};
 use parsing_pieces::ParseFromDescription;
 
 impl Parsed {
@@ -113,6 +114,56 @@ impl Parsed {
     }
 }
 
+// The bytes after a literal of one byte: `None` says nothing of others.
+#[inline(always)]
+#[tactic(auto, unfolding(crate::specs::Meaning::literally))]
+fn after_byte<'a>(literal: &[u8], input: &'a [u8]) -> Option<&'a [u8]>
+    ensures { IfSome result (λ rest. literally literal.now input.now ≡ Ok (tt, rest.now)) }
+{
+    match (literal, input) {
+        ([byte], [first, rest @ ..]) if byte == first => Some(rest),
+        _ => None,
+    }
+}
+
+// Reads by an item that most descriptions have: `None` says nothing of the bytes, and changes nothing.
+#[inline(always)]
+#[tactic(auto, unfolding(crate::specs::Reads::reads))]
+fn read_usual_item<'a>(
+    item: &BorrowedFormatItem<'_>,
+    input: &'a [u8],
+    parsed: &mut Parsed,
+) -> Option<&'a [u8]>
+    ensures answer { MayRead result parsed.old parsed.new (reading reads_component (tree_of item.now) parsed.old input.now) }
+    ensures tally { IfSome result (λ _. tried reads_component (tree_of item.now) parsed.old input.now ≡ 1) }
+{
+    match item {
+        BorrowedFormatItem::Literal(literal) => after_byte(literal, input),
+        BorrowedFormatItem::StringLiteral(literal) => after_byte(literal.as_bytes(), input),
+        BorrowedFormatItem::Component(component) => read_usual(component, input, &mut parsed.fields),
+        _ => None,
+    }
+}
+
+// Reads by one item, the shortest way where it is a usual one.
+#[inline(always)]
+#[cycle(reading)]
+fn read_next<'a, T: Tally>(
+    item: &BorrowedFormatItem<'_>,
+    input: &'a [u8],
+    parsed: &mut Parsed,
+    tally: &mut T,
+) -> Result<&'a [u8], ParseFromDescription>
+    ensures answer { Answers result parsed.new (reading reads_component (tree_of item.now) parsed.old input.now) }
+    ensures tally { T.grows tally.old tally.new (tried reads_component (tree_of item.now) parsed.old input.now) }
+{
+    if let Some(rest) = read_usual_item(item, input, parsed) {
+        tally.begin();
+        return Ok(rest);
+    }
+    read_item(item, input, parsed, tally)
+}
+
 // Reads by one item, and tells the tally; a refusal leaves what was read before it in the record.
 #[tactic(auto, unfolding(crate::specs::Reads::reads, crate::specs::Meaning::optionally))]
 #[cycle(reading)]
@@ -161,7 +212,7 @@ fn read_items<'a, T: Tally>(
 {
     let mut rest = input;
     for item in items {
-        rest = read_item(item, rest, parsed, tally)?;
+        rest = read_next(item, rest, parsed, tally)?;
     }
     Ok(rest)
 }

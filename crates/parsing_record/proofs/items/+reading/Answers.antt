@@ -16,14 +16,14 @@ read_items-returns-in_err-rest-clause-answer g t c =
 pub read_items-returns-in_err-rest-clause-tally : goal.read_items-returns-in_err-rest-clause-tally
 read_items-returns-in_err-rest-clause-tally g t c =
     let more = stops_tried reads_component tree_of c.args.items.now c.loop-item.item-index c.item-item.result c.loop-item.parsed c.loop-item.rest.now (reading_fault c.in_err-rest.field-0.0) c.loop-item-test.true c.item-item.is c.in_err-rest.ensures.answer in
-    subst (λ n. g.T.Tally.grows c.args.tally.now c.read_item.new.tally n) (sym (c.loop-item.invariant.3 ∙ ap (λ k. c.loop-item.invariant.1 + k) more))
+    subst (λ n. g.T.Tally.grows c.args.tally.now c.read_next.new.tally n) (sym (c.loop-item.invariant.3 ∙ ap (λ k. c.loop-item.invariant.1 + k) more))
     (g.met.T.Tally.joins _ _ _ _ _ c.loop-item.invariant.2 c.in_err-rest.ensures.tally)
 
 pub read_items-loop-item-preserved : goal.read_items-loop-item-preserved
 read_items-loop-item-preserved g t c =
     let begun = tried reads_component (tree_of c.item-item.result) c.loop-item.parsed c.loop-item.rest.now in
-    let more = goes_on_tried reads_component tree_of c.args.items.now c.loop-item.item-index c.item-item.result c.loop-item.parsed c.read_item.new.parsed c.loop-item.rest.now c.in_ok-rest.rest.now c.loop-item-test.true c.item-item.is c.in_ok-rest.ensures.answer in (
-      goes_on reads_component tree_of c.args.items.now c.loop-item.item-index c.item-item.result c.loop-item.parsed c.read_item.new.parsed c.loop-item.rest.now c.in_ok-rest.rest.now _ c.loop-item-test.true c.item-item.is c.in_ok-rest.ensures.answer c.loop-item.invariant.0,
+    let more = goes_on_tried reads_component tree_of c.args.items.now c.loop-item.item-index c.item-item.result c.loop-item.parsed c.read_next.new.parsed c.loop-item.rest.now c.in_ok-rest.rest.now c.loop-item-test.true c.item-item.is c.in_ok-rest.ensures.answer in (
+      goes_on reads_component tree_of c.args.items.now c.loop-item.item-index c.item-item.result c.loop-item.parsed c.read_next.new.parsed c.loop-item.rest.now c.in_ok-rest.rest.now _ c.loop-item-test.true c.item-item.is c.in_ok-rest.ensures.answer c.loop-item.invariant.0,
       c.loop-item.invariant.1 + begun,
       g.met.T.Tally.joins _ _ _ _ _ c.loop-item.invariant.2 c.in_ok-rest.ensures.tally,
       omega (arith, more, c.loop-item.invariant.3),
