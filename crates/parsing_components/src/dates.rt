@@ -90,7 +90,11 @@ fn ordinal<'a>(padding: Padding, bytes: &'a [u8], fields: &mut Record) -> Option
 }
 
 #[inline(always)]
-pub(crate) fn month_short<'a>(case_sensitive: bool, bytes: &'a [u8], fields: &mut Record) -> Option<&'a [u8]>
+pub(crate) fn month_short<'a>(
+    case_sensitive: bool,
+    bytes: &'a [u8],
+    fields: &mut Record,
+) -> Option<&'a [u8]>
     requires within { IsWithin fields.old }
     ensures reads { Sets result fields.old fields.new (says (λ x. Some (read.Month x)) (taken (named case_sensitive short_months)) bytes.now) }
     ensures within { IsWithin fields.new }
@@ -101,7 +105,11 @@ pub(crate) fn month_short<'a>(case_sensitive: bool, bytes: &'a [u8], fields: &mu
 }
 
 #[inline(always)]
-pub(crate) fn weekday_short<'a>(case_sensitive: bool, bytes: &'a [u8], fields: &mut Record) -> Option<&'a [u8]>
+pub(crate) fn weekday_short<'a>(
+    case_sensitive: bool,
+    bytes: &'a [u8],
+    fields: &mut Record,
+) -> Option<&'a [u8]>
     requires within { IsWithin fields.old }
     ensures reads { Sets result fields.old fields.new (says (λ x. Some (read.Weekday x)) (taken (named case_sensitive short_weekdays)) bytes.now) }
     ensures within { IsWithin fields.new }
@@ -133,8 +141,13 @@ fn weekday_long<'a>(case_sensitive: bool, bytes: &'a [u8], fields: &mut Record) 
     Some(rest)
 }
 
+#[inline(always)]
 #[tactic(auto, using(crate::proofs::Entries::month_entry, crate::proofs::Entries::no_month))]
-pub(crate) fn month_number<'a>(padding: Padding, bytes: &'a [u8], fields: &mut Record) -> Option<&'a [u8]>
+pub(crate) fn month_number<'a>(
+    padding: Padding,
+    bytes: &'a [u8],
+    fields: &mut Record,
+) -> Option<&'a [u8]>
     requires within { IsWithin fields.old }
     ensures reads { Sets result fields.old fields.new (says (λ n. option_map read.Month (counted true months n)) (taken (padded padding 2 2)) bytes.now) }
     ensures within { IsWithin fields.new }
@@ -233,7 +246,11 @@ fn monday_number<'a>(one_indexed: bool, bytes: &'a [u8], fields: &mut Record) ->
 
 // The parts of a date but the year.
 #[tactic(auto, unfolding(crate::specs::Component::date_piece))]
-pub(crate) fn date_piece<'a>(component: Component, bytes: &'a [u8], fields: &mut Record) -> Option<&'a [u8]>
+pub(crate) fn date_piece<'a>(
+    component: Component,
+    bytes: &'a [u8],
+    fields: &mut Record,
+) -> Option<&'a [u8]>
     requires within { IsWithin fields.old }
     ensures reads { Sets result fields.old fields.new (Components.date_piece component bytes.now) }
     ensures within { IsWithin fields.new }

@@ -16,7 +16,11 @@ use description_items::modifier::Padding;
 use parsing_shapes::{offset_hour, padded_two, timestamp};
 
 #[inline(always)]
-pub(crate) fn offset_minute<'a>(padding: Padding, bytes: &'a [u8], fields: &mut Record) -> Option<&'a [u8]>
+pub(crate) fn offset_minute<'a>(
+    padding: Padding,
+    bytes: &'a [u8],
+    fields: &mut Record,
+) -> Option<&'a [u8]>
     requires within { IsWithin fields.old }
     ensures reads { Sets result fields.old fields.new (says (between 0 59 read.OffsetMinute) (taken (padded padding 2 2)) bytes.now) }
     ensures within { IsWithin fields.new }
@@ -44,7 +48,12 @@ fn offset_second<'a>(padding: Padding, bytes: &'a [u8], fields: &mut Record) -> 
 }
 
 #[inline(always)]
-pub(crate) fn hour_of_offset<'a>(padding: Padding, mandatory: bool, bytes: &'a [u8], fields: &mut Record) -> Option<&'a [u8]>
+pub(crate) fn hour_of_offset<'a>(
+    padding: Padding,
+    mandatory: bool,
+    bytes: &'a [u8],
+    fields: &mut Record,
+) -> Option<&'a [u8]>
     requires within { IsWithin fields.old }
     ensures reads { Sets result fields.old fields.new (says (up_to 25 (λ negative hour. read.OffsetHour hour negative)) (taken (offset_hour padding mandatory)) bytes.now) }
     ensures within { IsWithin fields.new }
@@ -129,7 +138,11 @@ const NANOSECONDS_AFTER_EPOCH: u128 = 31_494_784_780_799_999_999_999;
 
 // The parts of an offset, timestamps, and what is passed over.
 #[tactic(auto, unfolding(crate::specs::Component::offset_piece))]
-pub(crate) fn offset_piece<'a>(component: Component, bytes: &'a [u8], fields: &mut Record) -> Option<&'a [u8]>
+pub(crate) fn offset_piece<'a>(
+    component: Component,
+    bytes: &'a [u8],
+    fields: &mut Record,
+) -> Option<&'a [u8]>
     requires within { IsWithin fields.old }
     ensures reads { Sets result fields.old fields.new (Components.offset_piece component bytes.now) }
     ensures within { IsWithin fields.new }
@@ -138,9 +151,27 @@ pub(crate) fn offset_piece<'a>(component: Component, bytes: &'a [u8], fields: &m
         Component::OffsetHour(m) => hour_of_offset(m.padding, m.sign_is_mandatory, bytes, fields),
         Component::OffsetMinute(m) => offset_minute(m.padding, bytes, fields),
         Component::OffsetSecond(m) => offset_second(m.padding, bytes, fields),
-        Component::UnixTimestampSecond(m) => unix(m.sign_is_mandatory, 14, 1_000_000_000, bytes, fields),
-        Component::UnixTimestampMillisecond(m) => unix(m.sign_is_mandatory, 17, 1_000_000, bytes, fields),
-        Component::UnixTimestampMicrosecond(m) => unix(m.sign_is_mandatory, 20, 1_000, bytes, fields),
+        Component::UnixTimestampSecond(m) => unix(
+            m.sign_is_mandatory,
+            14,
+            1_000_000_000,
+            bytes,
+            fields,
+        ),
+        Component::UnixTimestampMillisecond(m) => unix(
+            m.sign_is_mandatory,
+            17,
+            1_000_000,
+            bytes,
+            fields,
+        ),
+        Component::UnixTimestampMicrosecond(m) => unix(
+            m.sign_is_mandatory,
+            20,
+            1_000,
+            bytes,
+            fields,
+        ),
         Component::UnixTimestampNanosecond(m) => unix(m.sign_is_mandatory, 23, 1, bytes, fields),
         Component::Ignore(m) => ignored(m.count, bytes),
         _ => None,

@@ -8,8 +8,8 @@ ghost use Rattle.parsing_pieces.specs.Readings.{◌or◌};
 ghost use Rattle.parsing_components.specs.Component as Components;
 
 use crate::dates::date_piece;
-use crate::offsets::ignored_characters;
 use crate::fields::Record;
+use crate::offsets::ignored_characters;
 use description_items::Component;
 use description_items::modifier::TrailingInput;
 use parsing_pieces::ParseFromDescription;

@@ -10,8 +10,8 @@ ghost use Rattle.parsing_components.specs.Ranged.{says, between, up_to, since_ep
 ghost use Rattle.parsing_components.specs.Component as Components;
 ghost use Rattle.parsing_components.specs.Read as read;
 
-use crate::offsets::offset_piece;
 use crate::fields::Record;
+use crate::offsets::offset_piece;
 use description_items::Component;
 use description_items::modifier::{Padding, SubsecondDigits};
 use parsing_shapes::{fraction_between, padded_two, period};
@@ -31,7 +31,11 @@ fn hour_12<'a>(padding: Padding, bytes: &'a [u8], fields: &mut Record) -> Option
 }
 
 #[inline(always)]
-pub(crate) fn hour_24<'a>(padding: Padding, bytes: &'a [u8], fields: &mut Record) -> Option<&'a [u8]>
+pub(crate) fn hour_24<'a>(
+    padding: Padding,
+    bytes: &'a [u8],
+    fields: &mut Record,
+) -> Option<&'a [u8]>
     requires within { IsWithin fields.old }
     ensures reads { Sets result fields.old fields.new (says (between 0 23 read.Hour24) (taken (padded padding 2 2)) bytes.now) }
     ensures within { IsWithin fields.new }
@@ -73,7 +77,12 @@ pub(crate) fn second<'a>(padding: Padding, bytes: &'a [u8], fields: &mut Record)
 }
 
 #[inline(always)]
-fn half_of_day<'a>(is_uppercase: bool, case_sensitive: bool, bytes: &'a [u8], fields: &mut Record) -> Option<&'a [u8]>
+fn half_of_day<'a>(
+    is_uppercase: bool,
+    case_sensitive: bool,
+    bytes: &'a [u8],
+    fields: &mut Record,
+) -> Option<&'a [u8]>
     requires within { IsWithin fields.old }
     ensures reads { Sets result fields.old fields.new (says (λ x. Some (read.Afternoon x)) (taken (period is_uppercase case_sensitive)) bytes.now) }
     ensures within { IsWithin fields.new }
@@ -107,7 +116,11 @@ fn subsecond<'a>(digits: SubsecondDigits, bytes: &'a [u8], fields: &mut Record) 
 
 // The parts of a time.
 #[tactic(auto, unfolding(crate::specs::Component::time_piece))]
-pub(crate) fn time_piece<'a>(component: Component, bytes: &'a [u8], fields: &mut Record) -> Option<&'a [u8]>
+pub(crate) fn time_piece<'a>(
+    component: Component,
+    bytes: &'a [u8],
+    fields: &mut Record,
+) -> Option<&'a [u8]>
     requires within { IsWithin fields.old }
     ensures reads { Sets result fields.old fields.new (Components.time_piece component bytes.now) }
     ensures within { IsWithin fields.new }

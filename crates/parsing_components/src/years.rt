@@ -32,7 +32,9 @@ pub(crate) fn full_year<'a>(
     padding: Padding,
     mandatory: bool,
     extended: bool,
-    bytes: &'a [u8], fields: &mut Record) -> Option<&'a [u8]>
+    bytes: &'a [u8],
+    fields: &mut Record,
+) -> Option<&'a [u8]>
     requires within { IsWithin fields.old }
     ensures reads { Sets result fields.old fields.new (says (up_to greatest_year (λ negative y. read.Year y)) (taken (year padding mandatory extended)) bytes.now) }
     ensures within { IsWithin fields.new }
@@ -47,7 +49,9 @@ fn year_century<'a>(
     padding: Padding,
     mandatory: bool,
     extended: bool,
-    bytes: &'a [u8], fields: &mut Record) -> Option<&'a [u8]>
+    bytes: &'a [u8],
+    fields: &mut Record,
+) -> Option<&'a [u8]>
     requires within { IsWithin fields.old }
     ensures reads { Sets result fields.old fields.new (says (up_to greatest_century (λ negative c. read.YearCentury c negative)) (taken (century padding mandatory extended)) bytes.now) }
     ensures within { IsWithin fields.new }
@@ -75,7 +79,9 @@ fn iso_full_year<'a>(
     padding: Padding,
     mandatory: bool,
     extended: bool,
-    bytes: &'a [u8], fields: &mut Record) -> Option<&'a [u8]>
+    bytes: &'a [u8],
+    fields: &mut Record,
+) -> Option<&'a [u8]>
     requires within { IsWithin fields.old }
     ensures reads { Sets result fields.old fields.new (says (up_to greatest_year (λ negative y. read.IsoYear y)) (taken (year padding mandatory extended)) bytes.now) }
     ensures within { IsWithin fields.new }
@@ -90,7 +96,9 @@ fn iso_year_century<'a>(
     padding: Padding,
     mandatory: bool,
     extended: bool,
-    bytes: &'a [u8], fields: &mut Record) -> Option<&'a [u8]>
+    bytes: &'a [u8],
+    fields: &mut Record,
+) -> Option<&'a [u8]>
     requires within { IsWithin fields.old }
     ensures reads { Sets result fields.old fields.new (says (up_to greatest_century (λ negative c. read.IsoYearCentury c negative)) (taken (century padding mandatory extended)) bytes.now) }
     ensures within { IsWithin fields.new }
@@ -115,7 +123,11 @@ fn iso_last_two<'a>(padding: Padding, bytes: &'a [u8], fields: &mut Record) -> O
 
 // Years.
 #[tactic(auto, unfolding(crate::specs::Component::year_piece))]
-pub(crate) fn year_piece<'a>(component: Component, bytes: &'a [u8], fields: &mut Record) -> Option<&'a [u8]>
+pub(crate) fn year_piece<'a>(
+    component: Component,
+    bytes: &'a [u8],
+    fields: &mut Record,
+) -> Option<&'a [u8]>
     requires within { IsWithin fields.old }
     ensures reads { Sets result fields.old fields.new (Components.year_piece component bytes.now) }
     ensures within { IsWithin fields.new }
@@ -125,43 +137,59 @@ pub(crate) fn year_piece<'a>(component: Component, bytes: &'a [u8], fields: &mut
             m.padding,
             m.sign_is_mandatory,
             true,
-            bytes, fields),
+            bytes,
+            fields,
+        ),
         Component::CalendarYearFullStandardRange(m) => full_year(
             m.padding,
             m.sign_is_mandatory,
             false,
-            bytes, fields),
+            bytes,
+            fields,
+        ),
         Component::CalendarYearCenturyExtendedRange(m) => year_century(
             m.padding,
             m.sign_is_mandatory,
             true,
-            bytes, fields),
+            bytes,
+            fields,
+        ),
         Component::CalendarYearCenturyStandardRange(m) => year_century(
             m.padding,
             m.sign_is_mandatory,
             false,
-            bytes, fields),
+            bytes,
+            fields,
+        ),
         Component::CalendarYearLastTwo(m) => last_two(m.padding, bytes, fields),
         Component::IsoYearFullExtendedRange(m) => iso_full_year(
             m.padding,
             m.sign_is_mandatory,
             true,
-            bytes, fields),
+            bytes,
+            fields,
+        ),
         Component::IsoYearFullStandardRange(m) => iso_full_year(
             m.padding,
             m.sign_is_mandatory,
             false,
-            bytes, fields),
+            bytes,
+            fields,
+        ),
         Component::IsoYearCenturyExtendedRange(m) => iso_year_century(
             m.padding,
             m.sign_is_mandatory,
             true,
-            bytes, fields),
+            bytes,
+            fields,
+        ),
         Component::IsoYearCenturyStandardRange(m) => iso_year_century(
             m.padding,
             m.sign_is_mandatory,
             false,
-            bytes, fields),
+            bytes,
+            fields,
+        ),
         Component::IsoYearLastTwo(m) => iso_last_two(m.padding, bytes, fields),
         other => time_piece(other, bytes, fields),
     }

@@ -6,7 +6,6 @@ use Rattle.parsing_pieces.specs.FaultOf.{reading_fault}
 use Rattle.parsing_pieces.specs.Readings.{Reading, then_read}
 use Rattle.parsing_pieces.specs.declared.fault.ParseFromDescription.{ParseFromDescription}
 use Rattle.parsing_components.specs.declared.fields.Record.{Record}
-
 pub use Rattle.parsing_components.specs.Put.{Answer, Meaning, Reads}
 
 -- the same, with the number of items that were begun

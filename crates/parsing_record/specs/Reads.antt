@@ -7,7 +7,6 @@ use Rattle.parsing_components.specs.Read.{Read}
 use Rattle.parsing_record.specs.Record.{Record}
 use Rattle.parsing_components.specs.Put.{put}
 use Rattle.parsing_record.specs.Meaning.{Meaning, Counted, meaning, alone, more, literally, unchanged, all_of, optionally, first_of}
-
 pub use Rattle.parsing_components.specs.Put.{putting}
 
 -- what a component reads in the versions before 3 and in strftime, and in version 3

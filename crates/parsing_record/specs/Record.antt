@@ -5,7 +5,6 @@ use Rattle.calendar_count.specs.Range.{greatest_year}
 use Rattle.parsing_components.specs.Ranged.{greatest_century, nanoseconds_before_epoch, nanoseconds_after_epoch}
 use Rattle.calendar_count.specs.declared.month.Month.{Month}
 use Rattle.calendar_count.specs.declared.weekday.Weekday.{Weekday}
-
 pub use Rattle.parsing_components.specs.declared.fields.Record.{Record}
 pub use Rattle.parsing_components.specs.Record.{InRange, InSigned, Reaches, IsWithin}
 

@@ -140,7 +140,11 @@ fn read_usual_item<'a>(
     match item {
         BorrowedFormatItem::Literal(literal) => after_byte(literal, input),
         BorrowedFormatItem::StringLiteral(literal) => after_byte(literal.as_bytes(), input),
-        BorrowedFormatItem::Component(component) => read_usual(component, input, &mut parsed.fields),
+        BorrowedFormatItem::Component(component) => read_usual(
+            component,
+            input,
+            &mut parsed.fields,
+        ),
         _ => None,
     }
 }

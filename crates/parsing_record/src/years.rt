@@ -152,11 +152,7 @@ impl Parsed {
             return None;
         }
         self.fields.iso_year_century = Some(value);
-        self.fields.iso_year_century_is_negative = if value == 0 {
-            is_negative
-        } else {
-            value < 0
-        };
+        self.fields.iso_year_century_is_negative = if value == 0 { is_negative } else { value < 0 };
         Some(())
     }
 
