@@ -1,4 +1,3 @@
-pub mod Convert
 pub mod Forms
 pub mod Modern
 pub mod Same

@@ -3,7 +3,6 @@
 
 mod component;
 mod convert;
-mod different_variant;
 mod item;
 mod modern;
 pub mod modifier;
@@ -13,6 +12,6 @@ mod shown;
 
 pub use component::Component;
 pub use description_formats::{Iso8601, Rfc2822, Rfc3339};
-pub use different_variant::DifferentVariant;
 pub use item::{BorrowedFormatItem, FormatItem, StaticFormatDescription};
 pub use period::Period;
+pub use variants::DifferentVariant;

@@ -1,6 +1,6 @@
 //! Any refusal of this library but want of memory.
 ghost use Rattle.std.specs.Prelude.{◌≡◌, Some};
-ghost use Rattle.description_items.specs.Convert.{GivesBack};
+ghost use Rattle.variants.specs.Convert.{GivesBack};
 ghost use Rattle.parsing.specs.Error.{error_of, error_text};
 ghost use Rattle.parsing.specs.declared.error.Error.TheVariants as error;
 

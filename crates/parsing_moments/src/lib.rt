@@ -6,6 +6,6 @@ pub mod laws;
 mod moment;
 mod parts;
 
-pub use clock::{hour, offset, permitted_time, time};
+pub use clock::{hour, offset, time};
 pub use moment::{offset_date_time, plain_date_time, timestamp, utc_date_time};
 pub use parts::{MomentParts, OffsetParts, TimeParts};

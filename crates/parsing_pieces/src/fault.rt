@@ -3,6 +3,7 @@ ghost use Rattle.std.specs.Prelude.{◌≡◌, Some};
 
 use calendar_count::ComponentRange;
 use std::fmt;
+use variants::DifferentVariant;
 
 /// Bytes that can't be read.
 #[derive(Clone, Copy, Debug, PartialEq, Eq)]
@@ -130,5 +131,53 @@ impl From<ComponentRange> for Parse {
     #[inline(always)]
     fn from(range: ComponentRange) -> Parse {
         Parse::TryFromParsed(TryFromParsed::ComponentRange(range))
+    }
+}
+
+impl TryFrom<TryFromParsed> for ComponentRange {
+    ghost use Rattle.variants.specs.Convert.{GivesBack};
+    ghost use Rattle.parsing_pieces.specs.declared.fault.TryFromParsed.TheVariants as unresolved;
+
+    type Error = DifferentVariant;
+
+    ghost try_from_gives = { λ made result. GivesBack unresolved.ComponentRange made result };
+
+    fn try_from(fault: TryFromParsed) -> Result<ComponentRange, DifferentVariant> {
+        match fault {
+            TryFromParsed::ComponentRange(range) => Ok(range),
+            TryFromParsed::InsufficientInformation => Err(DifferentVariant),
+        }
+    }
+}
+
+impl TryFrom<Parse> for TryFromParsed {
+    ghost use Rattle.variants.specs.Convert.{GivesBack};
+    ghost use Rattle.parsing_pieces.specs.declared.fault.Parse.TheVariants as refused;
+
+    type Error = DifferentVariant;
+
+    ghost try_from_gives = { λ made result. GivesBack refused.TryFromParsed made result };
+
+    fn try_from(fault: Parse) -> Result<TryFromParsed, DifferentVariant> {
+        match fault {
+            Parse::TryFromParsed(unresolved) => Ok(unresolved),
+            Parse::ParseFromDescription(_) => Err(DifferentVariant),
+        }
+    }
+}
+
+impl TryFrom<Parse> for ParseFromDescription {
+    ghost use Rattle.variants.specs.Convert.{GivesBack};
+    ghost use Rattle.parsing_pieces.specs.declared.fault.Parse.TheVariants as refused;
+
+    type Error = DifferentVariant;
+
+    ghost try_from_gives = { λ made result. GivesBack refused.ParseFromDescription made result };
+
+    fn try_from(fault: Parse) -> Result<ParseFromDescription, DifferentVariant> {
+        match fault {
+            Parse::ParseFromDescription(unread) => Ok(unread),
+            Parse::TryFromParsed(_) => Err(DifferentVariant),
+        }
     }
 }

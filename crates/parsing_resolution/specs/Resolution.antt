@@ -1,5 +1,5 @@
 -- What the numbers of a text name: a date, a time of day, an offset. The first one out of range is refused.
-use Rattle.std.specs.Prelude.{ℕ, Bool, ◌==◌, if◌then◌else◌, Result, Err, ℤ, pos, neg_ℤ}
+use Rattle.std.specs.Prelude.{ℕ, Bool, true, ◌==◌, ◌&&◌, if◌then◌else◌, Result, Err, ℤ, pos, neg_ℤ}
 use Rattle.std.specs.Option.{ok_or}
 use Rattle.std.specs.Int.{is_in_range}
 use Rattle.calendar_count.specs.Calendar.{is_year}
@@ -17,10 +17,14 @@ date_of year month day =
     then (if is_year year then ok_or (the_day (is_day_of year month day)) (out_of_conditional_range Day) else Err (out_of_range Year))
     else Err (out_of_range Month)
 
--- the time of day with these parts; a second 60 stands for the last nanosecond of its minute
-unfoldable pub leap_time_of : ℕ → ℕ → ℕ → ℕ → Result ℕ ComponentRange
-leap_time_of hour minute second nanosecond =
-    if second == 60 then time_of hour minute 59 999_999_999 else time_of hour minute second nanosecond
+-- the time of day with these parts; where it is permitted, a second 60 stands for the last nanosecond of its minute
+unfoldable pub permitted_time_of : Bool → ℕ → ℕ → ℕ → ℕ → Result ℕ ComponentRange
+permitted_time_of leap_second_is_permitted hour minute second nanosecond =
+    if leap_second_is_permitted && (second == 60) then time_of hour minute 59 999_999_999 else time_of hour minute second nanosecond
+
+-- the same, where it is permitted
+abbrev pub leap_time_of : ℕ → ℕ → ℕ → ℕ → Result ℕ ComponentRange
+leap_time_of = permitted_time_of true
 
 -- the offset of hours and minutes under one sign, in seconds
 unfoldable pub signed_offset_of : Bool → ℕ → ℕ → Result ℤ ComponentRange

@@ -1,6 +1,6 @@
 //! The values that numbers name: the first number out of range is refused.
 ghost use Rattle.std.specs.Prelude.{◌≡◌, ◌≤◌, ◌<◌};
-ghost use Rattle.parsing_resolution.specs.Resolution.{date_of, leap_time_of, signed_offset_of};
+ghost use Rattle.parsing_resolution.specs.Resolution.{date_of, permitted_time_of, leap_time_of, signed_offset_of};
 
 use calendar::{ComponentRange, Date, Month, Time, UtcOffset};
 
@@ -14,18 +14,32 @@ pub fn date(year: i32, month: u8, day: u8) -> Result<Date, ComponentRange>
     Date::from_calendar_date(year, month, day)
 }
 
-/// The time of day with these parts: second 60 stands for the last nanosecond of its minute.
-#[tactic(auto, unfolding(crate::specs::Resolution::leap_time_of))]
+/// The time of day with these parts: where it is permitted, second 60 stands for the last nanosecond of its minute.
+#[tactic(auto, unfolding(crate::specs::Resolution::permitted_time_of))]
 #[inline(always)]
-pub fn leap_time(hour: u8, minute: u8, second: u8, nanosecond: u32) -> Result<Time, ComponentRange>
-    ensures { result ≡ leap_time_of hour minute second nanosecond }
+pub fn permitted_time(
+    leap_second_is_permitted: bool,
+    hour: u8,
+    minute: u8,
+    second: u8,
+    nanosecond: u32,
+) -> Result<Time, ComponentRange>
+    ensures { result ≡ permitted_time_of leap_second_is_permitted hour minute second nanosecond }
 {
-    let (second, nanosecond) = if second == 60 {
+    let (second, nanosecond) = if leap_second_is_permitted && second == 60 {
         (59, 999_999_999)
     } else {
         (second, nanosecond)
     };
     Time::from_hms_nano(hour, minute, second, nanosecond)
+}
+
+/// The same, where it is permitted.
+#[inline(always)]
+pub fn leap_time(hour: u8, minute: u8, second: u8, nanosecond: u32) -> Result<Time, ComponentRange>
+    ensures { result ≡ leap_time_of hour minute second nanosecond }
+{
+    permitted_time(true, hour, minute, second, nanosecond)
 }
 
 /// The offset of hours and minutes under one sign.

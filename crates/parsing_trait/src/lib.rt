@@ -1,8 +1,11 @@
 //! What bytes can be read by.
 #![tactic(auto)]
 
+mod by_item;
+mod by_items;
+mod by_reference;
+mod by_tree;
 mod parsable;
-mod trees;
 
+pub use by_items::Items;
 pub use parsable::Parsable;
-pub use trees::Items;

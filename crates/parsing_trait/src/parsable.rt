@@ -36,7 +36,9 @@ pub trait Parsable {
         parsed: &mut Parsed,
     ) -> (Result<&'a [u8], Parse>, u128)
         ensures reads { ReadsInto result.0 parsed.old parsed.new (reading self.now parsed.old input.now).0 }
-        ensures tried { result.1 ≡ min (reading self.now parsed.old input.now).1 greatest_count };
+        ensures tried { result.1 ≡ min (reading self.now parsed.old input.now).1 greatest_count }
+        ensures end { IfOk result.0 (λ rest. EndsWith input.now rest.now) }
+        ensures short_name { IfErr result.0 (λ e. HasShortName (fault_of e)) };
 
     /// Reads all of the bytes, from the defaults where there are any.
     #[tactic(auto, unfolding(crate::specs::Whole::whole))]

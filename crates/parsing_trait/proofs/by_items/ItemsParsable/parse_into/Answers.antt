@@ -4,7 +4,7 @@ use Rattle.parsing_components.specs.Component.{reads_component}
 use Rattle.parsing_components.specs.Tame.{component_tame}
 use Rattle.parsing_record.specs.Tame.{in_turn_tame}
 use Rattle.parsing_trait.proofs.TameLemmas.{short_of, end_of}
-use Rattle.parsing_trait.proofs.trees.ItemsParsable.parse_into.Goals as goal
+use Rattle.parsing_trait.proofs.by_items.ItemsParsable.parse_into.Goals as goal
 
 pub returns-in_err-parse_items-clause-short_name : goal.returns-in_err-parse_items-clause-short_name
 returns-in_err-parse_items-clause-short_name c =

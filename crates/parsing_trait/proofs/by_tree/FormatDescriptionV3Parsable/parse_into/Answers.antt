@@ -4,7 +4,7 @@ use Rattle.parsing_components.specs.Component.{reads_component_v3}
 use Rattle.parsing_components.specs.Tame.{component_tame_v3}
 use Rattle.parsing_record.specs.Tame.{tree_tame}
 use Rattle.parsing_trait.proofs.TameLemmas.{short_of, end_of}
-use Rattle.parsing_trait.proofs.trees.FormatDescriptionV3Parsable.parse_into.Goals as goal
+use Rattle.parsing_trait.proofs.by_tree.FormatDescriptionV3Parsable.parse_into.Goals as goal
 
 pub returns-in_err-parse_tree-clause-short_name : goal.returns-in_err-parse_tree-clause-short_name
 returns-in_err-parse_tree-clause-short_name c =

@@ -1,4 +1,5 @@
-//! The refusal of a value of another variant.
+//! Values that other values were made of, and the refusal of one that was made otherwise.
+#![tactic(auto)]
 
 use std::fmt;
 

@@ -1,0 +1,52 @@
+//! Reading by items, one behind the other.
+ghost use Rattle.description_items.specs.Tree.{trees, listed};
+ghost use Rattle.parsing_components.specs.Component.{reads_component};
+ghost use Rattle.parsing_record.specs.Meaning.{all_of, meaning};
+ghost use Rattle.parsing_record.specs.Reads.{each_reads};
+ghost use Rattle.parsing_trait.specs.Whole.{whole, names, moment_named};
+
+use crate::parsable::Parsable;
+use datetime_types::OffsetDateTime;
+use description_items::BorrowedFormatItem;
+use parsing_pieces::Parse;
+use parsing_record::{ItemTally, Parsed};
+
+/// Items, one behind the other, as a text of versions 1 and 2 and of strftime spells them.
+#[derive(Clone, Copy)]
+pub struct Items<'a>(
+    /// The items.
+    pub &'a [BorrowedFormatItem<'a>],
+);
+
+impl Parsable for Items<'_> {
+    ghost reading = { λ items. all_of (each_reads reads_component (listed (trees items.0.now))) };
+
+    ghost moment = { λ items defaults bytes. names moment_named (whole (meaning (all_of (each_reads reads_component (listed (trees items.0.now))))) defaults bytes) };
+
+    fn parse_into<'a>(&self, input: &'a [u8], parsed: &mut Parsed) -> Result<&'a [u8], Parse> {
+        Ok(parsed.parse_items(input, self.0)?)
+    }
+
+    fn parse_into_counted<'a>(
+        &self,
+        input: &'a [u8],
+        parsed: &mut Parsed,
+    ) -> (Result<&'a [u8], Parse>, u128) {
+        let mut tally = ItemTally { count: 0 };
+        match parsed.parse_items_tallied(input, self.0, &mut tally) {
+            Ok(rest) => (Ok(rest), tally.count),
+            Err(fault) => (Err(fault.into()), tally.count),
+        }
+    }
+
+    fn parse_offset_date_time(
+        &self,
+        input: &[u8],
+        defaults: Option<Parsed>,
+    ) -> Result<OffsetDateTime, Parse> {
+        match self.parse_internal(input, defaults) {
+            Ok(parsed) => Ok(OffsetDateTime::try_from(parsed)?),
+            Err(fault) => Err(fault),
+        }
+    }
+}
