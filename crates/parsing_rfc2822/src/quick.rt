@@ -4,22 +4,23 @@
 ghost use Rattle.std.specs.Prelude.{◌≡◌, ◌<◌, IfSome, Ok, false};
 ghost use Rattle.parsing_rfc2822.specs.Reading as Reading;
 
-use crate::names::{month, weekday};
-use crate::reading::{one_or_two_digits, zone};
+use crate::names::{month, weekday, zone_name};
+use crate::reading::{one_digit, one_or_two_digits};
 use crate::written::{Written, Zone};
 use calendar_count::{Month, Weekday};
-use parsing_pieces::{byte, four_digits};
+use parsing_pieces::{byte, four_digits, sign, two_digits};
 use parsing_white_space::{may_begin, one_space};
 
-// `Tue, `, or nothing.
+// `Tue, `, or nothing before a digit.
 #[tactic(auto, unfolding(crate::specs::Reading::optional_weekday, crate::specs::Reading::named_day))]
 #[inline(always)]
 fn quick_weekday(bytes: &[u8]) -> Option<(Option<Weekday>, &[u8])>
     ensures { IfSome result (λ x. Reading.optional_weekday bytes.now ≡ Ok (x.0, x.1.now)) }
 {
-    let Some((weekday, rest)) = weekday(bytes) else {
+    if one_digit(bytes).is_some() {
         return Some((None, bytes));
-    };
+    }
+    let (weekday, rest) = weekday(bytes)?;
     let rest = byte(b',', rest)?;
     let rest = one_space(rest)?;
     Some((Some(weekday), rest))
@@ -64,6 +65,23 @@ fn quick_clock(bytes: &[u8]) -> Option<((u8, u8, u8), &[u8])>
     parsing_pieces::clock(bytes)
 }
 
+// `+0200` or `GMT`.
+#[tactic(auto, unfolding(crate::specs::Reading::zone, crate::specs::Reading::signed_zone, crate::specs::Reading::named_zone, crate::specs::Reading::within))]
+#[inline(always)]
+fn bare_zone(bytes: &[u8]) -> Option<(Zone, &[u8])>
+    ensures zone { IfSome result (λ x. Reading.zone false bytes.now ≡ Ok (x.0, x.1.now)) }
+    ensures hours { IfSome result (λ x. x.0.hours < 100) }
+    ensures minutes { IfSome result (λ x. x.0.minutes < 100) }
+{
+    let Some((mark, rest)) = sign(bytes) else {
+        let (hours, rest) = zone_name(bytes)?;
+        return Some((Zone::named(hours), rest));
+    };
+    let (hours, rest) = two_digits(rest)?;
+    let (minutes, rest) = two_digits(rest)?;
+    Some((Zone::signed(mark == b'-', hours, minutes), rest))
+}
+
 // ` +0200` or ` GMT`, where it is all that is there.
 #[tactic(auto, unfolding(crate::specs::Reading::spaced_zone))]
 #[inline(always)]
@@ -76,17 +94,15 @@ fn quick_zone(bytes: &[u8]) -> Option<(Zone, &[u8])>
     if rest.len() != 5 && rest.len() != 3 {
         return None;
     }
-    let Ok((zone, rest)) = zone(false, rest) else {
-        return None;
-    };
+    let (zone, rest) = bare_zone(rest)?;
     if may_begin(rest) {
         return None;
     }
     Some((zone, rest))
 }
 
-// The bytes of a text with a day of one digit and without a weekday: no text of this shape has fewer.
-const SHORTEST: usize = 23;
+// The bytes of ` Jul 2003 10:52:37 GMT`: behind its day no text of this shape has fewer.
+const SHORTEST: usize = 22;
 
 /// What is written at the front of the bytes, and the rest, where the text has the usual shape.
 #[tactic(auto, unfolding(crate::specs::Reading::rfc2822))]
@@ -96,10 +112,10 @@ pub fn quick_front(bytes: &[u8]) -> Option<(Written, &[u8])>
     ensures hours { IfSome result (λ x. x.0.zone.hours < 100) }
     ensures minutes { IfSome result (λ x. x.0.zone.minutes < 100) }
 {
-    if bytes.len() < SHORTEST {
+    let ((weekday, day), rest) = quick_day(bytes)?;
+    if rest.len() < SHORTEST {
         return None;
     }
-    let ((weekday, day), rest) = quick_day(bytes)?;
     let ((month, year), rest) = quick_month_and_year(rest)?;
     let ((hour, minute, second), rest) = quick_clock(rest)?;
     let (zone, rest) = quick_zone(rest)?;

@@ -25,7 +25,7 @@ fn within(is_strict: bool, low: u8, high: u8, value: u8) -> bool
 
 #[tactic(auto, using(parsing_pieces::proofs::Fixed::digits_one, parsing_pieces::proofs::Fixed::digits_one_there))]
 #[inline(always)]
-fn one_digit(bytes: &[u8]) -> Option<(u8, &[u8])>
+pub(crate) fn one_digit(bytes: &[u8]) -> Option<(u8, &[u8])>
     ensures { Pieces.cut_view result ≡ Pieces.digits 1 bytes.now }
 {
     match bytes {
@@ -171,7 +171,6 @@ fn clock(is_strict: bool, bytes: &[u8]) -> Result<((u8, u8, u8), &[u8]), ParseFr
 
 // Hours and minutes behind a sign, both under it.
 #[tactic(auto, unfolding(crate::specs::Reading::signed_zone))]
-#[inline(always)]
 fn signed_zone(
     is_strict: bool,
     mark: u8,
@@ -189,35 +188,21 @@ fn signed_zone(
     if !within(is_strict, 0, 59, minutes) {
         return Err(InvalidComponent("offset minute"));
     }
-    let zone = Zone {
-        is_named: false,
-        is_negative: mark == b'-',
-        hours,
-        minutes,
-    };
-    Ok((zone, rest))
+    Ok((Zone::signed(mark == b'-', hours, minutes), rest))
 }
 
 #[tactic(auto, unfolding(crate::specs::Reading::named_zone))]
-#[inline(always)]
 fn named_zone(bytes: &[u8]) -> Result<(Zone, &[u8]), ParseFromDescription>
     ensures gives { Gives (λ x. (x.0, x.1.now)) reading_fault result (Reading.named_zone bytes.now) }
     ensures hours { IfOk result (λ x. x.0.hours < 100) }
     ensures minutes { IfOk result (λ x. x.0.minutes < 100) }
 {
     let (hours, rest) = zone_name(bytes).ok_or(InvalidComponent("offset hour"))?;
-    let zone = Zone {
-        is_named: true,
-        is_negative: true,
-        hours,
-        minutes: 0,
-    };
-    Ok((zone, rest))
+    Ok((Zone::named(hours), rest))
 }
 
 #[tactic(auto, unfolding(crate::specs::Reading::zone))]
-#[inline(always)]
-pub(crate) fn zone(is_strict: bool, bytes: &[u8]) -> Result<(Zone, &[u8]), ParseFromDescription>
+fn zone(is_strict: bool, bytes: &[u8]) -> Result<(Zone, &[u8]), ParseFromDescription>
     ensures gives { Gives (λ x. (x.0, x.1.now)) reading_fault result (Reading.zone is_strict bytes.now) }
     ensures hours { IfOk result (λ x. x.0.hours < 100) }
     ensures minutes { IfOk result (λ x. x.0.minutes < 100) }

@@ -1,5 +1,7 @@
 //! What a text of RFC 2822 says.
 
+ghost use Rattle.std.specs.Prelude.{◌≡◌, true, false};
+
 use calendar_count::{Month, Weekday};
 
 /// The offset that a text has.
@@ -11,6 +13,34 @@ pub struct Zone {
     pub is_negative: bool,
     pub hours: u8,
     pub minutes: u8,
+}
+
+impl Zone {
+    // A name's zone, so many hours west of Greenwich.
+    #[inline(always)]
+    pub(crate) fn named(hours: u8) -> Zone
+        ensures { result ≡ record { is_named = true; is_negative = true; hours = hours; minutes = 0 } }
+    {
+        Zone {
+            is_named: true,
+            is_negative: true,
+            hours,
+            minutes: 0,
+        }
+    }
+
+    // Hours and minutes behind a sign, both under it.
+    #[inline(always)]
+    pub(crate) fn signed(is_negative: bool, hours: u8, minutes: u8) -> Zone
+        ensures { result ≡ record { is_named = false; is_negative = is_negative; hours = hours; minutes = minutes } }
+    {
+        Zone {
+            is_named: false,
+            is_negative,
+            hours,
+            minutes,
+        }
+    }
 }
 
 /// What the text says: a second that it leaves out is 0.

@@ -11,3 +11,5 @@ mod pieces;
 mod readings;
 #[cfg(test)]
 mod records;
+#[cfg(test)]
+mod rfc2822;
