@@ -13,3 +13,5 @@ mod pieces;
 mod readings;
 #[cfg(test)]
 mod records;
+#[cfg(test)]
+mod rfc2822;

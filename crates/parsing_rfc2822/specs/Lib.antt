@@ -1,0 +1,5 @@
+pub mod Direct
+pub mod Names
+pub mod Range
+pub mod Reading
+pub mod Words

@@ -1,0 +1,262 @@
+//! Readings of the parts of a text.
+ghost use Rattle.std.specs.Prelude.{◌≡◌, ◌≤◌, ◌<◌, IfOk, IfErr, IfSome, true};
+ghost use Rattle.parsing_pieces.specs.FaultOf.{Gives, reading_fault};
+ghost use Rattle.parsing_pieces.specs.Pieces as Pieces;
+ghost use Rattle.parsing_pieces.specs.ShortName.{HasShortName};
+ghost use Rattle.parsing_rfc2822.specs.Range.{AreInRange};
+ghost use Rattle.parsing_rfc2822.specs.Reading as Reading;
+
+use crate::names::{month, weekday, zone_name};
+use crate::spacing::{past_spacing, spaced_colon};
+use crate::written::{Written, Zone};
+use calendar_count::{Month, Weekday};
+use parsing_pieces::ParseFromDescription::{self, InvalidComponent, InvalidLiteral};
+use parsing_pieces::{byte, four_digits, sign, two_digits};
+use parsing_white_space::{comments_and_white_space, folding_white_space};
+
+// Whether a strict reading lets a number pass.
+#[tactic(auto, unfolding(crate::specs::Reading::within))]
+#[inline(always)]
+fn within(is_strict: bool, low: u8, high: u8, value: u8) -> bool
+    ensures { result ≡ Reading.within is_strict low high value }
+{
+    !is_strict || (low <= value && value <= high)
+}
+
+#[tactic(auto, using(parsing_pieces::proofs::Fixed::digits_one, parsing_pieces::proofs::Fixed::digits_one_there))]
+#[inline(always)]
+pub(crate) fn one_digit(bytes: &[u8]) -> Option<(u8, &[u8])>
+    ensures { Pieces.cut_view result ≡ Pieces.digits 1 bytes.now }
+{
+    match bytes {
+        [a, rest @ ..] if a.is_ascii_digit() => Some((*a - b'0', rest)),
+        _ => None,
+    }
+}
+
+#[tactic(auto, unfolding(crate::specs::Reading::one_or_two_digits))]
+#[inline(always)]
+pub(crate) fn one_or_two_digits(bytes: &[u8]) -> Option<(u8, &[u8])>
+    ensures { Pieces.cut_view result ≡ Reading.one_or_two_digits bytes.now }
+{
+    if let Some((value, rest)) = two_digits(bytes) {
+        return Some((value, rest));
+    }
+    one_digit(bytes)
+}
+
+// The comma behind a weekday.
+#[tactic(auto, unfolding(crate::specs::Reading::named_day))]
+fn named_day(day: Weekday, bytes: &[u8]) -> Result<(Option<Weekday>, &[u8]), ParseFromDescription>
+    ensures { Gives (λ x. (x.0, x.1.now)) reading_fault result (Reading.named_day day bytes.now) }
+{
+    let rest = byte(b',', bytes).ok_or(InvalidLiteral)?;
+    Ok((Some(day), past_spacing(rest)))
+}
+
+#[tactic(auto, unfolding(crate::specs::Reading::optional_weekday))]
+fn optional_weekday(bytes: &[u8]) -> Result<(Option<Weekday>, &[u8]), ParseFromDescription>
+    ensures { Gives (λ x. (x.0, x.1.now)) reading_fault result (Reading.optional_weekday bytes.now) }
+{
+    match weekday(bytes) {
+        Some((day, rest)) => named_day(day, rest),
+        None => Ok((None, bytes)),
+    }
+}
+
+#[tactic(auto, unfolding(crate::specs::Reading::day))]
+fn day(
+    is_strict: bool,
+    bytes: &[u8],
+) -> Result<((Option<Weekday>, u8), &[u8]), ParseFromDescription>
+    ensures { Gives (λ x. (x.0, x.1.now)) reading_fault result (Reading.day is_strict bytes.now) }
+{
+    let (weekday, rest) = optional_weekday(past_spacing(bytes))?;
+    let (day, rest) = one_or_two_digits(rest).ok_or(InvalidComponent("day"))?;
+    if !within(is_strict, 1, 31, day) {
+        return Err(InvalidComponent("day"));
+    }
+    Ok(((weekday, day), rest))
+}
+
+#[tactic(auto, unfolding(crate::specs::Reading::full_year))]
+#[inline(always)]
+fn full_year(year: u16, bytes: &[u8]) -> Result<(u16, &[u8]), ParseFromDescription>
+    ensures { Gives (λ x. (x.0, x.1.now)) reading_fault result (Reading.full_year year bytes.now) }
+{
+    if year < 1900 {
+        return Err(InvalidComponent("year"));
+    }
+    let rest = folding_white_space(bytes).ok_or(InvalidLiteral)?;
+    Ok((year, rest))
+}
+
+#[tactic(auto, unfolding(crate::specs::Reading::short_year))]
+fn short_year(bytes: &[u8]) -> Result<(u16, &[u8]), ParseFromDescription>
+    ensures { Gives (λ x. (x.0, x.1.now)) reading_fault result (Reading.short_year bytes.now) }
+{
+    let (year, rest) = two_digits(bytes).ok_or(InvalidComponent("year"))?;
+    let rest = comments_and_white_space(rest).ok_or(InvalidLiteral)?;
+    let century = if year < 50 { 2000 } else { 1900 };
+    Ok((u16::from(year) + century, rest))
+}
+
+#[tactic(auto, unfolding(crate::specs::Reading::year))]
+#[inline(always)]
+fn year(bytes: &[u8]) -> Result<(u16, &[u8]), ParseFromDescription>
+    ensures { Gives (λ x. (x.0, x.1.now)) reading_fault result (Reading.year bytes.now) }
+{
+    match four_digits(bytes) {
+        Some((year, rest)) => full_year(year, rest),
+        None => short_year(bytes),
+    }
+}
+
+#[tactic(auto, unfolding(crate::specs::Reading::month_and_year))]
+fn month_and_year(bytes: &[u8]) -> Result<((Month, u16), &[u8]), ParseFromDescription>
+    ensures { Gives (λ x. (x.0, x.1.now)) reading_fault result (Reading.month_and_year bytes.now) }
+{
+    let rest = comments_and_white_space(bytes).ok_or(InvalidLiteral)?;
+    let (month, rest) = month(rest).ok_or(InvalidComponent("month"))?;
+    let rest = comments_and_white_space(rest).ok_or(InvalidLiteral)?;
+    let (year, rest) = year(rest)?;
+    Ok(((month, year), rest))
+}
+
+#[tactic(auto, unfolding(crate::specs::Reading::hour_and_minute))]
+fn hour_and_minute(is_strict: bool, bytes: &[u8]) -> Result<((u8, u8), &[u8]), ParseFromDescription>
+    ensures { Gives (λ x. (x.0, x.1.now)) reading_fault result (Reading.hour_and_minute is_strict bytes.now) }
+{
+    let (hour, rest) = two_digits(bytes).ok_or(InvalidComponent("hour"))?;
+    if !within(is_strict, 0, 23, hour) {
+        return Err(InvalidComponent("hour"));
+    }
+    let rest = spaced_colon(rest).ok_or(InvalidLiteral)?;
+    let (minute, rest) = two_digits(rest).ok_or(InvalidComponent("minute"))?;
+    if !within(is_strict, 0, 59, minute) {
+        return Err(InvalidComponent("minute"));
+    }
+    Ok(((hour, minute), rest))
+}
+
+#[tactic(auto, unfolding(crate::specs::Reading::due_second))]
+fn due_second(is_strict: bool, bytes: &[u8]) -> Result<(u8, &[u8]), ParseFromDescription>
+    ensures { Gives (λ x. (x.0, x.1.now)) reading_fault result (Reading.due_second is_strict bytes.now) }
+{
+    let (second, rest) = two_digits(bytes).ok_or(InvalidComponent("second"))?;
+    if !within(is_strict, 0, 60, second) {
+        return Err(InvalidComponent("second"));
+    }
+    Ok((second, rest))
+}
+
+#[tactic(auto, unfolding(crate::specs::Reading::second))]
+fn second(is_strict: bool, bytes: &[u8]) -> Result<(u8, &[u8]), ParseFromDescription>
+    ensures { Gives (λ x. (x.0, x.1.now)) reading_fault result (Reading.second is_strict bytes.now) }
+{
+    match spaced_colon(bytes) {
+        Some(rest) => due_second(is_strict, rest),
+        None => Ok((0, bytes)),
+    }
+}
+
+#[tactic(auto, unfolding(crate::specs::Reading::clock))]
+fn clock(is_strict: bool, bytes: &[u8]) -> Result<((u8, u8, u8), &[u8]), ParseFromDescription>
+    ensures { Gives (λ x. (x.0, x.1.now)) reading_fault result (Reading.clock is_strict bytes.now) }
+{
+    let ((hour, minute), rest) = hour_and_minute(is_strict, bytes)?;
+    let (second, rest) = second(is_strict, rest)?;
+    Ok(((hour, minute, second), rest))
+}
+
+// Hours and minutes behind a sign, both under it.
+#[tactic(auto, unfolding(crate::specs::Reading::signed_zone))]
+fn signed_zone(
+    is_strict: bool,
+    mark: u8,
+    bytes: &[u8],
+) -> Result<(Zone, &[u8]), ParseFromDescription>
+    ensures gives { Gives (λ x. (x.0, x.1.now)) reading_fault result (Reading.signed_zone is_strict mark bytes.now) }
+    ensures hours { IfOk result (λ x. x.0.hours < 100) }
+    ensures minutes { IfOk result (λ x. x.0.minutes < 100) }
+{
+    let (hours, rest) = two_digits(bytes).ok_or(InvalidComponent("offset hour"))?;
+    if !within(is_strict, 0, 25, hours) {
+        return Err(InvalidComponent("offset hour"));
+    }
+    let (minutes, rest) = two_digits(rest).ok_or(InvalidComponent("offset minute"))?;
+    if !within(is_strict, 0, 59, minutes) {
+        return Err(InvalidComponent("offset minute"));
+    }
+    Ok((Zone::signed(mark == b'-', hours, minutes), rest))
+}
+
+#[tactic(auto, unfolding(crate::specs::Reading::named_zone))]
+fn named_zone(bytes: &[u8]) -> Result<(Zone, &[u8]), ParseFromDescription>
+    ensures gives { Gives (λ x. (x.0, x.1.now)) reading_fault result (Reading.named_zone bytes.now) }
+    ensures hours { IfOk result (λ x. x.0.hours < 100) }
+    ensures minutes { IfOk result (λ x. x.0.minutes < 100) }
+{
+    let (hours, rest) = zone_name(bytes).ok_or(InvalidComponent("offset hour"))?;
+    Ok((Zone::named(hours), rest))
+}
+
+#[tactic(auto, unfolding(crate::specs::Reading::zone))]
+fn zone(is_strict: bool, bytes: &[u8]) -> Result<(Zone, &[u8]), ParseFromDescription>
+    ensures gives { Gives (λ x. (x.0, x.1.now)) reading_fault result (Reading.zone is_strict bytes.now) }
+    ensures hours { IfOk result (λ x. x.0.hours < 100) }
+    ensures minutes { IfOk result (λ x. x.0.minutes < 100) }
+{
+    match sign(bytes) {
+        Some((mark, rest)) => signed_zone(is_strict, mark, rest),
+        None => named_zone(bytes),
+    }
+}
+
+#[tactic(auto, unfolding(crate::specs::Reading::spaced_zone))]
+fn spaced_zone(is_strict: bool, bytes: &[u8]) -> Result<(Zone, &[u8]), ParseFromDescription>
+    ensures gives { Gives (λ x. (x.0, x.1.now)) reading_fault result (Reading.spaced_zone is_strict bytes.now) }
+    ensures hours { IfOk result (λ x. x.0.hours < 100) }
+    ensures minutes { IfOk result (λ x. x.0.minutes < 100) }
+{
+    let rest = comments_and_white_space(bytes).ok_or(InvalidLiteral)?;
+    let (zone, rest) = zone(is_strict, rest)?;
+    Ok((zone, past_spacing(rest)))
+}
+
+#[tactic(auto, unfolding(crate::specs::Reading::rfc2822))]
+fn parts(is_strict: bool, bytes: &[u8]) -> Result<(Written, &[u8]), ParseFromDescription>
+    ensures gives { Gives (λ x. (x.0, x.1.now)) reading_fault result (Reading.rfc2822 is_strict bytes.now) }
+    ensures hours { IfOk result (λ x. x.0.zone.hours < 100) }
+    ensures minutes { IfOk result (λ x. x.0.zone.minutes < 100) }
+{
+    let ((weekday, day), rest) = day(is_strict, bytes)?;
+    let ((month, year), rest) = month_and_year(rest)?;
+    let ((hour, minute, second), rest) = clock(is_strict, rest)?;
+    let (zone, rest) = spaced_zone(is_strict, rest)?;
+    let written = Written {
+        weekday,
+        day,
+        month,
+        year,
+        hour,
+        minute,
+        second,
+        zone,
+    };
+    Ok((written, rest))
+}
+
+/// What is written at the front of the bytes, and the rest: RFC 2822, section 3.3, with the obsolete years and zones.
+///
+/// A strict reading refuses each number out of range where it stands. Each fault names the part that can't be read; one
+/// of a zone is the offset hour's, or behind a sign that of its minutes.
+pub fn front(is_strict: bool, bytes: &[u8]) -> Result<(Written, &[u8]), ParseFromDescription>
+    ensures gives { Gives (λ x. (x.0, x.1.now)) reading_fault result (Reading.rfc2822 is_strict bytes.now) }
+    ensures range { is_strict ≡ true → IfOk result (λ x. AreInRange x.0) }
+    ensures hours { IfOk result (λ x. x.0.zone.hours < 100) }
+    ensures minutes { IfOk result (λ x. x.0.zone.minutes < 100) }
+    ensures short_name { IfErr result (λ e. HasShortName (reading_fault e)) }
+{
+    parts(is_strict, bytes)
+}
