@@ -25,7 +25,7 @@ pub number_of : (bytes : List ℕ) (n : ℕ) (behind : List ℕ) (run : Option (
 unfolding number
 number_of bytes n behind run rest e f = rw e (rw f refl)
 
-before_colon : (bytes : List ℕ) (n : ℕ) (rest behind : List ℕ) → digits 2 bytes ≡ Some (n, rest) → byte colon rest ≡ Some (tt, behind) → number bytes ≡ Some ((n, None), rest)
+pub before_colon : (bytes : List ℕ) (n : ℕ) (rest behind : List ℕ) → digits 2 bytes ≡ Some (n, rest) → byte colon rest ≡ Some (tt, behind) → number bytes ≡ Some ((n, None), rest)
 before_colon bytes n rest behind e f = whole_number bytes n rest e (only_byte colon rest (tt, behind) refl refl f)
 
 -- the time whose pieces these are
