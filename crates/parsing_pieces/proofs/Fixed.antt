@@ -111,8 +111,14 @@ digits_add n m bytes =
           ]
     ]
 
+pub digits_three : (bytes : List ℕ) → digits 3 bytes ≡ joined 10 (digits 1) (digits 2 bytes)
+digits_three bytes = digits_add 2 1 bytes
+
 pub digits_four : (bytes : List ℕ) → digits 4 bytes ≡ joined 100 (digits 2) (digits 2 bytes)
 digits_four bytes = digits_add 2 2 bytes
+
+pub digits_six : (bytes : List ℕ) → digits 6 bytes ≡ joined 100 (digits 2) (digits 4 bytes)
+digits_six bytes = digits_add 4 2 bytes
 
 pub digits_eight : (bytes : List ℕ) → digits 8 bytes ≡ joined 10_000 (digits 4) (digits 4 bytes)
 digits_eight bytes = digits_add 4 4 bytes

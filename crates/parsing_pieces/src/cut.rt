@@ -17,10 +17,10 @@ pub fn two_digits(bytes: &[u8]) -> Option<(u8, &[u8])>
     }
 }
 
-// One digit.
+/// Exactly one digit.
 #[tactic(auto, using(crate::proofs::Fixed::digits_one, crate::proofs::Fixed::digits_one_there))]
 #[inline(always)]
-pub(crate) fn one_digit(bytes: &[u8]) -> Option<(u8, &[u8])>
+pub fn one_digit(bytes: &[u8]) -> Option<(u8, &[u8])>
     ensures cut { Pieces.cut_view result ≡ Pieces.digits 1 bytes.now }
     ensures bound { IfSome result (λ x. x.0 < 10) }
 {
@@ -28,6 +28,18 @@ pub(crate) fn one_digit(bytes: &[u8]) -> Option<(u8, &[u8])>
         [a, rest @ ..] if a.is_ascii_digit() => Some((*a - b'0', rest)),
         _ => None,
     }
+}
+
+/// Exactly three digits.
+#[tactic(auto, using(crate::proofs::Fixed::digits_three))]
+#[inline(always)]
+pub fn three_digits(bytes: &[u8]) -> Option<(u16, &[u8])>
+    ensures cut { Pieces.cut_view result ≡ Pieces.digits 3 bytes.now }
+    ensures bound { IfSome result (λ x. x.0 < 1_000) }
+{
+    let (high, rest) = two_digits(bytes)?;
+    let (low, rest) = one_digit(rest)?;
+    Some((u16::from(high) * 10 + u16::from(low), rest))
 }
 
 /// Exactly four digits.
@@ -40,6 +52,18 @@ pub fn four_digits(bytes: &[u8]) -> Option<(u16, &[u8])>
     let (high, rest) = two_digits(bytes)?;
     let (low, rest) = two_digits(rest)?;
     Some((u16::from(high) * 100 + u16::from(low), rest))
+}
+
+/// Exactly six digits.
+#[tactic(auto, using(crate::proofs::Fixed::digits_six))]
+#[inline(always)]
+pub fn six_digits(bytes: &[u8]) -> Option<(u32, &[u8])>
+    ensures cut { Pieces.cut_view result ≡ Pieces.digits 6 bytes.now }
+    ensures bound { IfSome result (λ x. x.0 < 1_000_000) }
+{
+    let (high, rest) = four_digits(bytes)?;
+    let (low, rest) = two_digits(rest)?;
+    Some((u32::from(high) * 100 + u32::from(low), rest))
 }
 
 /// What stands behind the byte `wanted`.

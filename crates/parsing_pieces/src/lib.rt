@@ -7,6 +7,8 @@ mod fault;
 mod fractions;
 
 pub use chunk::{clock, nine_digits, year_month};
-pub use cut::{any_byte, byte, digit_run, four_digits, sign, two_digits};
+pub use cut::{
+    any_byte, byte, digit_run, four_digits, one_digit, sign, six_digits, three_digits, two_digits,
+};
 pub use fault::{Parse, ParseFromDescription, TryFromParsed};
 pub use fractions::fraction;

@@ -1,0 +1,7 @@
+pub mod Carrying
+pub mod Entries
+pub mod Pieces
+pub mod QuickDates
+pub mod QuickMoments
+pub mod QuickTimes
+pub mod Rounding

@@ -1,0 +1,53 @@
+-- A calendar date of the extended kind by its pieces.
+use Rattle.std.proofs.Common.{◌≡◌, ℕ, ◌≤◌, true, leb, List, drop, Some, Ok, refl, arith, lit<}
+use Rattle.std.specs.Prelude.{pos}
+use Rattle.std.specs.Int.{is_in_range}
+use Rattle.std.proofs.lemmas.Bool.Decides.{nat_tests}
+use Rattle.byte_names.specs.Bytes.{hyphen}
+use Rattle.calendar_count.specs.Month.{month_number}
+use Rattle.calendar_count.specs.declared.month.Month.{Month}
+use Rattle.parsing_pieces.specs.Chunks.{IsYearMonth}
+use Rattle.parsing_pieces.specs.Pieces.{digits, byte}
+use Rattle.parsing_iso8601.specs.declared.kind.Kind.TheVariants.{Extended}
+use Rattle.parsing_iso8601.specs.declared.written.WrittenDate.TheVariants.{OfMonth}
+use Rattle.parsing_iso8601.specs.Dates.{month_and_day, date_of_month, date_behind, year_and_kind}
+use Rattle.parsing_iso8601.specs.Kinds.{kind_of_date}
+use Rattle.parsing_iso8601.specs.Numbers.{digits_within, numbered, months, year, plain_year}
+use Rattle.parsing_iso8601.specs.Reading.{dated}
+use Rattle.parsing_iso8601.proofs.Entries.{month_entry}
+use Rattle.parsing_iso8601.proofs.Pieces.{no_sign}
+
+-- four digits are a year
+year_of : (bytes : List ℕ) (n : ℕ) (rest : List ℕ) → digits 4 bytes ≡ Some (n, rest) → year bytes ≡ Some (pos n, rest)
+unfolding year plain_year
+year_of bytes n rest e = rw (no_sign 4 bytes (n, rest) (lit< tt) e) (rw e refl)
+
+-- two digits number a month
+month_of : (bytes : List ℕ) (m : Month) (n : ℕ) (rest : List ℕ) → digits 2 bytes ≡ Some (n, rest) → month_number m ≡ n → numbered 2 months bytes ≡ Some (m, rest)
+unfolding numbered
+month_of bytes m n rest e is = rw e (rw (month_entry m n is) refl)
+
+-- two digits in a range
+within : (n low high : ℕ) (bytes : List ℕ) (v : ℕ) (rest : List ℕ) → digits n bytes ≡ Some (v, rest) → low ≤ v → v ≤ high → digits_within n low high bytes ≡ Some (v, rest)
+unfolding digits_within
+within n low high bytes v rest e above below =
+    let t : is_in_range low high v ≡ true = grind (arith, nat_tests) in
+    rw e (rw t refl)
+
+-- the date whose pieces these are
+pub date_of_pieces : (b0 b1 b2 b3 b4 b5 : List ℕ) (y n d : ℕ) (m : Month) → digits 4 b0 ≡ Some (y, b1) → byte hyphen b1 ≡ Some (tt, b2) → digits 2 b2 ≡ Some (n, b3) → month_number m ≡ n → byte hyphen b3 ≡ Some (tt, b4) → digits 2 b4 ≡ Some (d, b5) → 1 ≤ d → d ≤ 31
+    → dated b0 ≡ Ok ((Ok (OfMonth (pos y) m d), Extended), b5)
+unfolding dated year_and_kind kind_of_date date_behind month_and_day date_of_month
+date_of_pieces b0 b1 b2 b3 b4 b5 y n d m p1 p2 p3 is p4 p5 some most =
+    let yes : leb d 31 ≡ true = grind (arith, nat_tests) in
+    let year_is = year_of b0 y b1 p1 in
+    let month_is = month_of b2 m n b3 p3 is in
+    let day_is = within 2 1 99 b4 d b5 p5 some (omega arith) in
+    rw year_is (rw p2 (rw month_is (rw p4 (rw day_is (rw yes refl)))))
+
+-- the same, its first eight bytes read at once
+pub date_of_chunk : (bytes : List ℕ) (y n : ℕ) (behind : List ℕ) (m : Month) (d : ℕ) (rest : List ℕ) → IsYearMonth bytes y n behind → month_number m ≡ n → digits 2 behind ≡ Some (d, rest) → 1 ≤ d → d ≤ 31
+    → dated bytes ≡ Ok ((Ok (OfMonth (pos y) m d), Extended), rest)
+date_of_chunk bytes y n behind m d rest c is two some most =
+    let day : digits 2 (drop 8 bytes) ≡ Some (d, rest) = rw c.rest_is two in
+    date_of_pieces bytes (drop 4 bytes) (drop 5 bytes) (drop 7 bytes) (drop 8 bytes) rest y n d m c.year_digits c.first_hyphen c.month_digits is c.second_hyphen day some most

@@ -1,0 +1,69 @@
+-- A time of day of the extended kind by its pieces.
+use Rattle.std.proofs.Common.{◌≡◌, ℕ, ◌+◌, ◌<◌, ◌≤◌, true, leb, List, length, drop, Option, Some, None, refl, ap, ◌∙◌, arith, lit<}
+use Rattle.std.specs.Prelude.{nat_lt}
+use Rattle.std.proofs.lemmas.Bool.Decides.{nat_tests}
+use Rattle.byte_names.specs.Bytes.{colon}
+use Rattle.parsing_pieces.specs.Chunks.{IsClock}
+use Rattle.parsing_pieces.specs.Pieces.{digits, digit_run, fraction, nanoseconds_of, byte}
+use Rattle.parsing_iso8601.specs.Designators.{time_designator}
+use Rattle.parsing_iso8601.specs.Fractions.{rounded_part_of}
+use Rattle.parsing_iso8601.specs.declared.kind.Kind.TheVariants.{Extended}
+use Rattle.parsing_iso8601.specs.Kinds.{kind_of_time}
+use Rattle.parsing_iso8601.specs.Numbers.{number, decimal_mark, fraction_digits, due_digits}
+use Rattle.parsing_iso8601.specs.ReadView.{subsecond}
+use Rattle.parsing_iso8601.specs.Times.{time_of, subsecond_of, time, designator, from_hour, minutes, from_minute, seconds, extended_seconds, due_second, to_second}
+use Rattle.parsing_iso8601.proofs.Pieces.{only_byte, mapped, fraction_run, run_length}
+use Rattle.parsing_iso8601.proofs.Rounding.{short_fraction}
+
+-- two digits without a fraction
+pub whole_number : (bytes : List ℕ) (n : ℕ) (rest : List ℕ) → digits 2 bytes ≡ Some (n, rest) → decimal_mark rest ≡ None → number bytes ≡ Some ((n, None), rest)
+unfolding number fraction_digits
+whole_number bytes n rest e none = rw e (rw none refl)
+
+-- two digits and their fraction
+pub number_of : (bytes : List ℕ) (n : ℕ) (behind : List ℕ) (run : Option (List ℕ)) (rest : List ℕ) → digits 2 bytes ≡ Some (n, behind) → fraction_digits behind ≡ Some (run, rest) → number bytes ≡ Some ((n, run), rest)
+unfolding number
+number_of bytes n behind run rest e f = rw e (rw f refl)
+
+pub before_colon : (bytes : List ℕ) (n : ℕ) (rest behind : List ℕ) → digits 2 bytes ≡ Some (n, rest) → byte colon rest ≡ Some (tt, behind) → number bytes ≡ Some ((n, None), rest)
+before_colon bytes n rest behind e f = whole_number bytes n rest e (only_byte colon rest (tt, behind) refl refl f)
+
+-- the time whose pieces these are
+pub time_of_pieces : (b0 b1 b2 b3 b4 b5 b6 rest : List ℕ) (h m s : ℕ) (run : Option (List ℕ)) → byte time_designator b0 ≡ Some (tt, b1) → digits 2 b1 ≡ Some (h, b2) → byte colon b2 ≡ Some (tt, b3) → digits 2 b3 ≡ Some (m, b4) → byte colon b4 ≡ Some (tt, b5) → digits 2 b5 ≡ Some (s, b6) → fraction_digits b6 ≡ Some (run, rest)
+    → h ≤ 23 → m ≤ 59 → s ≤ 60 → subsecond_of run < 1_000_000_000
+    → time Extended true b0 ≡ Some ((time_of h m s (subsecond_of run), Extended), rest)
+unfolding time designator from_hour kind_of_time minutes from_minute seconds extended_seconds due_second to_second
+time_of_pieces b0 b1 b2 b3 b4 b5 b6 rest h m s run p0 p1 p2 p3 p4 p5 p6 hh hm hs hn =
+    let hour = before_colon b1 h b2 b3 p1 p2 in
+    let minute = before_colon b3 m b4 b5 p3 p4 in
+    let second = number_of b5 s b6 run rest p5 p6 in
+    let th : leb h 23 ≡ true = grind (arith, nat_tests) in
+    let tm : leb m 59 ≡ true = grind (arith, nat_tests) in
+    let ts : leb s 60 ≡ true = grind (arith, nat_tests) in
+    let tn : nat_lt (subsecond_of run) 1_000_000_000 ≡ true = grind (arith, nat_tests) in
+    rw p0 (rw hour (rw th (rw p2 (rw minute (rw tm (rw p4 (rw second (rw ts (rw tn refl)))))))))
+
+-- the same, its first eight bytes behind the `T` read at once
+pub time_of_chunk : (bytes behind : List ℕ) (h m s : ℕ) (after : List ℕ) (n : ℕ) (rest : List ℕ) → byte time_designator bytes ≡ Some (tt, behind) → IsClock behind h m s after → subsecond after ≡ Some (n, rest)
+    → h ≤ 23 → m ≤ 59 → s ≤ 60 → n < 1_000_000_000
+    → time Extended true bytes ≡ Some ((time_of h m s n, Extended), rest)
+unfolding subsecond
+time_of_chunk bytes behind h m s after n rest p c f hh hm hs hn =
+    mapped subsecond_of (fraction_digits after) n rest f (λ run g is.
+    let frac : fraction_digits (drop 8 behind) ≡ Some (run, rest) = rw c.rest_is g in
+    let small : subsecond_of run < 1_000_000_000 = rw is hn in
+    let t = time_of_pieces bytes behind (drop 2 behind) (drop 3 behind) (drop 5 behind) (drop 6 behind) (drop 8 behind) rest h m s run p c.hour_digits c.first_colon c.minute_digits c.second_colon c.second_digits frac hh hm hs small in
+    rw is at t)
+
+-- a fraction of at most nine digits
+pub short_subsecond : (bytes behind rest : List ℕ) (n : ℕ) → decimal_mark bytes ≡ Some (tt, behind) → fraction behind ≡ Some (n, rest) → length behind ≤ length rest + 9 → subsecond bytes ≡ Some (n, rest)
+unfolding subsecond fraction_digits due_digits
+short_subsecond bytes behind rest n mark f short =
+    fraction_run behind n rest f (λ run e is.
+    let few : length run ≤ 9 = omega (arith, run_length behind run rest e) in
+    let value : rounded_part_of 1_000_000_000 run ≡ n = short_fraction run few ∙ is in
+    rw mark (rw e (rw value refl)))
+
+pub no_subsecond : (bytes : List ℕ) → decimal_mark bytes ≡ None → subsecond bytes ≡ Some (0, bytes)
+unfolding subsecond fraction_digits
+no_subsecond bytes none = rw none refl

@@ -1,0 +1,13 @@
+pub mod AllOrNothing
+pub mod Dates
+pub mod Designators
+pub mod Fractions
+pub mod Kinds
+pub mod Moment
+pub mod Numbers
+pub mod Offsets
+pub mod Parts
+pub mod Ranges
+pub mod ReadView
+pub mod Reading
+pub mod Times

@@ -1,0 +1,53 @@
+//! Exact fractions of hours, minutes and seconds.
+ghost use Rattle.std.specs.Prelude.{◌≡◌, ◌≤◌, ◌<◌, IfSome, Some, length};
+ghost use Rattle.parsing_pieces.specs.Pieces as Pieces;
+ghost use Rattle.parsing_iso8601.specs.Fractions as Fractions;
+ghost use Rattle.parsing_iso8601.specs.ReadView.{subsecond};
+
+use crate::number::decimal_mark;
+use parsing_pieces::fraction;
+
+/// The whole nanoseconds in a fraction of `unit` nanoseconds that these digits write.
+///
+/// From the last digit on, each digit takes what the digits behind it leave: no number grows past ten units.
+pub fn part_of(unit: u64, run: &[u8]) -> u64
+    requires all { Pieces.digit_count run.now ≡ length run.now }
+    requires some { 0 < unit }
+    requires small { unit ≤ 3_600_000_000_000 }
+    ensures value { result ≡ Fractions.part_of unit run.now }
+    ensures bound { result < unit }
+{
+    let mut carried = 0;
+    for place in (0..run.len()).rev() {
+        carried = (u64::from(run[place] - b'0') * unit + carried) / 10;
+    }
+    carried
+}
+
+/// The same, to the nearest whole nanosecond, and from the middle between two to the greater one.
+#[tactic(auto, using(crate::proofs::Carrying::rounded_by_halves))]
+pub fn rounded_part_of(unit: u64, run: &[u8]) -> u64
+    requires all { Pieces.digit_count run.now ≡ length run.now }
+    requires some { 0 < unit }
+    requires small { unit ≤ 1_800_000_000_000 }
+    ensures value { result ≡ Fractions.rounded_part_of unit run.now }
+    ensures bound { result ≤ unit }
+{
+    (part_of(2 * unit, run) + 1) / 2
+}
+
+/// The nanoseconds of a fraction of a second of at most nine digits, or of none: these need no rounding.
+#[inline(always)]
+pub fn quick_subsecond(bytes: &[u8]) -> Option<(u32, &[u8])>
+    ensures reads { IfSome result (λ x. subsecond bytes.now ≡ Some (x.0, x.1.now)) }
+    ensures bound { IfSome result (λ x. x.0 < 1_000_000_000) }
+{
+    let Some(behind) = decimal_mark(bytes) else {
+        return Some((0, bytes));
+    };
+    let (nanosecond, rest) = fraction(behind)?;
+    if behind.len() > rest.len() + 9 {
+        return None;
+    }
+    Some((nanosecond, rest))
+}

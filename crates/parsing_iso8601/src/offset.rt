@@ -1,0 +1,95 @@
+//! The offset of a text.
+ghost use Rattle.std.specs.Prelude.{◌≡◌, ◌≤◌, IfSome, Some};
+ghost use Rattle.parsing_pieces.specs.Pieces.{cut_view};
+ghost use Rattle.parsing_iso8601.specs.Offsets as Offsets;
+ghost use Rattle.parsing_iso8601.specs.Ranges.{IsOffsetInRange};
+
+use crate::kind::Kind;
+use crate::written::WrittenOffset;
+use parsing_pieces::{byte, sign, two_digits};
+
+// Past a colon that the kind allows.
+#[inline(always)]
+fn maybe_colon(kind: Kind, bytes: &[u8]) -> &[u8]
+    ensures { Offsets.maybe_colon kind bytes.now ≡ Some (tt, result.now) }
+{
+    match kind {
+        Kind::Basic => bytes,
+        Kind::Unknown | Kind::Extended => match byte(b':', bytes) {
+            Some(rest) => rest,
+            None => bytes,
+        },
+    }
+}
+
+#[tactic(auto, unfolding(crate::specs::Offsets::offset_minute))]
+#[inline(always)]
+fn offset_minute(bytes: &[u8]) -> Option<(u8, &[u8])>
+    ensures cut { cut_view result ≡ Offsets.offset_minute bytes.now }
+    ensures bound { IfSome result (λ x. x.0 ≤ 59) }
+{
+    let Some((minute, rest)) = two_digits(bytes) else {
+        return Some((0, bytes));
+    };
+    if minute > 59 {
+        return None;
+    }
+    Some((minute, rest))
+}
+
+// Hours and minutes under one sign.
+#[inline(always)]
+fn under_sign(is_negative: bool, hour: u8, minute: u8) -> WrittenOffset
+    requires hour { hour ≤ 25 }
+    requires minute { minute ≤ 59 }
+    ensures value { result ≡ Offsets.offset_of is_negative hour minute }
+    ensures range { IsOffsetInRange result }
+{
+    let (hour, minute) = (hour as i8, minute as i8);
+    if is_negative {
+        WrittenOffset {
+            hour: -hour,
+            minute: -minute,
+            second: None,
+        }
+    } else {
+        WrittenOffset {
+            hour,
+            minute,
+            second: None,
+        }
+    }
+}
+
+#[tactic(auto, unfolding(crate::specs::Offsets::signed_offset))]
+#[inline(always)]
+fn signed_offset(kind: Kind, bytes: &[u8]) -> Option<(WrittenOffset, &[u8])>
+    ensures cut { cut_view result ≡ Offsets.signed_offset kind bytes.now }
+    ensures range { IfSome result (λ x. IsOffsetInRange x.0) }
+{
+    let (mark, rest) = sign(bytes)?;
+    let (hour, rest) = two_digits(rest)?;
+    if hour > 25 {
+        return None;
+    }
+    let (minute, rest) = offset_minute(maybe_colon(kind, rest))?;
+    Some((under_sign(mark == b'-', hour, minute), rest))
+}
+
+/// The offset at the front of the bytes.
+#[tactic(auto, unfolding(crate::specs::Offsets::offset))]
+#[inline(always)]
+pub fn offset(kind: Kind, bytes: &[u8]) -> Option<(WrittenOffset, &[u8])>
+    ensures cut { cut_view result ≡ Offsets.offset kind bytes.now }
+    ensures range { IfSome result (λ x. IsOffsetInRange x.0) }
+{
+    if let Some(rest) = byte(b'Z', bytes) {
+        let zulu = WrittenOffset {
+            hour: 0,
+            minute: 0,
+            second: Some(0),
+        };
+        return Some((zulu, rest));
+    }
+    signed_offset(kind, bytes)
+}

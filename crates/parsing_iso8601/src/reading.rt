@@ -1,0 +1,121 @@
+//! The parts of a text, one after another.
+ghost use Rattle.std.specs.Prelude.{◌≡◌, Ok, IfOk, IfErr, IfSome};
+ghost use Rattle.parsing_pieces.specs.ShortName.{HasShortName};
+ghost use Rattle.parsing_iso8601.specs.Ranges.{IsDateInRange, IsTimeInRange, IsOffsetInRange, AreInRange};
+ghost use Rattle.parsing_pieces.specs.FaultOf.{Gives, reading_fault};
+ghost use Rattle.parsing_iso8601.specs.Reading as Reading;
+ghost use Rattle.parsing_iso8601.specs.Times as Times;
+ghost use Rattle.parsing_iso8601.specs.Offsets as Offsets;
+ghost use Rattle.parsing_iso8601.specs.ReadView.{date_view};
+
+use crate::date::{date_behind, year_and_kind};
+use crate::kind::Kind;
+use crate::offset::offset;
+use crate::time::time;
+use crate::written::{Written, WrittenDate, WrittenOffset, WrittenTime};
+use parsing_pieces::ParseFromDescription;
+
+type DateOrFault = Result<WrittenDate, ParseFromDescription>;
+
+/// The date or why there is none, the kind that it hands on, and the rest.
+#[tactic(auto, unfolding(crate::specs::Reading::dated))]
+#[inline(always)]
+pub(crate) fn dated(bytes: &[u8]) -> ((DateOrFault, Kind), &[u8])
+    ensures gives { Reading.dated bytes.now ≡ Ok ((date_view result.0.0, result.0.1), result.1.now) }
+    ensures range { IfOk result.0.0 IsDateInRange }
+    ensures short_name { IfErr result.0.0 (λ e. HasShortName (reading_fault e)) }
+{
+    match year_and_kind(bytes) {
+        Err(fault) => ((Err(fault), Kind::Unknown), bytes),
+        Ok(((year, kind), behind)) => match date_behind(kind, year, behind) {
+            Ok((date, rest)) => ((Ok(date), kind), rest),
+            Err(fault) => ((Err(fault), kind), bytes),
+        },
+    }
+}
+
+// The time, where it is there, and the kind that it hands on.
+fn maybe_time(kind: Kind, behind_date: bool, bytes: &[u8]) -> (Option<(WrittenTime, Kind)>, &[u8])
+    ensures gives { Reading.maybe (Times.time kind behind_date) bytes.now ≡ Ok (result.0, result.1.now) }
+    ensures range { IfSome result.0 (λ t. IsTimeInRange t.0) }
+{
+    match time(kind, behind_date, bytes) {
+        Some((read, rest)) => (Some(read), rest),
+        None => (None, bytes),
+    }
+}
+
+// The offset, where it is there.
+fn maybe_offset(kind: Kind, bytes: &[u8]) -> (Option<WrittenOffset>, &[u8])
+    ensures gives { Reading.maybe (Offsets.offset kind) bytes.now ≡ Ok (result.0, result.1.now) }
+    ensures range { IfSome result.0 IsOffsetInRange }
+{
+    match offset(kind, bytes) {
+        Some((read, rest)) => (Some(read), rest),
+        None => (None, bytes),
+    }
+}
+
+// The offset, where it may stand and is there.
+fn offset_behind(
+    has_date: bool,
+    has_time: bool,
+    kind: Kind,
+    bytes: &[u8],
+) -> (Option<WrittenOffset>, &[u8])
+    ensures gives { Reading.offset_behind has_date has_time kind bytes.now ≡ Ok (result.0, result.1.now) }
+    ensures range { IfSome result.0 IsOffsetInRange }
+{
+    if has_time || !has_date {
+        maybe_offset(kind, bytes)
+    } else {
+        (None, bytes)
+    }
+}
+
+// The kind behind the time.
+fn handed_on(kind: Kind, read: Option<(WrittenTime, Kind)>) -> Kind
+    ensures { result ≡ Reading.handed_on kind read }
+{
+    match read {
+        None => kind,
+        Some((_, settled)) => settled,
+    }
+}
+
+// What was read, or why nothing was.
+fn gathered(
+    date: DateOrFault,
+    time: Option<WrittenTime>,
+    offset: Option<WrittenOffset>,
+    rest: &[u8],
+) -> Result<(Written, &[u8]), ParseFromDescription>
+    requires date { IfOk date IsDateInRange }
+    requires time { IfSome time IsTimeInRange }
+    requires offset { IfSome offset IsOffsetInRange }
+    requires short_name { IfErr date (λ e. HasShortName (reading_fault e)) }
+    ensures gives { Gives (λ x. (x.0, x.1.now)) reading_fault result (Reading.gathered (date_view date) time offset rest.now) }
+    ensures range { IfOk result (λ x. AreInRange x.0) }
+    ensures short_name { IfErr result (λ e. HasShortName (reading_fault e)) }
+{
+    let date = match date {
+        Ok(date) => Some(date),
+        Err(fault) if time.is_none() && offset.is_none() => return Err(fault),
+        Err(_) => None,
+    };
+    Ok((Written { date, time, offset }, rest))
+}
+
+/// The parts at the front of the bytes, and the rest.
+#[tactic(auto, unfolding(crate::specs::Reading::iso8601))]
+pub fn front(bytes: &[u8]) -> Result<(Written, &[u8]), ParseFromDescription>
+    ensures gives { Gives (λ x. (x.0, x.1.now)) reading_fault result (Reading.iso8601 bytes.now) }
+    ensures range { IfOk result (λ x. AreInRange x.0) }
+    ensures short_name { IfErr result (λ e. HasShortName (reading_fault e)) }
+{
+    let ((date, kind), rest) = dated(bytes);
+    let (read, rest) = maybe_time(kind, date.is_ok(), rest);
+    let kind = handed_on(kind, read);
+    let (offset, rest) = offset_behind(date.is_ok(), read.is_some(), kind, rest);
+    gathered(date, read.map(|x| x.0), offset, rest)
+}

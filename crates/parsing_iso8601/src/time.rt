@@ -1,0 +1,248 @@
+//! The time of day of a text.
+ghost use Rattle.std.specs.Prelude.{◌≡◌, ◌≤◌, ◌<◌, true, Some, IfSome};
+ghost use Rattle.parsing_pieces.specs.Pieces.{cut_view, rest_view};
+ghost use Rattle.parsing_iso8601.specs.Ranges.{IsTimeInRange};
+ghost use Rattle.parsing_iso8601.specs.ReadView.{digits_view, AreDigits};
+ghost use Rattle.parsing_iso8601.specs.Times as Times;
+
+use crate::fraction::{part_of, rounded_part_of};
+use crate::kind::{Kind, kind_of_time};
+use crate::number::number;
+use crate::written::WrittenTime;
+use parsing_pieces::byte;
+
+const NANOSECONDS_IN_SECOND: u64 = 1_000_000_000;
+
+const NANOSECONDS_IN_MINUTE: u64 = 60_000_000_000;
+
+const NANOSECONDS_IN_HOUR: u64 = 3_600_000_000_000;
+
+// The time so many nanoseconds behind an hour.
+#[tactic(auto, unfolding(crate::specs::Times::behind_hour))]
+fn behind_hour(hour: u8, nanos: u64) -> WrittenTime
+    requires hour { hour ≤ 23 }
+    requires nanos { nanos < 3_600_000_000_000 }
+    ensures value { result ≡ Times.behind_hour hour nanos }
+    ensures range { IsTimeInRange result }
+{
+    WrittenTime {
+        hour,
+        minute: (nanos / NANOSECONDS_IN_MINUTE) as u8,
+        second: (nanos / NANOSECONDS_IN_SECOND % 60) as u8,
+        subsecond: (nanos % NANOSECONDS_IN_SECOND) as u32,
+    }
+}
+
+// The time so many nanoseconds behind a minute.
+#[tactic(auto, unfolding(crate::specs::Times::behind_minute))]
+fn behind_minute(hour: u8, minute: u8, nanos: u64) -> WrittenTime
+    requires hour { hour ≤ 23 }
+    requires minute { minute ≤ 59 }
+    requires nanos { nanos < 60_000_000_000 }
+    ensures value { result ≡ Times.behind_minute hour minute nanos }
+    ensures range { IsTimeInRange result }
+{
+    WrittenTime {
+        hour,
+        minute,
+        second: (nanos / NANOSECONDS_IN_SECOND) as u8,
+        subsecond: (nanos % NANOSECONDS_IN_SECOND) as u32,
+    }
+}
+
+// The nanoseconds of a fraction of a second, or of none.
+#[inline(always)]
+fn subsecond(run: Option<&[u8]>) -> u64
+    requires { AreDigits run }
+    ensures value { result ≡ Times.subsecond_of (digits_view run.entry) }
+    ensures bound { result ≤ 1_000_000_000 }
+{
+    match run {
+        None => 0,
+        Some(digits) => rounded_part_of(NANOSECONDS_IN_SECOND, digits),
+    }
+}
+
+// The time to a second that was read.
+#[tactic(auto, unfolding(crate::specs::Times::to_second))]
+#[inline(always)]
+fn to_second<'a>(
+    hour: u8,
+    minute: u8,
+    second: (u8, Option<&[u8]>),
+    bytes: &'a [u8],
+) -> Option<(WrittenTime, &'a [u8])>
+    requires hour { hour ≤ 23 }
+    requires minute { minute ≤ 59 }
+    requires digits { AreDigits second.1 }
+    ensures cut { cut_view result ≡ Times.to_second hour minute (second.entry.0, digits_view second.entry.1) bytes.now }
+    ensures range { IfSome result (λ x. IsTimeInRange x.0) }
+{
+    if second.0 > 60 {
+        return None;
+    }
+    let subsecond = subsecond(second.1);
+    if subsecond >= NANOSECONDS_IN_SECOND {
+        return None;
+    }
+    let time = WrittenTime {
+        hour,
+        minute,
+        second: second.0,
+        subsecond: subsecond as u32,
+    };
+    Some((time, bytes))
+}
+
+// A whole minute.
+fn to_minute(hour: u8, minute: u8) -> WrittenTime
+    requires hour { hour ≤ 23 }
+    requires minute { minute ≤ 59 }
+    ensures value { result ≡ Times.time_of hour minute 0 0 }
+    ensures range { IsTimeInRange result }
+{
+    WrittenTime {
+        hour,
+        minute,
+        second: 0,
+        subsecond: 0,
+    }
+}
+
+// What follows a whole minute of the basic kind.
+#[tactic(auto, unfolding(crate::specs::Times::basic_seconds))]
+#[inline(always)]
+fn basic_seconds(hour: u8, minute: u8, bytes: &[u8]) -> Option<(WrittenTime, &[u8])>
+    requires hour { hour ≤ 23 }
+    requires minute { minute ≤ 59 }
+    ensures cut { cut_view result ≡ Times.basic_seconds hour minute bytes.now }
+    ensures range { IfSome result (λ x. IsTimeInRange x.0) }
+{
+    match number(bytes) {
+        Some((second, rest)) => to_second(hour, minute, second, rest),
+        None => Some((to_minute(hour, minute), bytes)),
+    }
+}
+
+// What follows a whole minute of the extended kind.
+#[tactic(auto, unfolding(crate::specs::Times::extended_seconds, crate::specs::Times::due_second))]
+#[inline(always)]
+fn extended_seconds(hour: u8, minute: u8, bytes: &[u8]) -> Option<(WrittenTime, &[u8])>
+    requires hour { hour ≤ 23 }
+    requires minute { minute ≤ 59 }
+    ensures cut { cut_view result ≡ Times.extended_seconds hour minute bytes.now }
+    ensures range { IfSome result (λ x. IsTimeInRange x.0) }
+{
+    let Some(rest) = byte(b':', bytes) else {
+        return Some((to_minute(hour, minute), bytes));
+    };
+    let (second, rest) = number(rest)?;
+    to_second(hour, minute, second, rest)
+}
+
+// What follows a whole minute.
+#[tactic(auto, unfolding(crate::specs::Times::seconds))]
+#[inline(always)]
+fn seconds(kind: Kind, hour: u8, minute: u8, bytes: &[u8]) -> Option<(WrittenTime, &[u8])>
+    requires hour { hour ≤ 23 }
+    requires minute { minute ≤ 59 }
+    ensures cut { cut_view result ≡ Times.seconds kind hour minute bytes.now }
+    ensures range { IfSome result (λ x. IsTimeInRange x.0) }
+{
+    match kind {
+        Kind::Unknown | Kind::Basic => basic_seconds(hour, minute, bytes),
+        Kind::Extended => extended_seconds(hour, minute, bytes),
+    }
+}
+
+// What follows a minute.
+#[tactic(auto, unfolding(crate::specs::Times::from_minute))]
+#[inline(always)]
+fn from_minute<'a>(
+    kind: Kind,
+    hour: u8,
+    minute: (u8, Option<&[u8]>),
+    bytes: &'a [u8],
+) -> Option<((WrittenTime, Kind), &'a [u8])>
+    requires hour { hour ≤ 23 }
+    requires digits { AreDigits minute.1 }
+    ensures cut { cut_view result ≡ Times.from_minute kind hour (minute.entry.0, digits_view minute.entry.1) bytes.now }
+    ensures range { IfSome result (λ x. IsTimeInRange x.0.0) }
+{
+    if minute.0 > 59 {
+        return None;
+    }
+    match minute.1 {
+        Some(run) => {
+            let time = behind_minute(hour, minute.0, part_of(NANOSECONDS_IN_MINUTE, run));
+            Some(((time, kind.settled()), bytes))
+        }
+        None => {
+            let (time, rest) = seconds(kind, hour, minute.0, bytes)?;
+            Some(((time, kind.settled()), rest))
+        }
+    }
+}
+
+// Minutes and what follows them, where they are there.
+#[tactic(auto, unfolding(crate::specs::Times::minutes))]
+#[inline(always)]
+fn minutes(kind: Kind, hour: u8, bytes: &[u8]) -> Option<((WrittenTime, Kind), &[u8])>
+    requires hour { hour ≤ 23 }
+    ensures cut { cut_view result ≡ Times.minutes kind hour bytes.now }
+    ensures range { IfSome result (λ x. IsTimeInRange x.0.0) }
+{
+    if let Some((minute, rest)) = number(bytes) {
+        return from_minute(kind, hour, minute, rest);
+    }
+    match kind {
+        Kind::Unknown | Kind::Basic => Some(((to_minute(hour, 0), kind), bytes)),
+        Kind::Extended => None,
+    }
+}
+
+// What follows a whole hour.
+#[tactic(auto, unfolding(crate::specs::Times::from_hour))]
+#[inline(always)]
+fn from_hour(kind: Kind, hour: u8, bytes: &[u8]) -> Option<((WrittenTime, Kind), &[u8])>
+    requires hour { hour ≤ 23 }
+    ensures cut { cut_view result ≡ Times.from_hour kind hour bytes.now }
+    ensures range { IfSome result (λ x. IsTimeInRange x.0.0) }
+{
+    let (kind, rest) = kind_of_time(kind, bytes)?;
+    minutes(kind, hour, rest)
+}
+
+// Past the `T`, which has to be there behind a date.
+#[tactic(auto, unfolding(crate::specs::Times::designator))]
+#[inline(always)]
+fn designator(behind_date: bool, bytes: &[u8]) -> Option<&[u8]>
+    ensures { rest_view result ≡ Times.designator behind_date bytes.now }
+{
+    match byte(b'T', bytes) {
+        Some(rest) => Some(rest),
+        None if behind_date => None,
+        None => Some(bytes),
+    }
+}
+
+/// The time of day at the front of the bytes, and the kind that it hands on.
+#[tactic(auto, unfolding(crate::specs::Times::time))]
+#[inline(always)]
+pub fn time(kind: Kind, behind_date: bool, bytes: &[u8]) -> Option<((WrittenTime, Kind), &[u8])>
+    ensures cut { cut_view result ≡ Times.time kind behind_date bytes.now }
+    ensures range { IfSome result (λ x. IsTimeInRange x.0.0) }
+{
+    let rest = designator(behind_date, bytes)?;
+    let ((hour, fraction), rest) = number(rest)?;
+    if hour > 23 {
+        return None;
+    }
+    match fraction {
+        Some(run) => {
+            let time = behind_hour(hour, part_of(NANOSECONDS_IN_HOUR, run));
+            Some(((time, kind), rest))
+        }
+        None => from_hour(kind, hour, rest),
+    }
+}
