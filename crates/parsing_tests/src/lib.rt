@@ -2,7 +2,13 @@
 #![tactic(auto)]
 
 #[cfg(test)]
+mod alternatives;
+#[cfg(test)]
+mod components;
+#[cfg(test)]
 mod dates;
+#[cfg(test)]
+mod errors;
 #[cfg(test)]
 mod moments;
 #[cfg(test)]
@@ -11,3 +17,9 @@ mod pieces;
 mod readings;
 #[cfg(test)]
 mod records;
+#[cfg(test)]
+mod setters;
+#[cfg(test)]
+mod support;
+#[cfg(test)]
+mod values;
