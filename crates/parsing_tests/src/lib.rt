@@ -2,9 +2,13 @@
 #![tactic(auto)]
 
 #[cfg(test)]
+mod alternatives;
+#[cfg(test)]
 mod components;
 #[cfg(test)]
 mod dates;
+#[cfg(test)]
+mod errors;
 #[cfg(test)]
 mod moments;
 #[cfg(test)]
@@ -15,3 +19,8 @@ mod readings;
 mod records;
 #[cfg(test)]
 mod rfc2822;
+mod setters;
+#[cfg(test)]
+mod support;
+#[cfg(test)]
+mod values;

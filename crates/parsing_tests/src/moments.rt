@@ -5,10 +5,11 @@ use calendar_count::{ComponentName, ComponentRange};
 use datetime_types::{OffsetDateTime, PlainDateTime, Timestamp, UtcDateTime};
 use parsing_dates::{DateParts, YearParts};
 use parsing_moments::{
-    MomentParts, OffsetParts, TimeParts, hour, laws, offset, offset_date_time, permitted_time,
-    plain_date_time, time, timestamp, utc_date_time,
+    MomentParts, OffsetParts, TimeParts, hour, laws, offset, offset_date_time, plain_date_time,
+    time, timestamp, utc_date_time,
 };
 use parsing_pieces::TryFromParsed;
+use parsing_resolution::resolve::permitted_time;
 use std::test::Fail;
 
 const NO_YEAR: YearParts = YearParts {

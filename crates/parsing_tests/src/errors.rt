@@ -1,0 +1,92 @@
+//! Any refusal as one type, and back.
+
+use calendar::{ComponentName, ComponentRange, ConversionRange, InvalidVariant};
+use description::{DifferentVariant, InvalidFormatDescription};
+use parsing::{Error, Parse, ParseFromDescription, TryFromParsed};
+use std::test::Fail;
+
+const UNREAD: ParseFromDescription = ParseFromDescription::InvalidComponent("offset hour");
+
+const UNCLOSED: InvalidFormatDescription<'static> =
+    InvalidFormatDescription::UnclosedOpeningBracket { index: 7 };
+
+fn range() -> ComponentRange {
+    ComponentRange::conditional(ComponentName::Day)
+}
+
+fn unresolved() -> TryFromParsed {
+    TryFromParsed::from(range())
+}
+
+// One refusal of each kind.
+fn all() -> [Error<'static>; 7] {
+    [
+        Error::from(ConversionRange),
+        Error::from(range()),
+        Error::from(unresolved()),
+        Error::from(UNREAD),
+        Error::from(UNCLOSED),
+        Error::from(DifferentVariant),
+        Error::from(InvalidVariant),
+    ]
+}
+
+// Which kinds of refusals an error is given back as.
+fn kinds(error: Error<'static>) -> [bool; 8] {
+    [
+        ConversionRange::try_from(error) == Ok(ConversionRange),
+        ComponentRange::try_from(error) == Ok(range()),
+        TryFromParsed::try_from(error) == Ok(unresolved()),
+        ParseFromDescription::try_from(error) == Ok(UNREAD),
+        InvalidFormatDescription::try_from(error) == Ok(UNCLOSED),
+        DifferentVariant::try_from(error) == Ok(DifferentVariant),
+        InvalidVariant::try_from(error) == Ok(InvalidVariant),
+        Parse::try_from(error) == Err(DifferentVariant),
+    ]
+}
+
+#[test]
+fn refusals_come_back(rt: HostRuntime) {
+    for (place, error) in all().into_iter().enumerate() {
+        let mut wanted = [false; 8];
+        wanted[place] = true;
+        // the two kinds of a reading are given back as one
+        wanted[7] = place != 2 && place != 3;
+        assert!(rt; kinds(error) == wanted);
+    }
+    for parse in [Parse::from(unresolved()), Parse::from(UNREAD)] {
+        let error = Error::from(parse);
+        assert!(rt; Parse::try_from(error) == Ok(parse));
+    }
+}
+
+#[test]
+fn refusals_of_readings_come_back(rt: HostRuntime) {
+    let (bytes, record) = (Parse::from(UNREAD), Parse::from(unresolved()));
+    assert!(rt; ParseFromDescription::try_from(bytes) == Ok(UNREAD));
+    assert!(rt; ParseFromDescription::try_from(record) == Err(DifferentVariant));
+    assert!(rt; TryFromParsed::try_from(record) == Ok(unresolved()));
+    assert!(rt; TryFromParsed::try_from(bytes) == Err(DifferentVariant));
+    assert!(rt; ComponentRange::try_from(unresolved()) == Ok(range()));
+    let little = TryFromParsed::InsufficientInformation;
+    assert!(rt; ComponentRange::try_from(little) == Err(DifferentVariant));
+}
+
+#[test]
+fn texts(rt: HostRuntime) -> Result<(), Fail> {
+    let mut told = String::new(rt.alloc());
+    for error in all() {
+        told.push_str(format!(in rt.alloc(); "\n{error}")?.as_str())?;
+    }
+    assert_eq!(rt; told.as_str(), TEXTS);
+    Ok(())
+}
+
+const TEXTS: &str = r#"
+value out of range for the target type
+day was not in range given values of other parameters
+day was not in range given values of other parameters
+the 'offset hour' component could not be parsed
+unclosed opening bracket at byte index 7
+value was of a different variant
+value was not a valid variant"#;
