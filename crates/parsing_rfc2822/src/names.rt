@@ -41,7 +41,7 @@ fn weekday_of(text: &[u8]) -> Option<Weekday>
 /// A weekday's first three letters.
 #[tactic(auto, unfolding(crate::specs::Names::weekday))]
 #[inline(always)]
-pub fn weekday(bytes: &[u8]) -> Option<(Weekday, &[u8])>
+pub(crate) fn weekday(bytes: &[u8]) -> Option<(Weekday, &[u8])>
     ensures { cut_view result ≡ Names.weekday bytes.now }
 {
     if bytes.len() < 3 {
@@ -80,7 +80,7 @@ fn month_of(text: &[u8]) -> Option<Month>
 /// A month's first three letters.
 #[tactic(auto, unfolding(crate::specs::Names::month))]
 #[inline(always)]
-pub fn month(bytes: &[u8]) -> Option<(Month, &[u8])>
+pub(crate) fn month(bytes: &[u8]) -> Option<(Month, &[u8])>
     ensures { cut_view result ≡ Names.month bytes.now }
 {
     if bytes.len() < 3 {
@@ -146,7 +146,7 @@ fn short_zone(bytes: &[u8]) -> Option<(u8, &[u8])>
 /// `UT` and single letters are names only where fewer than three bytes are left.
 #[tactic(auto, unfolding(crate::specs::Names::zone_name))]
 #[inline(always)]
-pub fn zone_name(bytes: &[u8]) -> Option<(u8, &[u8])>
+pub(crate) fn zone_name(bytes: &[u8]) -> Option<(u8, &[u8])>
     ensures cut { cut_view result ≡ Names.zone_name bytes.now }
     ensures bound { IfSome result (λ x. x.0 ≤ 8) }
 {

@@ -107,7 +107,7 @@ const SHORTEST: usize = 22;
 /// What is written at the front of the bytes, and the rest, where the text has the usual shape.
 #[tactic(auto, unfolding(crate::specs::Reading::rfc2822))]
 #[inline(always)]
-pub fn quick_front(bytes: &[u8]) -> Option<(Written, &[u8])>
+pub(crate) fn quick_front(bytes: &[u8]) -> Option<(Written, &[u8])>
     ensures reads { IfSome result (λ x. Reading.rfc2822 false bytes.now ≡ Ok (x.0, x.1.now)) }
     ensures hours { IfSome result (λ x. x.0.zone.hours < 100) }
     ensures minutes { IfSome result (λ x. x.0.zone.minutes < 100) }

@@ -8,7 +8,7 @@ use parsing_white_space::comments_and_white_space;
 
 /// What follows comments and white space, where there are any.
 #[inline(always)]
-pub fn past_spacing(bytes: &[u8]) -> &[u8]
+pub(crate) fn past_spacing(bytes: &[u8]) -> &[u8]
     ensures { result.now ≡ Skips.optional White.comments_and_white_space bytes.now }
 {
     match comments_and_white_space(bytes) {
@@ -20,7 +20,7 @@ pub fn past_spacing(bytes: &[u8]) -> &[u8]
 /// A colon, with comments and white space on both sides.
 #[tactic(auto, unfolding(crate::specs::Reading::spaced_colon, parsing_white_space::specs::Skips::byte_where))]
 #[inline(always)]
-pub fn spaced_colon(bytes: &[u8]) -> Option<&[u8]>
+pub(crate) fn spaced_colon(bytes: &[u8]) -> Option<&[u8]>
     ensures { option_map (λ r. r.now) result ≡ Reading.spaced_colon bytes.now }
 {
     match past_spacing(bytes) {
