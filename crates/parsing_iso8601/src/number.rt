@@ -58,7 +58,7 @@ pub fn two_from_one(bytes: &[u8]) -> Option<(u8, &[u8])>
     ensures bound { IfSome result (λ x. IsInRange 1 99 x.0) }
 {
     let (value, rest) = two_digits(bytes)?;
-    if value == 0 {
+    if value < 1 {
         return None;
     }
     Some((value, rest))

@@ -29,18 +29,26 @@ fn extended_date(bytes: &[u8]) -> Option<(WrittenDate, &[u8])>
     Some((date, rest))
 }
 
+// Any other date, and the kind that it hands on.
+#[inline(always)]
+fn other_date(bytes: &[u8]) -> Option<((WrittenDate, Kind), &[u8])>
+    ensures { IfSome result (λ x. Reading.dated bytes.now ≡ Ok ((Ok x.0.0, x.0.1), x.1.now)) }
+{
+    let ((date, kind), rest) = dated(bytes);
+    match date {
+        Ok(date) => Some(((date, kind), rest)),
+        Err(_) => None,
+    }
+}
+
 /// The date and the kind that it hands on.
 #[inline(always)]
 pub fn quick_date(bytes: &[u8]) -> Option<((WrittenDate, Kind), &[u8])>
     ensures { IfSome result (λ x. Reading.dated bytes.now ≡ Ok ((Ok x.0.0, x.0.1), x.1.now)) }
 {
-    if let Some((date, rest)) = extended_date(bytes) {
-        return Some(((date, Kind::Extended), rest));
-    }
-    let ((date, kind), rest) = dated(bytes);
-    match date {
-        Ok(date) => Some(((date, kind), rest)),
-        Err(_) => None,
+    match extended_date(bytes) {
+        Some((date, rest)) => Some(((date, Kind::Extended), rest)),
+        None => other_date(bytes),
     }
 }
 
