@@ -19,6 +19,7 @@ mod readings;
 mod records;
 #[cfg(test)]
 mod rfc2822;
+#[cfg(test)]
 mod setters;
 #[cfg(test)]
 mod support;
