@@ -6,9 +6,9 @@ use Rattle.calendar.specs.Time.{time_of}
 use Rattle.calendar.specs.UtcOffset.{offset_of}
 use Rattle.datetime_wall.specs.Wall.{wall_clock}
 use Rattle.parsing_dates.specs.NamedDate.{named_date, in_range, by_ordinal, by_day, by_iso_week, year_of, split_year}
-use Rattle.parsing_moments.specs.NamedTime.{named_time, named_offset, hour_of, half_day_hour, finer_parts, permitted_time, seconds_behind}
+use Rattle.parsing_moments.specs.NamedTime.{named_time, named_offset, hour_of, half_day_hour, finer_parts, seconds_behind}
 use Rattle.parsing_moments.specs.NamedMoment.{named_moment, dated_moment, named_wall}
-use Rattle.parsing_resolution.specs.Resolution.{leap_time_of}
+use Rattle.parsing_resolution.specs.Resolution.{permitted_time_of, leap_time_of}
 use Rattle.parsing_resolution.specs.StandIn.{leap_checked}
 use Rattle.parsing_iso8601.specs.declared.kind.Kind.{Kind}
 use Rattle.parsing_iso8601.specs.declared.written.WrittenDate.{WrittenDate}
@@ -29,7 +29,7 @@ date_named (OfYear year ordinal) = refl
 date_named (OfWeek year week weekday) = refl
 
 pub time_named : (t : WrittenTime) → named_time true (time_parts (Some t)) ≡ in_range (leap_time_of t.hour t.minute t.second t.subsecond)
-unfolding named_time hour_of half_day_hour finer_parts permitted_time
+unfolding named_time hour_of half_day_hour finer_parts
 time_named t = refl
 
 pub offset_named : (o : WrittenOffset) → named_offset (offset_parts (Some o)) ≡ in_range (offset_of o.hour o.minute (unwrap_or o.second (pos 0)))
@@ -44,7 +44,7 @@ moment_named d t o day nanos seconds hd ht ho =
     rw (date_named d) (rw hd (rw (time_named t) (rw ht (rw (offset_named o) (rw ho refl)))))
 
 plain_time : (h m s n : ℕ) → (s == 60) ≡ false → leap_time_of h m s n ≡ time_of h m s n
-unfolding leap_time_of
+unfolding permitted_time_of
 plain_time h m s n e = rw e refl
 
 pub plain_moment : (d : WrittenDate) (t : WrittenTime) (o : WrittenOffset) (day nanos : ℕ) (seconds : ℤ) → (t.second == 60) ≡ false → day_named d ≡ Ok day → time_of t.hour t.minute t.second t.subsecond ≡ Ok nanos → offset_of o.hour o.minute (unwrap_or o.second (pos 0)) ≡ Ok seconds

@@ -4,7 +4,7 @@ use Rattle.std.specs.Prelude.{nat_lt}
 use Rattle.std.proofs.lemmas.Bool.Decides.{nat_tests}
 use Rattle.calendar.specs.Time.{time_of}
 use Rattle.calendar_count.specs.declared.component_range.ComponentRange.{ComponentRange}
-use Rattle.parsing_resolution.specs.Resolution.{leap_time_of}
+use Rattle.parsing_resolution.specs.Resolution.{permitted_time_of, leap_time_of}
 
 pub past : {A E : Type 0} (b : Bool) (e : E) (r : Result A E) (x : A) → cond b (Err e) r ≡ Ok x → (b ≡ false) × (r ≡ Ok x)
 past true e r x h = absurd (cc)
@@ -44,7 +44,7 @@ clock_ranges h m s n time e =
     record { hour = hour.0; minute = minute.0; second = second.0; value = same_ok _ time nanos.1 }
 
 plain_ranges : (h m s n time : ℕ) → (s == 60) ≡ false → time_of h m s n ≡ Ok time → TimeRanges h m s n time
-unfolding leap_time_of time_of
+unfolding permitted_time_of time_of
 plain_ranges h m s n time plain e =
     let r = clock_ranges h m s n time e in
     record {
@@ -59,7 +59,7 @@ plain_ranges h m s n time plain e =
     }
 
 leap_ranges : (h m s n time : ℕ) → (s == 60) ≡ true → time_of h m 59 999_999_999 ≡ Ok time → TimeRanges h m s n time
-unfolding leap_time_of
+unfolding permitted_time_of
 leap_ranges h m s n time leap e =
     let r = clock_ranges h m 59 999_999_999 time e in
     record {
@@ -71,7 +71,7 @@ leap_ranges h m s n time leap e =
     }
 
 by_leap : (b : Bool) (h m s n time : ℕ) → (s == 60) ≡ b → leap_time_of h m s n ≡ Ok time → TimeRanges h m s n time
-unfolding leap_time_of
+unfolding permitted_time_of
 by_leap true h m s n time e is = leap_ranges h m s n time e (rw e at is)
 by_leap false h m s n time e is = plain_ranges h m s n time e (rw e at is)
 
