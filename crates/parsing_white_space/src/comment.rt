@@ -1,5 +1,6 @@
 //! Comments, and the white space between them.
-ghost use Rattle.std.specs.Prelude.{◌≡◌, ◌<◌, ◌≤◌, IfSome, Some, None, false, length, option_map};
+ghost use Rattle.byte_names.specs.Bytes.{space};
+ghost use Rattle.std.specs.Prelude.{◌↔◌, IsSome, slice_index, true, ◌≡◌, ◌<◌, ◌≤◌, IfSome, Some, None, false, length, option_map};
 ghost use Rattle.parsing_white_space.specs.Skips as Skips;
 ghost use Rattle.parsing_white_space.specs.WhiteSpace as White;
 
@@ -176,7 +177,8 @@ fn past_white_and_comments(bytes: &[u8]) -> &[u8]
 #[tactic(auto, using(crate::proofs::WhiteSpaceLemmas::none_there, crate::proofs::WhiteSpaceLemmas::none_of_empty))]
 #[inline(always)]
 pub fn may_begin(bytes: &[u8]) -> bool
-    ensures { result ≡ false → White.comments_and_white_space bytes.now ≡ None }
+    ensures absent { result ≡ false → White.comments_and_white_space bytes.now ≡ None }
+    ensures first { (result ≡ true) ↔ ((0 < length bytes.now) × (slice_index bytes.now 0 ≤ White.left_parenthesis)) }
 {
     match bytes {
         [first, ..] => *first <= b'(',
@@ -191,6 +193,7 @@ pub fn one_space(bytes: &[u8]) -> Option<&[u8]>
     ensures skips { IfSome result (λ r. White.comments_and_white_space bytes.now ≡ Some r.now) }
     ensures folds { IfSome result (λ r. White.folding_white_space bytes.now ≡ Some r.now) }
     ensures shorter { IfSome result (λ r. length r.now < length bytes.now) }
+    ensures there { IsSome result ↔ ((slice_index bytes.now 0 ≡ space) × (White.left_parenthesis < slice_index bytes.now 1)) }
 {
     match bytes {
         [first, next, ..] if *first == b' ' && *next > b'(' => Some(&bytes[1..]),
