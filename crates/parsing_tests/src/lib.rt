@@ -4,6 +4,8 @@
 #[cfg(test)]
 mod dates;
 #[cfg(test)]
+mod iso8601;
+#[cfg(test)]
 mod moments;
 #[cfg(test)]
 mod pieces;
