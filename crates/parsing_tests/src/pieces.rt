@@ -3,12 +3,18 @@
 use calendar_count::{ComponentName, ComponentRange};
 use parsing_pieces::{
     Parse, ParseFromDescription, TryFromParsed, any_byte, byte, clock, digit_run, four_digits,
-    fraction, nine_digits, sign, two_digits, year_month,
+    fraction, nine_digits, one_digit, sign, six_digits, three_digits, two_digits, year_month,
 };
 use std::test::Fail;
 
 #[test]
 fn pieces(rt: HostRuntime) {
+    assert!(rt; one_digit(b"07:") == Some((0, b"7:".as_slice())));
+    assert!(rt; one_digit(b":") == None);
+    assert!(rt; three_digits(b"366:") == Some((366, b":".as_slice())));
+    assert!(rt; three_digits(b"36:") == None);
+    assert!(rt; six_digits(b"012345-") == Some((12_345, b"-".as_slice())));
+    assert!(rt; six_digits(b"01234-") == None);
     assert!(rt; two_digits(b"07:") == Some((7, b":".as_slice())));
     assert!(rt; two_digits(b"7:") == None);
     assert!(rt; four_digits(b"1985-") == Some((1985, b"-".as_slice())));
