@@ -9,6 +9,7 @@ mod components;
 mod dates;
 #[cfg(test)]
 mod errors;
+#[cfg(test)]
 mod iso8601;
 #[cfg(test)]
 mod moments;
