@@ -2,6 +2,7 @@
 
 use crate::support::fields_told;
 use calendar::{Month, Weekday};
+use datetime_types::OffsetDateTime;
 use parsing::Parsed;
 use std::test::Fail;
 
@@ -188,4 +189,34 @@ fn refused_records(rt: HostRuntime) {
             .is_none(),
     ];
     assert!(rt; refused == [true; 22]);
+}
+
+// The parts of 1990-12-31T23:59:60Z.
+fn leap_second() -> Option<Parsed> {
+    let day = Parsed::new().with_year(1990)?.with_ordinal(365)?;
+    let time = day.with_hour_24(23)?.with_minute(59)?.with_second(60)?;
+    time.with_offset_hour(0)
+}
+
+#[test]
+fn permitted_leap_second(rt: HostRuntime) -> Result<(), Fail> {
+    let Some(mut parsed) = leap_second() else {
+        return Err(Fail::from("a part is refused"));
+    };
+    assert!(rt; OffsetDateTime::try_from(parsed).is_err());
+    parsed.permit_leap_second();
+    let seconds = OffsetDateTime::try_from(parsed).map(|moment| moment.unix_timestamp());
+    assert!(rt; seconds == Ok(662_687_999));
+    Ok(())
+}
+
+#[test]
+fn remembered_sign(rt: HostRuntime) {
+    let mut parsed = Parsed::new();
+    for (is_negative, signed) in [(true, -30), (false, 30)] {
+        parsed.remember_offset_sign(is_negative);
+        assert!(rt; parsed.set_offset_minute(30).is_some());
+        assert!(rt; parsed.offset_minute_signed() == Some(signed), "{signed}");
+        assert!(rt; parsed.offset_minute() == Some(30), "{signed}");
+    }
 }
