@@ -71,7 +71,9 @@ def name_of_impl(head):
     bare = re.sub(r"<.*", "", of) if not of.startswith("&") else of
     # (a parameter is not named, nor an argument that is the type itself)
     parameters = re.findall(r"[<,]\s*(\w+)", generic or "")
-    shown = re.sub(rf"\b({'|'.join(parameters)})\b", "", trait) if parameters else trait
+    shown = trait
+    if parameters:
+        bare, shown = (re.sub(rf"\b({'|'.join(parameters)})\b", "", it) for it in (bare, shown))
     shown = shown.replace(f"<{of}>", "")
     return name_of_type(bare) + name_of_type(shown), trait
 

@@ -10,9 +10,9 @@ use Rattle.instants.specs.Sources.{source_of}
 use Rattle.instants.specs.declared.program_fault.ProgramFault.{ProgramFault}
 use Rattle.instants.specs.declared.program_fault.ProgramFault.TheVariants as program
 
--- the sources and the target that the words say
+-- the sources, the target and the assumed offset that the words say
 abbrev pub setting_said : Words → Setting
-setting_said words = record { sources = map source_of words.sources; target = words.target }
+setting_said words = record { sources = map source_of words.sources; target = words.target; assumed = words.assumed }
 
 -- what the words ask to be written for a stream
 abbrev pub output_said : Words → List ℕ → List ℕ

@@ -1,5 +1,5 @@
 //! Lines placed on one timeline.
-ghost use Rattle.std.specs.Prelude.{◌≡◌, ◌≢◌, ◌<◌, ◌≤◌, codes, length, map, None, Ok, IfOk, IfErr, IfSome};
+ghost use Rattle.std.specs.Prelude.{◌≡◌, ◌≢◌, ◌<◌, ◌≤◌, codes, length, map, Ok, IfOk, IfErr, IfSome};
 ghost use Rattle.std.specs.Result.{result_ok};
 ghost use Rattle.parsing_pieces.specs.FaultOf.{fault_of, Gives};
 ghost use Rattle.parsing_pieces.specs.ShortName.{HasShortName};
@@ -7,10 +7,11 @@ ghost use Rattle.calendar.specs.UtcOffset.{IsClockOffset};
 ghost use Rattle.instants_answers.specs.Text.{FitsLine};
 ghost use Rattle.instants.specs.Refusal.{IsShort, long, refusal_of, refusal_said, refusal_text};
 ghost use Rattle.instants.specs.Sources.{source_of};
-ghost use Rattle.instants.specs.Place.{Setting, first_named, place_of, answer_to, IsPlace};
+ghost use Rattle.instants.specs.Place.{Setting, IsFirst, first_named, place_of, answer_to, IsPlace};
+ghost use Rattle.instants.specs.declared.source.Source.TheVariants as source;
 
 use crate::line_fault::LineFault;
-use crate::source::Source;
+use crate::source::{Source, quick_iso8601, quick_rfc2822, quick_rfc3339};
 use calendar::UtcOffset;
 use datetime_types::OffsetDateTime;
 use instants_answers::{Answer, has_written_year, write_line};
@@ -38,11 +39,12 @@ impl From<AllocError> for NewFault {
     }
 }
 
-/// Sources in order, and the offset in which moments are shown.
+/// Sources in order, the offset in which moments are shown, and the one that is assumed for lines without one.
 #[derive(Drop)]
 pub struct Timeline {
     sources: Vec<Source>,
     target: UtcOffset,
+    assumed: Option<UtcOffset>,
 }
 
 impl Model for Timeline {
@@ -52,7 +54,7 @@ impl Model for Timeline {
 
     ghost Value = { Setting };
 
-    ghost view = { λ t. record { sources = t.sources.items; target = t.target } };
+    ghost view = { λ t. record { sources = t.sources.items; target = t.target; assumed = t.assumed } };
 
     ghost invariant = { λ t. IsClockOffset t.target × (0 < length t.sources.items) };
 }
@@ -60,7 +62,7 @@ impl Model for Timeline {
 impl Timeline {
     /// A timeline of these sources, in the order in which they are tried, shown at the target offset.
     ///
-    /// The target has whole minutes, within 23:59. No offset can be assumed yet for lines that have none.
+    /// The target and the assumed offset have whole minutes, within 23:59.
     pub fn new(
         alloc: Global,
         sources: &[SourceText],
@@ -69,8 +71,8 @@ impl Timeline {
     ) -> Result<Timeline, NewFault>
         requires sources { 0 < length sources.now }
         requires target { IsClockOffset target }
-        requires assumed { assumed ≡ None }
-        ensures { IfOk result (λ timeline. timeline ≡ record { sources = map source_of sources.now; target = target }) }
+        requires assumed { IfSome assumed IsClockOffset }
+        ensures { IfOk result (λ timeline. timeline ≡ record { sources = map source_of sources.now; target = target; assumed = assumed }) }
     {
         let mut read = Vec::with_capacity(alloc, sources.len())?;
         for text in sources {
@@ -79,6 +81,7 @@ impl Timeline {
         Ok(Timeline {
             sources: read,
             target,
+            assumed,
         })
     }
 
@@ -86,13 +89,13 @@ impl Timeline {
     #[inline(always)]
     #[tactic(auto, unfolding(crate::specs::Place::first_named))]
     fn first_named(&self, line: &[u8]) -> Result<OffsetDateTime, Parse>
-        ensures gives { Gives (λ m. m) fault_of result (first_named self.now.sources line.now) }
+        ensures gives { Gives (λ m. m) fault_of result (first_named self.now.assumed self.now.sources line.now) }
         ensures short { IfErr result (λ fault. HasShortName (fault_of fault)) }
     {
         let sources = self.sources.as_slice();
-        match sources[0].read(line) {
+        match sources[0].read(line, self.assumed) {
             Ok(moment) => Ok(moment),
-            Err(fault) => moment_of_any(&sources[1..], line).ok_or(fault),
+            Err(fault) => moment_of_any(&sources[1..], line, &self.assumed).ok_or(fault),
         }
     }
 
@@ -122,32 +125,60 @@ impl Timeline {
         }
     }
 
-    // The line's place, where the first source finds a moment by the shortest way: `None` says nothing.
+    // Writes the answer to a line whose first source names this moment, or to one that it says nothing of.
     #[inline(always)]
-    #[tactic(auto, unfolding(crate::specs::Place::first_named, crate::specs::Place::place_of))]
-    fn place_quickly(&self, line: &[u8]) -> Option<OffsetDateTime>
-        ensures place { IfSome result (λ moment. place_of self.now line.now ≡ Ok moment) }
-        ensures fits { IfSome result FitsLine }
+    #[tactic(auto, unfolding(crate::specs::Place::answer_to, crate::specs::Place::place_of))]
+    fn write_named(&self, named: Option<OffsetDateTime>, line: &[u8], storage: &mut Answer)
+        requires { IfSome named (λ moment. first_named self.now.assumed self.now.sources line.now ≡ Ok moment) }
+        ensures bytes { storage.new ≡ answer_to self.now line.now }
+        ensures room { length storage.new ≤ 63 }
     {
-        let sources = self.sources.as_slice();
-        let named = sources[0].read_quickly(line)?;
-        let moment = named.checked_to_offset(self.target)?;
-        if !has_written_year(moment) {
-            return None;
+        if let Some(named) = named
+            && let Some(moment) = named.checked_to_offset(self.target)
+            && has_written_year(moment)
+        {
+            write_line(moment, storage);
+        } else {
+            self.write_place(line, storage);
         }
-        Some(moment)
+    }
+
+    // Writes the answer to a line whose first source is RFC 2822.
+    #[inline(never)]
+    #[tactic(auto, unfolding(crate::specs::Place::first_named))]
+    fn write_rfc2822(&self, line: &[u8], storage: &mut Answer)
+        requires { IsFirst self.now source.Rfc2822 line.now }
+        ensures bytes { storage.new ≡ answer_to self.now line.now }
+        ensures room { length storage.new ≤ 63 }
+    {
+        self.write_named(quick_rfc2822(line), line, storage);
+    }
+
+    // Writes the answer to a line whose first source is ISO 8601.
+    #[inline(never)]
+    #[tactic(auto, unfolding(crate::specs::Place::first_named))]
+    fn write_iso8601(&self, line: &[u8], storage: &mut Answer)
+        requires { IsFirst self.now source.Iso8601 line.now }
+        ensures bytes { storage.new ≡ answer_to self.now line.now }
+        ensures room { length storage.new ≤ 63 }
+    {
+        self.write_named(quick_iso8601(line), line, storage);
     }
 
     // Writes the answer to a line in place of what the storage held.
+    //
+    // Each source has a way of its own from the line to the answer, and but one of them by a call: together they would
+    // keep the moment, and what the run holds, in memory.
     #[inline(always)]
-    #[tactic(auto, unfolding(crate::specs::Place::answer_to))]
+    #[tactic(auto, unfolding(crate::specs::Place::first_named))]
     fn write_answer(&self, line: &[u8], storage: &mut Answer)
         ensures bytes { storage.new ≡ answer_to self.now line.now }
         ensures room { length storage.new ≤ 63 }
     {
-        match self.place_quickly(line) {
-            Some(moment) => write_line(moment, storage),
-            None => self.write_place(line, storage),
+        match self.sources.as_slice()[0] {
+            Source::Rfc2822 => self.write_rfc2822(line, storage),
+            Source::Rfc3339 => self.write_named(quick_rfc3339(line), line, storage),
+            Source::Iso8601 => self.write_iso8601(line, storage),
         }
     }
 
@@ -178,11 +209,15 @@ impl Timeline {
 }
 
 // The moment that the first of the sources with one names.
-fn moment_of_any(sources: &[Source], line: &[u8]) -> Option<OffsetDateTime>
-    ensures { result ≡ result_ok (first_named sources.now line.now) }
+fn moment_of_any(
+    sources: &[Source],
+    line: &[u8],
+    assumed: &Option<UtcOffset>,
+) -> Option<OffsetDateTime>
+    ensures { result ≡ result_ok (first_named assumed.now sources.now line.now) }
 {
     for source in sources {
-        if let Ok(moment) = source.read(line) {
+        if let Ok(moment) = source.read(line, *assumed) {
             return Some(moment);
         }
     }

@@ -18,6 +18,8 @@ mod streams;
 #[cfg(test)]
 mod support;
 #[cfg(test)]
+mod well_known;
+#[cfg(test)]
 mod words_and_streams;
 #[cfg(test)]
 mod written_lines;

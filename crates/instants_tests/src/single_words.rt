@@ -1,5 +1,6 @@
 //! Words and what they say.
 
+use calendar::UtcOffset;
 use instants_words::{SourceText, WordsFault, read_words};
 use std::alloc::Global;
 use std::process::Abort;
@@ -74,7 +75,7 @@ fn first_faults(rt: HostRuntime) {
         &rt,
         alloc,
         &["+00:00", "+00:00", "x", "x"],
-        Err(WordsFault::Assumed),
+        Err(WordsFault::Limit),
     );
     check(
         &rt,
@@ -106,4 +107,41 @@ fn first_faults(rt: HostRuntime) {
         &["+00:00", "-", "1", "rfc3339", "rfc3339"],
         Err(WordsFault::Source(2)),
     );
+}
+
+// Offsets to assume: their seconds.
+#[test]
+fn assumed_offsets(rt: HostRuntime) {
+    for (word, wanted) in [
+        ("-", Ok(None)),
+        ("+05:30", Ok(Some(19_800))),
+        ("-08:00", Ok(Some(-28_800))),
+        ("-00:00", Ok(Some(0))),
+        ("+24:00", Err(WordsFault::Assumed)),
+        ("", Err(WordsFault::Assumed)),
+        ("--", Err(WordsFault::Assumed)),
+    ] {
+        let read = read_words(rt.alloc(), &["+00:00", word, "100", "rfc3339"]);
+        let said = read.map(|read| read.assumed.map(UtcOffset::whole_seconds));
+        assert!(rt; said == wanted);
+    }
+}
+
+#[test]
+fn sources(rt: HostRuntime) {
+    for (word, wanted) in [
+        ("rfc2822", Ok(SourceText::Rfc2822)),
+        ("rfc3339", Ok(SourceText::Rfc3339)),
+        ("iso8601", Ok(SourceText::Iso8601)),
+        ("ISO8601", Err(WordsFault::Source(1))),
+        ("rfc2822 ", Err(WordsFault::Source(1))),
+    ] {
+        match read_words(rt.alloc(), &["+00:00", "-", "100", word]) {
+            Ok(read) => {
+                assert!(rt; read.sources.as_slice().len() == 1);
+                assert!(rt; wanted == Ok(read.sources.as_slice()[0]));
+            }
+            Err(fault) => assert!(rt; wanted == Err(fault)),
+        }
+    }
 }

@@ -247,7 +247,7 @@ const REFUSALS: [Refusal; 11] = [
         2,
     ),
     (
-        &["+00:00", "+00:00", "100", "rfc3339"],
+        &["+00:00", "00:00", "100", "rfc3339"],
         "instants: the assumed offset must be +HH:MM, -HH:MM or -",
         2,
     ),

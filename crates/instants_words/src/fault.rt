@@ -7,7 +7,7 @@ pub enum WordsFault {
     Usage,
     /// The first is no offset `+HH:MM` or `-HH:MM`.
     Target,
-    /// The second is not `-`.
+    /// The second is no such offset, and not `-`.
     Assumed,
     /// The third is not a number from 1 to 1048576, in one to seven digits.
     Limit,

@@ -1,6 +1,6 @@
 //! What one word says.
 
-ghost use Rattle.std.specs.Prelude.{◌≡◌, ◌≤◌, None, IfSome};
+ghost use Rattle.std.specs.Prelude.{◌≡◌, ◌≤◌, IfSome};
 ghost use Rattle.std.specs.Int.{IsInRange};
 ghost use Rattle.std.specs.Char.{is_ascii_digit};
 ghost use Rattle.std.specs.List.{list_all};
@@ -76,20 +76,28 @@ pub(crate) fn limit(word: &[u8]) -> Option<usize>
     Some(limit as usize)
 }
 
-/// Whether no offset is assumed: the word is `-`.
+/// The offset that is assumed, or `-` for none.
 pub(crate) fn assumed(word: &str) -> Option<Option<UtcOffset>>
     ensures value { result ≡ assumed_said word.now }
-    ensures bound { IfSome result (λ assumed. assumed ≡ None) }
+    ensures bound { IfSome result (λ assumed. IfSome assumed IsClockOffset) }
 {
-    if word == "-" { Some(None) } else { None }
+    if word == "-" {
+        return Some(None);
+    }
+    let assumed = offset(word.as_bytes())?;
+    Some(Some(assumed))
 }
 
 /// The source that a word names.
 pub(crate) fn source(word: &str) -> Option<SourceText>
     ensures { result ≡ source_said word.now }
 {
-    if word == "rfc3339" {
+    if word == "rfc2822" {
+        Some(SourceText::Rfc2822)
+    } else if word == "rfc3339" {
         Some(SourceText::Rfc3339)
+    } else if word == "iso8601" {
+        Some(SourceText::Iso8601)
     } else {
         None
     }

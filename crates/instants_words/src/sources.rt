@@ -8,8 +8,12 @@ use std::marker::Model;
 /// What a word says of how a date-time may be written.
 #[derive(Clone, Copy, Debug, PartialEq, Eq)]
 pub enum SourceText {
+    /// RFC 2822, section 3.3, with the obsolete forms of section 4.3.
+    Rfc2822,
     /// RFC 3339, section 5.6.
     Rfc3339,
+    /// ISO 8601.
+    Iso8601,
 }
 
 /// Sources in order. A contract sees their list.

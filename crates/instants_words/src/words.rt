@@ -1,6 +1,6 @@
 //! What all words say.
 
-ghost use Rattle.std.specs.Prelude.{◌≡◌, ◌≢◌, ◌<◌, Ok, Err, None, map, length, IsOk, IfOk, IfErr};
+ghost use Rattle.std.specs.Prelude.{◌≡◌, ◌≢◌, ◌<◌, Ok, Err, map, length, IsOk, IfOk, IfErr, IfSome};
 ghost use Rattle.std.specs.Int.{IsInRange};
 ghost use Rattle.calendar.specs.UtcOffset.{IsClockOffset};
 ghost use Rattle.instants_words.specs.Words.{words_said};
@@ -24,7 +24,8 @@ pub struct Words {
     pub sources: Sources,
 }
 
-/// Reads the words of the program: a target offset, `-`, a limit, and the source `rfc3339`.
+/// Reads the words of the program: a target offset, an offset to assume or `-`, a limit, and the source `rfc2822`,
+/// `rfc3339` or `iso8601`.
 ///
 /// `Memory` comes only where a growth of the list of sources was refused.
 #[tactic(auto, unfolding(crate::specs::Words::words_said))]
@@ -33,7 +34,7 @@ pub fn read_words(alloc: Global, words: &[&str]) -> Result<Words, WordsFault>
     ensures err { IfErr result (λ fault. fault ≢ WordsFault.Memory → words_said (map (λ word. word.now) words.now) ≡ Err fault) }
     // What words that are accepted say is in range.
     ensures target { IfOk result (λ read. IsClockOffset read.target) }
-    ensures assumed { IfOk result (λ read. read.assumed ≡ None) }
+    ensures assumed { IfOk result (λ read. IfSome read.assumed IsClockOffset) }
     ensures limit { IfOk result (λ read. IsInRange 1 1_048_576 read.limit) }
     ensures sources { IfOk result (λ read. 0 < length read.sources) }
 

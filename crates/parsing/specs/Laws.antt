@@ -3,7 +3,7 @@ use Rattle.std.specs.Prelude.{ℕ, ℤ}
 use Rattle.parsing_moments.specs.Laws.{IsWhole, IsOneInstant}
 use Rattle.parsing_record.specs.Record.{Record}
 use Rattle.parsing_record.specs.Parts.{offset_parts, moment_parts}
-use Rattle.parsing_trait.specs.Whole.{moment_named, utc_named, timestamp_named}
+use Rattle.parsing_record.specs.Whole.{moment_named, utc_named, timestamp_named}
 
 -- a record that names a date, a time of day and an offset, of which the calendar has the day in UTC, names one instant of each kind, or none of any kind
 abbrev pub HasOneInstant : Record → Type 0

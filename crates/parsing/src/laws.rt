@@ -1,5 +1,13 @@
 //! Laws that follow from the contracts, each the contract of a function here.
+ghost use Rattle.std.specs.Prelude.{◌≡◌, Option, Ok};
+ghost use Rattle.datetime_wall.specs.Wall.{Shown};
 ghost use Rattle.parsing_record.specs.Record.{Record};
+ghost use Rattle.parsing_record.specs.Whole.{by_roads};
+ghost use Rattle.parsing_rfc2822.specs.Direct as rfc2822;
+ghost use Rattle.parsing_rfc3339.specs.Direct as rfc3339;
+ghost use Rattle.parsing_staged.specs.Staged.{reads_rfc2822, reads_rfc3339};
+ghost use Rattle.parsing_two_formats.specs.TwoFormats.{HoldsAtMostAnOffset, IsReadAlike};
+ghost use Rattle.parsing_two_roads.specs.TwoRoads.{AgreeOn};
 ghost use Rattle.parsing.specs.Laws.{HasOneInstant};
 
 /// A record without Unix time that names a date, a time of day and an offset, of which the calendar has the day in UTC,
@@ -8,4 +16,24 @@ pub fn three_instants()
     ensures { (r : Record) → HasOneInstant r }
 {
     parsing_moments::laws::three_instants();
+}
+
+/// RFC 3339 and RFC 2822: a text names a moment directly exactly where it names one by a record without any field, or with
+/// an assumed offset, and then it is the same one.
+pub fn two_roads(bytes: &[u8])
+    ensures rfc3339 { AgreeOn rfc3339.direct reads_rfc3339 bytes.now }
+    ensures rfc2822 { AgreeOn rfc2822.direct reads_rfc2822 bytes.now }
+{
+    parsing_two_roads::laws::two_roads_of_rfc3339(bytes);
+    parsing_two_roads::laws::two_roads_of_rfc2822(bytes);
+}
+
+/// Where RFC 3339 names a moment for a text, ISO 8601 names one exactly if a `T` stands between date and time, a `Z` is
+/// no small letter, and the fraction does not round up to a whole second. It is the same moment, or the next nanosecond
+/// where more than nine digits round up; that of a leap second is the same whatever its fraction. An offset that both
+/// assume changes nothing of that.
+pub fn two_formats(bytes: &[u8])
+    ensures { (defaults : Option Record) → HoldsAtMostAnOffset defaults → (m : Shown) → by_roads rfc3339.direct reads_rfc3339 defaults bytes.now ≡ Ok m → IsReadAlike defaults bytes.now m }
+{
+    parsing_two_formats::laws::two_formats(bytes);
 }

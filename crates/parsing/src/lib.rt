@@ -4,10 +4,9 @@
 mod error;
 pub mod laws;
 
-pub use description_formats::Rfc3339;
+pub use description_formats::{Iso8601, Rfc2822, Rfc3339};
 pub use error::Error;
 pub use parsing_pieces::{Parse, ParseFromDescription, TryFromParsed};
 pub use parsing_record::Parsed;
 pub use parsing_resolution::is_valid_leap_second_stand_in;
-pub use parsing_roads::TwoRoads;
-pub use parsing_trait::{Items, Parsable};
+pub use parsing_trait::{Items, Parsable, TwoRoads};

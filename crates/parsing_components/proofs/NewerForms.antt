@@ -4,7 +4,6 @@ use Rattle.std.specs.Prelude.{IfSome}
 use Rattle.std.specs.Borrow.{Bor}
 use Rattle.description_items.specs.declared.component.Component.{Component}
 use Rattle.description_items.specs.declared.component.Component.TheVariants as component
-use Rattle.description_items.specs.Modern.{modern}
 use Rattle.parsing_pieces.specs.Fault as fault
 use Rattle.parsing_pieces.specs.Readings.{then_read, give}
 use Rattle.parsing_components.specs.Component.{date_piece, year_piece, time_piece, offset_piece, component_name, reads_modern, reads_component, reads_component_v3}

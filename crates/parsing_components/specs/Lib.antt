@@ -3,4 +3,3 @@ pub mod Ranged
 pub mod Record
 pub mod Component
 pub mod Put
-pub mod Tame

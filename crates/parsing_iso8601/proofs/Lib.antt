@@ -5,3 +5,4 @@ pub mod QuickDates
 pub mod QuickMoments
 pub mod QuickTimes
 pub mod Rounding
+pub mod TameLemmas

@@ -1,10 +1,10 @@
 -- The moment of a date, a time of day and an offset.
 use Rattle.std.proofs.Common.{◌≡◌, ℕ, ◌==◌, true, false, List, [], Option, Some, None, Ok, refl, ◌∙◌, ℤ}
-use Rattle.std.specs.Prelude.{pos}
+use Rattle.std.specs.Prelude.{pos, IfSome}
 use Rattle.std.specs.Option.{unwrap_or}
 use Rattle.calendar.specs.Time.{time_of}
 use Rattle.calendar.specs.UtcOffset.{offset_of}
-use Rattle.datetime_wall.specs.Wall.{wall_clock}
+use Rattle.datetime_wall.specs.Wall.{Shown, wall_clock}
 use Rattle.parsing_dates.specs.NamedDate.{named_date, in_range, by_ordinal, by_day, by_iso_week, year_of, split_year}
 use Rattle.parsing_moments.specs.NamedTime.{named_time, named_offset, hour_of, half_day_hour, finer_parts, seconds_behind}
 use Rattle.parsing_moments.specs.NamedMoment.{named_moment, dated_moment, named_wall}
@@ -15,7 +15,7 @@ use Rattle.parsing_iso8601.specs.declared.written.WrittenDate.{WrittenDate}
 use Rattle.parsing_iso8601.specs.declared.written.WrittenDate.TheVariants.{OfMonth, OfYear, OfWeek}
 use Rattle.parsing_iso8601.specs.declared.written.WrittenTime.{WrittenTime}
 use Rattle.parsing_iso8601.specs.declared.written.WrittenOffset.{WrittenOffset}
-use Rattle.parsing_iso8601.specs.Moment.{moment}
+use Rattle.parsing_iso8601.specs.Moment.{moment, IsOfOffset}
 use Rattle.parsing_iso8601.specs.Offsets.{offset}
 use Rattle.parsing_iso8601.specs.Parts.{date_parts, time_parts, offset_parts, all_three, parts_of, offset_parts_of}
 use Rattle.parsing_iso8601.specs.Reading.{dated, iso8601, whole}
@@ -62,3 +62,10 @@ whole_of bytes b1 b2 d k l t o hd ht ho = rw hd (rw ht (rw ho refl))
 pub moment_of : (bytes b1 b2 : List ℕ) (d : WrittenDate) (k l : Kind) (t : WrittenTime) (o : WrittenOffset) → dated bytes ≡ Ok ((Ok d, k), b1) → time k true b1 ≡ Some ((t, l), b2) → offset l b2 ≡ Some (o, []) → moment bytes ≡ named_moment (parts_of (all_three d t o)) (offset_parts_of (all_three d t o))
 unfolding moment
 moment_of bytes b1 b2 d k l t o hd ht ho = rw (whole_of bytes b1 b2 d k l t o hd ht ho) refl
+
+-- the moment that such a text names has its offset
+pub of_offset : (bytes b1 b2 : List ℕ) (d : WrittenDate) (k l : Kind) (t : WrittenTime) (o : WrittenOffset) (found : Option Shown) → dated bytes ≡ Ok ((Ok d, k), b1) → time k true b1 ≡ Some ((t, l), b2) → offset l b2 ≡ Some (o, []) → IfSome found (λ m. named_moment (parts_of (all_three d t o)) (offset_parts_of (all_three d t o)) ≡ Ok m)
+    → IfSome found (λ m. IsOfOffset bytes m)
+of_offset bytes b1 b2 d k l t o None hd ht ho h = tt
+of_offset bytes b1 b2 d k l t o (Some m) hd ht ho h =
+    record { written = all_three d t o; read = rw (whole_of bytes b1 b2 d k l t o hd ht ho) refl; offset = refl; named = h }

@@ -1,10 +1,10 @@
 -- A time of day of the extended kind by its pieces.
-use Rattle.std.proofs.Common.{◌≡◌, ℕ, ◌+◌, ◌<◌, ◌≤◌, true, leb, List, length, drop, Option, Some, None, refl, ap, ◌∙◌, arith, lit<}
+use Rattle.std.proofs.Common.{◌≡◌, ℕ, ◌+◌, ◌<◌, ◌≤◌, true, leb, List, length, drop, Option, Some, None, refl, ◌∙◌, arith}
 use Rattle.std.specs.Prelude.{nat_lt}
 use Rattle.std.proofs.lemmas.Bool.Decides.{nat_tests}
 use Rattle.byte_names.specs.Bytes.{colon}
 use Rattle.parsing_pieces.specs.Chunks.{IsClock}
-use Rattle.parsing_pieces.specs.Pieces.{digits, digit_run, fraction, nanoseconds_of, byte}
+use Rattle.parsing_pieces.specs.Pieces.{digits, fraction, byte}
 use Rattle.parsing_iso8601.specs.Designators.{time_designator}
 use Rattle.parsing_iso8601.specs.Fractions.{rounded_part_of}
 use Rattle.parsing_iso8601.specs.declared.kind.Kind.TheVariants.{Extended}

@@ -1,9 +1,8 @@
 //! The date of a text.
-ghost use Rattle.std.specs.Prelude.{◌≡◌, IfOk, IfErr};
+ghost use Rattle.std.specs.Prelude.{◌≡◌, IfOk};
 ghost use Rattle.std.specs.Int.{IsInRange};
 ghost use Rattle.calendar_count.specs.Range.{IsYear};
 ghost use Rattle.parsing_pieces.specs.FaultOf.{Gives, reading_fault};
-ghost use Rattle.parsing_pieces.specs.ShortName.{HasShortName};
 ghost use Rattle.parsing_iso8601.specs.Dates as Dates;
 ghost use Rattle.parsing_iso8601.specs.Ranges.{IsDateInRange};
 
@@ -19,7 +18,6 @@ use parsing_pieces::byte;
 fn month_and_day(kind: Kind, bytes: &[u8]) -> Result<((Month, u8), &[u8]), ParseFromDescription>
     ensures gives { Gives (λ x. (x.0, x.1.now)) reading_fault result (Dates.month_and_day kind bytes.now) }
     ensures range { IfOk result (λ x. IsInRange 1 99 x.0.1) }
-    ensures short_name { IfErr result (λ e. HasShortName (reading_fault e)) }
 {
     let (month, rest) = number::month(bytes).ok_or(InvalidComponent("month"))?;
     let rest = dash(kind, rest)?;
@@ -35,7 +33,6 @@ fn week_and_weekday(
 ) -> Result<((u8, Weekday), &[u8]), ParseFromDescription>
     ensures gives { Gives (λ x. (x.0, x.1.now)) reading_fault result (Dates.week_and_weekday kind bytes.now) }
     ensures range { IfOk result (λ x. IsInRange 1 99 x.0.0) }
-    ensures short_name { IfErr result (λ e. HasShortName (reading_fault e)) }
 {
     let (week, rest) = number::two_from_one(bytes).ok_or(InvalidComponent("week"))?;
     let rest = dash(kind, rest)?;
@@ -53,7 +50,6 @@ fn date_of_week(
     requires year { IsYear year }
     ensures gives { Gives (λ x. (x.0, x.1.now)) reading_fault result (Dates.date_of_week kind year bytes.now) }
     ensures range { IfOk result (λ x. IsDateInRange x.0) }
-    ensures short_name { IfErr result (λ e. HasShortName (reading_fault e)) }
 {
     let ((week, weekday), rest) = week_and_weekday(kind, bytes)?;
     if week > 53 {
@@ -72,10 +68,8 @@ fn date_without_month(
     bytes: &[u8],
 ) -> Result<(WrittenDate, &[u8]), ParseFromDescription>
     requires year { IsYear year }
-    requires short_name { HasShortName (reading_fault fault) }
     ensures gives { Gives (λ x. (x.0, x.1.now)) reading_fault result (Dates.date_without_month kind year (reading_fault fault) bytes.now) }
     ensures range { IfOk result (λ x. IsDateInRange x.0) }
-    ensures short_name { IfErr result (λ e. HasShortName (reading_fault e)) }
 {
     if let Some((ordinal, rest)) = number::ordinal(bytes) {
         if ordinal > 366 {
@@ -100,7 +94,6 @@ pub fn date_behind(
     requires year { IsYear year }
     ensures gives { Gives (λ x. (x.0, x.1.now)) reading_fault result (Dates.date_behind kind year bytes.now) }
     ensures range { IfOk result (λ x. IsDateInRange x.0) }
-    ensures short_name { IfErr result (λ e. HasShortName (reading_fault e)) }
 {
     match month_and_day(kind, bytes) {
         Ok(((month, day), rest)) => {
@@ -119,7 +112,6 @@ pub fn date_behind(
 pub fn year_and_kind(bytes: &[u8]) -> Result<((i32, Kind), &[u8]), ParseFromDescription>
     ensures gives { Gives (λ x. (x.0, x.1.now)) reading_fault result (Dates.year_and_kind bytes.now) }
     ensures year { IfOk result (λ x. IsYear x.0.0) }
-    ensures short_name { IfErr result (λ e. HasShortName (reading_fault e)) }
 {
     let (year, rest) = number::year(bytes).ok_or(InvalidComponent("year"))?;
     let (kind, rest) = kind_of_date(rest);

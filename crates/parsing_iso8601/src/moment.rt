@@ -4,7 +4,7 @@ ghost use Rattle.parsing_pieces.specs.FaultOf.{Gives, fault_of, reading_fault};
 ghost use Rattle.parsing_pieces.specs.Readings.{value_read};
 ghost use Rattle.parsing_pieces.specs.ShortName.{HasShortName};
 ghost use Rattle.parsing_moments.specs.NamedMoment.{named_moment};
-ghost use Rattle.parsing_iso8601.specs.Moment.{moment};
+ghost use Rattle.parsing_iso8601.specs.Moment.{moment, IsOfOffset};
 ghost use Rattle.parsing_iso8601.specs.Parts.{all_three, parts_of, offset_parts_of};
 ghost use Rattle.parsing_iso8601.specs.Reading as Reading;
 
@@ -45,7 +45,8 @@ fn quick_moment(
 /// Most texts have a date, a time of day without a leap second, and an offset.
 #[inline(always)]
 pub fn read_quickly(input: &[u8]) -> Option<OffsetDateTime>
-    ensures { IfSome result (λ m. moment input.now ≡ Ok m) }
+    ensures gives { IfSome result (λ m. moment input.now ≡ Ok m) }
+    ensures has_offset { IfSome result (λ m. IsOfOffset input.now m) }
 {
     let ((date, kind), rest) = quick_date(input)?;
     let ((time, kind), rest) = quick_time(kind, rest)?;

@@ -1,6 +1,7 @@
 //! The parts of a text, one after another.
 ghost use Rattle.std.specs.Prelude.{◌≡◌, Ok, IfOk, IfErr, IfSome};
 ghost use Rattle.parsing_pieces.specs.ShortName.{HasShortName};
+ghost use Rattle.parsing_pieces.specs.Tame.{EndsWith};
 ghost use Rattle.parsing_iso8601.specs.Ranges.{IsDateInRange, IsTimeInRange, IsOffsetInRange, AreInRange};
 ghost use Rattle.parsing_pieces.specs.FaultOf.{Gives, reading_fault};
 ghost use Rattle.parsing_iso8601.specs.Reading as Reading;
@@ -23,7 +24,6 @@ type DateOrFault = Result<WrittenDate, ParseFromDescription>;
 pub(crate) fn dated(bytes: &[u8]) -> ((DateOrFault, Kind), &[u8])
     ensures gives { Reading.dated bytes.now ≡ Ok ((date_view result.0.0, result.0.1), result.1.now) }
     ensures range { IfOk result.0.0 IsDateInRange }
-    ensures short_name { IfErr result.0.0 (λ e. HasShortName (reading_fault e)) }
 {
     match year_and_kind(bytes) {
         Err(fault) => ((Err(fault), Kind::Unknown), bytes),
@@ -93,10 +93,8 @@ fn gathered(
     requires date { IfOk date IsDateInRange }
     requires time { IfSome time IsTimeInRange }
     requires offset { IfSome offset IsOffsetInRange }
-    requires short_name { IfErr date (λ e. HasShortName (reading_fault e)) }
     ensures gives { Gives (λ x. (x.0, x.1.now)) reading_fault result (Reading.gathered (date_view date) time offset rest.now) }
     ensures range { IfOk result (λ x. AreInRange x.0) }
-    ensures short_name { IfErr result (λ e. HasShortName (reading_fault e)) }
 {
     let date = match date {
         Ok(date) => Some(date),
@@ -106,16 +104,24 @@ fn gathered(
     Ok((Written { date, time, offset }, rest))
 }
 
-/// The parts at the front of the bytes, and the rest.
 #[tactic(auto, unfolding(crate::specs::Reading::iso8601))]
-pub fn front(bytes: &[u8]) -> Result<(Written, &[u8]), ParseFromDescription>
+fn parts(bytes: &[u8]) -> Result<(Written, &[u8]), ParseFromDescription>
     ensures gives { Gives (λ x. (x.0, x.1.now)) reading_fault result (Reading.iso8601 bytes.now) }
     ensures range { IfOk result (λ x. AreInRange x.0) }
-    ensures short_name { IfErr result (λ e. HasShortName (reading_fault e)) }
 {
     let ((date, kind), rest) = dated(bytes);
     let (read, rest) = maybe_time(kind, date.is_ok(), rest);
     let kind = handed_on(kind, read);
     let (offset, rest) = offset_behind(date.is_ok(), read.is_some(), kind, rest);
     gathered(date, read.map(|x| x.0), offset, rest)
+}
+
+/// The parts at the front of the bytes, and the rest.
+pub fn front(bytes: &[u8]) -> Result<(Written, &[u8]), ParseFromDescription>
+    ensures gives { Gives (λ x. (x.0, x.1.now)) reading_fault result (Reading.iso8601 bytes.now) }
+    ensures range { IfOk result (λ x. AreInRange x.0) }
+    ensures end { IfOk result (λ x. EndsWith bytes.now x.1.now) }
+    ensures short_name { IfErr result (λ e. HasShortName (reading_fault e)) }
+{
+    parts(bytes)
 }

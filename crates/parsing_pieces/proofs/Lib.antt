@@ -1,3 +1,4 @@
+pub mod lemmas
 pub mod ClockChunks
 pub mod Decimal
 pub mod DigitChunks

@@ -4,4 +4,5 @@ pub mod FaultText
 pub mod Pieces
 pub mod Readings
 pub mod ShortName
+pub mod Tame
 pub mod Chunks

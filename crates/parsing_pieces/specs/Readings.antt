@@ -1,5 +1,5 @@
 -- Readings: pieces one after another, or the fault of the first one that has no front.
-use Rattle.std.specs.Prelude.{ℕ, Bool, List, [], ◌∷◌, Option, Some, None, Result, Ok, Err, if◌then◌else◌}
+use Rattle.std.specs.Prelude.{ℕ, Bool, true, ◌&&◌, nat_le, List, [], ◌∷◌, Option, Some, None, Result, Ok, Err, if◌then◌else◌}
 use Rattle.calendar_count.specs.declared.component_range.ComponentRange.{ComponentRange}
 use Rattle.parsing_pieces.specs.Fault.{Fault, trailing, range}
 use Rattle.parsing_pieces.specs.Pieces.{Piece}
@@ -43,6 +43,10 @@ if_there first due other bytes = entered (first bytes) due other bytes
 -- a check while reading
 abbrev pub require : Bool → Fault → Reading (Unit {0})
 require b f bytes = if b then Ok (tt, bytes) else Err f
+
+-- whether a strict reading lets a number pass
+abbrev pub within : Bool → ℕ → ℕ → ℕ → Bool
+within is_strict low high value = if is_strict then nat_le low value && nat_le value high else true
 
 -- what was read names a value or is out of range; no more bytes are read
 abbrev pub resolved : {A : Type 0} → Result A ComponentRange → Reading A

@@ -5,6 +5,8 @@ mod chunk;
 mod cut;
 mod fault;
 mod fractions;
+mod strict;
+mod zone;
 
 pub use chunk::{clock, nine_digits, year_month};
 pub use cut::{
@@ -12,3 +14,5 @@ pub use cut::{
 };
 pub use fault::{Parse, ParseFromDescription, TryFromParsed};
 pub use fractions::fraction;
+pub use strict::within;
+pub use zone::Zone;

@@ -3,4 +3,4 @@ pub mod Parts
 pub mod Meaning
 pub mod Reads
 pub mod Tally
-pub mod Tame
+pub mod Whole

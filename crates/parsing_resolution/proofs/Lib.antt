@@ -1,1 +1,2 @@
+pub mod lemmas
 pub mod MonthEndLemmas

@@ -1,7 +1,7 @@
 -- A time of day without white space in it, and a day without a weekday.
 use Rattle.std.proofs.Common.{◌≡◌, ℕ, ◌+◌, ◌≤◌, Bool, true, false, cond, eqb, leb, List, [], ◌∷◌, length, Option, Some, None, refl, sym, ap, ◌∙◌, arith}
 use Rattle.std.specs.Borrow.{Bor}
-use Rattle.std.specs.Prelude.{Ok, IfSome, option_map, is_some}
+use Rattle.std.specs.Prelude.{Ok, option_map, is_some}
 use Rattle.std.specs.Char.{is_ascii_digit, to_ascii_lowercase}
 use Rattle.std.proofs.lemmas.Bool.{eqb-true}
 use Rattle.std.proofs.lemmas.Bool.Decides.{nat_tests}
@@ -14,7 +14,7 @@ use Rattle.parsing_white_space.specs.Skips.{rest_or, byte_where}
 use Rattle.parsing_white_space.specs.WhiteSpace.{comments_and_white_space}
 use Rattle.parsing_white_space.proofs.WhiteSpaceLemmas.{none_at}
 use Rattle.parsing_rfc2822.specs.Names.{weekday, weekday_of}
-use Rattle.parsing_rfc2822.specs.Reading.{within, spaced_colon, hour_and_minute, due_second, second, clock}
+use Rattle.parsing_rfc2822.specs.Reading.{spaced_colon, hour_and_minute, due_second, second, clock}
 
 digit_above : (c : ℕ) (b : Bool) → is_ascii_digit c ≡ b → b ≡ true → 41 ≤ c
 digit_above c b e h = let d = digit_here c (e ∙ h) in omega (arith, d.0)
@@ -48,15 +48,11 @@ unfolding spaced_colon byte_where
 colon_here bytes rest after n e f =
     rw (colon_parts bytes rest e, none_at colon rest (omega arith)) (ap (λ o. Some (rest_or o rest)) (digit_begins rest after n f))
 
-clock_at_once : (bytes rest : List ℕ) (h m s : ℕ) → IsClock bytes h m s rest → clock false bytes ≡ Ok ((h, m, s), rest)
-unfolding clock hour_and_minute second due_second within
+-- a time of day without white space is read at once
+pub clock_at_once : (bytes rest : List ℕ) (h m s : ℕ) → IsClock bytes h m s rest → clock false bytes ≡ Ok ((h, m, Some s), rest)
+unfolding clock hour_and_minute second due_second
 clock_at_once bytes rest h m s i =
     rw (i.hour_digits, colon_here _ _ _ _ i.first_colon i.minute_digits, i.minute_digits, colon_here _ _ _ _ i.second_colon i.second_digits, i.second_digits, i.rest_is) refl
-
--- what a function returns that reads one at once
-pub quick_clock_reads : (result : Option ((ℕ × ℕ × ℕ) × Bor (List ℕ))) (bytes : List ℕ) → IfSome result (λ x. IsClock bytes x.0.0 x.0.1 x.0.2 x.1.now) → IfSome result (λ x. clock false bytes ≡ Ok (x.0, x.1.now))
-quick_clock_reads None bytes h = tt
-quick_clock_reads (Some x) bytes h = clock_at_once bytes x.1.now x.0.0 x.0.1 x.0.2 h
 
 -- ---- no weekday begins with a digit
 

@@ -1,5 +1,6 @@
 -- The moment that a text of RFC 2822 names, or the first fault that it has.
 use Rattle.std.specs.Prelude.{ℕ, ◌==◌, List, Result, pos, false}
+use Rattle.std.specs.Option.{unwrap_or}
 use Rattle.calendar_count.specs.Month.{month_number}
 use Rattle.datetime_wall.specs.Wall.{Shown, wall_clock}
 use Rattle.parsing_pieces.specs.Fault.{Fault}
@@ -16,9 +17,9 @@ unfoldable pub moment_of : Written → Reading Shown
 moment_of w = do
   end
   date ← resolved (date_of (pos w.year) (month_number w.month) w.day)
-  time ← resolved (leap_time_of w.hour w.minute w.second 0)
+  time ← resolved (leap_time_of w.hour w.minute (unwrap_or w.second 0) 0)
   offset ← resolved (signed_offset_of w.zone.is_negative w.zone.hours w.zone.minutes)
-  resolved (leap_checked (w.second == 60) (record { wall = wall_clock date time; offset = offset }))
+  resolved (leap_checked (unwrap_or w.second 0 == 60) (record { wall = wall_clock date time; offset = offset }))
 
 unfoldable pub moment : Reading Shown
 moment = do

@@ -1,13 +1,12 @@
 -- Written numbers that a record of components takes.
-use Rattle.std.specs.Prelude.{◌≤◌}
+use Rattle.std.specs.Prelude.{◌≤◌, IfSome}
 use Rattle.std.specs.Int.{IsInRange}
 use Rattle.parsing_rfc2822.specs.declared.written.Written.{Written}
 
 pub record AreInRange (w : Written) : Type 0 where
   pub day : IsInRange 1 31 w.day
-  pub year : IsInRange 1900 9999 w.year
   pub hour : w.hour ≤ 23
   pub minute : w.minute ≤ 59
-  pub second : w.second ≤ 60
+  pub second : IfSome w.second (λ n. n ≤ 60)
   pub zone_hours : w.zone.hours ≤ 25
   pub zone_minutes : w.zone.minutes ≤ 59

@@ -1,18 +1,18 @@
 -- RFC 2822, section 3.3, with the obsolete years and zones of its section 4.3: weekday, date, time of day and zone, with comments and folding white space between them.
 --
 -- A strict reading refuses each number out of range where it stands; one that is not strict leaves them to what resolves the numbers.
-use Rattle.std.specs.Prelude.{ℕ, ◌+◌, ◌&&◌, Bool, true, false, List, Option, Some, None, codes, nat_le, nat_lt, ◌==◌, if◌then◌else◌, option_map}
+use Rattle.std.specs.Prelude.{ℕ, ◌+◌, Bool, true, false, List, Option, Some, None, codes, nat_le, nat_lt, ◌==◌, if◌then◌else◌, option_map}
 use Rattle.byte_names.specs.Bytes.{colon, hyphen}
 use Rattle.calendar_count.specs.declared.month.Month.{Month}
 use Rattle.calendar_count.specs.declared.weekday.Weekday.{Weekday}
 use Rattle.parsing_pieces.specs.Fault.{literal, component}
 use Rattle.parsing_pieces.specs.Pieces.{Piece, digits, byte, sign}
-use Rattle.parsing_pieces.specs.Readings.{Reading, ◌or◌, ◌>>=◌, ◌>>◌, give, if_there, require}
+use Rattle.parsing_pieces.specs.Readings.{Reading, ◌or◌, ◌>>=◌, ◌>>◌, give, if_there, require, within}
 use Rattle.parsing_white_space.specs.Skips.{Skip, optional, byte_where, past}
 use Rattle.parsing_white_space.specs.WhiteSpace.{folding_white_space, comments_and_white_space}
 use Rattle.parsing_rfc2822.specs.Names.{weekday, month, zone_name}
 use Rattle.parsing_rfc2822.specs.declared.written.Written.{Written}
-use Rattle.parsing_rfc2822.specs.declared.written.Zone.{Zone}
+use Rattle.parsing_pieces.specs.declared.zone.Zone.{Zone}
 
 -- `,`
 abbrev pub comma : ℕ
@@ -21,10 +21,6 @@ comma = 44
 -- what is passed where it is there
 abbrev pub optionally : Skip → Reading (Unit {0})
 optionally skip = λ bytes. give tt (optional skip bytes)
-
--- whether a strict reading lets a number pass
-unfoldable pub within : Bool → ℕ → ℕ → ℕ → Bool
-within is_strict low high value = if is_strict then nat_le low value && nat_le value high else true
 
 -- a colon, with comments and white space on both sides
 unfoldable pub spaced_colon : Skip
@@ -93,18 +89,18 @@ hour_and_minute is_strict = do
   require (within is_strict 0 59 minute) (component (codes "minute"))
   give (hour, minute)
 
-unfoldable pub due_second : Bool → Reading ℕ
+unfoldable pub due_second : Bool → Reading (Option ℕ)
 due_second is_strict = do
   second ← digits 2 or component (codes "second")
   require (within is_strict 0 60 second) (component (codes "second"))
-  give second
+  give (Some second)
 
 -- `:37`, or nothing
-unfoldable pub second : Bool → Reading ℕ
-second is_strict = if_there (past spaced_colon) (λ _. due_second is_strict) (give 0)
+unfoldable pub second : Bool → Reading (Option ℕ)
+second is_strict = if_there (past spaced_colon) (λ _. due_second is_strict) (give None)
 
 -- `10:52:37`, or `10:52`
-unfoldable pub clock : Bool → Reading (ℕ × ℕ × ℕ)
+unfoldable pub clock : Bool → Reading (ℕ × ℕ × Option ℕ)
 clock is_strict = do
   t ← hour_and_minute is_strict
   second ← second is_strict

@@ -25,11 +25,12 @@ fn resolved(written: Written, rest: &[u8]) -> Result<OffsetDateTime, Parse>
     }
     let month = written.month.number();
     let date = resolve::date(i32::from(written.year), month, written.day)?;
-    let time = resolve::leap_time(written.hour, written.minute, written.second, 0)?;
+    let second = written.second.unwrap_or(0);
+    let time = resolve::leap_time(written.hour, written.minute, second, 0)?;
     let zone = written.zone;
     let offset = resolve::signed_offset(zone.is_negative, zone.hours, zone.minutes)?;
     let shown = OffsetDateTime::new_in_offset(date, time, offset);
-    Ok(leap_checked(written.second == 60, shown)?)
+    Ok(leap_checked(second == 60, shown)?)
 }
 
 /// The moment that a text names, where the shortest way finds one: `None` says nothing of the text.
@@ -41,7 +42,7 @@ pub fn read_quickly(input: &[u8]) -> Option<OffsetDateTime>
     ensures { IfSome result (λ moment. direct input.now ≡ Ok moment) }
 {
     let (written, rest) = quick_front(input)?;
-    if written.second == 60 {
+    if written.second == Some(60) {
         return None;
     }
     let Ok(moment) = resolved(written, rest) else {

@@ -11,4 +11,4 @@ mod written;
 
 pub use direct::{read, read_quickly};
 pub use reading::front;
-pub use written::{Written, Zone};
+pub use written::Written;

@@ -5,10 +5,10 @@ ghost use Rattle.std.specs.Prelude.{◌≡◌, ◌<◌, IfSome, Ok, false};
 ghost use Rattle.parsing_rfc2822.specs.Reading as Reading;
 
 use crate::names::{month, weekday, zone_name};
-use crate::reading::{one_digit, one_or_two_digits};
-use crate::written::{Written, Zone};
+use crate::reading::one_or_two_digits;
+use crate::written::Written;
 use calendar_count::{Month, Weekday};
-use parsing_pieces::{byte, four_digits, sign, two_digits};
+use parsing_pieces::{Zone, byte, four_digits, one_digit, sign, two_digits};
 use parsing_white_space::{may_begin, one_space};
 
 // `Tue, `, or nothing before a digit.
@@ -27,7 +27,7 @@ fn quick_weekday(bytes: &[u8]) -> Option<(Option<Weekday>, &[u8])>
 }
 
 // `Tue, 01`, or `01`.
-#[tactic(auto, unfolding(crate::specs::Reading::day, crate::specs::Reading::within))]
+#[tactic(auto, unfolding(crate::specs::Reading::day))]
 #[inline(always)]
 fn quick_day(bytes: &[u8]) -> Option<((Option<Weekday>, u8), &[u8])>
     ensures { IfSome result (λ x. Reading.day false bytes.now ≡ Ok (x.0, x.1.now)) }
@@ -59,14 +59,15 @@ fn quick_month_and_year(bytes: &[u8]) -> Option<((Month, u16), &[u8])>
 
 // `10:52:37`.
 #[inline(always)]
-fn quick_clock(bytes: &[u8]) -> Option<((u8, u8, u8), &[u8])>
+fn quick_clock(bytes: &[u8]) -> Option<((u8, u8, Option<u8>), &[u8])>
     ensures { IfSome result (λ x. Reading.clock false bytes.now ≡ Ok (x.0, x.1.now)) }
 {
-    parsing_pieces::clock(bytes)
+    let ((hour, minute, second), rest) = parsing_pieces::clock(bytes)?;
+    Some(((hour, minute, Some(second)), rest))
 }
 
 // `+0200` or `GMT`.
-#[tactic(auto, unfolding(crate::specs::Reading::zone, crate::specs::Reading::signed_zone, crate::specs::Reading::named_zone, crate::specs::Reading::within))]
+#[tactic(auto, unfolding(crate::specs::Reading::zone, crate::specs::Reading::signed_zone, crate::specs::Reading::named_zone))]
 #[inline(always)]
 fn bare_zone(bytes: &[u8]) -> Option<(Zone, &[u8])>
     ensures zone { IfSome result (λ x. Reading.zone false bytes.now ≡ Ok (x.0, x.1.now)) }
@@ -75,11 +76,23 @@ fn bare_zone(bytes: &[u8]) -> Option<(Zone, &[u8])>
 {
     let Some((mark, rest)) = sign(bytes) else {
         let (hours, rest) = zone_name(bytes)?;
-        return Some((Zone::named(hours), rest));
+        let zone = Zone {
+            is_named: true,
+            is_negative: true,
+            hours,
+            minutes: 0,
+        };
+        return Some((zone, rest));
     };
     let (hours, rest) = two_digits(rest)?;
     let (minutes, rest) = two_digits(rest)?;
-    Some((Zone::signed(mark == b'-', hours, minutes), rest))
+    let zone = Zone {
+        is_named: false,
+        is_negative: mark == b'-',
+        hours,
+        minutes,
+    };
+    Some((zone, rest))
 }
 
 // ` +0200` or ` GMT`, where it is all that is there.

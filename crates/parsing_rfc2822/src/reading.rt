@@ -3,36 +3,17 @@ ghost use Rattle.std.specs.Prelude.{◌≡◌, ◌≤◌, ◌<◌, IfOk, IfErr, 
 ghost use Rattle.parsing_pieces.specs.FaultOf.{Gives, reading_fault};
 ghost use Rattle.parsing_pieces.specs.Pieces as Pieces;
 ghost use Rattle.parsing_pieces.specs.ShortName.{HasShortName};
+ghost use Rattle.parsing_pieces.specs.Tame.{EndsWith};
 ghost use Rattle.parsing_rfc2822.specs.Range.{AreInRange};
 ghost use Rattle.parsing_rfc2822.specs.Reading as Reading;
 
 use crate::names::{month, weekday, zone_name};
 use crate::spacing::{past_spacing, spaced_colon};
-use crate::written::{Written, Zone};
+use crate::written::Written;
 use calendar_count::{Month, Weekday};
 use parsing_pieces::ParseFromDescription::{self, InvalidComponent, InvalidLiteral};
-use parsing_pieces::{byte, four_digits, sign, two_digits};
+use parsing_pieces::{Zone, byte, four_digits, one_digit, sign, two_digits, within};
 use parsing_white_space::{comments_and_white_space, folding_white_space};
-
-// Whether a strict reading lets a number pass.
-#[tactic(auto, unfolding(crate::specs::Reading::within))]
-#[inline(always)]
-fn within(is_strict: bool, low: u8, high: u8, value: u8) -> bool
-    ensures { result ≡ Reading.within is_strict low high value }
-{
-    !is_strict || (low <= value && value <= high)
-}
-
-#[tactic(auto, using(parsing_pieces::proofs::Fixed::digits_one, parsing_pieces::proofs::Fixed::digits_one_there))]
-#[inline(always)]
-pub(crate) fn one_digit(bytes: &[u8]) -> Option<(u8, &[u8])>
-    ensures { Pieces.cut_view result ≡ Pieces.digits 1 bytes.now }
-{
-    match bytes {
-        [a, rest @ ..] if a.is_ascii_digit() => Some((*a - b'0', rest)),
-        _ => None,
-    }
-}
 
 #[tactic(auto, unfolding(crate::specs::Reading::one_or_two_digits))]
 #[inline(always)]
@@ -140,28 +121,31 @@ fn hour_and_minute(is_strict: bool, bytes: &[u8]) -> Result<((u8, u8), &[u8]), P
 }
 
 #[tactic(auto, unfolding(crate::specs::Reading::due_second))]
-fn due_second(is_strict: bool, bytes: &[u8]) -> Result<(u8, &[u8]), ParseFromDescription>
+fn due_second(is_strict: bool, bytes: &[u8]) -> Result<(Option<u8>, &[u8]), ParseFromDescription>
     ensures { Gives (λ x. (x.0, x.1.now)) reading_fault result (Reading.due_second is_strict bytes.now) }
 {
     let (second, rest) = two_digits(bytes).ok_or(InvalidComponent("second"))?;
     if !within(is_strict, 0, 60, second) {
         return Err(InvalidComponent("second"));
     }
-    Ok((second, rest))
+    Ok((Some(second), rest))
 }
 
 #[tactic(auto, unfolding(crate::specs::Reading::second))]
-fn second(is_strict: bool, bytes: &[u8]) -> Result<(u8, &[u8]), ParseFromDescription>
+fn second(is_strict: bool, bytes: &[u8]) -> Result<(Option<u8>, &[u8]), ParseFromDescription>
     ensures { Gives (λ x. (x.0, x.1.now)) reading_fault result (Reading.second is_strict bytes.now) }
 {
     match spaced_colon(bytes) {
         Some(rest) => due_second(is_strict, rest),
-        None => Ok((0, bytes)),
+        None => Ok((None, bytes)),
     }
 }
 
 #[tactic(auto, unfolding(crate::specs::Reading::clock))]
-fn clock(is_strict: bool, bytes: &[u8]) -> Result<((u8, u8, u8), &[u8]), ParseFromDescription>
+fn clock(
+    is_strict: bool,
+    bytes: &[u8],
+) -> Result<((u8, u8, Option<u8>), &[u8]), ParseFromDescription>
     ensures { Gives (λ x. (x.0, x.1.now)) reading_fault result (Reading.clock is_strict bytes.now) }
 {
     let ((hour, minute), rest) = hour_and_minute(is_strict, bytes)?;
@@ -188,7 +172,13 @@ fn signed_zone(
     if !within(is_strict, 0, 59, minutes) {
         return Err(InvalidComponent("offset minute"));
     }
-    Ok((Zone::signed(mark == b'-', hours, minutes), rest))
+    let zone = Zone {
+        is_named: false,
+        is_negative: mark == b'-',
+        hours,
+        minutes,
+    };
+    Ok((zone, rest))
 }
 
 #[tactic(auto, unfolding(crate::specs::Reading::named_zone))]
@@ -198,7 +188,13 @@ fn named_zone(bytes: &[u8]) -> Result<(Zone, &[u8]), ParseFromDescription>
     ensures minutes { IfOk result (λ x. x.0.minutes < 100) }
 {
     let (hours, rest) = zone_name(bytes).ok_or(InvalidComponent("offset hour"))?;
-    Ok((Zone::named(hours), rest))
+    let zone = Zone {
+        is_named: true,
+        is_negative: true,
+        hours,
+        minutes: 0,
+    };
+    Ok((zone, rest))
 }
 
 #[tactic(auto, unfolding(crate::specs::Reading::zone))]
@@ -256,6 +252,7 @@ pub fn front(is_strict: bool, bytes: &[u8]) -> Result<(Written, &[u8]), ParseFro
     ensures range { is_strict ≡ true → IfOk result (λ x. AreInRange x.0) }
     ensures hours { IfOk result (λ x. x.0.zone.hours < 100) }
     ensures minutes { IfOk result (λ x. x.0.zone.minutes < 100) }
+    ensures end { IfOk result (λ x. EndsWith bytes.now x.1.now) }
     ensures short_name { IfErr result (λ e. HasShortName (reading_fault e)) }
 {
     parts(is_strict, bytes)

@@ -1,5 +1,6 @@
 -- The moment that a text of RFC 3339 names, or the first fault that it has.
-use Rattle.std.specs.Prelude.{ℕ, ◌==◌, List, Result, pos}
+use Rattle.std.specs.Prelude.{ℕ, ◌==◌, List, Result, pos, false}
+use Rattle.std.specs.Option.{unwrap_or}
 use Rattle.datetime_wall.specs.Wall.{Shown, wall_clock}
 use Rattle.parsing_pieces.specs.Fault.{Fault}
 use Rattle.parsing_pieces.specs.Readings.{Reading, ◌>>=◌, ◌>>◌, resolved, end, value_read}
@@ -11,15 +12,15 @@ use Rattle.parsing_rfc3339.specs.Reading.{rfc3339}
 -- the moment of the numbers: the range of the offset; nothing behind them; the ranges of the date and of the time; the test of a leap second
 unfoldable pub moment_of : Written → Reading Shown
 moment_of w = do
-  offset ← resolved (signed_offset_of w.offset_is_negative w.offset_hour w.offset_minute)
+  offset ← resolved (signed_offset_of w.zone.is_negative w.zone.hours w.zone.minutes)
   end
   date ← resolved (date_of (pos w.year) w.month w.day)
-  time ← resolved (leap_time_of w.hour w.minute w.second w.nanosecond)
+  time ← resolved (leap_time_of w.hour w.minute w.second (unwrap_or w.subsecond 0))
   resolved (leap_checked (w.second == 60) (record { wall = wall_clock date time; offset = offset }))
 
 unfoldable pub moment : Reading Shown
 moment = do
-  w ← rfc3339
+  w ← rfc3339 false
   moment_of w
 
 unfoldable pub direct : List ℕ → Result Shown Fault

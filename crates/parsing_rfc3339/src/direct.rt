@@ -15,25 +15,18 @@ use parsing_resolution::{leap_checked, resolve};
 #[tactic(auto, unfolding(crate::specs::Direct::moment_of))]
 #[inline(always)]
 fn resolved(written: Written, rest: &[u8]) -> Result<OffsetDateTime, Parse>
-    requires offset_hour { written.offset_hour < 100 }
-    requires offset_minute { written.offset_minute < 100 }
+    requires hours { written.zone.hours < 100 }
+    requires minutes { written.zone.minutes < 100 }
     ensures { Gives (λ d. d) fault_of result (value_read (moment_of written rest.now)) }
 {
-    let offset = resolve::signed_offset(
-        written.offset_is_negative,
-        written.offset_hour,
-        written.offset_minute,
-    )?;
+    let zone = written.zone;
+    let offset = resolve::signed_offset(zone.is_negative, zone.hours, zone.minutes)?;
     if !rest.is_empty() {
         return Err(ParseFromDescription::UnexpectedTrailingCharacters.into());
     }
     let date = resolve::date(i32::from(written.year), written.month, written.day)?;
-    let time = resolve::leap_time(
-        written.hour,
-        written.minute,
-        written.second,
-        written.nanosecond,
-    )?;
+    let nanosecond = written.subsecond.unwrap_or(0);
+    let time = resolve::leap_time(written.hour, written.minute, written.second, nanosecond)?;
     let shown = OffsetDateTime::new_in_offset(date, time, offset);
     Ok(leap_checked(written.second == 60, shown)?)
 }
@@ -62,7 +55,7 @@ pub fn read_quickly(input: &[u8]) -> Option<OffsetDateTime>
 fn read_by_pieces(input: &[u8]) -> Result<OffsetDateTime, Parse>
     ensures { Gives (λ d. d) fault_of result (direct input.now) }
 {
-    let (written, rest) = front(input)?;
+    let (written, rest) = front(false, input)?;
     resolved(written, rest)
 }
 

@@ -1,18 +1,23 @@
 //! Readings of the parts of a text.
-ghost use Rattle.std.specs.Prelude.{◌≡◌, ◌≤◌, ◌<◌, IfOk, IfSome, Ok};
+ghost use Rattle.std.specs.Prelude.{◌≡◌, ◌≤◌, ◌<◌, IfOk, IfErr, IfSome, Ok, true, false};
 ghost use Rattle.parsing_pieces.specs.FaultOf.{Gives, reading_fault};
 ghost use Rattle.parsing_pieces.specs.Pieces.{rest_view};
+ghost use Rattle.parsing_pieces.specs.ShortName.{HasShortName};
+ghost use Rattle.parsing_pieces.specs.Tame.{EndsWith};
+ghost use Rattle.parsing_rfc3339.specs.Range.{AreInRange};
 ghost use Rattle.parsing_rfc3339.specs.Reading as Reading;
 
 use crate::written::Written;
 use parsing_pieces::ParseFromDescription::{self, InvalidComponent, InvalidLiteral};
-use parsing_pieces::{any_byte, byte, four_digits, fraction, sign, two_digits, year_month};
+use parsing_pieces::{
+    Zone, any_byte, byte, four_digits, fraction, sign, two_digits, within, year_month,
+};
 
 // The date at the front, where no piece of it is missing.
 #[tactic(auto, unfolding(crate::specs::Reading::date))]
 #[inline(always)]
 fn quick_date(bytes: &[u8]) -> Option<((u16, u8, u8), &[u8])>
-    ensures { IfSome result (λ x. Reading.date bytes.now ≡ Ok (x.0, x.1.now)) }
+    ensures { IfSome result (λ x. Reading.date false bytes.now ≡ Ok (x.0, x.1.now)) }
 {
     let ((year, month), rest) = year_month(bytes)?;
     if month == 0 {
@@ -23,29 +28,41 @@ fn quick_date(bytes: &[u8]) -> Option<((u16, u8, u8), &[u8])>
 }
 
 #[tactic(auto, unfolding(crate::specs::Reading::date))]
-fn date(bytes: &[u8]) -> Result<((u16, u8, u8), &[u8]), ParseFromDescription>
-    ensures { Gives (λ x. (x.0, x.1.now)) reading_fault result (Reading.date bytes.now) }
+fn date(is_strict: bool, bytes: &[u8]) -> Result<((u16, u8, u8), &[u8]), ParseFromDescription>
+    ensures { Gives (λ x. (x.0, x.1.now)) reading_fault result (Reading.date is_strict bytes.now) }
 {
     let (year, rest) = four_digits(bytes).ok_or(InvalidComponent("year"))?;
     let rest = byte(b'-', rest).ok_or(InvalidLiteral)?;
     let (month, rest) = two_digits(rest).ok_or(InvalidComponent("month"))?;
-    if month == 0 {
+    if !within(is_strict, 1, 12, month) || month == 0 {
         return Err(InvalidComponent("month"));
     }
     let rest = byte(b'-', rest).ok_or(InvalidLiteral)?;
     let (day, rest) = two_digits(rest).ok_or(InvalidComponent("day"))?;
+    if !within(is_strict, 1, 31, day) {
+        return Err(InvalidComponent("day"));
+    }
     Ok(((year, month, day), rest))
 }
 
 #[tactic(auto, unfolding(crate::specs::Reading::clock))]
-fn clock(bytes: &[u8]) -> Result<((u8, u8, u8), &[u8]), ParseFromDescription>
-    ensures { Gives (λ x. (x.0, x.1.now)) reading_fault result (Reading.clock bytes.now) }
+fn clock(is_strict: bool, bytes: &[u8]) -> Result<((u8, u8, u8), &[u8]), ParseFromDescription>
+    ensures { Gives (λ x. (x.0, x.1.now)) reading_fault result (Reading.clock is_strict bytes.now) }
 {
     let (hour, rest) = two_digits(bytes).ok_or(InvalidComponent("hour"))?;
+    if !within(is_strict, 0, 23, hour) {
+        return Err(InvalidComponent("hour"));
+    }
     let rest = byte(b':', rest).ok_or(InvalidLiteral)?;
     let (minute, rest) = two_digits(rest).ok_or(InvalidComponent("minute"))?;
+    if !within(is_strict, 0, 59, minute) {
+        return Err(InvalidComponent("minute"));
+    }
     let rest = byte(b':', rest).ok_or(InvalidLiteral)?;
     let (second, rest) = two_digits(rest).ok_or(InvalidComponent("second"))?;
+    if !within(is_strict, 0, 60, second) {
+        return Err(InvalidComponent("second"));
+    }
     Ok(((hour, minute, second), rest))
 }
 
@@ -53,21 +70,22 @@ fn clock(bytes: &[u8]) -> Result<((u8, u8, u8), &[u8]), ParseFromDescription>
 #[tactic(auto, unfolding(crate::specs::Reading::clock))]
 #[inline(always)]
 fn quick_clock(bytes: &[u8]) -> Option<((u8, u8, u8), &[u8])>
-    ensures { IfSome result (λ x. Reading.clock bytes.now ≡ Ok (x.0, x.1.now)) }
+    ensures { IfSome result (λ x. Reading.clock false bytes.now ≡ Ok (x.0, x.1.now)) }
 {
     parsing_pieces::clock(bytes)
 }
 
-#[tactic(auto, unfolding(crate::specs::Reading::subsecond))]
+#[tactic(auto, unfolding(crate::specs::Reading::subsecond, crate::specs::Reading::due_fraction))]
 #[inline(always)]
-fn subsecond(bytes: &[u8]) -> Result<(u32, &[u8]), ParseFromDescription>
+fn subsecond(bytes: &[u8]) -> Result<(Option<u32>, &[u8]), ParseFromDescription>
     ensures gives { Gives (λ x. (x.0, x.1.now)) reading_fault result (Reading.subsecond bytes.now) }
-    ensures bound { IfOk result (λ x. x.0 < 1_000_000_000) }
+    ensures bound { IfOk result (λ x. IfSome x.0 (λ n. n < 1_000_000_000)) }
 {
     let Some(rest) = byte(b'.', bytes) else {
-        return Ok((0, bytes));
+        return Ok((None, bytes));
     };
-    fraction(rest).ok_or(InvalidComponent("subsecond"))
+    let (nanosecond, rest) = fraction(rest).ok_or(InvalidComponent("subsecond"))?;
+    Ok((Some(nanosecond), rest))
 }
 
 #[tactic(auto, unfolding(crate::specs::Reading::zulu, parsing_pieces::specs::Pieces::skip_of))]
@@ -83,10 +101,10 @@ fn zulu(bytes: &[u8]) -> Option<&[u8]>
 
 #[tactic(auto, unfolding(crate::specs::Reading::signed_offset))]
 #[inline(always)]
-fn signed_offset(bytes: &[u8]) -> Result<((bool, u8, u8), &[u8]), ParseFromDescription>
-    ensures gives { Gives (λ x. (x.0, x.1.now)) reading_fault result (Reading.signed_offset bytes.now) }
-    ensures hour { IfOk result (λ x. x.0.1 ≤ 23) }
-    ensures minute { IfOk result (λ x. x.0.2 < 100) }
+fn signed_offset(is_strict: bool, bytes: &[u8]) -> Result<(Zone, &[u8]), ParseFromDescription>
+    ensures gives { Gives (λ x. (x.0, x.1.now)) reading_fault result (Reading.signed_offset is_strict bytes.now) }
+    ensures hours { IfOk result (λ x. x.0.hours ≤ 23) }
+    ensures minutes { IfOk result (λ x. x.0.minutes < 100) }
 {
     let (mark, rest) = sign(bytes).ok_or(InvalidComponent("offset hour"))?;
     let (hour, rest) = two_digits(rest).ok_or(InvalidComponent("offset hour"))?;
@@ -95,61 +113,52 @@ fn signed_offset(bytes: &[u8]) -> Result<((bool, u8, u8), &[u8]), ParseFromDescr
     }
     let rest = byte(b':', rest).ok_or(InvalidLiteral)?;
     let (minute, rest) = two_digits(rest).ok_or(InvalidComponent("offset minute"))?;
-    Ok(((mark == b'-', hour, minute), rest))
+    if !within(is_strict, 0, 59, minute) {
+        return Err(InvalidComponent("offset minute"));
+    }
+    let zone = Zone {
+        is_named: false,
+        is_negative: mark == b'-',
+        hours: hour,
+        minutes: minute,
+    };
+    Ok((zone, rest))
 }
 
 #[tactic(auto, unfolding(crate::specs::Reading::offset))]
 #[inline(always)]
-fn offset(bytes: &[u8]) -> Result<((bool, u8, u8), &[u8]), ParseFromDescription>
-    ensures gives { Gives (λ x. (x.0, x.1.now)) reading_fault result (Reading.offset bytes.now) }
-    ensures hour { IfOk result (λ x. x.0.1 ≤ 23) }
-    ensures minute { IfOk result (λ x. x.0.2 < 100) }
+fn offset(is_strict: bool, bytes: &[u8]) -> Result<(Zone, &[u8]), ParseFromDescription>
+    ensures gives { Gives (λ x. (x.0, x.1.now)) reading_fault result (Reading.offset is_strict bytes.now) }
+    ensures hours { IfOk result (λ x. x.0.hours ≤ 23) }
+    ensures minutes { IfOk result (λ x. x.0.minutes < 100) }
 {
     if let Some(rest) = zulu(bytes) {
-        return Ok(((false, 0, 0), rest));
+        let zone = Zone {
+            is_named: true,
+            is_negative: false,
+            hours: 0,
+            minutes: 0,
+        };
+        return Ok((zone, rest));
     }
-    signed_offset(bytes)
+    signed_offset(is_strict, bytes)
 }
 
 // The offset, where it is all that is there and no piece of it is missing.
 #[tactic(auto, unfolding(crate::specs::Reading::offset))]
 #[inline(always)]
-fn quick_offset(bytes: &[u8]) -> Option<((bool, u8, u8), &[u8])>
-    ensures offset { IfSome result (λ x. Reading.offset bytes.now ≡ Ok (x.0, x.1.now)) }
-    ensures hour { IfSome result (λ x. x.0.1 ≤ 23) }
-    ensures minute { IfSome result (λ x. x.0.2 < 100) }
+fn quick_offset(bytes: &[u8]) -> Option<(Zone, &[u8])>
+    ensures offset { IfSome result (λ x. Reading.offset false bytes.now ≡ Ok (x.0, x.1.now)) }
+    ensures hours { IfSome result (λ x. x.0.hours ≤ 23) }
+    ensures minutes { IfSome result (λ x. x.0.minutes < 100) }
 {
     if bytes.len() != 6 && bytes.len() != 1 {
         return None;
     }
-    let Ok(read) = offset(bytes) else {
+    let Ok(read) = offset(false, bytes) else {
         return None;
     };
     Some(read)
-}
-
-// The numbers of a date, of a clock, of a fraction and of an offset in one.
-#[inline(always)]
-fn written(
-    date: (u16, u8, u8),
-    clock: (u8, u8, u8),
-    nanosecond: u32,
-    offset: (bool, u8, u8),
-) -> Written
-    ensures { result ≡ record { year = date.0; month = date.1; day = date.2; hour = clock.0; minute = clock.1; second = clock.2; nanosecond = nanosecond; offset_is_negative = offset.0; offset_hour = offset.1; offset_minute = offset.2 } }
-{
-    Written {
-        year: date.0,
-        month: date.1,
-        day: date.2,
-        hour: clock.0,
-        minute: clock.1,
-        second: clock.2,
-        nanosecond,
-        offset_is_negative: offset.0,
-        offset_hour: offset.1,
-        offset_minute: offset.2,
-    }
 }
 
 // The bytes of a text without a fraction, in UTC: no text has fewer.
@@ -161,9 +170,9 @@ const SHORTEST: usize = 20;
 #[tactic(auto, unfolding(crate::specs::Reading::rfc3339))]
 #[inline(always)]
 pub(crate) fn quick_front(bytes: &[u8]) -> Option<(Written, &[u8])>
-    ensures reads { IfSome result (λ x. Reading.rfc3339 bytes.now ≡ Ok (x.0, x.1.now)) }
-    ensures offset_hour { IfSome result (λ x. x.0.offset_hour ≤ 23) }
-    ensures offset_minute { IfSome result (λ x. x.0.offset_minute < 100) }
+    ensures reads { IfSome result (λ x. Reading.rfc3339 false bytes.now ≡ Ok (x.0, x.1.now)) }
+    ensures hours { IfSome result (λ x. x.0.zone.hours ≤ 23) }
+    ensures minutes { IfSome result (λ x. x.0.zone.minutes < 100) }
 {
     if bytes.len() < SHORTEST {
         return None;
@@ -171,39 +180,59 @@ pub(crate) fn quick_front(bytes: &[u8]) -> Option<(Written, &[u8])>
     let ((year, month, day), rest) = quick_date(bytes)?;
     let rest = any_byte(rest)?;
     let ((hour, minute, second), rest) = quick_clock(rest)?;
-    let Ok((nanosecond, rest)) = subsecond(rest) else {
+    let Ok((subsecond, rest)) = subsecond(rest) else {
         return None;
     };
-    let ((offset_is_negative, offset_hour, offset_minute), rest) = quick_offset(rest)?;
-    Some((
-        Written {
-            year,
-            month,
-            day,
-            hour,
-            minute,
-            second,
-            nanosecond,
-            offset_is_negative,
-            offset_hour,
-            offset_minute,
-        },
-        rest,
-    ))
+    let (zone, rest) = quick_offset(rest)?;
+    let written = Written {
+        year,
+        month,
+        day,
+        hour,
+        minute,
+        second,
+        subsecond,
+        zone,
+    };
+    Some((written, rest))
 }
 
-/// The numbers at the front of the bytes, and the rest, piece by piece.
 #[tactic(auto, unfolding(crate::specs::Reading::rfc3339))]
-pub fn front(bytes: &[u8]) -> Result<(Written, &[u8]), ParseFromDescription>
-    ensures gives { Gives (λ x. (x.0, x.1.now)) reading_fault result (Reading.rfc3339 bytes.now) }
-    ensures nanosecond { IfOk result (λ x. x.0.nanosecond < 1_000_000_000) }
-    ensures offset_hour { IfOk result (λ x. x.0.offset_hour ≤ 23) }
-    ensures offset_minute { IfOk result (λ x. x.0.offset_minute < 100) }
+fn parts(is_strict: bool, bytes: &[u8]) -> Result<(Written, &[u8]), ParseFromDescription>
+    ensures gives { Gives (λ x. (x.0, x.1.now)) reading_fault result (Reading.rfc3339 is_strict bytes.now) }
+    ensures subsecond { IfOk result (λ x. IfSome x.0.subsecond (λ n. n < 1_000_000_000)) }
+    ensures hours { IfOk result (λ x. x.0.zone.hours ≤ 23) }
+    ensures minutes { IfOk result (λ x. x.0.zone.minutes < 100) }
 {
-    let (date, rest) = date(bytes)?;
+    let ((year, month, day), rest) = date(is_strict, bytes)?;
     let rest = any_byte(rest).ok_or(InvalidComponent("separator"))?;
-    let (clock, rest) = clock(rest)?;
-    let (nanosecond, rest) = subsecond(rest)?;
-    let (offset, rest) = offset(rest)?;
-    Ok((written(date, clock, nanosecond, offset), rest))
+    let ((hour, minute, second), rest) = clock(is_strict, rest)?;
+    let (subsecond, rest) = subsecond(rest)?;
+    let (zone, rest) = offset(is_strict, rest)?;
+    let written = Written {
+        year,
+        month,
+        day,
+        hour,
+        minute,
+        second,
+        subsecond,
+        zone,
+    };
+    Ok((written, rest))
+}
+
+/// The numbers at the front of the bytes, and the rest, piece by piece: RFC 3339, section 5.6.
+///
+/// A strict reading refuses each number out of range where it stands. Each fault names the part that can't be read.
+pub fn front(is_strict: bool, bytes: &[u8]) -> Result<(Written, &[u8]), ParseFromDescription>
+    ensures gives { Gives (λ x. (x.0, x.1.now)) reading_fault result (Reading.rfc3339 is_strict bytes.now) }
+    ensures range { is_strict ≡ true → IfOk result (λ x. AreInRange x.0) }
+    ensures subsecond { IfOk result (λ x. IfSome x.0.subsecond (λ n. n < 1_000_000_000)) }
+    ensures hours { IfOk result (λ x. x.0.zone.hours ≤ 23) }
+    ensures minutes { IfOk result (λ x. x.0.zone.minutes < 100) }
+    ensures end { IfOk result (λ x. EndsWith bytes.now x.1.now) }
+    ensures short_name { IfErr result (λ e. HasShortName (reading_fault e)) }
+{
+    parts(is_strict, bytes)
 }

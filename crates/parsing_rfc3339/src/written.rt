@@ -1,5 +1,7 @@
 //! What a text of RFC 3339 says.
 
+use parsing_pieces::Zone;
+
 /// The numbers that the text has.
 #[derive(Clone, Copy, Debug, PartialEq, Eq)]
 pub struct Written {
@@ -9,8 +11,7 @@ pub struct Written {
     pub hour: u8,
     pub minute: u8,
     pub second: u8,
-    pub nanosecond: u32,
-    pub offset_is_negative: bool,
-    pub offset_hour: u8,
-    pub offset_minute: u8,
+    /// Nanoseconds, where the text has a fraction.
+    pub subsecond: Option<u32>,
+    pub zone: Zone,
 }

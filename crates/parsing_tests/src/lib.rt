@@ -10,6 +10,8 @@ mod dates;
 #[cfg(test)]
 mod errors;
 #[cfg(test)]
+mod formats;
+#[cfg(test)]
 mod iso8601;
 #[cfg(test)]
 mod moments;
@@ -25,5 +27,7 @@ mod rfc2822;
 mod setters;
 #[cfg(test)]
 mod support;
+#[cfg(test)]
+mod two_roads;
 #[cfg(test)]
 mod values;

@@ -1,8 +1,8 @@
 //! Texts of RFC 2822: the moments that they name, what they say, and the white space between their parts.
 
 use calendar_count::{Month, Weekday};
-use parsing_pieces::{Parse, ParseFromDescription};
-use parsing_rfc2822::{Written, Zone, front, read, read_quickly};
+use parsing_pieces::{Parse, ParseFromDescription, Zone};
+use parsing_rfc2822::{Written, front, read, read_quickly};
 use parsing_white_space::{comments_and_white_space, folding_white_space, may_begin, one_space};
 use std::alloc::{AllocError, Global};
 use std::process::Abort;
@@ -186,7 +186,7 @@ fn numbers(rt: HostRuntime) {
         year: 2003,
         hour: 10,
         minute: 52,
-        second: 0,
+        second: None,
         zone: Zone {
             is_named: true,
             is_negative: true,

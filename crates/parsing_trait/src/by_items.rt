@@ -3,7 +3,7 @@ ghost use Rattle.description_items.specs.Tree.{trees, listed};
 ghost use Rattle.parsing_components.specs.Component.{reads_component};
 ghost use Rattle.parsing_record.specs.Meaning.{all_of, meaning};
 ghost use Rattle.parsing_record.specs.Reads.{each_reads};
-ghost use Rattle.parsing_trait.specs.Whole.{whole, names, moment_named};
+ghost use Rattle.parsing_record.specs.Whole.{whole, names, moment_named};
 
 use crate::parsable::Parsable;
 use datetime_types::OffsetDateTime;

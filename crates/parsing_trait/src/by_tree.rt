@@ -3,7 +3,7 @@ ghost use Rattle.description_tree.specs.Description.{v3_tree};
 ghost use Rattle.parsing_components.specs.Component.{reads_component_v3};
 ghost use Rattle.parsing_record.specs.Meaning.{meaning};
 ghost use Rattle.parsing_record.specs.Reads.{reads};
-ghost use Rattle.parsing_trait.specs.Whole.{whole, names, moment_named};
+ghost use Rattle.parsing_record.specs.Whole.{whole, names, moment_named};
 
 use crate::parsable::Parsable;
 use datetime_types::OffsetDateTime;

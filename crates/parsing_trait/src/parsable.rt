@@ -4,11 +4,11 @@ ghost use Rattle.datetime_wall.specs.Wall.{Shown};
 ghost use Rattle.parsing_pieces.specs.Fault.{Fault};
 ghost use Rattle.parsing_pieces.specs.FaultOf.{Gives, fault_of};
 ghost use Rattle.parsing_pieces.specs.ShortName.{HasShortName};
-ghost use Rattle.parsing_components.specs.Tame.{EndsWith};
+ghost use Rattle.parsing_pieces.specs.Tame.{EndsWith};
 ghost use Rattle.parsing_record.specs.Record.{Record};
 ghost use Rattle.parsing_record.specs.Meaning.{Counted, meaning};
 ghost use Rattle.parsing_record.specs.Tally.{greatest_count};
-ghost use Rattle.parsing_trait.specs.Whole.{ReadsInto, whole, names, date_named, time_named, offset_named, wall_named, utc_named, timestamp_named};
+ghost use Rattle.parsing_record.specs.Whole.{ReadsInto, whole, names, date_named, time_named, offset_named, wall_named, utc_named, timestamp_named};
 
 use calendar::{Date, Time, UtcOffset};
 use datetime_types::{OffsetDateTime, PlainDateTime, Timestamp, UtcDateTime};
@@ -41,7 +41,7 @@ pub trait Parsable {
         ensures short_name { IfErr result.0 (λ e. HasShortName (fault_of e)) };
 
     /// Reads all of the bytes, from the defaults where there are any.
-    #[tactic(auto, unfolding(crate::specs::Whole::whole))]
+    #[tactic(auto, unfolding(parsing_record::specs::Whole::whole))]
     fn parse_internal(&self, input: &[u8], defaults: Option<Parsed>) -> Result<Parsed, Parse>
         ensures record { Gives (λ r. r) fault_of result (whole (meaning (reading self.now)) defaults input.now) }
         ensures short_name { IfErr result (λ e. HasShortName (fault_of e)) }

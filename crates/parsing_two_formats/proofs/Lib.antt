@@ -1,8 +1,9 @@
+pub mod Assumed
 pub mod Inversion
 pub mod Moments
+pub mod NearTimes
 pub mod Places
 pub mod RfcPieces
 pub mod SameDates
 pub mod SameOffsets
 pub mod SameTimes
-pub mod TimeRanges

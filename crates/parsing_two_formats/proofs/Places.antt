@@ -1,9 +1,9 @@
 -- Where the pieces of a text stand.
-use Rattle.std.proofs.Common.{◌≡◌, ℕ, zero, suc, ◌+◌, ◌-◌, ◌<◌, ◌≤◌, ◌==◌, Bool, true, false, cond, leb, List, [], ◌∷◌, length, get_or, take, drop, Option, Some, None, refl, sym, ap, ◌∙◌, arith, length-drop}
+use Rattle.std.proofs.Common.{◌≡◌, ℕ, zero, suc, ◌+◌, ◌-◌, ◌<◌, ◌==◌, Bool, true, false, cond, leb, List, [], ◌∷◌, length, get_or, take, drop, Some, None, refl, sym, ap, ◌∙◌, arith, length-drop}
 use Rattle.std.specs.Str.Parse.{digits_value}
 use Rattle.std.proofs.lemmas.List.{drop-drop}
 use Rattle.parsing_pieces.specs.Pieces.{digits, digit_count, byte, any_byte, skip_of}
-use Rattle.parsing_iso8601.proofs.Pieces.{same, passed}
+use Rattle.parsing_iso8601.proofs.Pieces.{same}
 use Rattle.parsing_two_formats.specs.TwoFormats.{last_byte}
 
 pub passed_value : {A : Type 0} (b : Bool) (v x : A) → cond b (Some v) None ≡ Some x → v ≡ x

@@ -1,10 +1,12 @@
 -- The pieces of a text for which RFC 3339 names a moment.
-use Rattle.std.proofs.Common.{◌≡◌, ℕ, Bool, true, List, [], Option, Some, Ok, refl, ap, ◌∙◌, ℤ}
+use Rattle.std.proofs.Common.{◌≡◌, ℕ, false, List, [], Option, Some, Ok, refl, ap, ℤ}
 use Rattle.std.specs.Prelude.{pos, nat_lt, ◌==◌}
+use Rattle.std.specs.Option.{unwrap_or}
 use Rattle.byte_names.specs.Bytes.{hyphen, colon}
 use Rattle.datetime_wall.specs.Wall.{Shown, wall_clock}
 use Rattle.parsing_pieces.specs.Pieces.{digits, byte, any_byte}
 use Rattle.parsing_pieces.specs.Readings.{◌>>=◌, resolved}
+use Rattle.parsing_pieces.specs.declared.zone.Zone.{Zone}
 use Rattle.parsing_resolution.specs.Resolution.{date_of, leap_time_of, signed_offset_of}
 use Rattle.parsing_resolution.specs.StandIn.{leap_checked}
 use Rattle.parsing_rfc3339.specs.declared.written.Written.{Written}
@@ -24,7 +26,7 @@ pub record DatePieces (bytes : List ℕ) (d : ℕ × ℕ × ℕ) (rest : List �
   pub second : byte hyphen b3 ≡ Some (tt, b4)
   pub day : digits 2 b4 ≡ Some (d.2, rest)
 
-pub date_pieces : (bytes : List ℕ) (d : ℕ × ℕ × ℕ) (rest : List ℕ) → date bytes ≡ Ok (d, rest) → DatePieces bytes d rest
+pub date_pieces : (bytes : List ℕ) (d : ℕ × ℕ × ℕ) (rest : List ℕ) → date false bytes ≡ Ok (d, rest) → DatePieces bytes d rest
 unfolding date
 date_pieces b0 d rest h =
     due_piece _ (digits 4 b0) _ _ h (λ y b1 p1 h1.
@@ -52,7 +54,7 @@ pub record ClockPieces (bytes : List ℕ) (t : ℕ × ℕ × ℕ) (rest : List �
   pub between : byte colon b3 ≡ Some (tt, b4)
   pub second : digits 2 b4 ≡ Some (t.2, rest)
 
-pub clock_pieces : (bytes : List ℕ) (t : ℕ × ℕ × ℕ) (rest : List ℕ) → clock bytes ≡ Ok (t, rest) → ClockPieces bytes t rest
+pub clock_pieces : (bytes : List ℕ) (t : ℕ × ℕ × ℕ) (rest : List ℕ) → clock false bytes ≡ Ok (t, rest) → ClockPieces bytes t rest
 unfolding clock
 clock_pieces b0 t rest h =
     due_piece _ (digits 2 b0) _ _ h (λ y b1 p1 h1.
@@ -67,8 +69,8 @@ clock_pieces b0 t rest h =
     let er : b5 ≡ rest = ap (λ (p : (ℕ × ℕ × ℕ) × List ℕ). p.1) e in
     record { b1 = b1; b2 = b2; b3 = b3; b4 = b4; hour = rw (← ey) p1; first = p2; minute = rw (← em) p3; between = p4; second = rw (← en, ← er) p5 })))))
 
-abbrev made : ℕ × ℕ × ℕ → ℕ × ℕ × ℕ → ℕ → Bool × ℕ × ℕ → Written
-made d t n z = record { year = d.0; month = d.1; day = d.2; hour = t.0; minute = t.1; second = t.2; nanosecond = n; offset_is_negative = z.0; offset_hour = z.1; offset_minute = z.2 }
+abbrev made : ℕ × ℕ × ℕ → ℕ × ℕ × ℕ → Option ℕ → Zone → Written
+made d t n z = record { year = d.0; month = d.1; day = d.2; hour = t.0; minute = t.1; second = t.2; subsecond = n; zone = z }
 
 abbrev pub shown : ℕ → ℕ → ℤ → Shown
 shown day time seconds = record { wall = wall_clock day time; offset = seconds }
@@ -77,8 +79,9 @@ shown day time seconds = record { wall = wall_clock day time; offset = seconds }
 pub record TextPieces (bytes : List ℕ) (m : Shown) : Type 0 where
   pub d : ℕ × ℕ × ℕ
   pub t : ℕ × ℕ × ℕ
+  pub fraction : Option ℕ
   pub n : ℕ
-  pub z : Bool × ℕ × ℕ
+  pub z : Zone
   pub b1 : List ℕ
   pub b2 : List ℕ
   pub b3 : List ℕ
@@ -86,12 +89,13 @@ pub record TextPieces (bytes : List ℕ) (m : Shown) : Type 0 where
   pub seconds : ℤ
   pub day : ℕ
   pub time : ℕ
-  pub date_read : date bytes ≡ Ok (d, b1)
+  pub date_read : date false bytes ≡ Ok (d, b1)
   pub separated : any_byte b1 ≡ Some (tt, b2)
-  pub clock_read : clock b2 ≡ Ok (t, b3)
-  pub fraction_read : subsecond b3 ≡ Ok (n, b4)
-  pub offset_read : offset b4 ≡ Ok (z, [])
-  pub offset_named : signed_offset_of z.0 z.1 z.2 ≡ Ok seconds
+  pub clock_read : clock false b2 ≡ Ok (t, b3)
+  pub fraction_read : subsecond b3 ≡ Ok (fraction, b4)
+  pub fraction_is : unwrap_or fraction 0 ≡ n
+  pub offset_read : offset false b4 ≡ Ok (z, [])
+  pub offset_named : signed_offset_of z.is_negative z.hours z.minutes ≡ Ok seconds
   pub date_named : date_of (pos d.0) d.1 d.2 ≡ Ok day
   pub time_named : leap_time_of t.0 t.1 t.2 n ≡ Ok time
   pub checked : leap_checked (t.2 == 60) (shown day time seconds) ≡ Ok m
@@ -100,27 +104,27 @@ pub record TextPieces (bytes : List ℕ) (m : Shown) : Type 0 where
 record FrontPieces (bytes : List ℕ) (w : Written) (rest : List ℕ) : Type 0 where
   d : ℕ × ℕ × ℕ
   t : ℕ × ℕ × ℕ
-  n : ℕ
-  z : Bool × ℕ × ℕ
+  n : Option ℕ
+  z : Zone
   b1 : List ℕ
   b2 : List ℕ
   b3 : List ℕ
   b4 : List ℕ
-  date_read : date bytes ≡ Ok (d, b1)
+  date_read : date false bytes ≡ Ok (d, b1)
   separated : any_byte b1 ≡ Some (tt, b2)
-  clock_read : clock b2 ≡ Ok (t, b3)
+  clock_read : clock false b2 ≡ Ok (t, b3)
   fraction_read : subsecond b3 ≡ Ok (n, b4)
-  offset_read : offset b4 ≡ Ok (z, rest)
+  offset_read : offset false b4 ≡ Ok (z, rest)
   is : made d t n z ≡ w
 
-front_pieces : (bytes : List ℕ) (w : Written) (rest : List ℕ) → rfc3339 bytes ≡ Ok (w, rest) → FrontPieces bytes w rest
+front_pieces : (bytes : List ℕ) (w : Written) (rest : List ℕ) → rfc3339 false bytes ≡ Ok (w, rest) → FrontPieces bytes w rest
 unfolding rfc3339
 front_pieces b0 w rest h =
-    due_part (date b0) _ (w, rest) h (λ d b1 e1 k1.
+    due_part (date false b0) _ (w, rest) h (λ d b1 e1 k1.
     due_piece _ (any_byte b1) _ (w, rest) k1 (λ x b2 e2 k2.
-    due_part (clock b2) _ (w, rest) k2 (λ t b3 e3 k3.
+    due_part (clock false b2) _ (w, rest) k2 (λ t b3 e3 k3.
     due_part (subsecond b3) _ (w, rest) k3 (λ n b4 e4 k4.
-    due_part (offset b4) _ (w, rest) k4 (λ z b5 e5 k5.
+    due_part (offset false b4) _ (w, rest) k4 (λ z b5 e5 k5.
     let e = same_end (made d t n z, b5) (w, rest) k5 in
     let left : b5 ≡ rest = ap (λ (p : Written × List ℕ). p.1) e in
     record { d = d; t = t; n = n; z = z; b1 = b1; b2 = b2; b3 = b3; b4 = b4; date_read = e1; separated = e2; clock_read = e3; fraction_read = e4; offset_read = rw (← left) e5; is = ap (λ (p : Written × List ℕ). p.0) e })))))
@@ -131,18 +135,18 @@ record NamedParts (w : Written) (rest : List ℕ) (m : Shown) : Type 0 where
   day : ℕ
   time : ℕ
   none : rest ≡ []
-  offset_named : signed_offset_of w.offset_is_negative w.offset_hour w.offset_minute ≡ Ok seconds
+  offset_named : signed_offset_of w.zone.is_negative w.zone.hours w.zone.minutes ≡ Ok seconds
   date_named : date_of (pos w.year) w.month w.day ≡ Ok day
-  time_named : leap_time_of w.hour w.minute w.second w.nanosecond ≡ Ok time
+  time_named : leap_time_of w.hour w.minute w.second (unwrap_or w.subsecond 0) ≡ Ok time
   checked : leap_checked (w.second == 60) (shown day time seconds) ≡ Ok m
 
 named_parts : (w : Written) (rest : List ℕ) (m : Shown) (last : List ℕ) → moment_of w rest ≡ Ok (m, last) → NamedParts w rest m
 unfolding moment_of
 named_parts w rest m last h =
-    due_value (signed_offset_of w.offset_is_negative w.offset_hour w.offset_minute) rest _ (m, last) h (λ seconds ho h2.
-    due_end rest (λ x. resolved (date_of (pos w.year) w.month w.day) >>= (λ day. resolved (leap_time_of w.hour w.minute w.second w.nanosecond) >>= (λ time. resolved (leap_checked (w.second == 60) (shown day time seconds))))) (m, last) h2 (λ none h3.
-    due_value (date_of (pos w.year) w.month w.day) [] (λ day. resolved (leap_time_of w.hour w.minute w.second w.nanosecond) >>= (λ time. resolved (leap_checked (w.second == 60) (shown day time seconds)))) (m, last) h3 (λ day hd h4.
-    due_value (leap_time_of w.hour w.minute w.second w.nanosecond) [] (λ time. resolved (leap_checked (w.second == 60) (shown day time seconds))) (m, last) h4 (λ time ht h5.
+    due_value (signed_offset_of w.zone.is_negative w.zone.hours w.zone.minutes) rest _ (m, last) h (λ seconds ho h2.
+    due_end rest (λ x. resolved (date_of (pos w.year) w.month w.day) >>= (λ day. resolved (leap_time_of w.hour w.minute w.second (unwrap_or w.subsecond 0)) >>= (λ time. resolved (leap_checked (w.second == 60) (shown day time seconds))))) (m, last) h2 (λ none h3.
+    due_value (date_of (pos w.year) w.month w.day) [] (λ day. resolved (leap_time_of w.hour w.minute w.second (unwrap_or w.subsecond 0)) >>= (λ time. resolved (leap_checked (w.second == 60) (shown day time seconds)))) (m, last) h3 (λ day hd h4.
+    due_value (leap_time_of w.hour w.minute w.second (unwrap_or w.subsecond 0)) [] (λ time. resolved (leap_checked (w.second == 60) (shown day time seconds))) (m, last) h4 (λ time ht h5.
     record { seconds = seconds; day = day; time = time; none = none; offset_named = ho; date_named = hd; time_named = ht; checked = last_value (leap_checked (w.second == 60) (shown day time seconds)) [] (m, last) h5 }))))
 
 joined : (bytes : List ℕ) (m : Shown) (w : Written) (rest : List ℕ) → FrontPieces bytes w rest → NamedParts w rest m → TextPieces bytes m
@@ -150,7 +154,8 @@ joined bytes m w rest f v =
     record {
       d = f.d;
       t = f.t;
-      n = f.n;
+      fraction = f.n;
+      n = unwrap_or f.n 0;
       z = f.z;
       b1 = f.b1;
       b2 = f.b2;
@@ -163,6 +168,7 @@ joined bytes m w rest f v =
       separated = f.separated;
       clock_read = f.clock_read;
       fraction_read = f.fraction_read;
+      fraction_is = refl;
       offset_read = rw v.none at f.offset_read;
       offset_named = rw (← f.is) at v.offset_named;
       date_named = rw (← f.is) at v.date_named;
@@ -174,5 +180,5 @@ pub text_pieces : (bytes : List ℕ) (m : Shown) → direct bytes ≡ Ok m → T
 unfolding direct moment
 text_pieces b0 m h =
     due_whole (moment b0) m h (λ last h0.
-    due_part (rfc3339 b0) moment_of (m, last) h0 (λ w rest hw h1.
+    due_part (rfc3339 false b0) moment_of (m, last) h0 (λ w rest hw h1.
     joined b0 m w rest (front_pieces b0 w rest hw) (named_parts w rest m last h1)))

@@ -1,27 +1,27 @@
 -- The offset in both formats.
-use Rattle.std.proofs.Common.{◌≡◌, ℕ, ◌+◌, ◌<◌, ◌≤◌, ◌==◌, ◌||◌, ◌⊎◌, inl, inr, Bool, true, false, cond, leb, List, [], ◌∷◌, length, drop, Option, Some, None, Result, Ok, Err, refl, sym, ap, ◌∙◌, arith, length-drop, ℤ}
-use Rattle.std.specs.Prelude.{pos, neg_ℤ, nat_lt, nat_le, unsigned_abs}
+use Rattle.std.proofs.Common.{◌≡◌, ℕ, ◌+◌, ◌<◌, ◌≤◌, ◌==◌, ◌||◌, ◌⊎◌, inl, inr, Bool, true, false, cond, leb, List, [], ◌∷◌, length, drop, Some, None, Ok, refl, ap, arith, length-drop, ℤ}
+use Rattle.std.specs.Prelude.{pos, nat_le}
 use Rattle.std.specs.Char.{is_ascii_digit}
 use Rattle.std.specs.Str.Parse.{digits_value}
-use Rattle.std.proofs.lemmas.Int.{ints}
 use Rattle.parsing_iso8601.specs.Numbers.{signed}
 use Rattle.std.specs.Option.{unwrap_or}
-use Rattle.std.proofs.lemmas.Bool.{cases_lt, cases_Bool}
+use Rattle.std.proofs.lemmas.Bool.{cases_Bool}
 use Rattle.std.proofs.lemmas.Bool.Decides.{nat_tests}
 use Rattle.byte_names.specs.Bytes.{colon, hyphen}
 use Rattle.calendar.specs.UtcOffset.{offset_of}
 use Rattle.parsing_pieces.specs.Pieces.{digits, digit_count, byte, byte_of, skip_of, sign}
 use Rattle.parsing_pieces.proofs.Decimal.{digit_here}
+use Rattle.parsing_pieces.specs.declared.zone.Zone.{Zone}
 use Rattle.parsing_resolution.specs.Resolution.{signed_offset_of}
 use Rattle.parsing_rfc3339.specs.Reading as rfc
 use Rattle.parsing_iso8601.specs.declared.kind.Kind.TheVariants.{Extended}
 use Rattle.parsing_iso8601.specs.declared.written.WrittenOffset.{WrittenOffset}
 use Rattle.parsing_iso8601.specs.Offsets as iso
-use Rattle.parsing_iso8601.proofs.Pieces.{same, passed}
+use Rattle.parsing_iso8601.proofs.Pieces.{passed}
 use Rattle.parsing_two_formats.specs.TwoFormats.{last_byte}
 use Rattle.parsing_two_formats.proofs.Inversion.{due_piece, due_check, same_end}
 use Rattle.parsing_two_formats.proofs.Places.{digits_place, byte_place, further, last_of_rest, passed_value}
-use Rattle.parsing_two_formats.proofs.TimeRanges.{past}
+use Rattle.parsing_resolution.proofs.lemmas.Ranges.{offset_ranges}
 
 -- an offset that both formats read, all that is there
 pub record SameOffset (bytes : List ℕ) (seconds : ℤ) : Type 0 where
@@ -64,18 +64,6 @@ ends_later n bytes rest e h =
       large = rw (last_of_rest n bytes some) (rw e h.large);
     }
 
--- hours and minutes in range
-clock_minutes : (is_negative : Bool) (hours minutes : ℕ) (seconds : ℤ) → signed_offset_of is_negative hours minutes ≡ Ok seconds → minutes ≤ 59
-unfolding signed_offset_of offset_of
-clock_minutes true hours minutes seconds e =
-    let hour = past (nat_lt 25 (unsigned_abs (neg_ℤ (pos hours)))) _ _ seconds e in
-    let minute = past (nat_lt 59 (unsigned_abs (neg_ℤ (pos minutes)))) _ _ seconds hour.1 in
-    let t = minute.0 in grind (arith, nat_tests, ints)
-clock_minutes false hours minutes seconds e =
-    let hour = past (nat_lt 25 hours) _ _ seconds e in
-    let minute = past (nat_lt 59 minutes) _ _ seconds hour.1 in
-    let t = minute.0 in grind (arith, nat_tests)
-
 same_value : (is_negative : Bool) (hours minutes : ℕ) (seconds : ℤ) → signed_offset_of is_negative hours minutes ≡ Ok seconds → offset_of (signed is_negative hours) (signed is_negative minutes) (pos 0) ≡ Ok seconds
 unfolding signed_offset_of
 same_value true hours minutes seconds e = e
@@ -94,7 +82,14 @@ no_zulu : (c : ℕ) (cs : List ℕ) → (c == 90) ≡ false → byte 90 (c ∷ c
 unfolding skip_of
 no_zulu c cs e = rw e refl
 
-signed_zone : (c : ℕ) (cs : List ℕ) (z : Bool × ℕ × ℕ) (seconds : ℤ) → (c == 90) ≡ false → rfc.signed_offset (c ∷ cs) ≡ Ok (z, []) → signed_offset_of z.0 z.1 z.2 ≡ Ok seconds → SameOffset (c ∷ cs) seconds
+-- the zones that RFC 3339 reads
+abbrev signed_by : ℕ → ℕ → ℕ → Zone
+signed_by mark hours minutes = record { is_named = false; is_negative = mark == hyphen; hours = hours; minutes = minutes }
+
+abbrev named_zulu : Zone
+named_zulu = record { is_named = true; is_negative = false; hours = 0; minutes = 0 }
+
+signed_zone : (c : ℕ) (cs : List ℕ) (z : Zone) (seconds : ℤ) → (c == 90) ≡ false → rfc.signed_offset false (c ∷ cs) ≡ Ok (z, []) → signed_offset_of z.is_negative z.hours z.minutes ≡ Ok seconds → SameOffset (c ∷ cs) seconds
 unfolding rfc.signed_offset iso.offset
 signed_zone c cs z seconds plain h hs =
     due_piece _ (sign (c ∷ cs)) _ (z, []) h (λ mark b1 p0 h1.
@@ -102,11 +97,11 @@ signed_zone c cs z seconds plain h hs =
     due_check (nat_le hours 23) _ b2 _ (z, []) h2 (λ low h3.
     due_piece _ (byte colon b2) _ (z, []) h3 (λ x b3 p2 h4.
     due_piece _ (digits 2 b3) _ (z, []) h4 (λ minutes b4 p3 h5.
-    let e = same_end ((mark == hyphen, hours, minutes), b4) (z, []) h5 in
-    let ez : (mark == hyphen, hours, minutes) ≡ z = ap (λ (p : (Bool × ℕ × ℕ) × List ℕ). p.0) e in
-    let left : b4 ≡ [] = ap (λ (p : (Bool × ℕ × ℕ) × List ℕ). p.1) e in
+    let e = same_end (signed_by mark hours minutes, b4) (z, []) h5 in
+    let ez : signed_by mark hours minutes ≡ z = ap (λ (p : Zone × List ℕ). p.0) e in
+    let left : b4 ≡ [] = ap (λ (p : Zone × List ℕ). p.1) e in
     let named : signed_offset_of (mark == hyphen) hours minutes ≡ Ok seconds = rw (← ez) at hs in
-    let least : minutes ≤ 59 = clock_minutes (mark == hyphen) hours minutes seconds named in
+    let least : minutes ≤ 59 = (offset_ranges (mark == hyphen) hours minutes seconds named).minutes in
     let hour : hours ≤ 23 = grind (arith, nat_tests) in
     let signed : iso.signed_offset Extended (c ∷ cs) ≡ Some (iso.offset_of (mark == hyphen) hours minutes, b4) = signed_read (c ∷ cs) b1 b2 b3 b4 mark hours minutes p0 p1 hour p2 p3 least in
     let place : drop 4 (c ∷ cs) ≡ b3 = further 3 1 (c ∷ cs) b2 b3 (further 1 2 (c ∷ cs) b1 b2 (sign_place (c ∷ cs) mark b1 p0) (digits_place 2 b1 hours b2 p1).1) (byte_place colon b2 b3 p2) in
@@ -119,12 +114,12 @@ signed_zone c cs z seconds plain h hs =
       large = ends.large;
     })))))
 
-zulu_zone : (cs : List ℕ) (z : Bool × ℕ × ℕ) (seconds : ℤ) → rfc.offset (90 ∷ cs) ≡ Ok (z, []) → signed_offset_of z.0 z.1 z.2 ≡ Ok seconds → SameOffset (90 ∷ cs) seconds
+zulu_zone : (cs : List ℕ) (z : Zone) (seconds : ℤ) → rfc.offset false (90 ∷ cs) ≡ Ok (z, []) → signed_offset_of z.is_negative z.hours z.minutes ≡ Ok seconds → SameOffset (90 ∷ cs) seconds
 unfolding rfc.offset rfc.zulu iso.offset skip_of signed_offset_of
 zulu_zone cs z seconds h hs =
-    let e = same_end ((false, 0, 0), cs) (z, []) h in
-    let ez : (false, 0, 0) ≡ z = ap (λ (p : (Bool × ℕ × ℕ) × List ℕ). p.0) e in
-    let left : cs ≡ [] = ap (λ (p : (Bool × ℕ × ℕ) × List ℕ). p.1) e in
+    let e = same_end (named_zulu, cs) (z, []) h in
+    let ez : named_zulu ≡ z = ap (λ (p : Zone × List ℕ). p.0) e in
+    let left : cs ≡ [] = ap (λ (p : Zone × List ℕ). p.1) e in
     record {
       read = iso.zulu;
       is = ap (λ (s : List ℕ). Some (iso.zulu, s)) left;
@@ -133,23 +128,23 @@ zulu_zone cs z seconds h hs =
       large = rw left refl;
     }
 
-small_zone : (cs : List ℕ) (z : Bool × ℕ × ℕ) → rfc.offset (122 ∷ cs) ≡ Ok (z, []) → cs ≡ []
+small_zone : (cs : List ℕ) (z : Zone) → rfc.offset false (122 ∷ cs) ≡ Ok (z, []) → cs ≡ []
 unfolding rfc.offset rfc.zulu skip_of
-small_zone cs z h = ap (λ (p : (Bool × ℕ × ℕ) × List ℕ). p.1) (same_end ((false, 0, 0), cs) (z, []) h)
+small_zone cs z h = ap (λ (p : Zone × List ℕ). p.1) (same_end (named_zulu, cs) (z, []) h)
 
 is_number : (c n : ℕ) → (c == n) ≡ true → c ≡ n
 is_number c n h = grind (arith, nat_tests)
 
-plain_zone : (c : ℕ) (cs : List ℕ) (z : Bool × ℕ × ℕ) → (c == 90) ≡ false → (c == 122) ≡ false → rfc.offset (c ∷ cs) ≡ Ok (z, []) → rfc.signed_offset (c ∷ cs) ≡ Ok (z, [])
+plain_zone : (c : ℕ) (cs : List ℕ) (z : Zone) → (c == 90) ≡ false → (c == 122) ≡ false → rfc.offset false (c ∷ cs) ≡ Ok (z, []) → rfc.signed_offset false (c ∷ cs) ≡ Ok (z, [])
 unfolding rfc.offset rfc.zulu skip_of
 plain_zone c cs z large small h = rw (large, small) at h
 
-empty_zone : (z : Bool × ℕ × ℕ) (seconds : ℤ) → rfc.offset [] ≡ Ok (z, []) → SameOffset [] seconds
+empty_zone : (z : Zone) (seconds : ℤ) → rfc.offset false [] ≡ Ok (z, []) → SameOffset [] seconds
 unfolding rfc.offset rfc.zulu rfc.signed_offset skip_of byte_of
 empty_zone z seconds h = absurd (cc)
 
 -- the zone that RFC 3339 reads is a small `z`, or ISO 8601 reads it too
-pub same_zone : (bytes : List ℕ) (z : Bool × ℕ × ℕ) (seconds : ℤ) → rfc.offset bytes ≡ Ok (z, []) → signed_offset_of z.0 z.1 z.2 ≡ Ok seconds → (bytes ≡ 122 ∷ []) ⊎ SameOffset bytes seconds
+pub same_zone : (bytes : List ℕ) (z : Zone) (seconds : ℤ) → rfc.offset false bytes ≡ Ok (z, []) → signed_offset_of z.is_negative z.hours z.minutes ≡ Ok seconds → (bytes ≡ 122 ∷ []) ⊎ SameOffset bytes seconds
 same_zone [] z seconds h hs = inr (empty_zone z seconds h)
 same_zone (c ∷ cs) z seconds h hs =
     elim (cases_Bool (c == 122)) [

@@ -5,4 +5,4 @@ use Rattle.instants.proofs.timeline.moment_of_any.Given as goal
 
 -- the sources so far named none
 abbrev pub invariant-loop-source : goal.invariant-loop-source
-invariant-loop-source l = result_ok (first_named (drop l.source-index l.sources) l.line) ≡ result_ok (first_named l.sources l.line)
+invariant-loop-source l = result_ok (first_named l.assumed (drop l.source-index l.sources) l.line) ≡ result_ok (first_named l.assumed l.sources l.line)

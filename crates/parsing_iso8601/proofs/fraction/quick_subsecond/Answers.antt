@@ -1,4 +1,4 @@
-use Rattle.std.proofs.Common.{◌≡◌, arith, sym}
+use Rattle.std.proofs.Common.{arith, sym}
 use Rattle.parsing_iso8601.proofs.QuickTimes.{short_subsecond, no_subsecond}
 use Rattle.parsing_iso8601.proofs.fraction.quick_subsecond.Goals as goal
 

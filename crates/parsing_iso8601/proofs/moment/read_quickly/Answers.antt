@@ -1,11 +1,14 @@
 use Rattle.std.proofs.Common.{◌≡◌, [], arith, sym, ◌∙◌, ap, List, ℕ, Some}
 use Rattle.std.proofs.lemmas.Grind.{common_steps}
 use Rattle.parsing_iso8601.specs.Offsets.{offset}
-use Rattle.parsing_iso8601.proofs.QuickMoments.{moment_of}
+use Rattle.parsing_iso8601.proofs.QuickMoments.{moment_of, of_offset}
 use Rattle.parsing_iso8601.proofs.moment.read_quickly.Goals as goal
 
 pub returns : goal.returns
 returns c =
     let none : c.in_ok-offset.rest.now ≡ [] = grind (arith, common_steps) in
     let read : offset c.in_ok-time.kind c.in_ok-time.rest.now ≡ Some (c.in_ok-offset.offset, []) = sym c.in_ok-offset.ensures.cut ∙ ap (λ (rest : List ℕ). Some (c.in_ok-offset.offset, rest)) none in
-    rw (moment_of c.args.input.now c.in_ok-date.rest.now c.in_ok-time.rest.now c.in_ok-date.date c.in_ok-date.kind c.in_ok-time.kind c.in_ok-time.time c.in_ok-offset.offset c.in_ok-date.ensures c.in_ok-time.ensures read) c.quick_moment.ensures
+    record {
+      gives = rw (moment_of c.args.input.now c.in_ok-date.rest.now c.in_ok-time.rest.now c.in_ok-date.date c.in_ok-date.kind c.in_ok-time.kind c.in_ok-time.time c.in_ok-offset.offset c.in_ok-date.ensures c.in_ok-time.ensures read) c.quick_moment.ensures;
+      has_offset = of_offset c.args.input.now c.in_ok-date.rest.now c.in_ok-time.rest.now c.in_ok-date.date c.in_ok-date.kind c.in_ok-time.kind c.in_ok-time.time c.in_ok-offset.offset c.quick_moment.result c.in_ok-date.ensures c.in_ok-time.ensures read c.quick_moment.ensures;
+    }

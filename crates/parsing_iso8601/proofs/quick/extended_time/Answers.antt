@@ -1,4 +1,4 @@
-use Rattle.std.proofs.Common.{◌≡◌, arith, sym}
+use Rattle.std.proofs.Common.{arith, sym}
 use Rattle.parsing_iso8601.proofs.QuickTimes.{time_of_chunk}
 use Rattle.parsing_iso8601.proofs.quick.extended_time.Goals as goal
 

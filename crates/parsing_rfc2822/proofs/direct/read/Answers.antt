@@ -1,4 +1,4 @@
-use Rattle.parsing_rfc2822.proofs.ShortNames.{given_short}
+use Rattle.parsing_rfc2822.proofs.TameLemmas.{given_short}
 use Rattle.parsing_rfc2822.proofs.direct.read.Goals as goal
 
 pub returns-in-None-clause-short_name : goal.returns-in-None-clause-short_name

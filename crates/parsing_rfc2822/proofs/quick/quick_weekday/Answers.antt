@@ -8,4 +8,4 @@ pub returns-then-is_some : goal.returns-then-is_some
 unfolding optional_weekday
 returns-then-is_some c =
     let there : is_some c.one_digit.result ≡ true = sym c.is_some.ensures ∙ c.if-is_some.true in
-    rw (no_weekday c.one_digit.result c.args.bytes.now c.one_digit.ensures there) refl
+    rw (no_weekday c.one_digit.result c.args.bytes.now c.one_digit.ensures.cut there) refl

@@ -1,4 +1,4 @@
-use Rattle.parsing_rfc3339.proofs.ShortNames.{given_short}
+use Rattle.parsing_rfc3339.proofs.TameLemmas.{given_short}
 use Rattle.parsing_rfc3339.proofs.direct.read.Goals as goal
 
 pub returns-in-None-clause-short_name : goal.returns-in-None-clause-short_name

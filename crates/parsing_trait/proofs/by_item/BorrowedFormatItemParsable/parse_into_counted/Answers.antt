@@ -1,8 +1,8 @@
 use Rattle.std.proofs.Common.{rules}
 use Rattle.description_items.specs.Tree.{tree_of}
 use Rattle.parsing_components.specs.Component.{reads_component}
-use Rattle.parsing_components.specs.Tame.{component_tame}
-use Rattle.parsing_record.specs.Tame.{tree_tame}
+use Rattle.parsing_components.proofs.lemmas.Tame.{component_tame}
+use Rattle.parsing_record.proofs.lemmas.Tame.{tree_tame}
 use Rattle.parsing_trait.proofs.TameLemmas.{short_of, end_of}
 use Rattle.parsing_trait.proofs.by_item.BorrowedFormatItemParsable.parse_into_counted.Goals as goal
 

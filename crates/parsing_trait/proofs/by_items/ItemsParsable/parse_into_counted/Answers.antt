@@ -1,8 +1,8 @@
 use Rattle.std.proofs.Common.{rules}
 use Rattle.description_items.specs.Tree.{trees, listed}
 use Rattle.parsing_components.specs.Component.{reads_component}
-use Rattle.parsing_components.specs.Tame.{component_tame}
-use Rattle.parsing_record.specs.Tame.{in_turn_tame}
+use Rattle.parsing_components.proofs.lemmas.Tame.{component_tame}
+use Rattle.parsing_record.proofs.lemmas.Tame.{in_turn_tame}
 use Rattle.parsing_trait.proofs.TameLemmas.{short_of, end_of}
 use Rattle.parsing_trait.proofs.by_items.ItemsParsable.parse_into_counted.Goals as goal
 

@@ -1,8 +1,8 @@
 use Rattle.std.proofs.Common.{rules}
 use Rattle.description_tree.specs.Description.{v3_tree}
 use Rattle.parsing_components.specs.Component.{reads_component_v3}
-use Rattle.parsing_components.specs.Tame.{component_tame_v3}
-use Rattle.parsing_record.specs.Tame.{tree_tame}
+use Rattle.parsing_components.proofs.lemmas.Tame.{component_tame_v3}
+use Rattle.parsing_record.proofs.lemmas.Tame.{tree_tame}
 use Rattle.parsing_trait.proofs.TameLemmas.{short_of, end_of}
 use Rattle.parsing_trait.proofs.by_tree.FormatDescriptionV3Parsable.parse_into_counted.Goals as goal
 

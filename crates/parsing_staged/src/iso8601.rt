@@ -1,0 +1,91 @@
+//! The reading of ISO 8601 into a record.
+ghost use Rattle.std.specs.Prelude.{◌≡◌, ◌<◌, IfOk, IfErr, IfSome, Some};
+ghost use Rattle.parsing_pieces.specs.FaultOf.{reading_fault};
+ghost use Rattle.parsing_pieces.specs.ShortName.{HasShortName};
+ghost use Rattle.parsing_pieces.specs.Tame.{EndsWith};
+ghost use Rattle.parsing_components.specs.Put.{Reads};
+ghost use Rattle.parsing_iso8601.specs.Ranges.{AreInRange, IsDateInRange, IsTimeInRange, IsOffsetInRange};
+ghost use Rattle.parsing_staged.specs.Put as Put;
+ghost use Rattle.parsing_staged.specs.Staged as Staged;
+
+use parsing_iso8601::{Written, WrittenDate, WrittenOffset, WrittenTime, front};
+use parsing_pieces::ParseFromDescription;
+use parsing_record::Parsed;
+
+fn set_date(date: WrittenDate, parsed: &mut Parsed)
+    requires { IsDateInRange date }
+    ensures { parsed.new ≡ Put.put_date (Some date) parsed.old }
+{
+    match date {
+        WrittenDate::OfMonth(year, month, day) => {
+            parsed.set_year(year);
+            parsed.set_month(month);
+            parsed.set_day(day);
+        }
+        WrittenDate::OfYear(year, ordinal) => {
+            parsed.set_year(year);
+            parsed.set_ordinal(ordinal);
+        }
+        WrittenDate::OfWeek(year, week, weekday) => {
+            parsed.set_iso_year(year);
+            parsed.set_iso_week_number(week);
+            parsed.set_weekday(weekday);
+        }
+    }
+}
+
+fn set_time(time: WrittenTime, parsed: &mut Parsed)
+    requires { IsTimeInRange time }
+    ensures { parsed.new ≡ Put.put_time (Some time) parsed.old }
+{
+    parsed.set_hour_24(time.hour);
+    parsed.set_minute(time.minute);
+    parsed.set_second(time.second);
+    parsed.set_subsecond(time.subsecond);
+}
+
+fn set_offset(offset: WrittenOffset, parsed: &mut Parsed)
+    requires { IsOffsetInRange offset }
+    ensures { parsed.new ≡ Put.put_offset (Some offset) parsed.old }
+{
+    parsed.set_offset_hour(offset.hour);
+    parsed.set_offset_minute_signed(offset.minute);
+    if let Some(second) = offset.second {
+        parsed.set_offset_second_signed(second);
+    }
+}
+
+// Sets all that a text says.
+fn set_written(written: &Written, parsed: &mut Parsed)
+    requires { AreInRange written.now }
+    ensures { parsed.new ≡ Put.put_iso8601 written.now parsed.old }
+{
+    parsed.permit_leap_second();
+    if let Some(date) = written.date {
+        set_date(date, parsed);
+    }
+    if let Some(time) = written.time {
+        set_time(time, parsed);
+    }
+    if let Some(offset) = written.offset {
+        set_offset(offset, parsed);
+    }
+}
+
+/// Reads a date, a time of day and an offset of ISO 8601, each of which may be missing, at the front of the bytes into the record, and returns the rest.
+///
+/// A refusal changes nothing. What the text does not say stays as it was; a second 60 may stand for a leap second
+/// afterwards.
+#[tactic(auto, unfolding(crate::specs::Staged::reads_iso8601))]
+pub fn read_iso8601<'a>(
+    input: &'a [u8],
+    parsed: &mut Parsed,
+) -> Result<&'a [u8], ParseFromDescription>
+    ensures reads { Reads result parsed.old parsed.new (Staged.reads_iso8601 parsed.old input.now) }
+    ensures end { IfOk result (λ rest. EndsWith input.now rest.now) }
+    ensures short_name { IfErr result (λ e. HasShortName (reading_fault e)) }
+{
+    let (written, rest) = front(input)?;
+    set_written(&written, parsed);
+    Ok(rest)
+}

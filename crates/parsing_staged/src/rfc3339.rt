@@ -1,0 +1,52 @@
+//! The reading of RFC 3339 into a record.
+ghost use Rattle.std.specs.Prelude.{◌≡◌, ◌<◌, IfOk, IfErr, IfSome};
+ghost use Rattle.parsing_pieces.specs.FaultOf.{reading_fault};
+ghost use Rattle.parsing_pieces.specs.ShortName.{HasShortName};
+ghost use Rattle.parsing_pieces.specs.Tame.{EndsWith};
+ghost use Rattle.parsing_components.specs.Put.{Reads};
+ghost use Rattle.parsing_rfc3339.specs.Range.{AreInRange};
+ghost use Rattle.parsing_staged.specs.Put as Put;
+ghost use Rattle.parsing_staged.specs.Staged as Staged;
+
+use crate::zone::set_zone;
+use calendar_count::Month;
+use parsing_pieces::ParseFromDescription;
+use parsing_record::Parsed;
+use parsing_rfc3339::{Written, front};
+
+// Sets all that a text says.
+fn set_written(written: &Written, parsed: &mut Parsed)
+    requires range { AreInRange written.now }
+    requires subsecond { IfSome written.now.subsecond (λ n. n < 1_000_000_000) }
+    ensures { parsed.new ≡ Put.put_rfc3339 written.now parsed.old }
+{
+    parsed.set_year(i32::from(written.year));
+    parsed.set_month(Month::from_number(written.month));
+    parsed.set_day(written.day);
+    parsed.set_hour_24(written.hour);
+    parsed.set_minute(written.minute);
+    parsed.set_second(written.second);
+    if let Some(nanosecond) = written.subsecond {
+        parsed.set_subsecond(nanosecond);
+    }
+    set_zone(written.zone, parsed);
+    parsed.permit_leap_second();
+}
+
+/// Reads a date-time of RFC 3339, section 5.6, at the front of the bytes into the record, and returns the rest.
+///
+/// A refusal changes nothing. What the text does not say stays as it was; a second 60 may stand for a leap second
+/// afterwards.
+#[tactic(auto, unfolding(crate::specs::Staged::reads_rfc3339))]
+pub fn read_rfc3339<'a>(
+    input: &'a [u8],
+    parsed: &mut Parsed,
+) -> Result<&'a [u8], ParseFromDescription>
+    ensures reads { Reads result parsed.old parsed.new (Staged.reads_rfc3339 parsed.old input.now) }
+    ensures end { IfOk result (λ rest. EndsWith input.now rest.now) }
+    ensures short_name { IfErr result (λ e. HasShortName (reading_fault e)) }
+{
+    let (written, rest) = front(true, input)?;
+    set_written(&written, parsed);
+    Ok(rest)
+}

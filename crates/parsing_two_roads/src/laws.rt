@@ -1,0 +1,30 @@
+//! Laws that follow from the definitions, each the contract of a function here.
+ghost use Rattle.std.specs.Prelude.{◌≡◌, ℤ, Option, None, Ok};
+ghost use Rattle.datetime_wall.specs.Wall.{Shown};
+ghost use Rattle.parsing_iso8601.specs.Moment as iso8601;
+ghost use Rattle.parsing_record.specs.Whole.{whole, names, moment_named};
+ghost use Rattle.parsing_rfc3339.specs.Direct as rfc3339;
+ghost use Rattle.parsing_rfc2822.specs.Direct as rfc2822;
+ghost use Rattle.parsing_staged.specs.Staged.{reads_rfc3339, reads_rfc2822, reads_iso8601};
+ghost use Rattle.parsing_two_roads.specs.TwoRoads.{AgreeOn, staged, holding};
+
+/// RFC 3339: a text names a moment directly exactly where it names one by a record, and then it is the same one.
+pub fn two_roads_of_rfc3339(bytes: &[u8])
+    ensures { AgreeOn rfc3339.direct reads_rfc3339 bytes.now }
+{
+    parsing_rfc3339::laws::strict_reading(bytes);
+}
+
+/// RFC 2822: a text names a moment directly exactly where it names one by a record, and then it is the same one.
+pub fn two_roads_of_rfc2822(bytes: &[u8])
+    ensures { AgreeOn rfc2822.direct reads_rfc2822 bytes.now }
+{
+    parsing_rfc2822::laws::strict_reading(bytes);
+}
+
+/// ISO 8601: the parts of a text name what a record without any field names that the text sets; those of a text with an
+/// offset name it from a record that holds an offset too.
+pub fn one_road_of_iso8601(bytes: &[u8])
+    ensures empty { names moment_named (whole reads_iso8601 None bytes.now) ≡ iso8601.moment bytes.now }
+    ensures holding { (m : Shown) → iso8601.IsOfOffset bytes.now m → (hour minute : Option ℤ) → staged reads_iso8601 (holding hour minute) bytes.now ≡ Ok m }
+{}
