@@ -1,5 +1,5 @@
 //! The reading of ISO 8601 into a record.
-ghost use Rattle.std.specs.Prelude.{◌≡◌, ◌<◌, IfOk, IfErr, IfSome, Some};
+ghost use Rattle.std.specs.Prelude.{◌≡◌, IfOk, IfErr, Some};
 ghost use Rattle.parsing_pieces.specs.FaultOf.{reading_fault};
 ghost use Rattle.parsing_pieces.specs.ShortName.{HasShortName};
 ghost use Rattle.parsing_pieces.specs.Tame.{EndsWith};
@@ -72,7 +72,8 @@ fn set_written(written: &Written, parsed: &mut Parsed)
     }
 }
 
-/// Reads a date, a time of day and an offset of ISO 8601, each of which may be missing, at the front of the bytes into the record, and returns the rest.
+/// Reads a date, a time of day and an offset of ISO 8601, each of which may be missing, at the front of the bytes into
+/// the record, and returns the rest.
 ///
 /// A refusal changes nothing. What the text does not say stays as it was; a second 60 may stand for a leap second
 /// afterwards.

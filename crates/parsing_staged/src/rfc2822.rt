@@ -1,5 +1,5 @@
 //! The reading of RFC 2822 into a record.
-ghost use Rattle.std.specs.Prelude.{◌≡◌, ◌<◌, IfOk, IfErr, IfSome};
+ghost use Rattle.std.specs.Prelude.{◌≡◌, IfOk, IfErr};
 ghost use Rattle.parsing_pieces.specs.FaultOf.{reading_fault};
 ghost use Rattle.parsing_pieces.specs.ShortName.{HasShortName};
 ghost use Rattle.parsing_pieces.specs.Tame.{EndsWith};
