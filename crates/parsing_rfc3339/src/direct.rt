@@ -1,14 +1,16 @@
 //! The moment that a text names.
-ghost use Rattle.std.specs.Prelude.{◌≡◌, ◌<◌, IfErr, IfSome, Ok};
+ghost use Rattle.std.specs.Prelude.{◌≡◌, ◌<◌, IfErr, IfSome, Ok, pos};
 ghost use Rattle.parsing_pieces.specs.FaultOf.{Gives, fault_of};
 ghost use Rattle.parsing_pieces.specs.ShortName.{HasShortName};
 ghost use Rattle.parsing_rfc3339.specs.Direct.{direct, moment_of};
 ghost use Rattle.parsing_pieces.specs.Readings.{value_read};
+ghost use Rattle.parsing_resolution.specs.Resolution.{date_of};
 
-use crate::reading::{front, quick_front};
+use crate::reading::{front, quick_clock, quick_date, quick_offset, quick_subsecond};
 use crate::written::Written;
+use calendar::{Date, Time};
 use datetime_types::OffsetDateTime;
-use parsing_pieces::{Parse, ParseFromDescription};
+use parsing_pieces::{Parse, ParseFromDescription, any_byte};
 use parsing_resolution::{leap_checked, resolve};
 
 // The moment of the numbers that a text has, with what follows them.
@@ -31,22 +33,41 @@ fn resolved(written: Written, rest: &[u8]) -> Result<OffsetDateTime, Parse>
     Ok(leap_checked(written.second == 60, shown)?)
 }
 
+// The date of these numbers, where they have one.
+#[inline(always)]
+fn quick_day(year: u16, month: u8, day: u8) -> Option<Date>
+    ensures { IfSome result (λ date. date_of (pos year) month day ≡ Ok date) }
+{
+    match resolve::date(i32::from(year), month, day) {
+        Ok(date) => Some(date),
+        Err(_) => None,
+    }
+}
+
+// The bytes of a text without a fraction, in UTC: no text has fewer.
+const SHORTEST: usize = 20;
+
 /// The moment that a text names, where the shortest way finds one: `None` says nothing of the text.
 ///
-/// Most texts have one, and no leap second.
-#[tactic(auto, unfolding(crate::specs::Direct::direct, crate::specs::Direct::moment))]
+/// Most texts have one, and no leap second. Each number is named by itself: whole tuples handed on would be kept in
+/// memory, at some ten instructions a line.
 #[inline(always)]
 pub fn read_quickly(input: &[u8]) -> Option<OffsetDateTime>
     ensures { IfSome result (λ moment. direct input.now ≡ Ok moment) }
 {
-    let (written, rest) = quick_front(input)?;
-    if written.second == 60 {
+    if input.len() < SHORTEST {
         return None;
     }
-    let Ok(moment) = resolved(written, rest) else {
-        return None;
-    };
-    Some(moment)
+    let ((year, month, day), rest) = quick_date(input)?;
+    let rest = any_byte(rest)?;
+    let ((hour, minute, second), rest) = quick_clock(rest)?;
+    let (nanosecond, rest) = quick_subsecond(rest)?;
+    let offset = quick_offset(rest)?;
+    let date = quick_day(year, month, day)?;
+    match Time::from_hms_nano(hour, minute, second, nanosecond) {
+        Ok(time) => Some(OffsetDateTime::new_in_offset(date, time, offset)),
+        Err(_) => None,
+    }
 }
 
 // The same moment or fault as `read`, piece by piece.

@@ -1,22 +1,27 @@
 //! Readings of the parts of a text.
-ghost use Rattle.std.specs.Prelude.{◌≡◌, ◌≤◌, ◌<◌, IfOk, IfErr, IfSome, Ok, true, false};
+ghost use Rattle.std.specs.Prelude.{◌≡◌, ◌≤◌, ◌<◌, ℕ, Option, [], IfOk, IfErr, IfSome, Ok, true, false};
+ghost use Rattle.std.specs.Option.{unwrap_or};
 ghost use Rattle.parsing_pieces.specs.FaultOf.{Gives, reading_fault};
 ghost use Rattle.parsing_pieces.specs.Pieces.{rest_view};
 ghost use Rattle.parsing_pieces.specs.ShortName.{HasShortName};
 ghost use Rattle.parsing_pieces.specs.Tame.{EndsWith};
+ghost use Rattle.parsing_pieces.specs.declared.zone.Zone.{Zone};
+ghost use Rattle.parsing_resolution.specs.Resolution.{signed_offset_of};
 ghost use Rattle.parsing_rfc3339.specs.Range.{AreInRange};
 ghost use Rattle.parsing_rfc3339.specs.Reading as Reading;
 
 use crate::written::Written;
+use calendar::UtcOffset;
 use parsing_pieces::ParseFromDescription::{self, InvalidComponent, InvalidLiteral};
 use parsing_pieces::{
     Zone, any_byte, byte, four_digits, fraction, sign, two_digits, within, year_month,
 };
+use parsing_resolution::resolve;
 
 // The date at the front, where no piece of it is missing.
 #[tactic(auto, unfolding(crate::specs::Reading::date))]
 #[inline(always)]
-fn quick_date(bytes: &[u8]) -> Option<((u16, u8, u8), &[u8])>
+pub(crate) fn quick_date(bytes: &[u8]) -> Option<((u16, u8, u8), &[u8])>
     ensures { IfSome result (λ x. Reading.date false bytes.now ≡ Ok (x.0, x.1.now)) }
 {
     let ((year, month), rest) = year_month(bytes)?;
@@ -69,7 +74,7 @@ fn clock(is_strict: bool, bytes: &[u8]) -> Result<((u8, u8, u8), &[u8]), ParseFr
 // The time of day to the second at the front, where no piece of it is missing.
 #[tactic(auto, unfolding(crate::specs::Reading::clock))]
 #[inline(always)]
-fn quick_clock(bytes: &[u8]) -> Option<((u8, u8, u8), &[u8])>
+pub(crate) fn quick_clock(bytes: &[u8]) -> Option<((u8, u8, u8), &[u8])>
     ensures { IfSome result (λ x. Reading.clock false bytes.now ≡ Ok (x.0, x.1.now)) }
 {
     parsing_pieces::clock(bytes)
@@ -86,6 +91,18 @@ fn subsecond(bytes: &[u8]) -> Result<(Option<u32>, &[u8]), ParseFromDescription>
     };
     let (nanosecond, rest) = fraction(rest).ok_or(InvalidComponent("subsecond"))?;
     Ok((Some(nanosecond), rest))
+}
+
+// The nanoseconds of the fraction at the front, and 0 where none stands there.
+#[tactic(auto, unfolding(crate::specs::Reading::subsecond, crate::specs::Reading::due_fraction))]
+#[inline(always)]
+pub(crate) fn quick_subsecond(bytes: &[u8]) -> Option<(u32, &[u8])>
+    ensures { IfSome result (λ x. (written : Option ℕ) × (Reading.subsecond bytes.now ≡ Ok (written, x.1.now)) × (unwrap_or written 0 ≡ x.0)) }
+{
+    match byte(b'.', bytes) {
+        Some(rest) => fraction(rest),
+        None => Some((0, bytes)),
+    }
 }
 
 #[tactic(auto, unfolding(crate::specs::Reading::zulu, parsing_pieces::specs::Pieces::skip_of))]
@@ -144,57 +161,41 @@ fn offset(is_strict: bool, bytes: &[u8]) -> Result<(Zone, &[u8]), ParseFromDescr
     signed_offset(is_strict, bytes)
 }
 
-// The offset, where it is all that is there and no piece of it is missing.
-#[tactic(auto, unfolding(crate::specs::Reading::offset))]
+// The signed offset that is all that is there, where its numbers are in range.
 #[inline(always)]
-fn quick_offset(bytes: &[u8]) -> Option<(Zone, &[u8])>
-    ensures offset { IfSome result (λ x. Reading.offset false bytes.now ≡ Ok (x.0, x.1.now)) }
-    ensures hours { IfSome result (λ x. x.0.hours ≤ 23) }
-    ensures minutes { IfSome result (λ x. x.0.minutes < 100) }
+fn quick_signed_offset(bytes: &[u8]) -> Option<UtcOffset>
+    ensures { IfSome result (λ o. (zone : Zone) × (Reading.signed_offset false bytes.now ≡ Ok (zone, [])) × (signed_offset_of zone.is_negative zone.hours zone.minutes ≡ Ok o)) }
 {
-    if bytes.len() != 6 && bytes.len() != 1 {
+    if bytes.len() != 6 {
         return None;
     }
-    let Ok(read) = offset(false, bytes) else {
+    let Ok((zone, rest)) = signed_offset(false, bytes) else {
         return None;
     };
-    Some(read)
+    if !rest.is_empty() {
+        return None;
+    }
+    match resolve::signed_offset(zone.is_negative, zone.hours, zone.minutes) {
+        Ok(offset) => Some(offset),
+        Err(_) => None,
+    }
 }
 
-// The bytes of a text without a fraction, in UTC: no text has fewer.
-const SHORTEST: usize = 20;
-
-/// The numbers at the front of the bytes, and the rest, where no piece of them is missing.
-///
-/// Each number is named by itself: whole tuples handed on would be kept in memory, at some ten instructions a line.
-#[tactic(auto, unfolding(crate::specs::Reading::rfc3339))]
+// The offset that is all that is there, where its numbers are in range.
+//
+// It is handed on as a value: a `Zone` of either branch would be packed into a word and taken apart again.
+#[tactic(auto, unfolding(crate::specs::Reading::offset))]
 #[inline(always)]
-pub(crate) fn quick_front(bytes: &[u8]) -> Option<(Written, &[u8])>
-    ensures reads { IfSome result (λ x. Reading.rfc3339 false bytes.now ≡ Ok (x.0, x.1.now)) }
-    ensures hours { IfSome result (λ x. x.0.zone.hours ≤ 23) }
-    ensures minutes { IfSome result (λ x. x.0.zone.minutes < 100) }
+pub(crate) fn quick_offset(bytes: &[u8]) -> Option<UtcOffset>
+    ensures { IfSome result (λ o. (zone : Zone) × (Reading.offset false bytes.now ≡ Ok (zone, [])) × (signed_offset_of zone.is_negative zone.hours zone.minutes ≡ Ok o)) }
 {
-    if bytes.len() < SHORTEST {
+    let Some(rest) = zulu(bytes) else {
+        return quick_signed_offset(bytes);
+    };
+    if !rest.is_empty() {
         return None;
     }
-    let ((year, month, day), rest) = quick_date(bytes)?;
-    let rest = any_byte(rest)?;
-    let ((hour, minute, second), rest) = quick_clock(rest)?;
-    let Ok((subsecond, rest)) = subsecond(rest) else {
-        return None;
-    };
-    let (zone, rest) = quick_offset(rest)?;
-    let written = Written {
-        year,
-        month,
-        day,
-        hour,
-        minute,
-        second,
-        subsecond,
-        zone,
-    };
-    Some((written, rest))
+    Some(UtcOffset::UTC)
 }
 
 #[tactic(auto, unfolding(crate::specs::Reading::rfc3339))]
