@@ -1,6 +1,14 @@
 //! Laws that follow from the contracts, each the contract of a function here.
-ghost use Rattle.std.specs.Prelude.{◌≡◌, Option, Ok};
+ghost use Rattle.std.specs.Prelude.{◌≡◌, ◌++◌, ℕ, List, Option, Ok};
 ghost use Rattle.datetime_wall.specs.Wall.{Shown};
+ghost use Rattle.description_items.specs.Tree.{Tree};
+ghost use Rattle.description_laws.specs.Versions.{SpellsRanged};
+ghost use Rattle.description_spelling.specs.Spelling.{Spells, SpellsTree};
+ghost use Rattle.description_strftime.specs.Spelled.{SpellsStrftime};
+ghost use Rattle.description_words.specs.declared.version.DescriptionVersion.{DescriptionVersion};
+ghost use Rattle.description_words.specs.declared.version.DescriptionVersion.TheVariants.{Three};
+ghost use Rattle.parsing_descriptions.specs.Joined.{IsReadInTurn, by_items, by_tree};
+ghost use Rattle.parsing_descriptions.specs.TwoVersions.{IgnoresNothing, IsReadByBoth};
 ghost use Rattle.parsing_record.specs.Record.{Record};
 ghost use Rattle.parsing_record.specs.Whole.{by_roads};
 ghost use Rattle.parsing_rfc2822.specs.Direct as rfc2822;
@@ -36,4 +44,26 @@ pub fn two_formats(bytes: &[u8])
     ensures { (defaults : Option Record) → HoldsAtMostAnOffset defaults → (m : Shown) → by_roads rfc3339.direct reads_rfc3339 defaults bytes.now ≡ Ok m → IsReadAlike defaults bytes.now m }
 {
     parsing_two_formats::laws::two_formats(bytes);
+}
+
+/// Of two texts that a language of descriptions accepts, it accepts the one followed by the other. Reading by that is
+/// reading by the first and then, from the record and the rest that this leaves, by the second; a fault of either is its
+/// fault. A literal that ends the first text and one that begins the second may be one there.
+pub fn joined_descriptions()
+    // items as versions 1 and 2 read them
+    ensures versions { (version : DescriptionVersion) (s t : List ℕ) (a b : List Tree) → Spells version s a → Spells version t b → IsReadInTurn (Spells version (s ++ t)) by_items a b }
+    ensures strftime { (s t : List ℕ) (a b : List Tree) → SpellsStrftime s a → SpellsStrftime t b → IsReadInTurn (SpellsStrftime (s ++ t)) by_items a b }
+    // trees as version 3 reads them
+    ensures trees { (s t : List ℕ) (a b : Tree) → SpellsTree Three s a → SpellsTree Three t b → IsReadInTurn (SpellsTree Three (s ++ t)) by_tree a b }
+{
+    parsing_descriptions::laws::joined_descriptions();
+}
+
+/// A description of version 3 without nested ones, in which every full and century year says its range and no bytes are
+/// ignored, is one of version 2. By either version each line names the same moment, or has the same fault, whatever the
+/// defaults are.
+pub fn two_versions()
+    ensures { (text : List ℕ) (items : List Tree) → SpellsRanged text items → IgnoresNothing items → IsReadByBoth text items }
+{
+    parsing_descriptions::laws::two_versions();
 }

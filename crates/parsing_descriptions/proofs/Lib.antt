@@ -1,0 +1,4 @@
+pub mod Alike
+pub mod Items
+pub mod InTurn
+pub mod Letters

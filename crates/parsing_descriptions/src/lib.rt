@@ -1,0 +1,4 @@
+//! What descriptions beside one another read.
+#![tactic(auto)]
+
+pub mod laws;
