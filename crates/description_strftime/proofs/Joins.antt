@@ -90,7 +90,7 @@ ends_or_closed text (part ∷ parts) (own, more, is_text, is_part, others) =
     by_part (inr h) closed = inr (λ t. (own, more ++ t, longer_by text own more t is_text, inr h, closed t))
 
 -- a text begins with a literal, or no byte of one stands at its front
-begins_or_stops : (t : List ℕ) (parts : List (List Tree)) → SpellsFront t parts [] → BeginsWithLiteral t (joined parts) ⊎ Stops is_plain t
+pub begins_or_stops : (t : List ℕ) (parts : List (List Tree)) → SpellsFront t parts [] → BeginsWithLiteral t (joined parts) ⊎ Stops is_plain t
 begins_or_stops t [] e = inr (subst (Stops is_plain) (sym e) tt)
 begins_or_stops t (part ∷ parts) (own, more, is_text, inl h, others) = inl (record {
   own = own;

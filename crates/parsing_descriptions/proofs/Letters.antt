@@ -1,11 +1,11 @@
 -- Two texts of strftime.
-use Rattle.std.proofs.Common.{ℕ, List, [], ◌∷◌, ◌++◌, refl, sym, ap, subst, ◌∙◌, inl, inr, ◌⊎◌}
+use Rattle.std.proofs.Common.{ℕ, List, [], ◌++◌, sym, subst, inl, inr, ◌⊎◌}
 use Rattle.description_items.specs.Tree.{Tree}
-use Rattle.description_strftime.specs.Text.{is_plain, Stops, joined}
+use Rattle.description_strftime.specs.Text.{joined}
 use Rattle.description_strftime.specs.Spelled.{SpellsFront, SpellsStrftime}
 use Rattle.description_strftime.specs.Joined.{EndsInLiteral, BeginsWithLiteral, Joins}
 use Rattle.description_strftime.proofs.Parts.{joined_append}
-use Rattle.description_strftime.proofs.Joins.{ends_or_closed, front_longer, front_joins}
+use Rattle.description_strftime.proofs.Joins.{ends_or_closed, begins_or_stops, front_longer, front_joins}
 use Rattle.parsing_components.specs.Component.{reads_component}
 use Rattle.parsing_descriptions.specs.Joined.{by_items, IsReadInTurn}
 use Rattle.parsing_descriptions.proofs.Items.{spelled_apart, spelled_as_one}
@@ -13,22 +13,6 @@ use Rattle.parsing_descriptions.proofs.Items.{spelled_apart, spelled_as_one}
 -- what is known of the items of two texts
 abbrev pub AllJoin : Type 0
 AllJoin = (s t : List ℕ) (a b : List Tree) → SpellsStrftime s a → SpellsStrftime t b → Joins s t a b
-
--- a text begins with a literal, or no byte of one stands at its front
-begins_or_stops : (t : List ℕ) (parts : List (List Tree)) → SpellsFront t parts [] → BeginsWithLiteral t (joined parts) ⊎ Stops is_plain t
-begins_or_stops t [] e = inr (subst (Stops is_plain) (sym e) tt)
-begins_or_stops t (part ∷ parts) (own, more, is_text, inl h, others) = inl (record {
-  own = own;
-  rest = more;
-  behind = parts;
-  parts = is_text;
-  some = h.some;
-  plain = h.plain;
-  ends = h.ends;
-  others = others;
-  means = ap (λ (l : List Tree). l ++ joined parts) h.means;
-})
-begins_or_stops t (part ∷ parts) (own, more, is_text, inr h, others) = inr (subst (Stops is_plain) (sym (is_text ∙ ap (λ (l : List ℕ). l ++ more) h.parts)) refl)
 
 -- the one ends and the other begins with a literal, or all items stay as they are
 one_or_apart : (s t : List ℕ) (a b : List Tree) → SpellsStrftime s a → SpellsStrftime t b → (EndsInLiteral s a × BeginsWithLiteral t b) ⊎ SpellsStrftime (s ++ t) (a ++ b)

@@ -3,7 +3,7 @@
 ghost use Rattle.std.specs.Prelude.{◌≡◌, ℕ, ◌+◌, ◌≤◌, List, length};
 ghost use Rattle.description_items.specs.Tree.{Tree, Trees, listed};
 ghost use Rattle.description_laws.specs.Laws.{nodes, all_nodes};
-ghost use Rattle.description_spelling.specs.Spelling.{Spells, SpellsTree};
+ghost use Rattle.description_spelling.specs.Spelling.{Spells};
 ghost use Rattle.description_strftime.specs.Spelled.{SpellsStrftime};
 ghost use Rattle.description_words.specs.declared.version.DescriptionVersion.{DescriptionVersion};
 ghost use Rattle.parsing_record.specs.Record.{Record};
@@ -16,10 +16,10 @@ pub fn tried_at_most_places()
     ensures tree { (language : Language) (tree : Tree) (start : Record) (bytes : List ℕ) → tried language tree start bytes ≤ nodes tree }
 {}
 
-/// What a text spells has few places: items at most as many as the text has bytes, and a tree one more. The items of
-/// a text of strftime have nothing inside them, so each is one place.
+/// What a text spells has few places: items at most as many as the text has bytes (of a tree of version 3
+/// `description_laws::reserved` says the like). The items of a text of strftime have nothing inside them, so each is one
+/// place.
 pub fn few_nodes()
     ensures items { (version : DescriptionVersion) (text : List ℕ) (items : List Tree) → Spells version text items → all_nodes (listed items) ≤ length text }
-    ensures tree { (version : DescriptionVersion) (text : List ℕ) (tree : Tree) → SpellsTree version text tree → nodes tree ≤ length text + 1 }
     ensures strftime { (text : List ℕ) (items : List Tree) → SpellsStrftime text items → all_nodes (listed items) ≡ length items }
 {}

@@ -49,8 +49,7 @@ const SHORTEST: usize = 20;
 
 /// The moment that a text names, where the shortest way finds one: `None` says nothing of the text.
 ///
-/// Most texts have one, and no leap second. Each number is named by itself: whole tuples handed on would be kept in
-/// memory, at some ten instructions a line.
+/// Most texts have one, and no leap second.
 #[inline(always)]
 pub fn read_quickly(input: &[u8]) -> Option<OffsetDateTime>
     ensures { IfSome result (λ moment. direct input.now ≡ Ok moment) }
@@ -58,6 +57,7 @@ pub fn read_quickly(input: &[u8]) -> Option<OffsetDateTime>
     if input.len() < SHORTEST {
         return None;
     }
+    // Whole tuples handed on would be kept in memory, at some ten instructions a line.
     let ((year, month, day), rest) = quick_date(input)?;
     let rest = any_byte(rest)?;
     let ((hour, minute, second), rest) = quick_clock(rest)?;
