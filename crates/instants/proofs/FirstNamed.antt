@@ -1,22 +1,31 @@
 -- The first source that names a moment.
-use Rattle.std.proofs.Common.{◌≡◌, ℕ, List, ◌∷◌, Option, None, Some, Ok, Err, refl, ℤ}
+use Rattle.std.proofs.Common.{◌≡◌, ℕ, List, [], ◌∷◌, ◌++◌, Option, None, Some, Result, Ok, Err, refl, sym, ap, ◌∙◌, ℤ}
 use Rattle.std.specs.Option.{ok_or}
 use Rattle.std.specs.Result.{result_ok}
 use Rattle.datetime_wall.specs.Wall.{Shown}
 use Rattle.parsing_pieces.specs.Fault.{Fault}
-use Rattle.instants.specs.Place.{named, first_named}
-use Rattle.instants.specs.declared.source.Source.{Source}
+use Rattle.instants_sources.specs.Grammar.{Grammar}
+use Rattle.instants_sources.specs.Named.{named}
+use Rattle.instants.specs.Place.{or_named, first_named}
+
+here : (o : Result Shown Fault) (others : Option Shown) (moment : Shown) → result_ok o ≡ Some moment → result_ok (or_named o others) ≡ Some moment
+here (Ok m) others moment e = e
+here (Err f) others moment e = absurd cc
 
 -- a source that names one
-pub first_named-here : (assumed : Option ℤ) (source : Source) (others : List Source) (line : List ℕ) (moment : Shown) → named assumed source line ≡ Ok moment → result_ok (first_named assumed (source ∷ others) line) ≡ Some moment
+pub first_named-here : (assumed : Option ℤ) (grammar : Grammar) (others : List Grammar) (line : List ℕ) (moment : Shown) → result_ok (named assumed grammar line) ≡ Some moment → result_ok (first_named assumed (grammar ∷ others) line) ≡ Some moment
 unfolding first_named
-first_named-here assumed source others line moment e = rw e refl
+first_named-here assumed grammar others line moment e = here (named assumed grammar line) (result_ok (first_named assumed others line)) moment e
 
-result_ok-ok_or : (o : Option Shown) (fault : Fault) → result_ok (ok_or o fault) ≡ o
+pub result_ok-ok_or : (o : Option Shown) (fault : Fault) → result_ok (ok_or o fault) ≡ o
 result_ok-ok_or None fault = refl
 result_ok-ok_or (Some m) fault = refl
 
+later : (o : Result Shown Fault) (others : Option Shown) → result_ok o ≡ None → result_ok (or_named o others) ≡ others
+later (Ok m) others e = absurd cc
+later (Err f) others e = result_ok-ok_or others f
+
 -- a source that names none
-pub first_named-later : (assumed : Option ℤ) (source : Source) (others : List Source) (line : List ℕ) (fault : Fault) → named assumed source line ≡ Err fault → result_ok (first_named assumed (source ∷ others) line) ≡ result_ok (first_named assumed others line)
+pub first_named-later : (assumed : Option ℤ) (grammar : Grammar) (others : List Grammar) (line : List ℕ) → result_ok (named assumed grammar line) ≡ None → result_ok (first_named assumed (grammar ∷ others) line) ≡ result_ok (first_named assumed others line)
 unfolding first_named
-first_named-later assumed source others line fault e = rw e (result_ok-ok_or (result_ok (first_named assumed others line)) fault)
+first_named-later assumed grammar others line e = later (named assumed grammar line) (result_ok (first_named assumed others line)) e

@@ -1,1 +1,3 @@
 pub mod FirstNamed
+pub mod Appended
+pub mod Means

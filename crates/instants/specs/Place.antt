@@ -1,37 +1,20 @@
 -- A line's place on the timeline, and the answer that is written for it.
-use Rattle.std.specs.Prelude.{◌≡◌, ℕ, List, [], ◌∷◌, Option, None, Some, Result, Ok, Err, if◌then◌else◌, ℤ, pos, int_div, int_rem}
+use Rattle.std.specs.Prelude.{◌≡◌, ℕ, List, [], ◌∷◌, Option, None, Some, Result, Ok, Err, if◌then◌else◌, ℤ}
 use Rattle.std.specs.Option.{ok_or}
 use Rattle.std.specs.Result.{result_ok}
 use Rattle.datetime_wall.specs.Wall.{Shown, instant, shown_at}
 use Rattle.parsing_pieces.specs.Fault.{Fault, insufficient}
-use Rattle.parsing_record.specs.Record.{Record}
-use Rattle.parsing_record.specs.Whole.{whole, names, moment_named, by_roads}
-use Rattle.parsing_rfc2822.specs.Direct as rfc2822
-use Rattle.parsing_rfc3339.specs.Direct as rfc3339
-use Rattle.parsing_staged.specs.Staged.{reads_rfc2822, reads_rfc3339, reads_iso8601}
-use Rattle.parsing_two_roads.specs.TwoRoads.{holding}
+use Rattle.instants_sources.specs.Grammar.{Grammar}
+use Rattle.instants_sources.specs.Named.{named}
 use Rattle.instants_answers.specs.Text.{moment_text, has_written_year}
 use Rattle.instants.specs.Refusal.{Refusal, year, refusal_of, refusal_said, refusal_text}
 use Rattle.instants.specs.declared.line_fault.LineFault.{LineFault}
-use Rattle.instants.specs.declared.source.Source.{Source}
-use Rattle.instants.specs.declared.source.Source.TheVariants.{Rfc2822, Rfc3339, Iso8601}
 
 -- what a timeline is made of: its sources in order, the offset in which moments are shown, and the one that is assumed for lines without one
 pub record Setting : Type 0 where
-  pub sources : List Source
+  pub sources : List Grammar
   pub target : ℤ
   pub assumed : Option ℤ
-
--- what a reading begins with where an offset is assumed: its hour and its minute
-abbrev pub defaults_of : Option ℤ → Option Record
-defaults_of None = None
-defaults_of (Some offset) = Some (holding (Some (int_div offset (pos 3600))) (Some (int_rem (int_div offset (pos 60)) (pos 60))))
-
--- what a source names for a whole line with an offset assumed or none: a moment, or its fault
-abbrev pub named : Option ℤ → Source → List ℕ → Result Shown Fault
-named assumed Rfc2822 line = by_roads rfc2822.direct reads_rfc2822 (defaults_of assumed) line
-named assumed Rfc3339 line = by_roads rfc3339.direct reads_rfc3339 (defaults_of assumed) line
-named assumed Iso8601 line = names moment_named (whole reads_iso8601 (defaults_of assumed) line)
 
 -- the moment, or else that of the others, or else the fault
 abbrev pub or_named : Result Shown Fault → Option Shown → Result Shown Fault
@@ -39,13 +22,13 @@ or_named (Ok moment) others = Ok moment
 or_named (Err fault) others = ok_or others fault
 
 -- what the first source that names a moment names, and else the first source's fault
-unfoldable pub first_named : Option ℤ → List Source → List ℕ → Result Shown Fault
+unfoldable pub first_named : Option ℤ → List Grammar → List ℕ → Result Shown Fault
 first_named assumed [] line = Err insufficient
-first_named assumed (source ∷ others) line = or_named (named assumed source line) (result_ok (first_named assumed others line))
+first_named assumed (grammar ∷ others) line = or_named (named assumed grammar line) (result_ok (first_named assumed others line))
 
 -- a moment that this source names is that of the first source with one
-abbrev pub IsFirst : Setting → Source → List ℕ → Type 0
-IsFirst setting source line = (m : Shown) → named setting.assumed source line ≡ Ok m → first_named setting.assumed setting.sources line ≡ Ok m
+abbrev pub IsFirst : Setting → Grammar → List ℕ → Type 0
+IsFirst setting grammar line = (m : Shown) → named setting.assumed grammar line ≡ Ok m → first_named setting.assumed setting.sources line ≡ Ok m
 
 -- a moment whose year is written in four digits
 abbrev pub in_written_years : Option Shown → Result Shown Refusal

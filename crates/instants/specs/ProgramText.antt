@@ -4,7 +4,10 @@ use Rattle.std.specs.Fmt.{decimal}
 use Rattle.instants_words.specs.declared.fault.WordsFault.{WordsFault}
 use Rattle.instants_words.specs.declared.fault.WordsFault.TheVariants as words
 use Rattle.instants_stream.specs.declared.run.RunFault.TheVariants as run
-use Rattle.instants.specs.declared.timeline.NewFault.TheVariants as new
+use Rattle.description_faults.specs.Fault.{fault_of}
+use Rattle.description_faults.specs.Sentence as description
+use Rattle.instants.specs.declared.new_fault.NewFault.{NewFault}
+use Rattle.instants.specs.declared.new_fault.NewFault.TheVariants as new
 use Rattle.instants.specs.declared.program_fault.ProgramFault.{ProgramFault}
 use Rattle.instants.specs.declared.program_fault.ProgramFault.TheVariants as program
 
@@ -19,10 +22,14 @@ words_text words.Limit = codes "instants: the limit must be a number from 1 to 1
 words_text (words.Source place) = codes "instants: source " ++ decimal place ++ codes " is not a known source with its description"
 words_text words.Memory = memory_text
 
+abbrev new_text : NewFault → List ℕ
+new_text (new.Source place fault) = codes "instants: source " ++ (decimal place ++ (codes ": " ++ description.sentence (fault_of fault)))
+new_text new.Memory = memory_text
+
 -- the sentence for a fault, without a line feed
 abbrev pub sentence : ProgramFault → List ℕ
 sentence (program.Words fault) = words_text fault
-sentence (program.New new.Memory) = memory_text
+sentence (program.New fault) = new_text fault
 sentence (program.Run run.Read) = codes "instants: reading failed"
 sentence (program.Run run.Write) = codes "instants: writing failed"
 sentence program.Memory = memory_text
@@ -31,9 +38,10 @@ abbrev words_status : WordsFault → ℕ
 words_status words.Memory = 1
 words_status _ = 2
 
--- 2 where the words are wrong, 1 where memory, reading or writing failed
+-- 2 where the words or a description among them are wrong, 1 where memory, reading or writing failed
 abbrev pub status_of : ProgramFault → ℕ
 status_of (program.Words fault) = words_status fault
-status_of (program.New fault) = 1
+status_of (program.New (new.Source place fault)) = 2
+status_of (program.New new.Memory) = 1
 status_of (program.Run fault) = 1
 status_of program.Memory = 1

@@ -1,3 +1,32 @@
 //! Laws of what is answered.
+ghost use Rattle.std.specs.Prelude.{◌≡◌, ◌<◌, ℕ, List, Ok, Err, length};
+ghost use Rattle.datetime_wall.specs.Wall.{Shown};
+ghost use Rattle.parsing_pieces.specs.Fault.{Fault};
+ghost use Rattle.instants_sources.specs.Grammar.{Grammar};
+ghost use Rattle.instants_sources.specs.Named.{named};
+ghost use Rattle.instants_stream.specs.Answers.{answered};
+ghost use Rattle.instants.specs.Appended.{with_source};
+ghost use Rattle.instants.specs.Place.{Setting, first_named, shown_or_refused, place_text, answer_to};
 
 pub use instants_stream::laws::joined_streams;
+
+/// One source more, behind the others, leaves the answer to each line for which another one has a moment, also where the
+/// answer is `! year`. Any other line gets the new source's date-time or `! year`, or it keeps its fault. A line that is
+/// longer than the limit stays `! long`.
+pub fn appended()
+    ensures kept { (setting : Setting) (grammar : Grammar) (line : List ℕ) (moment : Shown)
+        → first_named setting.assumed setting.sources line ≡ Ok moment
+        → answer_to (with_source setting grammar) line ≡ answer_to setting line }
+    ensures gained { (setting : Setting) (grammar : Grammar) (line : List ℕ) (fault : Fault) (moment : Shown)
+        → first_named setting.assumed setting.sources line ≡ Err fault
+        → named setting.assumed grammar line ≡ Ok moment
+        → answer_to (with_source setting grammar) line ≡ place_text (shown_or_refused setting.target (Ok moment)) }
+    ensures refused { (setting : Setting) (grammar : Grammar) (line : List ℕ) (fault other : Fault)
+        → 0 < length setting.sources
+        → first_named setting.assumed setting.sources line ≡ Err fault
+        → named setting.assumed grammar line ≡ Err other
+        → answer_to (with_source setting grammar) line ≡ answer_to setting line }
+    ensures long { (setting : Setting) (grammar : Grammar) (limit : ℕ) (line : List ℕ)
+        → limit < length line
+        → answered (answer_to (with_source setting grammar)) limit line ≡ answered (answer_to setting) limit line }
+{}

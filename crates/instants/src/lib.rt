@@ -4,10 +4,10 @@
 
 pub mod laws;
 mod line_fault;
+mod new_fault;
 mod program;
 mod program_fault;
 mod runs;
-mod source;
 mod timeline;
 
 pub use instants_answers::{Answer, fits_line, rfc3339_line};
@@ -15,11 +15,12 @@ pub use instants_devices::{
     BlockWriter, ByteReader, ByteWriter, CutReader, CutWriter, DeviceFailed, FrontWriter,
     StdReader, StdWriter,
 };
+pub use instants_sources::Source;
 pub use instants_stream::RunFault;
 pub use instants_words::{SourceText, Words, WordsFault, read_words};
 pub use line_fault::LineFault;
+pub use new_fault::NewFault;
 pub use program::run_words;
 pub use program_fault::ProgramFault;
 pub use runs::run;
-pub use source::Source;
-pub use timeline::{NewFault, Timeline};
+pub use timeline::Timeline;

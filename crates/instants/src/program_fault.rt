@@ -1,7 +1,7 @@
 //! What ends the program early.
 ghost use Rattle.std.specs.Prelude.{◌≡◌, Some};
 
-use crate::timeline::NewFault;
+use crate::new_fault::NewFault;
 use instants_stream::RunFault;
 use instants_words::WordsFault;
 use std::alloc::AllocError;
@@ -10,33 +10,34 @@ use std::fmt;
 /// Why the program did not answer its whole input. `Display` gives the sentence for standard error, without a line
 /// feed.
 #[derive(Clone, Copy, Debug, PartialEq, Eq)]
-pub enum ProgramFault {
+pub enum ProgramFault<'a> {
     /// The words are wrong.
     Words(WordsFault),
     /// No timeline could be made of them.
-    New(NewFault),
+    New(NewFault<'a>),
     /// A device failed.
     Run(RunFault),
     /// Memory ran out, or the words were not to be had.
     Memory,
 }
 
-impl ProgramFault {
+impl ProgramFault<'_> {
     ghost use Rattle.instants.specs.ProgramText.{status_of};
 
-    /// The status to end with: 2 where the words are wrong, else 1.
+    /// The status to end with: 2 where the words or a description among them are wrong, else 1.
     pub fn status(&self) -> u8
         ensures { result ≡ status_of self.now }
     {
         match self {
             ProgramFault::Words(WordsFault::Memory) => 1,
             ProgramFault::Words(_) => 2,
-            ProgramFault::New(_) | ProgramFault::Run(_) | ProgramFault::Memory => 1,
+            ProgramFault::New(NewFault::Source { .. }) => 2,
+            ProgramFault::New(NewFault::Memory) | ProgramFault::Run(_) | ProgramFault::Memory => 1,
         }
     }
 }
 
-impl fmt::Display for ProgramFault {
+impl fmt::Display for ProgramFault<'_> {
     ghost use Rattle.std.specs.Prelude.{Some};
     ghost use Rattle.instants.specs.ProgramText.{sentence};
 
@@ -60,6 +61,9 @@ impl fmt::Display for ProgramFault {
                 f,
                 "instants: source {place} is not a known source with its description"
             ),
+            ProgramFault::New(NewFault::Source { place, fault }) => {
+                write!(f, "instants: source {place}: {fault}")
+            }
             ProgramFault::Run(RunFault::Read) => f.write_str("instants: reading failed"),
             ProgramFault::Run(RunFault::Write) => f.write_str("instants: writing failed"),
             ProgramFault::Words(WordsFault::Memory)
@@ -69,46 +73,46 @@ impl fmt::Display for ProgramFault {
     }
 }
 
-impl From<WordsFault> for ProgramFault {
+impl From<WordsFault> for ProgramFault<'_> {
     ghost use Rattle.std.specs.Prelude.{◌≡◌};
     ghost use Rattle.instants.specs.declared.program_fault.ProgramFault.TheVariants as program;
 
     ghost from_gives = { λ fault e. e ≡ program.Words fault };
 
-    fn from(fault: WordsFault) -> ProgramFault {
+    fn from(fault: WordsFault) -> Self {
         ProgramFault::Words(fault)
     }
 }
 
-impl From<NewFault> for ProgramFault {
+impl<'a> From<NewFault<'a>> for ProgramFault<'a> {
     ghost use Rattle.std.specs.Prelude.{◌≡◌};
     ghost use Rattle.instants.specs.declared.program_fault.ProgramFault.TheVariants as program;
 
     ghost from_gives = { λ fault e. e ≡ program.New fault };
 
-    fn from(fault: NewFault) -> ProgramFault {
+    fn from(fault: NewFault<'a>) -> Self {
         ProgramFault::New(fault)
     }
 }
 
-impl From<RunFault> for ProgramFault {
+impl From<RunFault> for ProgramFault<'_> {
     ghost use Rattle.std.specs.Prelude.{◌≡◌};
     ghost use Rattle.instants.specs.declared.program_fault.ProgramFault.TheVariants as program;
 
     ghost from_gives = { λ fault e. e ≡ program.Run fault };
 
-    fn from(fault: RunFault) -> ProgramFault {
+    fn from(fault: RunFault) -> Self {
         ProgramFault::Run(fault)
     }
 }
 
-impl From<AllocError> for ProgramFault {
+impl From<AllocError> for ProgramFault<'_> {
     ghost use Rattle.std.specs.Prelude.{◌≡◌};
     ghost use Rattle.instants.specs.declared.program_fault.ProgramFault.TheVariants as program;
 
     ghost from_gives = { λ fault e. e ≡ program.Memory };
 
-    fn from(_fault: AllocError) -> ProgramFault {
+    fn from(_fault: AllocError) -> Self {
         ProgramFault::Memory
     }
 }

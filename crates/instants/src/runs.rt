@@ -4,6 +4,7 @@ ghost use Rattle.std.specs.Io.KnownBytes.{Consumes, Appends};
 ghost use Rattle.instants_devices.specs.Told.{ConsumesOrUntold, AppendsFront};
 ghost use Rattle.instants_stream.specs.Answers.{output, owed, due};
 ghost use Rattle.instants.specs.Place.{answer_to};
+ghost use Rattle.instants.specs.Settings.{setting_of};
 
 use crate::timeline::Timeline;
 use instants_devices::{ByteReader, ByteWriter, FrontWriter};
@@ -26,18 +27,18 @@ pub fn run<R: ByteReader, W: ByteWriter + FrontWriter>(
     // All that the reader had was read, and exactly its output was written.
     ensures ok { OnOk result (IfSome (R.left reader.old) (λ stream. (R.left reader.new ≡ Some [])
         × Appends (W.held writer.old) (W.held writer.new)
-        (output (answer_to timeline.now) (length buffer.old - 1) stream))) }
+        (output (answer_to (setting_of timeline.now)) (length buffer.old - 1) stream))) }
     ensures flushed { OnOk result (W.flushed writer.new ≡ true) }
     // Exactly the lines whose line feed was read are answered.
     ensures read { result ≡ Err RunFault.Read → (read : List ℕ)
         × ConsumesOrUntold (R.left reader.old) (R.left reader.new) read
         × Appends (W.held writer.old) (W.held writer.new)
-        (owed (answer_to timeline.now) (length buffer.old - 1) read) }
+        (owed (answer_to (setting_of timeline.now)) (length buffer.old - 1) read) }
     // A beginning of the answers to the lines whose line feed, or the end, was read is written.
     ensures write { result ≡ Err RunFault.Write → (read : List ℕ)
         × Consumes (R.left reader.old) (R.left reader.new) read
         × AppendsFront (W.held writer.old) (W.held writer.new)
-        (due (answer_to timeline.now) (length buffer.old - 1) read (R.left reader.new)) }
+        (due (answer_to (setting_of timeline.now)) (length buffer.old - 1) read (R.left reader.new)) }
     // A fault is one of the device that it names.
     ensures read_failed { IsTrue (R.failed reader.new) ↔ (result ≡ Err RunFault.Read) }
     ensures write_failed { IsTrue (W.failed writer.new) ↔ (result ≡ Err RunFault.Write) }

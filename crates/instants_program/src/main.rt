@@ -10,7 +10,34 @@ use std::process::ExitCode;
 const BLOCK: usize = 65_536;
 
 fn main(rt: HostRuntime) -> ExitCode {
-    match answer_input(&rt) {
+    match words(&rt) {
+        Ok(words) => ended(&rt, answer_input(&rt, &words)),
+        Err(fault) => ended(&rt, Err(fault)),
+    }
+}
+
+// The words behind the program's name.
+fn words(rt: &HostRuntime) -> Result<Vec<String>, ProgramFault<'static>> {
+    let args = env::args(rt).map_err(|_| ProgramFault::Memory)?;
+    let words: Vec<String> = args.skip(1).collect(rt.alloc())?;
+    Ok(words)
+}
+
+// Answers each line of standard input on standard output. Memory is taken only before the first read.
+fn answer_input<'a>(rt: &HostRuntime, words: &'a Vec<String>) -> Result<(), ProgramFault<'a>> {
+    let words: Vec<&'a str> = words
+        .iter()
+        .map(|word| word.as_str())
+        .collect(rt.alloc())?;
+    let block = vec![in rt.alloc(); 0; BLOCK]?;
+    let mut reader = StdReader::new(rt.stdin());
+    let mut writer = BlockWriter::new(block, StdWriter::new(rt.stdout()));
+    run_words(rt.alloc(), words.as_slice(), &mut reader, &mut writer)
+}
+
+// Says what ended the program early, if anything did, and ends it.
+fn ended(rt: &HostRuntime, answered: Result<(), ProgramFault>) -> ExitCode {
+    match answered {
         Ok(()) => ExitCode::SUCCESS,
         Err(fault) => {
             // Where the fault can't be printed the status still tells.
@@ -18,15 +45,4 @@ fn main(rt: HostRuntime) -> ExitCode {
             ExitCode::from(fault.status())
         }
     }
-}
-
-// Answers each line of standard input on standard output. Memory is taken only before the first read.
-fn answer_input(rt: &HostRuntime) -> Result<(), ProgramFault> {
-    let args = env::args(rt).map_err(|_| ProgramFault::Memory)?;
-    let args: Vec<String> = args.skip(1).collect(rt.alloc())?;
-    let words: Vec<&str> = args.iter().map(|word| word.as_str()).collect(rt.alloc())?;
-    let block = vec![in rt.alloc(); 0; BLOCK]?;
-    let mut reader = StdReader::new(rt.stdin());
-    let mut writer = BlockWriter::new(block, StdWriter::new(rt.stdout()));
-    run_words(rt.alloc(), words.as_slice(), &mut reader, &mut writer)
 }

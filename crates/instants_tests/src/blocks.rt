@@ -67,7 +67,7 @@ fn used_by_run(
     size: usize,
     fails_at: u8,
     takes_nothing: bool,
-) -> Result<(Result<(), ProgramFault>, bool, Used), Fail> {
+) -> Result<(Result<(), ProgramFault<'static>>, bool, Used), Fail> {
     let mut used = Used {
         calls: 0,
         len: 0,

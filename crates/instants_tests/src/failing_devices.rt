@@ -39,7 +39,7 @@ fn check(
     Ok(())
 }
 
-fn make_timeline(alloc: Global) -> Result<Timeline, Fail> {
+fn make_timeline(alloc: Global) -> Result<Timeline<'static>, Fail> {
     Ok(Timeline::new(alloc, &[SourceText::Rfc3339], UtcOffset::UTC, None)?)
 }
 

@@ -8,9 +8,15 @@ mod devices;
 #[cfg(test)]
 mod failing_devices;
 #[cfg(test)]
+mod lists;
+#[cfg(test)]
+mod memory;
+#[cfg(test)]
 mod one_line;
 #[cfg(test)]
 mod single_words;
+#[cfg(test)]
+mod sources;
 #[cfg(test)]
 mod std_devices;
 #[cfg(test)]

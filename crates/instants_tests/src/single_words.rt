@@ -4,6 +4,7 @@ use calendar::UtcOffset;
 use instants_words::{SourceText, WordsFault, read_words};
 use std::alloc::Global;
 use std::process::Abort;
+use std::test::Fail;
 
 // The target in seconds and the limit that the words give.
 fn check(rt: &impl Abort, alloc: Global, words: &[&str], wanted: Result<(i32, usize), WordsFault>) {
@@ -104,7 +105,7 @@ fn first_faults(rt: HostRuntime) {
     check(
         &rt,
         alloc,
-        &["+00:00", "-", "1", "rfc3339", "rfc3339"],
+        &["+00:00", "-", "1", "rfc3339", "v2"],
         Err(WordsFault::Source(2)),
     );
 }
@@ -127,21 +128,55 @@ fn assumed_offsets(rt: HostRuntime) {
     }
 }
 
-#[test]
-fn sources(rt: HostRuntime) {
-    for (word, wanted) in [
-        ("rfc2822", Ok(SourceText::Rfc2822)),
-        ("rfc3339", Ok(SourceText::Rfc3339)),
-        ("iso8601", Ok(SourceText::Iso8601)),
-        ("ISO8601", Err(WordsFault::Source(1))),
-        ("rfc2822 ", Err(WordsFault::Source(1))),
-    ] {
-        match read_words(rt.alloc(), &["+00:00", "-", "100", word]) {
-            Ok(read) => {
-                assert!(rt; read.sources.as_slice().len() == 1);
-                assert!(rt; wanted == Ok(read.sources.as_slice()[0]));
-            }
-            Err(fault) => assert!(rt; wanted == Err(fault)),
+// Words of sources, and what they say.
+type Said = (
+    &'static [&'static str],
+    Result<&'static [SourceText<'static>], WordsFault>,
+);
+
+const SOURCES: [Said; 13] = [
+    (&["rfc2822"], Ok(&[SourceText::Rfc2822])),
+    (&["rfc3339"], Ok(&[SourceText::Rfc3339])),
+    (&["iso8601"], Ok(&[SourceText::Iso8601])),
+    (&["v1", "[day]"], Ok(&[SourceText::V1("[day]")])),
+    (&["strftime", "%d"], Ok(&[SourceText::Strftime("%d")])),
+    (
+        &["v2", "v3", "v3", "v2"],
+        Ok(&[SourceText::V2("v3"), SourceText::V3("v2")]),
+    ),
+    (
+        &["rfc3339", "v2", "", "rfc3339"],
+        Ok(&[SourceText::Rfc3339, SourceText::V2(""), SourceText::Rfc3339]),
+    ),
+    (&["ISO8601"], Err(WordsFault::Source(1))),
+    (&["rfc2822 "], Err(WordsFault::Source(1))),
+    (&["v1"], Err(WordsFault::Source(1))),
+    (&["v4", "[day]"], Err(WordsFault::Source(1))),
+    (&["rfc3339", "strftime"], Err(WordsFault::Source(2))),
+    (&["v1", "rfc3339", "x", "v1"], Err(WordsFault::Source(2))),
+];
+
+// A target, none assumed and a limit, and then these words.
+fn check_sources(rt: &impl Abort, alloc: Global, case: &Said) -> Result<(), Fail> {
+    let mut words = Vec::new(alloc);
+    words.extend_from_slice(&["+00:00", "-", "100"])?;
+    words.extend_from_slice(case.0)?;
+    match read_words(alloc, words.as_slice()) {
+        Ok(read) => {
+            let Ok(wanted) = case.1 else {
+                return Err(Fail::from("no fault"));
+            };
+            assert!(rt; read.sources.as_slice() == wanted);
         }
+        Err(fault) => assert!(rt; case.1 == Err(fault)),
     }
+    Ok(())
+}
+
+#[test]
+fn sources(rt: HostRuntime) -> Result<(), Fail> {
+    for case in &SOURCES {
+        check_sources(&rt, rt.alloc(), case)?;
+    }
+    Ok(())
 }

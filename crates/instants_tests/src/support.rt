@@ -14,13 +14,13 @@ pub const OUTPUT: &[u8; 48] = b"1985-04-12T23:20:50.520000000Z\n! component year
 
 /// Runs the words over the stream, with reads and writes of at most so many bytes, and says how many bytes were
 /// written to the space.
-pub fn answered(
+pub fn answered<'a>(
     alloc: Global,
-    words: &[&str],
+    words: &[&'a str],
     stream: &[u8],
     most: usize,
     space: &mut [u8],
-) -> Result<usize, ProgramFault>
+) -> Result<usize, ProgramFault<'a>>
     requires { 0 < most }
 {
     let mut reader = CutReader::new(stream, most, None);

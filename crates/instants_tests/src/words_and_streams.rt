@@ -242,7 +242,7 @@ type Refusal = (&'static [&'static str], &'static str, u8);
 
 const REFUSALS: [Refusal; 11] = [
     (
-        &["+00:00", "-", "100", "rfc3339", "rfc3339"],
+        &["+00:00", "-", "100", "rfc3339", "rfc3340"],
         "instants: source 2 is not a known source with its description",
         2,
     ),
@@ -293,7 +293,7 @@ const REFUSALS: [Refusal; 11] = [
     ),
     (
         &["-23:59", "-", "0000001", "rfc3339", "rfc3339", "v1"],
-        "instants: source 2 is not a known source with its description",
+        "instants: source 3 is not a known source with its description",
         2,
     ),
 ];

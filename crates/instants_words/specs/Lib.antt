@@ -1,2 +1,4 @@
 pub mod Pieces
+pub mod Sources
+pub mod FirstSource
 pub mod Words

@@ -5,8 +5,6 @@ use Rattle.std.specs.List.{list_all}
 use Rattle.std.specs.Str.{bytes_eq}
 use Rattle.std.specs.Str.Parse.{digits_value}
 use Rattle.byte_names.specs.Bytes.{plus, hyphen, colon}
-use Rattle.instants_words.specs.declared.sources.SourceText.{SourceText}
-use Rattle.instants_words.specs.declared.sources.SourceText.TheVariants.{Rfc2822, Rfc3339, Iso8601}
 
 -- a number from one to another that digits write, at most so many
 unfoldable pub number_said : ℕ → ℕ → ℕ → List ℕ → Option ℕ
@@ -39,10 +37,3 @@ offset_said _ = None
 -- `-` says that no offset is assumed, and an offset that it is
 abbrev pub assumed_said : List ℕ → Option (Option ℤ)
 assumed_said word = if bytes_eq word (codes "-") then Some None else option_map Some (offset_said word)
-
-abbrev pub source_said : List ℕ → Option SourceText
-source_said word =
-    if bytes_eq word (codes "rfc2822") then Some Rfc2822
-    else if bytes_eq word (codes "rfc3339") then Some Rfc3339
-    else if bytes_eq word (codes "iso8601") then Some Iso8601
-    else None

@@ -1,9 +1,10 @@
 -- What all words say, or the first thing wrong with them.
 use Rattle.std.specs.Prelude.{ℕ, Option, None, Some, Result, Ok, Err, List, [], ◌∷◌}
 use Rattle.instants_words.specs.declared.fault.WordsFault.{WordsFault}
-use Rattle.instants_words.specs.declared.fault.WordsFault.TheVariants.{Usage, Target, Assumed, Limit, Source}
+use Rattle.instants_words.specs.declared.fault.WordsFault.TheVariants.{Usage, Target, Assumed, Limit}
 use Rattle.instants_words.specs.declared.words.Words.{Words}
-use Rattle.instants_words.specs.Pieces.{offset_said, assumed_said, limit_said, source_said}
+use Rattle.instants_words.specs.Pieces.{offset_said, assumed_said, limit_said}
+use Rattle.instants_words.specs.Sources.{sources_said}
 
 -- what a word says, or else the fault
 infixl 12 ◌or◌
@@ -17,18 +18,12 @@ abbrev pub ◌>>=◌ : {A B : Type 0} → Result A WordsFault → (A → Result 
 (Ok said) >>= next = next said
 (Err fault) >>= next = Err fault
 
--- no more sources than one are read
-abbrev pub no_more : List (List ℕ) → Option (Unit {0})
-no_more [] = Some tt
-no_more (word ∷ words) = None
-
--- a target, an assumed offset, a limit and a source, at the places 1 to 4, looked at in this order
+-- a target, an assumed offset, a limit and sources, looked at in this order; there are at least four words
 unfoldable pub words_said : List (List ℕ) → Result Words WordsFault
 words_said (target_word ∷ assumed_word ∷ limit_word ∷ source_word ∷ others) = do
   target ← offset_said target_word or Target
   assumed ← assumed_said assumed_word or Assumed
   limit ← limit_said limit_word or Limit
-  source ← source_said source_word or Source 1
-  _ ← no_more others or Source 2
-  Ok (record { target = target; assumed = assumed; limit = limit; sources = source ∷ [] })
+  sources ← sources_said 1 (source_word ∷ others)
+  Ok (record { target = target; assumed = assumed; limit = limit; sources = sources })
 words_said _ = Err Usage

@@ -5,9 +5,8 @@ ghost use Rattle.std.specs.Int.{IsInRange};
 ghost use Rattle.std.specs.Char.{is_ascii_digit};
 ghost use Rattle.std.specs.List.{list_all};
 ghost use Rattle.calendar.specs.UtcOffset.{IsClockOffset};
-ghost use Rattle.instants_words.specs.Pieces.{clock_seconds, number_said, with_sign, offset_said, limit_said, assumed_said, source_said};
+ghost use Rattle.instants_words.specs.Pieces.{clock_seconds, number_said, with_sign, offset_said, limit_said, assumed_said};
 
-use crate::sources::SourceText;
 use calendar::UtcOffset;
 
 const MOST_DIGITS: usize = 7;
@@ -86,19 +85,4 @@ pub(crate) fn assumed(word: &str) -> Option<Option<UtcOffset>>
     }
     let assumed = offset(word.as_bytes())?;
     Some(Some(assumed))
-}
-
-/// The source that a word names.
-pub(crate) fn source(word: &str) -> Option<SourceText>
-    ensures { result ≡ source_said word.now }
-{
-    if word == "rfc2822" {
-        Some(SourceText::Rfc2822)
-    } else if word == "rfc3339" {
-        Some(SourceText::Rfc3339)
-    } else if word == "iso8601" {
-        Some(SourceText::Iso8601)
-    } else {
-        None
-    }
 }

@@ -1,13 +1,24 @@
 //! The sources that words ask for.
 
-ghost use Rattle.std.specs.Prelude.{◌≡◌, [], ◌∷◌, IfOk};
+ghost use Rattle.std.specs.Prelude.{◌≡◌, ◌≢◌, ◌<◌, ◌≤◌, ℕ, List, map, drop, length, option_map, Ok, Err, IsOk, IfOk, IfErr, IfSome};
+ghost use Rattle.instants_words.specs.Sources.{SourceSaid, said_by, format_named, language_named, sources_said};
+ghost use Rattle.instants_words.specs.FirstSource.{source_said};
 
-use std::alloc::{AllocError, Global};
+use crate::fault::WordsFault;
+use std::alloc::Global;
 use std::marker::Model;
 
-/// What a word says of how a date-time may be written.
+/// What words say of how a date-time may be written: the text of a description, or a well-known format.
 #[derive(Clone, Copy, Debug, PartialEq, Eq)]
-pub enum SourceText {
+pub enum SourceText<'a> {
+    /// A description of version 1.
+    V1(&'a str),
+    /// A description of version 2.
+    V2(&'a str),
+    /// A description of version 3.
+    V3(&'a str),
+    /// A description by the letters of strftime.
+    Strftime(&'a str),
     /// RFC 2822, section 3.3, with the obsolete forms of section 4.3.
     Rfc2822,
     /// RFC 3339, section 5.6.
@@ -16,35 +27,107 @@ pub enum SourceText {
     Iso8601,
 }
 
-/// Sources in order. A contract sees their list.
+/// Sources in order. A contract sees what is said of each.
 #[derive(Drop)]
-pub struct Sources {
-    texts: Vec<SourceText>,
+pub struct Sources<'a> {
+    texts: Vec<SourceText<'a>>,
 }
 
-impl Model for Sources {
-    ghost use Rattle.std.specs.Prelude.{List};
-    ghost use Rattle.instants_words.specs.declared.sources.SourceText.{SourceText};
+impl<'a> Model for Sources<'a> {
+    ghost use Rattle.std.specs.Prelude.{List, map};
+    ghost use Rattle.instants_words.specs.Sources.{SourceSaid, said_by};
 
-    ghost Value = { List SourceText };
+    ghost Value = { List SourceSaid };
 
-    ghost view = { λ s. s.texts.items };
+    ghost view = { λ s. map said_by s.texts.items };
 }
 
-impl Sources {
-    // One source, if there is memory.
-    pub(crate) fn one(alloc: Global, text: SourceText) -> Result<Self, AllocError>
-        ensures { IfOk result (λ sources. sources ≡ text ∷ []) }
+impl<'a> Sources<'a> {
+    // The sources that the words say, if there is memory. All of the words are looked at before any is taken.
+    pub(crate) fn read(alloc: Global, words: &[&'a str]) -> Result<Sources<'a>, WordsFault>
+        ensures ok { IfOk result (λ sources. sources_said 1 (map (λ word. word.now) words.now) ≡ Ok sources) }
+        ensures err { IfErr result (λ fault. fault ≢ WordsFault.Memory → sources_said 1 (map (λ word. word.now) words.now) ≡ Err fault) }
+        ensures memory { result ≡ Err WordsFault.Memory → IsOk (sources_said 1 (map (λ word. word.now) words.now)) }
+        ensures some { 0 < length words.now → IfOk result (λ sources. 0 < length sources) }
     {
-        let mut texts = Vec::new(alloc);
-        texts.push(text)?;
+        let count = count(words)?;
+        let mut texts = Vec::with_capacity(alloc, count).map_err(|_| WordsFault::Memory)?;
+        let mut at = 0;
+        while let Some((text, taken)) = source(&words[at..]) {
+            texts.push(text).map_err(|_| WordsFault::Memory)?;
+            at += taken;
+        }
         Ok(Sources { texts })
     }
 
     /// The sources.
-    pub fn as_slice(&self) -> &[SourceText]
-        ensures { result.now ≡ self.now }
+    pub fn as_slice(&self) -> &[SourceText<'a>]
+        ensures { map said_by result.now ≡ self.now }
     {
         self.texts.as_slice()
+    }
+}
+
+
+// How many sources the words say.
+fn count(words: &[&str]) -> Result<usize, WordsFault>
+    ensures ok { IfOk result (λ count. (sources : List SourceSaid) × (sources_said 1 (map (λ word. word.now) words.now) ≡ Ok sources) × (count ≡ length sources)) }
+    ensures err { IfErr result (λ fault. sources_said 1 (map (λ word. word.now) words.now) ≡ Err fault) }
+    ensures never_memory { result ≢ Err WordsFault.Memory }
+{
+    let mut at = 0;
+    let mut count = 0;
+    while at < words.len() {
+        count += 1;
+        let Some((_, taken)) = source(&words[at..]) else {
+            return Err(WordsFault::Source(count));
+        };
+        at += taken;
+    }
+    Ok(count)
+}
+
+// The source that the words begin with, and how many words say it.
+fn source<'a>(words: &[&'a str]) -> Option<(SourceText<'a>, usize)>
+    ensures said { option_map (λ said. (said_by said.0, drop said.1 (map (λ word. word.now) words.now))) result ≡ source_said (map (λ word. word.now) words.now) }
+    ensures taken { IfSome result (λ said. (0 < said.1) × (said.1 ≤ length words.now)) }
+{
+    let (name, words) = words.split_first()?;
+    if let Some(format) = format(name) {
+        return Some((format, 1));
+    }
+    let text = described(name, words.first()?)?;
+    Some((text, 2))
+}
+
+// The well-known format of this name.
+fn format<'a>(name: &str) -> Option<SourceText<'a>>
+    ensures { option_map said_by result ≡ format_named name.now }
+{
+    if name == "rfc2822" {
+        Some(SourceText::Rfc2822)
+    } else if name == "rfc3339" {
+        Some(SourceText::Rfc3339)
+    } else if name == "iso8601" {
+        Some(SourceText::Iso8601)
+    } else {
+        None
+    }
+}
+
+// A description in the language of this name.
+fn described<'a>(name: &str, description: &'a str) -> Option<SourceText<'a>>
+    ensures { option_map said_by result ≡ option_map (λ language. language description.now) (language_named name.now) }
+{
+    if name == "v1" {
+        Some(SourceText::V1(description))
+    } else if name == "v2" {
+        Some(SourceText::V2(description))
+    } else if name == "v3" {
+        Some(SourceText::V3(description))
+    } else if name == "strftime" {
+        Some(SourceText::Strftime(description))
+    } else {
+        None
     }
 }

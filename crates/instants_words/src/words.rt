@@ -7,13 +7,13 @@ ghost use Rattle.instants_words.specs.Words.{words_said};
 
 use crate::fault::WordsFault;
 use crate::pieces;
-use crate::sources::{SourceText, Sources};
+use crate::sources::Sources;
 use calendar::UtcOffset;
 use std::alloc::Global;
 
 /// What the words of the program say.
 #[derive(Drop)]
-pub struct Words {
+pub struct Words<'a> {
     /// The offset to show moments in.
     pub target: UtcOffset,
     /// The offset to assume where a line has none.
@@ -21,15 +21,16 @@ pub struct Words {
     /// How many bytes a line may have, from 1 to 1048576.
     pub limit: usize,
     /// How lines may be written, in the order in which this is tried.
-    pub sources: Sources,
+    pub sources: Sources<'a>,
 }
 
-/// Reads the words of the program: a target offset, an offset to assume or `-`, a limit, and the source `rfc2822`,
-/// `rfc3339` or `iso8601`.
+/// Reads the words of the program: a target offset, an offset to assume or `-`, a limit, and sources.
 ///
-/// `Memory` comes only where a growth of the list of sources was refused.
+/// A source is `rfc2822`, `rfc3339` or `iso8601`, or one of `v1`, `v2`, `v3` and `strftime` with a description in the word
+/// behind it. All words are looked at before memory is taken: `Memory` comes only where a growth of the list of sources
+/// was refused.
 #[tactic(auto, unfolding(crate::specs::Words::words_said))]
-pub fn read_words(alloc: Global, words: &[&str]) -> Result<Words, WordsFault>
+pub fn read_words<'a>(alloc: Global, words: &[&'a str]) -> Result<Words<'a>, WordsFault>
     ensures ok { IfOk result (λ read. words_said (map (λ word. word.now) words.now) ≡ Ok read) }
     ensures err { IfErr result (λ fault. fault ≢ WordsFault.Memory → words_said (map (λ word. word.now) words.now) ≡ Err fault) }
     // What words that are accepted say is in range.
@@ -40,17 +41,16 @@ pub fn read_words(alloc: Global, words: &[&str]) -> Result<Words, WordsFault>
 
     ensures memory { result ≡ Err WordsFault.Memory → IsOk (words_said (map (λ word. word.now) words.now)) }
 {
-    let [target, assumed, limit, source, others @ ..] = words else {
+    let [target, assumed, limit, sources @ ..] = words else {
         return Err(WordsFault::Usage);
     };
+    if sources.is_empty() {
+        return Err(WordsFault::Usage);
+    }
     let target = pieces::offset(target.as_bytes()).ok_or(WordsFault::Target)?;
     let assumed = pieces::assumed(assumed).ok_or(WordsFault::Assumed)?;
     let limit = pieces::limit(limit.as_bytes()).ok_or(WordsFault::Limit)?;
-    let source = pieces::source(source).ok_or(WordsFault::Source(1))?;
-    if !others.is_empty() {
-        return Err(WordsFault::Source(2));
-    }
-    let sources = Sources::one(alloc, source).map_err(|_| WordsFault::Memory)?;
+    let sources = Sources::read(alloc, sources)?;
     Ok(Words {
         target,
         assumed,

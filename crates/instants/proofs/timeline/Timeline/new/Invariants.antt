@@ -1,7 +1,12 @@
-use Rattle.std.proofs.Common.{◌≡◌, take, map}
-use Rattle.instants.specs.Sources.{source_of}
+use Rattle.std.proofs.Common.{◌≡◌, take, map, length}
+use Rattle.instants_words.specs.Sources.{said_by}
+use Rattle.instants_sources.specs.Grammar.{grammar_of}
+use Rattle.instants.specs.Sources.{AllMean}
 use Rattle.instants.proofs.timeline.Timeline.new.Given as goal
 
 -- the sources so far were read
 abbrev pub invariant-loop-text : goal.invariant-loop-text
-invariant-loop-text l = l.read.items ≡ map source_of (take l.text-index l.sources)
+invariant-loop-text l = record {
+  count : length l.read.items ≡ l.text-index;
+  mean : AllMean (map said_by (take l.text-index l.sources)) (map grammar_of l.read.items);
+}

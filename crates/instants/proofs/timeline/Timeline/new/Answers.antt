@@ -1,0 +1,24 @@
+use Rattle.std.proofs.Common.{◌≡◌, ◌+◌, [], ◌∷◌, ◌++◌, map, length, subst, arith, rules}
+use Rattle.std.specs.Vec.{vec_len}
+use Rattle.std.proofs.lemmas.List.{length-append, map-append}
+use Rattle.instants_sources.specs.Grammar.{grammar_of}
+use Rattle.instants_words.specs.Sources.{said_by}
+use Rattle.instants.specs.Refusals.{refused_at}
+use Rattle.instants.specs.Sources.{IsRefusal}
+use Rattle.instants.proofs.Means.{mean_index, refused_index}
+use Rattle.instants.proofs.timeline.Timeline.new.Goals as goal
+
+pub returns-in-Err-clause-refused : goal.returns-in-Err-clause-refused
+returns-in-Err-clause-refused c =
+    let place : c.loop-text.text-index ≡ vec_len c.loop-text.read = omega (arith, c.loop-text.read.ok, c.loop-text.invariant.count) in
+    let next = refused_index c.args.sources.now c.loop-text.text-index _ (map grammar_of c.loop-text.read.items) c.in-Err.fault c.loop-text-test.true c.loop-text.invariant.mean c.in-Err.ensures.refused in
+    rw (c.refused.ensures, c.len.ensures) (subst (λ n. IsRefusal (map said_by c.args.sources.now) (refused_at (n + 1) c.in-Err.fault)) place next)
+
+pub loop-text-preserved : goal.loop-text-preserved
+loop-text-preserved c =
+    let pushed : c.push.new.self.items ≡ c.loop-text.read.items ++ c.in-Ok.source ∷ [] = search rules in
+    record {
+      count = rw pushed (rw (length-append c.loop-text.read.items (c.in-Ok.source ∷ [])) (omega (arith, c.loop-text.invariant.count)));
+      mean = rw (pushed, map-append grammar_of c.loop-text.read.items (c.in-Ok.source ∷ []))
+        (mean_index c.args.sources.now c.loop-text.text-index _ (map grammar_of c.loop-text.read.items) (grammar_of c.in-Ok.source) c.loop-text-test.true c.loop-text.invariant.mean c.in-Ok.ensures.means);
+    }

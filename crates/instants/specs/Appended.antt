@@ -1,0 +1,8 @@
+-- What one source more changes.
+use Rattle.std.specs.Prelude.{List, [], ◌∷◌, ◌++◌}
+use Rattle.instants_sources.specs.Grammar.{Grammar}
+use Rattle.instants.specs.Place.{Setting}
+
+-- a setting with one source more, behind the others
+abbrev pub with_source : Setting → Grammar → Setting
+with_source setting grammar = record setting { sources = setting.sources ++ grammar ∷ [] }

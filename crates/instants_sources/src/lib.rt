@@ -1,0 +1,9 @@
+//! The sources of lines: what a line may be written in, read from what words say of it.
+#![tactic(auto)]
+
+mod moment;
+mod ruled_out;
+mod source;
+
+pub use moment::{quick_iso8601, quick_rfc2822, quick_rfc3339};
+pub use source::Source;
