@@ -1,1 +1,2 @@
+pub mod FewPlaces
 pub mod RuledOut

@@ -2,6 +2,7 @@
 #![tactic(auto)]
 
 mod moment;
+mod places;
 mod ruled_out;
 mod source;
 

@@ -1,8 +1,9 @@
 //! What a line may be written in.
-ghost use Rattle.std.specs.Prelude.{◌≡◌, IfOk, IfErr};
+ghost use Rattle.std.specs.Prelude.{◌≡◌, ◌≤◌, ◌^◌, IfOk, IfErr};
 ghost use Rattle.instants_words.specs.Sources.{said_by};
 ghost use Rattle.instants_sources.specs.Grammar.{grammar_of, Means, SpellsIn, IsRefused, IsRefusedIn};
 ghost use Rattle.instants_sources.specs.Named.{defaults_of, named};
+ghost use Rattle.instants_sources.specs.Tried.{places_in};
 ghost use Rattle.parsing_pieces.specs.FaultOf.{fault_of, Gives};
 ghost use Rattle.parsing_pieces.specs.ShortName.{HasShortName};
 
@@ -36,9 +37,11 @@ pub enum Source<'a> {
 impl<'a> Source<'a> {
     /// The source that a text means.
     ///
-    /// The error says what is wrong with a description, and at which byte of it, or that memory ran out.
+    /// It has at most 2^64 places. The error says what is wrong with a description, and at which byte of it, or that
+    /// memory ran out.
     pub fn new(alloc: Global, text: SourceText<'a>) -> Result<Source<'a>, DescriptionFault<'a>>
         ensures means { IfOk result (λ source. Means (said_by text.entry) (grammar_of source)) }
+        ensures few { IfOk result (λ source. places_in (grammar_of source) ≤ 2 ^ 64) }
         ensures refused { IfErr result (IsRefused (said_by text.entry)) }
     {
         match text {
@@ -79,6 +82,7 @@ fn described<'a>(
     text: &'a str,
 ) -> Result<Source<'a>, DescriptionFault<'a>>
     ensures means { IfOk result (λ source. SpellsIn version text.now (grammar_of source)) }
+    ensures few { IfOk result (λ source. places_in (grammar_of source) ≤ 2 ^ 64) }
     ensures refused { IfErr result (IsRefusedIn version text.now) }
 {
     match parse_borrowed(alloc, version, text)? {
@@ -88,7 +92,7 @@ fn described<'a>(
 }
 
 // A record that holds the hour and the minute of the assumed offset, if there is one.
-fn defaults(assumed: Option<UtcOffset>) -> Option<Parsed>
+pub(crate) fn defaults(assumed: Option<UtcOffset>) -> Option<Parsed>
     ensures { result ≡ defaults_of assumed }
 {
     let offset = assumed?;

@@ -1,0 +1,48 @@
+//! The places of a source, and how many of them a reading begins.
+ghost use Rattle.std.specs.Prelude.{◌≡◌, min};
+ghost use Rattle.parsing_record.specs.Tally.{greatest_count};
+ghost use Rattle.instants_sources.specs.Grammar.{grammar_of};
+ghost use Rattle.instants_sources.specs.Tried.{beginning, places_in, tried_by};
+
+use crate::source::{Source, defaults};
+use calendar::UtcOffset;
+use parsing_places::{places_of_description, places_of_items};
+use parsing_record::Parsed;
+use parsing_trait::{Items, Parsable};
+
+impl Source<'_> {
+    /// How many places the source has: all nodes of what it reads by; a well-known format is one. Where they are more
+    /// than `u128` holds, it is the greatest `u128`.
+    pub fn places(&self) -> u128
+        ensures { result ≡ min (places_in (grammar_of self.now)) greatest_count }
+    {
+        match self {
+            Source::Items(items) => places_of_items(items),
+            Source::V3(description) => places_of_description(description),
+            Source::Rfc2822 | Source::Rfc3339 | Source::Iso8601 => 1,
+        }
+    }
+
+    /// How many items the source tries on a line, with an offset assumed or none: all whose reading begins; a well-known
+    /// format is one. Where they are more than `u128` holds, it is the greatest `u128`.
+    pub fn tried(&self, line: &[u8], assumed: &Option<UtcOffset>) -> u128
+        ensures { result ≡ min (tried_by assumed.now (grammar_of self.now) line.now) greatest_count }
+    {
+        let mut parsed = record_at_start(*assumed);
+        match self {
+            Source::Items(items) => Items(items).parse_into_counted(line, &mut parsed).1,
+            Source::V3(description) => description.parse_into_counted(line, &mut parsed).1,
+            Source::Rfc2822 | Source::Rfc3339 | Source::Iso8601 => 1,
+        }
+    }
+}
+
+// The record that a reading begins with.
+fn record_at_start(assumed: Option<UtcOffset>) -> Parsed
+    ensures { result ≡ beginning assumed }
+{
+    match defaults(assumed) {
+        Some(defaults) => defaults,
+        None => Parsed::new(),
+    }
+}
