@@ -1,3 +1,4 @@
 pub mod FirstNamed
 pub mod Appended
 pub mod Means
+pub mod Counted

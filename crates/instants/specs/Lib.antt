@@ -4,5 +4,6 @@ pub mod Sources
 pub mod Place
 pub mod Settings
 pub mod Appended
+pub mod Tried
 pub mod ProgramText
 pub mod Program

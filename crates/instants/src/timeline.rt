@@ -1,8 +1,11 @@
 //! Sources, and how what they name is shown.
-ghost use Rattle.std.specs.Prelude.{◌<◌, length};
+ghost use Rattle.std.specs.Prelude.{◌<◌, ◌^◌, length, map};
 ghost use Rattle.calendar.specs.UtcOffset.{IsClockOffset};
+ghost use Rattle.instants_sources.specs.Grammar.{grammar_of};
+ghost use Rattle.instants.specs.Tried.{places_of};
 
 mod calls;
+mod places;
 
 use calendar::UtcOffset;
 use instants_sources::Source;
@@ -16,4 +19,6 @@ pub struct Timeline<'a> {
     // There is a source to try.
     ghost some: { 0 < length sources.items },
     ghost clock: { IsClockOffset target },
+    // All places can be counted.
+    ghost few: { places_of (map grammar_of sources.items) < 2 ^ 128 },
 }

@@ -14,6 +14,8 @@ mod memory;
 #[cfg(test)]
 mod one_line;
 #[cfg(test)]
+mod places;
+#[cfg(test)]
 mod single_words;
 #[cfg(test)]
 mod sources;

@@ -18,6 +18,8 @@ ghost use Rattle.parsing_two_formats.specs.TwoFormats.{HoldsAtMostAnOffset, IsRe
 ghost use Rattle.parsing_two_roads.specs.TwoRoads.{AgreeOn};
 ghost use Rattle.parsing.specs.Laws.{HasOneInstant};
 
+pub use parsing_places::laws::{few_nodes, tried_at_most_places};
+
 /// A record without Unix time that names a date, a time of day and an offset, of which the calendar has the day in UTC,
 /// is accepted alike as `OffsetDateTime`, `UtcDateTime` and `Timestamp`, with one instant; else each refuses it.
 pub fn three_instants()

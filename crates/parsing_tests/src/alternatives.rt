@@ -3,7 +3,8 @@
 use crate::support::{check, fields_told, given, told};
 use description::modifier::{Day, Hour24, Minute, Padding};
 use description::{BorrowedFormatItem, Component, Description, DescriptionVersion, parse_borrowed};
-use parsing::{Items, Parsable, Parsed};
+use parsing::laws::{few_nodes, tried_at_most_places};
+use parsing::{Items, Parsable, Parsed, places_of_description, places_of_items};
 use std::alloc::Global;
 use std::process::Abort;
 use std::test::Fail;
@@ -178,5 +179,43 @@ fn deep_tree(rt: HostRuntime) -> Result<(), Fail> {
     };
     let told = told(rt.alloc(), &tree, "counted", b"", &None)?;
     assert_eq!(rt; told.as_str(), "256 tried, 0 left");
+    assert_eq!(rt; places_of_description(&tree), 256);
     Ok(())
+}
+
+// A version, a description, and how many places it has.
+const PLACES: [(DescriptionVersion, &str, u128); 6] = [
+    (DescriptionVersion::One, "", 0),
+    (DescriptionVersion::Two, "x[day]", 2),
+    (DescriptionVersion::Three, "", 1),
+    (DescriptionVersion::Three, "x[day]", 3),
+    (DescriptionVersion::Three, "[first [[year]-[month]] [x]]", 8),
+    (DescriptionVersion::Three, "[optional [[day][hour]]][minute]", 6),
+];
+
+fn places_told(description: &Description<'_>) -> u128 {
+    match description {
+        Description::Items(items) => places_of_items(items),
+        Description::V3(tree) => places_of_description(tree),
+    }
+}
+
+#[test]
+fn places(rt: HostRuntime) -> Result<(), Fail> {
+    for (version, text, places) in PLACES {
+        let description = given(parse_borrowed(rt.alloc(), version, text))?;
+        assert_eq!(rt; places_told(&description), places, "{text}");
+    }
+    let clock = [HOUR, COLON, MINUTE];
+    let either = [BorrowedFormatItem::Compound(&clock), DAY];
+    let items = [BorrowedFormatItem::First(&either), BorrowedFormatItem::Optional(&DAY)];
+    assert_eq!(rt; places_of_items(&items), 8);
+    Ok(())
+}
+
+// The laws are contracts: nothing is answered.
+#[test]
+fn laws_of_places() {
+    tried_at_most_places();
+    few_nodes();
 }

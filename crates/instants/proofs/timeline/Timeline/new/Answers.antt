@@ -1,7 +1,9 @@
 use Rattle.std.proofs.Common.{◌≡◌, ◌+◌, [], ◌∷◌, ◌++◌, map, length, subst, arith, rules}
 use Rattle.std.specs.Vec.{vec_len}
 use Rattle.std.proofs.lemmas.List.{length-append, map-append}
+use Rattle.std.proofs.lemmas.List.Sums.{sum_by_push}
 use Rattle.instants_sources.specs.Grammar.{grammar_of}
+use Rattle.instants_sources.specs.Tried.{places_in}
 use Rattle.instants_words.specs.Sources.{said_by}
 use Rattle.instants.specs.Refusals.{refused_at}
 use Rattle.instants.specs.Sources.{IsRefusal}
@@ -17,8 +19,12 @@ returns-in-Err-clause-refused c =
 pub loop-text-preserved : goal.loop-text-preserved
 loop-text-preserved c =
     let pushed : c.push.new.self.items ≡ c.loop-text.read.items ++ c.in-Ok.source ∷ [] = search rules in
+    let before = map grammar_of c.loop-text.read.items in
+    let one = grammar_of c.in-Ok.source in
     record {
       count = rw pushed (rw (length-append c.loop-text.read.items (c.in-Ok.source ∷ [])) (omega (arith, c.loop-text.invariant.count)));
       mean = rw (pushed, map-append grammar_of c.loop-text.read.items (c.in-Ok.source ∷ []))
-        (mean_index c.args.sources.now c.loop-text.text-index _ (map grammar_of c.loop-text.read.items) (grammar_of c.in-Ok.source) c.loop-text-test.true c.loop-text.invariant.mean c.in-Ok.ensures.means);
+        (mean_index c.args.sources.now c.loop-text.text-index _ before one c.loop-text-test.true c.loop-text.invariant.mean c.in-Ok.ensures.means);
+      few = rw (pushed, map-append grammar_of c.loop-text.read.items (c.in-Ok.source ∷ []))
+        (omega (arith, sum_by_push places_in before one, c.loop-text.invariant.few, c.in-Ok.ensures.few));
     }
