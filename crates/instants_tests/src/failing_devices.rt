@@ -14,6 +14,16 @@ const SIZES: [usize; 6] = [1, 2, 3, 5, 7, 26];
 // How a run is to end: its answer, and how much of the output is written.
 type End = (Result<(), RunFault>, usize);
 
+// One source, and three in order: the first source names the stream's moment, and its fault is told.
+const LISTS: [&[SourceText<'static>]; 2] = [
+    &[SourceText::Rfc3339],
+    &[
+        SourceText::Rfc3339,
+        SourceText::Rfc2822,
+        SourceText::Strftime("%d/%b/%Y:%H:%M:%S %z"),
+    ],
+];
+
 // A run over the stream with a limit of 100 bytes, with reads and writes of at most so many bytes that fail after so
 // many.
 fn check(
@@ -23,7 +33,7 @@ fn check(
     read_fails: Option<usize>,
     write_fails: Option<usize>,
     (wanted, written): End,
-) -> Result<(), Fail> {
+) {
     let mut buffer = [0; 101];
     let mut space = [0; 100];
     assert!(rt; most > 0);
@@ -36,6 +46,23 @@ fn check(
     assert_eq!(rt; writer.flushes(), if wanted.is_ok() { 1 } else { 0 });
     assert!(rt; written <= OUTPUT.len());
     assert!(rt; writer.written() == &OUTPUT[..written]);
+}
+
+// The same for each list of sources and for reads and writes of each size.
+fn check_all(
+    rt: &impl Abort,
+    alloc: Global,
+    read_fails: Option<usize>,
+    write_fails: Option<usize>,
+    end: End,
+) -> Result<(), Fail> {
+    for sources in LISTS {
+        assert!(rt; !sources.is_empty());
+        let timeline = Timeline::new(alloc, sources, UtcOffset::UTC, None)?;
+        for most in SIZES {
+            check(rt, &timeline, most, read_fails, write_fails, end);
+        }
+    }
     Ok(())
 }
 
@@ -45,40 +72,29 @@ fn make_timeline(alloc: Global) -> Result<Timeline<'static>, Fail> {
 
 #[test]
 fn all_is_written_and_flushed_once(rt: HostRuntime) -> Result<(), Fail> {
-    let timeline = make_timeline(rt.alloc())?;
-    for most in SIZES {
-        check(&rt, &timeline, most, None, None, (Ok(()), 48))?;
-    }
-    Ok(())
+    check_all(&rt, rt.alloc(), None, None, (Ok(()), 48))
 }
 
 #[test]
 fn reads_that_fail(rt: HostRuntime) -> Result<(), Fail> {
-    let timeline = make_timeline(rt.alloc())?;
-    for most in SIZES {
-        for after in 0..27 {
-            let written = match after {
-                0..=23 => 0,
-                24 | 25 => 31,
-                _ => 48,
-            };
-            let end = (Err(RunFault::Read), written);
-            check(&rt, &timeline, most, Some(after), None, end)?;
-        }
-        let end = (Err(RunFault::Read), 0);
-        check(&rt, &timeline, most, Some(0), Some(0), end)?;
+    for after in 0..27 {
+        let written = match after {
+            0..=23 => 0,
+            24 | 25 => 31,
+            _ => 48,
+        };
+        let end = (Err(RunFault::Read), written);
+        check_all(&rt, rt.alloc(), Some(after), None, end)?;
     }
-    Ok(())
+    let end = (Err(RunFault::Read), 0);
+    check_all(&rt, rt.alloc(), Some(0), Some(0), end)
 }
 
 #[test]
 fn writes_and_flushes_that_fail(rt: HostRuntime) -> Result<(), Fail> {
-    let timeline = make_timeline(rt.alloc())?;
-    for most in SIZES {
-        for after in 0..49 {
-            let end = (Err(RunFault::Write), after);
-            check(&rt, &timeline, most, None, Some(after), end)?;
-        }
+    for after in 0..49 {
+        let end = (Err(RunFault::Write), after);
+        check_all(&rt, rt.alloc(), None, Some(after), end)?;
     }
     Ok(())
 }
