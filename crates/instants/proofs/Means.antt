@@ -36,6 +36,6 @@ refused_index texts i d grammars fault h all one =
     let count : length before ≡ i = length-map (take i texts) said_by ∙ length-take-le i texts (omega (arith, h)) in
     let cut : texts ≡ take i texts ++ get_or texts i d ∷ drop (i + 1) texts = sym (take-append-drop i texts) ∙ ap (λ rest. take i texts ++ rest) (drop_more texts i d h) in
     let parts : map said_by texts ≡ before ++ said_by (get_or texts i d) ∷ map said_by (drop (i + 1) texts) =
-      ap (λ xs. map said_by xs) cut ∙ map-append said_by (take i texts) (get_or texts i d ∷ drop (i + 1) texts) in
+    ap (λ xs. map said_by xs) cut ∙ map-append said_by (take i texts) (get_or texts i d ∷ drop (i + 1) texts) in
     let next = refused_next before (said_by (get_or texts i d)) (map said_by (drop (i + 1) texts)) grammars fault all one in
     rw parts (rw count at next)

@@ -25,10 +25,7 @@ fn words(rt: &HostRuntime) -> Result<Vec<String>, ProgramFault<'static>> {
 
 // Answers each line of standard input on standard output. Memory is taken only before the first read.
 fn answer_input<'a>(rt: &HostRuntime, words: &'a Vec<String>) -> Result<(), ProgramFault<'a>> {
-    let words: Vec<&'a str> = words
-        .iter()
-        .map(|word| word.as_str())
-        .collect(rt.alloc())?;
+    let words: Vec<&'a str> = words.iter().map(|word| word.as_str()).collect(rt.alloc())?;
     let block = vec![in rt.alloc(); 0; BLOCK]?;
     let mut reader = StdReader::new(rt.stdin());
     let mut writer = BlockWriter::new(block, StdWriter::new(rt.stdout()));

@@ -9,7 +9,9 @@ ghost use Rattle.parsing_pieces.specs.ShortName.{HasShortName};
 
 use calendar::UtcOffset;
 use datetime_types::OffsetDateTime;
-use description::{Description, DescriptionFault, DescriptionVersion, parse_borrowed, parse_strftime_borrowed};
+use description::{
+    Description, DescriptionFault, DescriptionVersion, parse_borrowed, parse_strftime_borrowed,
+};
 use description_formats::{Iso8601, Rfc2822, Rfc3339};
 use description_items::BorrowedFormatItem;
 use description_tree::FormatDescriptionV3;
@@ -56,11 +58,7 @@ impl<'a> Source<'a> {
     }
 
     /// The moment that the whole line names, with an offset assumed or none.
-    pub fn read(
-        &self,
-        line: &[u8],
-        assumed: Option<UtcOffset>,
-    ) -> Result<OffsetDateTime, Parse>
+    pub fn read(&self, line: &[u8], assumed: Option<UtcOffset>) -> Result<OffsetDateTime, Parse>
         ensures gives { Gives (λ m. m) fault_of result (named assumed (grammar_of self.now) line.now) }
         ensures short { IfErr result (λ fault. HasShortName (fault_of fault)) }
     {

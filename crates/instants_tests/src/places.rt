@@ -23,20 +23,56 @@ type Case = (
 
 const CASES: [Case; 14] = [
     (&[EITHER], b"x", Err(LineFault::Insufficient), 6, 8),
-    (&[EITHER], b"2021-x", Err(LineFault::Component("month")), 8, 8),
+    (
+        &[EITHER],
+        b"2021-x",
+        Err(LineFault::Component("month")),
+        8,
+        8,
+    ),
     (&[DAY], b"x05", Err(LineFault::Insufficient), 2, 2),
     (&[DAY], b"y05", Err(LineFault::Literal), 1, 2),
     (&[UNIX], b"7x", Err(LineFault::Trailing), 1, 1),
     (&[SourceText::Rfc3339], b"1970-01-01T00:00:07Z", Ok(7), 1, 1),
-    (&[SourceText::Rfc2822, SourceText::Iso8601], b"1970-01-01T00:00:07Z", Ok(7), 2, 2),
-    (&[SourceText::Rfc3339, UNIX], b"1970-01-01T00:00:07Z", Ok(7), 1, 2),
+    (
+        &[SourceText::Rfc2822, SourceText::Iso8601],
+        b"1970-01-01T00:00:07Z",
+        Ok(7),
+        2,
+        2,
+    ),
+    (
+        &[SourceText::Rfc3339, UNIX],
+        b"1970-01-01T00:00:07Z",
+        Ok(7),
+        1,
+        2,
+    ),
     (&[SourceText::Rfc3339, UNIX], b"7", Ok(7), 2, 2),
     (&[UNIX, SourceText::Rfc3339, DAY], b"7", Ok(7), 1, 4),
-    (&[UNIX, SourceText::Rfc3339, DAY], b"y", Err(LineFault::Component("unix_timestamp")), 3, 4),
-    (&[DAY, EITHER, UNIX], b"1970-07", Err(LineFault::Literal), 8, 11),
+    (
+        &[UNIX, SourceText::Rfc3339, DAY],
+        b"y",
+        Err(LineFault::Component("unix_timestamp")),
+        3,
+        4,
+    ),
+    (
+        &[DAY, EITHER, UNIX],
+        b"1970-07",
+        Err(LineFault::Literal),
+        8,
+        11,
+    ),
     // a moment that is not shown ends the list too
     (&[UNIX, DAY], b"253402300800", Err(LineFault::Year), 1, 3),
-    (&[SourceText::Strftime("%F"), SourceText::V1("[[[day]]")], b"1970-01-02", Err(LineFault::Insufficient), 6, 8),
+    (
+        &[SourceText::Strftime("%F"), SourceText::V1("[[[day]]")],
+        b"1970-01-02",
+        Err(LineFault::Insufficient),
+        6,
+        8,
+    ),
 ];
 
 fn check(rt: &impl Abort, timeline: &Timeline, case: &Case) {
@@ -66,7 +102,11 @@ fn an_assumed_offset(rt: HostRuntime) -> Result<(), Fail> {
     let sources = [SourceText::V2("[year]-[month]-[day] [hour]:[minute]"), UNIX];
     let line = b"1970-01-01 00:01";
     let without = Timeline::new(rt.alloc(), &sources, UtcOffset::UTC, None)?;
-    check(&rt, &without, &(&[], line, Err(LineFault::Insufficient), 10, 10));
+    check(
+        &rt,
+        &without,
+        &(&[], line, Err(LineFault::Insufficient), 10, 10),
+    );
     let with = Timeline::new(rt.alloc(), &sources, UtcOffset::UTC, Some(UtcOffset::UTC))?;
     check(&rt, &with, &(&[], line, Ok(60), 9, 10));
     Ok(())
@@ -89,7 +129,11 @@ fn deep(rt: HostRuntime) -> Result<(), Fail> {
     push_many(&mut text, "]]", 127)?;
     let sources = [SourceText::V3(text.as_str())];
     let timeline = Timeline::new(rt.alloc(), &sources, UtcOffset::UTC, None)?;
-    check(&rt, &timeline, &(&[], b"", Err(LineFault::Insufficient), 256, 256));
+    check(
+        &rt,
+        &timeline,
+        &(&[], b"", Err(LineFault::Insufficient), 256, 256),
+    );
     Ok(())
 }
 

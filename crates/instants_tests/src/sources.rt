@@ -11,19 +11,19 @@ const DAY: SourceText<'static> = SourceText::V2("[year]-[month]-[day] [hour]:[mi
 
 // A source, a line, and the Unix time that the line names with an offset of an hour assumed. Whether its first bytes rule
 // it out.
-type Case = (
-    SourceText<'static>,
-    &'static [u8],
-    Option<i64>,
-    bool,
-);
+type Case = (SourceText<'static>, &'static [u8], Option<i64>, bool);
 
 const CASES: [Case; 12] = [
     (SourceText::Rfc3339, b"1970-01-01T00:00:01Z", Some(1), false),
     (SourceText::Rfc3339, b"01 Jan 1970 00:00:01 Z", None, true),
     (SourceText::Rfc3339, b"1970-01-01", None, false),
     (SourceText::Rfc3339, b"1970", None, true),
-    (SourceText::Rfc2822, b"01 Jan 1970 00:00:01 Z", Some(1), false),
+    (
+        SourceText::Rfc2822,
+        b"01 Jan 1970 00:00:01 Z",
+        Some(1),
+        false,
+    ),
     (SourceText::Rfc2822, b"1 Jan 1970 00:00 GMT", Some(0), false),
     (SourceText::Rfc2822, b"01/Jan/1970:00:00:01 Z", None, true),
     (SourceText::Rfc2822, b"Jan", None, false),

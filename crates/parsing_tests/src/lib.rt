@@ -14,6 +14,8 @@ mod formats;
 #[cfg(test)]
 mod iso8601;
 #[cfg(test)]
+mod laws;
+#[cfg(test)]
 mod moments;
 #[cfg(test)]
 mod pieces;

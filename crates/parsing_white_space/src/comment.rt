@@ -173,7 +173,7 @@ fn past_white_and_comments(bytes: &[u8]) -> &[u8]
     rest
 }
 
-/// Whether white space or a comment may begin the bytes: `false` where none does.
+/// Whether white space or a comment may begin the bytes: where it is `false`, none does.
 #[tactic(auto, using(crate::proofs::WhiteSpaceLemmas::none_there, crate::proofs::WhiteSpaceLemmas::none_of_empty))]
 #[inline(always)]
 pub fn may_begin(bytes: &[u8]) -> bool

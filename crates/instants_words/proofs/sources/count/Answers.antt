@@ -16,7 +16,6 @@ returns-in_default c =
       never_memory = λ e. absurd cc;
     }
 
-
 pub loop-at-preserved : goal.loop-at-preserved
 loop-at-preserved c =
     let words = c.args.words.now in
@@ -27,8 +26,11 @@ loop-at-preserved c =
     record {
       within = omega (arith, c.loop-at-test.true, taken.1, length-drop c.loop-at.at words);
       fewer = omega (arith, c.loop-at.invariant.fewer, taken.0);
-      said = (said.0 ++ one ∷ [], rw (length-append said.0 (one ∷ [])) (ap (λ n. n + 1) said.1),
-        said_more (map (λ word. word.now) words) said.0 (c.loop-at.count + 1) c.loop-at.at c.in-Some.taken one said.2 (rw (drop-map (λ word. word.now) c.loop-at.at words) (sym (rw left at c.in-Some.ensures.said))));
+      said = (
+        said.0 ++ one ∷ [],
+        rw (length-append said.0 (one ∷ [])) (ap (λ n. n + 1) said.1),
+        said_more (map (λ word. word.now) words) said.0 (c.loop-at.count + 1) c.loop-at.at c.in-Some.taken one said.2 (rw (drop-map (λ word. word.now) c.loop-at.at words) (sym (rw left at c.in-Some.ensures.said))),
+      );
     }
 
 pub returns-clause-ok : goal.returns-clause-ok

@@ -24,7 +24,7 @@ loop-text-preserved c =
     record {
       count = rw pushed (rw (length-append c.loop-text.read.items (c.in-Ok.source ∷ [])) (omega (arith, c.loop-text.invariant.count)));
       mean = rw (pushed, map-append grammar_of c.loop-text.read.items (c.in-Ok.source ∷ []))
-        (mean_index c.args.sources.now c.loop-text.text-index _ before one c.loop-text-test.true c.loop-text.invariant.mean c.in-Ok.ensures.means);
+          (mean_index c.args.sources.now c.loop-text.text-index _ before one c.loop-text-test.true c.loop-text.invariant.mean c.in-Ok.ensures.means);
       few = rw (pushed, map-append grammar_of c.loop-text.read.items (c.in-Ok.source ∷ []))
-        (omega (arith, sum_by_push places_in before one, c.loop-text.invariant.few, c.in-Ok.ensures.few));
+          (omega (arith, sum_by_push places_in before one, c.loop-text.invariant.few, c.in-Ok.ensures.few));
     }

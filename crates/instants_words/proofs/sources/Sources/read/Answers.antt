@@ -15,7 +15,7 @@ loop-text-preserved c =
       within = omega (arith, taken.1, length-drop at words, c.loop-text.invariant.within);
       fewer = rw pushed (rw (length-append c.loop-text.texts.items (c.in-Some.text ∷ [])) (omega (arith, c.loop-text.invariant.fewer, taken.0)));
       said = rw (pushed, map-append said_by c.loop-text.texts.items (c.in-Some.text ∷ []), length-append c.loop-text.texts.items (c.in-Some.text ∷ []))
-        (said_more (map (λ word. word.now) words) (map said_by c.loop-text.texts.items) (length c.loop-text.texts.items + 1) at c.in-Some.taken (said_by c.in-Some.text) c.loop-text.invariant.said
+          (said_more (map (λ word. word.now) words) (map said_by c.loop-text.texts.items) (length c.loop-text.texts.items + 1) at c.in-Some.taken (said_by c.in-Some.text) c.loop-text.invariant.said
           (rw (drop-map (λ word. word.now) at words) (sym (rw left at c.in-Some.ensures.said))));
     }
 
@@ -26,7 +26,7 @@ returns-clause-ok c =
     let left : take (length words - at) (drop at words) ≡ drop at words = take_all (length words - at) (drop at words) (omega (arith, length-drop at words)) in
     let good = c.in_ok-count.ensures.ok in
     said_end (map (λ word. word.now) words) (map said_by c.loop-text.texts.items) good.0 (length c.loop-text.texts.items + 1) at c.loop-text.invariant.said
-      (rw (drop-map (λ word. word.now) at words) (sym (rw left at c.in_default.ensures.said))) good.1
+    (rw (drop-map (λ word. word.now) at words) (sym (rw left at c.in_default.ensures.said))) good.1
 
 pub returns-clause-some : goal.returns-clause-some
 returns-clause-some c = λ some.
@@ -35,5 +35,5 @@ returns-clause-some c = λ some.
     let left : take (length words - at) (drop at words) ≡ drop at words = take_all (length words - at) (drop at words) (omega (arith, length-drop at words)) in
     let good = c.in_ok-count.ensures.ok in
     said_some 1 (map (λ word. word.now) words) (map said_by c.loop-text.texts.items) (rw (length-map words (λ word. word.now)) some)
-      (said_end (map (λ word. word.now) words) (map said_by c.loop-text.texts.items) good.0 (length c.loop-text.texts.items + 1) at c.loop-text.invariant.said
-        (rw (drop-map (λ word. word.now) at words) (sym (rw left at c.in_default.ensures.said))) good.1)
+    (said_end (map (λ word. word.now) words) (map said_by c.loop-text.texts.items) good.0 (length c.loop-text.texts.items + 1) at c.loop-text.invariant.said
+    (rw (drop-map (λ word. word.now) at words) (sym (rw left at c.in_default.ensures.said))) good.1)
