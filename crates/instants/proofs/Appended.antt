@@ -1,16 +1,14 @@
 -- What one source more changes.
-use Rattle.std.proofs.Common.{◌≡◌, ◌<◌, ℕ, List, [], ◌∷◌, ◌++◌, Option, None, Some, Result, Ok, Err, length, nat_lt, refl, sym, ap, ◌∙◌, ℤ, arith}
+use Rattle.std.proofs.Common.{◌≡◌, ◌<◌, ℕ, List, [], ◌∷◌, ◌++◌, Option, None, Some, Result, Ok, Err, length, refl, ap, ◌∙◌, ℤ, arith}
 use Rattle.std.proofs.lemmas.Bool.{lt-ltb}
-use Rattle.std.specs.Option.{ok_or}
 use Rattle.std.specs.Result.{result_ok}
 use Rattle.datetime_wall.specs.Wall.{Shown}
-use Rattle.parsing_pieces.specs.Fault.{Fault, insufficient}
+use Rattle.parsing_pieces.specs.Fault.{Fault}
 use Rattle.instants_sources.specs.Grammar.{Grammar}
 use Rattle.instants_sources.specs.Named.{named}
 use Rattle.instants_stream.specs.Answers.{answered, answer_or_long}
 use Rattle.instants.specs.Appended.{with_source}
 use Rattle.instants.specs.Place.{Setting, or_named, first_named, shown_or_refused, place_of, place_text, answer_to}
-use Rattle.instants.proofs.FirstNamed.{result_ok-ok_or}
 
 -- the moment, or else the other one
 abbrev pub or_else : Option Shown → Option Shown → Option Shown

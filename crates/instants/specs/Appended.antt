@@ -1,5 +1,5 @@
 -- What one source more changes.
-use Rattle.std.specs.Prelude.{List, [], ◌∷◌, ◌++◌}
+use Rattle.std.specs.Prelude.{[], ◌∷◌, ◌++◌}
 use Rattle.instants_sources.specs.Grammar.{Grammar}
 use Rattle.instants.specs.Place.{Setting}
 

@@ -1,5 +1,5 @@
 -- Lines that a format can't have written.
-use Rattle.std.proofs.Common.{◌≡◌, ℕ, ◌+◌, ◌≤◌, zero, suc, ◌-◌, ◌*◌, Bool, true, false, cond, eqb, leb, List, [], ◌∷◌, length, get_or, drop, Option, Some, None, Result, Ok, Err, nat_le, refl, sym, ap, ◌∙◌, ℤ, arith}
+use Rattle.std.proofs.Common.{◌≡◌, ℕ, ◌+◌, ◌≤◌, zero, suc, ◌-◌, ◌*◌, Bool, true, false, cond, eqb, leb, List, [], ◌∷◌, length, get_or, drop, Option, Some, None, Result, Ok, Err, nat_le, refl, sym, ◌∙◌, ℤ, arith}
 use Rattle.std.specs.Prelude.{codes, option_map, not}
 use Rattle.std.specs.Result.{result_ok}
 use Rattle.std.specs.Char.{is_ascii_digit, to_ascii_lowercase}
@@ -20,7 +20,6 @@ use Rattle.parsing_rfc3339.specs.Direct as rfc3339_direct
 use Rattle.parsing_rfc2822.specs.Reading as rfc2822
 use Rattle.parsing_rfc2822.specs.Names.{weekday, weekday_of}
 use Rattle.parsing_rfc2822.specs.Direct as rfc2822_direct
-use Rattle.parsing_white_space.specs.WhiteSpace.{comments_and_white_space}
 use Rattle.parsing_white_space.proofs.WhiteSpaceLemmas.{none_at}
 use Rattle.instants_sources.specs.Named.{defaults_of}
 

@@ -1,10 +1,10 @@
 -- The moment that a source names for a line.
-use Rattle.std.specs.Prelude.{◌≡◌, ℕ, List, Option, None, Some, Result, Ok, ℤ, pos, int_div, int_rem, IsErr, ⊤}
+use Rattle.std.specs.Prelude.{ℕ, List, Option, None, Some, Result, ℤ, pos, int_div, int_rem}
 use Rattle.datetime_wall.specs.Wall.{Shown}
 use Rattle.description_items.specs.Tree.{listed}
 use Rattle.parsing_components.specs.Component.{reads_component, reads_component_v3}
 use Rattle.parsing_pieces.specs.Fault.{Fault}
-use Rattle.parsing_record.specs.Meaning.{Counted, meaning, all_of}
+use Rattle.parsing_record.specs.Meaning.{meaning, all_of}
 use Rattle.parsing_record.specs.Reads.{reads, each_reads}
 use Rattle.parsing_record.specs.Record.{Record}
 use Rattle.parsing_record.specs.Whole.{whole, names, moment_named, by_roads}

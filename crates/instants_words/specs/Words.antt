@@ -1,5 +1,5 @@
 -- What all words say, or the first thing wrong with them.
-use Rattle.std.specs.Prelude.{ℕ, Option, None, Some, Result, Ok, Err, List, [], ◌∷◌}
+use Rattle.std.specs.Prelude.{ℕ, Option, None, Some, Result, Ok, Err, List, ◌∷◌}
 use Rattle.instants_words.specs.declared.fault.WordsFault.{WordsFault}
 use Rattle.instants_words.specs.declared.fault.WordsFault.TheVariants.{Usage, Target, Assumed, Limit}
 use Rattle.instants_words.specs.declared.words.Words.{Words}

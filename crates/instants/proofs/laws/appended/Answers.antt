@@ -1,4 +1,4 @@
-use Rattle.std.proofs.Common.{◌≡◌, Ok, Err, ◌∙◌, sym}
+use Rattle.std.proofs.Common.{Ok, Err, ◌∙◌, sym}
 use Rattle.instants.specs.Appended.{with_source}
 use Rattle.instants.proofs.Appended.{kept_moment, gained_moment, kept_fault, answer_of, long_stays}
 use Rattle.instants.proofs.laws.appended.Goals as goal

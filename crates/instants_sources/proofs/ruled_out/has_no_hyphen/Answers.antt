@@ -1,4 +1,4 @@
-use Rattle.std.proofs.Common.{◌≡◌, true, false, Bool, nat_eq, slice_index_or, arith}
+use Rattle.std.proofs.Common.{nat_eq, slice_index_or, arith}
 use Rattle.instants_sources.proofs.RuledOut.{five_due, hyphen_due, not_true}
 use Rattle.instants_sources.proofs.ruled_out.has_no_hyphen.Goals as goal
 

@@ -1,4 +1,4 @@
-use Rattle.std.proofs.Common.{◌≡◌, true, false, Bool, nat_lt, slice_index_or, arith, rules, tests}
+use Rattle.std.proofs.Common.{slice_index_or, arith, rules, tests}
 use Rattle.std.proofs.lemmas.Bool.{ltb-true}
 use Rattle.instants_sources.proofs.RuledOut.{space_due}
 use Rattle.instants_sources.proofs.ruled_out.has_no_space.Goals.{then-is_ascii_digit, else-is_ascii_digit}

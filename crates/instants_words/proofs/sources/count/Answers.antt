@@ -1,7 +1,6 @@
-use Rattle.std.proofs.Common.{◌≡◌, ◌+◌, ◌-◌, ◌≤◌, List, [], ◌∷◌, ◌++◌, map, take, drop, length, option_map, None, Some, sym, ap, ◌∙◌, arith}
+use Rattle.std.proofs.Common.{◌≡◌, ◌+◌, ◌-◌, [], ◌∷◌, ◌++◌, map, take, drop, length, sym, ap, arith}
 use Rattle.std.proofs.lemmas.List.{take_all, drop-map, length-map, length-drop, length-append}
 use Rattle.instants_words.specs.Sources.{said_by}
-use Rattle.instants_words.specs.FirstSource.{source_said}
 use Rattle.instants_words.proofs.SourceLemmas.{said_more, said_all, said_wrong}
 use Rattle.instants_words.proofs.sources.count.Goals as goal
 

@@ -1,4 +1,4 @@
-use Rattle.std.proofs.Common.{◌≡◌, ◌+◌, ◌≤◌, sym, arith}
+use Rattle.std.proofs.Common.{◌≡◌, arith}
 use Rattle.std.specs.Prelude.{is_some, true, false}
 use Rattle.std.specs.Result.{result_ok}
 use Rattle.instants_sources.specs.Grammar.{grammar_of}

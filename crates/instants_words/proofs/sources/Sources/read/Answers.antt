@@ -1,4 +1,4 @@
-use Rattle.std.proofs.Common.{◌≡◌, ◌+◌, ◌-◌, ◌<◌, ◌≤◌, ℕ, List, [], ◌∷◌, ◌++◌, map, take, drop, length, refl, sym, ap, ◌∙◌, arith, rules}
+use Rattle.std.proofs.Common.{◌≡◌, ◌+◌, ◌-◌, [], ◌∷◌, ◌++◌, map, take, drop, length, sym, arith, rules}
 use Rattle.std.proofs.lemmas.List.{take_all, drop-map, length-map, length-drop, length-append, map-append}
 use Rattle.instants_words.specs.Sources.{said_by}
 use Rattle.instants_words.proofs.SourceLemmas.{said_more, said_end, said_some}
