@@ -1,6 +1,6 @@
 -- Items and places, counted one source after the other.
 use Rattle.std.proofs.Common.{◌≡◌, ℕ, ◌+◌, ◌^◌, ◌<◌, ◌≤◌, List, [], ◌∷◌, true, false, Option, Result, Ok, Err, length, drop, get_or, map, refl, ap, ℤ, arith}
-use Rattle.std.specs.Prelude.{sum_by, is_some}
+use Rattle.std.specs.Prelude.{is_some}
 use Rattle.std.specs.Result.{result_ok}
 use Rattle.std.proofs.lemmas.List.{drop_more, drop_all}
 use Rattle.std.proofs.lemmas.List.Sums.{sum_by-cons}

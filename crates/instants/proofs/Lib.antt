@@ -1,4 +1,5 @@
 pub mod FirstNamed
+pub mod Answered
 pub mod Appended
 pub mod Means
 pub mod Counted

@@ -3,6 +3,7 @@ pub mod Refusals
 pub mod Sources
 pub mod Place
 pub mod Settings
+pub mod Answered
 pub mod Appended
 pub mod Tried
 pub mod ProgramText

@@ -1,10 +1,13 @@
 //! Laws of what is answered.
-ghost use Rattle.std.specs.Prelude.{◌≡◌, ◌<◌, ℕ, List, Ok, Err, length};
-ghost use Rattle.datetime_wall.specs.Wall.{Shown};
+ghost use Rattle.std.specs.Prelude.{◌≡◌, ◌<◌, ◌↔◌, ℕ, List, Ok, Err, length, ℤ};
+ghost use Rattle.std.specs.Ordering.{nat_cmp, int_cmp};
+ghost use Rattle.std.specs.Cmp.Lexicographic.{slice_cmp};
+ghost use Rattle.datetime_wall.specs.Wall.{Shown, instant};
 ghost use Rattle.parsing_pieces.specs.Fault.{Fault};
 ghost use Rattle.instants_sources.specs.Grammar.{Grammar};
 ghost use Rattle.instants_sources.specs.Named.{named};
 ghost use Rattle.instants_stream.specs.Answers.{answered};
+ghost use Rattle.instants.specs.Answered.{IsAnswered, with_target};
 ghost use Rattle.instants.specs.Appended.{with_source};
 ghost use Rattle.instants.specs.Place.{Setting, first_named, shown_or_refused, place_text, answer_to};
 
@@ -29,4 +32,29 @@ pub fn appended()
     ensures long { (setting : Setting) (grammar : Grammar) (limit : ℕ) (line : List ℕ)
         → limit < length line
         → answered (answer_to (with_source setting grammar)) limit line ≡ answered (answer_to setting) limit line }
+{}
+
+/// Lines that are answered by date-times at one target, from whatever sources and with whatever offset assumed, are
+/// ordered as bytes exactly as the instants that the sources name, and are equal exactly where these are.
+pub fn embedding()
+    ensures order { (one other : Setting) (line another : List ℕ) (moment later : Shown)
+        → one.target ≡ other.target → IsAnswered one line moment → IsAnswered other another later
+        → slice_cmp nat_cmp (answer_to one line) (answer_to other another) ≡ int_cmp (instant moment) (instant later) }
+    ensures equality { (one other : Setting) (line another : List ℕ) (moment later : Shown)
+        → one.target ≡ other.target → IsAnswered one line moment → IsAnswered other another later
+        → (answer_to one line ≡ answer_to other another) ↔ (instant moment ≡ instant later) }
+{}
+
+/// Lines that are answered by date-times at each of two targets have the same order, and the same equality, at both.
+pub fn two_targets()
+    ensures order { (one other : Setting) (target : ℤ) (line another : List ℕ) (moment later : Shown)
+        → one.target ≡ other.target → IsAnswered one line moment → IsAnswered other another later
+        → IsAnswered (with_target one target) line moment → IsAnswered (with_target other target) another later
+        → slice_cmp nat_cmp (answer_to one line) (answer_to other another)
+        ≡ slice_cmp nat_cmp (answer_to (with_target one target) line) (answer_to (with_target other target) another) }
+    ensures equality { (one other : Setting) (target : ℤ) (line another : List ℕ) (moment later : Shown)
+        → one.target ≡ other.target → IsAnswered one line moment → IsAnswered other another later
+        → IsAnswered (with_target one target) line moment → IsAnswered (with_target other target) another later
+        → (answer_to one line ≡ answer_to other another)
+        ↔ (answer_to (with_target one target) line ≡ answer_to (with_target other target) another) }
 {}

@@ -1,7 +1,7 @@
 //! Lists of sources: descriptions in four languages, and several sources in order.
 
 use crate::support::answered;
-use instants::laws::{appended, joined_streams};
+use instants::laws::{appended, embedding, joined_streams, two_targets};
 use std::alloc::Global;
 use std::process::Abort;
 use std::test::Fail;
@@ -317,4 +317,6 @@ fn refused_descriptions(rt: HostRuntime) -> Result<(), Fail> {
 fn laws() {
     appended();
     joined_streams();
+    embedding();
+    two_targets();
 }

@@ -1,0 +1,3 @@
+pub mod Compares
+pub mod Lines
+pub mod Placed

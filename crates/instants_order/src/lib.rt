@@ -1,0 +1,4 @@
+//! Lines of moments compare as bytes as their instants.
+#![tactic(auto)]
+
+pub mod laws;
