@@ -1,7 +1,6 @@
 -- What is shown at an offset has that offset and is of the same instant.
-use Rattle.std.proofs.Common.{◌≡◌, true, false, inl, inr, Option, None, Some, refl, sym, ap, ◌∙◌, arith, ℤ, pos, ◌-ℤ◌, ◌*ℤ◌}
+use Rattle.std.proofs.Common.{◌≡◌, true, false, None, Some, refl, sym, ap, ◌∙◌, arith, ℤ, pos, ◌-ℤ◌, ◌*ℤ◌}
 use Rattle.std.specs.Prelude.{if◌then◌else◌, Bool}
-use Rattle.std.proofs.lemmas.Bool.{cases_Bool}
 use Rattle.calendar_count.proofs.lemmas.Signed.{signed}
 use Rattle.datetime_wall.specs.Wall.{Shown, second_nanos, instant, wall_at, shown_at, is_wall_clock, IsWallClock}
 use Rattle.datetime_wall.proofs.lemmas.WallClocks.{is_wall_clock_is}
