@@ -37,24 +37,24 @@ pub fn appended()
 /// Lines that are answered by date-times at one target, from whatever sources and with whatever offset assumed, are
 /// ordered as bytes exactly as the instants that the sources name, and are equal exactly where these are.
 pub fn embedding()
-    ensures order { (one other : Setting) (line another : List ℕ) (moment later : Shown)
-        → one.target ≡ other.target → IsAnswered one line moment → IsAnswered other another later
-        → slice_cmp nat_cmp (answer_to one line) (answer_to other another) ≡ int_cmp (instant moment) (instant later) }
-    ensures equality { (one other : Setting) (line another : List ℕ) (moment later : Shown)
-        → one.target ≡ other.target → IsAnswered one line moment → IsAnswered other another later
-        → (answer_to one line ≡ answer_to other another) ↔ (instant moment ≡ instant later) }
+    ensures order { (one other : Setting) (line another : List ℕ) (m n : Shown)
+        → one.target ≡ other.target → IsAnswered one line m → IsAnswered other another n
+        → slice_cmp nat_cmp (answer_to one line) (answer_to other another) ≡ int_cmp (instant m) (instant n) }
+    ensures equality { (one other : Setting) (line another : List ℕ) (m n : Shown)
+        → one.target ≡ other.target → IsAnswered one line m → IsAnswered other another n
+        → (answer_to one line ≡ answer_to other another) ↔ (instant m ≡ instant n) }
 {}
 
 /// Lines that are answered by date-times at each of two targets have the same order, and the same equality, at both.
 pub fn two_targets()
-    ensures order { (one other : Setting) (target : ℤ) (line another : List ℕ) (moment later : Shown)
-        → one.target ≡ other.target → IsAnswered one line moment → IsAnswered other another later
-        → IsAnswered (with_target one target) line moment → IsAnswered (with_target other target) another later
+    ensures order { (one other : Setting) (target : ℤ) (line another : List ℕ) (m n : Shown)
+        → one.target ≡ other.target → IsAnswered one line m → IsAnswered other another n
+        → IsAnswered (with_target one target) line m → IsAnswered (with_target other target) another n
         → slice_cmp nat_cmp (answer_to one line) (answer_to other another)
         ≡ slice_cmp nat_cmp (answer_to (with_target one target) line) (answer_to (with_target other target) another) }
-    ensures equality { (one other : Setting) (target : ℤ) (line another : List ℕ) (moment later : Shown)
-        → one.target ≡ other.target → IsAnswered one line moment → IsAnswered other another later
-        → IsAnswered (with_target one target) line moment → IsAnswered (with_target other target) another later
+    ensures equality { (one other : Setting) (target : ℤ) (line another : List ℕ) (m n : Shown)
+        → one.target ≡ other.target → IsAnswered one line m → IsAnswered other another n
+        → IsAnswered (with_target one target) line m → IsAnswered (with_target other target) another n
         → (answer_to one line ≡ answer_to other another)
         ↔ (answer_to (with_target one target) line ≡ answer_to (with_target other target) another) }
 {}
