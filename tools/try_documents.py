@@ -1,0 +1,143 @@
+#!/usr/bin/env python3
+"""Runs the console examples of the documents on the built program, and says which of them print something else.
+
+    tools/try_documents.py            those of README.md, docs/GUIDE.md and docs/instants.1
+    tools/try_documents.py FILE..     those of these files
+
+A console is a fence of Markdown that begins with ```console, or a display of the manual page (.Bd to .Ed). In it a line
+that begins with `$ ` is a command, lines behind it that begin with `>` belong to the command, and all else up to the next
+command is what it prints: standard output and standard error together, compared byte by byte.
+
+Each section, from a heading to the next one of whatever level, has a folder of its own, in which its commands run in
+order, each in a shell `sh` of its own: files pass from one example to the next, and nothing else. At first the folder
+has two links and no more: `instants`, to the built program, and `crates`, to those of the repository. Commands are looked
+for in it before all others.
+
+A fence that begins with ```console builds is not run: its commands build, which takes long. A fence of any other kind
+with a line that begins with `$ ` is an error, and so is a document without an example, so that none is left out by a slip.
+
+What is run is the program as it was built last; `./instants` builds it, and `rt run` in its crate `description_check`. It
+prints each example that differs, and ends with status 1 if there is any.
+"""
+
+import argparse
+import collections
+import os
+import pathlib
+import re
+import subprocess
+import sys
+import tempfile
+
+ROOT = pathlib.Path(__file__).resolve().parent.parent
+DOCUMENTS = ("README.md", "docs/GUIDE.md", "docs/instants.1")
+PROGRAM = ROOT / "crates" / "instants_program" / "out" / "instants_program"
+CHECK = ROOT / "crates" / "description_check" / "out" / "description_check"
+SECONDS = 60
+
+# What stands in the source of a manual page for a byte.
+ESCAPES = {r"\e": "\\", r"\-": "-", r"\&": "", r"\(aq": "'", r"\(dq": '"', r"\(ha": "^", r"\(ti": "~"}
+
+# A piece of a document: the kind that its first line names, the number of the line behind that, its lines, its section.
+Piece = collections.namedtuple("Piece", "kind line lines section")
+Example = collections.namedtuple("Example", "line command due section")
+
+
+def pieces_of(lines, opens, closes, heads):
+    """Returns the pieces between the lines that open and close one; a heading outside of them begins a section."""
+    found, kind, first, section = [], None, 0, 0
+    for at, line in enumerate([*lines, None]):
+        if kind is not None and (line is None or closes.match(line)):
+            found.append(Piece(kind, first + 1, lines[first:at], section))
+            kind = None
+        elif kind is None and line is not None and opens.match(line):
+            kind, first = opens.match(line)[1].strip(), at + 1
+        elif kind is None and line is not None and heads.match(line):
+            section += 1
+    return found
+
+
+def consoles_of(name, lines):
+    """Returns the consoles of a document that are to be run, and what is wrong with its pieces."""
+    if name.endswith(".md"):
+        pieces = pieces_of(lines, re.compile(r"```(.*)"), re.compile(r"```$"), re.compile(r"#+ "))
+        consoles = [it for it in pieces if it.kind == "console"]
+        others = [it for it in pieces if it.kind not in ("console", "console builds")]
+    else:
+        escaped = re.compile("|".join(map(re.escape, ESCAPES)))
+        lines = [escaped.sub(lambda it: ESCAPES[it[0]], line) for line in lines]
+        pieces = pieces_of(lines, re.compile(r"\.Bd(.*)"), re.compile(r"\.Ed$"), re.compile(r"\.S[hs] "))
+        consoles = [it for it in pieces if it.lines[:1] and it.lines[0].startswith("$ ")]
+        others = [it for it in pieces if it not in consoles]
+    slips = [it for it in others if any(line.startswith("$ ") for line in it.lines)]
+    slips += [it for it in consoles if not it.lines or not it.lines[0].startswith("$ ")]
+    return consoles, [f"{name}:{it.line}: a console begins with a command, and nothing else has one" for it in slips]
+
+
+def examples_of(console):
+    """Returns the examples of a console: each command with what it is said to print."""
+    found = []
+    for at, line in enumerate(console.lines, console.line):
+        if line.startswith("$ "):
+            found.append(Example(at, [line[2:]], [], console.section))
+        elif found and re.match(r">( |$)", line) and not found[-1].due:
+            found[-1].command.append(line[2:])
+        elif found:
+            found[-1].due.append(line)
+    return found
+
+
+def printed_by(command, folder):
+    """Returns what a command prints in a folder."""
+    places = dict(os.environ, PATH=f"{folder}{os.pathsep}{os.environ['PATH']}")
+    how = {"stdin": subprocess.DEVNULL, "stdout": subprocess.PIPE, "stderr": subprocess.STDOUT, "timeout": SECONDS}
+    try:
+        return subprocess.run(["sh", "-c", command], cwd=folder, env=places, check=False, **how).stdout
+    except subprocess.TimeoutExpired:
+        return f"(it still ran after {SECONDS} s)\n".encode()
+
+
+def try_section(name, examples):
+    """Runs the examples of a section, and returns what is said of each that differs."""
+    differ = []
+    with tempfile.TemporaryDirectory(prefix="documents-") as folder:
+        os.symlink(PROGRAM, pathlib.Path(folder, "instants"))
+        os.symlink(ROOT / "crates", pathlib.Path(folder, "crates"))
+        for it in examples:
+            printed = printed_by("\n".join(it.command), folder)
+            due = "".join(line + "\n" for line in it.due).encode()
+            if printed != due:
+                shown = [("the document says", due), ("the command prints", printed)]
+                told = [f"  {who}:\n" + said.decode(errors="backslashreplace").rstrip("\n") for who, said in shown]
+                differ.append("\n".join([f"{name}:{it.line}: $ {it.command[0]}", *told]))
+    return differ
+
+
+def try_document(name):
+    """Returns how many examples a document has, and what is said of those that differ."""
+    consoles, wrong = consoles_of(name, (ROOT / name).read_text().split("\n"))
+    examples = [it for console in consoles for it in examples_of(console)]
+    if not examples:
+        wrong.append(f"{name}: no example")
+    for section in sorted({it.section for it in examples}):
+        wrong += try_section(name, [it for it in examples if it.section == section])
+    return len(examples), wrong
+
+
+def main():
+    words = argparse.ArgumentParser(description=__doc__, formatter_class=argparse.RawDescriptionHelpFormatter)
+    words.add_argument("files", nargs="*", metavar="FILE", default=DOCUMENTS, help="from the top of the repository")
+    missing = [it for it in (PROGRAM, CHECK) if not it.exists()]
+    given = words.parse_args()
+    if missing:
+        words.error(f"{missing[0].relative_to(ROOT)} is not built")
+    count = 0
+    for name in given.files:
+        tried, wrong = try_document(name)
+        print("\n".join([*wrong, f"{name}: {tried} examples, {len(wrong)} wrong"]), flush=True)
+        count += len(wrong)
+    return bool(count)
+
+
+if __name__ == "__main__":
+    sys.exit(main())
