@@ -4,9 +4,9 @@
     tools/try_documents.py            those of README.md, docs/GUIDE.md and docs/instants.1
     tools/try_documents.py FILE..     those of these files
 
-A console is a fence of Markdown that begins with ```console, or a display of the manual page (.Bd to .Ed). In it a line
-that begins with `$ ` is a command, lines behind it that begin with `>` belong to the command, and all else up to the next
-command is what it prints: standard output and standard error together, compared byte by byte.
+A console is a fence of Markdown that begins with ```console, or a display of the manual page (.Bd to .Ed) whose first line
+is a command. A command is a line that begins with `$ `; lines behind it that begin with `>` belong to it, and all else up
+to the next command is what it prints: standard output and standard error together, compared byte by byte.
 
 Each section, from a heading to the next one of whatever level, has a folder of its own, in which its commands run in
 order, each in a shell `sh` of its own: files pass from one example to the next, and nothing else. At first the folder
@@ -107,9 +107,10 @@ def try_section(name, examples):
             printed = printed_by("\n".join(it.command), folder)
             due = "".join(line + "\n" for line in it.due).encode()
             if printed != due:
-                shown = [("the document says", due), ("the command prints", printed)]
-                told = [f"  {who}:\n" + said.decode(errors="backslashreplace").rstrip("\n") for who, said in shown]
-                differ.append("\n".join([f"{name}:{it.line}: $ {it.command[0]}", *told]))
+                told = [f"{name}:{it.line}: $ {it.command[0]}", "  the document says:"]
+                told += [f"    {line}" for line in due.splitlines(keepends=True)]
+                told += ["  the command prints:", *(f"    {line}" for line in printed.splitlines(keepends=True))]
+                differ.append("\n".join(told))
     return differ
 
 
@@ -127,8 +128,8 @@ def try_document(name):
 def main():
     words = argparse.ArgumentParser(description=__doc__, formatter_class=argparse.RawDescriptionHelpFormatter)
     words.add_argument("files", nargs="*", metavar="FILE", default=DOCUMENTS, help="from the top of the repository")
-    missing = [it for it in (PROGRAM, CHECK) if not it.exists()]
     given = words.parse_args()
+    missing = [it for it in (PROGRAM, CHECK) if not it.exists()]
     if missing:
         words.error(f"{missing[0].relative_to(ROOT)} is not built")
     count = 0
