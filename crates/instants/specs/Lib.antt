@@ -4,6 +4,8 @@ pub mod Sources
 pub mod Place
 pub mod Settings
 pub mod Answered
+pub mod FixedPoint
+pub mod Output
 pub mod Appended
 pub mod Tried
 pub mod ProgramText

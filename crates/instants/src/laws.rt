@@ -1,16 +1,21 @@
 //! Laws of what is answered.
-ghost use Rattle.std.specs.Prelude.{◌≡◌, ◌<◌, ◌↔◌, ℕ, List, Ok, Err, length, ℤ};
+ghost use Rattle.std.specs.Prelude.{◌≡◌, ◌<◌, ◌≤◌, ◌↔◌, ℕ, List, [], ◌∷◌, ◌++◌, Option, Some, Ok, Err, length, ℤ};
 ghost use Rattle.std.specs.Ordering.{nat_cmp, int_cmp};
 ghost use Rattle.std.specs.Cmp.Lexicographic.{slice_cmp};
+ghost use Rattle.byte_names.specs.Bytes.{line_feed};
+ghost use Rattle.calendar.specs.UtcOffset.{IsClockOffset};
 ghost use Rattle.datetime_wall.specs.Wall.{Shown, instant};
 ghost use Rattle.parsing_pieces.specs.Fault.{Fault};
 ghost use Rattle.instants_sources.specs.Grammar.{Grammar};
 ghost use Rattle.instants_sources.specs.Named.{named};
-ghost use Rattle.instants_stream.specs.Answers.{answered};
+ghost use Rattle.instants_stream.specs.Answers.{answered, output};
 ghost use Rattle.instants.specs.Answered.{IsAnswered, with_target};
 ghost use Rattle.instants.specs.Appended.{with_source};
-ghost use Rattle.instants.specs.Place.{Setting, first_named, shown_or_refused, place_text, answer_to};
+ghost use Rattle.instants.specs.FixedPoint.{ReadsLines, alone};
+ghost use Rattle.instants.specs.Output.{IsAnsweredIn, written};
+ghost use Rattle.instants.specs.Place.{Setting, first_named, shown_or_refused, place_of, place_text, answer_to};
 
+use datetime_types::OffsetDateTime;
 pub use instants_stream::laws::joined_streams;
 
 /// One source more, behind the others, leaves the answer to each line for which another one has a moment, also where the
@@ -35,7 +40,8 @@ pub fn appended()
 {}
 
 /// Lines that are answered by date-times at one target, from whatever sources and with whatever offset assumed, are
-/// ordered as bytes exactly as the instants that the sources name, and are equal exactly where these are.
+/// ordered as bytes exactly as the instants that the sources name, and are equal exactly where these are. So are they in
+/// what is written for any streams, where each stands behind the answers to the lines before it, with a line feed.
 pub fn embedding()
     ensures order { (one other : Setting) (line another : List ℕ) (m n : Shown)
         → one.target ≡ other.target → IsAnswered one line m → IsAnswered other another n
@@ -43,6 +49,24 @@ pub fn embedding()
     ensures equality { (one other : Setting) (line another : List ℕ) (m n : Shown)
         → one.target ≡ other.target → IsAnswered one line m → IsAnswered other another n
         → (answer_to one line ≡ answer_to other another) ↔ (instant m ≡ instant n) }
+    ensures output { (setting : Setting) (limit : ℕ) (stream line : List ℕ) (before behind : List (List ℕ)) (m : Shown)
+        → IsAnsweredIn setting limit stream before line behind m
+        → output (answer_to setting) limit stream
+        ≡ written setting limit before ++ ((answer_to setting line ++ line_feed ∷ []) ++ written setting limit behind) }
+{}
+
+/// A written line, read again by RFC 3339 alone or by ISO 8601 alone, with any offset assumed or none and a limit of at
+/// least 35, is answered at every target as the line that it was written for is answered there, `! year` included. So at
+/// its own target it is written as itself.
+pub fn fixed_point()
+    ensures answer { (setting : Setting) (grammar : Grammar) (assumed : Option ℤ) (target : ℤ) (limit bound : ℕ) (line : List ℕ) (m : Shown)
+        → IsClockOffset setting.target → IsAnswered setting line m → length line ≤ bound → ReadsLines grammar → 35 ≤ limit
+        → answered (answer_to (alone grammar target assumed)) limit (answer_to setting line)
+        ≡ answered (answer_to (with_target setting target)) bound line }
+    ensures itself { (setting : Setting) (grammar : Grammar) (assumed : Option ℤ) (limit : ℕ) (line : List ℕ) (m : Shown)
+        → IsClockOffset setting.target → IsAnswered setting line m → ReadsLines grammar → 35 ≤ limit
+        → answered (answer_to (alone grammar setting.target assumed)) limit (answer_to setting line)
+        ≡ answer_to setting line ++ line_feed ∷ [] }
 {}
 
 /// Lines that are answered by date-times at each of two targets have the same order, and the same equality, at both.
@@ -58,3 +82,12 @@ pub fn two_targets()
         → (answer_to one line ≡ answer_to other another)
         ↔ (answer_to (with_target one target) line ≡ answer_to (with_target other target) another) }
 {}
+
+/// The difference of two moments, added to the second one: where both are places of lines at one target, that is the
+/// first one, and so it has its line.
+pub fn difference(a: OffsetDateTime, b: OffsetDateTime) -> Option<OffsetDateTime>
+    ensures { (one other : Setting) (line another : List ℕ) → one.target ≡ other.target
+        → place_of one line ≡ Ok a → place_of other another ≡ Ok b → result ≡ Some a }
+{
+    b.checked_add(a - b)
+}

@@ -10,7 +10,9 @@ mod program_fault;
 mod runs;
 mod timeline;
 
-pub use instants_answers::{Answer, fits_line, rfc3339_line};
+pub use instants_answers::{
+    Answer, fits_line, fits_utc_line, rfc3339_line, utc_line_by_timestamp, utc_line_by_utc,
+};
 pub use instants_devices::{
     BlockWriter, ByteReader, ByteWriter, CutReader, CutWriter, DeviceFailed, FrontWriter,
     StdReader, StdWriter,

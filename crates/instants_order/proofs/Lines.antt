@@ -125,7 +125,7 @@ instants a b h g e =
 then_same : (o p : Ordering) → ordering_then (ordering_then (ordering_then o Equal) p) Equal ≡ ordering_then o p
 then_same o p = grind arith
 
-has_year : (m : Shown) → IsTrue (has_written_year m) → HasYear (day_at (day_of m.wall))
+pub has_year : (m : Shown) → IsTrue (has_written_year m) → HasYear (day_at (day_of m.wall))
 unfolding has_written_year
 has_year m h = grind (arith, ints)
 

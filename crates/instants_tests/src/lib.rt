@@ -14,6 +14,8 @@ mod memory;
 #[cfg(test)]
 mod one_line;
 #[cfg(test)]
+mod ordered_lines;
+#[cfg(test)]
 mod places;
 #[cfg(test)]
 mod single_words;
@@ -25,6 +27,8 @@ mod std_devices;
 mod streams;
 #[cfg(test)]
 mod support;
+#[cfg(test)]
+mod utc_lines;
 #[cfg(test)]
 mod well_known;
 #[cfg(test)]

@@ -2,9 +2,12 @@
 
 ghost use Rattle.std.specs.Prelude.{◌<◌};
 
+use calendar::{Date, Month, Time, UtcOffset};
+use datetime::OffsetDateTime;
 use instants::{ByteReader, CutReader, CutWriter, DeviceFailed, ProgramFault, run_words};
 use std::alloc::Global;
 use std::io::{Result as IoResult, Write};
+use std::process::Abort;
 
 /// Two lines.
 pub const STREAM: &[u8; 26] = b"1985-04-12T23:20:50.52Z\nx\n";
@@ -27,6 +30,19 @@ pub fn answered<'a>(
     let mut writer = CutWriter::new(space, most, None);
     run_words(alloc, words, &mut reader, &mut writer)?;
     Ok(writer.written().len())
+}
+
+/// A moment by its year, month, day, second of the day, nanosecond, and offset in seconds.
+pub fn moment(
+    rt: &impl Abort,
+    date: (i32, Month, u8),
+    time: (u8, u8, u8, u32),
+    offset: i32,
+) -> OffsetDateTime {
+    let date = Date::from_calendar_date(date.0, date.1, date.2).expect(rt, "a date");
+    let time = Time::from_hms_nano(time.0, time.1, time.2, time.3).expect(rt, "a time");
+    let offset = UtcOffset::from_whole_seconds(offset).expect(rt, "an offset");
+    OffsetDateTime::new_in_offset(date, time, offset)
 }
 
 /// A writer of std that takes so many bytes, one at a time, and then none.

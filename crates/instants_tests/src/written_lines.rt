@@ -1,22 +1,10 @@
 //! Lines of moments, and which moments have one.
 
-use calendar::{Date, Month, Time, UtcOffset};
+use crate::support::moment;
+use calendar::Month;
 use datetime::OffsetDateTime;
 use instants_answers::{Answer, fits_line, has_written_year, is_target, rfc3339_line};
 use std::process::Abort;
-
-// A moment by its year, month, day, second of the day, nanosecond, and offset in seconds.
-fn moment(
-    rt: &impl Abort,
-    date: (i32, Month, u8),
-    time: (u8, u8, u8, u32),
-    offset: i32,
-) -> OffsetDateTime {
-    let date = Date::from_calendar_date(date.0, date.1, date.2).expect(rt, "a date");
-    let time = Time::from_hms_nano(time.0, time.1, time.2, time.3).expect(rt, "a time");
-    let offset = UtcOffset::from_whole_seconds(offset).expect(rt, "an offset");
-    OffsetDateTime::new_in_offset(date, time, offset)
-}
 
 fn check_line(rt: &impl Abort, date_time: OffsetDateTime, wanted: &[u8]) {
     assert!(rt; fits_line(date_time));

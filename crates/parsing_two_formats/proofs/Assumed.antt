@@ -29,7 +29,7 @@ as_staged : (m : Meaning) (defaults : Option Record) (a : Assumed defaults) (byt
 unfolding whole
 as_staged m defaults a bytes = ap (λ (r : Record). staged m r bytes) a.is
 
-same_moment : (x y : Result Shown Fault) (m : Shown) → result_ok x ≡ result_ok y → y ≡ Ok m → x ≡ Ok m
+pub same_moment : (x y : Result Shown Fault) (m : Shown) → result_ok x ≡ result_ok y → y ≡ Ok m → x ≡ Ok m
 same_moment (Ok x) y m alike e = let is : Some x ≡ Some m = alike ∙ ap result_ok e in ap (λ (v : Shown). Ok v) (same x m is)
 same_moment (Err f) y m alike e = absurd (let none : None ≡ Some m = alike ∙ ap result_ok e in cc)
 

@@ -1,0 +1,50 @@
+-- A place is shown at the target, on a day that the calendar has.
+use Rattle.std.proofs.Common.{◌≡◌, ℕ, List, Option, None, Some, Result, Ok, Err, Bool, true, false, refl, sym, ◌∙◌, ap, ap₂, ℤ, pos, ◌+ℤ◌, ◌-ℤ◌, ◌*ℤ◌, arith}
+use Rattle.std.specs.Prelude.{if◌then◌else◌, IsSome, IfSome}
+use Rattle.calendar_count.proofs.lemmas.Signed.{signed}
+use Rattle.datetime_wall.specs.Wall.{Shown, second_nanos, instant, shown_at, IsWallClock}
+use Rattle.parsing_pieces.specs.Fault.{Fault}
+use Rattle.instants_answers.specs.Text.{has_written_year}
+use Rattle.instants_order.proofs.Placed.{shown_at-is}
+use Rattle.instants.specs.Refusal.{Refusal, year}
+use Rattle.instants.specs.Place.{Setting, in_written_years, first_named, shown_or_refused, place_of}
+
+-- its offset, and that the calendar has its day
+pub record IsPlaced (target : ℤ) (a : Shown) : Type 0 where
+  pub offset : a.offset ≡ target
+  pub within : IsWallClock a.wall
+
+kept : (b : Bool) (m a : Shown) (e : Refusal) → (if b then Ok m else Err e) ≡ Ok a → m ≡ a
+kept true m a e h = cc
+kept false m a e h = absurd cc
+
+placed_in : (target i : ℤ) (o : Option Shown) (a : Shown) → shown_at target i ≡ o → in_written_years o ≡ Ok a → IsPlaced target a
+placed_in target i None a e h = absurd cc
+placed_in target i (Some m) a e h =
+    let same = kept (has_written_year m) m a year h in
+    let shown = shown_at-is target i a (rw same at e) in
+    record { offset = shown.offset; within = shown.within }
+
+placed_as : (target : ℤ) (r : Result Shown Fault) (a : Shown) → shown_or_refused target r ≡ Ok a → IsPlaced target a
+placed_as target (Ok m) a h = placed_in target (instant m) (shown_at target (instant m)) a refl h
+placed_as target (Err f) a h = absurd cc
+
+pub place_shows : (setting : Setting) (line : List ℕ) (a : Shown) → place_of setting line ≡ Ok a → IsPlaced setting.target a
+unfolding place_of
+place_shows setting line a h = placed_as setting.target (first_named setting.assumed setting.sources line) a h
+
+-- at one offset a difference of instants is one of wall clocks
+pub moved_by_difference : (a b : Shown) → a.offset ≡ b.offset → b.wall +ℤ (instant a -ℤ instant b) ≡ a.wall
+moved_by_difference a b e =
+    let apart : (x y o : ℤ) → y +ℤ ((x -ℤ o *ℤ pos second_nanos) -ℤ (y -ℤ o *ℤ pos second_nanos)) ≡ x = λ x y o. omega (arith, signed) in
+    ap (λ o. b.wall +ℤ ((a.wall -ℤ o *ℤ pos second_nanos) -ℤ instant b)) e ∙ apart a.wall b.wall b.offset
+
+made : ℤ → ℤ → Shown
+made wall offset = record { wall = wall; offset = offset }
+
+-- what was added leads to the other moment
+pub sum_is : (o : Option Shown) (a b : Shown) (d : ℤ) → IsSome o → IfSome o (λ m. m ≡ record { wall = b.wall +ℤ d; offset = b.offset })
+    → b.wall +ℤ d ≡ a.wall → a.offset ≡ b.offset → o ≡ Some a
+unfolding made
+sum_is None a b d some is wall offset = let never : false ≡ true = some in absurd cc
+sum_is (Some m) a b d some is wall offset = ap (λ (x : Shown). Some x) (is ∙ ap₂ made wall (sym offset))

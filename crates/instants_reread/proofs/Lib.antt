@@ -1,0 +1,5 @@
+pub mod Decimals
+pub mod Pieces
+pub mod Values
+pub mod Bytes
+pub mod Again
