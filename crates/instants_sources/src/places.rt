@@ -2,12 +2,11 @@
 ghost use Rattle.std.specs.Prelude.{◌≡◌, min};
 ghost use Rattle.parsing_record.specs.Tally.{greatest_count};
 ghost use Rattle.instants_sources.specs.Grammar.{grammar_of};
-ghost use Rattle.instants_sources.specs.Tried.{beginning, places_in, tried_by};
+ghost use Rattle.instants_sources.specs.Tried.{places_in, tried_by};
 
-use crate::source::{Source, defaults};
+use crate::source::{Source, starting};
 use calendar::UtcOffset;
 use parsing_places::{places_of_description, places_of_items};
-use parsing_record::Parsed;
 use parsing_trait::{Items, Parsable};
 
 impl Source<'_> {
@@ -28,21 +27,11 @@ impl Source<'_> {
     pub fn tried(&self, line: &[u8], assumed: &Option<UtcOffset>) -> u128
         ensures { result ≡ min (tried_by assumed.now (grammar_of self.now) line.now) greatest_count }
     {
-        let mut parsed = record_at_start(*assumed);
+        let mut parsed = starting(*assumed);
         match self {
             Source::Items(items) => Items(items).parse_into_counted(line, &mut parsed).1,
             Source::V3(description) => description.parse_into_counted(line, &mut parsed).1,
             Source::Rfc2822 | Source::Rfc3339 | Source::Iso8601 => 1,
         }
-    }
-}
-
-// The record that a reading begins with.
-fn record_at_start(assumed: Option<UtcOffset>) -> Parsed
-    ensures { result ≡ beginning assumed }
-{
-    match defaults(assumed) {
-        Some(defaults) => defaults,
-        None => Parsed::new(),
     }
 }

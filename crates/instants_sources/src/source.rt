@@ -6,6 +6,8 @@ ghost use Rattle.instants_sources.specs.Named.{defaults_of, named};
 ghost use Rattle.instants_sources.specs.Tried.{places_in};
 ghost use Rattle.parsing_pieces.specs.FaultOf.{fault_of, Gives};
 ghost use Rattle.parsing_pieces.specs.ShortName.{HasShortName};
+ghost use Rattle.parsing_record.specs.Meaning.{meaning};
+ghost use Rattle.parsing_record.specs.Whole.{whole, names, moment_named, starting};
 
 use calendar::UtcOffset;
 use datetime_types::OffsetDateTime;
@@ -16,7 +18,7 @@ use description_formats::{Iso8601, Rfc2822, Rfc3339};
 use description_items::BorrowedFormatItem;
 use description_tree::FormatDescriptionV3;
 use instants_words::SourceText;
-use parsing_pieces::Parse;
+use parsing_pieces::{Parse, ParseFromDescription};
 use parsing_record::Parsed;
 use parsing_trait::{Items, Parsable};
 use std::alloc::Global;
@@ -62,15 +64,46 @@ impl<'a> Source<'a> {
         ensures gives { Gives (λ m. m) fault_of result (named assumed (grammar_of self.now) line.now) }
         ensures short { IfErr result (λ fault. HasShortName (fault_of fault)) }
     {
-        let defaults = defaults(assumed);
         match self {
-            Source::Items(items) => Items(items).parse_offset_date_time(line, defaults),
-            Source::V3(description) => description.parse_offset_date_time(line, defaults),
-            Source::Rfc2822 => Rfc2822.parse_offset_date_time(line, defaults),
-            Source::Rfc3339 => Rfc3339.parse_offset_date_time(line, defaults),
-            Source::Iso8601 => Iso8601.parse_offset_date_time(line, defaults),
+            Source::Items(items) => read_by(&Items(items), line, assumed),
+            Source::V3(description) => read_by(description, line, assumed),
+            Source::Rfc2822 => read_from(&Rfc2822, line, assumed),
+            Source::Rfc3339 => read_from(&Rfc3339, line, assumed),
+            Source::Iso8601 => read_by(&Iso8601, line, assumed),
         }
     }
+}
+
+// The moment that the whole line names by a format that needs a record only where an offset is assumed.
+#[inline(never)]
+fn read_from<F: Parsable>(
+    format: &F,
+    line: &[u8],
+    assumed: Option<UtcOffset>,
+) -> Result<OffsetDateTime, Parse>
+    ensures gives { Gives (λ m. m) fault_of result (F.moment format.now (defaults_of assumed) line.now) }
+    ensures short { IfErr result (λ fault. HasShortName (fault_of fault)) }
+{
+    format.parse_offset_date_time(line, defaults(assumed))
+}
+
+// The moment that the whole line names by what sets a record, which stays where it is.
+#[inline(never)]
+#[tactic(auto, unfolding(parsing_record::specs::Whole::whole))]
+fn read_by<F: Parsable>(
+    format: &F,
+    line: &[u8],
+    assumed: Option<UtcOffset>,
+) -> Result<OffsetDateTime, Parse>
+    ensures gives { Gives (λ m. m) fault_of result (names moment_named (whole (meaning (F.reading format.now)) (defaults_of assumed) line.now)) }
+    ensures short { IfErr result (λ fault. HasShortName (fault_of fault)) }
+{
+    let mut parsed = starting(assumed);
+    let rest = format.parse_into(line, &mut parsed)?;
+    if !rest.is_empty() {
+        return Err(ParseFromDescription::UnexpectedTrailingCharacters.into());
+    }
+    Ok(parsed.offset_date_time()?)
 }
 
 // A description of one of the three versions.
@@ -89,13 +122,25 @@ fn described<'a>(
     }
 }
 
-// A record that holds the hour and the minute of the assumed offset, if there is one.
-pub(crate) fn defaults(assumed: Option<UtcOffset>) -> Option<Parsed>
+// A record that holds the hour and the minute of the assumed offset, or nothing.
+#[inline(always)]
+pub(crate) fn starting(assumed: Option<UtcOffset>) -> Parsed
+    ensures { result ≡ starting (defaults_of assumed) }
+{
+    let mut parsed = Parsed::new();
+    if let Some(offset) = assumed {
+        parsed.set_offset_hour(offset.whole_hours());
+        parsed.set_offset_minute_signed(offset.minutes_past_hour());
+    }
+    parsed
+}
+
+// The same as defaults, if there is an offset.
+fn defaults(assumed: Option<UtcOffset>) -> Option<Parsed>
     ensures { result ≡ defaults_of assumed }
 {
-    let offset = assumed?;
-    let mut defaults = Parsed::new();
-    defaults.set_offset_hour(offset.whole_hours());
-    defaults.set_offset_minute_signed(offset.minutes_past_hour());
-    Some(defaults)
+    match assumed {
+        Some(_) => Some(starting(assumed)),
+        None => None,
+    }
 }

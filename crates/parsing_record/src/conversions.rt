@@ -82,6 +82,19 @@ impl Parsed {
     }
 }
 
+impl Parsed {
+    /// The moment that the record names, as `OffsetDateTime::try_from` gives it, without a copy of the record.
+    #[inline(always)]
+    pub fn offset_date_time(&self) -> Result<OffsetDateTime, TryFromParsed>
+        ensures { Gives (λ value. value) resolution_fault result (named_moment (moment_parts self.now) (offset_parts self.now)) }
+    {
+        match self.usual_moment() {
+            Some(moment) => Ok(moment),
+            None => parsing_moments::offset_date_time(&self.moment_parts(), &self.offset_parts()),
+        }
+    }
+}
+
 impl TryFrom<Parsed> for Date {
     type Error = TryFromParsed;
 
@@ -133,7 +146,7 @@ impl TryFrom<Parsed> for OffsetDateTime {
 
     #[inline(always)]
     fn try_from(parsed: Parsed) -> Result<OffsetDateTime, TryFromParsed> {
-        parsing_moments::offset_date_time(&parsed.moment_parts(), &parsed.offset_parts())
+        parsed.offset_date_time()
     }
 }
 

@@ -8,6 +8,7 @@ mod items;
 mod offset;
 mod parsed;
 mod tally;
+mod usual;
 mod years;
 
 pub use parsed::Parsed;

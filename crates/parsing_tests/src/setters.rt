@@ -207,6 +207,27 @@ fn permitted_leap_second(rt: HostRuntime) -> Result<(), Fail> {
     parsed.permit_leap_second();
     let seconds = OffsetDateTime::try_from(parsed).map(|moment| moment.unix_timestamp());
     assert!(rt; seconds == Ok(662_687_999));
+    assert!(rt; parsed.offset_date_time() == OffsetDateTime::try_from(parsed));
+    Ok(())
+}
+
+// The parts of 2021-01-02T03:04:05-01:30.
+fn usual_parts() -> Option<Parsed> {
+    let month = Parsed::new().with_year(2021)?.with_month(Month::January)?;
+    let time = month.with_day(2)?.with_hour_24(3)?.with_minute(4)?;
+    let offset = time.with_second(5)?.with_offset_hour(-1)?;
+    offset.with_offset_minute_signed(-30)
+}
+
+#[test]
+fn usual_moment(rt: HostRuntime) -> Result<(), Fail> {
+    let Some(parsed) = usual_parts() else {
+        return Err(Fail::from("a part is refused"));
+    };
+    let seconds = parsed
+        .offset_date_time()
+        .map(|moment| moment.unix_timestamp());
+    assert!(rt; seconds == Ok(1_609_562_045));
     Ok(())
 }
 
