@@ -7,7 +7,8 @@ use Rattle.calendar.specs.UtcOffset.{IsClockOffset}
 use Rattle.datetime_wall.specs.Wall.{Shown, instant, shown_at}
 use Rattle.instants_answers.specs.Text.{moment_text}
 use Rattle.instants_order.specs.Written.{IsWritten}
-use Rattle.instants_reread.proofs.Again.{rfc3339_again, iso8601_again, line_length}
+use Rattle.instants_reread.proofs.Again.{rfc3339_again, iso8601_again}
+use Rattle.instants_reread.proofs.Bytes.{at_most_35}
 use Rattle.instants_sources.specs.Grammar.{Grammar}
 use Rattle.instants_sources.specs.Named.{named}
 use Rattle.instants_stream.specs.Answers.{answered, answer_or_long}
@@ -47,5 +48,5 @@ again setting grammar assumed target line m clock h reads =
     let read = named_again grammar a reads shows.written at_target assumed in
     let there = answers_at setting target line m h.first in (
       rw shows.line (alone_answers grammar target assumed (moment_text a) a read) ∙ ap (λ i. place_text (in_written_years (shown_at target i))) shows.same ∙ sym there,
-      rw shows.line (line_length a shows.written at_target),
+      rw shows.line (at_most_35 a),
     )

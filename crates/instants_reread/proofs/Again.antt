@@ -1,5 +1,5 @@
 -- A line names the moment that it was written of.
-use Rattle.std.proofs.Common.{◌≡◌, ℕ, ◌/◌, ◌%◌, ◌≤◌, List, length, Option, None, Some, Ok, refl, sym, ap, ◌∙◌, arith, ℤ, unsigned_abs}
+use Rattle.std.proofs.Common.{◌≡◌, ℕ, ◌/◌, ◌%◌, List, Option, None, Some, Ok, refl, sym, ap, ◌∙◌, arith, ℤ, unsigned_abs}
 use Rattle.calendar_count.specs.Calendar.{day_at}
 use Rattle.calendar_count.proofs.lemmas.Days.{day_valid}
 use Rattle.calendar.specs.UtcOffset.{IsClockOffset}
@@ -21,7 +21,7 @@ use Rattle.parsing_two_formats.specs.TwoFormats.{HoldsAtMostAnOffset}
 use Rattle.parsing_two_formats.proofs.Assumed.{same_moment, two_formats}
 use Rattle.instants_reread.proofs.Pieces.{date_read, any_read, clock_read, subsecond_read, zone_named, offset_read, offset_ends}
 use Rattle.instants_reread.proofs.Values.{day_named, time_named, offset_named}
-use Rattle.instants_reread.proofs.Bytes.{behind_second, behind_date, line_parts, at_most_35, both, unrounded}
+use Rattle.instants_reread.proofs.Bytes.{behind_second, behind_date, line_parts, both, unrounded}
 
 abbrev placed : ℤ → ℤ → Shown
 placed wall offset = record { wall = wall; offset = offset }
@@ -67,6 +67,3 @@ iso8601_again m h o assumed =
     let bytes = moment_text m in
     (two_formats bytes (roads_agree bytes) (from_holding bytes) (defaults_of assumed) (at_most_an_offset assumed) m (rfc3339_again m h o assumed)).named (both m)
     ∙ ap (λ (shown : Shown). Ok shown) (unrounded m m)
-
-pub line_length : (m : Shown) → IsWritten m → IsClockOffset m.offset → length (moment_text m) ≤ 35
-line_length m h o = at_most_35 m
