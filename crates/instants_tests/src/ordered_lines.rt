@@ -8,6 +8,8 @@ use calendar::{Month, UtcOffset};
 use instants::laws::{difference, fixed_point};
 use instants::{Answer, SourceText, Timeline, fits_line, rfc3339_line};
 use instants_answers::is_target;
+use instants_order::laws::order_of_lines;
+use instants_reread::laws::lines_read_again as reread;
 use std::alloc::Global;
 use std::process::Abort;
 use std::test::Fail;
@@ -195,6 +197,8 @@ fn lines_read_again(rt: HostRuntime) -> Result<(), Fail> {
 #[test]
 fn laws(rt: HostRuntime) -> Result<(), Fail> {
     fixed_point();
+    order_of_lines();
+    reread();
     let timeline = Timeline::new(rt.alloc(), &[SourceText::Rfc3339], target(-30)?, None)?;
     let (first, last) = (b"0000-01-01T00:30:00Z", b"9999-12-31T23:59:59.999999999Z");
     if let Ok(one) = timeline.place(first)
