@@ -58,6 +58,14 @@ no_mark n (c ∷ cs) x some e =
     let t : ((c == 46) || (c == 44)) ≡ false = grind (arith, nat_tests) in
     rw t refl
 
+pub no_colon : (n : ℕ) (bytes : List ℕ) (x : ℕ × List ℕ) → 1 ≤ n → digits n bytes ≡ Some x → byte 58 bytes ≡ None
+unfolding skip_of
+no_colon n [] x some e = refl
+no_colon n (c ∷ cs) x some e =
+    let d = digit_here c (first_digit n c cs x some e) in
+    let t : (c == 58) ≡ false = grind (arith, nat_tests) in
+    rw t refl
+
 -- a byte is no other one
 pub only_byte : (a : ℕ) (bytes : List ℕ) (x : Unit {0} × List ℕ) → (a == 46) ≡ false → (a == 44) ≡ false → byte a bytes ≡ Some x → decimal_mark bytes ≡ None
 unfolding decimal_mark skip_of

@@ -1,5 +1,5 @@
--- A time of day of the extended kind by its pieces.
-use Rattle.std.proofs.Common.{◌≡◌, ℕ, ◌+◌, ◌<◌, ◌≤◌, true, leb, List, length, drop, Option, Some, None, refl, ◌∙◌, arith}
+-- A time of day by its pieces, of the extended kind and of the basic one.
+use Rattle.std.proofs.Common.{◌≡◌, ℕ, ◌+◌, ◌<◌, ◌≤◌, true, leb, List, length, drop, Option, Some, None, refl, ◌∙◌, arith, lit<}
 use Rattle.std.specs.Prelude.{nat_lt}
 use Rattle.std.proofs.lemmas.Bool.Decides.{nat_tests}
 use Rattle.byte_names.specs.Bytes.{colon}
@@ -7,12 +7,12 @@ use Rattle.parsing_pieces.specs.Chunks.{IsClock}
 use Rattle.parsing_pieces.specs.Pieces.{digits, fraction, byte}
 use Rattle.parsing_iso8601.specs.Designators.{time_designator}
 use Rattle.parsing_iso8601.specs.Fractions.{rounded_part_of}
-use Rattle.parsing_iso8601.specs.declared.kind.Kind.TheVariants.{Extended}
+use Rattle.parsing_iso8601.specs.declared.kind.Kind.TheVariants.{Basic, Extended}
 use Rattle.parsing_iso8601.specs.Kinds.{kind_of_time}
 use Rattle.parsing_iso8601.specs.Numbers.{number, decimal_mark, fraction_digits, due_digits}
 use Rattle.parsing_iso8601.specs.ReadView.{subsecond}
-use Rattle.parsing_iso8601.specs.Times.{time_of, subsecond_of, time, designator, from_hour, minutes, from_minute, seconds, extended_seconds, due_second, to_second}
-use Rattle.parsing_iso8601.proofs.Pieces.{only_byte, mapped, fraction_run, run_length}
+use Rattle.parsing_iso8601.specs.Times.{time_of, subsecond_of, time, designator, from_hour, minutes, from_minute, seconds, basic_seconds, extended_seconds, due_second, to_second}
+use Rattle.parsing_iso8601.proofs.Pieces.{only_byte, no_colon, no_mark, mapped, fraction_run, run_length}
 use Rattle.parsing_iso8601.proofs.Rounding.{short_fraction}
 
 -- two digits without a fraction
@@ -53,6 +53,36 @@ time_of_chunk bytes behind h m s after n rest p c f hh hm hs hn =
     let frac : fraction_digits (drop 8 behind) ≡ Some (run, rest) = rw c.rest_is g in
     let small : subsecond_of run < 1_000_000_000 = rw is hn in
     let t = time_of_pieces bytes behind (drop 2 behind) (drop 3 behind) (drop 5 behind) (drop 6 behind) (drop 8 behind) rest h m s run p c.hour_digits c.first_colon c.minute_digits c.second_colon c.second_digits frac hh hm hs small in
+    rw is at t)
+
+pub before_digits : (bytes : List ℕ) (n : ℕ) (rest : List ℕ) (x : ℕ × List ℕ) → digits 2 bytes ≡ Some (n, rest) → digits 2 rest ≡ Some x → number bytes ≡ Some ((n, None), rest)
+before_digits bytes n rest x e f = whole_number bytes n rest e (no_mark 2 rest x (lit< tt) f)
+
+-- the time of the basic kind whose pieces these are
+pub basic_time_of_pieces : (b0 b1 b2 b3 b4 rest : List ℕ) (h m s : ℕ) (run : Option (List ℕ)) → byte time_designator b0 ≡ Some (tt, b1) → digits 2 b1 ≡ Some (h, b2) → digits 2 b2 ≡ Some (m, b3) → digits 2 b3 ≡ Some (s, b4) → fraction_digits b4 ≡ Some (run, rest)
+    → h ≤ 23 → m ≤ 59 → s ≤ 60 → subsecond_of run < 1_000_000_000
+    → time Basic true b0 ≡ Some ((time_of h m s (subsecond_of run), Basic), rest)
+unfolding time designator from_hour kind_of_time minutes from_minute seconds basic_seconds to_second
+basic_time_of_pieces b0 b1 b2 b3 b4 rest h m s run p0 p1 p2 p3 p4 hh hm hs hn =
+    let hour = before_digits b1 h b2 (m, b3) p1 p2 in
+    let minute = before_digits b2 m b3 (s, b4) p2 p3 in
+    let second = number_of b3 s b4 run rest p3 p4 in
+    let colonless = no_colon 2 b2 (m, b3) (lit< tt) p2 in
+    let th : leb h 23 ≡ true = grind (arith, nat_tests) in
+    let tm : leb m 59 ≡ true = grind (arith, nat_tests) in
+    let ts : leb s 60 ≡ true = grind (arith, nat_tests) in
+    let tn : nat_lt (subsecond_of run) 1_000_000_000 ≡ true = grind (arith, nat_tests) in
+    rw p0 (rw hour (rw th (rw colonless (rw minute (rw tm (rw second (rw ts (rw tn refl))))))))
+
+-- the same, the nanoseconds read at once
+pub basic_time_of : (b0 b1 b2 b3 b4 : List ℕ) (h m s n : ℕ) (rest : List ℕ) → byte time_designator b0 ≡ Some (tt, b1) → digits 2 b1 ≡ Some (h, b2) → digits 2 b2 ≡ Some (m, b3) → digits 2 b3 ≡ Some (s, b4) → subsecond b4 ≡ Some (n, rest)
+    → h ≤ 23 → m ≤ 59 → s ≤ 60 → n < 1_000_000_000
+    → time Basic true b0 ≡ Some ((time_of h m s n, Basic), rest)
+unfolding subsecond
+basic_time_of b0 b1 b2 b3 b4 h m s n rest p0 p1 p2 p3 f hh hm hs hn =
+    mapped subsecond_of (fraction_digits b4) n rest f (λ run frac is.
+    let small : subsecond_of run < 1_000_000_000 = rw is hn in
+    let t = basic_time_of_pieces b0 b1 b2 b3 b4 rest h m s run p0 p1 p2 p3 frac hh hm hs small in
     rw is at t)
 
 -- a fraction of at most nine digits

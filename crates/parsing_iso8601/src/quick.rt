@@ -7,7 +7,6 @@ ghost use Rattle.parsing_iso8601.specs.declared.kind.Kind.TheVariants as kind;
 use crate::fraction::quick_subsecond;
 use crate::kind::Kind;
 use crate::reading::dated;
-use crate::time::time;
 use crate::written::{WrittenDate, WrittenTime};
 use calendar_count::Month;
 use parsing_pieces::{byte, clock, two_digits, year_month};
@@ -72,6 +71,28 @@ fn extended_time(bytes: &[u8]) -> Option<(WrittenTime, &[u8])>
     Some((time, rest))
 }
 
+// A time of day such as `T232050.52`.
+#[inline(always)]
+fn basic_time(bytes: &[u8]) -> Option<(WrittenTime, &[u8])>
+    ensures { IfSome result (λ x. Times.time kind.Basic true bytes.now ≡ Some ((x.0, kind.Basic), x.1.now)) }
+{
+    let rest = byte(b'T', bytes)?;
+    let (hour, rest) = two_digits(rest)?;
+    let (minute, rest) = two_digits(rest)?;
+    let (second, rest) = two_digits(rest)?;
+    if hour > 23 || minute > 59 || second > 60 {
+        return None;
+    }
+    let (subsecond, rest) = quick_subsecond(rest)?;
+    let time = WrittenTime {
+        hour,
+        minute,
+        second,
+        subsecond,
+    };
+    Some((time, rest))
+}
+
 /// The time of day behind a date, and the kind that it hands on.
 #[inline(always)]
 pub fn quick_time(kind: Kind, bytes: &[u8]) -> Option<((WrittenTime, Kind), &[u8])>
@@ -82,6 +103,10 @@ pub fn quick_time(kind: Kind, bytes: &[u8]) -> Option<((WrittenTime, Kind), &[u8
             let (time, rest) = extended_time(bytes)?;
             Some(((time, Kind::Extended), rest))
         }
-        Kind::Unknown | Kind::Basic => time(kind, true, bytes),
+        Kind::Basic => {
+            let (time, rest) = basic_time(bytes)?;
+            Some(((time, Kind::Basic), rest))
+        }
+        Kind::Unknown => None,
     }
 }
