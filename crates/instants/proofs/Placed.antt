@@ -1,37 +1,31 @@
--- A place is shown at the target, on a day that the calendar has.
+-- A place is shown at the target, and what the difference of two moments at one offset leads to.
 use Rattle.std.proofs.Common.{◌≡◌, ℕ, List, Option, None, Some, Result, Ok, Err, Bool, true, false, refl, sym, ◌∙◌, ap, ap₂, ℤ, pos, ◌+ℤ◌, ◌-ℤ◌, ◌*ℤ◌, arith}
 use Rattle.std.specs.Prelude.{if◌then◌else◌, IsSome, IfSome}
 use Rattle.calendar_count.proofs.lemmas.Signed.{signed}
-use Rattle.datetime_wall.specs.Wall.{Shown, second_nanos, instant, shown_at, IsWallClock}
+use Rattle.datetime_wall.specs.Wall.{Shown, second_nanos, instant, shown_at}
 use Rattle.parsing_pieces.specs.Fault.{Fault}
 use Rattle.instants_answers.specs.Text.{has_written_year}
 use Rattle.instants_order.proofs.Placed.{shown_at-is}
 use Rattle.instants.specs.Refusal.{Refusal, year}
 use Rattle.instants.specs.Place.{Setting, in_written_years, first_named, shown_or_refused, place_of}
 
--- its offset, and that the calendar has its day
-pub record IsPlaced (target : ℤ) (a : Shown) : Type 0 where
-  pub offset : a.offset ≡ target
-  pub within : IsWallClock a.wall
-
 kept : (b : Bool) (m a : Shown) (e : Refusal) → (if b then Ok m else Err e) ≡ Ok a → m ≡ a
 kept true m a e h = cc
 kept false m a e h = absurd cc
 
-placed_in : (target i : ℤ) (o : Option Shown) (a : Shown) → shown_at target i ≡ o → in_written_years o ≡ Ok a → IsPlaced target a
+placed_in : (target i : ℤ) (o : Option Shown) (a : Shown) → shown_at target i ≡ o → in_written_years o ≡ Ok a → a.offset ≡ target
 placed_in target i None a e h = absurd cc
 placed_in target i (Some m) a e h =
     let same = kept (has_written_year m) m a year h in
-    let shown = shown_at-is target i a (rw same at e) in
-    record { offset = shown.offset; within = shown.within }
+    (shown_at-is target i a (rw same at e)).offset
 
-placed_as : (target : ℤ) (r : Result Shown Fault) (a : Shown) → shown_or_refused target r ≡ Ok a → IsPlaced target a
+placed_as : (target : ℤ) (r : Result Shown Fault) (a : Shown) → shown_or_refused target r ≡ Ok a → a.offset ≡ target
 placed_as target (Ok m) a h = placed_in target (instant m) (shown_at target (instant m)) a refl h
 placed_as target (Err f) a h = absurd cc
 
-pub place_shows : (setting : Setting) (line : List ℕ) (a : Shown) → place_of setting line ≡ Ok a → IsPlaced setting.target a
+pub shown_at_target : (setting : Setting) (line : List ℕ) (a : Shown) → place_of setting line ≡ Ok a → a.offset ≡ setting.target
 unfolding place_of
-place_shows setting line a h = placed_as setting.target (first_named setting.assumed setting.sources line) a h
+shown_at_target setting line a h = placed_as setting.target (first_named setting.assumed setting.sources line) a h
 
 -- at one offset a difference of instants is one of wall clocks
 pub moved_by_difference : (a b : Shown) → a.offset ≡ b.offset → b.wall +ℤ (instant a -ℤ instant b) ≡ a.wall

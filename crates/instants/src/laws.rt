@@ -83,11 +83,14 @@ pub fn two_targets()
         ↔ (answer_to (with_target one target) line ≡ answer_to (with_target other target) another) }
 {}
 
-/// The difference of two moments, added to the second one: where both are places of lines at one target, that is the
-/// first one, and so it has its line.
+/// The difference of two moments at one offset, added to the second one, is the first one, and so it has its line. Places
+/// of lines at one target are such moments.
 pub fn difference(a: OffsetDateTime, b: OffsetDateTime) -> Option<OffsetDateTime>
-    ensures { (one other : Setting) (line another : List ℕ) → one.target ≡ other.target
-        → place_of one line ≡ Ok a → place_of other another ≡ Ok b → result ≡ Some a }
+    ensures one_offset { a.offset ≡ b.offset → result ≡ Some a }
+    ensures places { (one other : Setting) (line another : List ℕ)
+        → one.target ≡ other.target → place_of one line ≡ Ok a → place_of other another ≡ Ok b → result ≡ Some a }
 {
+    // its range comes with this call
+    let _ = a.date();
     b.checked_add(a - b)
 }
