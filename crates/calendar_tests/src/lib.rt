@@ -18,6 +18,8 @@ mod numbers;
 #[cfg(test)]
 mod offsets;
 #[cfg(test)]
+mod page;
+#[cfg(test)]
 mod refusals;
 #[cfg(test)]
 mod texts;

@@ -20,6 +20,8 @@ mod memory;
 #[cfg(test)]
 mod moments;
 #[cfg(test)]
+mod page;
+#[cfg(test)]
 mod rows;
 #[cfg(test)]
 mod texts;
