@@ -20,8 +20,8 @@
 //!   and an operator, or a call like `OffsetDateTime::to_offset`, asks for a proof that it has.
 //! - `==`, `<` and hashes of an `OffsetDateTime` go by its instant: 0:30 at +01:00 equals 23:30 in UTC, a day earlier.
 //!   Across types the calls are `eq_utc`, `cmp_timestamp` and their kin.
-//! - `run_calls` answers a list of calls on any `Moment`; it alone takes memory. `signed_from_std` and `std_from_signed`
-//!   turn a duration of one kind into one of the other.
+//! - `run_calls` answers a list of calls on any `Moment`; it alone takes memory. `signed_from_std` and
+//!   `std_from_signed` turn a duration of one kind into one of the other.
 //! - `laws` has what follows from the contracts, each law the contract of a function.
 #![tactic(auto)]
 
