@@ -3,7 +3,8 @@
 
 use std::fmt;
 
-/// A value was of a different variant.
+/// A value was of a different variant: the refusal of a conversion back, where the value was made of another type than
+/// the one that is asked for.
 #[derive(Clone, Copy, Debug, PartialEq, Eq)]
 pub struct DifferentVariant;
 
