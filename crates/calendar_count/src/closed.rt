@@ -8,7 +8,7 @@ ghost use Rattle.calendar_count.specs.Closed.{days_before_year};
 use crate::range::{GREATEST_YEAR, YEAR_TEN_THOUSAND, YEAR_ZERO};
 use crate::util;
 
-/// The years since the first one.
+/// The years from -999999 to this one.
 #[inline(always)]
 pub fn years_since(year: i32) -> u32
     requires { IsYear year }
@@ -18,7 +18,7 @@ pub fn years_since(year: i32) -> u32
     (year + GREATEST_YEAR) as u32
 }
 
-/// The year so many years after the first one.
+/// The year so many years after -999999.
 #[inline(always)]
 pub fn year_after(years: u32) -> i32
     requires { years ≤ greatest_year + greatest_year }
@@ -28,7 +28,7 @@ pub fn year_after(years: u32) -> i32
     years as i32 - GREATEST_YEAR
 }
 
-/// The days of the first years.
+/// The days of the first so many years, from -999999 on.
 #[inline(always)]
 pub fn before_year(years: u32) -> u32
     requires { years ≤ greatest_year + greatest_year + 1 }
@@ -37,7 +37,7 @@ pub fn before_year(years: u32) -> u32
     365 * years + years / 4 - years / 100 + years / 400
 }
 
-/// The years whose days have passed, and the days after them.
+/// The whole years in so many days from the first one on, and the days after them, from 0.
 #[inline(always)]
 pub fn split_years(count: u32) -> (u32, u16)
     requires { count < 1_000_000_000 }
@@ -53,7 +53,7 @@ pub fn split_years(count: u32) -> (u32, u16)
     )
 }
 
-/// Whether the crate has the year.
+/// Whether the calendar has the year: from -999999 to 999999.
 #[inline(always)]
 pub fn has_year(year: i32) -> bool
     ensures { IsTrue result ↔ IsYear year }
@@ -70,7 +70,7 @@ pub fn has_four_digit_year(count: u32) -> bool
     YEAR_ZERO <= count && count < YEAR_TEN_THOUSAND
 }
 
-/// The days of a month by its number.
+/// The days of a month by its number, 1 for January: 28 to 31. A number that is no month's has 31.
 #[inline(always)]
 pub fn month_length(year: i32, month: u8) -> u8
     ensures { result ≡ days_in_month year month }
@@ -82,7 +82,7 @@ pub fn month_length(year: i32, month: u8) -> u8
     }
 }
 
-/// Whether the month has the day.
+/// Whether the month, by its number from 1, has the day, counted from 1.
 #[inline(always)]
 pub fn has_day(year: i32, month: u8, day: u8) -> bool
     ensures { IsTrue result ↔ IsInRange 1 (days_in_month year month) day }
@@ -94,7 +94,7 @@ pub fn has_day(year: i32, month: u8, day: u8) -> bool
     }
 }
 
-/// Whether the year has the place.
+/// Whether the year has a day in this place, counted from 1.
 #[inline(always)]
 pub fn has_ordinal(year: i32, ordinal: u16) -> bool
     ensures { IsTrue result ↔ IsInRange 1 (days_in_year year) ordinal }
@@ -114,7 +114,7 @@ fn cycle_place(year: i32) -> u32
     (year.rem_euclid(400) + GREATEST_YEAR) as u32 % 400
 }
 
-/// The weeks of ISO 8601 of a year: its Thursdays.
+/// The weeks of ISO 8601 of any year, 52 or 53: its Thursdays.
 pub fn weeks_in_year(year: i32) -> u8
     ensures value { result ≡ weeks_in_year year }
     ensures thursdays { IsYear year → result ≡ thursdays_of year }

@@ -1,7 +1,8 @@
 //! The refusal of a conversion.
 use std::fmt;
 
-/// A value was out of the range of the type that it was to be converted to.
+/// A value was out of the range of the type that it was to be converted to: a duration of std that is too long for one
+/// with a sign, or one with a sign that leads back.
 #[derive(Clone, Copy, Debug, PartialEq, Eq)]
 pub struct ConversionRange;
 

@@ -8,6 +8,9 @@ use std::fmt;
 use std::str::FromStr;
 
 /// A month of the year. Months are ordered by their numbers.
+///
+/// `try_from` refuses a number but 1 to 12 as `month`; `from_str` reads the English names, `January` to `December`, and
+/// nothing else.
 #[derive(Clone, Copy, Debug, PartialEq, Eq, PartialOrd, Ord, Hash)]
 pub enum Month {
     January = 1,
@@ -38,7 +41,7 @@ impl Month {
         self as u8
     }
 
-    /// The month with this number, 1 for January.
+    /// The month with this number, 1 for January to 12 for December: `Month::try_from` is the test.
     #[inline(always)]
     pub fn from_number(number: u8) -> Month
         requires { IsInRange 1 12 number }
@@ -61,7 +64,7 @@ impl Month {
         }
     }
 
-    /// The days of the month in that year, 28 to 31.
+    /// The days of the month in that year, 28 to 31, for any year.
     pub fn length(self, year: i32) -> u8
         ensures value { result ≡ days_in_month year (month_number self) }
         ensures bound { IsInRange 28 31 result }
@@ -85,7 +88,7 @@ impl Month {
         Month::from_number(if number == 12 { 1 } else { number + 1 })
     }
 
-    /// The month `n` steps on.
+    /// The month `n` steps on: after December comes January.
     #[tactic(auto, using(crate::proofs::lemmas::Steps::months_on))]
     pub fn nth_next(self, n: u8) -> Month
         ensures { month_number result ≡ steps next_month n (month_number self) }

@@ -57,7 +57,7 @@ impl MonthIter {
         MonthIter { due: start }
     }
 
-    /// The month `n` steps on from the one that is due. The one after it is due next.
+    /// The month `n` steps on from the one that is due, never `None`. The one after it is due next.
     pub fn nth(&mut self, n: usize) -> Option<Month>
         ensures value { IsSomeAnd result (λ m. month_number m
             ≡ steps next_month n (month_number self.old)) }
@@ -117,7 +117,7 @@ impl RevMonthIter {
         RevMonthIter { due: start }
     }
 
-    /// The month `n` steps back from the one that is due. The one before it is due next.
+    /// The month `n` steps back from the one that is due, never `None`. The one before it is due next.
     pub fn nth(&mut self, n: usize) -> Option<Month>
         ensures value { IsSomeAnd result (λ m. steps next_month n (month_number m)
             ≡ month_number self.old) }

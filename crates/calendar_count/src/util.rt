@@ -7,7 +7,7 @@ ghost use Rattle.calendar_count.specs.Month.{month_number};
 
 use crate::{Month, closed};
 
-/// Whether the year has 29 February.
+/// Whether the year has 29 February: every fourth has, but of the centuries only every fourth.
 #[inline(always)]
 pub fn is_leap_year(year: i32) -> bool
     ensures { result ≡ is_leap_year year }

@@ -56,7 +56,7 @@ impl WeekdayIter {
         WeekdayIter { due: start }
     }
 
-    /// The day of the week `n` steps on from the one that is due. The one after it is due next.
+    /// The day of the week `n` steps on from the one that is due, never `None`. The one after it is due next.
     pub fn nth(&mut self, n: usize) -> Option<Weekday>
         ensures value { IsSomeAnd result (λ w. days_from_monday w
             ≡ steps next_weekday n (days_from_monday self.old)) }
@@ -96,7 +96,7 @@ impl RevWeekdayIter {
         RevWeekdayIter { due: start }
     }
 
-    /// The day of the week `n` steps back from the one that is due. The one before it is due next.
+    /// The day of the week `n` steps back from the one that is due, never `None`. The one before it is due next.
     pub fn nth(&mut self, n: usize) -> Option<Weekday>
         ensures value { IsSomeAnd result (λ w. steps next_weekday n (days_from_monday w)
             ≡ days_from_monday self.old) }
