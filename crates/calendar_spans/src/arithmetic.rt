@@ -29,7 +29,7 @@ impl SignedDuration {
         from_parts(seconds - other_seconds, nanoseconds - other_nanoseconds)
     }
 
-    /// The same length the other way, or `None` where that is no duration.
+    /// The same length the other way, or `None` where that is no duration: its whole seconds are -2^63.
     #[inline(always)]
     pub fn checked_neg(self) -> Option<SignedDuration>
         ensures some { IsSome result ↔ IsDuration (neg_ℤ self) }

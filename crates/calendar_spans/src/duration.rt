@@ -20,7 +20,10 @@ pub(crate) const SECONDS_IN_DAY: i64 = 86_400;
 pub(crate) const SECONDS_IN_WEEK: i64 = 604_800;
 
 /// A length of time to the nanosecond, below zero where it leads back, of at most 2^63 - 1 whole
-/// seconds forward or 2^63 back.
+/// seconds forward or 2^63 back. Its days have 24 hours and its weeks seven days.
+///
+/// It is printed by its parts that are not 0, as `1d2h3m4s5ms6µs7ns`, with `-` before them where it leads
+/// back, and as `0s` where there is none.
 ///
 /// A contract sees its nanoseconds.
 #[derive(Clone, Copy)]
@@ -186,7 +189,7 @@ impl SignedDuration {
         from_parts(i128::from(seconds), i64::from(nanoseconds)).unwrap()
     }
 
-    /// So many milliseconds.
+    /// So many milliseconds, back where they are below zero. Any number is a duration.
     #[inline(always)]
     pub fn milliseconds(milliseconds: i64) -> SignedDuration
         ensures value { result ≡ milliseconds *ℤ pos milli_nanos }
@@ -197,7 +200,7 @@ impl SignedDuration {
         )
     }
 
-    /// So many microseconds.
+    /// So many microseconds, back where they are below zero. Any number is a duration.
     #[inline(always)]
     pub fn microseconds(microseconds: i64) -> SignedDuration
         ensures value { result ≡ microseconds *ℤ pos micro_nanos }
@@ -208,7 +211,7 @@ impl SignedDuration {
         )
     }
 
-    /// So many nanoseconds.
+    /// So many nanoseconds, back where they are below zero. Any number is a duration.
     #[inline(always)]
     pub fn nanoseconds(nanoseconds: i64) -> SignedDuration
         ensures value { result ≡ nanoseconds }
@@ -219,7 +222,7 @@ impl SignedDuration {
         )
     }
 
-    /// So many nanoseconds, which must be a duration.
+    /// So many nanoseconds, which must be a duration: their whole seconds fit 64 bits.
     #[inline(always)]
     pub fn nanoseconds_i128(nanoseconds: i128) -> SignedDuration
         requires { IsDuration nanoseconds }
@@ -267,7 +270,7 @@ impl SignedDuration {
         SignedDuration::seconds(days * SECONDS_IN_DAY)
     }
 
-    /// So many seconds.
+    /// So many seconds, back where they are below zero. Any number is a duration.
     #[inline(always)]
     #[tactic(auto, unfolding(crate::specs::DurationParts::duration_nanos))]
     pub fn seconds(seconds: i64) -> SignedDuration

@@ -16,7 +16,8 @@ impl SignedDuration {
         from_parts(seconds * i128::from(factor), nanoseconds * factor)
     }
 
-    /// So many times the duration, or `None` where that is no duration.
+    /// So many times the duration, the other way where the factor is below zero, or `None` where that is no
+    /// duration.
     #[inline(always)]
     pub fn checked_mul(self, factor: i32) -> Option<SignedDuration>
         ensures some { IsSome result ↔ IsDuration (self *ℤ factor) }

@@ -109,7 +109,7 @@ impl SignedDuration {
         self.whole_nanoseconds() > 0
     }
 
-    /// Its length without the sign, or `MAX` where that is no duration.
+    /// Its length without the sign, or `MAX` where that is no duration, as for `MIN`.
     #[tactic(auto, unfolding(crate::specs::DurationParts::duration_nanos))]
     pub fn abs(self) -> SignedDuration
         ensures value { result ≡ nearest_duration (pos (unsigned_abs self)) }
@@ -123,7 +123,7 @@ impl SignedDuration {
         length
     }
 
-    /// Its length without the sign.
+    /// Its length without the sign, as a duration of std. Each duration has one.
     #[inline(always)]
     pub fn unsigned_abs(self) -> Duration
         ensures value { as_nanos result ≡ unsigned_abs self }
