@@ -9,6 +9,9 @@ const NANOSECONDS_IN_SECOND: u64 = 1_000_000_000;
 
 /// A time of day to the nanosecond, as RFC 3339 section 5.6 writes one, but with no leap second.
 ///
+/// It is printed with its hour in as few digits as it has, and a fraction of at least one: `7:05:00.0`,
+/// `23:20:50.52`.
+///
 /// A contract sees the nanoseconds since the day began.
 #[derive(Clone, Copy)]
 pub struct Time {
@@ -45,7 +48,7 @@ impl Time {
         nanosecond: 999_999_999,
     };
 
-    /// The time so many seconds after midnight, and so many nanoseconds.
+    /// The time so many seconds after midnight, below 86,400, and so many nanoseconds, below 1,000,000,000.
     #[inline(always)]
     pub fn from_seconds_nanoseconds(second_of_day: u32, nanosecond: u32) -> Time
         requires second { second_of_day < 86_400 }
@@ -98,7 +101,7 @@ impl Time {
         Ok(Time::from_seconds_nanoseconds(second_of_day, nanosecond))
     }
 
-    /// The whole seconds since midnight.
+    /// The whole seconds since midnight, below 86,400.
     #[inline(always)]
     pub fn second_of_day(self) -> u32
         ensures value { result ≡ self / second_nanos }
@@ -108,7 +111,7 @@ impl Time {
         self.second_of_day
     }
 
-    /// The nanoseconds since midnight.
+    /// The nanoseconds since midnight, below 86,400,000,000,000.
     #[inline(always)]
     pub fn nanosecond_of_day(self) -> u64
         ensures value { result ≡ self }

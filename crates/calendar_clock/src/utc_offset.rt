@@ -46,7 +46,7 @@ fn seconds_of_parts(hours: i8, minutes: i8, seconds: i8) -> i32
 }
 
 /// An offset from UTC of at most 25:59:59 either way, positive where local time is ahead of UTC (RFC
-/// 3339 section 4.2).
+/// 3339 section 4.2). It is printed as `+05:30:00` or `-00:00:01`.
 ///
 /// A contract sees its seconds.
 #[derive(Clone, Copy)]
@@ -95,7 +95,7 @@ impl UtcOffset {
         })
     }
 
-    /// The offset of so many seconds, refused beyond ±93,599.
+    /// The offset of so many seconds, refused beyond ±93,599 as `seconds`.
     #[inline(always)]
     #[tactic(auto, unfolding(crate::specs::UtcOffset::offset_of_seconds))]
     pub fn from_whole_seconds(seconds: i32) -> Result<UtcOffset, ComponentRange>
@@ -149,7 +149,8 @@ impl UtcOffset {
         (self.seconds % 60) as i8
     }
 
-    /// The hours, the minutes past them and the seconds past those.
+    /// The hours, the minutes past them and the seconds past those: below zero, or 0, where the offset is
+    /// behind UTC.
     pub fn as_hms(self) -> (i8, i8, i8)
         ensures hours { result.0 ≡ int_div self (pos 3600) }
         ensures minutes { result.1 ≡ int_rem (int_div self (pos 60)) (pos 60) }
