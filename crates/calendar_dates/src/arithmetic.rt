@@ -41,7 +41,8 @@ fn day_near(count: i64) -> Date
 }
 
 impl Date {
-    /// The day so many whole days later, if it is in range.
+    /// The day so many whole days later, or `None` past the ends of the calendar. What a duration has past its
+    /// whole days has no effect.
     #[inline(always)]
     pub fn checked_add(self, duration: SignedDuration) -> Option<Date>
         ensures some { IsSome result ↔ IsDayCount (pos self +ℤ days_of duration) }
@@ -51,7 +52,8 @@ impl Date {
         day_at(self.count() as i64 + duration.whole_days())
     }
 
-    /// The day so many whole days earlier, if it is in range.
+    /// The day so many whole days earlier, or `None` past the ends of the calendar. What a duration has past
+    /// its whole days has no effect.
     #[inline(always)]
     pub fn checked_sub(self, duration: SignedDuration) -> Option<Date>
         ensures some { IsSome result ↔ IsDayCount (pos self -ℤ days_of duration) }

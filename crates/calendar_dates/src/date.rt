@@ -18,6 +18,9 @@ use std::marker::Model;
 /// A day of the proleptic Gregorian calendar, as ISO 8601 counts its years: from -999999 to 999999,
 /// with a year 0.
 ///
+/// It is printed as ISO 8601 writes it, with a sign where the year is not 0 to 9999: `2024-06-19`,
+/// `-0044-03-15`, `+10000-01-01`.
+///
 /// A contract sees it as its count: the days from the first day to it.
 #[derive(Clone, Copy)]
 pub struct Date {
@@ -38,10 +41,10 @@ impl Model for Date {
 }
 
 impl Date {
-    /// The first day.
+    /// The first day, -999999-01-01.
     pub const MIN: Date = Date { count: 0 };
 
-    /// The last day.
+    /// The last day, 999999-12-31.
     pub const MAX: Date = Date { count: LAST_COUNT };
 
     /// 1970-01-01.
@@ -68,7 +71,7 @@ impl Date {
         Date::from_count(closed::before_year(closed::years_since(year)) + ordinal as u32 - 1)
     }
 
-    /// The days from the first day to this one.
+    /// The days from the first day to this one, 0 to 730,484,633.
     #[inline(always)]
     pub fn count(self) -> u32
         ensures value { result ≡ self }
@@ -77,7 +80,7 @@ impl Date {
         self.count
     }
 
-    /// The day so many days after the first one.
+    /// The day so many days after the first one, 0 to 730,484,633.
     #[inline(always)]
     pub fn from_count(count: u32) -> Date
         requires { IsCount count }
@@ -89,7 +92,7 @@ impl Date {
 
     /// The day with this year, month and day of the month.
     ///
-    /// A year beyond ±999999 is refused, and else a day that the month does not have.
+    /// A year beyond ±999999 is refused as `year`, and else a day that the month does not have as `day`.
     #[inline(always)]
     pub fn from_calendar_date(year: i32, month: Month, day: u8) -> Result<Date, ComponentRange>
         ensures succeeds { IsOk result ↔ IsDay year (month_number month) day }
@@ -112,7 +115,7 @@ impl Date {
 
     /// The day with this place in the year, from 1.
     ///
-    /// A year beyond ±999999 is refused, and else a place that the year does not have.
+    /// A year beyond ±999999 is refused as `year`, and else a place that the year does not have as `ordinal`.
     pub fn from_ordinal_date(year: i32, ordinal: u16) -> Result<Date, ComponentRange>
         ensures succeeds { IsOk result
             ↔ (IsYear year × IsInRange 1 (days_in_year year) ordinal) }
@@ -131,7 +134,8 @@ impl Date {
         Ok(Date::at_place(year, ordinal))
     }
 
-    /// The day with this Julian day, refused beyond the first and the last day.
+    /// The day with this Julian day, refused beyond the first and the last day as `julian_day`. 1970-01-01 is
+    /// Julian day 2,440,588.
     pub fn from_julian_day(julian_day: i32) -> Result<Date, ComponentRange>
         ensures succeeds { IsOk result ↔ IsJulianDay julian_day }
         ensures value { IfOk result (λ d. pos d ≡ julian_day +ℤ pos julian_zero) }
@@ -146,8 +150,8 @@ impl Date {
 
     /// The day with this year and week of ISO 8601 and this day of the week.
     ///
-    /// A year beyond ±999999 is refused, and else a week that the year does not have, or a day of it
-    /// after the last.
+    /// A year beyond ±999999 is refused as `year`, and else a week that the year does not have, or a day of
+    /// it after the calendar's last, as `week`.
     pub fn from_iso_week_date(year: i32, week: u8, weekday: Weekday) -> Result<Date, ComponentRange>
         ensures value { IfOk result (IsIsoDay year week (days_from_monday weekday)) }
         ensures bound { IfOk result IsCount }
@@ -173,7 +177,7 @@ impl Date {
         Ok(Date::from_count(count))
     }
 
-    /// The next day, if there is one.
+    /// The next day, or `None` after the last one.
     pub fn next_day(self) -> Option<Date>
         ensures some { IsSome result ↔ (self < last_count) }
         ensures value { IfSome result (λ d. d ≡ self + 1) }
@@ -184,7 +188,7 @@ impl Date {
         Some(Date::from_count(self.count() + 1))
     }
 
-    /// The previous day, if there is one.
+    /// The previous day, or `None` before the first one.
     pub fn previous_day(self) -> Option<Date>
         ensures some { IsSome result ↔ (0 < self) }
         ensures value { IfSome result (λ d. d + 1 ≡ self) }

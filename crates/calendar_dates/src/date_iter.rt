@@ -60,7 +60,7 @@ impl DateIter {
         Some(day)
     }
 
-    /// The same from the back.
+    /// The same from the back: the day before the last `n`.
     pub fn nth_back(&mut self, n: usize) -> Option<Date>
         ensures value { result ≡ slice_get (reverse self.old) n }
         ensures rest { self.new ≡ take (length self.old - (n + 1)) self.old }
@@ -84,14 +84,14 @@ impl DateIter {
         self.len()
     }
 
-    /// The last day that is left.
+    /// The last day that is left, or `None` where none is.
     pub fn last(mut self) -> Option<Date>
         ensures { result ≡ slice_get (reverse self) 0 }
     {
         self.nth_back(0)
     }
 
-    /// The earliest day that is left.
+    /// The earliest day that is left, or `None` where none is.
     pub fn min(self) -> Option<Date>
         ensures some { IsSome result ↔ (0 < length self) }
         ensures least { IfSome result (λ d. Contains self d × All (λ k. d ≤ k) self) }
@@ -102,7 +102,7 @@ impl DateIter {
         Some(Date::from_count(self.first))
     }
 
-    /// The latest day that is left.
+    /// The latest day that is left, or `None` where none is.
     pub fn max(self) -> Option<Date>
         ensures some { IsSome result ↔ (0 < length self) }
         ensures greatest { IfSome result (λ d. Contains self d × All (λ k. k ≤ d) self) }

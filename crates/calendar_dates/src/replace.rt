@@ -13,7 +13,8 @@ use calendar_count::{ComponentRange, Month};
 impl Date {
     /// The day of another year with the same month and day of the month.
     ///
-    /// A year beyond ±999999 is refused, and else 29 February where the year does not have it.
+    /// A year beyond ±999999 is refused as `year`, and else 29 February, where the year does not have it, as
+    /// `day`.
     pub fn replace_year(self, year: i32) -> Result<Date, ComponentRange>
         ensures succeeds { IsOk result ↔ IsDay year (day_at self).month (day_at self).day }
         ensures value { IfOk result (λ d. day_at d
@@ -28,7 +29,7 @@ impl Date {
     }
 
     /// The day of another month of the year with the same day of the month, refused where that
-    /// month does not have it.
+    /// month does not have it, as `day`.
     pub fn replace_month(self, month: Month) -> Result<Date, ComponentRange>
         ensures succeeds { IsOk result
             ↔ IsDay (day_at self).year (month_number month) (day_at self).day }
@@ -41,7 +42,7 @@ impl Date {
         Date::from_calendar_date(year, month, day)
     }
 
-    /// Another day of the same month, refused where the month does not have it.
+    /// Another day of the same month, from 1, refused where the month does not have it.
     pub fn replace_day(self, day: u8) -> Result<Date, ComponentRange>
         ensures succeeds { IsOk result ↔ IsDay (day_at self).year (day_at self).month day }
         ensures value { IfOk result (λ d. day_at d

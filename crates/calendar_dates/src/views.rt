@@ -12,7 +12,7 @@ use calendar_count::range::JULIAN_ZERO;
 use calendar_count::{Month, Weekday, closed, march};
 
 impl Date {
-    /// The Julian day.
+    /// The Julian day, -363,521,074 to 366,963,559: that of 1970-01-01 is 2,440,588.
     pub fn to_julian_day(self) -> i32
         ensures value { result ≡ pos self -ℤ pos julian_zero }
         ensures range { IsCount self }
@@ -20,7 +20,7 @@ impl Date {
         self.count() as i32 - JULIAN_ZERO
     }
 
-    /// The year.
+    /// The year, -999999 to 999999.
     pub fn year(self) -> i32
         ensures value { result ≡ (day_at self).year }
         ensures bound { IsYear result }
@@ -79,7 +79,7 @@ impl Date {
         Weekday::from_number((self.count() % 7) as u8)
     }
 
-    /// The Mondays of the year up to and including the day, 0 to 53.
+    /// The Mondays of the year up to and including the day, 0 to 53: `%W` of strftime.
     pub fn monday_based_week(self) -> u8
         ensures value { result ≡ monday_week_at self }
         ensures bound { result ≤ 53 }
@@ -89,7 +89,7 @@ impl Date {
         ((ordinal as u32 + 6 - since_monday) / 7) as u8
     }
 
-    /// The Sundays of the year up to and including the day, 0 to 53.
+    /// The Sundays of the year up to and including the day, 0 to 53: `%U` of strftime.
     pub fn sunday_based_week(self) -> u8
         ensures value { result ≡ sunday_week_at self }
         ensures bound { result ≤ 53 }
@@ -118,7 +118,8 @@ impl Date {
         self.to_iso_week_date().1
     }
 
-    /// The year and the week of ISO 8601, and the day of the week.
+    /// The year and the week of ISO 8601, and the day of the week. The year is that of the week's Thursday,
+    /// which may not be `year`.
     pub fn to_iso_week_date(self) -> (i32, u8, Weekday)
         ensures value { IsIsoDay result.0 result.1 (days_from_monday result.2) self }
         ensures year { IsYear result.0 }
