@@ -1,4 +1,4 @@
-//! The calendar of a count of days.
+//! The calendar of a count of days from the first one, -999999-01-01, on.
 ghost use Rattle.std.specs.Prelude.{◌≡◌, ◌+◌, ◌-◌, ◌%◌, ◌<◌, ◌≤◌};
 ghost use Rattle.std.specs.Int.{IsInRange};
 ghost use Rattle.calendar_count.specs.Range.{greatest_year, last_count, IsCount, IsYear};
@@ -29,7 +29,7 @@ fn split_years(days: u64) -> (u64, u64)
     (years, rest >> 2)
 }
 
-/// The year, the month and the day of the month.
+/// The year, the month and the day of the month, both from 1, of the day with this count.
 #[inline(always)]
 pub fn day_of_count(count: u64) -> (i32, u8, u8)
     requires { IsCount count }
@@ -49,7 +49,7 @@ pub fn day_of_count(count: u64) -> (i32, u8, u8)
     }
 }
 
-/// The year, and the place in it from 1.
+/// The year, and the place in it from 1, of the day with this count.
 #[inline(always)]
 pub fn place_of_count(count: u64) -> (i32, u16)
     requires { IsCount count }
@@ -61,7 +61,7 @@ pub fn place_of_count(count: u64) -> (i32, u16)
     (closed::year_after(years as u32), (days + 1) as u16)
 }
 
-/// The days after the last Monday.
+/// The days after the last Monday, 0 to 6.
 #[inline(always)]
 pub fn weekday_of_count(count: u64) -> u8
     requires { IsCount count }
@@ -71,7 +71,7 @@ pub fn weekday_of_count(count: u64) -> u8
     quotients::day_of_week(count) as u8
 }
 
-/// The year and the week of ISO 8601, which are those of the week's Thursday.
+/// The year and the week of ISO 8601, 1 to 53, which are those of the week's Thursday.
 #[inline(always)]
 pub fn iso_week_of_count(count: u64) -> (i32, u8)
     requires { IsCount count }
@@ -84,7 +84,7 @@ pub fn iso_week_of_count(count: u64) -> (i32, u8)
     (closed::year_after(years as u32), week as u8)
 }
 
-/// The Sundays of the year up to and including the day.
+/// The Sundays of the year up to and including the day, 0 to 53.
 #[inline(always)]
 pub fn sunday_week_of_count(count: u64) -> u8
     requires { IsCount count }
@@ -95,7 +95,7 @@ pub fn sunday_week_of_count(count: u64) -> u8
     quotients::weeks_of_year(days + 7 - quotients::day_of_week(count + 1)) as u8
 }
 
-/// The Mondays of the year up to and including the day.
+/// The Mondays of the year up to and including the day, 0 to 53.
 #[inline(always)]
 pub fn monday_week_of_count(count: u64) -> u8
     requires { IsCount count }

@@ -10,7 +10,7 @@ use calendar_count::range::UNIX_EPOCH;
 // The seconds from the first day to 1970-01-01.
 const EPOCH_SECONDS: i64 = UNIX_EPOCH as i64 * 86_400;
 
-/// The count of the day that a second of Unix time lies in.
+/// The count of the day in UTC, from -999999-01-01 on, that a second of Unix time lies in.
 #[inline(always)]
 pub fn count_of_seconds(seconds: i64) -> u64
     requires { IsUnixSecond seconds }
@@ -20,7 +20,7 @@ pub fn count_of_seconds(seconds: i64) -> u64
     quotients::days_of_seconds((seconds + EPOCH_SECONDS) as u64)
 }
 
-/// The second of the day of a second of Unix time.
+/// The second of the day in UTC of a second of Unix time, 0 to 86,399.
 #[inline(always)]
 pub fn second_of_day(seconds: i64) -> u32
     requires { IsUnixSecond seconds }
@@ -31,7 +31,7 @@ pub fn second_of_day(seconds: i64) -> u32
     (seconds - 86_400 * quotients::days_of_seconds(seconds)) as u32
 }
 
-/// The hour, the minute and the second of a second of the day.
+/// The hour, the minute and the second of a second of the day, which is below 86,400.
 #[inline(always)]
 pub fn clock_of_second(second: u32) -> (u8, u8, u8)
     requires { second < day_seconds }
