@@ -17,7 +17,7 @@ pub fn signed_from_std(duration: Duration) -> Result<SignedDuration, ConversionR
     Ok(SignedDuration::new(seconds, duration.subsec_nanos() as i32))
 }
 
-/// The same length forward, or the greatest duration where it is longer.
+/// The same length forward, or `SignedDuration::MAX` where it is longer.
 pub fn nearest_from_std(duration: Duration) -> SignedDuration
     ensures { result ≡ nearest_duration (pos (as_nanos duration)) }
 {
