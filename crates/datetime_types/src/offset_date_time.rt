@@ -27,6 +27,9 @@ use std::marker::Model;
 
 /// A date and a time of day at an offset from UTC, as RFC 3339 section 5.6 writes one.
 ///
+/// What it shows, from `year` to `nanosecond`, and what it is printed by, as
+/// `2024-06-19 7:05:00.25 +05:30:00`, is what a clock at its offset shows.
+///
 /// A contract sees the wall clock and the offset. Comparisons and hashes go by the instant: two
 /// values that show one instant at two offsets are equal.
 #[derive(Clone, Copy)]
@@ -66,7 +69,7 @@ impl OffsetDateTime {
         OffsetDateTime { wall, offset }
     }
 
-    /// The date at the time in UTC, at the offset zero.
+    /// The moment of the date and the time of day in UTC, at the offset zero.
     #[inline(always)]
     pub fn new_utc(date: Date, time: Time) -> OffsetDateTime
         ensures value { result ≡ record { wall = wall_clock date time; offset = pos 0 } }
@@ -153,7 +156,7 @@ impl OffsetDateTime {
         self.checked_to_timestamp().unwrap()
     }
 
-    /// What a clock at the offset shows on the date at the time.
+    /// The moment at which a clock at the offset shows the date and the time of day.
     #[inline(always)]
     pub fn new_in_offset(date: Date, time: Time, offset: UtcOffset) -> OffsetDateTime
         ensures value { result ≡ record { wall = wall_clock date time; offset = offset } }
@@ -182,7 +185,7 @@ impl OffsetDateTime {
         self.wall.time()
     }
 
-    /// The offset.
+    /// The offset from UTC.
     #[inline(always)]
     pub fn offset(self) -> UtcOffset
         ensures value { result ≡ self.offset }
@@ -204,7 +207,8 @@ impl OffsetDateTime {
         Some(OffsetDateTime::from_wall(wall, offset))
     }
 
-    /// The same instant at another offset, where the calendar has the date there.
+    /// The same instant at another offset, where the calendar has the date there: `checked_to_offset` is the
+    /// test.
     #[inline(always)]
     pub fn to_offset(self, offset: UtcOffset) -> OffsetDateTime
         requires { IsSome (shown_at offset (instant self)) }

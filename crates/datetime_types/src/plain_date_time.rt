@@ -22,7 +22,7 @@ use std::fmt;
 use std::hash::{Hash, Hasher};
 use std::marker::Model;
 
-/// A date and a time of day, with no offset from UTC.
+/// A date and a time of day, with no offset from UTC. It is printed as `2024-06-19 7:05:00.25`.
 ///
 /// A contract sees the wall clock: the nanoseconds since 1970 began on that clock.
 #[derive(Clone, Copy)]
@@ -49,13 +49,13 @@ impl Model for PlainDateTime {
 }
 
 impl PlainDateTime {
-    /// The first moment of the first day.
+    /// The first moment of the first day, -999999-01-01 0:00.
     pub const MIN: PlainDateTime = PlainDateTime {
         date: Date::MIN,
         time: Time::MIDNIGHT,
     };
 
-    /// The last moment of the last day.
+    /// The last moment of the last day, 999999-12-31 23:59:59.999999999.
     pub const MAX: PlainDateTime = PlainDateTime {
         date: Date::MAX,
         time: Time::MAX,
@@ -66,7 +66,7 @@ impl PlainDateTime {
         time: Time::MIDNIGHT,
     };
 
-    /// What a clock shows on the date at the time.
+    /// The date and the time of day together: what a clock shows then.
     #[inline(always)]
     pub fn new(date: Date, time: Time) -> PlainDateTime
         ensures value { result ≡ wall_clock date time }
@@ -99,7 +99,7 @@ impl PlainDateTime {
         self.time
     }
 
-    /// What a clock at the offset shows so.
+    /// The moment at which a clock at the offset shows this date and time.
     #[inline(always)]
     pub fn assume_offset(self, offset: UtcOffset) -> OffsetDateTime
         ensures value { result ≡ record { wall = self; offset = offset } }
@@ -108,7 +108,7 @@ impl PlainDateTime {
         OffsetDateTime::from_wall(self, offset)
     }
 
-    /// What a clock in UTC shows so, at the offset zero.
+    /// The moment at which a clock in UTC shows this date and time, at the offset zero.
     #[inline(always)]
     pub fn assume_utc(self) -> OffsetDateTime
         ensures value { result ≡ record { wall = self; offset = pos 0 } }
@@ -117,7 +117,7 @@ impl PlainDateTime {
         self.assume_offset(UtcOffset::UTC)
     }
 
-    /// What a clock in UTC shows so.
+    /// The moment at which a clock in UTC shows this date and time.
     #[inline(always)]
     pub fn as_utc(self) -> UtcDateTime
         ensures value { result ≡ self }

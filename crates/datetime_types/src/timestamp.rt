@@ -35,7 +35,9 @@ const LEAST_SECOND: i64 = -(UNIX_EPOCH as i64 * DAY_SECONDS);
 
 const GREATEST_SECOND: i64 = (LAST_COUNT + 1 - UNIX_EPOCH) as i64 * DAY_SECONDS - 1;
 
-/// An instant to the nanosecond, as Unix time counts it, which has no leap seconds.
+/// An instant to the nanosecond, as Unix time counts it, which has no leap seconds: from
+/// -31,619,087,596,800 to 31,494,784,780,799 whole seconds. What it shows, from `year` to `nanosecond`,
+/// is in UTC.
 ///
 /// A contract sees the nanoseconds since 1970 began in UTC.
 #[derive(Clone, Copy)]
@@ -69,13 +71,13 @@ impl Timestamp {
         nanoseconds: 0,
     };
 
-    /// The first instant of the first day in UTC.
+    /// The first instant of the first day in UTC, -999999-01-01 0:00.
     pub const MIN: Timestamp = Timestamp {
         seconds: LEAST_SECOND,
         nanoseconds: 0,
     };
 
-    /// The last instant of the last day in UTC.
+    /// The last instant of the last day in UTC, 999999-12-31 23:59:59.999999999.
     pub const MAX: Timestamp = Timestamp {
         seconds: GREATEST_SECOND,
         nanoseconds: 999_999_999,
@@ -85,7 +87,7 @@ impl Timestamp {
     /// nanoseconds later.
     ///
     /// Seconds of days that the calendar does not have are refused as `timestamp`, and else
-    /// nanoseconds over 999,999,999.
+    /// nanoseconds over 999,999,999 as `nanosecond`.
     #[inline(always)]
     #[tactic(auto, unfolding(crate::specs::Unix::unix_nanos))]
     pub fn new(seconds: i64, nanoseconds: u32) -> Result<Timestamp, ComponentRange>

@@ -26,7 +26,7 @@ use std::fmt;
 use std::hash::{Hash, Hasher};
 use std::marker::Model;
 
-/// A date and a time of day in UTC.
+/// A date and a time of day in UTC. It is printed as `2024-06-19 7:05:00.25 +00`.
 ///
 /// A contract sees the instant: the nanoseconds since 1970 began in UTC, which are also the wall
 /// clock there.
@@ -54,17 +54,17 @@ impl UtcDateTime {
         wall: PlainDateTime::UNIX_EPOCH,
     };
 
-    /// The first moment of the first day.
+    /// The first moment of the first day, -999999-01-01 0:00.
     pub const MIN: UtcDateTime = UtcDateTime {
         wall: PlainDateTime::MIN,
     };
 
-    /// The last moment of the last day.
+    /// The last moment of the last day, 999999-12-31 23:59:59.999999999.
     pub const MAX: UtcDateTime = UtcDateTime {
         wall: PlainDateTime::MAX,
     };
 
-    /// The date at the time in UTC.
+    /// The moment of the date and the time of day in UTC.
     #[inline(always)]
     pub fn new(date: Date, time: Time) -> UtcDateTime
         ensures value { result ≡ wall_clock date time }

@@ -51,7 +51,8 @@ impl OffsetDateTime {
 
     /// The same month, day of the month and time of another year.
     ///
-    /// A year beyond ±999999 is refused, and else 29 February where the year does not have it.
+    /// A year beyond ±999999 is refused as `year`, and else 29 February, where the year does not have it, as
+    /// `day`.
     pub fn replace_year(self, year: i32) -> Result<OffsetDateTime, ComponentRange>
         ensures succeeds { IsOk result ↔ IsDay year (day_at (day_of self.wall)).month (day_at (day_of self.wall)).day }
         ensures value { IfOk result (λ m. day_at (day_of m.wall) ≡ ymd year (day_at (day_of self.wall)).month (day_at (day_of self.wall)).day) }
@@ -62,7 +63,7 @@ impl OffsetDateTime {
     }
 
     /// The same day of the month and time in another month of the year, refused where that month does
-    /// not have it.
+    /// not have it, as `day`.
     pub fn replace_month(self, month: Month) -> Result<OffsetDateTime, ComponentRange>
         ensures succeeds { IsOk result ↔ IsDay (day_at (day_of self.wall)).year (month_number month) (day_at (day_of self.wall)).day }
         ensures value { IfOk result (λ m. day_at (day_of m.wall) ≡ ymd (day_at (day_of self.wall)).year (month_number month) (day_at (day_of self.wall)).day) }
@@ -72,7 +73,7 @@ impl OffsetDateTime {
         Ok(OffsetDateTime::from_wall(self.wall.replace_month(month)?, self.offset))
     }
 
-    /// The same time on another day of the month, refused where the month does not have it.
+    /// The same time on another day of the month, from 1, refused where the month does not have it.
     pub fn replace_day(self, day: u8) -> Result<OffsetDateTime, ComponentRange>
         ensures succeeds { IsOk result ↔ IsDay (day_at (day_of self.wall)).year (day_at (day_of self.wall)).month day }
         ensures value { IfOk result (λ m. day_at (day_of m.wall) ≡ ymd (day_at (day_of self.wall)).year (day_at (day_of self.wall)).month day) }

@@ -32,7 +32,8 @@ impl PlainDateTime {
 
     /// The same month, day of the month and time of another year.
     ///
-    /// A year beyond ±999999 is refused, and else 29 February where the year does not have it.
+    /// A year beyond ±999999 is refused as `year`, and else 29 February, where the year does not have it, as
+    /// `day`.
     pub fn replace_year(self, year: i32) -> Result<PlainDateTime, ComponentRange>
         ensures succeeds { IsOk result ↔ IsDay year (day_at (day_of self)).month (day_at (day_of self)).day }
         ensures value { IfOk result (λ m. day_at (day_of m) ≡ ymd year (day_at (day_of self)).month (day_at (day_of self)).day) }
@@ -43,7 +44,7 @@ impl PlainDateTime {
     }
 
     /// The same day of the month and time in another month of the year, refused where that month does
-    /// not have it.
+    /// not have it, as `day`.
     pub fn replace_month(self, month: Month) -> Result<PlainDateTime, ComponentRange>
         ensures succeeds { IsOk result ↔ IsDay (day_at (day_of self)).year (month_number month) (day_at (day_of self)).day }
         ensures value { IfOk result (λ m. day_at (day_of m) ≡ ymd (day_at (day_of self)).year (month_number month) (day_at (day_of self)).day) }
@@ -53,7 +54,7 @@ impl PlainDateTime {
         Ok(self.replace_date(self.date().replace_month(month)?))
     }
 
-    /// The same time on another day of the month, refused where the month does not have it.
+    /// The same time on another day of the month, from 1, refused where the month does not have it.
     pub fn replace_day(self, day: u8) -> Result<PlainDateTime, ComponentRange>
         ensures succeeds { IsOk result ↔ IsDay (day_at (day_of self)).year (day_at (day_of self)).month day }
         ensures value { IfOk result (λ m. day_at (day_of m) ≡ ymd (day_at (day_of self)).year (day_at (day_of self)).month day) }

@@ -75,7 +75,8 @@ impl fmt::Display for Unfilled {
     }
 }
 
-/// The exact decimal of the seconds since 1970 began in UTC, with no zero at the end of a fraction.
+/// The exact decimal of the seconds since 1970 began in UTC, with no zero at the end of a fraction:
+/// `1546300800`, `-0.001`.
 impl fmt::Display for Timestamp {
     ghost use Rattle.std.specs.Prelude.{Some};
     ghost use Rattle.std.specs.Fmt.{styled_text};

@@ -17,7 +17,7 @@ use datetime_products::{
 };
 
 impl Timestamp {
-    /// The year.
+    /// The year, -999999 to 999999.
     #[inline(always)]
     pub fn year(self) -> i32
         ensures value { result ≡ (day_at (day_of self)).year }
@@ -107,7 +107,8 @@ impl Timestamp {
         place_of_count(self.count())
     }
 
-    /// The year and the week of ISO 8601, and the day of the week.
+    /// The year and the week of ISO 8601, and the day of the week. The year is that of the week's Thursday,
+    /// which may not be `year`.
     #[inline(always)]
     pub fn to_iso_week_date(self) -> (i32, u8, Weekday)
         ensures value { IsIsoDay result.0 result.1 (days_from_monday result.2) (day_of self) }
@@ -118,7 +119,7 @@ impl Timestamp {
         (year, week, self.weekday())
     }
 
-    /// The Julian day.
+    /// The Julian day of the date, which is 2,440,588 for all of 1970-01-01.
     #[inline(always)]
     pub fn to_julian_day(self) -> i32
         ensures value { result ≡ pos (day_of self) -ℤ pos julian_zero }
@@ -153,7 +154,7 @@ impl Timestamp {
         self.as_hms().2
     }
 
-    /// The whole milliseconds of the second.
+    /// The whole milliseconds of the second, below 1000.
     #[inline(always)]
     pub fn millisecond(self) -> u16
         ensures value { result ≡ millisecond_at (nanosecond_of self) }
@@ -162,7 +163,7 @@ impl Timestamp {
         (self.nanosecond() / 1_000_000) as u16
     }
 
-    /// The whole microseconds of the second.
+    /// The whole microseconds of the second, below 1,000,000.
     #[inline(always)]
     pub fn microsecond(self) -> u32
         ensures value { result ≡ microsecond_at (nanosecond_of self) }
@@ -171,7 +172,7 @@ impl Timestamp {
         self.nanosecond() / 1000
     }
 
-    /// The nanoseconds of the second.
+    /// The nanoseconds of the second, below 1,000,000,000.
     #[inline(always)]
     pub fn nanosecond(self) -> u32
         ensures value { result ≡ nanosecond_at (nanosecond_of self) }
