@@ -20,9 +20,10 @@ pub enum MomentCall {
 }
 
 /// What the call of the same name answers. A new moment is carried as its nanoseconds since 1970
-/// began in UTC.
+/// began in UTC, `None` where the calendar does not have it.
 #[derive(Clone, Copy, Debug, PartialEq, Eq)]
 pub enum MomentReply {
+    /// The nanoseconds since 1970 began in UTC.
     InstantNanos(i128),
     /// The year, the month and the day of the month.
     ToCalendarDate(i32, Month, u8),

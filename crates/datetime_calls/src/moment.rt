@@ -36,7 +36,7 @@ pub trait Moment: Copy {
         ensures ordinal { result.1 ≡ ordinal_at (day_of (instant self)) }
         ensures bound { IsYear result.0 × IsInRange 1 366 result.1 };
 
-    /// The year and the week of ISO 8601, and the day of the week.
+    /// The year and the week of ISO 8601, and the day of the week. The year is that of the week's Thursday.
     fn to_iso_week_date(self) -> (i32, u8, Weekday)
         ensures value { IsIsoDay result.0 result.1 (days_from_monday result.2) (day_of (instant self)) }
         ensures year { IsYear result.0 }
