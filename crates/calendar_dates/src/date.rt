@@ -18,8 +18,8 @@ use std::marker::Model;
 /// A day of the proleptic Gregorian calendar, as ISO 8601 counts its years: from -999999 to 999999,
 /// with a year 0.
 ///
-/// It is printed as ISO 8601 writes it, with a sign where the year is not 0 to 9999: `2024-06-19`,
-/// `-0044-03-15`, `+10000-01-01`.
+/// It is printed as `2024-06-19`, and with a sign before a year that is not 0 to 9999: `-0044-03-15`,
+/// `+10000-01-01`.
 ///
 /// A contract sees it as its count: the days from the first day to it.
 #[derive(Clone, Copy)]
