@@ -14,6 +14,8 @@ mod letters;
 #[cfg(test)]
 mod memory;
 #[cfg(test)]
+mod page;
+#[cfg(test)]
 mod support;
 #[cfg(test)]
 mod texts;

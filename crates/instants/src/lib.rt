@@ -1,5 +1,29 @@
-//! Lines with dates onto one timeline: each line of a stream is answered by a date-time of fixed width in one target
-//! offset, or by why it has none.
+//! Lines with dates onto one timeline: each is answered by a date-time of fixed width, or by why it has none.
+//!
+//! ```
+//! let sources = [SourceText::Rfc3339, SourceText::Strftime("%d/%m/%Y %R %z")];
+//! let timeline = Timeline::new(alloc, &sources, UtcOffset::UTC, None)?;
+//! let answer = timeline.answer_line(b"01/01/2021 22:04 -0500");
+//! assert!(rt; answer.as_bytes() == b"2021-01-02T03:04:00.000000000Z".as_slice());
+//! assert!(rt; timeline.place(b"yesterday") == Err(LineFault::Component("year")));
+//! ```
+//!
+//! Here `rt` is the runtime that `main` or a test is handed, and `alloc` its allocator. `UtcOffset` is that of the
+//! crate `calendar`; a target, and an offset that is assumed, has whole minutes, within 23:59.
+//!
+//! - `Timeline` holds sources, which are tried in order, the target offset, and the offset to assume for lines
+//!   without one. Of its calls `new` alone takes memory. A source that is no description is refused as `NewFault`,
+//!   with its place, counted from 1.
+//! - `Timeline::place` gives a line's moment at the target, or why it has none, a `LineFault`;
+//!   `Timeline::answer_line` gives the bytes of either.
+//! - `run` writes the answer to each line of a `ByteReader` to a `ByteWriter`. The first device that fails ends it,
+//!   as `RunFault`. `StdReader`, `StdWriter` and `BlockWriter` stand over devices of std, `CutReader` and `CutWriter`
+//!   over memory.
+//! - `read_words` reads the words of the program `instants`, and `run_words` is all that it does between its words
+//!   and its end. `ProgramFault` has the sentence and the status.
+//! - `rfc3339_line` writes a moment as a line. It asks for a year from 0 to 9999 and an offset of whole minutes
+//!   within 23:59, as `fits_line` tests.
+//! - `laws` has what follows from the contracts. A call of a law hands it to a proof.
 #![tactic(auto)]
 
 pub mod laws;

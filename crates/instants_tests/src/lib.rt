@@ -16,6 +16,8 @@ mod one_line;
 #[cfg(test)]
 mod ordered_lines;
 #[cfg(test)]
+mod page;
+#[cfg(test)]
 mod places;
 #[cfg(test)]
 mod single_words;

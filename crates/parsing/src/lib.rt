@@ -1,4 +1,27 @@
-//! Readings of texts to moments.
+//! Dates, times of day, offsets and moments, read from bytes by a description or a well-known format.
+//!
+//! ```
+//! let items = parse(alloc, "[day].[month].[year], [hour]:[minute]")?;
+//! let local = Items(&items).parse_plain_date_time(b"01.07.2003, 10:52", None)?;
+//! let moment = Rfc2822.parse_offset_date_time(b"Tue, 1 Jul 2003 10:52 +0200", None)?;
+//! assert!(rt; local.assume_offset(moment.offset()) == moment);
+//! assert!(rt; Rfc3339.parse_offset_date_time(b"2003-07-01", None).is_err());
+//! ```
+//!
+//! Here `rt` is the runtime that `main` or a test is handed, and `alloc` its allocator. `parse` is that of the crate
+//! `description`; it takes memory, and nothing of this crate does.
+//!
+//! - `Parsable` has the readings, of `Items`, which are a slice of items, of a tree of version 3, and of `Rfc2822`,
+//!   `Rfc3339` and `Iso8601`. `parse_date` to `parse_offset_date_time` read all of the bytes to one value;
+//!   `parse_into` reads their front into a record and leaves the rest.
+//! - The second argument is what is said beforehand: a `Parsed` with, say, the offset to assume, or `None`.
+//! - `Parsed` is the record of what was read, part by part. `Date`, `Time` and the others are made of it by
+//!   `try_from`.
+//! - What is refused is refused as `Parse`: the bytes can't be read (`ParseFromDescription`), or what they say names
+//!   no value (`TryFromParsed`). `Error` is any refusal of these crates but want of memory.
+//! - `Parsable::parse_into_counted` also counts the items that it tries. No bytes take more than `places_of_items` or
+//!   `places_of_description` says.
+//! - `laws` has what follows from the contracts. A call of a law hands it to a proof.
 #![tactic(auto)]
 
 mod error;

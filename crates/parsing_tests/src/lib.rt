@@ -18,6 +18,8 @@ mod laws;
 #[cfg(test)]
 mod moments;
 #[cfg(test)]
+mod page;
+#[cfg(test)]
 mod pieces;
 #[cfg(test)]
 mod readings;
