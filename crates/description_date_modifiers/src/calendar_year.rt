@@ -4,7 +4,8 @@ ghost use Rattle.description_date_modifiers.specs.declared.choices.Padding.TheVa
 
 use crate::choices::Padding;
 
-/// The year of the calendar, with up to six digits where it has a sign.
+/// The year of the calendar, within ±999999: four digits, or a sign and four to six. `[year range:extended]`, as
+/// which versions 1 and 2 read `[year]`.
 #[derive(Clone, Copy, Debug, PartialEq, Eq)]
 pub struct CalendarYearFullExtendedRange {
     /// How the number is filled up to its width.
@@ -43,7 +44,8 @@ impl CalendarYearFullExtendedRange {
     }
 }
 
-/// The year of the calendar, in four digits.
+/// The year of the calendar, within ±9999: four digits, or a sign and four. `[year range:standard]`, as which version
+/// 3 reads `[year]`.
 #[derive(Clone, Copy, Debug, PartialEq, Eq)]
 pub struct CalendarYearFullStandardRange {
     /// How the number is filled up to its width.
@@ -82,7 +84,8 @@ impl CalendarYearFullStandardRange {
     }
 }
 
-/// The year of the calendar without its last two digits, with up to four digits where it has a sign.
+/// The year of the calendar without its last two digits, within ±9999: at most two digits, or a sign and two to four.
+/// `[year repr:century range:extended]`.
 #[derive(Clone, Copy, Debug, PartialEq, Eq)]
 pub struct CalendarYearCenturyExtendedRange {
     /// How the number is filled up to its width.
@@ -121,7 +124,8 @@ impl CalendarYearCenturyExtendedRange {
     }
 }
 
-/// The year of the calendar without its last two digits, in two digits.
+/// The year of the calendar without its last two digits, within ±99: at most two digits, or a sign and two.
+/// `[year repr:century range:standard]`.
 #[derive(Clone, Copy, Debug, PartialEq, Eq)]
 pub struct CalendarYearCenturyStandardRange {
     /// How the number is filled up to its width.
@@ -160,7 +164,7 @@ impl CalendarYearCenturyStandardRange {
     }
 }
 
-/// The last two digits of the year of the calendar.
+/// The last two digits of the year of the calendar: `[year repr:last_two]`.
 #[derive(Clone, Copy, Debug, PartialEq, Eq)]
 pub struct CalendarYearLastTwo {
     /// How the number is filled up to its width.

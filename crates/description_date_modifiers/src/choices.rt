@@ -7,14 +7,14 @@ ghost use Rattle.description_date_modifiers.specs.declared.choices.WeekNumberRep
 ghost use Rattle.description_date_modifiers.specs.declared.choices.YearRepr.TheVariants as YearRepr;
 ghost use Rattle.description_date_modifiers.specs.declared.choices.YearRange.TheVariants as YearRange;
 
-/// How a number is filled up to its width.
+/// How a number is filled up to its width: `padding:space`, `padding:zero` (the default) or `padding:none`.
 #[derive(Clone, Copy, Debug, PartialEq, Eq)]
 pub enum Padding {
-    /// With spaces before it.
+    /// With spaces before it; at least one digit is left.
     Space,
     /// With zeros before it.
     Zero,
-    /// Not at all.
+    /// Not at all: one digit or more, up to its width.
     None,
 }
 
@@ -26,7 +26,7 @@ impl Default for Padding {
     }
 }
 
-/// How a month is written.
+/// How a month is written: `repr:numerical` (the default), `repr:long` or `repr:short`.
 #[derive(Clone, Copy, Debug, PartialEq, Eq)]
 pub enum MonthRepr {
     /// By its number, January being 1.
@@ -45,7 +45,7 @@ impl Default for MonthRepr {
     }
 }
 
-/// How a weekday is written.
+/// How a weekday is written: `repr:short`, `repr:long` (the default), `repr:sunday` or `repr:monday`.
 #[derive(Clone, Copy, Debug, PartialEq, Eq)]
 pub enum WeekdayRepr {
     /// By the first three letters of its English name.
@@ -66,7 +66,7 @@ impl Default for WeekdayRepr {
     }
 }
 
-/// Which weeks are counted.
+/// Which weeks are counted: `repr:iso` (the default), `repr:sunday` or `repr:monday`.
 #[derive(Clone, Copy, Debug, PartialEq, Eq)]
 pub enum WeekNumberRepr {
     /// Those of ISO 8601: from Monday on, in the year of their Thursday.
@@ -85,7 +85,7 @@ impl Default for WeekNumberRepr {
     }
 }
 
-/// Which part of a year is written.
+/// Which part of a year is written: `repr:full` (the default), `repr:century` or `repr:last_two`.
 #[derive(Clone, Copy, Debug, PartialEq, Eq)]
 pub enum YearRepr {
     /// All of it.
@@ -104,12 +104,13 @@ impl Default for YearRepr {
     }
 }
 
-/// How far the years of a description go.
+/// How far the years of a description go: `range:standard`, the default in version 3, or `range:extended`, the
+/// default in versions 1 and 2 and of this type.
 #[derive(Clone, Copy, Debug, PartialEq, Eq)]
 pub enum YearRange {
-    /// Years of four digits, within ±9999.
+    /// Years of four digits, within ±9999, and centuries within ±99.
     Standard,
-    /// Years of up to six digits, within ±999999.
+    /// Years of up to six digits behind a sign, within ±999999, and centuries within ±9999.
     Extended,
 }
 

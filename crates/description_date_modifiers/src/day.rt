@@ -4,7 +4,7 @@ ghost use Rattle.description_date_modifiers.specs.declared.choices.Padding.TheVa
 
 use crate::choices::Padding;
 
-/// The day of the month.
+/// The day of the month, 1 to 31, two digits wide: `[day]`.
 #[derive(Clone, Copy, Debug, PartialEq, Eq)]
 pub struct Day {
     /// How the number is filled up to its width.
@@ -30,7 +30,7 @@ impl Day {
     }
 }
 
-/// The day of the year, from 1.
+/// The day of the year, 1 to 366, three digits wide: `[ordinal]`.
 #[derive(Clone, Copy, Debug, PartialEq, Eq)]
 pub struct Ordinal {
     /// How the number is filled up to its width.

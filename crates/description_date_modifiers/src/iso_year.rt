@@ -4,7 +4,8 @@ ghost use Rattle.description_date_modifiers.specs.declared.choices.Padding.TheVa
 
 use crate::choices::Padding;
 
-/// The year of the ISO 8601 week, with up to six digits where it has a sign.
+/// The year of the ISO 8601 week, within ±999999: four digits, or a sign and four to six.
+/// `[year base:iso_week range:extended]`.
 #[derive(Clone, Copy, Debug, PartialEq, Eq)]
 pub struct IsoYearFullExtendedRange {
     /// How the number is filled up to its width.
@@ -43,7 +44,8 @@ impl IsoYearFullExtendedRange {
     }
 }
 
-/// The year of the ISO 8601 week, in four digits.
+/// The year of the ISO 8601 week, within ±9999: four digits, or a sign and four.
+/// `[year base:iso_week range:standard]`.
 #[derive(Clone, Copy, Debug, PartialEq, Eq)]
 pub struct IsoYearFullStandardRange {
     /// How the number is filled up to its width.
@@ -82,7 +84,8 @@ impl IsoYearFullStandardRange {
     }
 }
 
-/// The year of the ISO 8601 week without its last two digits, with up to four digits where it has a sign.
+/// The year of the ISO 8601 week without its last two digits, within ±9999: at most two digits, or a sign and two to
+/// four. `[year base:iso_week repr:century range:extended]`.
 #[derive(Clone, Copy, Debug, PartialEq, Eq)]
 pub struct IsoYearCenturyExtendedRange {
     /// How the number is filled up to its width.
@@ -121,7 +124,8 @@ impl IsoYearCenturyExtendedRange {
     }
 }
 
-/// The year of the ISO 8601 week without its last two digits, in two digits.
+/// The year of the ISO 8601 week without its last two digits, within ±99: at most two digits, or a sign and two.
+/// `[year base:iso_week repr:century range:standard]`.
 #[derive(Clone, Copy, Debug, PartialEq, Eq)]
 pub struct IsoYearCenturyStandardRange {
     /// How the number is filled up to its width.
@@ -160,7 +164,7 @@ impl IsoYearCenturyStandardRange {
     }
 }
 
-/// The last two digits of the year of the ISO 8601 week.
+/// The last two digits of the year of the ISO 8601 week: `[year base:iso_week repr:last_two]`.
 #[derive(Clone, Copy, Debug, PartialEq, Eq)]
 pub struct IsoYearLastTwo {
     /// How the number is filled up to its width.

@@ -5,7 +5,7 @@ ghost use Rattle.description_date_modifiers.specs.declared.choices.Padding.TheVa
 
 use crate::choices::{MonthRepr, Padding};
 
-/// A month by the first three letters of its English name.
+/// A month by the first three letters of its English name: `[month repr:short]`.
 #[derive(Clone, Copy, Debug, PartialEq, Eq)]
 pub struct MonthShort {
     /// Whether reading tells capitals from small letters.
@@ -31,7 +31,7 @@ impl MonthShort {
     }
 }
 
-/// A month by its English name.
+/// A month by its English name: `[month repr:long]`.
 #[derive(Clone, Copy, Debug, PartialEq, Eq)]
 pub struct MonthLong {
     /// Whether reading tells capitals from small letters.
@@ -57,7 +57,7 @@ impl MonthLong {
     }
 }
 
-/// A month by its number.
+/// A month by its number, 1 to 12, two digits wide: `[month]`.
 #[derive(Clone, Copy, Debug, PartialEq, Eq)]
 pub struct MonthNumerical {
     /// How the number is filled up to its width.

@@ -5,7 +5,7 @@ ghost use Rattle.description_date_modifiers.specs.declared.choices.WeekNumberRep
 
 use crate::choices::{Padding, WeekNumberRepr};
 
-/// The week of ISO 8601, section 4.3.2.
+/// The week of ISO 8601, 1 to 53, two digits wide: `[week_number]`. Week 1 is the one with the year's first Thursday.
 #[derive(Clone, Copy, Debug, PartialEq, Eq)]
 pub struct WeekNumberIso {
     /// How the number is filled up to its width.
@@ -31,7 +31,8 @@ impl WeekNumberIso {
     }
 }
 
-/// How many Sundays the year has had.
+/// How many Sundays the year has had, up to and including the day, 0 to 53, two digits wide:
+/// `[week_number repr:sunday]`.
 #[derive(Clone, Copy, Debug, PartialEq, Eq)]
 pub struct WeekNumberSunday {
     /// How the number is filled up to its width.
@@ -57,7 +58,8 @@ impl WeekNumberSunday {
     }
 }
 
-/// How many Mondays the year has had.
+/// How many Mondays the year has had, up to and including the day, 0 to 53, two digits wide:
+/// `[week_number repr:monday]`.
 #[derive(Clone, Copy, Debug, PartialEq, Eq)]
 pub struct WeekNumberMonday {
     /// How the number is filled up to its width.

@@ -4,7 +4,7 @@ ghost use Rattle.description_date_modifiers.specs.declared.choices.WeekdayRepr.T
 
 use crate::choices::WeekdayRepr;
 
-/// A weekday by the first three letters of its English name.
+/// A weekday by the first three letters of its English name: `[weekday repr:short]`.
 #[derive(Clone, Copy, Debug, PartialEq, Eq)]
 pub struct WeekdayShort {
     /// Whether reading tells capitals from small letters.
@@ -30,7 +30,7 @@ impl WeekdayShort {
     }
 }
 
-/// A weekday by its English name.
+/// A weekday by its English name: `[weekday]`.
 #[derive(Clone, Copy, Debug, PartialEq, Eq)]
 pub struct WeekdayLong {
     /// Whether reading tells capitals from small letters.
@@ -56,7 +56,7 @@ impl WeekdayLong {
     }
 }
 
-/// A weekday by its number, counted from Sunday.
+/// A weekday by its number, one digit, counted from Sunday: `[weekday repr:sunday]`. From 1 to 7, or from 0 to 6.
 #[derive(Clone, Copy, Debug, PartialEq, Eq)]
 pub struct WeekdaySunday {
     /// Whether the first day of the week is 1, not 0.
@@ -80,7 +80,7 @@ impl WeekdaySunday {
     }
 }
 
-/// A weekday by its number, counted from Monday.
+/// A weekday by its number, one digit, counted from Monday: `[weekday repr:monday]`. From 1 to 7, or from 0 to 6.
 #[derive(Clone, Copy, Debug, PartialEq, Eq)]
 pub struct WeekdayMonday {
     /// Whether the first day of the week is 1, not 0.

@@ -14,7 +14,7 @@ pub struct Year {
     pub padding: Padding,
     /// Which part of the year is written.
     pub repr: YearRepr,
-    /// How far the years go.
+    /// How far the years go. The last two digits have no range.
     pub range: YearRange,
     /// Whether it is the year of the ISO 8601 week.
     pub iso_week_based: bool,

@@ -4,7 +4,7 @@ ghost use Rattle.description_time_modifiers.specs.declared.choices.SubsecondDigi
 ghost use Rattle.description_time_modifiers.specs.declared.choices.UnixTimestampPrecision.TheVariants as UnixTimestampPrecision;
 ghost use Rattle.description_time_modifiers.specs.declared.choices.TrailingInput.TheVariants as TrailingInput;
 
-/// How many digits a fraction of a second has.
+/// How many digits a fraction of a second has: `digits:1` to `digits:9`, or `digits:1+` (the default).
 #[derive(Clone, Copy, Debug, PartialEq, Eq)]
 pub enum SubsecondDigits {
     /// One digit.
@@ -25,7 +25,7 @@ pub enum SubsecondDigits {
     Eight,
     /// Nine digits.
     Nine,
-    /// As many as it needs, one at least.
+    /// As many as it needs, one at least. Reading takes up to 32.
     OneOrMore,
 }
 
@@ -37,7 +37,8 @@ impl Default for SubsecondDigits {
     }
 }
 
-/// The unit of a Unix timestamp.
+/// The unit of a Unix timestamp: `precision:second` (the default), `precision:millisecond`, `precision:microsecond`
+/// or `precision:nanosecond`.
 #[derive(Clone, Copy, Debug, PartialEq, Eq)]
 pub enum UnixTimestampPrecision {
     /// Seconds.
@@ -58,10 +59,11 @@ impl Default for UnixTimestampPrecision {
     }
 }
 
-/// What becomes of the text that follows the end of a description.
+/// What becomes of the text that follows the end of a description: `trailing_input:prohibit` (the default) or
+/// `trailing_input:discard`.
 #[derive(Clone, Copy, Debug, PartialEq, Eq)]
 pub enum TrailingInput {
-    /// It is refused.
+    /// It is refused, as unexpected trailing characters.
     Prohibit,
     /// It is dropped.
     Discard,

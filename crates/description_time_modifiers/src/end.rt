@@ -4,7 +4,7 @@ ghost use Rattle.description_time_modifiers.specs.declared.choices.TrailingInput
 
 use crate::choices::TrailingInput;
 
-/// The end of the text.
+/// The end of the text: `[end]`.
 #[derive(Clone, Copy, Debug, PartialEq, Eq)]
 pub struct End {
     /// What becomes of text that follows.

@@ -4,7 +4,7 @@ ghost use Rattle.description_date_modifiers.specs.declared.choices.Padding.TheVa
 
 use description_date_modifiers::Padding;
 
-/// The hour on a clock of 12 hours.
+/// The hour on a clock of 12 hours, 1 to 12, two digits wide: `[hour repr:12]`.
 #[derive(Clone, Copy, Debug, PartialEq, Eq)]
 pub struct Hour12 {
     /// How the number is filled up to its width.
@@ -30,7 +30,7 @@ impl Hour12 {
     }
 }
 
-/// The hour on a clock of 24 hours.
+/// The hour on a clock of 24 hours, 0 to 23, two digits wide: `[hour]`.
 #[derive(Clone, Copy, Debug, PartialEq, Eq)]
 pub struct Hour24 {
     /// How the number is filled up to its width.
@@ -95,12 +95,12 @@ impl Hour {
     }
 }
 
-/// The half of the day, `AM` or `PM`.
+/// The half of the day, `AM` or `PM`: `[period]`, or `[period case:lower]` for `am` or `pm`.
 #[derive(Clone, Copy, Debug, PartialEq, Eq)]
 pub struct Period {
     /// Whether it is written in capitals.
     pub is_uppercase: bool,
-    /// Whether reading tells capitals from small letters.
+    /// Whether reading tells capitals from small letters. It does so only where capitals are written.
     pub case_sensitive: bool,
 }
 

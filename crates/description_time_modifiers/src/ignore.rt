@@ -1,7 +1,8 @@
 //! What a description passes over.
 ghost use Rattle.std.specs.Prelude.{◌≡◌, ◌<◌, IfSome};
 
-/// A number of bytes that are passed over unread, at least one.
+/// A number of bytes that are passed over unread, at least one: `[ignore count:3]`. In version 3 they end where a
+/// character of UTF-8 does.
 #[derive(Clone, Copy, Debug, PartialEq, Eq)]
 pub struct Ignore {
     /// The number of bytes.
@@ -12,7 +13,7 @@ pub struct Ignore {
 impl Ignore {
     ghost use Rattle.description_time_modifiers.specs.Ignored.{ignored};
 
-    /// So many bytes, unless that is none.
+    /// So many bytes, or `None` where that is 0.
     pub fn count(count: u16) -> Option<Ignore>
         ensures value { result ≡ ignored count }
         ensures some { IfSome result (λ made. 0 < made.count) }
@@ -24,7 +25,7 @@ impl Ignore {
         }
     }
 
-    /// The same with so many bytes, unless that is none.
+    /// The same with so many bytes, or `None` where that is 0.
     pub fn with_count(self, count: u16) -> Option<Ignore>
         ensures value { result ≡ ignored count }
         ensures some { IfSome result (λ made. 0 < made.count) }

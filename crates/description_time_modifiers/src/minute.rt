@@ -6,7 +6,7 @@ ghost use Rattle.description_time_modifiers.specs.declared.choices.SubsecondDigi
 use crate::choices::SubsecondDigits;
 use description_date_modifiers::Padding;
 
-/// The minute of the hour.
+/// The minute of the hour, 0 to 59, two digits wide: `[minute]`.
 #[derive(Clone, Copy, Debug, PartialEq, Eq)]
 pub struct Minute {
     /// How the number is filled up to its width.
@@ -32,7 +32,8 @@ impl Minute {
     }
 }
 
-/// The second of the minute.
+/// The second of the minute, 0 to 60, two digits wide: `[second]`. Of 60 a value is made only where the record
+/// permits a leap second.
 #[derive(Clone, Copy, Debug, PartialEq, Eq)]
 pub struct Second {
     /// How the number is filled up to its width.
@@ -58,7 +59,7 @@ impl Second {
     }
 }
 
-/// The fraction of the second.
+/// The fraction of the second, without its point: `[subsecond]`. Digits behind the ninth are cut off.
 #[derive(Clone, Copy, Debug, PartialEq, Eq)]
 pub struct Subsecond {
     /// How many digits are written.

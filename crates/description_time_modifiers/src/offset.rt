@@ -4,7 +4,7 @@ ghost use Rattle.description_date_modifiers.specs.declared.choices.Padding.TheVa
 
 use description_date_modifiers::Padding;
 
-/// The whole hours of the offset, with its sign.
+/// The whole hours of the offset, 0 to 25, two digits wide, behind its sign: `[offset_hour]`.
 #[derive(Clone, Copy, Debug, PartialEq, Eq)]
 pub struct OffsetHour {
     /// Whether the sign must be written.
@@ -43,7 +43,8 @@ impl OffsetHour {
     }
 }
 
-/// The minutes of the offset past the hour.
+/// The minutes of the offset past the hour, 0 to 59, two digits wide: `[offset_minute]`. They have the sign of the
+/// hours.
 #[derive(Clone, Copy, Debug, PartialEq, Eq)]
 pub struct OffsetMinute {
     /// How the number is filled up to its width.
@@ -69,7 +70,8 @@ impl OffsetMinute {
     }
 }
 
-/// The seconds of the offset past the minute.
+/// The seconds of the offset past the minute, 0 to 59, two digits wide: `[offset_second]`. They have the sign of the
+/// hours.
 #[derive(Clone, Copy, Debug, PartialEq, Eq)]
 pub struct OffsetSecond {
     /// How the number is filled up to its width.

@@ -4,7 +4,7 @@ ghost use Rattle.description_time_modifiers.specs.declared.choices.UnixTimestamp
 
 use crate::choices::UnixTimestampPrecision;
 
-/// The seconds since 1970 began.
+/// The seconds since 1970 began in UTC, negative before, in at most 14 digits: `[unix_timestamp]`.
 #[derive(Clone, Copy, Debug, PartialEq, Eq)]
 pub struct UnixTimestampSecond {
     /// Whether the sign must be written.
@@ -30,7 +30,8 @@ impl UnixTimestampSecond {
     }
 }
 
-/// The milliseconds since 1970 began.
+/// The milliseconds since 1970 began in UTC, negative before, in at most 17 digits:
+/// `[unix_timestamp precision:millisecond]`.
 #[derive(Clone, Copy, Debug, PartialEq, Eq)]
 pub struct UnixTimestampMillisecond {
     /// Whether the sign must be written.
@@ -56,7 +57,8 @@ impl UnixTimestampMillisecond {
     }
 }
 
-/// The microseconds since 1970 began.
+/// The microseconds since 1970 began in UTC, negative before, in at most 20 digits:
+/// `[unix_timestamp precision:microsecond]`.
 #[derive(Clone, Copy, Debug, PartialEq, Eq)]
 pub struct UnixTimestampMicrosecond {
     /// Whether the sign must be written.
@@ -82,7 +84,8 @@ impl UnixTimestampMicrosecond {
     }
 }
 
-/// The nanoseconds since 1970 began.
+/// The nanoseconds since 1970 began in UTC, negative before, in at most 23 digits:
+/// `[unix_timestamp precision:nanosecond]`.
 #[derive(Clone, Copy, Debug, PartialEq, Eq)]
 pub struct UnixTimestampNanosecond {
     /// Whether the sign must be written.
