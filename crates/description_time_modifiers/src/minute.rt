@@ -32,8 +32,8 @@ impl Minute {
     }
 }
 
-/// The second of the minute, 0 to 60, two digits wide: `[second]`. Of 60 a value is made only where the record
-/// permits a leap second.
+/// The second of the minute, 0 to 60, two digits wide: `[second]`. Of 60 a moment is made only where the record
+/// permits a leap second, and a time of day never.
 #[derive(Clone, Copy, Debug, PartialEq, Eq)]
 pub struct Second {
     /// How the number is filled up to its width.

@@ -83,7 +83,8 @@ fn date_without_month(
     date_of_week(kind, year, rest)
 }
 
-/// The date behind its year.
+/// The date behind its year: a month and a day of it, a day of the year, or a week and a day of it. ISO 8601-1:2019,
+/// section 5.2.
 #[tactic(auto, unfolding(crate::specs::Dates::date_behind, crate::specs::Dates::date_of_month))]
 #[inline(always)]
 pub fn date_behind(
@@ -106,7 +107,7 @@ pub fn date_behind(
     }
 }
 
-/// The year, and the kind of what follows.
+/// The year, and the kind of what follows: extended behind a hyphen.
 #[tactic(auto, unfolding(crate::specs::Dates::year_and_kind))]
 #[inline(always)]
 pub fn year_and_kind(bytes: &[u8]) -> Result<((i32, Kind), &[u8]), ParseFromDescription>

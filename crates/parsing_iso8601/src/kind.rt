@@ -9,8 +9,11 @@ use parsing_pieces::{ParseFromDescription, byte};
 /// How a text separates its numbers: the basic kind by nothing, the extended kind by hyphens and colons.
 #[derive(Clone, Copy, Debug, PartialEq, Eq)]
 pub enum Kind {
+    /// Not known yet: nothing has separated two numbers.
     Unknown,
+    /// As `20030701T105237`.
     Basic,
+    /// As `2003-07-01T10:52:37`.
     Extended,
 }
 
@@ -26,7 +29,8 @@ pub fn kind_of_date(bytes: &[u8]) -> (Kind, &[u8])
     }
 }
 
-/// Past the hyphen between two numbers of a date.
+/// Past the hyphen between two numbers of a date, which the extended kind alone has: `InvalidLiteral` where it is not
+/// there.
 #[inline(always)]
 pub fn dash(kind: Kind, bytes: &[u8]) -> Result<&[u8], ParseFromDescription>
     ensures { Gives (λ rest. (tt, rest.now)) reading_fault result (Kinds.dash kind bytes.now) }

@@ -103,7 +103,7 @@ pub fn offset_parts(written: &Written) -> OffsetParts
     }
 }
 
-/// The day that a date names.
+/// The day that a date names, or the first of its numbers that is out of range.
 #[inline(always)]
 pub fn day_named(date: WrittenDate) -> Result<Date, ComponentRange>
     ensures { result ≡ day_named date }

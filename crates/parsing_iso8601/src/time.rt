@@ -226,7 +226,8 @@ fn designator(behind_date: bool, bytes: &[u8]) -> Option<&[u8]>
     }
 }
 
-/// The time of day at the front of the bytes, and the kind that it hands on.
+/// The time of day at the front of the bytes, and the kind that it hands on: ISO 8601-1:2019, section 5.3. Its `T`
+/// may be missing where no date stands before it. There is no hour 24.
 #[tactic(auto, unfolding(crate::specs::Times::time))]
 #[inline(always)]
 pub fn time(kind: Kind, behind_date: bool, bytes: &[u8]) -> Option<((WrittenTime, Kind), &[u8])>

@@ -13,7 +13,7 @@ pub enum WrittenDate {
     OfWeek(i32, u8, Weekday),
 }
 
-/// A time of day: what isn't written is 0.
+/// A time of day: what isn't written is 0. Fractions of hours and minutes are split into the finer numbers.
 #[derive(Clone, Copy, Debug, PartialEq, Eq)]
 pub struct WrittenTime {
     pub hour: u8,
@@ -33,7 +33,7 @@ pub struct WrittenOffset {
     pub second: Option<i8>,
 }
 
-/// The parts that a text has.
+/// The parts that a text has, one at least.
 #[derive(Clone, Copy, Debug, PartialEq, Eq)]
 pub struct Written {
     pub date: Option<WrittenDate>,

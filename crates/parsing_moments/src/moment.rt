@@ -11,7 +11,7 @@ use parsing_dates::DateParts;
 use parsing_pieces::TryFromParsed;
 use parsing_resolution::leap_checked;
 
-/// The date and the time of day that the parts name.
+/// The date and the time of day that the parts name. The date's refusal comes first.
 #[tactic(auto, unfolding(crate::specs::NamedMoment::named_wall))]
 pub fn plain_date_time(
     leap_second_is_permitted: bool,

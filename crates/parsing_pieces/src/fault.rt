@@ -5,12 +5,13 @@ use calendar_count::ComponentRange;
 use std::fmt;
 use variants::DifferentVariant;
 
-/// Bytes that can't be read.
+/// Bytes that can't be read. `Display` of this and of the other refusals is a sentence.
 #[derive(Clone, Copy, Debug, PartialEq, Eq)]
 pub enum ParseFromDescription {
     /// A text that is due is not there.
     InvalidLiteral,
-    /// The component of this name can't be read.
+    /// The component of this name can't be read: it is not there, or its number is out of range. The name is in small
+    /// letters, as `offset hour`.
     InvalidComponent(&'static str),
     /// Something follows what was read.
     UnexpectedTrailingCharacters,
@@ -19,9 +20,9 @@ pub enum ParseFromDescription {
 /// What was read names no value.
 #[derive(Clone, Copy, Debug, PartialEq, Eq)]
 pub enum TryFromParsed {
-    /// It says too little.
+    /// It says too little: no group of components that would name the value is wholly there.
     InsufficientInformation,
-    /// A component of it is out of range.
+    /// A component of it is out of range, alone or beside the others.
     ComponentRange(ComponentRange),
 }
 

@@ -83,7 +83,9 @@ impl Parsed {
 }
 
 impl Parsed {
-    /// The moment that the record names, as `OffsetDateTime::try_from` gives it, without a copy of the record.
+    /// The moment that the record names, as `OffsetDateTime::try_from` gives it, without a copy of the record: that
+    /// of the Unix time, at offset zero, or of a date, a time of day and an offset. Refused are, in this order, a
+    /// date, a time or an offset that is not there or out of range, and a leap second that can be none.
     #[inline(always)]
     pub fn offset_date_time(&self) -> Result<OffsetDateTime, TryFromParsed>
         ensures { Gives (λ value. value) resolution_fault result (named_moment (moment_parts self.now) (offset_parts self.now)) }

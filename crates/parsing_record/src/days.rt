@@ -16,7 +16,7 @@ impl Parsed {
         self.fields.month
     }
 
-    /// Sets the month.
+    /// Sets the month. Never `None`.
     pub fn set_month(&mut self, value: Month) -> Option<()>
         ensures always { result ≡ Some tt }
         ensures set { self.new ≡ record self.old { month = Some value } }
@@ -25,7 +25,7 @@ impl Parsed {
         Some(())
     }
 
-    /// The record with the month.
+    /// The record with the month. Never `None`.
     pub fn with_month(mut self, value: Month) -> Option<Self>
         ensures { result ≡ Some (record self { month = Some value }) }
     {
@@ -33,7 +33,7 @@ impl Parsed {
         Some(self)
     }
 
-    /// The week, counted from the year's first Sunday.
+    /// The week, counted from the year's first Sunday, 0 to 53. The days before that Sunday are in week 0.
     pub fn sunday_week_number(&self) -> Option<u8>
         ensures value { result ≡ self.now.sunday_week_number }
         ensures bound { InRange 0 53 result }
@@ -41,7 +41,7 @@ impl Parsed {
         self.fields.sunday_week_number
     }
 
-    /// Sets the week, counted from the year's first Sunday, if it is in its range.
+    /// Sets the week, counted from the year's first Sunday. `None` where it is not 0 to 53, and then nothing changes.
     pub fn set_sunday_week_number(&mut self, value: u8) -> Option<()>
         ensures { (result, self.new) ≡ set_if (is_in_range 0 53 value) self.old (record self.old { sunday_week_number = Some value }) }
     {
@@ -52,7 +52,7 @@ impl Parsed {
         Some(())
     }
 
-    /// The record with the week, counted from the year's first Sunday, if it is in its range.
+    /// The record with the week, counted from the year's first Sunday. `None` where it is not 0 to 53.
     pub fn with_sunday_week_number(mut self, value: u8) -> Option<Self>
         ensures { result ≡ with_if (is_in_range 0 53 value) (record self { sunday_week_number = Some value }) }
     {
@@ -60,7 +60,7 @@ impl Parsed {
         Some(self)
     }
 
-    /// The week, counted from the year's first Monday.
+    /// The week, counted from the year's first Monday, 0 to 53. The days before that Monday are in week 0.
     pub fn monday_week_number(&self) -> Option<u8>
         ensures value { result ≡ self.now.monday_week_number }
         ensures bound { InRange 0 53 result }
@@ -68,7 +68,7 @@ impl Parsed {
         self.fields.monday_week_number
     }
 
-    /// Sets the week, counted from the year's first Monday, if it is in its range.
+    /// Sets the week, counted from the year's first Monday. `None` where it is not 0 to 53, and then nothing changes.
     pub fn set_monday_week_number(&mut self, value: u8) -> Option<()>
         ensures { (result, self.new) ≡ set_if (is_in_range 0 53 value) self.old (record self.old { monday_week_number = Some value }) }
     {
@@ -79,7 +79,7 @@ impl Parsed {
         Some(())
     }
 
-    /// The record with the week, counted from the year's first Monday, if it is in its range.
+    /// The record with the week, counted from the year's first Monday. `None` where it is not 0 to 53.
     pub fn with_monday_week_number(mut self, value: u8) -> Option<Self>
         ensures { result ≡ with_if (is_in_range 0 53 value) (record self { monday_week_number = Some value }) }
     {
@@ -87,7 +87,7 @@ impl Parsed {
         Some(self)
     }
 
-    /// The week of ISO 8601.
+    /// The week of ISO 8601, 1 to 53, in the year that `iso_year` has.
     pub fn iso_week_number(&self) -> Option<u8>
         ensures value { result ≡ self.now.iso_week_number }
         ensures bound { InRange 1 53 result }
@@ -95,7 +95,7 @@ impl Parsed {
         self.fields.iso_week_number
     }
 
-    /// Sets the week of ISO 8601, if it is in its range.
+    /// Sets the week of ISO 8601. `None` where it is not 1 to 53, and then nothing changes.
     pub fn set_iso_week_number(&mut self, value: u8) -> Option<()>
         ensures { (result, self.new) ≡ set_if (is_in_range 1 53 value) self.old (record self.old { iso_week_number = Some value }) }
     {
@@ -106,7 +106,7 @@ impl Parsed {
         Some(())
     }
 
-    /// The record with the week of ISO 8601, if it is in its range.
+    /// The record with the week of ISO 8601. `None` where it is not 1 to 53.
     pub fn with_iso_week_number(mut self, value: u8) -> Option<Self>
         ensures { result ≡ with_if (is_in_range 1 53 value) (record self { iso_week_number = Some value }) }
     {
@@ -121,7 +121,7 @@ impl Parsed {
         self.fields.weekday
     }
 
-    /// Sets the weekday.
+    /// Sets the weekday. Never `None`.
     pub fn set_weekday(&mut self, value: Weekday) -> Option<()>
         ensures always { result ≡ Some tt }
         ensures set { self.new ≡ record self.old { weekday = Some value } }
@@ -130,7 +130,7 @@ impl Parsed {
         Some(())
     }
 
-    /// The record with the weekday.
+    /// The record with the weekday. Never `None`.
     pub fn with_weekday(mut self, value: Weekday) -> Option<Self>
         ensures { result ≡ Some (record self { weekday = Some value }) }
     {
@@ -138,7 +138,7 @@ impl Parsed {
         Some(self)
     }
 
-    /// The day of the year.
+    /// The day of the year, 1 to 366.
     pub fn ordinal(&self) -> Option<u16>
         ensures value { result ≡ self.now.ordinal }
         ensures bound { InRange 1 366 result }
@@ -146,7 +146,7 @@ impl Parsed {
         self.fields.ordinal
     }
 
-    /// Sets the day of the year, if it is in its range.
+    /// Sets the day of the year. `None` where it is not 1 to 366, and then nothing changes.
     pub fn set_ordinal(&mut self, value: u16) -> Option<()>
         ensures { (result, self.new) ≡ set_if (is_in_range 1 366 value) self.old (record self.old { ordinal = Some value }) }
     {
@@ -157,7 +157,7 @@ impl Parsed {
         Some(())
     }
 
-    /// The record with the day of the year, if it is in its range.
+    /// The record with the day of the year. `None` where it is not 1 to 366.
     pub fn with_ordinal(mut self, value: u16) -> Option<Self>
         ensures { result ≡ with_if (is_in_range 1 366 value) (record self { ordinal = Some value }) }
     {
@@ -165,7 +165,7 @@ impl Parsed {
         Some(self)
     }
 
-    /// The day of the month.
+    /// The day of the month, 1 to 31.
     pub fn day(&self) -> Option<u8>
         ensures value { result ≡ self.now.day }
         ensures bound { InRange 1 31 result }
@@ -173,7 +173,7 @@ impl Parsed {
         self.fields.day
     }
 
-    /// Sets the day of the month, if it is in its range.
+    /// Sets the day of the month. `None` where it is not 1 to 31, and then nothing changes.
     pub fn set_day(&mut self, value: u8) -> Option<()>
         ensures { (result, self.new) ≡ set_if (is_in_range 1 31 value) self.old (record self.old { day = Some value }) }
     {
@@ -184,7 +184,7 @@ impl Parsed {
         Some(())
     }
 
-    /// The record with the day of the month, if it is in its range.
+    /// The record with the day of the month. `None` where it is not 1 to 31.
     pub fn with_day(mut self, value: u8) -> Option<Self>
         ensures { result ≡ with_if (is_in_range 1 31 value) (record self { day = Some value }) }
     {

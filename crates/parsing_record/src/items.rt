@@ -14,7 +14,7 @@ use parsing_components::{read_component, read_component_v3, read_usual};
 use parsing_pieces::ParseFromDescription;
 
 impl Parsed {
-    /// The bytes after the literal, which have to begin with it.
+    /// The bytes after the literal, which have to begin with it: `InvalidLiteral` where they do not.
     #[inline(always)]
     #[tactic(auto, unfolding(crate::specs::Meaning::literally))]
     pub fn parse_literal<'a>(
@@ -30,6 +30,10 @@ impl Parsed {
     }
 
     /// Reads the component at the front of the bytes into the record, and returns the bytes after it.
+    ///
+    /// The longest front of its shape is read. `InvalidComponent` where there is none or its number is out of range;
+    /// an `End` that prohibits trailing input refuses it as `UnexpectedTrailingCharacters`. A refusal changes
+    /// nothing.
     #[inline(always)]
     pub fn parse_component<'a>(
         &mut self,
@@ -55,7 +59,11 @@ impl Parsed {
         read_component_v3(component, input, &mut self.fields)
     }
 
-    /// Reads by the item at the front of the bytes into the record, and returns the bytes after what was read.
+    /// Reads by the item at the front of the bytes into the record, and returns the bytes after what was read. A
+    /// refusal changes nothing.
+    ///
+    /// Where an optional item can't be read nothing is read. Of alternatives the first that can be read counts, and
+    /// where none can the fault is that of the first.
     pub fn parse_item<'a>(
         &mut self,
         input: &'a [u8],
@@ -84,7 +92,8 @@ impl Parsed {
         answer
     }
 
-    /// Reads by the items, each behind what the one before it read, and returns the bytes after them.
+    /// Reads by the items, each behind what the one before it read, and returns the bytes after them. The first
+    /// refusal counts, and changes nothing.
     pub fn parse_items<'a>(
         &mut self,
         input: &'a [u8],

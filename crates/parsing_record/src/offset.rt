@@ -17,7 +17,7 @@ const GREATEST_NANOSECONDS: i128 = (LAST_COUNT as i128 + 1 - UNIX_EPOCH as i128)
     - 1;
 
 impl Parsed {
-    /// The hours of the offset.
+    /// The hours of the offset, -25 to 25, east of UTC.
     pub fn offset_hour(&self) -> Option<i8>
         ensures value { result ≡ self.now.offset_hour }
         ensures bound { Reaches 25 result }
@@ -25,7 +25,7 @@ impl Parsed {
         self.fields.offset_hour
     }
 
-    /// Sets the hours of the offset, if it is in its range.
+    /// Sets the hours of the offset, east of UTC. `None` where they are not -25 to 25, and then nothing changes.
     pub fn set_offset_hour(&mut self, value: i8) -> Option<()>
         ensures { (result, self.new) ≡ set_if (is_up_to 25 value) self.old (record self.old { offset_hour = Some value }) }
     {
@@ -36,7 +36,7 @@ impl Parsed {
         Some(())
     }
 
-    /// The record with the hours of the offset, if it is in its range.
+    /// The record with the hours of the offset, east of UTC. `None` where they are not -25 to 25.
     pub fn with_offset_hour(mut self, value: i8) -> Option<Self>
         ensures { result ≡ with_if (is_up_to 25 value) (record self { offset_hour = Some value }) }
     {
@@ -44,7 +44,7 @@ impl Parsed {
         Some(self)
     }
 
-    /// The minutes of the offset, whatever their sign.
+    /// The minutes of the offset, 0 to 59, whatever their sign.
     pub fn offset_minute(&self) -> Option<u8>
         ensures value { result ≡ option_map unsigned_abs self.now.offset_minute }
         ensures bound { InRange 0 59 result }
@@ -52,7 +52,8 @@ impl Parsed {
         Some(self.fields.offset_minute?.unsigned_abs())
     }
 
-    /// The minutes of the offset under their sign: what was set, negated behind an hour that was read with a minus.
+    /// The minutes of the offset under their sign, -59 to 59: what was set, negated behind an hour that was read with
+    /// a minus.
     pub fn offset_minute_signed(&self) -> Option<i8>
         ensures value { result ≡ under_sign self.now.offset_is_negative self.now.offset_minute }
         ensures bound { Reaches 59 result }
@@ -65,7 +66,7 @@ impl Parsed {
         })
     }
 
-    /// Sets the minutes of the offset as they stand, if they are in their range.
+    /// Sets the minutes of the offset as they stand. `None` where they are not 0 to 59, and then nothing changes.
     pub fn set_offset_minute(&mut self, value: u8) -> Option<()>
         ensures { (result, self.new) ≡ set_if (is_in_range 0 59 value) self.old (record self.old { offset_minute = Some (pos value) }) }
     {
@@ -76,7 +77,7 @@ impl Parsed {
         Some(())
     }
 
-    /// The record with the minutes of the offset as they stand, if they are in their range.
+    /// The record with the minutes of the offset as they stand. `None` where they are not 0 to 59.
     pub fn with_offset_minute(mut self, value: u8) -> Option<Self>
         ensures { result ≡ with_if (is_in_range 0 59 value) (record self { offset_minute = Some (pos value) }) }
     {
@@ -84,7 +85,7 @@ impl Parsed {
         Some(self)
     }
 
-    /// Sets the minutes of the offset as they stand, if they are in their range.
+    /// Sets the minutes of the offset as they stand. `None` where they are not -59 to 59, and then nothing changes.
     pub fn set_offset_minute_signed(&mut self, value: i8) -> Option<()>
         ensures { (result, self.new) ≡ set_if (is_up_to 59 value) self.old (record self.old { offset_minute = Some value }) }
     {
@@ -95,7 +96,7 @@ impl Parsed {
         Some(())
     }
 
-    /// The record with the minutes of the offset as they stand, if they are in their range.
+    /// The record with the minutes of the offset as they stand. `None` where they are not -59 to 59.
     pub fn with_offset_minute_signed(mut self, value: i8) -> Option<Self>
         ensures { result ≡ with_if (is_up_to 59 value) (record self { offset_minute = Some value }) }
     {
@@ -103,7 +104,7 @@ impl Parsed {
         Some(self)
     }
 
-    /// The seconds of the offset, whatever their sign.
+    /// The seconds of the offset, 0 to 59, whatever their sign.
     pub fn offset_second(&self) -> Option<u8>
         ensures value { result ≡ option_map unsigned_abs self.now.offset_second }
         ensures bound { InRange 0 59 result }
@@ -111,7 +112,8 @@ impl Parsed {
         Some(self.fields.offset_second?.unsigned_abs())
     }
 
-    /// The seconds of the offset under their sign: what was set, negated behind an hour that was read with a minus.
+    /// The seconds of the offset under their sign, -59 to 59: what was set, negated behind an hour that was read with
+    /// a minus.
     pub fn offset_second_signed(&self) -> Option<i8>
         ensures value { result ≡ under_sign self.now.offset_is_negative self.now.offset_second }
         ensures bound { Reaches 59 result }
@@ -124,7 +126,7 @@ impl Parsed {
         })
     }
 
-    /// Sets the seconds of the offset as they stand, if they are in their range.
+    /// Sets the seconds of the offset as they stand. `None` where they are not 0 to 59, and then nothing changes.
     pub fn set_offset_second(&mut self, value: u8) -> Option<()>
         ensures { (result, self.new) ≡ set_if (is_in_range 0 59 value) self.old (record self.old { offset_second = Some (pos value) }) }
     {
@@ -135,7 +137,7 @@ impl Parsed {
         Some(())
     }
 
-    /// The record with the seconds of the offset as they stand, if they are in their range.
+    /// The record with the seconds of the offset as they stand. `None` where they are not 0 to 59.
     pub fn with_offset_second(mut self, value: u8) -> Option<Self>
         ensures { result ≡ with_if (is_in_range 0 59 value) (record self { offset_second = Some (pos value) }) }
     {
@@ -143,7 +145,7 @@ impl Parsed {
         Some(self)
     }
 
-    /// Sets the seconds of the offset as they stand, if they are in their range.
+    /// Sets the seconds of the offset as they stand. `None` where they are not -59 to 59, and then nothing changes.
     pub fn set_offset_second_signed(&mut self, value: i8) -> Option<()>
         ensures { (result, self.new) ≡ set_if (is_up_to 59 value) self.old (record self.old { offset_second = Some value }) }
     {
@@ -154,7 +156,7 @@ impl Parsed {
         Some(())
     }
 
-    /// The record with the seconds of the offset as they stand, if they are in their range.
+    /// The record with the seconds of the offset as they stand. `None` where they are not -59 to 59.
     pub fn with_offset_second_signed(mut self, value: i8) -> Option<Self>
         ensures { result ≡ with_if (is_up_to 59 value) (record self { offset_second = Some value }) }
     {
@@ -162,7 +164,9 @@ impl Parsed {
         Some(self)
     }
 
-    /// The nanoseconds since 1970 began in UTC.
+    /// The nanoseconds since 1970 began in UTC, negative before. Moments are made of them alone, whatever else is
+    /// said, but that `OffsetDateTime` and `UtcDateTime` take the fraction of the second from `subsecond`, where
+    /// there is one.
     pub fn unix_timestamp_nanos(&self) -> Option<i128>
         ensures value { result ≡ self.now.unix_timestamp_nanos }
         ensures bound { InSigned (neg_ℤ (pos nanoseconds_before_epoch)) (pos nanoseconds_after_epoch) result }
@@ -170,7 +174,8 @@ impl Parsed {
         self.fields.unix_timestamp_nanos
     }
 
-    /// Sets the nanoseconds since 1970 began in UTC, if it is in its range.
+    /// Sets the nanoseconds since 1970 began in UTC. `None` where the calendar does not have their day, and then
+    /// nothing changes.
     pub fn set_unix_timestamp_nanos(&mut self, value: i128) -> Option<()>
         ensures { (result, self.new) ≡ set_if (is_between (neg_ℤ (pos nanoseconds_before_epoch)) (pos nanoseconds_after_epoch) value) self.old (record self.old { unix_timestamp_nanos = Some value }) }
     {
@@ -181,7 +186,7 @@ impl Parsed {
         Some(())
     }
 
-    /// The record with the nanoseconds since 1970 began in UTC, if it is in its range.
+    /// The record with the nanoseconds since 1970 began in UTC. `None` where the calendar does not have their day.
     pub fn with_unix_timestamp_nanos(mut self, value: i128) -> Option<Self>
         ensures { result ≡ with_if (is_between (neg_ℤ (pos nanoseconds_before_epoch)) (pos nanoseconds_after_epoch) value) (record self { unix_timestamp_nanos = Some value }) }
     {

@@ -5,7 +5,12 @@ ghost use Rattle.parsing_record.specs.Record.{empty};
 use parsing_components::Record;
 use std::marker::Model;
 
-/// The components that were read so far, each at most once: a later one of the same kind takes its place.
+/// The components that were read so far, each at most once: a later one of the same kind takes its place. Each getter
+/// answers `None` where its component was not read.
+///
+/// A `Date`, a `Time`, a `UtcOffset` and the four kinds of date-times are made of it by `try_from`: of the first
+/// group of components that is wholly there. `InsufficientInformation` is the refusal where there is none, and
+/// `ComponentRange` where they name no value.
 ///
 /// A contract sees the record of these components. Each is in its range, whatever is called.
 #[derive(Clone, Copy, Debug)]
@@ -63,7 +68,8 @@ impl Parsed {
         }
     }
 
-    /// Lets second 60 stand for the last nanosecond before it, as the formats with leap seconds do.
+    /// Lets second 60 stand for the last nanosecond before it, as the formats with leap seconds do. A moment is then
+    /// made of it only where it is the last second of a month in UTC.
     pub fn permit_leap_second(&mut self)
         ensures { self.new ≡ record self.old { leap_second_is_permitted = true } }
     {

@@ -11,7 +11,7 @@ use calendar_count::range::GREATEST_YEAR;
 const GREATEST_CENTURY: i16 = 9_999;
 
 impl Parsed {
-    /// The year.
+    /// The year, -999999 to 999999.
     pub fn year(&self) -> Option<i32>
         ensures value { result ≡ self.now.year }
         ensures bound { Reaches greatest_year result }
@@ -19,7 +19,7 @@ impl Parsed {
         self.fields.year
     }
 
-    /// Sets the year, if it is in its range.
+    /// Sets the year. `None` where it is not -999999 to 999999, and then nothing changes.
     pub fn set_year(&mut self, value: i32) -> Option<()>
         ensures { (result, self.new) ≡ set_if (is_up_to greatest_year value) self.old (record self.old { year = Some value }) }
     {
@@ -30,7 +30,7 @@ impl Parsed {
         Some(())
     }
 
-    /// The record with the year, if it is in its range.
+    /// The record with the year. `None` where it is not -999999 to 999999.
     pub fn with_year(mut self, value: i32) -> Option<Self>
         ensures { result ≡ with_if (is_up_to greatest_year value) (record self { year = Some value }) }
     {
@@ -38,7 +38,8 @@ impl Parsed {
         Some(self)
     }
 
-    /// The century.
+    /// The century, -9999 to 9999: the year without its last two digits. It counts only together with these, and only
+    /// where there is no `year`.
     pub fn year_century(&self) -> Option<i16>
         ensures value { result ≡ self.now.year_century }
         ensures bound { Reaches greatest_century result }
@@ -46,7 +47,7 @@ impl Parsed {
         self.fields.year_century
     }
 
-    /// Whether the century is behind a minus, which -0 has too.
+    /// Whether the century is behind a minus, which -0 has too. The last two digits then lead backwards.
     pub fn year_century_is_negative(&self) -> Option<bool>
         ensures { result ≡ option_map (λ _. self.now.year_century_is_negative) self.now.year_century }
     {
@@ -54,7 +55,8 @@ impl Parsed {
         Some(self.fields.year_century_is_negative)
     }
 
-    /// Sets the century, if it is in its range, with its sign, which is said for 0 alone.
+    /// Sets the century and its sign, which `is_negative` says of 0 alone. `None` where it is not -9999 to 9999, and
+    /// then nothing changes.
     pub fn set_year_century(&mut self, value: i16, is_negative: bool) -> Option<()>
         ensures { (result, self.new) ≡ set_if (is_up_to greatest_century value) self.old (record self.old { year_century = Some value; year_century_is_negative = century_sign value is_negative }) }
     {
@@ -66,7 +68,8 @@ impl Parsed {
         Some(())
     }
 
-    /// The record with the century, if it is in its range, and its sign, which is said for 0 alone.
+    /// The record with the century and its sign, which `is_negative` says of 0 alone. `None` where it is not -9999 to
+    /// 9999.
     pub fn with_year_century(mut self, value: i16, is_negative: bool) -> Option<Self>
         ensures { result ≡ with_if (is_up_to greatest_century value) (record self { year_century = Some value; year_century_is_negative = century_sign value is_negative }) }
     {
@@ -74,7 +77,7 @@ impl Parsed {
         Some(self)
     }
 
-    /// The last two digits of the year.
+    /// The last two digits of the year, 0 to 99.
     pub fn year_last_two(&self) -> Option<u8>
         ensures value { result ≡ self.now.year_last_two }
         ensures bound { InRange 0 99 result }
@@ -82,7 +85,7 @@ impl Parsed {
         self.fields.year_last_two
     }
 
-    /// Sets the last two digits of the year, if it is in its range.
+    /// Sets the last two digits of the year. `None` where they are not 0 to 99, and then nothing changes.
     pub fn set_year_last_two(&mut self, value: u8) -> Option<()>
         ensures { (result, self.new) ≡ set_if (is_in_range 0 99 value) self.old (record self.old { year_last_two = Some value }) }
     {
@@ -93,7 +96,7 @@ impl Parsed {
         Some(())
     }
 
-    /// The record with the last two digits of the year, if it is in its range.
+    /// The record with the last two digits of the year. `None` where they are not 0 to 99.
     pub fn with_year_last_two(mut self, value: u8) -> Option<Self>
         ensures { result ≡ with_if (is_in_range 0 99 value) (record self { year_last_two = Some value }) }
     {
@@ -101,7 +104,7 @@ impl Parsed {
         Some(self)
     }
 
-    /// The year of ISO 8601, to which its weeks belong.
+    /// The year of ISO 8601, to which its weeks belong, -999999 to 999999.
     pub fn iso_year(&self) -> Option<i32>
         ensures value { result ≡ self.now.iso_year }
         ensures bound { Reaches greatest_year result }
@@ -109,7 +112,8 @@ impl Parsed {
         self.fields.iso_year
     }
 
-    /// Sets the year of ISO 8601, to which its weeks belong, if it is in its range.
+    /// Sets the year of ISO 8601, to which its weeks belong. `None` where it is not -999999 to 999999, and then
+    /// nothing changes.
     pub fn set_iso_year(&mut self, value: i32) -> Option<()>
         ensures { (result, self.new) ≡ set_if (is_up_to greatest_year value) self.old (record self.old { iso_year = Some value }) }
     {
@@ -120,7 +124,7 @@ impl Parsed {
         Some(())
     }
 
-    /// The record with the year of ISO 8601, to which its weeks belong, if it is in its range.
+    /// The record with the year of ISO 8601, to which its weeks belong. `None` where it is not -999999 to 999999.
     pub fn with_iso_year(mut self, value: i32) -> Option<Self>
         ensures { result ≡ with_if (is_up_to greatest_year value) (record self { iso_year = Some value }) }
     {
@@ -128,7 +132,8 @@ impl Parsed {
         Some(self)
     }
 
-    /// The century of that year.
+    /// The century of that year, -9999 to 9999. It counts only together with the last two digits, and only where
+    /// there is no `iso_year`.
     pub fn iso_year_century(&self) -> Option<i16>
         ensures value { result ≡ self.now.iso_year_century }
         ensures bound { Reaches greatest_century result }
@@ -136,7 +141,7 @@ impl Parsed {
         self.fields.iso_year_century
     }
 
-    /// Whether the century of that year is behind a minus, which -0 has too.
+    /// Whether the century of that year is behind a minus, which -0 has too. The last two digits then lead backwards.
     pub fn iso_year_century_is_negative(&self) -> Option<bool>
         ensures { result ≡ option_map (λ _. self.now.iso_year_century_is_negative) self.now.iso_year_century }
     {
@@ -144,7 +149,8 @@ impl Parsed {
         Some(self.fields.iso_year_century_is_negative)
     }
 
-    /// Sets the century of that year, if it is in its range, with its sign, which is said for 0 alone.
+    /// Sets the century of that year and its sign, which `is_negative` says of 0 alone. `None` where it is not -9999
+    /// to 9999, and then nothing changes.
     pub fn set_iso_year_century(&mut self, value: i16, is_negative: bool) -> Option<()>
         ensures { (result, self.new) ≡ set_if (is_up_to greatest_century value) self.old (record self.old { iso_year_century = Some value; iso_year_century_is_negative = century_sign value is_negative }) }
     {
@@ -156,7 +162,8 @@ impl Parsed {
         Some(())
     }
 
-    /// The record with the century of that year, if it is in its range, and its sign, which is said for 0 alone.
+    /// The record with the century of that year and its sign, which `is_negative` says of 0 alone. `None` where it is
+    /// not -9999 to 9999.
     pub fn with_iso_year_century(mut self, value: i16, is_negative: bool) -> Option<Self>
         ensures { result ≡ with_if (is_up_to greatest_century value) (record self { iso_year_century = Some value; iso_year_century_is_negative = century_sign value is_negative }) }
     {
@@ -164,7 +171,7 @@ impl Parsed {
         Some(self)
     }
 
-    /// The last two digits of that year.
+    /// The last two digits of that year, 0 to 99.
     pub fn iso_year_last_two(&self) -> Option<u8>
         ensures value { result ≡ self.now.iso_year_last_two }
         ensures bound { InRange 0 99 result }
@@ -172,7 +179,7 @@ impl Parsed {
         self.fields.iso_year_last_two
     }
 
-    /// Sets the last two digits of that year, if it is in its range.
+    /// Sets the last two digits of that year. `None` where they are not 0 to 99, and then nothing changes.
     pub fn set_iso_year_last_two(&mut self, value: u8) -> Option<()>
         ensures { (result, self.new) ≡ set_if (is_in_range 0 99 value) self.old (record self.old { iso_year_last_two = Some value }) }
     {
@@ -183,7 +190,7 @@ impl Parsed {
         Some(())
     }
 
-    /// The record with the last two digits of that year, if it is in its range.
+    /// The record with the last two digits of that year. `None` where they are not 0 to 99.
     pub fn with_iso_year_last_two(mut self, value: u8) -> Option<Self>
         ensures { result ≡ with_if (is_in_range 0 99 value) (record self { iso_year_last_two = Some value }) }
     {

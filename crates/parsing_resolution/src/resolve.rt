@@ -4,7 +4,8 @@ ghost use Rattle.parsing_resolution.specs.Resolution.{date_of, permitted_time_of
 
 use calendar::{ComponentRange, Date, Month, Time, UtcOffset};
 
-/// The date with this year, month and day of the month.
+/// The date with this year, month and day of the month. Refused are, in this order, a month that is not 1 to 12, a
+/// year that the calendar does not have, and a day that the month does not have.
 #[tactic(auto, unfolding(crate::specs::Resolution::date_of))]
 #[inline(always)]
 pub fn date(year: i32, month: u8, day: u8) -> Result<Date, ComponentRange>
@@ -42,7 +43,7 @@ pub fn leap_time(hour: u8, minute: u8, second: u8, nanosecond: u32) -> Result<Ti
     permitted_time(true, hour, minute, second, nanosecond)
 }
 
-/// The offset of hours and minutes under one sign.
+/// The offset of hours and minutes under one sign; hours over 25 and minutes over 59 are refused.
 #[tactic(auto, unfolding(crate::specs::Resolution::signed_offset_of))]
 #[inline(always)]
 pub fn signed_offset(is_negative: bool, hours: u8, minutes: u8) -> Result<UtcOffset, ComponentRange>

@@ -14,7 +14,7 @@ use parsing_record::{ItemTally, Parsed};
 /// Items, one behind the other, as a text of versions 1 and 2 and of strftime spells them.
 #[derive(Clone, Copy)]
 pub struct Items<'a>(
-    /// The items.
+    /// The items, in the order in which they are read.
     pub &'a [BorrowedFormatItem<'a>],
 );
 

@@ -16,6 +16,10 @@ use parsing_pieces::{Parse, ParseFromDescription};
 use parsing_record::Parsed;
 
 /// A description or a format that bytes are read by.
+///
+/// The defaults of a call are a record that reading begins with: components that the bytes do not say are taken from
+/// it. A refusal is `Parse::ParseFromDescription` where the bytes can't be read, and `Parse::TryFromParsed` where
+/// what they say names no value.
 pub trait Parsable {
     // From a record and bytes a record and the rest, or a fault, and how many items were begun.
     ghost reading: { Self → Counted };
@@ -23,7 +27,7 @@ pub trait Parsable {
     // The moment that all of the bytes name, with these defaults.
     ghost moment: { Self → Option Record → List ℕ → Result Shown Fault };
 
-    /// Reads the front of the bytes into the record, and returns the rest.
+    /// Reads the front of the bytes into the record, and returns the rest. A refusal leaves the record as it was.
     fn parse_into<'a>(&self, input: &'a [u8], parsed: &mut Parsed) -> Result<&'a [u8], Parse>
         ensures reads { ReadsInto result parsed.old parsed.new (reading self.now parsed.old input.now).0 }
         ensures end { IfOk result (λ rest. EndsWith input.now rest.now) }
@@ -40,7 +44,8 @@ pub trait Parsable {
         ensures end { IfOk result.0 (λ rest. EndsWith input.now rest.now) }
         ensures short_name { IfErr result.0 (λ e. HasShortName (fault_of e)) };
 
-    /// Reads all of the bytes, from the defaults where there are any.
+    /// Reads all of the bytes, from the defaults where there are any. What is left over is refused as
+    /// `UnexpectedTrailingCharacters`.
     #[tactic(auto, unfolding(parsing_record::specs::Whole::whole))]
     fn parse_internal(&self, input: &[u8], defaults: Option<Parsed>) -> Result<Parsed, Parse>
         ensures record { Gives (λ r. r) fault_of result (whole (meaning (reading self.now)) defaults input.now) }
@@ -57,7 +62,7 @@ pub trait Parsable {
         Ok(parsed)
     }
 
-    /// Reads all of the bytes.
+    /// Reads all of the bytes into a record, without defaults.
     fn parse(&self, input: &[u8]) -> Result<Parsed, Parse>
         ensures record { Gives (λ r. r) fault_of result (whole (meaning (reading self.now)) None input.now) }
         ensures short_name { IfErr result (λ e. HasShortName (fault_of e)) }
@@ -65,7 +70,8 @@ pub trait Parsable {
         self.parse_internal(input, None)
     }
 
-    /// The date that all of the bytes name.
+    /// The date that all of the bytes name. A year and the day in it count first, then a year, a month and a day,
+    /// then the weeks: of ISO 8601, from Sunday, from Monday.
     fn parse_date(&self, input: &[u8], defaults: Option<Parsed>) -> Result<Date, Parse>
         ensures value { Gives (λ value. value) fault_of result (names date_named (whole (meaning (reading self.now)) defaults input.now)) }
         ensures short_name { IfErr result (λ e. HasShortName (fault_of e)) }
@@ -76,7 +82,8 @@ pub trait Parsable {
         }
     }
 
-    /// The time of day that all of the bytes name.
+    /// The time of day that all of the bytes name: its hour has to be said, and what is finer than the last part said
+    /// is 0. Second 60 is out of range.
     fn parse_time(&self, input: &[u8], defaults: Option<Parsed>) -> Result<Time, Parse>
         ensures value { Gives (λ value. value) fault_of result (names time_named (whole (meaning (reading self.now)) defaults input.now)) }
         ensures short_name { IfErr result (λ e. HasShortName (fault_of e)) }
@@ -87,7 +94,7 @@ pub trait Parsable {
         }
     }
 
-    /// The offset that all of the bytes name.
+    /// The offset that all of the bytes name: its hour has to be said, minutes and seconds that are not are 0.
     fn parse_offset(&self, input: &[u8], defaults: Option<Parsed>) -> Result<UtcOffset, Parse>
         ensures value { Gives (λ value. value) fault_of result (names offset_named (whole (meaning (reading self.now)) defaults input.now)) }
         ensures short_name { IfErr result (λ e. HasShortName (fault_of e)) }
@@ -98,7 +105,8 @@ pub trait Parsable {
         }
     }
 
-    /// The date and the time of day that all of the bytes name.
+    /// The date and the time of day that all of the bytes name, whatever they say of an offset. Second 60 is out of
+    /// range.
     fn parse_plain_date_time(
         &self,
         input: &[u8],
@@ -113,7 +121,8 @@ pub trait Parsable {
         }
     }
 
-    /// The moment, in UTC that all of the bytes name.
+    /// The moment in UTC that all of the bytes name. One without the hour of an offset is in UTC. Its day in UTC has
+    /// to be one of the calendar, or the year is out of range.
     fn parse_utc_date_time(
         &self,
         input: &[u8],
@@ -128,7 +137,8 @@ pub trait Parsable {
         }
     }
 
-    /// The instant that all of the bytes name.
+    /// The instant that all of the bytes name: of Unix time, or of a date, a time of day and an offset. Where it is
+    /// of these, any refusal but one of reading is `InsufficientInformation`.
     fn parse_timestamp(&self, input: &[u8], defaults: Option<Parsed>) -> Result<Timestamp, Parse>
         ensures value { Gives (λ value. value) fault_of result (names timestamp_named (whole (meaning (reading self.now)) defaults input.now)) }
         ensures short_name { IfErr result (λ e. HasShortName (fault_of e)) }
@@ -139,7 +149,9 @@ pub trait Parsable {
         }
     }
 
-    /// The moment that all of the bytes name, with its offset.
+    /// The moment that all of the bytes name, with its offset: of Unix time, at offset zero, or of a date, a time of
+    /// day and an offset. Second 60 of a well-known format stands for the last nanosecond before it, and has to end a
+    /// month in UTC.
     fn parse_offset_date_time(
         &self,
         input: &[u8],

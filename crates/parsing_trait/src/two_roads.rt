@@ -17,7 +17,8 @@ pub trait TwoRoads: Parsable {
     // The moment that a text names, or its first fault.
     ghost direct: { Self → List ℕ → Result Shown Fault };
 
-    /// The moment that the text names; the whole text has to be read.
+    /// The moment that the text names; the whole text has to be read. It is `parse_offset_date_time` without
+    /// defaults.
     fn read_direct(&self, input: &[u8]) -> Result<OffsetDateTime, Parse>
         ensures gives { Gives (λ d. d) fault_of result (direct self.now input.now) }
         ensures short_name { IfErr result (λ e. HasShortName (fault_of e)) };
