@@ -8,7 +8,7 @@ use std::alloc::{AllocError, AllocFailed};
 pub enum DescriptionFault<'a> {
     /// The text is no description.
     Description(InvalidFormatDescription<'a>),
-    /// There was no memory for its items.
+    /// Memory ran out. Nothing is said of the text.
     Memory,
 }
 

@@ -7,7 +7,7 @@ ghost use Rattle.description_faults.specs.Sentence.{sentence};
 
 use std::fmt;
 
-/// The first thing wrong with a description.
+/// The first thing wrong with a description. `Display` is a sentence with its place.
 ///
 /// Each index counts the bytes of the whole text before the place of the fault.
 #[derive(Clone, Copy, Debug, PartialEq, Eq)]
@@ -36,21 +36,22 @@ pub enum InvalidFormatDescription<'a> {
         /// The place of the bracket, or of the white space after it.
         index: usize,
     },
-    /// A component lacks a modifier that it must have.
+    /// A component lacks a modifier that it must have: `ignore` lacks its `count`.
     MissingRequiredModifier {
         /// The modifier's key.
         name: &'static str,
         /// The place of the component's name.
         index: usize,
     },
-    /// Something else must stand here.
+    /// Something else must stand here: a bracket, white space, an escape or a letter.
     Expected {
         /// What must stand here.
         what: &'static str,
         /// The place.
         index: usize,
     },
-    /// What stands here has a meaning that is not supported.
+    /// What stands here has a meaning that is not supported: nested items in versions 1 and 2, and some letters of
+    /// strftime.
     NotSupported {
         /// What stands here.
         what: &'static str,
@@ -59,14 +60,14 @@ pub enum InvalidFormatDescription<'a> {
         /// The place.
         index: usize,
     },
-    /// A modifier is given twice.
+    /// A modifier is given twice, which version 3 alone refuses.
     DuplicateModifier {
         /// The modifier's key as it is written.
         name: &'a str,
         /// The place of the later one.
         index: usize,
     },
-    /// A modifier says nothing of the component beside its other modifiers.
+    /// A modifier says nothing of the component beside its other modifiers, which version 3 alone refuses.
     InvalidModifierCombination {
         /// The modifier's key as it is written.
         modifier: &'a str,

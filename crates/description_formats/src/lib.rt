@@ -2,7 +2,7 @@
 #![tactic(auto)]
 
 /// The format of RFC 2822, section 3.3, as `Tue, 1 Jul 2003 10:52:37 +0200`, with the obsolete forms of section 4.3.
-/// Comments are at most 31 levels deep, and the weekday has no effect.
+/// Comments are at most 31 levels deep. The weekday is read and not compared with the date.
 #[derive(Clone, Copy, Debug, PartialEq, Eq)]
 pub struct Rfc2822;
 

@@ -5,7 +5,7 @@ use crate::component::Component;
 /// An item of a description, which borrows what it is made of.
 #[derive(Clone, Copy)]
 pub enum BorrowedFormatItem<'a> {
-    /// Bytes as they stand.
+    /// Bytes as they stand. A text gives `StringLiteral` in their place.
     Literal(&'a [u8]),
     /// Text as it stands.
     StringLiteral(&'a str),

@@ -21,9 +21,12 @@ pub struct Chosen {
     pub repr: Option<Repr>,
     pub case_sensitive: Option<bool>,
     pub one_indexed: Option<bool>,
+    /// Whether the year is that of the ISO 8601 week.
     pub base: Option<bool>,
+    /// Whether the sign must be written.
     pub sign: Option<bool>,
     pub range: Option<YearRange>,
+    /// Whether capitals are written.
     pub case: Option<bool>,
     pub digits: Option<SubsecondDigits>,
     pub count: Option<u16>,

@@ -27,7 +27,7 @@ pub enum Repr {
     Twelve,
 }
 
-/// How a number is filled up.
+/// How a number is filled up: `zero`, `space` or `none`.
 #[tactic(auto, unfolding(crate::specs::Values::padding_of))]
 pub fn padding_of(version: DescriptionVersion, word: &str) -> Option<Padding>
     ensures { result ≡ padding_of version word.now }
@@ -43,7 +43,7 @@ pub fn padding_of(version: DescriptionVersion, word: &str) -> Option<Padding>
     }
 }
 
-/// Yes or no.
+/// Yes or no: `true` or `false`.
 #[tactic(auto, unfolding(crate::specs::Values::flag_of))]
 pub fn flag_of(version: DescriptionVersion, word: &str) -> Option<bool>
     ensures { result ≡ flag_of version word.now }
@@ -57,7 +57,7 @@ pub fn flag_of(version: DescriptionVersion, word: &str) -> Option<bool>
     }
 }
 
-/// Whether the year is that of the ISO 8601 week.
+/// Whether the year is that of the ISO 8601 week: `calendar` or `iso_week`.
 #[tactic(auto, unfolding(crate::specs::Values::base_of))]
 pub fn base_of(version: DescriptionVersion, word: &str) -> Option<bool>
     ensures { result ≡ base_of version word.now }
@@ -71,7 +71,7 @@ pub fn base_of(version: DescriptionVersion, word: &str) -> Option<bool>
     }
 }
 
-/// Whether the sign must be written.
+/// Whether the sign must be written: `automatic` or `mandatory`.
 #[tactic(auto, unfolding(crate::specs::Values::sign_of))]
 pub fn sign_of(version: DescriptionVersion, word: &str) -> Option<bool>
     ensures { result ≡ sign_of version word.now }
@@ -85,7 +85,7 @@ pub fn sign_of(version: DescriptionVersion, word: &str) -> Option<bool>
     }
 }
 
-/// How far the years go.
+/// How far the years go: `standard` or `extended`.
 #[tactic(auto, unfolding(crate::specs::Values::range_of))]
 pub fn range_of(version: DescriptionVersion, word: &str) -> Option<YearRange>
     ensures { result ≡ range_of version word.now }
@@ -99,7 +99,7 @@ pub fn range_of(version: DescriptionVersion, word: &str) -> Option<YearRange>
     }
 }
 
-/// Whether capitals are written.
+/// Whether capitals are written: `upper` or `lower`.
 #[tactic(auto, unfolding(crate::specs::Values::case_of))]
 pub fn case_of(version: DescriptionVersion, word: &str) -> Option<bool>
     ensures { result ≡ case_of version word.now }
@@ -113,7 +113,7 @@ pub fn case_of(version: DescriptionVersion, word: &str) -> Option<bool>
     }
 }
 
-/// How many digits are written.
+/// How many digits are written: `1` to `9`, or `1+`.
 #[tactic(auto, unfolding(crate::specs::Values::digits_of))]
 pub fn digits_of(version: DescriptionVersion, word: &str) -> Option<SubsecondDigits>
     ensures { result ≡ digits_of version word.now }
@@ -143,7 +143,7 @@ pub fn digits_of(version: DescriptionVersion, word: &str) -> Option<SubsecondDig
     }
 }
 
-/// The unit of a timestamp.
+/// The unit of a timestamp: `second`, `millisecond`, `microsecond` or `nanosecond`.
 #[tactic(auto, unfolding(crate::specs::Values::precision_of))]
 pub fn precision_of(version: DescriptionVersion, word: &str) -> Option<UnixTimestampPrecision>
     ensures { result ≡ precision_of version word.now }
@@ -161,7 +161,7 @@ pub fn precision_of(version: DescriptionVersion, word: &str) -> Option<UnixTimes
     }
 }
 
-/// What becomes of text that follows.
+/// What becomes of text that follows: `prohibit` or `discard`.
 #[tactic(auto, unfolding(crate::specs::Values::trailing_input_of))]
 pub fn trailing_input_of(version: DescriptionVersion, word: &str) -> Option<TrailingInput>
     ensures { result ≡ trailing_input_of version word.now }
@@ -250,7 +250,7 @@ fn hour_repr_of(version: DescriptionVersion, word: &str) -> Option<Repr>
     }
 }
 
-/// The representation of a component.
+/// The representation of a component, each of which has words of its own; one without `repr` has none.
 pub fn repr_of(version: DescriptionVersion, name: Name, word: &str) -> Option<Repr>
     ensures { result ≡ repr_of version name word.now }
 {

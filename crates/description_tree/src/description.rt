@@ -8,7 +8,7 @@ mod calls;
 
 use crate::inner::FormatDescriptionV3Inner;
 
-/// A description of version 3: a tree, and the bytes that it reserves.
+/// A description of version 3: a tree, and the bytes that it reserves. `Parsable` of `parsing` reads by it.
 #[derive(Drop)]
 pub struct FormatDescriptionV3<'a> {
     inner: FormatDescriptionV3Inner<'a>,

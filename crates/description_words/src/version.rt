@@ -6,11 +6,12 @@ ghost use Rattle.description_words.specs.Version.{is_one, is_three};
 /// The version of the language that a description is written in.
 #[derive(Clone, Copy, Debug, PartialEq, Eq)]
 pub enum DescriptionVersion {
-    /// The first: `[[` is a bracket.
+    /// The first: `[[` is a bracket, and the case of letters in brackets says nothing.
     One,
-    /// The second: a backslash takes a bracket as it stands.
+    /// The second: a backslash takes a bracket or a backslash as it stands, and the case of letters in brackets says
+    /// nothing.
     Two,
-    /// The third: names, keys and values are written in small letters, and descriptions nest.
+    /// The third: as the second, but names, keys and values are written in small letters, and descriptions nest.
     Three,
 }
 

@@ -4,22 +4,22 @@ ghost use Rattle.std.specs.Prelude.{◌≡◌, ◌≢◌, ◌≤◌, codes, leng
 use instants_answers::Answer;
 use parsing_pieces::{Parse, ParseFromDescription, TryFromParsed};
 
-/// Why a line has no place on the timeline. The names are those of components.
+/// Why a line has no place on the timeline. The names of components are in small letters, as `offset hour`.
 #[derive(Clone, Copy, Debug, PartialEq, Eq)]
 pub enum LineFault {
-    /// A text that is due is not there.
+    /// A text that is due is not there: `! literal`.
     Literal,
-    /// The component of this name can't be read.
+    /// The component of this name can't be read: `! component NAME`.
     Component(&'static str),
-    /// Something follows what was read.
+    /// Something follows what was read: `! trailing`.
     Trailing,
-    /// What was read names no moment.
+    /// What was read says too little for a moment: `! insufficient`.
     Insufficient,
-    /// The component of this name is out of range.
+    /// The component of this name is out of range: `! range NAME`.
     Range(&'static str),
-    /// The year that is shown at the target offset is not 0 to 9999.
+    /// The year that is shown at the target offset is not 0 to 9999: `! year`.
     Year,
-    /// The line is longer than the limit.
+    /// The line is longer than the limit: `! long`. Only a run over a stream has a limit.
     Long,
 }
 

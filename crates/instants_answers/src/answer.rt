@@ -59,7 +59,7 @@ impl Answer {
         &self.bytes[..self.len]
     }
 
-    /// The bytes with others behind them, and how many they are.
+    /// All 64 bytes of the storage, those of the answer first, and how many these are.
     #[inline(always)]
     pub fn padded(&self) -> (&[u8; 64], usize)
         ensures front { take result.1 result.0.now ≡ self.now }

@@ -34,7 +34,8 @@ fn put(block: &mut Vec<u8>, at: usize, bytes: &[u8])
 }
 
 impl<W: ByteWriter> BlockWriter<W> {
-    /// Gathers bytes in the block, all of which it may use.
+    /// Gathers bytes in the block, all of which it may use. What is gathered is handed on where the block is full,
+    /// and by `flush`.
     pub fn new(block: Vec<u8>, inner: W) -> Self
         requires { 0 < vec_len block }
         ensures held { Keeps (W.held inner) (⟦<BlockWriter<W> as ByteWriter>⟧.held result) }

@@ -4,8 +4,8 @@ ghost use Rattle.std.specs.Prelude.{◌≡◌, ◌++◌, ◌⊎◌, ◌∷◌, [
 ghost use Rattle.byte_names.specs.Bytes.{line_feed};
 ghost use Rattle.instants_stream.specs.Answers.{output};
 
-/// Where the first stream is empty or ends in a line feed, the output of two streams joined is
-/// their outputs joined.
+/// Where the first stream is empty or ends in a line feed, the output of two streams joined is their outputs joined,
+/// whatever answers the lines and whatever the limit is.
 pub fn joined_streams()
     ensures { (answer : List ℕ → List ℕ) (limit : ℕ) (first second : List ℕ)
         → ((first ≡ []) ⊎ ((front : List ℕ) × (first ≡ front ++ line_feed ∷ [])))

@@ -8,7 +8,8 @@ use crate::fault::WordsFault;
 use std::alloc::Global;
 use std::marker::Model;
 
-/// What words say of how a date-time may be written: the text of a description, or a well-known format.
+/// What words say of how a date-time may be written: the text of a description, or a well-known format. Whether a
+/// text is a description is not looked at here.
 #[derive(Clone, Copy, Debug, PartialEq, Eq)]
 pub enum SourceText<'a> {
     /// A description of version 1.
@@ -21,9 +22,10 @@ pub enum SourceText<'a> {
     Strftime(&'a str),
     /// RFC 2822, section 3.3, with the obsolete forms of section 4.3.
     Rfc2822,
-    /// RFC 3339, section 5.6.
+    /// RFC 3339, section 5.6, with any one byte between date and time.
     Rfc3339,
-    /// ISO 8601.
+    /// ISO 8601-1:2019, sections 5.2 to 5.4: a date, a time of day and an offset, in the basic or the extended
+    /// format.
     Iso8601,
 }
 
@@ -60,7 +62,7 @@ impl<'a> Sources<'a> {
         Ok(Sources { texts })
     }
 
-    /// The sources.
+    /// The sources, in the order of the words.
     pub fn as_slice(&self) -> &[SourceText<'a>]
         ensures { map said_by result.now ≡ self.now }
     {

@@ -14,9 +14,9 @@ use std::alloc::Global;
 /// What the words of the program say.
 #[derive(Drop)]
 pub struct Words<'a> {
-    /// The offset to show moments in.
+    /// The offset to show moments in, of whole minutes within 23:59.
     pub target: UtcOffset,
-    /// The offset to assume where a line has none.
+    /// The offset to assume where a line has none, of whole minutes within 23:59.
     pub assumed: Option<UtcOffset>,
     /// How many bytes a line may have, from 1 to 1048576.
     pub limit: usize,
@@ -26,9 +26,9 @@ pub struct Words<'a> {
 
 /// Reads the words of the program: a target offset, an offset to assume or `-`, a limit, and sources.
 ///
-/// A source is `rfc2822`, `rfc3339` or `iso8601`, or one of `v1`, `v2`, `v3` and `strftime` with a description in the word
-/// behind it. All words are looked at before memory is taken: `Memory` comes only where a growth of the list of sources
-/// was refused.
+/// A source is `rfc2822`, `rfc3339` or `iso8601`, or one of `v1`, `v2`, `v3` and `strftime` with a description in the
+/// word behind it. All words are looked at before memory is taken: `Memory` comes only where a growth of the list of
+/// sources was refused.
 #[tactic(auto, unfolding(crate::specs::Words::words_said))]
 pub fn read_words<'a>(alloc: Global, words: &[&'a str]) -> Result<Words<'a>, WordsFault>
     ensures ok { IfOk result (λ read. words_said (map (λ word. word.now) words.now) ≡ Ok read) }

@@ -45,7 +45,7 @@ impl Parsed {
         read_component(component, input, &mut self.fields)
     }
 
-    /// Reads the component at the front of the bytes as a description of version 3 does, and returns the bytes after it.
+    /// Reads the component at the front of the bytes as version 3 does, and returns the bytes after it.
     ///
     /// It differs for ignored bytes alone: no character may go on behind them.
     #[inline(always)]
