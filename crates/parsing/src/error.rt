@@ -10,7 +10,8 @@ use description_items::DifferentVariant;
 use parsing_pieces::{Parse, ParseFromDescription, TryFromParsed};
 use std::fmt;
 
-/// Any refusal, as one type.
+/// Any refusal but want of memory, as one type. Each is made into it by `from`, and given back by `try_from`, which
+/// answers `DifferentVariant` where it was another.
 #[derive(Clone, Copy, Debug, PartialEq, Eq)]
 pub enum Error<'a> {
     /// A number does not fit the type that it is converted to.

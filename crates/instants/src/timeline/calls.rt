@@ -28,8 +28,8 @@ use std::alloc::{AllocError, Global};
 impl<'a> Timeline<'a> {
     /// A timeline of these sources, in the order in which they are tried, shown at the target offset.
     ///
-    /// The target and the assumed offset have whole minutes, within 23:59. Descriptions are read in order: the first one
-    /// that is refused is the error, with its place counted from 1.
+    /// The target and the assumed offset have whole minutes, within 23:59. Descriptions are read in order: the first
+    /// one that is refused is the error, with its place counted from 1, or want of memory is.
     pub fn new(
         alloc: Global,
         sources: &[SourceText<'a>],
