@@ -7,8 +7,8 @@ use std::io::Read;
 
 /// Reads from a reader of std.
 ///
-/// It fails where that reader's `read` does, also where a signal interrupts it, and at the read after the first 2^64
-/// - 1. A failure leaves its bytes untold.
+/// It fails where that reader's `read` does, which it does not make again where a signal interrupted it, and at the
+/// read after the first `2^64 - 1`. A failure leaves its bytes untold.
 #[derive(Drop)]
 pub struct StdReader<R> {
     inner: R,

@@ -7,8 +7,8 @@ use std::io::Write;
 
 /// Writes to a writer of std.
 ///
-/// It fails where that writer's `write` or `flush` does, also where a signal interrupts it, and where a `write` takes
-/// no byte of some. A failure leaves its bytes untold.
+/// It fails where that writer's `write` or `flush` does, and where a `write` takes no byte of some.
+/// A failure leaves its bytes untold.
 #[derive(Drop)]
 pub struct StdWriter<W> {
     inner: W,
