@@ -1,0 +1,132 @@
+#!/usr/bin/env python3
+"""Makes the lines of the benchmark: the same ones each time, of four kinds.
+
+    bench/lines.py FOLDER [LINES]
+
+Writes four files of LINES lines (1000000 if left out) to the folder:
+
+    rfc3339.txt   RFC 3339: `Z` or a numeric offset, a fraction of 0 to 9 digits
+    iso8601.txt   ISO 8601: calendar, week and ordinal dates, extended and basic, a fraction of 0 to 9 digits
+    rfc2822.txt   RFC 2822: `Tue, 01 Jul 2003 10:52:37 +0200` and the like, some with a day of one digit
+    mixed.txt     of 100 lines 40 are of RFC 3339, 30 of RFC 2822, 20 as a web server logs them
+                  (`01/Jul/2003:10:52:37 +0200`), and 10 name no moment in any of these
+
+All years are 1950 to 2099. Each file has a seed of its own, and a short file is the beginning of a long one.
+"""
+
+import argparse
+import datetime
+import pathlib
+import random
+
+MONTHS = "Jan Feb Mar Apr May Jun Jul Aug Sep Oct Nov Dec".split()
+DAYS = "Mon Tue Wed Thu Fri Sat Sun".split()
+FIRST_DAY, LAST_DAY = datetime.date(1950, 1, 2).toordinal(), datetime.date(2099, 12, 30).toordinal()
+
+# Minutes east of Greenwich: zero, which is written `Z` or +00:00, is as likely as eight others.
+OFFSETS = [0] * 8 + [60, 120, 180, 330, 345, 480, 540, 570, 600, 765, 840,
+                     -60, -180, -210, -300, -360, -420, -480, -570, -720]
+
+FIRST_SEED = 20261122
+
+
+def moment(rng):
+    """Returns a day, an hour, a minute, a second, the text of a fraction and an offset in minutes."""
+    day = datetime.date.fromordinal(rng.randint(FIRST_DAY, LAST_DAY))
+    second = rng.randrange(86400)
+    digits = rng.randrange(10)
+    fraction = "." + "".join(rng.choices("0123456789", k=digits)) if digits else ""
+    return day, second // 3600, second // 60 % 60, second % 60, fraction, rng.choice(OFFSETS)
+
+
+def offset_text(minutes, colon, zulu):
+    """Returns the text of an offset, with this between hours and minutes; `Z` for zero where that is asked for."""
+    if minutes == 0 and zulu:
+        return "Z"
+    size = abs(minutes)
+    return f"{'-' if minutes < 0 else '+'}{size // 60:02}{colon}{size % 60:02}"
+
+
+def rfc3339(rng):
+    """Returns a line of RFC 3339."""
+    day, hour, minute, second, fraction, offset = moment(rng)
+    offset = offset_text(offset, ":", rng.random() < 0.9)
+    return f"{day.year:04}-{day.month:02}-{day.day:02}T{hour:02}:{minute:02}:{second:02}{fraction}{offset}"
+
+
+def iso8601(rng):
+    """Returns a line of ISO 8601: a half have a month, a quarter a week, a quarter a day of the year."""
+    day, hour, minute, second, fraction, offset = moment(rng)
+    dash, colon = ("-", ":") if rng.random() < 0.6 else ("", "")
+    kind = rng.randrange(4)
+    if kind < 2:
+        date = f"{day.year:04}{dash}{day.month:02}{dash}{day.day:02}"
+    elif kind == 2:
+        year, week, weekday = day.isocalendar()
+        date = f"{year:04}{dash}W{week:02}{dash}{weekday}"
+    else:
+        date = f"{day.year:04}{dash}{day.timetuple().tm_yday:03}"
+    return f"{date}T{hour:02}{colon}{minute:02}{colon}{second:02}{fraction}{offset_text(offset, colon, True)}"
+
+
+def rfc2822(rng):
+    """Returns a line of RFC 2822. The weekday always stands: release 0.3.9 of the crate `time` asks for it."""
+    day, hour, minute, second, _, offset = moment(rng)
+    of_month = f"{day.day:02}" if rng.random() < 0.7 else str(day.day)
+    date = f"{DAYS[day.weekday()]}, {of_month} {MONTHS[day.month - 1]} {day.year:04}"
+    return f"{date} {hour:02}:{minute:02}:{second:02} {offset_text(offset, '', False)}"
+
+
+def log(rng):
+    """Returns a time as a web server logs it."""
+    day, hour, minute, second, _, offset = moment(rng)
+    date = f"{day.day:02}/{MONTHS[day.month - 1]}/{day.year:04}"
+    return f"{date}:{hour:02}:{minute:02}:{second:02} {offset_text(offset, '', False)}"
+
+
+def garbage(rng):
+    """Returns a line that names no moment, but for those with `!` in place of `T`, which some programs read."""
+    kind = rng.randrange(6)
+    if kind == 0:
+        return "".join(rng.choices("abcdefghijklmnopqrstuvwxyz 0123456789:-/", k=rng.randint(1, 40)))
+    if kind == 1:
+        return rfc3339(rng).replace("T", "!", 1)
+    if kind == 2:
+        return rfc3339(rng)[: rng.randint(1, 18)]
+    if kind == 3:
+        day = moment(rng)[0]
+        return f"{day.year:04}-13-{day.day:02}T25:61:61Z"
+    if kind == 4:
+        return rfc2822(rng).replace(" ", "  x", 1)
+    return "GET /index.html HTTP/1.1 200 -"
+
+
+def mixed(rng):
+    """Returns a line of any of these kinds."""
+    share = rng.random()
+    if share < 0.4:
+        return rfc3339(rng)
+    if share < 0.7:
+        return rfc2822(rng)
+    return log(rng) if share < 0.9 else garbage(rng)
+
+
+def write(folder, count):
+    """Writes the four files of so many lines each to the folder."""
+    folder.mkdir(parents=True, exist_ok=True)
+    for seed, line in enumerate((rfc3339, iso8601, rfc2822, mixed), FIRST_SEED):
+        rng = random.Random(seed)
+        with open(folder / f"{line.__name__}.txt", "w", encoding="ascii") as file:
+            file.writelines(line(rng) + "\n" for _ in range(count))
+
+
+def main():
+    parser = argparse.ArgumentParser()
+    parser.add_argument("folder", type=pathlib.Path)
+    parser.add_argument("lines", type=int, nargs="?", default=1_000_000)
+    arguments = parser.parse_args()
+    write(arguments.folder, arguments.lines)
+
+
+if __name__ == "__main__":
+    main()
