@@ -1,7 +1,7 @@
 #!/usr/bin/env python3
 """Runs the console examples of the documents on the built program, and says which of them print something else.
 
-    tools/try_documents.py            those of README.md, docs/GUIDE.md and docs/instants.1
+    tools/try_documents.py            those of README.md, docs/GUIDE.md and docs/instants.1, and the crates' pages
     tools/try_documents.py FILE..     those of these files
 
 A console is a fence of Markdown that begins with ```console, or a display of the manual page (.Bd to .Ed) whose first line
@@ -15,6 +15,9 @@ for in it before all others.
 
 A fence that begins with ```console builds is not run: its commands build, which takes long. A fence of any other kind
 with a line that begins with `$ ` is an error, and so is a document without an example, so that none is left out by a slip.
+
+The page of each family's crate, the `//!` lines at the head of its `src/lib.rt`, has one fence, whose lines stand one
+behind the other in the file `src/page.rt` of the family's tests, which the gate proves and runs.
 
 What is run is the program as it was built last; `./instants` builds it, and `rt run` in its crate `description_check`. It
 prints each example that differs, and ends with status 1 if there is any.
@@ -31,6 +34,7 @@ import tempfile
 
 ROOT = pathlib.Path(__file__).resolve().parent.parent
 DOCUMENTS = ("README.md", "docs/GUIDE.md", "docs/instants.1")
+PAGES = ("calendar", "datetime", "description", "parsing", "instants")
 PROGRAM = ROOT / "crates" / "instants_program" / "out" / "instants_program"
 CHECK = ROOT / "crates" / "description_check" / "out" / "description_check"
 SECONDS = 60
@@ -125,17 +129,41 @@ def try_document(name):
     return len(examples), wrong
 
 
+def fences_of_page(crate):
+    """Returns the lines of each fence on a crate's page, without their indentation."""
+    rows = (ROOT / "crates" / crate / "src" / "lib.rt").read_text().split("\n")
+    page = [row[3:].strip() for row in rows if row.startswith("//!")]
+    return [it.lines for it in pieces_of(page, re.compile(r"```(.*)"), re.compile(r"```$"), re.compile(r"# "))]
+
+
+def try_page(crate):
+    """Returns what is wrong with a crate's page."""
+    test = ROOT / "crates" / f"{crate}_tests" / "src" / "page.rt"
+    rows = [row.strip() for row in test.read_text().split("\n")] if test.exists() else []
+    fences = fences_of_page(crate)
+    if len(fences) != 1:
+        return [f"{crate}: its page has {len(fences)} fences in place of one"]
+    due = fences[0]
+    if not any(rows[at : at + len(due)] == due for at in range(len(rows))):
+        return [f"{crate}: the lines of its page don't stand in {test.relative_to(ROOT)}"]
+    return []
+
+
 def main():
     words = argparse.ArgumentParser(description=__doc__, formatter_class=argparse.RawDescriptionHelpFormatter)
-    words.add_argument("files", nargs="*", metavar="FILE", default=DOCUMENTS, help="from the top of the repository")
+    words.add_argument("files", nargs="*", metavar="FILE", help="from the top of the repository")
     given = words.parse_args()
     missing = [it for it in (PROGRAM, CHECK) if not it.exists()]
     if missing:
         words.error(f"{missing[0].relative_to(ROOT)} is not built")
     count = 0
-    for name in given.files:
+    for name in given.files or DOCUMENTS:
         tried, wrong = try_document(name)
         print("\n".join([*wrong, f"{name}: {tried} examples, {len(wrong)} wrong"]), flush=True)
+        count += len(wrong)
+    if not given.files:
+        wrong = [line for crate in PAGES for line in try_page(crate)]
+        print("\n".join([*wrong, f"pages of crates: {len(PAGES)} examples, {len(wrong)} wrong"]), flush=True)
         count += len(wrong)
     return bool(count)
 
