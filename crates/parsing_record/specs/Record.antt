@@ -1,10 +1,6 @@
 -- What a record holds, by its fields, and the range of each.
-use Rattle.std.specs.Prelude.{ℕ, ◌≤◌, ℤ, pos, neg_ℤ, ◌≤ℤ◌, ◌&&◌, Bool, false, Option, Some, None, IfSome, if◌then◌else◌, int_le, int_lt}
+use Rattle.std.specs.Prelude.{ℕ, ℤ, pos, neg_ℤ, ◌&&◌, Bool, false, Option, Some, None, if◌then◌else◌, int_le, int_lt}
 use Rattle.std.specs.Ordering.{int_eq}
-use Rattle.calendar_count.specs.Range.{greatest_year}
-use Rattle.parsing_components.specs.Ranged.{greatest_century, nanoseconds_before_epoch, nanoseconds_after_epoch}
-use Rattle.calendar_count.specs.declared.month.Month.{Month}
-use Rattle.calendar_count.specs.declared.weekday.Weekday.{Weekday}
 pub use Rattle.parsing_components.specs.declared.fields.Record.{Record}
 pub use Rattle.parsing_components.specs.Record.{InRange, InSigned, Reaches, IsWithin}
 
