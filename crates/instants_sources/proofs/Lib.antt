@@ -1,2 +1,3 @@
+pub mod BothFormats
 pub mod FewPlaces
 pub mod RuledOut

@@ -1,6 +1,7 @@
 //! The sources of lines: what a line may be written in, read from what words say of it.
 #![tactic(auto)]
 
+mod both_formats;
 mod moment;
 mod places;
 mod ruled_out;

@@ -5,12 +5,14 @@ ghost use Rattle.instants_sources.specs.Grammar.{grammar_of};
 ghost use Rattle.instants_sources.specs.Grammar as grammar;
 ghost use Rattle.instants_sources.specs.Named.{named};
 
+use crate::both_formats::is_read_alike;
 use crate::ruled_out::{has_no_hyphen, has_no_space};
 use crate::source::Source;
 use calendar::UtcOffset;
 use datetime_types::OffsetDateTime;
 use description_formats::{Rfc2822, Rfc3339};
 use parsing_trait::TwoRoads;
+use parsing_two_formats::laws::two_formats;
 use parsing_two_roads::laws::{one_road_of_iso8601, two_roads_of_rfc2822, two_roads_of_rfc3339};
 
 /// The moment of a line of RFC 2822, where the shortest way finds one, whatever offset is assumed: `None` says nothing
@@ -32,11 +34,26 @@ pub fn quick_rfc3339(line: &[u8]) -> Option<OffsetDateTime>
     Rfc3339.read_quickly(line)
 }
 
+// The same of a line of ISO 8601 that RFC 3339 reads alike.
+#[inline(always)]
+fn quick_read_alike(line: &[u8]) -> Option<OffsetDateTime>
+    ensures { IfSome result (λ moment. (assumed : Option ℤ) → named assumed grammar.Iso8601 line.now ≡ Ok moment) }
+{
+    if !is_read_alike(line) {
+        return None;
+    }
+    two_formats(line);
+    quick_rfc3339(line)
+}
+
 /// The same of a line of ISO 8601.
 #[inline(always)]
 pub fn quick_iso8601(line: &[u8]) -> Option<OffsetDateTime>
     ensures { IfSome result (λ moment. (assumed : Option ℤ) → named assumed grammar.Iso8601 line.now ≡ Ok moment) }
 {
+    if let Some(moment) = quick_read_alike(line) {
+        return Some(moment);
+    }
     one_road_of_iso8601(line);
     parsing_iso8601::read_quickly(line)
 }
