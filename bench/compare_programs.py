@@ -57,15 +57,16 @@ SOURCES = {"rfc3339": ["rfc3339"], "rfc2822": ["rfc2822"], "iso8601": ["iso8601"
 SOURCES_BY_HAND = {file: words for file, words in SOURCES.items() if file != "iso8601"}
 SOURCES_OF_INSTANTS = dict(SOURCES, mixed=["rfc3339", "rfc2822", "strftime", LOG])
 
-# What `dateconv` reads. The basic day of the year comes before the month and day.
+# What `dateconv` reads. The form with a fraction comes first, as the other one takes such a line too, and drops what is
+# behind the second. There are none for ISO 8601: forms for all of its dates take some month and day for a day of the
+# year, or the other way round.
 TOOL_OUTPUT = "%Y-%m-%dT%H:%M:%S.%NZ"
+FORMS_OF_RFC3339 = ["%FT%T.%N%Z", "%FT%T%Z"]
 FORM_OF_RFC2822 = "%a, %d %b %Y %H:%M:%S %Z"
-FORMS_OF_DATES = ["%FT%T", "%G-W%V-%uT%T", "%Y-%DT%T", "%Y%DT%H%M%S", "%Y%m%dT%H%M%S", "%GW%V%uT%H%M%S"]
 FORMS = {
-    "rfc3339": ["%FT%T%Z", "%FT%T.%N%Z"],
+    "rfc3339": FORMS_OF_RFC3339,
     "rfc2822": [FORM_OF_RFC2822],
-    "iso8601": [form + end for form in FORMS_OF_DATES for end in ("%Z", ".%N%Z")],
-    "mixed": ["%FT%T%Z", "%FT%T.%N%Z", FORM_OF_RFC2822, "%d/%b/%Y:%H:%M:%S %Z"],
+    "mixed": [*FORMS_OF_RFC3339, FORM_OF_RFC2822, "%d/%b/%Y:%H:%M:%S %Z"],
 }
 
 # A program: its row's title, its command for each file that it reads, and whether it is a tool.
@@ -277,9 +278,10 @@ def machine():
 def cells(title, counted, measured):
     """Returns the two cells of a program and a file; a speed below one has two digits behind the point."""
     speed = measured.get(title)
+    digits = 1 if speed is None or round(speed, 1) >= 1 else 2
     return [
         f"{counted[title]:.0f}" if title in counted else "–",
-        "–" if speed is None else f"{speed:.1f}" if speed >= 1 else f"{speed:.2f}",
+        f"{speed:.{digits}f}" if speed is not None else "–",
     ]
 
 
