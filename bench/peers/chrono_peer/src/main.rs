@@ -27,11 +27,11 @@ enum Source<'a> {
     Items(Vec<Item<'a>>),
 }
 
-fn items(description: &str) -> Source {
+fn items(description: &str) -> Source<'_> {
     Source::Items(StrftimeItems::new(description).collect())
 }
 
-fn sources(words: &[String]) -> Vec<Source> {
+fn sources(words: &[String]) -> Vec<Source<'_>> {
     let mut sources = Vec::new();
     for word in words {
         match word.as_str() {
