@@ -65,4 +65,9 @@ fn quick_ways(rt: HostRuntime) {
     assert!(rt; seconds(quick_rfc3339(b"1970-01-01T00:00:01Z")) == Some(1));
     assert!(rt; seconds(quick_rfc2822(b"Thu, 01 Jan 1970 00:00:01 +0000")) == Some(1));
     assert!(rt; seconds(quick_iso8601(b"1970-01-01T00:00:01Z")) == Some(1));
+    assert!(rt; seconds(quick_iso8601(b"1970-01-01T01:00:01.123456789+01:00")) == Some(1));
+    assert!(rt; seconds(quick_iso8601(b"19700101T000001,123456789Z")) == Some(1));
+    assert!(rt; quick_iso8601(b"1970-01-01T00:00:01z").is_none());
+    assert!(rt; quick_iso8601(b"1970-01-01 00:00:01Z").is_none());
+    assert!(rt; quick_iso8601(b"1970-01-01T00:00:01.9999999999Z").is_none());
 }
