@@ -1,10 +1,10 @@
 //! Dates, times of day, offsets and moments, read from bytes by a description or a well-known format.
 //!
 //! ```
-//! let items = parse(alloc, "[day].[month].[year], [hour]:[minute]")?;
-//! let local = Items(&items).parse_plain_date_time(b"01.07.2003, 10:52", None)?;
-//! let moment = Rfc2822.parse_offset_date_time(b"Tue, 1 Jul 2003 10:52 +0200", None)?;
-//! assert!(rt; local.assume_offset(moment.offset()) == moment);
+//! let items = parse(alloc, "[day].[month].[year], [hour]:[minute] [offset_hour]")?;
+//! let moment = Items(&items).parse_offset_date_time(b"01.07.2003, 10:52 +02", None);
+//! let same = Rfc2822.parse_offset_date_time(b"Tue, 1 Jul 2003 10:52 +0200", None);
+//! assert!(rt; moment.is_ok() && moment == same);
 //! assert!(rt; Rfc3339.parse_offset_date_time(b"2003-07-01", None).is_err());
 //! ```
 //!

@@ -6,21 +6,13 @@ use std::test::Fail;
 #[test]
 fn page(rt: HostRuntime) -> Result<(), Fail> {
     let alloc = rt.alloc();
-    let items = parse(alloc, "[day].[month].[year], [hour]:[minute]")?;
-    let local = Items(&items).parse_plain_date_time(b"01.07.2003, 10:52", None)?;
-    let moment = Rfc2822.parse_offset_date_time(b"Tue, 1 Jul 2003 10:52 +0200", None)?;
-    assert!(rt; local.assume_offset(moment.offset()) == moment);
+    let items = parse(alloc, "[day].[month].[year], [hour]:[minute] [offset_hour]")?;
+    let moment = Items(&items).parse_offset_date_time(b"01.07.2003, 10:52 +02", None);
+    let same = Rfc2822.parse_offset_date_time(b"Tue, 1 Jul 2003 10:52 +0200", None);
+    assert!(rt; moment.is_ok() && moment == same);
     assert!(rt; Rfc3339.parse_offset_date_time(b"2003-07-01", None).is_err());
-    let text = format!(in alloc; "{moment}")?;
-    assert_eq!(rt; text.as_str(), "2003-07-01 10:52:00.0 +02:00:00");
-    let fault = Rfc3339
-        .parse_offset_date_time(b"2003-07-01", None)
-        .err()
-        .ok_or("no fault")?;
-    let text = format!(in alloc; "{fault}")?;
-    assert_eq!(rt;
-        text.as_str(),
-        "the 'separator' component could not be parsed"
-    );
+    if let Ok(moment) = moment {
+        assert!(rt; moment.unix_timestamp() == 1_057_049_520);
+    }
     Ok(())
 }
