@@ -16,6 +16,8 @@ ghost use Rattle.instants.specs.Output.{IsAnsweredIn, written};
 ghost use Rattle.instants.specs.Place.{Setting, first_named, shown_or_refused, place_of, place_text, answer_to};
 
 use datetime_types::OffsetDateTime;
+pub use instants_order::laws::order_of_lines;
+pub use instants_reread::laws::lines_read_again;
 pub use instants_stream::laws::joined_streams;
 
 /// One source more, behind the others, leaves the answer to each line for which another one has a moment, also where the

@@ -11,8 +11,8 @@ use Rattle.instants_answers.specs.Text.{date_text, time_text, offset_text, momen
 use Rattle.instants_order.proofs.Compares.{decimal_length}
 use Rattle.parsing_iso8601.specs.Designators.{time_designator}
 use Rattle.parsing_iso8601.proofs.Rounding.{none_left}
-use Rattle.parsing_two_formats.specs.TwoFormats.{separator, last_byte, fraction_of, rounds_up, is_of_both, rounded}
-use Rattle.parsing_two_formats.proofs.Places.{byte_at, last_of_rest}
+use Rattle.parsing_two_roads.specs.TwoFormats.{separator, last_byte, fraction_of, rounds_up, is_of_both, rounded}
+use Rattle.parsing_two_roads.proofs.Places.{byte_at, last_of_rest}
 use Rattle.parsing_pieces.specs.Pieces.{digit_count}
 use Rattle.parsing_pieces.proofs.Fronts.{byte_at as byte_read}
 use Rattle.instants_reread.proofs.Decimals.{count_with}

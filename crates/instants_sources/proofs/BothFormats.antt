@@ -15,7 +15,7 @@ use Rattle.parsing_record.specs.Record.{Record}
 use Rattle.parsing_record.specs.Whole.{by_roads}
 use Rattle.parsing_rfc3339.specs.Direct.{direct}
 use Rattle.parsing_staged.specs.Staged.{reads_rfc3339}
-use Rattle.parsing_two_formats.specs.TwoFormats.{digits_behind, fraction_of, rounds_up, is_of_both, HoldsAtMostAnOffset, IsReadAlike}
+use Rattle.parsing_two_roads.specs.TwoFormats.{digits_behind, fraction_of, rounds_up, is_of_both, HoldsAtMostAnOffset, IsReadAlike}
 use Rattle.instants_sources.specs.Grammar.{Rfc3339, Iso8601}
 use Rattle.instants_sources.specs.Named.{defaults_of, named}
 

@@ -12,8 +12,9 @@ use calendar::UtcOffset;
 use datetime_types::OffsetDateTime;
 use description_formats::{Rfc2822, Rfc3339};
 use parsing_trait::TwoRoads;
-use parsing_two_formats::laws::two_formats;
-use parsing_two_roads::laws::{one_road_of_iso8601, two_roads_of_rfc2822, two_roads_of_rfc3339};
+use parsing_two_roads::laws::{
+    one_road_of_iso8601, two_formats, two_roads_of_rfc2822, two_roads_of_rfc3339,
+};
 
 /// The moment of a line of RFC 2822, where the shortest way finds one, whatever offset is assumed: `None` says nothing
 /// of the line.

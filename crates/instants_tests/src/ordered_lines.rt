@@ -5,11 +5,9 @@ ghost use Rattle.calendar.specs.UtcOffset.{IsClockOffset};
 
 use crate::support::{answered, moment};
 use calendar::{Month, UtcOffset};
-use instants::laws::{difference, fixed_point};
+use instants::laws::{difference, fixed_point, lines_read_again as reread, order_of_lines};
 use instants::{Answer, SourceText, Timeline, fits_line, rfc3339_line};
 use instants_answers::is_target;
-use instants_order::laws::order_of_lines;
-use instants_reread::laws::lines_read_again as reread;
 use std::alloc::Global;
 use std::process::Abort;
 use std::test::Fail;

@@ -14,7 +14,7 @@ ghost use Rattle.parsing_record.specs.Whole.{by_roads};
 ghost use Rattle.parsing_rfc2822.specs.Direct as rfc2822;
 ghost use Rattle.parsing_rfc3339.specs.Direct as rfc3339;
 ghost use Rattle.parsing_staged.specs.Staged.{reads_rfc2822, reads_rfc3339};
-ghost use Rattle.parsing_two_formats.specs.TwoFormats.{HoldsAtMostAnOffset, IsReadAlike};
+ghost use Rattle.parsing_two_roads.specs.TwoFormats.{HoldsAtMostAnOffset, IsReadAlike};
 ghost use Rattle.parsing_two_roads.specs.TwoRoads.{AgreeOn};
 ghost use Rattle.parsing.specs.Laws.{HasOneInstant};
 
@@ -45,7 +45,7 @@ pub fn two_roads(bytes: &[u8])
 pub fn two_formats(bytes: &[u8])
     ensures { (defaults : Option Record) → HoldsAtMostAnOffset defaults → (m : Shown) → by_roads rfc3339.direct reads_rfc3339 defaults bytes.now ≡ Ok m → IsReadAlike defaults bytes.now m }
 {
-    parsing_two_formats::laws::two_formats(bytes);
+    parsing_two_roads::laws::two_formats(bytes);
 }
 
 /// Of two texts that a language of descriptions accepts, it accepts the one followed by the other. Reading by that is

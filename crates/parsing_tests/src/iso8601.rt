@@ -4,7 +4,7 @@ use calendar_count::{Month, Weekday};
 use parsing_iso8601::{
     Written, WrittenDate, WrittenOffset, WrittenTime, front, read, read_quickly,
 };
-use parsing_two_formats::laws;
+use parsing_two_roads::laws;
 use std::alloc::{AllocError, Global};
 use std::process::Abort;
 use std::string::String;

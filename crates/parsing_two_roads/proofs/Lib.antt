@@ -1,5 +1,14 @@
+pub mod Assumed
+pub mod Inversion
+pub mod Iso8601
+pub mod Moments
+pub mod NearTimes
 pub mod Numbers
 pub mod Parts
-pub mod Rfc3339
+pub mod Places
 pub mod Rfc2822
-pub mod Iso8601
+pub mod Rfc3339
+pub mod RfcPieces
+pub mod SameDates
+pub mod SameOffsets
+pub mod SameTimes

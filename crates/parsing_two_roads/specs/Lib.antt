@@ -1,1 +1,2 @@
+pub mod TwoFormats
 pub mod TwoRoads

@@ -2,10 +2,12 @@
 ghost use Rattle.std.specs.Prelude.{◌≡◌, ℤ, Option, None, Ok};
 ghost use Rattle.datetime_wall.specs.Wall.{Shown};
 ghost use Rattle.parsing_iso8601.specs.Moment as iso8601;
-ghost use Rattle.parsing_record.specs.Whole.{whole, names, moment_named};
+ghost use Rattle.parsing_record.specs.Record.{Record};
+ghost use Rattle.parsing_record.specs.Whole.{by_roads, whole, names, moment_named};
 ghost use Rattle.parsing_rfc3339.specs.Direct as rfc3339;
 ghost use Rattle.parsing_rfc2822.specs.Direct as rfc2822;
 ghost use Rattle.parsing_staged.specs.Staged.{reads_rfc3339, reads_rfc2822, reads_iso8601};
+ghost use Rattle.parsing_two_roads.specs.TwoFormats.{HoldsAtMostAnOffset, IsReadAlike};
 ghost use Rattle.parsing_two_roads.specs.TwoRoads.{AgreeOn, staged, holding};
 
 /// RFC 3339: a text names a moment directly exactly where it names one by a record, and then it is the same one.
@@ -28,3 +30,14 @@ pub fn one_road_of_iso8601(bytes: &[u8])
     ensures empty { names moment_named (whole reads_iso8601 None bytes.now) ≡ iso8601.moment bytes.now }
     ensures holding { (m : Shown) → iso8601.IsOfOffset bytes.now m → (hour minute : Option ℤ) → staged reads_iso8601 (holding hour minute) bytes.now ≡ Ok m }
 {}
+
+/// Where RFC 3339 names a moment for a text, ISO 8601 names one exactly if a `T` stands between date and time, a `Z` is
+/// no small letter, and the fraction does not round up to a whole second. It is the same moment, or the next nanosecond
+/// where more than nine digits round up; that of a leap second is the same whatever its fraction. An offset that both
+/// assume changes nothing of that.
+pub fn two_formats(bytes: &[u8])
+    ensures { (defaults : Option Record) → HoldsAtMostAnOffset defaults → (m : Shown) → by_roads rfc3339.direct reads_rfc3339 defaults bytes.now ≡ Ok m → IsReadAlike defaults bytes.now m }
+{
+    two_roads_of_rfc3339(bytes);
+    one_road_of_iso8601(bytes);
+}

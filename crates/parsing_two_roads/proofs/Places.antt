@@ -4,7 +4,7 @@ use Rattle.std.specs.Str.Parse.{digits_value}
 use Rattle.std.proofs.lemmas.List.{drop-drop}
 use Rattle.parsing_pieces.specs.Pieces.{digits, digit_count, byte, any_byte, skip_of}
 use Rattle.parsing_iso8601.proofs.Pieces.{same}
-use Rattle.parsing_two_formats.specs.TwoFormats.{last_byte}
+use Rattle.parsing_two_roads.specs.TwoFormats.{last_byte}
 
 pub passed_value : {A : Type 0} (b : Bool) (v x : A) → cond b (Some v) None ≡ Some x → v ≡ x
 passed_value true v x e = same v x e

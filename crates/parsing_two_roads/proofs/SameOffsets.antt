@@ -18,9 +18,9 @@ use Rattle.parsing_iso8601.specs.declared.kind.Kind.TheVariants.{Extended}
 use Rattle.parsing_iso8601.specs.declared.written.WrittenOffset.{WrittenOffset}
 use Rattle.parsing_iso8601.specs.Offsets as iso
 use Rattle.parsing_iso8601.proofs.Pieces.{passed}
-use Rattle.parsing_two_formats.specs.TwoFormats.{last_byte}
-use Rattle.parsing_two_formats.proofs.Inversion.{due_piece, due_check, same_end}
-use Rattle.parsing_two_formats.proofs.Places.{digits_place, byte_place, further, last_of_rest, passed_value}
+use Rattle.parsing_two_roads.specs.TwoFormats.{last_byte}
+use Rattle.parsing_two_roads.proofs.Inversion.{due_piece, due_check, same_end}
+use Rattle.parsing_two_roads.proofs.Places.{digits_place, byte_place, further, last_of_rest, passed_value}
 use Rattle.parsing_resolution.proofs.lemmas.Ranges.{offset_ranges}
 
 -- an offset that both formats read, all that is there

@@ -12,8 +12,8 @@ use Rattle.parsing_rfc3339.specs.Direct.{direct}
 use Rattle.parsing_staged.specs.Staged.{reads_rfc3339, reads_iso8601}
 use Rattle.parsing_two_roads.specs.TwoRoads.{holding, staged, AgreeOn}
 use Rattle.parsing_two_roads.proofs.Iso8601.{from_unread}
-use Rattle.parsing_two_formats.specs.TwoFormats.{HoldsAtMostAnOffset, IsReadAlike, rounded}
-use Rattle.parsing_two_formats.proofs.Moments.{whole_alike}
+use Rattle.parsing_two_roads.specs.TwoFormats.{HoldsAtMostAnOffset, IsReadAlike, rounded}
+use Rattle.parsing_two_roads.proofs.Moments.{whole_alike}
 
 -- the hour and the minute of the offset that is assumed
 pub record Assumed (defaults : Option Record) : Type 0 where

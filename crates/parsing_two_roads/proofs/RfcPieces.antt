@@ -12,7 +12,7 @@ use Rattle.parsing_resolution.specs.StandIn.{leap_checked}
 use Rattle.parsing_rfc3339.specs.declared.written.Written.{Written}
 use Rattle.parsing_rfc3339.specs.Direct.{direct, moment, moment_of}
 use Rattle.parsing_rfc3339.specs.Reading.{date, clock, subsecond, offset, rfc3339}
-use Rattle.parsing_two_formats.proofs.Inversion.{due_piece, due_check, due_part, due_value, due_end, due_whole, last_value, same_end}
+use Rattle.parsing_two_roads.proofs.Inversion.{due_piece, due_check, due_part, due_value, due_end, due_whole, last_value, same_end}
 
 -- `1985-04-12`
 pub record DatePieces (bytes : List ℕ) (d : ℕ × ℕ × ℕ) (rest : List ℕ) : Type 0 where

@@ -22,10 +22,10 @@ use Rattle.parsing_iso8601.specs.Times.{time_of, subsecond_of, time, designator,
 use Rattle.parsing_iso8601.proofs.Pieces.{same, passed, not_passed, fraction_run}
 use Rattle.parsing_iso8601.proofs.QuickTimes.{time_of_pieces, number_of, before_colon}
 use Rattle.parsing_iso8601.proofs.Rounding.{rounded}
-use Rattle.parsing_two_formats.specs.TwoFormats.{digits_behind, rounds_up}
-use Rattle.parsing_two_formats.proofs.Inversion.{due_piece, same_end}
-use Rattle.parsing_two_formats.proofs.Places.{byte_place, further}
-use Rattle.parsing_two_formats.proofs.RfcPieces.{clock_pieces}
+use Rattle.parsing_two_roads.specs.TwoFormats.{digits_behind, rounds_up}
+use Rattle.parsing_two_roads.proofs.Inversion.{due_piece, same_end}
+use Rattle.parsing_two_roads.proofs.Places.{byte_place, further}
+use Rattle.parsing_two_roads.proofs.RfcPieces.{clock_pieces}
 
 -- another byte than `T` begins no time of day behind a date
 pub no_time : (c : ℕ) (cs : List ℕ) → (c == 84) ≡ false → time Extended true (c ∷ cs) ≡ None

@@ -29,13 +29,13 @@ use Rattle.parsing_iso8601.specs.Reading.{dated, iso8601, whole}
 use Rattle.parsing_iso8601.specs.ReadView.{day_named}
 use Rattle.parsing_iso8601.specs.Times.{time, time_of, subsecond_of}
 use Rattle.parsing_iso8601.proofs.QuickMoments.{of_offset, moment_named}
-use Rattle.parsing_two_formats.specs.TwoFormats.{separator, last_byte, second_of, fraction_of, rounds_up, fills_second, is_of_both, rounded}
-use Rattle.parsing_two_formats.proofs.Places.{digits_place, byte_place, any_place, further, byte_at, last_of_rest}
-use Rattle.parsing_two_formats.proofs.RfcPieces.{date_pieces, clock_pieces, TextPieces, text_pieces, shown}
-use Rattle.parsing_two_formats.proofs.SameDates.{read_date}
-use Rattle.parsing_two_formats.proofs.SameOffsets.{SameOffset, same_zone}
-use Rattle.parsing_two_formats.proofs.SameTimes.{no_time, designated, run_of, SameFraction, same_fraction, rounded_cut, cut_is, same_time, refused_time}
-use Rattle.parsing_two_formats.proofs.NearTimes.{same_leap, next_time}
+use Rattle.parsing_two_roads.specs.TwoFormats.{separator, last_byte, second_of, fraction_of, rounds_up, fills_second, is_of_both, rounded}
+use Rattle.parsing_two_roads.proofs.Places.{digits_place, byte_place, any_place, further, byte_at, last_of_rest}
+use Rattle.parsing_two_roads.proofs.RfcPieces.{date_pieces, clock_pieces, TextPieces, text_pieces, shown}
+use Rattle.parsing_two_roads.proofs.SameDates.{read_date}
+use Rattle.parsing_two_roads.proofs.SameOffsets.{SameOffset, same_zone}
+use Rattle.parsing_two_roads.proofs.SameTimes.{no_time, designated, run_of, SameFraction, same_fraction, rounded_cut, cut_is, same_time, refused_time}
+use Rattle.parsing_two_roads.proofs.NearTimes.{same_leap, next_time}
 use Rattle.parsing_resolution.proofs.lemmas.Ranges.{date_ranges, TimeRanges, time_ranges}
 use Rattle.parsing_two_roads.proofs.Numbers.{month_with, same_date}
 

@@ -1,9 +1,0 @@
-pub mod Assumed
-pub mod Inversion
-pub mod Moments
-pub mod NearTimes
-pub mod Places
-pub mod RfcPieces
-pub mod SameDates
-pub mod SameOffsets
-pub mod SameTimes
