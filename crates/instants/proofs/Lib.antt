@@ -1,8 +1,13 @@
-pub mod FirstNamed
+pub mod Again
 pub mod Answered
+pub mod Appended
+pub mod Bytes
+pub mod Counted
+pub mod Decimals
+pub mod FirstNamed
+pub mod Means
+pub mod Pieces
 pub mod Placed
 pub mod Reread
+pub mod Values
 pub mod Written
-pub mod Appended
-pub mod Means
-pub mod Counted

@@ -6,7 +6,10 @@ ghost use Rattle.byte_names.specs.Bytes.{line_feed};
 ghost use Rattle.calendar.specs.UtcOffset.{IsClockOffset};
 ghost use Rattle.datetime_wall.specs.Wall.{Shown, instant};
 ghost use Rattle.parsing_pieces.specs.Fault.{Fault};
+ghost use Rattle.instants_answers.specs.Text.{moment_text};
+ghost use Rattle.instants_order.specs.Written.{IsWritten};
 ghost use Rattle.instants_sources.specs.Grammar.{Grammar};
+ghost use Rattle.instants_sources.specs.Grammar as grammar;
 ghost use Rattle.instants_sources.specs.Named.{named};
 ghost use Rattle.instants_stream.specs.Answers.{answered, output};
 ghost use Rattle.instants.specs.Answered.{IsAnswered, with_target};
@@ -17,7 +20,6 @@ ghost use Rattle.instants.specs.Place.{Setting, first_named, shown_or_refused, p
 
 use datetime_types::OffsetDateTime;
 pub use instants_order::laws::order_of_lines;
-pub use instants_reread::laws::lines_read_again;
 pub use instants_stream::laws::joined_streams;
 
 /// One source more, behind the others, leaves the answer to each line for which another one has a moment, also where the
@@ -55,6 +57,14 @@ pub fn embedding()
         → IsAnsweredIn setting limit stream before line behind m
         → output (answer_to setting) limit stream
         ≡ written setting limit before ++ ((answer_to setting line ++ line_feed ∷ []) ++ written setting limit behind) }
+{}
+
+/// The line of a moment, read by RFC 3339 alone or by ISO 8601 alone, names that moment, whatever offset is assumed. The
+/// line of any moment has at most 35 bytes.
+pub fn lines_read_again()
+    ensures rfc3339 { (m : Shown) → IsWritten m → IsClockOffset m.offset → (assumed : Option ℤ) → named assumed grammar.Rfc3339 (moment_text m) ≡ Ok m }
+    ensures iso8601 { (m : Shown) → IsWritten m → IsClockOffset m.offset → (assumed : Option ℤ) → named assumed grammar.Iso8601 (moment_text m) ≡ Ok m }
+    ensures length { (m : Shown) → length (moment_text m) ≤ 35 }
 {}
 
 /// A written line, read again by RFC 3339 alone or by ISO 8601 alone, with any offset assumed or none and a limit of at

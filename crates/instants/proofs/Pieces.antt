@@ -13,7 +13,7 @@ use Rattle.instants_order.proofs.Lines.{Fits}
 use Rattle.parsing_pieces.specs.Pieces.{digit_count, any_byte, byte_of, skip_of}
 use Rattle.parsing_pieces.specs.declared.zone.Zone.{Zone}
 use Rattle.parsing_rfc3339.specs.Reading.{date, clock, due_fraction, subsecond, zulu, signed_offset, offset}
-use Rattle.instants_reread.proofs.Decimals.{decimal_read, fraction_read}
+use Rattle.instants.proofs.Decimals.{decimal_read, fraction_read}
 
 pub date_read : (t : YearMonthDay) (rest : List ℕ) → Fits t → 0 < t.month → date false (date_text t ++ rest) ≡ Ok ((unsigned_abs t.year, t.month, t.day), rest)
 unfolding date date_text skip_of

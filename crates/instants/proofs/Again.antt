@@ -19,9 +19,9 @@ use Rattle.parsing_two_roads.proofs.Rfc3339.{agree}
 use Rattle.parsing_two_roads.proofs.Iso8601.{from_holding}
 use Rattle.parsing_two_roads.specs.TwoFormats.{HoldsAtMostAnOffset}
 use Rattle.parsing_two_roads.proofs.Assumed.{same_moment, two_formats}
-use Rattle.instants_reread.proofs.Pieces.{date_read, any_read, clock_read, subsecond_read, zone_named, offset_read, offset_ends}
-use Rattle.instants_reread.proofs.Values.{day_named, time_named, offset_named}
-use Rattle.instants_reread.proofs.Bytes.{behind_second, behind_date, line_parts, both, unrounded}
+use Rattle.instants.proofs.Pieces.{date_read, any_read, clock_read, subsecond_read, zone_named, offset_read, offset_ends}
+use Rattle.instants.proofs.Values.{day_named, time_named, offset_named}
+use Rattle.instants.proofs.Bytes.{behind_second, behind_date, line_parts, both, unrounded}
 
 abbrev placed : ℤ → ℤ → Shown
 placed wall offset = record { wall = wall; offset = offset }

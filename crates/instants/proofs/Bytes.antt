@@ -15,8 +15,8 @@ use Rattle.parsing_two_roads.specs.TwoFormats.{separator, last_byte, fraction_of
 use Rattle.parsing_two_roads.proofs.Places.{byte_at, last_of_rest}
 use Rattle.parsing_pieces.specs.Pieces.{digit_count}
 use Rattle.parsing_pieces.proofs.Fronts.{byte_at as byte_read}
-use Rattle.instants_reread.proofs.Decimals.{count_with}
-use Rattle.instants_reread.proofs.Pieces.{clock_text, zone_text, offset_ends}
+use Rattle.instants.proofs.Decimals.{count_with}
+use Rattle.instants.proofs.Pieces.{clock_text, zone_text, offset_ends}
 
 -- what follows the second, from the point on
 abbrev pub behind_second : ℕ → ℤ → List ℕ
