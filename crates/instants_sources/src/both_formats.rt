@@ -3,7 +3,7 @@ ghost use Rattle.std.specs.Prelude.{◌≡◌, ◌≤◌, true, false, length};
 ghost use Rattle.parsing_two_roads.specs.TwoFormats.{fraction_of, is_of_both, rounds_up};
 
 // Whether a fraction behind the second has at most nine digits: `false` says nothing of the line. A fraction ends before
-// the last byte, or before an offset of six.
+// the last byte, a `Z`, or before the last six, an offset.
 #[inline(always)]
 fn has_short_fraction(line: &[u8]) -> bool
     requires { length line.now ≤ 35 }
