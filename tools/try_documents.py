@@ -144,7 +144,7 @@ def try_page(crate):
     if len(fences) != 1:
         return [f"{crate}: its page has {len(fences)} fences in place of one"]
     due = fences[0]
-    if not any(rows[at : at + len(due)] == due for at in range(len(rows))):
+    if not due or not any(rows[at : at + len(due)] == due for at in range(len(rows))):
         return [f"{crate}: the lines of its page don't stand in {test.relative_to(ROOT)}"]
     return []
 
