@@ -1,3 +1,4 @@
 pub mod BothFormats
 pub mod FewPlaces
+pub mod FirstItem
 pub mod RuledOut

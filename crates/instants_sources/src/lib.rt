@@ -2,6 +2,7 @@
 #![tactic(auto)]
 
 mod both_formats;
+mod first_item;
 mod moment;
 mod places;
 mod ruled_out;

@@ -6,7 +6,8 @@ ghost use Rattle.instants_sources.specs.Grammar as grammar;
 ghost use Rattle.instants_sources.specs.Named.{named};
 
 use crate::both_formats::is_read_alike;
-use crate::ruled_out::{has_no_hyphen, has_no_space};
+use crate::first_item::{description_reads_none, items_read_none};
+use crate::ruled_out::{begins_no_day, begins_no_part, has_no_hyphen, has_no_space};
 use crate::source::Source;
 use calendar::UtcOffset;
 use datetime_types::OffsetDateTime;
@@ -65,7 +66,7 @@ fn is_no_rfc2822(line: &[u8]) -> bool
     ensures { result ≡ true → (assumed : Option ℤ) → result_ok (named assumed grammar.Rfc2822 line.now) ≡ None }
 {
     two_roads_of_rfc2822(line);
-    has_no_space(line)
+    has_no_space(line) || begins_no_day(line)
 }
 
 // The same of RFC 3339.
@@ -85,9 +86,11 @@ impl<'a> Source<'a> {
         ensures { result ≡ true → (assumed : Option ℤ) → result_ok (named assumed (grammar_of self.now) line.now) ≡ None }
     {
         match self {
+            Source::Items(items) => items_read_none(items, line),
+            Source::V3(description) => description_reads_none(description, line),
             Source::Rfc2822 => is_no_rfc2822(line),
             Source::Rfc3339 => is_no_rfc3339(line),
-            _ => false,
+            Source::Iso8601 => begins_no_part(line),
         }
     }
 
@@ -108,11 +111,11 @@ impl<'a> Source<'a> {
     pub fn moment(&self, line: &[u8], assumed: &Option<UtcOffset>) -> Option<OffsetDateTime>
         ensures { result ≡ result_ok (named assumed.now (grammar_of self.now) line.now) }
     {
-        if let Some(moment) = self.quick(line) {
-            return Some(moment);
-        }
         if self.rules_out(line) {
             return None;
+        }
+        if let Some(moment) = self.quick(line) {
+            return Some(moment);
         }
         match self.read(line, *assumed) {
             Ok(moment) => Some(moment),

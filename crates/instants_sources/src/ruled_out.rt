@@ -1,8 +1,10 @@
-//! What the first bytes of a line show.
+//! What the first bytes of a line show of the well-known formats.
 ghost use Rattle.std.specs.Prelude.{◌≡◌, true, None};
 ghost use Rattle.std.specs.Result.{result_ok};
+ghost use Rattle.parsing_record.specs.Record.{Record};
 ghost use Rattle.parsing_rfc2822.specs.Direct as rfc2822;
 ghost use Rattle.parsing_rfc3339.specs.Direct as rfc3339;
+ghost use Rattle.parsing_staged.specs.Staged.{reads_iso8601};
 
 /// Whether a line has no hyphen behind its first four bytes, so that RFC 3339 names no moment for it.
 #[inline(always)]
@@ -25,4 +27,39 @@ pub(crate) fn has_no_space(line: &[u8]) -> bool
         return false;
     }
     line[0].is_ascii_digit() && line[1].is_ascii_digit() && line[2] > b'('
+}
+
+/// Whether a line begins behind the digits, and with no first letter of a weekday, so that RFC 2822 names no moment for it.
+#[inline(always)]
+pub(crate) fn begins_no_day(line: &[u8]) -> bool
+    ensures { result ≡ true → result_ok (rfc2822.direct line.now) ≡ None }
+{
+    let [first, ..] = line else {
+        return false;
+    };
+    let first = *first;
+    if first <= b'9' {
+        return false;
+    }
+    if first == b'F' || first == b'M' || first == b'S' || first == b'T' || first == b'W' {
+        return false;
+    }
+    if first == b'f' || first == b'm' || first == b's' || first == b't' || first == b'w' {
+        return false;
+    }
+    true
+}
+
+/// Whether a line begins behind the digits, and with neither a `T` nor a `Z`, so that ISO 8601 reads no part of it.
+#[inline(always)]
+pub(crate) fn begins_no_part(line: &[u8]) -> bool
+    ensures { result ≡ true → (r : Record) → result_ok (reads_iso8601 r line.now) ≡ None }
+{
+    let [first, ..] = line else {
+        return false;
+    };
+    if *first <= b'9' || *first == b'T' || *first == b'Z' {
+        return false;
+    }
+    true
 }

@@ -61,6 +61,7 @@ impl<'a> Source<'a> {
 
     /// The moment that the whole line names, with an offset assumed or none. Hours and minutes of the assumed offset
     /// count, and each only where the line does not say it.
+    #[inline(always)]
     pub fn read(&self, line: &[u8], assumed: Option<UtcOffset>) -> Result<OffsetDateTime, Parse>
         ensures gives { Gives (λ m. m) fault_of result (named assumed (grammar_of self.now) line.now) }
         ensures short { IfErr result (λ fault. HasShortName (fault_of fault)) }

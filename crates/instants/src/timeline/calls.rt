@@ -1,16 +1,17 @@
 //! Lines placed on one timeline.
 ghost use Rattle.std.specs.Prelude.{◌≡◌, ◌≢◌, ◌<◌, ◌≤◌, codes, length, map, Ok, IfOk, IfErr, IfSome};
+ghost use Rattle.std.specs.Option.{ok_or};
 ghost use Rattle.std.specs.Result.{result_ok};
 ghost use Rattle.parsing_pieces.specs.FaultOf.{fault_of, Gives};
 ghost use Rattle.parsing_pieces.specs.ShortName.{HasShortName};
 ghost use Rattle.calendar.specs.UtcOffset.{IsClockOffset};
 ghost use Rattle.instants_answers.specs.Text.{FitsLine};
-ghost use Rattle.instants.specs.Refusal.{IsShort, long, refusal_of, refusal_said, refusal_text};
+ghost use Rattle.instants.specs.Refusal.{IsShort, long, refusal_of, refusal_said, refusal_text, year};
 ghost use Rattle.instants.specs.Sources.{AllMean, IsRefusal};
 ghost use Rattle.instants_words.specs.Sources.{said_by};
 ghost use Rattle.instants_sources.specs.Grammar.{grammar_of};
 ghost use Rattle.instants_sources.specs.Grammar as grammar;
-ghost use Rattle.instants.specs.Place.{IsFirst, first_named, place_of, answer_to, IsPlace};
+ghost use Rattle.instants.specs.Place.{IsFirst, first_named, place_of, place_text, shown_or_refused, answer_to, IsPlace};
 ghost use Rattle.instants.specs.Settings.{setting_of};
 
 use crate::line_fault::LineFault;
@@ -67,15 +68,19 @@ impl<'a> Timeline<'a> {
     {
         let sources = self.sources.as_slice();
         let first = &sources[0];
-        if first.rules_out(line) {
-            return match moment_of_any(&sources[1..], line, &self.assumed) {
-                Some(moment) => Ok(moment),
-                None => first.read(line, self.assumed),
-            };
+        let mut refused = None;
+        if !first.rules_out(line) {
+            match first.read(line, self.assumed) {
+                Ok(moment) => return Ok(moment),
+                Err(fault) => refused = Some(fault),
+            }
         }
-        match first.read(line, self.assumed) {
-            Ok(moment) => Ok(moment),
-            Err(fault) => moment_of_any(&sources[1..], line, &self.assumed).ok_or(fault),
+        if let Some(moment) = moment_of_any(&sources[1..], line, &self.assumed) {
+            return Ok(moment);
+        }
+        match refused {
+            Some(fault) => Err(fault),
+            None => first.read(line, self.assumed),
         }
     }
 
@@ -95,13 +100,33 @@ impl<'a> Timeline<'a> {
             Ok(named) => named,
             Err(fault) => return Err(LineFault::from(fault)),
         };
-        let Some(moment) = named.checked_to_offset(self.target) else {
-            return Err(LineFault::Year);
-        };
+        self.shown(named).ok_or(LineFault::Year)
+    }
+
+    // A moment as it is shown at the target, if its year there is written in four digits.
+    #[inline(always)]
+    fn shown(&self, named: OffsetDateTime) -> Option<OffsetDateTime>
+        ensures shown { ok_or result year ≡ shown_or_refused (setting_of self.now).target (Ok named) }
+        ensures fits { IfSome result FitsLine }
+    {
+        let moment = named.checked_to_offset(self.target)?;
         if has_written_year(moment) {
-            Ok(moment)
+            Some(moment)
         } else {
-            Err(LineFault::Year)
+            None
+        }
+    }
+
+    // Writes a moment as it is shown at the target, or that its year there is not written.
+    #[inline(always)]
+    fn write_shown(&self, named: OffsetDateTime, storage: &mut Answer)
+        ensures bytes { storage.new ≡ place_text (shown_or_refused (setting_of self.now).target (Ok named)) }
+        ensures room { length storage.new ≤ 63 }
+        ensures never_long { storage.new ≢ codes "! long" }
+    {
+        match self.shown(named) {
+            Some(moment) => write_line(moment, storage),
+            None => LineFault::Year.write(storage),
         }
     }
 
@@ -113,13 +138,9 @@ impl<'a> Timeline<'a> {
         ensures bytes { storage.new ≡ answer_to (setting_of self.now) line.now }
         ensures room { length storage.new ≤ 63 }
     {
-        if let Some(named) = named
-            && let Some(moment) = named.checked_to_offset(self.target)
-            && has_written_year(moment)
-        {
-            write_line(moment, storage);
-        } else {
-            self.write_place(line, storage);
+        match named {
+            Some(named) => self.write_shown(named, storage),
+            None => self.write_place(line, storage),
         }
     }
 
@@ -165,15 +186,15 @@ impl<'a> Timeline<'a> {
 
     // The same, by all sources.
     #[inline(never)]
-    #[tactic(auto, unfolding(crate::specs::Place::answer_to))]
+    #[tactic(auto, unfolding(crate::specs::Place::answer_to, crate::specs::Place::place_of))]
     fn write_place(&self, line: &[u8], storage: &mut Answer)
         ensures bytes { storage.new ≡ answer_to (setting_of self.now) line.now }
         ensures room { length storage.new ≤ 63 }
         ensures never_long { storage.new ≢ codes "! long" }
     {
-        match self.place(line) {
-            Ok(moment) => write_line(moment, storage),
-            Err(fault) => fault.write(storage),
+        match self.first_named(line) {
+            Ok(named) => self.write_shown(named, storage),
+            Err(fault) => LineFault::from(fault).write(storage),
         }
     }
 
