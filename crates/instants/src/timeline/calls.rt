@@ -67,15 +67,16 @@ impl<'a> Timeline<'a> {
         ensures short { IfErr result (λ fault. HasShortName (fault_of fault)) }
     {
         let sources = self.sources.as_slice();
-        let first = &sources[0];
+        let (first, others) = (&sources[0], &sources[1..]);
         let mut refused = None;
-        if !first.rules_out(line) {
+        // A source alone is read in any case, for its fault.
+        if others.is_empty() || !first.rules_out(line) {
             match first.read(line, self.assumed) {
                 Ok(moment) => return Ok(moment),
                 Err(fault) => refused = Some(fault),
             }
         }
-        if let Some(moment) = moment_of_any(&sources[1..], line, &self.assumed) {
+        if let Some(moment) = moment_of_any(others, line, &self.assumed) {
             return Ok(moment);
         }
         match refused {
