@@ -5,7 +5,8 @@
     tools/gate_times.py --write     also writes the table to docs/GATE.md, where the gate passed
 
 What a process takes is read from /proc while it runs, so it works on Linux; what is over between two looks is counted
-under `other`, as are rt itself and the programs that it runs.
+under `other`, as are rt itself and the programs that it runs. Machines differ, and so does one machine from day to day:
+the crates that have not changed since the run in docs/GATE.md tell how this run's pace compares with that one's.
 """
 
 import argparse
@@ -99,7 +100,32 @@ def table_of(parts, total):
     return lines
 
 
-def text_of(lines, last, total, wall):
+def crates_since(commit):
+    """Returns the crates with a file that differs from a commit; none where git does not know it."""
+    how = {"cwd": ROOT, "capture_output": True, "text": True}
+    changed = subprocess.run(["git", "diff", "--name-only", commit, "--", "crates"], **how)
+    return {it.split("/")[1] for it in changed.stdout.split()} if changed.returncode == 0 else None
+
+
+def pace_of(before, parts, total):
+    """Returns a sentence that compares the machine's pace with that of the run that a text of GATE.md tells of, by the
+    crates that are the same as they were then; nothing where there are none."""
+    commit = re.search(r"commit (\w+)", before)
+    changed = crates_since(commit[1]) if commit else None
+    if changed is None:
+        return ""
+    then = {name: int(seconds) for name, seconds in re.findall(r"^\| `(\w+)` \|.*\| (\d+) \|$", before, re.M)}
+    same = [it for it in then if it not in changed and any(parts[it, part] for part in PARTS)]
+    was, now = sum(then[it] for it in same), sum(parts[it, part] for it in same for part in PARTS)
+    if not was:
+        return ""
+    return (
+        f"\nPace: the {len(same)} crates that are as they were at {commit[1]} took {was} s in the run of that commit, and {now:.0f} s "
+        f"in this one, {now / was:.2f} times as long. At that pace this run takes {total * was / now / 60:.0f} processor minutes.\n"
+    )
+
+
+def text_of(lines, pace, last, total, wall):
     processors, load = len(os.sched_getaffinity(0)), os.getloadavg()[2]
     kit = subprocess.run(["rt", "version"], capture_output=True, text=True, check=True).stdout.strip()
     commit = subprocess.run(["git", "rev-parse", "--short", "HEAD"], cwd=ROOT, capture_output=True, text=True, check=True).stdout.strip()
@@ -109,7 +135,7 @@ Processor seconds of one `rt ci`, crate by crate, written by `tools/gate_times.p
 
 {datetime.date.today()}, commit {commit}, {kit}: `{last}` after {wall / 60:.0f} minutes on {processors} processors (load {load:.1f} at the end), {total / 60:.0f} processor minutes.
 """
-    return head + "\n" + "\n".join(lines) + "\n"
+    return head + pace + "\n" + "\n".join(lines) + "\n"
 
 
 def main():
@@ -118,7 +144,8 @@ def main():
     words.add_argument("command", nargs="*", default=["rt", "ci"], help="what to time in place of rt ci")
     given = words.parse_args()
     status, last, total, wall, parts = run_gate(given.command)
-    text = text_of(table_of(parts, total), last, total, wall)
+    before = TABLE.read_text() if TABLE.exists() else ""
+    text = text_of(table_of(parts, total), pace_of(before, parts, total), last, total, wall)
     print(text)
     if given.write and status == 0 and re.fullmatch(r"\d+ passed, 0 failed", last):
         TABLE.write_text(text)
