@@ -1,10 +1,12 @@
 -- What the first item of a description refuses, the description refuses.
-use Rattle.std.proofs.Common.{◌≡◌, ◌≤◌, ℕ, Bool, true, false, eqb, List, [], ◌∷◌, length, get_or, map, Option, Some, None, Result, Ok, Err, refl, sym, ℤ, arith}
-use Rattle.std.proofs.lemmas.Bool.{eqb-false, ne_eqb}
+use Rattle.std.proofs.Common.{◌≡◌, ◌≤◌, ◌<◌, ◌∙◌, ℕ, Bool, true, false, eqb, List, [], ◌∷◌, length, get_or, map, Option, Some, None, Result, Ok, Err, refl, sym, ℤ, arith}
+use Rattle.std.proofs.lemmas.Bool.{eqb-false, ne_eqb, ltb-true}
+use Rattle.std.proofs.lemmas.Bool.Decides.{nat_tests}
+use Rattle.std.specs.Char.{to_ascii_lowercase}
 use Rattle.std.specs.Borrow.{Bor}
 use Rattle.std.specs.List.{slice_get}
 use Rattle.std.specs.Option.{is_some}
-use Rattle.std.specs.Prelude.{not, option_map}
+use Rattle.std.specs.Prelude.{not, option_map, nat_lt, ◌&&◌}
 use Rattle.std.specs.Result.{result_ok}
 use Rattle.calendar_count.specs.Range.{greatest_year}
 use Rattle.description_date_modifiers.specs.declared.day.Day.{Day}
@@ -21,8 +23,9 @@ use Rattle.parsing_pieces.specs.Fault.{Fault}
 use Rattle.parsing_pieces.specs.Pieces.{cut_view}
 use Rattle.parsing_pieces.specs.Readings.{then_read, piece_or}
 use Rattle.parsing_shapes.specs.Shape.{taken}
+use Rattle.parsing_shapes.proofs.NameLemmas.{taken_named}
 use Rattle.parsing_shapes.specs.Numbers.{padded, year}
-use Rattle.parsing_shapes.specs.Names.{named, short_months, short_weekdays}
+use Rattle.parsing_shapes.specs.Names.{named, begins, found, short_months, short_weekdays}
 use Rattle.parsing_components.specs.Component.{reads_component, reads_component_v3, reads_modern, date_piece, year_piece, time_piece}
 use Rattle.parsing_components.specs.Ranged.{kept, between, up_to, counted, months}
 use Rattle.parsing_components.specs.Read.{Read}
@@ -119,6 +122,52 @@ no_standard_year m line e = let none = unsaid (up_to greatest_year (λ negative 
 pub no_hour : (m : Hour24) (line : List ℕ) → taken (padded m.padding 2 2) line ≡ None → ReadsNone (component.Hour24 m) line
 unfolding reads_component reads_component_v3 reads_modern date_piece year_piece time_piece
 no_hour m line e = let none = unsaid (between 0 23 read.Hour24) (taken (padded m.padding 2 2) line) _ e in (none, none)
+
+-- ---- a line that begins with a digit, or with a byte before the digits, begins with no name
+
+-- names begin behind the digits, in any case
+begin_late : {A : Type 0} → List (List ℕ × A) → Bool
+begin_late [] = true
+begin_late (entry ∷ entries) = nat_lt 57 (get_or entry.0 0 0) && (nat_lt 57 (to_ascii_lowercase (get_or entry.0 0 0)) && begin_late entries)
+
+and-true : (a b : Bool) → (a && b) ≡ true → (a ≡ true) × (b ≡ true)
+and-true true b e = (refl, e)
+and-true false b e = absurd cc
+
+low : (c : ℕ) → c ≤ 57 → to_ascii_lowercase c ≤ 57
+low c le = grind (arith, nat_tests)
+
+not_begun : (b : Bool) (name : List ℕ) (c : ℕ) (rest : List ℕ) → c ≤ 57 → 57 < get_or name 0 0 → 57 < to_ascii_lowercase (get_or name 0 0) → begins b name (c ∷ rest) ≡ false
+unfolding begins
+not_begun b [] c rest le late lower = absurd (omega (arith, late))
+not_begun true (n ∷ name) c rest le late lower = rw (ne_eqb n c (λ e. omega (arith, e, le, late))) refl
+not_begun false (n ∷ name) c rest le late lower = rw (ne_eqb (to_ascii_lowercase n) (to_ascii_lowercase c) (λ e. omega (arith, e, low c le, lower))) refl
+
+none_found : {A : Type 0} (b : Bool) (entries : List (List ℕ × A)) (c : ℕ) (rest : List ℕ) → c ≤ 57 → begin_late entries ≡ true → found b entries (c ∷ rest) ≡ None
+unfolding found begin_late
+none_found b [] c rest le late = refl
+none_found b (entry ∷ entries) c rest le late =
+    let first = and-true (nat_lt 57 (get_or entry.0 0 0)) _ late in
+    let other = and-true (nat_lt 57 (to_ascii_lowercase (get_or entry.0 0 0))) _ first.1 in
+    rw (not_begun b entry.0 c rest le (ltb-true 57 (get_or entry.0 0 0) first.0) (ltb-true 57 (to_ascii_lowercase (get_or entry.0 0 0)) other.0)) (none_found b entries c rest le other.1)
+
+no_short_month : (b : Bool) (c : ℕ) (rest : List ℕ) → c ≤ 57 → taken (named b short_months) (c ∷ rest) ≡ None
+unfolding begins begin_late
+no_short_month true c rest le = taken_named true short_months (c ∷ rest) refl ∙ none_found true short_months c rest le refl
+no_short_month false c rest le = taken_named false short_months (c ∷ rest) refl ∙ none_found false short_months c rest le refl
+
+no_short_weekday : (b : Bool) (c : ℕ) (rest : List ℕ) → c ≤ 57 → taken (named b short_weekdays) (c ∷ rest) ≡ None
+unfolding begins begin_late
+no_short_weekday true c rest le = taken_named true short_weekdays (c ∷ rest) refl ∙ none_found true short_weekdays c rest le refl
+no_short_weekday false c rest le = taken_named false short_weekdays (c ∷ rest) refl ∙ none_found false short_weekdays c rest le refl
+
+pub month_due : (bytes : List ℕ) (b : Bool) → 1 ≤ length bytes → get_or bytes 0 0 ≤ 57 → taken (named b short_months) bytes ≡ None
+month_due [] b le h = absurd (omega (arith, le))
+month_due (c ∷ rest) b le h = no_short_month b c rest h
+
+pub weekday_due : (bytes : List ℕ) (b : Bool) → 1 ≤ length bytes → get_or bytes 0 0 ≤ 57 → taken (named b short_weekdays) bytes ≡ None
+weekday_due [] b le h = absurd (omega (arith, le))
+weekday_due (c ∷ rest) b le h = no_short_weekday b c rest h
 
 pub begun_otherwise : (text line : List ℕ) → 1 ≤ length text → 1 ≤ length line → eqb (get_or text 0 0) (get_or line 0 0) ≡ false → result_ok (literally text line) ≡ None
 unfolding literally

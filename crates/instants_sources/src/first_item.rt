@@ -1,17 +1,31 @@
 //! What the first bytes of a line show of a description.
-ghost use Rattle.std.specs.Prelude.{◌≡◌, true, None};
+ghost use Rattle.std.specs.Prelude.{◌≡◌, Bool, true, None};
 ghost use Rattle.std.specs.Result.{result_ok};
 ghost use Rattle.description_items.specs.Tree.{tree_of, trees, listed};
 ghost use Rattle.description_tree.specs.Inner.{inner_tree, inner_trees};
 ghost use Rattle.description_tree.specs.Description.{v3_tree};
 ghost use Rattle.parsing_components.specs.Component.{reads_component, reads_component_v3};
+ghost use Rattle.parsing_shapes.specs.Shape.{taken};
+ghost use Rattle.parsing_shapes.specs.Names.{named, short_months, short_weekdays};
 ghost use Rattle.parsing_record.specs.Meaning.{literally};
 ghost use Rattle.parsing_record.specs.Reads.{reading, reading_of_all};
 ghost use Rattle.parsing_record.specs.Record.{Record};
 
 use description_items::{BorrowedFormatItem, Component};
 use description_tree::{FormatDescriptionV3, FormatDescriptionV3Inner as Inner};
-use parsing_shapes::{padded_two, short_month, short_weekday, year};
+use parsing_shapes::{padded_two, year};
+
+// Whether a line begins with a digit, or with a byte before the digits, and so with no name.
+#[inline(always)]
+fn begins_no_name(line: &[u8]) -> bool
+    ensures months { result ≡ true → (b : Bool) → taken (named b short_months) line.now ≡ None }
+    ensures weekdays { result ≡ true → (b : Bool) → taken (named b short_weekdays) line.now ≡ None }
+{
+    match line {
+        [first, ..] => *first <= b'9',
+        [] => false,
+    }
+}
 
 // Whether a component that many descriptions begin with reads nothing of a line: `false` says nothing of it.
 #[inline(always)]
@@ -21,9 +35,9 @@ fn component_reads_none(component: &Component, line: &[u8]) -> bool
 {
     match component {
         Component::Day(m) => padded_two(m.padding, line).is_none(),
-        Component::MonthShort(m) => short_month(m.case_sensitive, line).is_none(),
+        Component::MonthShort(_) => begins_no_name(line),
         Component::MonthNumerical(m) => padded_two(m.padding, line).is_none(),
-        Component::WeekdayShort(m) => short_weekday(m.case_sensitive, line).is_none(),
+        Component::WeekdayShort(_) => begins_no_name(line),
         Component::CalendarYearFullExtendedRange(m) => {
             year(m.padding, m.sign_is_mandatory, true, line).is_none()
         }
@@ -78,9 +92,9 @@ fn node_reads_none(node: &Inner<'_>, line: &[u8]) -> bool
 {
     match node {
         Inner::Day(m) => padded_two(m.padding, line).is_none(),
-        Inner::MonthShort(m) => short_month(m.case_sensitive, line).is_none(),
+        Inner::MonthShort(_) => begins_no_name(line),
         Inner::MonthNumerical(m) => padded_two(m.padding, line).is_none(),
-        Inner::WeekdayShort(m) => short_weekday(m.case_sensitive, line).is_none(),
+        Inner::WeekdayShort(_) => begins_no_name(line),
         Inner::CalendarYearFullExtendedRange(m) => {
             year(m.padding, m.sign_is_mandatory, true, line).is_none()
         }

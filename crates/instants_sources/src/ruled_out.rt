@@ -55,11 +55,8 @@ pub(crate) fn begins_no_day(line: &[u8]) -> bool
 pub(crate) fn begins_no_part(line: &[u8]) -> bool
     ensures { result ≡ true → (r : Record) → result_ok (reads_iso8601 r line.now) ≡ None }
 {
-    let [first, ..] = line else {
-        return false;
-    };
-    if *first <= b'9' || *first == b'T' || *first == b'Z' {
-        return false;
+    match line {
+        [first, ..] => *first > b'9' && *first != b'T' && *first != b'Z',
+        [] => false,
     }
-    true
 }

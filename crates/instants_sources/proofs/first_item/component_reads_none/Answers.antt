@@ -5,13 +5,13 @@ pub returns-in-Day : goal.returns-in-Day
 returns-in-Day c = λ e. rw c.in-Day.is (no_day c.in-Day.m c.args.line.now (not_taken c.padded_two.result c.is_none.result _ c.is_none.ensures c.padded_two.ensures.taken e))
 
 pub returns-in-MonthShort : goal.returns-in-MonthShort
-returns-in-MonthShort c = λ e. rw c.in-MonthShort.is (no_month_name c.in-MonthShort.m c.args.line.now (not_taken c.short_month.result c.is_none-in-MonthShort.result _ c.is_none-in-MonthShort.ensures c.short_month.ensures e))
+returns-in-MonthShort c = λ e. rw c.in-MonthShort.is (no_month_name c.in-MonthShort.field-0 c.args.line.now (c.begins_no_name.ensures.months e c.in-MonthShort.field-0.case_sensitive))
 
 pub returns-in-MonthNumerical : goal.returns-in-MonthNumerical
 returns-in-MonthNumerical c = λ e. rw c.in-MonthNumerical.is (no_month c.in-MonthNumerical.m c.args.line.now (not_taken c.padded_two-in-MonthNumerical.result c.is_none-in-MonthNumerical.result _ c.is_none-in-MonthNumerical.ensures c.padded_two-in-MonthNumerical.ensures.taken e))
 
 pub returns-in-WeekdayShort : goal.returns-in-WeekdayShort
-returns-in-WeekdayShort c = λ e. rw c.in-WeekdayShort.is (no_weekday_name c.in-WeekdayShort.m c.args.line.now (not_taken c.short_weekday.result c.is_none-in-WeekdayShort.result _ c.is_none-in-WeekdayShort.ensures c.short_weekday.ensures e))
+returns-in-WeekdayShort c = λ e. rw c.in-WeekdayShort.is (no_weekday_name c.in-WeekdayShort.field-0 c.args.line.now (c.begins_no_name-in-WeekdayShort.ensures.weekdays e c.in-WeekdayShort.field-0.case_sensitive))
 
 pub returns-in-CalendarYearFullExtendedRange : goal.returns-in-CalendarYearFullExtendedRange
 returns-in-CalendarYearFullExtendedRange c = λ e. rw c.in-CalendarYearFullExtendedRange.is (no_extended_year c.in-CalendarYearFullExtendedRange.m c.args.line.now (not_taken c.year.result c.is_none-in-CalendarYearFullExtendedRange.result _ c.is_none-in-CalendarYearFullExtendedRange.ensures c.year.ensures.taken e))

@@ -14,8 +14,8 @@ returns-in-Day c = λ e r.
 
 pub returns-in-MonthShort : goal.returns-in-MonthShort
 returns-in-MonthShort c = λ e r.
-    let none = no_month_name c.in-MonthShort.m c.args.line.now (not_taken c.short_month.result c.is_none-in-MonthShort.result _ c.is_none-in-MonthShort.ensures c.short_month.ensures e) in
-    let refused = part_refused reads_component_v3 (component.MonthShort c.in-MonthShort.m) r c.args.line.now none.1 in
+    let none = no_month_name c.in-MonthShort.field-0 c.args.line.now (c.begins_no_name.ensures.months e c.in-MonthShort.field-0.case_sensitive) in
+    let refused = part_refused reads_component_v3 (component.MonthShort c.in-MonthShort.field-0) r c.args.line.now none.1 in
     search (rules, the_lemmas)
 
 pub returns-in-MonthNumerical : goal.returns-in-MonthNumerical
@@ -26,8 +26,8 @@ returns-in-MonthNumerical c = λ e r.
 
 pub returns-in-WeekdayShort : goal.returns-in-WeekdayShort
 returns-in-WeekdayShort c = λ e r.
-    let none = no_weekday_name c.in-WeekdayShort.m c.args.line.now (not_taken c.short_weekday.result c.is_none-in-WeekdayShort.result _ c.is_none-in-WeekdayShort.ensures c.short_weekday.ensures e) in
-    let refused = part_refused reads_component_v3 (component.WeekdayShort c.in-WeekdayShort.m) r c.args.line.now none.1 in
+    let none = no_weekday_name c.in-WeekdayShort.field-0 c.args.line.now (c.begins_no_name-in-WeekdayShort.ensures.weekdays e c.in-WeekdayShort.field-0.case_sensitive) in
+    let refused = part_refused reads_component_v3 (component.WeekdayShort c.in-WeekdayShort.field-0) r c.args.line.now none.1 in
     search (rules, the_lemmas)
 
 pub returns-in-CalendarYearFullExtendedRange : goal.returns-in-CalendarYearFullExtendedRange

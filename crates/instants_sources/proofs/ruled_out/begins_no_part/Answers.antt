@@ -1,6 +1,12 @@
-use Rattle.std.proofs.lemmas.Bool.{ne_eqb}
-use Rattle.instants_sources.proofs.RuledOut.{part_due}
+use Rattle.std.proofs.Common.{sym, ◌∙◌, arith}
+use Rattle.std.proofs.lemmas.Bool.{ltb-true}
+use Rattle.instants_sources.proofs.RuledOut.{not_true, part_due}
+use Rattle.instants_sources.proofs.ruled_out.begins_no_part.Goals.{then-first-gt57, else-first-gt57}
 use Rattle.instants_sources.proofs.ruled_out.begins_no_part.Goals as goal
 
-pub returns : goal.returns
-returns c = λ e r. part_due c.args.line.now r c.in-len1-up.len_at_least c.if-first-le57.false (ne_eqb _ _ c.if-first-eq84.false) (ne_eqb _ _ c.if-first-eq90.false)
+pub returns-then-first-ne84 : goal.returns-then-first-ne84
+returns-then-first-ne84 c = λ e r.
+    elim c.if-first-gt57.branch [
+      | then-first-gt57 w ↦ part_due c.args.line.now r c.in-len1-up.len_at_least w.if-first-gt57.true (not_true _ (sym w.value-is ∙ c.if-first-ne84.true)) (not_true _ e)
+      | else-first-gt57 w ↦ absurd (omega (arith, w.if-first-gt57.false, ltb-true 57 _ (sym w.value-is ∙ c.if-first-ne84.true)))
+    ]
