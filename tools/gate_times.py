@@ -108,8 +108,9 @@ def crates_since(commit):
 
 
 def pace_of(before, parts, total):
-    """Returns a sentence that compares the machine's pace with that of the run that a text of GATE.md tells of, by the
-    crates that are the same as they were then; nothing where there are none."""
+    """Returns a sentence that compares this run's pace with that of the run that a text of GATE.md tells of, by the crates
+    that are the same as they were then; nothing where there are none. Where that text compares its own run with an earlier
+    one, so does this sentence, and paces are multiplied."""
     commit = re.search(r"commit (\w+)", before)
     changed = crates_since(commit[1]) if commit else None
     if changed is None:
@@ -119,9 +120,11 @@ def pace_of(before, parts, total):
     was, now = sum(then[it] for it in same), sum(parts[it, part] for it in same for part in PARTS)
     if not was:
         return ""
+    earlier = re.search(r"^Pace: ([\d.]+) times as long as the run of (\w+)", before, re.M)
+    first, pace = (earlier[2], float(earlier[1]) * now / was) if earlier else (commit[1], now / was)
     return (
-        f"\nPace: the {len(same)} crates that are as they were at {commit[1]} took {was} s in the run of that commit, and {now:.0f} s "
-        f"in this one, {now / was:.2f} times as long. At that pace this run takes {total * was / now / 60:.0f} processor minutes.\n"
+        f"\nPace: {pace:.2f} times as long as the run of {first}, by the {len(same)} crates that are as they were at {commit[1]} "
+        f"({was} s in that commit's run, {now:.0f} s in this one). At the pace of {first} this run takes {total / pace / 60:.0f} processor minutes.\n"
     )
 
 
