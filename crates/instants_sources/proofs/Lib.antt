@@ -1,4 +1,4 @@
 pub mod BothFormats
 pub mod FewPlaces
-pub mod FirstItem
+pub mod Refused
 pub mod RuledOut

@@ -28,7 +28,7 @@ use Rattle.parsing_rfc3339.specs.Direct as rfc3339_direct
 use Rattle.parsing_rfc2822.specs.Reading as rfc2822
 use Rattle.parsing_rfc2822.specs.Names.{weekday, weekday_of}
 use Rattle.parsing_rfc2822.specs.Direct as rfc2822_direct
-use Rattle.parsing_white_space.proofs.WhiteSpaceLemmas.{none_at}
+use Rattle.parsing_white_space.proofs.WhiteSpaceLemmas.{none_at, none_of_nothing}
 use Rattle.instants_sources.specs.Named.{defaults_of}
 
 -- what is named by no road from nothing is named by none with an offset assumed
@@ -151,6 +151,11 @@ day_due [] le h F f M m S s T t W w = absurd (omega (arith, le))
 day_due (c ∷ rest) le h F f M m S s T t W w =
     no_day c rest h (unnamed c rest (λ d e. other_name c d e (other_letter c 70 102 refl F f) (other_letter c 77 109 refl M m) (other_letter c 83 115 refl S s) (other_letter c 84 116 refl T t) (other_letter c 87 119 refl W w)))
 
+pub day_due_of_nothing : (bytes : List ℕ) → length bytes < 1 → result_ok (rfc2822_direct.direct bytes) ≡ None
+unfolding rfc2822_direct.direct rfc2822_direct.moment rfc2822.rfc2822 rfc2822.day rfc2822.optional_weekday rfc2822.one_or_two_digits digits weekday
+day_due_of_nothing [] lt = rw none_of_nothing refl
+day_due_of_nothing (c ∷ rest) lt = absurd (omega (arith, lt))
+
 -- ISO 8601: a part begins with a digit, a sign, a `T` or a `Z`
 
 no_sign : (c : ℕ) → 57 < c → (eqb c plus ≡ false) × (eqb c hyphen ≡ false)
@@ -179,6 +184,11 @@ no_part c rest r h t z = rw (no_date c rest h, no_time c rest h t, no_offset c r
 pub part_due : (bytes : List ℕ) (r : Record) → 1 ≤ length bytes → 57 < get_or bytes 0 0 → eqb (get_or bytes 0 0) 84 ≡ false → eqb (get_or bytes 0 0) 90 ≡ false → result_ok (reads_iso8601 r bytes) ≡ None
 part_due [] r le h t z = absurd (omega (arith, le))
 part_due (c ∷ rest) r le h t z = no_part c rest r h t z
+
+pub part_due_of_nothing : (bytes : List ℕ) (r : Record) → length bytes < 1 → result_ok (reads_iso8601 r bytes) ≡ None
+unfolding reads_iso8601 iso8601.iso8601 iso8601.dated iso8601_dates.year_and_kind iso8601_numbers.year iso8601_numbers.plain_year iso8601_times.time iso8601_times.designator iso8601_numbers.number iso8601_offsets.offset iso8601_offsets.signed_offset byte_of skip_of digits
+part_due_of_nothing [] r lt = refl
+part_due_of_nothing (c ∷ rest) r lt = absurd (omega (arith, lt))
 
 pub not_true : (b : Bool) → not b ≡ true → b ≡ false
 not_true true e = absurd cc

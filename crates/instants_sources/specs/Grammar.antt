@@ -27,8 +27,8 @@ pub data Grammar : Type 0 where
 
 -- the grammar of a source, without where its description lies in memory
 abbrev pub grammar_of : Source → Grammar
-grammar_of (source.Items items) = Items (trees items.items)
-grammar_of (source.V3 description) = V3 (v3_tree description)
+grammar_of (source.Items described) = Items (trees described.items.items)
+grammar_of (source.V3 described) = V3 (v3_tree described.tree)
 grammar_of source.Rfc2822 = Rfc2822
 grammar_of source.Rfc3339 = Rfc3339
 grammar_of source.Iso8601 = Iso8601

@@ -6,7 +6,6 @@ ghost use Rattle.instants_sources.specs.Grammar as grammar;
 ghost use Rattle.instants_sources.specs.Named.{named};
 
 use crate::both_formats::is_read_alike;
-use crate::first_item::{description_reads_none, items_read_none};
 use crate::ruled_out::{begins_no_day, begins_no_part, has_no_hyphen, has_no_space};
 use crate::source::Source;
 use calendar::UtcOffset;
@@ -86,8 +85,8 @@ impl<'a> Source<'a> {
         ensures { result ≡ true → (assumed : Option ℤ) → result_ok (named assumed (grammar_of self.now) line.now) ≡ None }
     {
         match self {
-            Source::Items(items) => items_read_none(items, line),
-            Source::V3(description) => description_reads_none(description, line),
+            Source::Items(described) => described.rule_out(line),
+            Source::V3(described) => described.rule_out(line),
             Source::Rfc2822 => is_no_rfc2822(line),
             Source::Rfc3339 => is_no_rfc3339(line),
             Source::Iso8601 => begins_no_part(line),

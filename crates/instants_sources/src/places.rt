@@ -16,8 +16,8 @@ impl Source<'_> {
         ensures { result ≡ min (places_in (grammar_of self.now)) greatest_count }
     {
         match self {
-            Source::Items(items) => places_of_items(items),
-            Source::V3(description) => places_of_description(description),
+            Source::Items(described) => places_of_items(described.items()),
+            Source::V3(described) => places_of_description(described.tree()),
             Source::Rfc2822 | Source::Rfc3339 | Source::Iso8601 => 1,
         }
     }
@@ -29,8 +29,11 @@ impl Source<'_> {
     {
         let mut parsed = starting(*assumed);
         match self {
-            Source::Items(items) => Items(items).parse_into_counted(line, &mut parsed).1,
-            Source::V3(description) => description.parse_into_counted(line, &mut parsed).1,
+            Source::Items(described) => {
+                let items = Items(described.items());
+                items.parse_into_counted(line, &mut parsed).1
+            }
+            Source::V3(described) => described.tree().parse_into_counted(line, &mut parsed).1,
             Source::Rfc2822 | Source::Rfc3339 | Source::Iso8601 => 1,
         }
     }

@@ -29,13 +29,14 @@ pub(crate) fn has_no_space(line: &[u8]) -> bool
     line[0].is_ascii_digit() && line[1].is_ascii_digit() && line[2] > b'('
 }
 
-/// Whether a line begins behind the digits, and with no first letter of a weekday, so that RFC 2822 names no moment for it.
+/// Whether a line is empty or begins behind the digits, and with no first letter of a weekday, so that RFC 2822 names no
+/// moment for it.
 #[inline(always)]
 pub(crate) fn begins_no_day(line: &[u8]) -> bool
     ensures { result ≡ true → result_ok (rfc2822.direct line.now) ≡ None }
 {
     let [first, ..] = line else {
-        return false;
+        return true;
     };
     let first = *first;
     if first <= b'9' {
@@ -50,13 +51,14 @@ pub(crate) fn begins_no_day(line: &[u8]) -> bool
     true
 }
 
-/// Whether a line begins behind the digits, and with neither a `T` nor a `Z`, so that ISO 8601 reads no part of it.
+/// Whether a line is empty or begins behind the digits, and with neither a `T` nor a `Z`, so that ISO 8601 reads no part
+/// of it.
 #[inline(always)]
 pub(crate) fn begins_no_part(line: &[u8]) -> bool
     ensures { result ≡ true → (r : Record) → result_ok (reads_iso8601 r line.now) ≡ None }
 {
     match line {
         [first, ..] => *first > b'9' && *first != b'T' && *first != b'Z',
-        [] => false,
+        [] => true,
     }
 }

@@ -9,14 +9,13 @@ ghost use Rattle.parsing_pieces.specs.ShortName.{HasShortName};
 ghost use Rattle.parsing_record.specs.Meaning.{meaning};
 ghost use Rattle.parsing_record.specs.Whole.{whole, names, moment_named, starting};
 
+use crate::described::{DescribedItems, DescribedTree};
 use calendar::UtcOffset;
 use datetime_types::OffsetDateTime;
 use description::{
     Description, DescriptionFault, DescriptionVersion, parse_borrowed, parse_strftime_borrowed,
 };
 use description_formats::{Iso8601, Rfc2822, Rfc3339};
-use description_items::BorrowedFormatItem;
-use description_tree::FormatDescriptionV3;
 use instants_words::SourceText;
 use parsing_pieces::{Parse, ParseFromDescription};
 use parsing_record::Parsed;
@@ -27,9 +26,9 @@ use std::alloc::Global;
 #[derive(Drop)]
 pub enum Source<'a> {
     /// A description of version 1, version 2 or strftime: items, one after the other.
-    Items(Vec<BorrowedFormatItem<'a>>),
+    Items(DescribedItems<'a>),
     /// A description of version 3.
-    V3(FormatDescriptionV3<'a>),
+    V3(DescribedTree<'a>),
     /// RFC 2822, section 3.3, with the obsolete forms of section 4.3.
     Rfc2822,
     /// RFC 3339, section 5.6, with any byte between date and time.
@@ -52,7 +51,10 @@ impl<'a> Source<'a> {
             SourceText::V1(text) => described(alloc, DescriptionVersion::One, text),
             SourceText::V2(text) => described(alloc, DescriptionVersion::Two, text),
             SourceText::V3(text) => described(alloc, DescriptionVersion::Three, text),
-            SourceText::Strftime(text) => Ok(Source::Items(parse_strftime_borrowed(alloc, text)?)),
+            SourceText::Strftime(text) => {
+                let items = parse_strftime_borrowed(alloc, text)?;
+                Ok(Source::Items(DescribedItems::new(items)))
+            }
             SourceText::Rfc2822 => Ok(Source::Rfc2822),
             SourceText::Rfc3339 => Ok(Source::Rfc3339),
             SourceText::Iso8601 => Ok(Source::Iso8601),
@@ -67,8 +69,8 @@ impl<'a> Source<'a> {
         ensures short { IfErr result (λ fault. HasShortName (fault_of fault)) }
     {
         match self {
-            Source::Items(items) => read_by(&Items(items), line, assumed),
-            Source::V3(description) => read_by(description, line, assumed),
+            Source::Items(described) => read_by(&Items(described.items()), line, assumed),
+            Source::V3(described) => read_by(described.tree(), line, assumed),
             Source::Rfc2822 => read_from(&Rfc2822, line, assumed),
             Source::Rfc3339 => read_from(&Rfc3339, line, assumed),
             Source::Iso8601 => read_by(&Iso8601, line, assumed),
@@ -119,8 +121,8 @@ fn described<'a>(
     ensures refused { IfErr result (IsRefusedIn version text.now) }
 {
     match parse_borrowed(alloc, version, text)? {
-        Description::Items(items) => Ok(Source::Items(items)),
-        Description::V3(description) => Ok(Source::V3(description)),
+        Description::Items(items) => Ok(Source::Items(DescribedItems::new(items))),
+        Description::V3(tree) => Ok(Source::V3(DescribedTree::new(tree))),
     }
 }
 

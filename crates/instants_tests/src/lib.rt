@@ -8,6 +8,8 @@ mod devices;
 #[cfg(test)]
 mod failing_devices;
 #[cfg(test)]
+mod first_bytes;
+#[cfg(test)]
 mod lists;
 #[cfg(test)]
 mod memory;

@@ -13,7 +13,7 @@ const DAY: SourceText<'static> = SourceText::V2("[year]-[month]-[day] [hour]:[mi
 // it out.
 type Case = (SourceText<'static>, &'static [u8], Option<i64>, bool);
 
-const CASES: [Case; 16] = [
+const CASES: [Case; 20] = [
     (SourceText::Rfc3339, b"1970-01-01T00:00:01Z", Some(1), false),
     (SourceText::Rfc3339, b"01 Jan 1970 00:00:01 Z", None, true),
     (SourceText::Rfc3339, b"1970-01-01", None, false),
@@ -28,12 +28,16 @@ const CASES: [Case; 16] = [
     (SourceText::Rfc2822, b"01/Jan/1970:00:00:01 Z", None, true),
     (SourceText::Rfc2822, b"Jan", None, true),
     (SourceText::Rfc2822, b"Fri", None, false),
+    (SourceText::Rfc2822, b"", None, true),
     (SourceText::Iso8601, b"1970-001T00:00:01Z", Some(1), false),
     (SourceText::Iso8601, b"1970-W01", None, false),
     (SourceText::Iso8601, b"yesterday", None, true),
+    (SourceText::Iso8601, b"", None, true),
     (DAY, b"1970-01-01 01:01", Some(60), false),
     (DAY, b"1970-01-01 01:01x", None, false),
     (DAY, b"yesterday", None, true),
+    (DAY, b"01/01/1970 01:01", None, true),
+    (SourceText::Strftime("%s"), b"1", Some(1), false),
     (SourceText::V3("at [hour]"), b"yesterday", None, true),
 ];
 

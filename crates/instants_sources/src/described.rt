@@ -1,0 +1,79 @@
+//! Descriptions, with the bytes that their lines begin with.
+ghost use Rattle.std.specs.Prelude.{◌≡◌, true, None};
+ghost use Rattle.std.specs.Result.{result_ok};
+ghost use Rattle.description_items.specs.Tree.{listed, trees};
+ghost use Rattle.description_tree.specs.Description.{v3_tree};
+ghost use Rattle.parsing_components.specs.Component.{reads_component, reads_component_v3};
+ghost use Rattle.parsing_first_bytes.specs.FirstBytes.{AreOf};
+ghost use Rattle.parsing_record.specs.Reads.{reading, reading_of_all};
+ghost use Rattle.parsing_record.specs.Record.{Record};
+
+use description_items::BorrowedFormatItem;
+use description_tree::FormatDescriptionV3;
+use parsing_first_bytes::FirstBytes;
+
+/// Items that read a line one after the other.
+#[derive(Drop)]
+pub struct DescribedItems<'a> {
+    items: Vec<BorrowedFormatItem<'a>>,
+    first_bytes: FirstBytes,
+    ghost first: { AreOf (reading_of_all reads_component (listed (trees items.items))) first_bytes },
+}
+
+impl<'a> DescribedItems<'a> {
+    pub(crate) fn new(items: Vec<BorrowedFormatItem<'a>>) -> DescribedItems<'a>
+        ensures { result.items ≡ items.entry }
+    {
+        DescribedItems {
+            first_bytes: FirstBytes::of_items(&items),
+            items,
+        }
+    }
+
+    pub(crate) fn items(&self) -> &[BorrowedFormatItem<'a>]
+        ensures { result.now ≡ self.now.items.items }
+    {
+        &self.items
+    }
+
+    /// Whether the first bytes of a line show that the items don't read it.
+    #[inline(always)]
+    pub(crate) fn rule_out(&self, line: &[u8]) -> bool
+        ensures { result ≡ true → (r : Record) → result_ok (reading_of_all reads_component (listed (trees self.now.items.items)) r line.now) ≡ None }
+    {
+        self.first_bytes.rule_out(line)
+    }
+}
+
+/// A tree of version 3 that reads a line.
+#[derive(Drop)]
+pub struct DescribedTree<'a> {
+    tree: FormatDescriptionV3<'a>,
+    first_bytes: FirstBytes,
+    ghost first: { AreOf (reading reads_component_v3 (v3_tree tree)) first_bytes },
+}
+
+impl<'a> DescribedTree<'a> {
+    pub(crate) fn new(tree: FormatDescriptionV3<'a>) -> DescribedTree<'a>
+        ensures { result.tree ≡ tree.entry }
+    {
+        DescribedTree {
+            first_bytes: FirstBytes::of_description(&tree),
+            tree,
+        }
+    }
+
+    pub(crate) fn tree(&self) -> &FormatDescriptionV3<'a>
+        ensures { result.now ≡ self.now.tree }
+    {
+        &self.tree
+    }
+
+    /// Whether the first bytes of a line show that the tree doesn't read it.
+    #[inline(always)]
+    pub(crate) fn rule_out(&self, line: &[u8]) -> bool
+        ensures { result ≡ true → (r : Record) → result_ok (reading reads_component_v3 (v3_tree self.now.tree) r line.now) ≡ None }
+    {
+        self.first_bytes.rule_out(line)
+    }
+}

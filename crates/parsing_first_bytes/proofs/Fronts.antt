@@ -1,0 +1,78 @@
+-- What components read begins as what is taken for them.
+use Rattle.std.proofs.Common.{◌≡◌, ◌<◌, ◌∙◌, ◌==◌, ℕ, Bool, true, false, List, length, get_or, take, drop, Option, Some, None, Result, Ok, Err, refl, sym, ap, arith}
+use Rattle.std.specs.Prelude.{option_map, bytes_eq, IfOk, IfSome, if◌then◌else◌}
+use Rattle.std.specs.Borrow.{Bor}
+use Rattle.std.proofs.lemmas.Bool.Decides.{nat_tests}
+use Rattle.std.proofs.lemmas.List.{get_or-take}
+use Rattle.std.proofs.lemmas.Slice.Eq.{bytes_eq-Decides}
+use Rattle.description_items.specs.declared.component.Component.{Component}
+use Rattle.description_items.specs.Tree.{Literal, Part}
+use Rattle.parsing_pieces.specs.Fault.{Fault, literal}
+use Rattle.parsing_pieces.specs.Pieces.{Piece}
+use Rattle.parsing_pieces.specs.Readings.{Reading, piece_or, then_read, give}
+use Rattle.parsing_components.specs.Ranged.{kept}
+use Rattle.parsing_components.specs.Read.{Read}
+use Rattle.parsing_components.specs.Put.{put}
+use Rattle.parsing_record.specs.Meaning.{literally, unchanged}
+use Rattle.parsing_record.specs.Reads.{Language, reading, reads}
+use Rattle.parsing_record.specs.Record.{Record}
+use Rattle.parsing_first_bytes.specs.declared.front.Bytes.TheVariants.{Text}
+use Rattle.parsing_first_bytes.specs.declared.front.Front.{Front}
+use Rattle.parsing_first_bytes.specs.Front.{Leaves, HasFront, ReadsFront, Begins}
+use Rattle.parsing_first_bytes.proofs.Shapes.{front_of}
+
+-- ---- a component
+
+said_front : {B : Type 0} (f : Front) (line rest : List ℕ) (fault : Fault) (said : Option B) → Leaves f line rest → IfOk (piece_or fault (option_map (λ y. (y, rest)) said)) (λ x. Leaves f line x.1)
+said_front f line rest fault None h = tt
+said_front f line rest fault (Some y) h = h
+
+kept_at : {A B : Type 0} (f : Front) (line : List ℕ) (says : A → Option B) (fault : Fault) (o : Option (A × List ℕ)) → IfSome o (λ x. Leaves f line x.1) → IfOk (piece_or fault (kept says o)) (λ x. Leaves f line x.1)
+kept_at f line says fault None h = tt
+kept_at f line says fault (Some x) h = said_front f line x.1 fault (says x.0) h
+
+pub kept_front : {A B : Type 0} (f : Front) (piece : Piece A) (says : A → Option B) (fault : Fault) → HasFront f piece → ReadsFront f (λ line. piece_or fault (kept says (piece line)))
+kept_front f piece says fault h line = kept_at f line says fault (piece line) (h line)
+
+-- ---- an item of which nothing is known
+
+nothing_known : (f : Front) (line rest : List ℕ) → f.least ≡ 0 → f.is_whole ≡ false → Leaves f line rest
+nothing_known f line rest least whole = ((λ place lt. absurd (omega (arith, lt, least))), λ e. let never : true ≡ false = sym e ∙ whole in absurd cc)
+
+unknown_at : {A : Type 0} (f : Front) (line : List ℕ) (x : Result (A × List ℕ) Fault) → f.least ≡ 0 → f.is_whole ≡ false → IfOk x (λ y. Leaves f line y.1)
+unknown_at f line (Ok y) least whole = nothing_known f line y.1 least whole
+unknown_at f line (Err e) least whole = tt
+
+pub unknown_reads : {A : Type 0} (f : Front) (reading : Reading A) → f.least ≡ 0 → f.is_whole ≡ false → ReadsFront f reading
+unknown_reads f reading least whole line = unknown_at f line (reading line) least whole
+
+-- ---- items
+
+put_at : (f : Front) (line : List ℕ) (r : Record) (x : Result (Read × List ℕ) Fault) → IfOk x (λ y. Leaves f line y.1) → IfOk (then_read x (λ said. give (put said r))) (λ y. Leaves f line y.1)
+put_at f line r (Ok y) h = h
+put_at f line r (Err e) h = tt
+
+pub part_begins : (language : Language) (c : Component) (f : Front) → ReadsFront f (language c) → Begins f (reading language (Part c))
+unfolding reads
+part_begins language c f h r line = put_at f line r (language c line) (h line)
+
+text_fits : (text line : List ℕ) (place : ℕ) → take (length text) line ≡ text → place < length text → get_or text place 0 ≡ get_or line place 0
+text_fits text line place e lt = sym (ap (λ t. get_or t place 0) e) ∙ get_or-take (length text) line place 0 lt
+
+eqb-same : (a b : ℕ) → a ≡ b → (a == b) ≡ true
+eqb-same a b e = grind (arith, nat_tests)
+
+text_at : (f : Front) (text : Bor (List ℕ)) (line : List ℕ) (r : Record) (b : Bool) → f ≡ front_of (Text text) (length text.now) true → bytes_eq (take (length text.now) line) text.now ≡ b
+    → IfOk (then_read {A = Unit {0}} {B = Record} (if b then Ok (tt, drop (length text.now) line) else Err literal) (λ _ rest. Ok (r, rest))) (λ y. Leaves f line y.1)
+text_at f text line r true is e =
+    let same = (bytes_eq-Decides (take (length text.now) line) text.now).0 e in
+    rw is ((λ place lt. eqb-same (get_or text.now place 0) (get_or line place 0) (text_fits text.now line place same lt)), λ w. refl)
+text_at f text line r false is e = tt
+
+pub text_begins : (text : Bor (List ℕ)) → Begins (front_of (Text text) (length text.now) true) (unchanged (literally text.now))
+unfolding literally
+text_begins text r line = text_at (front_of (Text text) (length text.now) true) text line r (bytes_eq (take (length text.now) line) text.now) refl refl
+
+pub literal_begins : (language : Language) (text : List ℕ) (f : Front) → Begins f (unchanged (literally text)) → Begins f (reading language (Literal text))
+unfolding reads
+literal_begins language text f h = h

@@ -1,0 +1,143 @@
+//! What each text that an item reads begins with.
+ghost use Rattle.std.specs.Prelude.{◌≡◌, ◌≤◌, ℕ, false, Bool, List};
+ghost use Rattle.description_date_modifiers.specs.declared.choices.Padding.{Padding};
+ghost use Rattle.parsing_shapes.specs.Shape.{digits_as, taken};
+ghost use Rattle.parsing_shapes.specs.Numbers.{padded, signed_if};
+ghost use Rattle.parsing_record.specs.Meaning.{literally, unchanged};
+ghost use Rattle.parsing_first_bytes.specs.declared.front.Bytes.TheVariants.{Name};
+ghost use Rattle.parsing_first_bytes.specs.Front.{Begins, HasFront, stands};
+
+use description_items::modifier::Padding;
+
+/// Bytes that stand at the front of a text.
+#[derive(Clone, Copy)]
+pub(crate) enum Bytes<'a> {
+    /// This text.
+    Text(&'a [u8]),
+    /// Digits; spaces too, or a sign in the first place.
+    Digits { spaced: bool, signed: bool },
+    /// A name: one of these small letters, or its capital letter, and then what lies behind the digits.
+    Name { initials: &'a [u8] },
+}
+
+/// What each text that an item reads begins with.
+#[derive(Clone, Copy)]
+pub(crate) struct Front<'a> {
+    pub(crate) bytes: Bytes<'a>,
+    /// How many bytes it has at least.
+    pub(crate) least: usize,
+    /// It has no more.
+    pub(crate) is_whole: bool,
+}
+
+impl<'a> Front<'a> {
+    /// The front of an item of which nothing is known.
+    pub(crate) fn unknown() -> Front<'a>
+        ensures least { result.least ≡ 0 }
+        ensures whole { result.is_whole ≡ false }
+    {
+        Front {
+            bytes: Bytes::Text(b""),
+            least: 0,
+            is_whole: false,
+        }
+    }
+
+    /// The front of a literal.
+    pub(crate) fn of_text(text: &'a [u8]) -> Front<'a>
+        ensures { Begins result (unchanged (literally text.now)) }
+    {
+        Front {
+            bytes: Bytes::Text(text),
+            least: text.len(),
+            is_whole: true,
+        }
+    }
+
+    /// The front of a name that begins with one of these small letters, in any case: so many letters, or more.
+    pub(crate) fn of_name(initials: &'a [u8], least: usize, is_whole: bool) -> Front<'a>
+        ensures bytes { result.bytes ≡ Name initials.entry }
+        ensures least { result.least ≡ least }
+        ensures whole { result.is_whole ≡ is_whole }
+    {
+        Front {
+            bytes: Bytes::Name { initials },
+            least,
+            is_whole,
+        }
+    }
+
+    /// The front of one digit or more.
+    pub(crate) fn of_digits() -> Front<'a>
+        ensures { (value : List ℕ → ℕ) (n m : ℕ) → 1 ≤ n → HasFront result (taken (digits_as value n m)) }
+    {
+        Front {
+            bytes: Bytes::Digits {
+                spaced: false,
+                signed: false,
+            },
+            least: 1,
+            is_whole: false,
+        }
+    }
+
+    /// The front of a number of this width, padded so.
+    pub(crate) fn of_padded(padding: Padding, width: usize) -> Front<'a>
+        ensures { HasFront result (taken (padded padding width width)) }
+    {
+        let (spaced, least, is_whole) = match padding {
+            Padding::Zero => (false, width, true),
+            Padding::Space => (true, width, true),
+            Padding::None => (false, 1, false),
+        };
+        Front {
+            bytes: Bytes::Digits {
+                spaced,
+                signed: false,
+            },
+            least,
+            is_whole,
+        }
+    }
+
+    /// The front of a number of at least this width, padded so, behind a sign or without one.
+    pub(crate) fn of_signed(padding: Padding, width: usize) -> Front<'a>
+        ensures { (mandatory : Bool) (n m k l : ℕ) → width ≤ n → width ≤ k → HasFront result (taken (signed_if mandatory (padded padding n m) (padded padding k l))) }
+    {
+        let (spaced, least) = match padding {
+            Padding::Zero => (false, width),
+            Padding::Space => (true, width),
+            Padding::None => (false, width.min(1)),
+        };
+        Front {
+            bytes: Bytes::Digits {
+                spaced,
+                signed: true,
+            },
+            least,
+            is_whole: false,
+        }
+    }
+
+    /// Whether a byte can stand at a place of it.
+    pub(crate) fn has(&self, place: usize, byte: u8) -> bool
+        ensures { result ≡ stands self.now.bytes place byte }
+    {
+        match self.bytes {
+            Bytes::Text(text) => text.get(place).copied().unwrap_or(0) == byte,
+            Bytes::Digits { spaced, signed } => {
+                let is_sign = byte == b'+' || byte == b'-';
+                byte.is_ascii_digit()
+                    || (spaced && byte == b' ')
+                    || (signed && place == 0 && is_sign)
+            }
+            Bytes::Name { initials } => {
+                if place == 0 {
+                    initials.contains(&byte.to_ascii_lowercase())
+                } else {
+                    byte > b'9'
+                }
+            }
+        }
+    }
+}

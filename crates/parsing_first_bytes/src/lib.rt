@@ -1,0 +1,9 @@
+//! Which bytes the first places of a line can have, where a description reads it.
+#![tactic(auto)]
+
+mod components;
+mod first_bytes;
+mod front;
+mod items;
+
+pub use first_bytes::FirstBytes;
