@@ -6,7 +6,8 @@
 
 What a process takes is read from /proc while it runs, so it works on Linux; what is over between two looks is counted
 under `other`, as are rt itself and the programs that it runs. Machines differ, and so does one machine from day to day:
-the crates that have not changed since the run in docs/GATE.md tell how this run's pace compares with that one's.
+the proofs of the crates that have not changed since the run in docs/GATE.md tell how this run's pace compares with that one's,
+and the bounds are at the pace of the run that the first of these tables told of.
 """
 
 import argparse
@@ -26,6 +27,10 @@ TABLE = ROOT / "docs" / "GATE.md"
 TICKS = os.sysconf("SC_CLK_TCK")
 EVERY = 0.2
 PARTS = ("proof", "tests", "edits")
+# The bounds, in minutes of a processor: for everything, and for a crate with its tests and edits.
+BOUND, CRATE_BOUND = 90, 6
+# What a proof reads of its crate.
+SOURCES = ("src", "specs", "proofs")
 
 
 def part_of(words, folder):
@@ -101,45 +106,61 @@ def table_of(parts, total):
 
 
 def crates_since(commit):
-    """Returns the crates with a file that differs from a commit; none where git does not know it."""
+    """Returns the crates whose sources differ from a commit's; none where git does not know it."""
     how = {"cwd": ROOT, "capture_output": True, "text": True}
     changed = subprocess.run(["git", "diff", "--name-only", commit, "--", "crates"], **how)
-    return {it.split("/")[1] for it in changed.stdout.split()} if changed.returncode == 0 else None
+    paths = [it.split("/") for it in changed.stdout.split()]
+    return {it[1] for it in paths if it[2] in SOURCES} if changed.returncode == 0 else None
 
 
-def pace_of(before, parts, total):
-    """Returns a sentence that compares this run's pace with that of the run that a text of GATE.md tells of, by the crates
-    that are the same as they were then; nothing where there are none. Where that text compares its own run with an earlier
-    one, so does this sentence, and paces are multiplied."""
+def pace_of(before, parts):
+    """Returns how this run's pace compares with that of the run that a text of GATE.md tells of, by the proofs of the crates
+    that are the same as they were then: the run that paces count from, the pace, and a sentence. None where there are none.
+    Where that text compares its own run with an earlier one, paces are multiplied."""
     commit = re.search(r"commit (\w+)", before)
     changed = crates_since(commit[1]) if commit else None
     if changed is None:
-        return ""
-    then = {name: int(seconds) for name, seconds in re.findall(r"^\| `(\w+)` \|.*\| (\d+) \|$", before, re.M)}
-    same = [it for it in then if it not in changed and any(parts[it, part] for part in PARTS)]
-    was, now = sum(then[it] for it in same), sum(parts[it, part] for it in same for part in PARTS)
+        return None
+    then = {name: int(seconds) for name, seconds in re.findall(r"^\| `(\w+)` \| (\d+) \|", before, re.M)}
+    same = [it for it in then if it not in changed and parts[it, "proof"]]
+    was, now = sum(then[it] for it in same), sum(parts[it, "proof"] for it in same)
     if not was:
-        return ""
+        return None
     earlier = re.search(r"^Pace: ([\d.]+) times as long as the run of (\w+)", before, re.M)
     first, pace = (earlier[2], float(earlier[1]) * now / was) if earlier else (commit[1], now / was)
+    told = (
+        f"Pace: {pace:.2f} times as long as the run of {first}, by the proofs of the {len(same)} crates whose sources are as they were "
+        f"at {commit[1]} ({was} s in that commit's run, {now:.0f} s in this one)."
+    )
+    return first, pace, told
+
+
+def bounds_told(parts, total, pace):
+    """Returns the sentences on the bounds, at the pace of the first run where this run's is known."""
+    first, times, told = pace or ("this run", 1.0, "Pace: not known, since no crate is as it was.")
+    minutes = total / times / 60
+    crates = {crate for crate, _ in parts}
+    dear = {it: sum(parts[it, part] for part in PARTS) / times / 60 for it in crates}
+    over = sorted((it for it in dear if dear[it] > CRATE_BOUND), key=lambda it: -dear[it])
+    longest = max(dear, key=dear.get, default="none")
+    found = ", ".join(f"`{it}` {dear[it]:.1f}" for it in over)
     return (
-        f"\nPace: {pace:.2f} times as long as the run of {first}, by the {len(same)} crates that are as they were at {commit[1]} "
-        f"({was} s in that commit's run, {now:.0f} s in this one). At the pace of {first} this run takes {total / pace / 60:.0f} processor minutes.\n"
+        f"{told} At the pace of {first} this run takes {minutes:.0f} processor minutes, {'within' if minutes <= BOUND else 'over'} the "
+        f"bound of {BOUND}. " + (f"Over the bound of {CRATE_BOUND} minutes are {found}." if over else f"No crate is over {CRATE_BOUND} minutes, the longest is `{longest}` with {dear.get(longest, 0):.1f}.")
     )
 
 
-def text_of(lines, pace, last, total, wall):
+def text_of(lines, bounds, last, total, wall):
     processors, load = len(os.sched_getaffinity(0)), os.getloadavg()[2]
     kit = subprocess.run(["rt", "version"], capture_output=True, text=True, check=True).stdout.strip()
     commit = subprocess.run(["git", "rev-parse", "--short", "HEAD"], cwd=ROOT, capture_output=True, text=True, check=True).stdout.strip()
-    within = "within" if total <= 12_000 else "over"
     head = f"""# Where the gate's time goes
 
-Processor seconds of one `rt ci`, crate by crate, written by `tools/gate_times.py --write`: the proof from nothing, the proof and build of the tests, and the must-fail edits, the first of which proves the crate once more. The bound for everything is 200 processor minutes (12,000 s).
+Processor seconds of one `rt ci`, crate by crate, written by `tools/gate_times.py --write`: the proof from nothing, the proof and build of the tests, and the must-fail edits; where a crate has more than one file of them, the first proves the crate once more. The bounds are {BOUND} processor minutes for everything and {CRATE_BOUND} for a crate, each at the pace of the run of 44ade0a, with which all later runs are compared.
 
-{datetime.date.today()}, commit {commit}, {kit}: `{last}` after {wall / 60:.0f} minutes on {processors} processors (load {load:.1f} at the end), {total / 60:.0f} processor minutes, {within} the bound as measured.
+{datetime.date.today()}, commit {commit}, {kit}: `{last}` after {wall / 60:.0f} minutes on {processors} processors (load {load:.1f} at the end), {total / 60:.0f} processor minutes.
 """
-    return head + pace + "\n" + "\n".join(lines) + "\n"
+    return head + "\n" + bounds + "\n\n" + "\n".join(lines) + "\n"
 
 
 def main():
@@ -149,7 +170,8 @@ def main():
     given = words.parse_args()
     status, last, total, wall, parts = run_gate(given.command)
     before = TABLE.read_text() if TABLE.exists() else ""
-    text = text_of(table_of(parts, total), pace_of(before, parts, total), last, total, wall)
+    bounds = bounds_told(parts, total, pace_of(before, parts))
+    text = text_of(table_of(parts, total), bounds, last, total, wall)
     print(text)
     if given.write and status == 0 and re.fullmatch(r"\d+ passed, 0 failed", last):
         TABLE.write_text(text)

@@ -1,14 +1,15 @@
 #!/usr/bin/env python3
-"""Says which public functions of a crate no edit in its must-fail/ turns, and whether the prover refuses those that one does.
+"""Says which public functions of a crate no edit turns, and whether the prover refuses those that one does.
 
     tools/turned.py CRATE..             the public functions that no edit turns
     tools/turned.py --check CRATE..     also tries each edit on a copy: each function that it turns must be refused
     tools/turned.py --changed [REV]     --check for the crates that differ from REV (none given: from the branch's remote)
 
-An edit has a file for a kind of mistake, and turns several functions of the crate, whose edited bodies call none of the
-others: the prover does not try a function that calls a refused one. `rt ci` says that the crate is refused with the edit; this says
-that each of its functions is, for what it does itself. A refusal that only names what the edit took away (a proof file
-that no longer finds a name) is set apart, since it says little of the contract.
+A crate's edits stand in two folders of files of one form: must-fail/ has those that tell most, which `rt ci` tries too,
+edits/ all others, a file for each kind of mistake. A file turns several functions of the crate, whose edited bodies call
+none of the others: the prover does not try a function that calls a refused one. `rt ci` says that the crate is refused with
+the edit; this says that each of its functions is, for what it does itself. A refusal that only names what the edit took
+away (a proof file that no longer finds a name) is set apart, since it says little of the contract.
 
 It prints what it misses, and ends with status 1 if there is any. With --jobs N it works on N crates at a time.
 """
@@ -27,6 +28,7 @@ import time
 
 ROOT = pathlib.Path(__file__).resolve().parent.parent
 PARTS = ("src", "specs", "proofs")
+TIERS = ("must-fail", "edits")
 
 FUNCTION = re.compile(r"( *)(pub(?:\(\w+\))? )?(?:const )?fn (\w+)")
 IMPL = re.compile(r"impl\b(.*) \{$")
@@ -109,7 +111,8 @@ def functions_of(crate):
             # (the methods of a type are named after its module, wherever their impl stands)
             own = "" if within and not trait else module
             place = "::".join(it for it in (own, within, named[3]) if it)
-            is_public = named[2] == "pub " or bool(trait)
+            # (an empty body without a clause of its own says nothing that could be turned)
+            is_public = (named[2] == "pub " or bool(trait)) and not line.endswith("{}")
             found.append(Function(file, named[3], trait, place, is_public, first + 1, last + 1))
             opened = None
     return found
@@ -196,14 +199,30 @@ def answer_to(told, has_note, in_proofs):
     return Refusal.REFUSED
 
 
+def crates_for(name):
+    """Returns the crate and those below it."""
+    lines = (ROOT / "crates.txt").read_text().split("\n")
+    uses = {it.split(":")[0].split()[0]: it.split(":")[1].split() for it in lines if ":" in it and not it.startswith("#")}
+    found, due = set(), [name]
+    while due:
+        at = due.pop()
+        if at in uses and at not in found:
+            found.add(at)
+            due += uses[at]
+    return sorted(found)
+
+
 class Copy:
-    """A copy of the repository in which one crate's edits are tried, over what has been built."""
+    """A copy of a crate and those below it, in which the crate's edits are tried over what has been built."""
 
     def __init__(self, room, name):
         self.crate = room / "crates" / name
-        for file in ("crates.txt", "HANDLES"):
-            shutil.copy(ROOT / file, room / file)
-        for source in sorted((ROOT / "crates").iterdir()):
+        names = crates_for(name)
+        shutil.copy(ROOT / "HANDLES", room / "HANDLES")
+        lines = (ROOT / "crates.txt").read_text().split("\n")
+        kept = [it for it in lines if it.partition(":")[0].partition(" ")[0] in names]
+        (room / "crates.txt").write_text("\n".join(kept) + "\n")
+        for source in (ROOT / "crates" / it for it in names):
             target = room / "crates" / source.name
             for part in PARTS:
                 if (source / part).is_dir():
@@ -230,16 +249,17 @@ def tell(name, is_checked):
     crate = ROOT / "crates" / name
     functions = functions_of(crate)
     turned = set()
-    edits = sorted((crate / "must-fail").glob("*.edit"))
+    edits = [edit for tier in TIERS for edit in sorted((crate / tier).glob("*.edit"))]
     with tempfile.TemporaryDirectory(prefix="turned-") as room:
         copy = Copy(pathlib.Path(room), name) if is_checked and edits else None
         if copy and "logic=proved" not in copy.check({}):
             return 1, [f"{name}: not proved without any edit"]
         for edit in edits:
+            label = edit.relative_to(ROOT / "crates")
             try:
                 texts = edited(crate, changes_of(edit))
             except ValueError as error:
-                lines.append(f"{name}/{edit.name}: {error}")
+                lines.append(f"{label}: {error}")
                 missed += 1
                 continue
             of_edit = turned_by(texts, functions)
@@ -250,10 +270,10 @@ def tell(name, is_checked):
             answers = answers_in(said, functions)
             wrong = [(it, answers.get(it, Refusal.SPARED)) for it in of_edit]
             wrong = [(it, answer) for it, answer in wrong if answer != Refusal.REFUSED]
-            lines += [f"{name}/{edit.name}: {it.path} ({it.file}:{it.first}) is {answer}" for it, answer in wrong]
+            lines += [f"{label}: {it.path} ({it.file}:{it.first}) is {answer}" for it, answer in wrong]
             missed += len(wrong)
             if "logic=not-proved" not in said:
-                lines.append(f"{name}/{edit.name}: the crate is not refused: {said.strip().splitlines()[-1][:160]}")
+                lines.append(f"{label}: the crate is not refused: {said.strip().splitlines()[-1][:160]}")
                 missed += 1
     left = [it for it in functions if it.is_public and it not in turned]
     lines += [f"{name}/{it.file}:{it.first}: no edit turns {it.path}" for it in left]

@@ -1,0 +1,49 @@
+"""A program of this repository: the crates that it is made of, and whether what was built of them is current."""
+
+import os
+import pathlib
+import sys
+
+ROOT = pathlib.Path(__file__).resolve().parent.parent
+PARTS = ("src", "specs", "proofs")
+
+
+def uses():
+    """Returns what each crate uses, by crates.txt."""
+    lines = [it.partition(":") for it in (ROOT / "crates.txt").read_text().splitlines() if ":" in it and not it.startswith("#")]
+    return {head.split()[0]: used.split() for head, _, used in lines}
+
+
+class Program:
+    """A program, by the name of its crate and the name that it goes by."""
+
+    def __init__(self, crate, name):
+        self.crate, self.name = crate, name
+        self.file = ROOT / "crates" / crate / "out" / crate
+
+    def say(self, text):
+        print(f"{self.name}: {text}", file=sys.stderr, flush=True)
+
+    def crates(self):
+        """Returns the crates that the program is made of, each behind those that it uses."""
+        used, taken = uses(), []
+
+        def take(name):
+            if name in used and name not in taken:
+                for it in used[name]:
+                    take(it)
+                taken.append(name)
+
+        take(self.crate)
+        return taken
+
+    def is_current(self):
+        """Returns whether the program is there and none of its sources is newer."""
+        try:
+            made = self.file.stat().st_mtime_ns
+        except FileNotFoundError:
+            return False
+        files = [ROOT / "crates.txt"]
+        for folder in (ROOT / "crates" / crate / part for crate in self.crates() for part in PARTS):
+            files += [os.path.join(at, it) for at, _, names in os.walk(folder) for it in names]
+        return all(os.stat(it).st_mtime_ns <= made for it in files)

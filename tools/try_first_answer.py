@@ -1,0 +1,157 @@
+#!/usr/bin/env python3
+"""Tries what `./instants` does on a clone where nothing is built, and compares a trial's answers with the proved program's.
+
+    tools/try_first_answer.py [ROWS..]
+
+ROWS are files with a JSON object on each line: `words`, a list, and `stdin`, whose characters are its bytes. All of them go
+through one trial of the program (`rt try --cases`) and through the proved program, which is to be built here; what both write
+and their statuses have to be the same. Then, in copies of the sources:
+
+- the first call answers within a minute, with one line on standard error, and wrong words get their sentence and status 2;
+- a pipe that is silent for five seconds loses nothing;
+- ten calls that need the proved program build it once (this takes as long as a build, unless `rt ci` has kept its proofs);
+- a caller that is ended while it tries or builds, by whatever signal, leaves no process behind.
+
+The last line counts what passed; the status is 1 where anything failed. It needs Linux and some minutes.
+"""
+
+import json
+import os
+import pathlib
+import re
+import signal
+import subprocess
+import sys
+import tempfile
+import time
+import uuid
+
+ROOT = pathlib.Path(__file__).resolve().parent.parent
+PROGRAM = ROOT / "crates" / "instants_program" / "out" / "instants_program"
+MARK = "FUZHELIK_TRIED"
+WORDS = ["+00:00", "-", "100", "rfc3339", "rfc2822"]
+LINES = [b"2021-01-02T03:04:05Z\n", b"Fri, 21 Nov 1997 09:55:06 -0600\n", b"x\n"]
+ANSWERS = b"2021-01-02T03:04:05.000000000Z\n1997-11-21T15:55:06.000000000Z\n! component year\n"
+# A first answer is to come within so many seconds.
+A_MINUTE = 60
+
+counts = {True: 0, False: 0}
+
+
+def tell(what, is_well, why=""):
+    counts[bool(is_well)] += 1
+    print(f"{'ok' if is_well else 'FAILED'}: {what}{f': {why}' if why else ''}", flush=True)
+
+
+def copy_to(room):
+    """Makes a copy of the checkout, as it stands, without what was built; returns its wrapper."""
+    files = subprocess.run(["git", "ls-files", "-co", "--exclude-standard"], cwd=ROOT, capture_output=True, text=True, check=True)
+    there = "".join(f"{it}\n" for it in files.stdout.splitlines() if (ROOT / it).is_file())
+    subprocess.run(["tar", "-cf", f"{room}/all.tar", "-T", "-"], cwd=ROOT, input=there, text=True, check=True)
+    subprocess.run(["tar", "-xf", "all.tar"], cwd=room, check=True)
+    return os.path.join(room, "instants")
+
+
+def call(wrapper, words, marked=None, **how):
+    """Starts a call whose processes, and theirs, are told by a mark in their environment."""
+    environment = {**os.environ, MARK: marked or uuid.uuid4().hex}
+    how = {"stdout": subprocess.PIPE, "stderr": subprocess.PIPE, "env": environment, **how}
+    return subprocess.Popen([wrapper, *words], **how)
+
+
+def marked_processes(mark):
+    """Returns the processes that have the mark in their environment, but for those that have ended."""
+    found = []
+    for entry in pathlib.Path("/proc").iterdir():
+        try:
+            if entry.name.isdigit() and f"{MARK}={mark}".encode() in (entry / "environ").read_bytes():
+                found.append((entry.name, (entry / "cmdline").read_bytes().replace(b"\0", b" ")[:80]))
+        except OSError:
+            continue
+    return found
+
+
+def compare_rows(files):
+    """Runs all rows through one trial and through the proved program, and says which of them differ."""
+    rows = [json.loads(line) for file in files for line in pathlib.Path(file).read_text().splitlines()]
+    with tempfile.TemporaryDirectory() as room:
+        for at, row in enumerate(rows):
+            case = pathlib.Path(room, f"{at:05}")
+            stdin = row["stdin"].encode("latin-1")
+            ran = subprocess.run([PROGRAM, *row["words"]], input=stdin, capture_output=True)
+            row["status"] = ran.returncode
+            case.write_bytes(stdin)
+            case.with_suffix(".args").write_text("".join(f"{it}\n" for it in row["words"]))
+            case.with_suffix(".stdout").write_bytes(ran.stdout)
+        tried = subprocess.run(["rt", "try", "--cases", room], cwd=PROGRAM.parent.parent, capture_output=True, text=True, errors="replace")
+    said = tried.stdout + tried.stderr
+    ended = {int(at): int(status) for at, status in re.findall(r"^case=0*(\d+) .*?status=(\d+)", said, re.M)}
+    wrong = [f"{row['words']} {row['stdin']!r}" for at, row in enumerate(rows) if ended.get(at) != row["status"]]
+    tell(f"a trial answers {len(rows)} rows as the proved program does", not wrong and not tried.returncode, "; ".join(wrong[:3]) or said[-600:] * bool(tried.returncode))
+
+
+def try_first_call(wrapper):
+    began = time.monotonic()
+    with call(wrapper, WORDS, stdin=subprocess.PIPE) as ran:
+        out, said = ran.communicate(b"".join(LINES))
+    passed = time.monotonic() - began
+    tell(f"the first answer comes within {A_MINUTE} s (load {os.getloadavg()[0]:.1f})", out == ANSWERS and passed < A_MINUTE, f"{passed:.0f} s")
+    tell("one line says that it is not proved here, and how to prove it", said.count(b"\n") == 1 and b"--build" in said, said.decode().strip())
+    with call(wrapper, [*WORDS[:3], "v1", "[foo"], stdin=subprocess.DEVNULL) as ran:
+        out, said = ran.communicate()
+    is_told = said.endswith(b"\ninstants: source 1: unclosed opening bracket at byte index 0\n")
+    tell("wrong words are refused by a trial", ran.returncode == 2 and not out and is_told, said.decode().strip().split("\n")[-1])
+
+
+def try_silent_pipe(wrapper):
+    with call(wrapper, WORDS, stdin=subprocess.PIPE) as ran:
+        for line in LINES:
+            ran.stdin.write(line)
+            ran.stdin.flush()
+            time.sleep(5)
+        out, said = ran.communicate()
+    tell("a pipe that is silent for five seconds loses nothing", out == ANSWERS and ran.returncode == 0, said.decode().strip())
+
+
+def try_ten_builds(wrapper):
+    calls = [call(wrapper, ["--build"], stdin=subprocess.DEVNULL) for _ in range(10)]
+    said = [it.communicate()[1].decode() for it in calls]
+    builds = sum("proving and building" in it for it in said)
+    waits = sum("waiting for it" in it for it in said)
+    tell("ten calls at once build once", builds == 1 and not any(it.returncode for it in calls), f"{builds} built, {waits} waited")
+    with call(wrapper, WORDS, stdin=subprocess.PIPE) as ran:
+        out, said = ran.communicate(b"".join(LINES))
+    tell("the program that they built answers", out == ANSWERS and not said)
+
+
+def try_ended_caller(wrapper, words, number, seconds):
+    mark = uuid.uuid4().hex
+    with call(wrapper, words, mark, stdin=subprocess.DEVNULL) as ran:
+        time.sleep(seconds)
+        were = len(marked_processes(mark))
+        ran.send_signal(number)
+        ran.communicate()
+    until = time.monotonic() + 10
+    while marked_processes(mark) and time.monotonic() < until:
+        time.sleep(0.2)
+    left = marked_processes(mark)
+    tell(f"{' '.join(words[:1])} ended by {signal.Signals(number).name} leaves nothing running", were > 1 and not left, f"{were} processes before, {len(left)} behind it {left[:2]}")
+
+
+def main(files):
+    if files:
+        compare_rows(files)
+    with tempfile.TemporaryDirectory(prefix="first-answer-") as room:
+        wrapper = copy_to(room)
+        try_first_call(wrapper)
+        try_silent_pipe(wrapper)
+        for number in (signal.SIGTERM, signal.SIGINT, signal.SIGKILL):
+            try_ended_caller(wrapper, WORDS, number, 8)
+            try_ended_caller(wrapper, ["--build"], number, 3)
+        try_ten_builds(wrapper)
+    print(f"{counts[True]} passed, {counts[False]} failed")
+    return int(counts[False] > 0)
+
+
+if __name__ == "__main__":
+    sys.exit(main(sys.argv[1:]))
