@@ -1,20 +1,24 @@
 #!/usr/bin/env python3
 """Runs the console examples of the documents on the built program, and says which of them print something else.
 
-    tools/try_documents.py            those of README.md, docs/GUIDE.md and docs/instants.1, and the crates' pages
+    tools/try_documents.py            those of the documents that are listed below, and the crates' pages
     tools/try_documents.py FILE..     those of these files
 
-A console is a fence of Markdown that begins with ```console, or a display of the manual page (.Bd to .Ed) whose first line
-is a command. A command is a line that begins with `$ `; lines behind it that begin with `>` belong to it, and all else up
-to the next command is what it prints: standard output and standard error together, compared byte by byte.
+An example is what can be copied whole into a shell, and what it prints: a fence of Markdown that begins with ```sh, and one
+with ```text right behind it; or two displays of the manual page, `.Bd -literal -offset indent` and one at `indent-two`. A
+command with nothing behind it prints nothing. Standard output and standard error are compared together, byte by byte.
 
-Each section, from a heading to the next one of whatever level, has a folder of its own, in which its commands run in
+Each section, from a heading to the next one of whatever level, has a folder of its own, in which its examples run in
 order, each in a shell `sh` of its own: files pass from one example to the next, and nothing else. At first the folder
 has two links and no more: `instants`, to the built program, and `crates`, to those of the repository. Commands are looked
 for in it before all others.
 
-A fence that begins with ```console builds is not run: its commands build, which takes long. A fence of any other kind
-with a line that begins with `$ ` is an error, and so is a document without an example, so that none is left out by a slip.
+A table of Markdown whose head has the columns `line` and `answer` is of examples too: a row's line is piped into the program
+with the row's `words`, or with `+00:00 +00:00 100` and the row's `example`, and what it prints is the row's answer. Rows
+without a line are passed over.
+
+A fence that begins with ```sh builds is not run: its commands build, which takes long. A document without an example is an
+error, so that none is left out by a slip, and so is a fence of another kind but those of code that the list below names.
 
 The page of each family's crate, the `//!` lines at the head of its `src/lib.rt`, has one fence, whose lines stand one
 behind the other in the file `src/page.rt` of the family's tests, which the gate proves and runs.
@@ -28,16 +32,19 @@ import collections
 import os
 import pathlib
 import re
+import shlex
 import subprocess
 import sys
 import tempfile
 
 ROOT = pathlib.Path(__file__).resolve().parent.parent
-DOCUMENTS = ("README.md", "docs/GUIDE.md", "docs/instants.1")
+DOCUMENTS = ("README.md", "docs/GUIDE.md", "docs/DESCRIPTIONS.md", "docs/FORMATS.md", "docs/instants.1")
 PAGES = ("calendar", "datetime", "description", "parsing", "instants")
 PROGRAM = ROOT / "crates" / "instants_program" / "out" / "instants_program"
 CHECK = ROOT / "crates" / "description_check" / "out" / "description_check"
 SECONDS = 60
+# Fences of code that is read and not run.
+NOT_RUN = ("sh builds", "rust")
 
 # What stands in the source of a manual page for a byte.
 ESCAPES = {r"\e": "\\", r"\-": "-", r"\&": "", r"\(aq": "'", r"\(dq": '"', r"\(ha": "^", r"\(ti": "~"}
@@ -61,33 +68,55 @@ def pieces_of(lines, opens, closes, heads):
     return found
 
 
-def consoles_of(name, lines):
-    """Returns the consoles of a document that are to be run, and what is wrong with its pieces."""
+def pieces_in(name, lines):
+    """Returns the commands and the printed texts of a document, in order, and what is wrong with its other pieces."""
     if name.endswith(".md"):
         pieces = pieces_of(lines, re.compile(r"```(.*)"), re.compile(r"```$"), re.compile(r"#+ "))
-        consoles = [it for it in pieces if it.kind == "console"]
-        others = [it for it in pieces if it.kind not in ("console", "console builds")]
+        commands, printed, passed = "sh", "text", NOT_RUN
     else:
         escaped = re.compile("|".join(map(re.escape, ESCAPES)))
         lines = [escaped.sub(lambda it: ESCAPES[it[0]], line) for line in lines]
         pieces = pieces_of(lines, re.compile(r"\.Bd(.*)"), re.compile(r"\.Ed$"), re.compile(r"\.S[hs] "))
-        consoles = [it for it in pieces if it.lines[:1] and it.lines[0].startswith("$ ")]
-        others = [it for it in pieces if it not in consoles]
-    slips = [it for it in others if any(line.startswith("$ ") for line in it.lines)]
-    slips += [it for it in consoles if not it.lines or not it.lines[0].startswith("$ ")]
-    return consoles, [f"{name}:{it.line}: a console begins with a command, and nothing else has one" for it in slips]
+        commands, printed, passed = "-literal -offset indent", "-literal -offset indent-two", ()
+    wrong = [f"{name}:{it.line}: a piece of a kind that is not known: {it.kind}" for it in pieces if it.kind not in (commands, printed, *passed)]
+    wrong += [f"{name}:{it.line}: a prompt, which can't be copied" for it in pieces if it.kind == commands and any(row.startswith("$ ") for row in it.lines)]
+    return [(it, it.kind == commands) for it in pieces if it.kind in (commands, printed)], wrong
 
 
-def examples_of(console):
-    """Returns the examples of a console: each command with what it is said to print."""
+def examples_of(name, lines):
+    """Returns the examples of a document's fences or displays, and what is wrong with them."""
+    pieces, wrong = pieces_in(name, lines)
     found = []
-    for at, line in enumerate(console.lines, console.line):
-        if line.startswith("$ "):
-            found.append(Example(at, [line[2:]], [], console.section))
-        elif found and re.match(r">( |$)", line) and not found[-1].due:
-            found[-1].command.append(line[2:])
-        elif found:
-            found[-1].due.append(line)
+    for piece, is_command in pieces:
+        if is_command:
+            found.append(Example(piece.line, piece.lines, [], piece.section))
+        elif found and not found[-1].due and found[-1].line + len(found[-1].command) + 3 >= piece.line - 1:
+            found[-1].due.extend(piece.lines)
+        else:
+            wrong.append(f"{name}:{piece.line}: a printed text without a command before it")
+    return found, wrong
+
+
+def cells_of(row):
+    """Returns the cells of a table's row, those that are one span of code without their backquotes."""
+    cells = [it.strip().replace("\\|", "|") for it in re.split(r"(?<!\\)\|", row.strip())[1:-1]]
+    return [it[1:-1] if re.fullmatch(r"`[^`]+`", it) else it for it in cells]
+
+
+def examples_of_tables(lines):
+    """Returns the examples of the tables that have a line and its answer in each row."""
+    found, head, section = [], None, 0
+    for at, row in enumerate(lines, 1):
+        section += bool(re.match(r"#+ ", row))
+        if not row.startswith("|"):
+            head = None
+        elif head is None:
+            head = cells_of(row)
+        elif {"line", "answer"} <= {*head}:
+            cells = dict(zip(head, cells_of(row)))
+            if cells["line"].strip() and not re.fullmatch(r"-+", cells["line"]):
+                words = cells.get("words") or f"+00:00 +00:00 100 {cells['example']}"
+                found.append(Example(at, [f"printf '%b\\n' {shlex.quote(cells['line'])} | instants {words}"], [cells["answer"]], section))
     return found
 
 
@@ -120,8 +149,9 @@ def try_section(name, examples):
 
 def try_document(name):
     """Returns how many examples a document has, and what is said of those that differ."""
-    consoles, wrong = consoles_of(name, (ROOT / name).read_text().split("\n"))
-    examples = [it for console in consoles for it in examples_of(console)]
+    lines = (ROOT / name).read_text().split("\n")
+    examples, wrong = examples_of(name, lines)
+    examples += examples_of_tables(lines) if name.endswith(".md") else []
     if not examples:
         wrong.append(f"{name}: no example")
     for section in sorted({it.section for it in examples}):
