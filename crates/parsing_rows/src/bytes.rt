@@ -1,0 +1,56 @@
+//! Bytes as text: `\n`, `\r`, `\t`, `\\` and `\xHH` are one byte each.
+
+use crate::row_fault::RowFault;
+use std::alloc::{AllocError, Global};
+
+/// The bytes that a text stands for.
+pub fn unescaped(alloc: Global, text: &str) -> Result<Vec<u8>, RowFault> {
+    let mut bytes = Vec::new(alloc);
+    let mut rest = text;
+    for _ in 0..text.len() {
+        let Some((plain, escape)) = rest.split_once('\\') else {
+            break;
+        };
+        bytes.extend_from_slice(plain.as_bytes())?;
+        let (byte, after) = escaped(escape).ok_or(RowFault::NoRow)?;
+        bytes.push(byte).map_err(AllocError::from)?;
+        rest = after;
+    }
+    bytes.extend_from_slice(rest.as_bytes())?;
+    Ok(bytes)
+}
+
+// The byte that stands behind a backslash, and what follows.
+fn escaped(text: &str) -> Option<(u8, &str)> {
+    let (letter, rest) = text.split_at_checked(1)?;
+    match letter {
+        "n" => Some((b'\n', rest)),
+        "r" => Some((b'\r', rest)),
+        "t" => Some((b'\t', rest)),
+        "\\" => Some((b'\\', rest)),
+        "x" => {
+            let (digits, rest) = rest.split_at_checked(2)?;
+            Some((u8::from_str_radix(digits, 16).ok()?, rest))
+        }
+        _ => None,
+    }
+}
+
+/// The rest that a reading leaves, in quotes, or `none` where it fails.
+pub fn tell_rest(told: &mut String, rest: Option<&[u8]>) -> Result<(), RowFault> {
+    let Some(rest) = rest else {
+        return Ok(told.push_str("none")?);
+    };
+    told.push_str("\"")?;
+    for byte in rest {
+        match byte {
+            b'\n' => told.push_str("\\n")?,
+            b'\r' => told.push_str("\\r")?,
+            b'\t' => told.push_str("\\t")?,
+            b'\\' => told.push_str("\\\\")?,
+            b' '..=b'~' => told.push(char::from(*byte))?,
+            _ => write!(told, "\\x{byte:02x}")?,
+        }
+    }
+    Ok(told.push_str("\"")?)
+}

@@ -1,0 +1,104 @@
+//! The calls of `Parsable`, told in words.
+
+use crate::records::{record_of, tell, tell_fields};
+use crate::row_fault::RowFault;
+use parsing::{Parsable, Parse, ParseFromDescription, Parsed, TryFromParsed};
+use std::fmt::Display;
+
+fn tell_fault(told: &mut String, fault: Parse) -> Result<(), RowFault> {
+    match fault {
+        Parse::ParseFromDescription(ParseFromDescription::InvalidComponent(name)) => {
+            tell(told, format_args!("! component {name}"))
+        }
+        Parse::ParseFromDescription(ParseFromDescription::InvalidLiteral) => {
+            tell(told, "! literal")
+        }
+        Parse::ParseFromDescription(ParseFromDescription::UnexpectedTrailingCharacters) => {
+            tell(told, "! trailing")
+        }
+        Parse::TryFromParsed(TryFromParsed::InsufficientInformation) => {
+            tell(told, "! insufficient")
+        }
+        Parse::TryFromParsed(TryFromParsed::ComponentRange(range)) => {
+            tell(told, format_args!("! {range}"))
+        }
+    }
+}
+
+fn tell_value<T: Display + Drop>(
+    told: &mut String,
+    answer: Result<T, Parse>,
+) -> Result<(), RowFault> {
+    match answer {
+        Ok(value) => tell(told, value),
+        Err(fault) => tell_fault(told, fault),
+    }
+}
+
+fn tell_record(told: &mut String, answer: Result<Parsed, Parse>) -> Result<(), RowFault> {
+    match answer {
+        Ok(parsed) => tell_fields(told, &parsed),
+        Err(fault) => tell_fault(told, fault),
+    }
+}
+
+// The fields after the reading, and how many bytes are left, or the fault.
+fn tell_front(
+    told: &mut String,
+    parsed: &Parsed,
+    answer: Result<&[u8], Parse>,
+) -> Result<(), RowFault> {
+    tell_fields(told, parsed)?;
+    match answer {
+        Ok(rest) => tell(told, format_args!("{} left", rest.len())),
+        Err(fault) => tell_fault(told, fault),
+    }
+}
+
+/// What a call answers: a value, a record's fields, or a fault. Behind a `+` stands what the reading begins with.
+pub fn tell_call<P: Parsable>(
+    told: &mut String,
+    reader: &P,
+    call: &str,
+    input: &[u8],
+) -> Result<(), RowFault> {
+    let (call, defaults) = match call.split_once('+') {
+        Some((call, words)) => (call, Some(record_of(words).ok_or(RowFault::NoRow)?)),
+        None => (call, None),
+    };
+    let mut parsed = defaults.unwrap_or(Parsed::new());
+    match call {
+        "into" => {
+            let answer = reader.parse_into(input, &mut parsed);
+            tell_front(told, &parsed, answer)
+        }
+        "counted" => {
+            let (answer, count) = reader.parse_into_counted(input, &mut parsed);
+            tell(told, format_args!("{count} tried"))?;
+            tell_front(told, &parsed, answer)
+        }
+        "parse" => tell_record(told, reader.parse(input)),
+        "internal" => tell_record(told, reader.parse_internal(input, defaults)),
+        _ => tell_value_of(told, reader, call, input, defaults),
+    }
+}
+
+// The same for the calls that answer a value.
+fn tell_value_of<P: Parsable>(
+    told: &mut String,
+    reader: &P,
+    call: &str,
+    input: &[u8],
+    defaults: Option<Parsed>,
+) -> Result<(), RowFault> {
+    match call {
+        "date" => tell_value(told, reader.parse_date(input, defaults)),
+        "time" => tell_value(told, reader.parse_time(input, defaults)),
+        "offset" => tell_value(told, reader.parse_offset(input, defaults)),
+        "plain" => tell_value(told, reader.parse_plain_date_time(input, defaults)),
+        "utc" => tell_value(told, reader.parse_utc_date_time(input, defaults)),
+        "moment" => tell_value(told, reader.parse_offset_date_time(input, defaults)),
+        "timestamp" => tell_value(told, reader.parse_timestamp(input, defaults)),
+        _ => Err(RowFault::NoRow),
+    }
+}

@@ -1,0 +1,64 @@
+//! Rows of texts that are cut or changed: `changes rfc2822 | 1 Jul 03 (x) 10:52 (y) EST (zz) => 601`.
+
+use crate::row_fault::RowFault;
+use datetime_types::OffsetDateTime;
+use parsing::{Iso8601, Parsable, Parse, Parsed, Rfc2822, Rfc3339, TwoRoads};
+
+// Whether the format is read alike with a record and without one, and the shortest way finds nothing else.
+fn is_read_alike<F: TwoRoads>(format: &F, input: &[u8]) -> bool {
+    let direct = format.read_direct(input);
+    let staged = format.read_staged(input, Parsed::new());
+    direct.ok() == staged.ok()
+        && direct == format.parse_offset_date_time(input, None)
+        && is_same(format.read_quickly(input), direct)
+}
+
+fn is_same(quick: Option<OffsetDateTime>, answer: Result<OffsetDateTime, Parse>) -> bool {
+    quick.is_none() || quick == answer.ok()
+}
+
+// Whether a text is read by RFC 2822 or ISO 8601, or the ways to read it differ.
+fn holds(call: &str, input: &[u8]) -> Result<bool, RowFault> {
+    match call {
+        "rfc2822" => Ok(parsing_rfc2822::read(input).is_ok()),
+        "iso8601" => Ok(parsing_iso8601::read(input).is_ok()),
+        "differ" => Ok(!is_all_alike(input)),
+        _ => Err(RowFault::NoRow),
+    }
+}
+
+fn is_all_alike(input: &[u8]) -> bool {
+    let answer = parsing_iso8601::read(input);
+    is_read_alike(&Rfc3339, input)
+        && is_read_alike(&Rfc2822, input)
+        && answer == Iso8601.parse_offset_date_time(input, None)
+        && is_same(parsing_iso8601::read_quickly(input), answer)
+}
+
+/// Of how many fronts of the text, without itself, this holds.
+pub fn tell_fronts(told: &mut String, call: &str, input: &[u8]) -> Result<(), RowFault> {
+    let mut count = 0u64;
+    for end in 0..input.len() {
+        count = count.wrapping_add(u64::from(holds(call, &input[..end])?));
+    }
+    Ok(write!(told, "{count}")?)
+}
+
+/// Of how many texts this holds that have one of these bytes in one place.
+pub fn tell_changes(
+    told: &mut String,
+    call: &str,
+    input: &mut [u8],
+    (first, last): (u8, u8),
+) -> Result<(), RowFault> {
+    let mut count = 0u64;
+    for place in 0..input.len() {
+        let before = input[place];
+        for byte in first..=last {
+            input[place] = byte;
+            count = count.wrapping_add(u64::from(holds(call, input)?));
+        }
+        input[place] = before;
+    }
+    Ok(write!(told, "{count}")?)
+}
