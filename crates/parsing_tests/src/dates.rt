@@ -2,7 +2,7 @@
 
 use calendar::{Date, Month, Weekday};
 use calendar_count::{ComponentName, ComponentRange};
-use parsing_dates::{DateParts, YearParts, date, laws, named_day, year};
+use parsing_dates::{DateParts, YearParts, date, named_day, year};
 use parsing_pieces::TryFromParsed;
 use std::test::Fail;
 
@@ -57,7 +57,6 @@ fn named(parts: &DateParts) -> Result<(i32, u8, u8), TryFromParsed> {
 
 #[test]
 fn years(rt: HostRuntime) {
-    laws::one_day();
     for (parts, wanted) in [
         (NO_YEAR, None),
         (of_year(-5), Some(-5)),

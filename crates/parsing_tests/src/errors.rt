@@ -76,7 +76,17 @@ fn refusals_of_readings_come_back(rt: HostRuntime) {
 fn texts(rt: HostRuntime) -> Result<(), Fail> {
     let mut told = String::new(rt.alloc());
     for error in all() {
-        told.push_str(format!(in rt.alloc(); "\n{error}")?.as_str())?;
+        write!(told, "\n{error}")?;
+    }
+    for fault in [
+        Parse::from(ParseFromDescription::InvalidLiteral),
+        Parse::from(UNREAD),
+        Parse::from(ParseFromDescription::UnexpectedTrailingCharacters),
+        Parse::from(TryFromParsed::InsufficientInformation),
+        Parse::from(unresolved()),
+        Parse::from(ComponentRange::unconditional(ComponentName::Minutes)),
+    ] {
+        write!(told, "\n{fault}")?;
     }
     assert_eq!(rt; told.as_str(), TEXTS);
     Ok(())
@@ -89,4 +99,10 @@ day was not in range given values of other parameters
 the 'offset hour' component could not be parsed
 unclosed opening bracket at byte index 7
 value was of a different variant
-value was not a valid variant"#;
+value was not a valid variant
+a character literal was not valid
+the 'offset hour' component could not be parsed
+unexpected trailing characters; the end of input was expected
+the `Parsed` struct did not include enough information to construct the type
+day was not in range given values of other parameters
+minutes was not in range"#;

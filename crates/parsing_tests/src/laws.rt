@@ -9,6 +9,9 @@ fn readings() {
     laws::two_formats(b"1970-01-01T00:00:00Z");
     laws::joined_descriptions();
     laws::two_versions();
+    parsing_two_roads::laws::two_formats(b"2021-01-02T00:00:00Z");
+    parsing_dates::laws::one_day();
+    parsing_moments::laws::three_instants();
 }
 
 #[test]

@@ -5,8 +5,8 @@ use calendar_count::{ComponentName, ComponentRange};
 use datetime_types::{OffsetDateTime, PlainDateTime, Timestamp, UtcDateTime};
 use parsing_dates::{DateParts, YearParts};
 use parsing_moments::{
-    MomentParts, OffsetParts, TimeParts, hour, laws, offset, offset_date_time, plain_date_time,
-    time, timestamp, utc_date_time,
+    MomentParts, OffsetParts, TimeParts, hour, offset, offset_date_time, plain_date_time, time,
+    timestamp, utc_date_time,
 };
 use parsing_pieces::TryFromParsed;
 use parsing_resolution::resolve::permitted_time;
@@ -102,7 +102,6 @@ fn instants(parts: &MomentParts, offset: &OffsetParts) -> Read {
 
 #[test]
 fn hours(rt: HostRuntime) {
-    laws::three_instants();
     for (parts, wanted) in [
         (NO_TIME, None),
         (half(12, false), Some(0)),
