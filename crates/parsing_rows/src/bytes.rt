@@ -1,6 +1,6 @@
 //! Bytes as text: `\n`, `\r`, `\t`, `\\` and `\xHH` are one byte each.
 
-use crate::row_fault::RowFault;
+use crate::row_fault::{RowFault, Told};
 use std::alloc::{AllocError, Global};
 
 /// The bytes that a text stands for.
@@ -37,7 +37,7 @@ fn escaped(text: &str) -> Option<(u8, &str)> {
 }
 
 /// The rest that a reading leaves, in quotes, or `none` where it fails.
-pub fn tell_rest(told: &mut String, rest: Option<&[u8]>) -> Result<(), RowFault> {
+pub fn tell_rest(told: &mut String, rest: Option<&[u8]>) -> Told {
     let Some(rest) = rest else {
         return Ok(told.push_str("none")?);
     };

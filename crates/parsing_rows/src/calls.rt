@@ -1,11 +1,11 @@
 //! The calls of `Parsable`, told in words.
 
 use crate::records::{record_of, tell, tell_fields};
-use crate::row_fault::RowFault;
+use crate::row_fault::{RowFault, Told};
 use parsing::{Parsable, Parse, ParseFromDescription, Parsed, TryFromParsed};
 use std::fmt::Display;
 
-fn tell_fault(told: &mut String, fault: Parse) -> Result<(), RowFault> {
+fn tell_fault(told: &mut String, fault: Parse) -> Told {
     match fault {
         Parse::ParseFromDescription(ParseFromDescription::InvalidComponent(name)) => {
             tell(told, format_args!("! component {name}"))
@@ -25,17 +25,14 @@ fn tell_fault(told: &mut String, fault: Parse) -> Result<(), RowFault> {
     }
 }
 
-fn tell_value<T: Display + Drop>(
-    told: &mut String,
-    answer: Result<T, Parse>,
-) -> Result<(), RowFault> {
+fn tell_value<T: Display + Drop>(told: &mut String, answer: Result<T, Parse>) -> Told {
     match answer {
         Ok(value) => tell(told, value),
         Err(fault) => tell_fault(told, fault),
     }
 }
 
-fn tell_record(told: &mut String, answer: Result<Parsed, Parse>) -> Result<(), RowFault> {
+fn tell_record(told: &mut String, answer: Result<Parsed, Parse>) -> Told {
     match answer {
         Ok(parsed) => tell_fields(told, &parsed),
         Err(fault) => tell_fault(told, fault),
@@ -43,11 +40,7 @@ fn tell_record(told: &mut String, answer: Result<Parsed, Parse>) -> Result<(), R
 }
 
 // The fields after the reading, and how many bytes are left, or the fault.
-fn tell_front(
-    told: &mut String,
-    parsed: &Parsed,
-    answer: Result<&[u8], Parse>,
-) -> Result<(), RowFault> {
+fn tell_front(told: &mut String, parsed: &Parsed, answer: Result<&[u8], Parse>) -> Told {
     tell_fields(told, parsed)?;
     match answer {
         Ok(rest) => tell(told, format_args!("{} left", rest.len())),
@@ -56,12 +49,7 @@ fn tell_front(
 }
 
 /// What a call answers: a value, a record's fields, or a fault. Behind a `+` stands what the reading begins with.
-pub fn tell_call<P: Parsable>(
-    told: &mut String,
-    reader: &P,
-    call: &str,
-    input: &[u8],
-) -> Result<(), RowFault> {
+pub fn tell_call<P: Parsable>(told: &mut String, reader: &P, call: &str, input: &[u8]) -> Told {
     let (call, defaults) = match call.split_once('+') {
         Some((call, words)) => (call, Some(record_of(words).ok_or(RowFault::NoRow)?)),
         None => (call, None),
@@ -90,7 +78,7 @@ fn tell_value_of<P: Parsable>(
     call: &str,
     input: &[u8],
     defaults: Option<Parsed>,
-) -> Result<(), RowFault> {
+) -> Told {
     match call {
         "date" => tell_value(told, reader.parse_date(input, defaults)),
         "time" => tell_value(told, reader.parse_time(input, defaults)),

@@ -1,6 +1,6 @@
 //! Rows of texts that are cut or changed: `changes rfc2822 | 1 Jul 03 (x) 10:52 (y) EST (zz) => 601`.
 
-use crate::row_fault::RowFault;
+use crate::row_fault::{RowFault, Told};
 use datetime_types::OffsetDateTime;
 use parsing::{Iso8601, Parsable, Parse, Parsed, Rfc2822, Rfc3339, TwoRoads};
 
@@ -36,7 +36,7 @@ fn is_all_alike(input: &[u8]) -> bool {
 }
 
 /// Of how many fronts of the text, without itself, this holds.
-pub fn tell_fronts(told: &mut String, call: &str, input: &[u8]) -> Result<(), RowFault> {
+pub fn tell_fronts(told: &mut String, call: &str, input: &[u8]) -> Told {
     let mut count = 0u64;
     for end in 0..input.len() {
         count = count.wrapping_add(u64::from(holds(call, &input[..end])?));
@@ -50,7 +50,7 @@ pub fn tell_changes(
     call: &str,
     input: &mut [u8],
     (first, last): (u8, u8),
-) -> Result<(), RowFault> {
+) -> Told {
     let mut count = 0u64;
     for place in 0..input.len() {
         let before = input[place];

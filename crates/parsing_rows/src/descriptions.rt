@@ -1,7 +1,7 @@
 //! Rows of descriptions: `23 date [year]-[ordinal] | 2021-032 => 2021-02-01`.
 
 use crate::calls::tell_call;
-use crate::row_fault::RowFault;
+use crate::row_fault::{RowFault, Told};
 use description::{
     BorrowedFormatItem, Description, DescriptionVersion, parse_borrowed, parse_strftime_borrowed,
 };
@@ -42,7 +42,7 @@ fn tell_in(
     call: &str,
     description: &str,
     input: &[u8],
-) -> Result<(), RowFault> {
+) -> Told {
     let version = match version {
         's' => {
             let items = parse_strftime_borrowed(alloc, description)?;
@@ -67,7 +67,7 @@ fn tell_items(
     items: &[BorrowedFormatItem<'_>],
     call: &str,
     input: &[u8],
-) -> Result<(), RowFault> {
+) -> Told {
     match call {
         "places" => Ok(write!(told, "{}", places_of_items(items))?),
         _ => tell_call(told, &Items(items), call, input),

@@ -2,34 +2,20 @@
 //! is the reading without a record, whose fault is told as it is printed, and `quickly` its shortest way.
 
 use crate::calls::tell_call;
-use crate::row_fault::RowFault;
-use datetime_types::OffsetDateTime;
-use parsing::{Iso8601, Parse, Rfc2822, Rfc3339, TwoRoads, is_valid_leap_second_stand_in};
+use crate::row_fault::Told;
+use parsing::{Iso8601, Rfc2822, Rfc3339, TwoRoads, is_valid_leap_second_stand_in};
 use std::fmt::{Debug, Display};
 
 // A value or a fault, as it is printed.
-fn tell_printed<T: Display, E: Display>(
-    told: &mut String,
-    answer: &Result<T, E>,
-) -> Result<(), RowFault> {
+fn tell_printed<T: Display, E: Display>(told: &mut String, answer: &Result<T, E>) -> Told {
     match answer {
         Ok(value) => Ok(write!(told, "{value}")?),
         Err(fault) => Ok(write!(told, "{fault}")?),
     }
 }
 
-fn tell_quick(told: &mut String, answer: Option<OffsetDateTime>) -> Result<(), RowFault> {
-    match answer {
-        Some(moment) => Ok(write!(told, "{moment}")?),
-        None => Ok(told.push_str("none")?),
-    }
-}
-
 // What a front says and how many bytes are left, or why there is none.
-fn tell_parts<T: Debug, E: Display>(
-    told: &mut String,
-    answer: &Result<(T, &[u8]), E>,
-) -> Result<(), RowFault> {
+fn tell_parts<T: Debug, E: Display>(told: &mut String, answer: &Result<(T, &[u8]), E>) -> Told {
     match answer {
         Ok((parts, rest)) => Ok(write!(told, "{parts:?}, {} left", rest.len())?),
         Err(fault) => Ok(write!(told, "{fault}")?),
@@ -37,7 +23,7 @@ fn tell_parts<T: Debug, E: Display>(
 }
 
 /// `stand_in` is whether the moment that is read can stand for a leap second.
-pub fn tell_rfc3339(told: &mut String, call: &str, input: &[u8]) -> Result<(), RowFault> {
+pub fn tell_rfc3339(told: &mut String, call: &str, input: &[u8]) -> Told {
     match call {
         "read" => tell_printed(told, &Rfc3339.read_direct(input)),
         "stand_in" => {
@@ -51,10 +37,10 @@ pub fn tell_rfc3339(told: &mut String, call: &str, input: &[u8]) -> Result<(), R
 }
 
 /// `strict` and `lax` are what a front says.
-pub fn tell_rfc2822(told: &mut String, call: &str, input: &[u8]) -> Result<(), RowFault> {
+pub fn tell_rfc2822(told: &mut String, call: &str, input: &[u8]) -> Told {
     match call {
         "read" => tell_printed(told, &parsing_rfc2822::read(input)),
-        "quickly" => tell_quick(told, parsing_rfc2822::read_quickly(input)),
+        "quickly" => tell_printed(told, &parsing_rfc2822::read_quickly(input).ok_or("none")),
         "strict" => tell_parts(told, &parsing_rfc2822::front(true, input)),
         "lax" => tell_parts(told, &parsing_rfc2822::front(false, input)),
         _ => tell_call(told, &Rfc2822, call, input),
@@ -62,10 +48,10 @@ pub fn tell_rfc2822(told: &mut String, call: &str, input: &[u8]) -> Result<(), R
 }
 
 /// `parts` are what a front says.
-pub fn tell_iso8601(told: &mut String, call: &str, input: &[u8]) -> Result<(), RowFault> {
+pub fn tell_iso8601(told: &mut String, call: &str, input: &[u8]) -> Told {
     match call {
         "read" => tell_printed(told, &parsing_iso8601::read(input)),
-        "quickly" => tell_quick(told, parsing_iso8601::read_quickly(input)),
+        "quickly" => tell_printed(told, &parsing_iso8601::read_quickly(input).ok_or("none")),
         "parts" => tell_parts(told, &parsing_iso8601::front(input)),
         _ => tell_call(told, &&Iso8601, call, input),
     }

@@ -21,25 +21,26 @@ mod pieces;
 mod records;
 mod row_fault;
 
-use row_fault::RowFault;
+use row_fault::{RowFault, Told};
 use std::alloc::{AllocError, Global};
 use std::io;
 use std::process::ExitCode;
 
 fn main(rt: HostRuntime) -> ExitCode {
-    let Ok(text) = io::read_to_string(rt.alloc(), rt.stdin()) else {
-        let _ = eprintln!(rt; "parsing_rows: the input can't be read");
-        return ExitCode::FAILURE;
-    };
-    let Ok(answers) = answers(rt.alloc(), text.as_str()) else {
-        let _ = eprintln!(rt; "parsing_rows: out of memory");
-        return ExitCode::FAILURE;
-    };
-    if rt.print(answers.as_str()).is_err() {
-        let _ = eprintln!(rt; "parsing_rows: writing failed");
-        return ExitCode::FAILURE;
+    match run(&rt) {
+        Ok(()) => ExitCode::SUCCESS,
+        Err(fault) => {
+            let _ = eprintln!(rt; "parsing_rows: {fault}");
+            ExitCode::FAILURE
+        }
     }
-    ExitCode::SUCCESS
+}
+
+// Answers standard input on standard output, or says why not.
+fn run(rt: &HostRuntime) -> Result<(), &'static str> {
+    let text = io::read_to_string(rt.alloc(), rt.stdin()).map_err(|_| "the input can't be read")?;
+    let answers = answers(rt.alloc(), text.as_str()).map_err(|_| "out of memory")?;
+    rt.print(answers.as_str()).map_err(|_| "writing failed")
 }
 
 // Each line with its answer.
@@ -77,12 +78,7 @@ fn answer(alloc: Global, row: &str) -> Result<String, RowFault> {
 }
 
 // The same for a row whose input is bytes.
-fn answer_bytes(
-    told: &mut String,
-    word: &str,
-    call: &str,
-    input: &mut [u8],
-) -> Result<(), RowFault> {
+fn answer_bytes(told: &mut String, word: &str, call: &str, input: &mut [u8]) -> Told {
     match word {
         "rfc3339" => formats::tell_rfc3339(told, call, input),
         "rfc2822" => formats::tell_rfc2822(told, call, input),

@@ -2,7 +2,7 @@
 //! `none`.
 
 use crate::bytes::tell_rest;
-use crate::row_fault::RowFault;
+use crate::row_fault::{RowFault, Told};
 use parsing_pieces::{
     any_byte, byte, clock, digit_run, four_digits, fraction, nine_digits, one_digit, sign,
     six_digits, three_digits, two_digits, year_month,
@@ -11,7 +11,7 @@ use parsing_white_space::{comments_and_white_space, folding_white_space, may_beg
 use std::fmt::Debug;
 
 /// White space and comments.
-pub fn tell_white_space(told: &mut String, call: &str, input: &[u8]) -> Result<(), RowFault> {
+pub fn tell_white_space(told: &mut String, call: &str, input: &[u8]) -> Told {
     match call {
         "folding" => tell_rest(told, folding_white_space(input)),
         "comments" => tell_rest(told, comments_and_white_space(input)),
@@ -22,10 +22,7 @@ pub fn tell_white_space(told: &mut String, call: &str, input: &[u8]) -> Result<(
 }
 
 // What is read and the rest.
-fn tell_found<T: Debug + Drop>(
-    told: &mut String,
-    found: Option<(T, &[u8])>,
-) -> Result<(), RowFault> {
+fn tell_found<T: Debug + Drop>(told: &mut String, found: Option<(T, &[u8])>) -> Told {
     let Some((value, rest)) = found else {
         return tell_rest(told, None);
     };
@@ -34,7 +31,7 @@ fn tell_found<T: Debug + Drop>(
 }
 
 // Digits and the rest.
-fn tell_run(told: &mut String, found: Option<(&[u8], &[u8])>) -> Result<(), RowFault> {
+fn tell_run(told: &mut String, found: Option<(&[u8], &[u8])>) -> Told {
     let Some((digits, rest)) = found else {
         return tell_rest(told, None);
     };
@@ -44,7 +41,7 @@ fn tell_run(told: &mut String, found: Option<(&[u8], &[u8])>) -> Result<(), RowF
 }
 
 /// Digits and signs.
-pub fn tell_piece(told: &mut String, call: &str, input: &[u8]) -> Result<(), RowFault> {
+pub fn tell_piece(told: &mut String, call: &str, input: &[u8]) -> Told {
     match call {
         "one_digit" => tell_found(told, one_digit(input)),
         "two_digits" => tell_found(told, two_digits(input)),

@@ -1,6 +1,6 @@
 //! Records in words, as they are told and as a reading begins with one.
 
-use crate::row_fault::RowFault;
+use crate::row_fault::Told;
 use parsing::Parsed;
 use std::fmt::Display;
 
@@ -57,13 +57,13 @@ fn time_fields(parsed: &Parsed) -> [(&'static str, Option<i128>); 12] {
 }
 
 /// Tells one thing more, behind a comma where others stand.
-pub fn tell(told: &mut String, more: impl Display + Drop) -> Result<(), RowFault> {
+pub fn tell(told: &mut String, more: impl Display + Drop) -> Told {
     let comma = if told.is_empty() { "" } else { ", " };
     Ok(write!(told, "{comma}{more}")?)
 }
 
 /// Tells the fields that are there.
-pub fn tell_fields(told: &mut String, parsed: &Parsed) -> Result<(), RowFault> {
+pub fn tell_fields(told: &mut String, parsed: &Parsed) -> Told {
     for (name, value) in date_fields(parsed) {
         if let Some(value) = value {
             tell(told, format_args!("{name} {value}"))?;

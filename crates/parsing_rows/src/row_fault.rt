@@ -1,7 +1,10 @@
-//! Why a line has no answer.
+//! What telling an answer comes to.
 
 use description::DescriptionFault;
 use std::alloc::AllocError;
+
+/// An answer is told, or there is none.
+pub type Told = Result<(), RowFault>;
 
 /// Why a line has no answer.
 #[derive(Clone, Copy)]
