@@ -32,10 +32,10 @@ fn tell_value<T: Display + Drop>(told: &mut String, answer: Result<T, Parse>) ->
     }
 }
 
-fn tell_record(told: &mut String, answer: Result<Parsed, Parse>) -> Told {
+fn tell_record(told: &mut String, answer: &Result<Parsed, Parse>) -> Told {
     match answer {
-        Ok(parsed) => tell_fields(told, &parsed),
-        Err(fault) => tell_fault(told, fault),
+        Ok(parsed) => tell_fields(told, parsed),
+        Err(fault) => tell_fault(told, *fault),
     }
 }
 
@@ -65,8 +65,8 @@ pub fn tell_call<P: Parsable>(told: &mut String, reader: &P, call: &str, input: 
             tell(told, format_args!("{count} tried"))?;
             tell_front(told, &parsed, answer)
         }
-        "parse" => tell_record(told, reader.parse(input)),
-        "internal" => tell_record(told, reader.parse_internal(input, defaults)),
+        "parse" => tell_record(told, &reader.parse(input)),
+        "internal" => tell_record(told, &reader.parse_internal(input, defaults)),
         _ => tell_value_of(told, reader, call, input, defaults),
     }
 }

@@ -27,10 +27,11 @@ pub fn tell_rfc3339(told: &mut String, call: &str, input: &[u8]) -> Told {
     match call {
         "read" => tell_printed(told, &Rfc3339.read_direct(input)),
         "stand_in" => {
-            let answer = Rfc3339
-                .read_direct(input)
-                .map(is_valid_leap_second_stand_in);
-            tell_printed(told, &answer)
+            let answer = Rfc3339.read_direct(input);
+            tell_printed(
+                told,
+                &answer.map(|moment| is_valid_leap_second_stand_in(moment)),
+            )
         }
         _ => tell_call(told, &Rfc3339, call, input),
     }

@@ -66,33 +66,31 @@ fn items(rt: HostRuntime) -> Result<(), Fail> {
     let in_turn = BorrowedFormatItem::Compound(&clock);
     let either = [in_turn, DAY];
     let first = BorrowedFormatItem::First(&either);
+    let day_alone = DAY;
+    let may_be_day = BorrowedFormatItem::Optional(&day_alone);
+    let may_be_clock = BorrowedFormatItem::Optional(&in_turn);
     let byte = BorrowedFormatItem::Literal(b"\x80");
-    let may_be = BorrowedFormatItem::Optional(&DAY);
-    for (item, input, record, left, tried) in [
-        (byte, b"\x80\xff".as_slice(), none, Ok(1), 1),
-        (byte, b"\x81", none, literal, 1),
-        (BorrowedFormatItem::StringLiteral("x"), b"x", none, Ok(0), 1),
-        (DAY, b"05x", day, Ok(1), 1),
-        (in_turn, b"23:20", time, Ok(0), 4),
-        (in_turn, b"23-20", none, literal, 3),
-        (BorrowedFormatItem::Compound(&[]), b"x", none, Ok(1), 1),
-        (may_be, b"05", day, Ok(0), 2),
-        (may_be, b"x", none, Ok(1), 2),
-        (
-            BorrowedFormatItem::Optional(&in_turn),
-            b"23-20",
-            none,
-            Ok(5),
-            4,
-        ),
-        (first, b"05-", day, Ok(1), 5),
-        (first, b"x", none, hour, 4),
-        (BorrowedFormatItem::First(&[]), b"x", none, Ok(1), 1),
-    ] {
-        assert!(rt; is_answer(&item, input, &record, (left, tried)));
-    }
-    assert!(rt; is_answer(&Items(&clock), b"23:20", &time, (Ok(0), 3)));
-    assert!(rt; places_of_items(&[first, may_be]) == 8);
+    let letter = BorrowedFormatItem::StringLiteral("x");
+    let nothing = BorrowedFormatItem::Compound(&[]);
+    let none_of = BorrowedFormatItem::First(&[]);
+    let answers = [
+        is_answer(&byte, b"\x80\xff", &none, (Ok(1), 1)),
+        is_answer(&byte, b"\x81", &none, (literal, 1)),
+        is_answer(&letter, b"x", &none, (Ok(0), 1)),
+        is_answer(&DAY, b"05x", &day, (Ok(1), 1)),
+        is_answer(&in_turn, b"23:20", &time, (Ok(0), 4)),
+        is_answer(&in_turn, b"23-20", &none, (literal, 3)),
+        is_answer(&Items(&clock), b"23:20", &time, (Ok(0), 3)),
+        is_answer(&nothing, b"x", &none, (Ok(1), 1)),
+        is_answer(&may_be_day, b"05", &day, (Ok(0), 2)),
+        is_answer(&may_be_day, b"x", &none, (Ok(1), 2)),
+        is_answer(&may_be_clock, b"23-20", &none, (Ok(5), 4)),
+        is_answer(&first, b"05-", &day, (Ok(1), 5)),
+        is_answer(&first, b"x", &none, (hour, 4)),
+        is_answer(&none_of, b"x", &none, (Ok(1), 1)),
+    ];
+    assert!(rt; answers == [true; 14]);
+    assert!(rt; places_of_items(&[first, may_be_day]) == 8);
     Ok(())
 }
 

@@ -1,5 +1,4 @@
 //! The calls of a record, field by field: what is set is got, and one past each end is refused and changes nothing.
-ghost use Rattle.std.specs.Prelude.{◌≡◌};
 
 use crate::support::{date_fields, time_fields};
 use calendar::{Month, Weekday};
@@ -7,177 +6,179 @@ use datetime_types::OffsetDateTime;
 use parsing::Parsed;
 use std::test::Fail;
 
-// Whether each of these is set and got, and each of those is refused and changes nothing.
-fn is_kept<T, S, G>(set: S, get: G, kept: &[T], refused: &[T]) -> bool
-where
-    T: Copy + PartialEq,
-    S: Fn(&mut Parsed, T) -> Option<()>,
-    G: Fn(&Parsed) -> Option<T>,
-    requires setter { S.IsAlwaysCallable set }
-    requires getter { G.IsAlwaysCallable get }
-{
-    let mut parsed = Parsed::new();
-    for value in kept {
-        let mut holds = set(&mut parsed, *value).is_some();
-        for past in refused {
-            holds = holds && set(&mut parsed, *past).is_none();
-        }
-        if !holds || get(&parsed) != Some(*value) {
-            return false;
-        }
-    }
-    true
-}
-
-#[test]
-fn years(rt: HostRuntime) {
-    let ends = [-999_999, 0, 999_999];
-    let past = [-1_000_000, 1_000_000];
-    assert!(rt; is_kept(Parsed::set_year, Parsed::year, &ends, &past));
-    assert!(rt; is_kept(Parsed::set_iso_year, Parsed::iso_year, &ends, &past));
-    let set = Parsed::set_year_last_two;
-    assert!(rt; is_kept(set, Parsed::year_last_two, &[0, 50, 99], &[100]));
-    let set = Parsed::set_iso_year_last_two;
-    assert!(rt; is_kept(set, Parsed::iso_year_last_two, &[0, 50, 99], &[100]));
+// Sets the years, by each call.
+fn set_years(parsed: &mut Parsed, year: i32, century: i16, last_two: u8) -> [Option<()>; 6] {
+    [
+        parsed.set_year(year),
+        parsed.set_iso_year(year),
+        parsed.set_year_century(century, true),
+        parsed.set_iso_year_century(century, false),
+        parsed.set_year_last_two(last_two),
+        parsed.set_iso_year_last_two(last_two),
+    ]
 }
 
 // A century's sign is its number's, and that of 0 as it is said.
 #[test]
-fn centuries(rt: HostRuntime) {
-    let mut parsed = Parsed::new();
-    for century in [-9_999, 0, 9_999] {
-        let set = (
-            parsed.set_year_century(century, true),
-            parsed.set_iso_year_century(century, false),
-        );
-        let refused = [
-            parsed.set_year_century(-10_000, false),
-            parsed.set_year_century(10_000, false),
-            parsed.set_iso_year_century(-10_000, true),
-            parsed.set_iso_year_century(10_000, true),
-        ];
-        let kept = (parsed.year_century(), parsed.iso_year_century());
-        let signs = (
-            parsed.year_century_is_negative(),
-            parsed.iso_year_century_is_negative(),
-        );
+fn years(rt: HostRuntime) {
+    for (year, century, last_two, signs) in [
+        (-999_999, -9_999, 0, (Some(1), Some(1))),
+        (0, 0, 50, (Some(1), Some(0))),
+        (999_999, 9_999, 99, (Some(0), Some(0))),
+    ] {
+        let mut parsed = Parsed::new();
+        let set = set_years(&mut parsed, year, century, last_two);
+        let low = set_years(&mut parsed, -1_000_000, -10_000, 100);
+        let high = set_years(&mut parsed, 1_000_000, 10_000, 100);
+        let mut wanted = [None; 15];
+        wanted[0] = Some(year);
+        wanted[1] = Some(i32::from(century));
+        wanted[2] = signs.0;
+        wanted[3] = Some(i32::from(last_two));
+        wanted[4] = Some(year);
+        wanted[5] = Some(i32::from(century));
+        wanted[6] = signs.1;
+        wanted[7] = Some(i32::from(last_two));
+        let got = (set, low, high, date_fields(&parsed));
         assert!(rt;
-            (set, refused) == ((Some(()), Some(())), [None; 4]),
-            "{century}"
-        );
-        assert!(rt; kept == (Some(century), Some(century)), "{century}");
-        assert!(rt;
-            signs == (Some(century <= 0), Some(century < 0)),
-            "{century}"
+            got == ([Some(()); 6], [None; 6], [None; 6], wanted),
+            "{year}"
         );
     }
 }
 
+// Sets the weeks and the days, by each call that may refuse.
+fn set_days(parsed: &mut Parsed, week: u8, iso_week: u8, ordinal: u16, day: u8) -> [Option<()>; 5] {
+    [
+        parsed.set_sunday_week_number(week),
+        parsed.set_monday_week_number(week),
+        parsed.set_iso_week_number(iso_week),
+        parsed.set_ordinal(ordinal),
+        parsed.set_day(day),
+    ]
+}
+
 #[test]
 fn days(rt: HostRuntime) {
-    let kept = [
-        is_kept(
-            Parsed::set_month,
-            Parsed::month,
-            &[Month::January, Month::December],
-            &[],
-        ),
-        is_kept(
-            Parsed::set_weekday,
-            Parsed::weekday,
-            &[Weekday::Monday, Weekday::Sunday],
-            &[],
-        ),
-        is_kept(
-            Parsed::set_sunday_week_number,
-            Parsed::sunday_week_number,
-            &[0, 53],
-            &[54],
-        ),
-        is_kept(
-            Parsed::set_monday_week_number,
-            Parsed::monday_week_number,
-            &[0, 53],
-            &[54],
-        ),
-        is_kept(
-            Parsed::set_iso_week_number,
-            Parsed::iso_week_number,
-            &[1, 53],
-            &[0, 54],
-        ),
-        is_kept(Parsed::set_ordinal, Parsed::ordinal, &[1, 366], &[0, 367]),
-        is_kept(Parsed::set_day, Parsed::day, &[1, 31], &[0, 32]),
-    ];
-    assert!(rt; kept == [true; 7]);
+    for (month, weekday, week, iso_week, ordinal, day) in [
+        (Month::January, Weekday::Monday, 0, 1, 1, 1),
+        (Month::December, Weekday::Sunday, 53, 53, 366, 31),
+    ] {
+        let mut parsed = Parsed::new();
+        let set = set_days(&mut parsed, week, iso_week, ordinal, day);
+        let names = (parsed.set_month(month), parsed.set_weekday(weekday));
+        let low = set_days(&mut parsed, 54, 0, 0, 0);
+        let high = set_days(&mut parsed, 54, 54, 367, 32);
+        let weeks = (
+            parsed.sunday_week_number(),
+            parsed.monday_week_number(),
+            parsed.iso_week_number(),
+        );
+        let got = (
+            parsed.month(),
+            parsed.weekday(),
+            parsed.ordinal(),
+            parsed.day(),
+        );
+        assert!(rt;
+            (set, names, low, high) == ([Some(()); 5], (Some(()), Some(())), [None; 5], [None; 5])
+        );
+        assert!(rt; weeks == (Some(week), Some(week), Some(iso_week)));
+        assert!(rt; got == (Some(month), Some(weekday), Some(ordinal), Some(day)));
+    }
+}
+
+// Sets a time of day, by each call that may refuse.
+fn set_clock(
+    parsed: &mut Parsed,
+    hour: u8,
+    half: u8,
+    minute: u8,
+    second: u8,
+    subsecond: u32,
+) -> [Option<()>; 5] {
+    [
+        parsed.set_hour_24(hour),
+        parsed.set_hour_12(half),
+        parsed.set_minute(minute),
+        parsed.set_second(second),
+        parsed.set_subsecond(subsecond),
+    ]
 }
 
 #[test]
 fn clocks(rt: HostRuntime) {
-    let kept = [
-        is_kept(Parsed::set_hour_24, Parsed::hour_24, &[0, 13, 23], &[24]),
-        is_kept(Parsed::set_hour_12, Parsed::hour_12, &[1, 7, 12], &[0, 13]),
-        is_kept(
-            Parsed::set_hour_12_is_pm,
-            Parsed::hour_12_is_pm,
-            &[true],
-            &[],
-        ),
-        is_kept(Parsed::set_minute, Parsed::minute, &[0, 30, 59], &[60]),
-        is_kept(Parsed::set_second, Parsed::second, &[0, 31, 60], &[61]),
-        is_kept(
-            Parsed::set_subsecond,
-            Parsed::subsecond,
-            &[0, 250_000_000, 999_999_999],
-            &[1_000_000_000],
-        ),
-    ];
-    assert!(rt; kept == [true; 6]);
+    for (hour, half, minute, second, subsecond) in [
+        (0, 1, 0, 0, 0),
+        (13, 7, 30, 31, 250_000_000),
+        (23, 12, 59, 60, 999_999_999),
+    ] {
+        let mut parsed = Parsed::new();
+        let set = set_clock(&mut parsed, hour, half, minute, second, subsecond);
+        let is_pm = parsed.set_hour_12_is_pm(true);
+        let low = set_clock(&mut parsed, 24, 0, 60, 61, 1_000_000_000);
+        let high = set_clock(&mut parsed, 24, 13, 60, 61, 1_000_000_000);
+        let hours = (parsed.hour_24(), parsed.hour_12(), parsed.hour_12_is_pm());
+        let got = (parsed.minute(), parsed.second(), parsed.subsecond());
+        assert!(rt; (set, is_pm, low, high) == ([Some(()); 5], Some(()), [None; 5], [None; 5]));
+        assert!(rt; hours == (Some(hour), Some(half), Some(true)));
+        assert!(rt; got == (Some(minute), Some(second), Some(subsecond)));
+    }
+}
+
+// Sets an offset under its sign.
+fn set_offset(parsed: &mut Parsed, hour: i8, minute: i8, second: i8) -> [Option<()>; 3] {
+    [
+        parsed.set_offset_hour(hour),
+        parsed.set_offset_minute_signed(minute),
+        parsed.set_offset_second_signed(second),
+    ]
 }
 
 #[test]
 fn offsets(rt: HostRuntime) {
+    for (hour, minute, second) in [(-25, -59, -59), (0, 0, 0), (5, 45, 30), (25, 59, 59)] {
+        let mut parsed = Parsed::new();
+        let set = set_offset(&mut parsed, hour, minute, second);
+        let low = set_offset(&mut parsed, -26, -60, -60);
+        let high = set_offset(&mut parsed, 26, 60, 60);
+        let got = (
+            parsed.offset_hour(),
+            parsed.offset_minute_signed(),
+            parsed.offset_second_signed(),
+        );
+        assert!(rt; (set, low, high) == ([Some(()); 3], [None; 3], [None; 3]));
+        assert!(rt; got == (Some(hour), Some(minute), Some(second)));
+    }
+}
+
+#[test]
+fn sizes_of_offsets(rt: HostRuntime) {
+    for value in [0, 30, 59] {
+        let mut parsed = Parsed::new();
+        let set = (
+            parsed.set_offset_minute(value),
+            parsed.set_offset_second(value),
+        );
+        let past = (parsed.set_offset_minute(60), parsed.set_offset_second(60));
+        let got = (parsed.offset_minute(), parsed.offset_second());
+        assert!(rt; (set, past) == ((Some(()), Some(())), (None, None)));
+        assert!(rt; got == (Some(value), Some(value)));
+    }
+}
+
+#[test]
+fn unix_time(rt: HostRuntime) {
     let first = -31_619_087_596_800_000_000_000;
     let last = 31_494_784_780_799_999_999_999;
-    let kept = [
-        is_kept(
-            Parsed::set_offset_hour,
-            Parsed::offset_hour,
-            &[-25, 0, 5, 25],
-            &[-26, 26],
-        ),
-        is_kept(
-            Parsed::set_offset_minute_signed,
-            Parsed::offset_minute_signed,
-            &[-59, 0, 45, 59],
-            &[-60, 60],
-        ),
-        is_kept(
-            Parsed::set_offset_second_signed,
-            Parsed::offset_second_signed,
-            &[-59, 0, 30, 59],
-            &[-60, 60],
-        ),
-        is_kept(
-            Parsed::set_offset_minute,
-            Parsed::offset_minute,
-            &[0, 30, 59],
-            &[60],
-        ),
-        is_kept(
-            Parsed::set_offset_second,
-            Parsed::offset_second,
-            &[0, 30, 59],
-            &[60],
-        ),
-        is_kept(
-            Parsed::set_unix_timestamp_nanos,
-            Parsed::unix_timestamp_nanos,
-            &[first, 0, last],
-            &[first - 1, last + 1],
-        ),
-    ];
-    assert!(rt; kept == [true; 6]);
+    for nanoseconds in [first, 0, last] {
+        let mut parsed = Parsed::new();
+        let set = parsed.set_unix_timestamp_nanos(nanoseconds);
+        let low = parsed.set_unix_timestamp_nanos(first - 1);
+        let high = parsed.set_unix_timestamp_nanos(last + 1);
+        let got = (set, low, high, parsed.unix_timestamp_nanos());
+        assert!(rt; got == (Some(()), None, None, Some(nanoseconds)));
+    }
 }
 
 // A record with every field of a date.
