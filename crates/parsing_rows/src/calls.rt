@@ -25,10 +25,10 @@ fn tell_fault(told: &mut String, fault: Parse) -> Told {
     }
 }
 
-fn tell_value<T: Display + Drop>(told: &mut String, answer: Result<T, Parse>) -> Told {
+fn tell_value<T: Display>(told: &mut String, answer: &Result<T, Parse>) -> Told {
     match answer {
-        Ok(value) => tell(told, value),
-        Err(fault) => tell_fault(told, fault),
+        Ok(value) => tell(told, format_args!("{value}")),
+        Err(fault) => tell_fault(told, *fault),
     }
 }
 
@@ -80,13 +80,13 @@ fn tell_value_of<P: Parsable>(
     defaults: Option<Parsed>,
 ) -> Told {
     match call {
-        "date" => tell_value(told, reader.parse_date(input, defaults)),
-        "time" => tell_value(told, reader.parse_time(input, defaults)),
-        "offset" => tell_value(told, reader.parse_offset(input, defaults)),
-        "plain" => tell_value(told, reader.parse_plain_date_time(input, defaults)),
-        "utc" => tell_value(told, reader.parse_utc_date_time(input, defaults)),
-        "moment" => tell_value(told, reader.parse_offset_date_time(input, defaults)),
-        "timestamp" => tell_value(told, reader.parse_timestamp(input, defaults)),
+        "date" => tell_value(told, &reader.parse_date(input, defaults)),
+        "time" => tell_value(told, &reader.parse_time(input, defaults)),
+        "offset" => tell_value(told, &reader.parse_offset(input, defaults)),
+        "plain" => tell_value(told, &reader.parse_plain_date_time(input, defaults)),
+        "utc" => tell_value(told, &reader.parse_utc_date_time(input, defaults)),
+        "moment" => tell_value(told, &reader.parse_offset_date_time(input, defaults)),
+        "timestamp" => tell_value(told, &reader.parse_timestamp(input, defaults)),
         _ => Err(RowFault::NoRow),
     }
 }

@@ -4,17 +4,30 @@ use crate::row_fault::{RowFault, Told};
 use datetime_types::OffsetDateTime;
 use parsing::{Iso8601, Parsable, Parse, Parsed, Rfc2822, Rfc3339, TwoRoads};
 
+// Whether both answers are one moment, or neither is a moment.
+fn is_same(one: &Result<OffsetDateTime, Parse>, other: &Result<OffsetDateTime, Parse>) -> bool {
+    match (one, other) {
+        (Ok(moment), Ok(same)) => moment == same,
+        (Err(_), Err(_)) => true,
+        _ => false,
+    }
+}
+
+// Whether the shortest way finds that moment, or nothing.
+fn is_found(quick: Option<OffsetDateTime>, answer: &Result<OffsetDateTime, Parse>) -> bool {
+    match (quick, answer) {
+        (None, _) => true,
+        (Some(moment), Ok(same)) => moment == *same,
+        _ => false,
+    }
+}
+
 // Whether the format is read alike with a record and without one, and the shortest way finds nothing else.
 fn is_read_alike<F: TwoRoads>(format: &F, input: &[u8]) -> bool {
     let direct = format.read_direct(input);
-    let staged = format.read_staged(input, Parsed::new());
-    direct.ok() == staged.ok()
+    is_same(&direct, &format.read_staged(input, Parsed::new()))
         && direct == format.parse_offset_date_time(input, None)
-        && is_same(format.read_quickly(input), direct)
-}
-
-fn is_same(quick: Option<OffsetDateTime>, answer: Result<OffsetDateTime, Parse>) -> bool {
-    quick.is_none() || quick == answer.ok()
+        && is_found(format.read_quickly(input), &direct)
 }
 
 // Whether a text is read by RFC 2822 or ISO 8601, or the ways to read it differ.
@@ -32,7 +45,7 @@ fn is_all_alike(input: &[u8]) -> bool {
     is_read_alike(&Rfc3339, input)
         && is_read_alike(&Rfc2822, input)
         && answer == Iso8601.parse_offset_date_time(input, None)
-        && is_same(parsing_iso8601::read_quickly(input), answer)
+        && is_found(parsing_iso8601::read_quickly(input), &answer)
 }
 
 /// Of how many fronts of the text, without itself, this holds.

@@ -26,13 +26,10 @@ fn tell_parts<T: Debug, E: Display>(told: &mut String, answer: &Result<(T, &[u8]
 pub fn tell_rfc3339(told: &mut String, call: &str, input: &[u8]) -> Told {
     match call {
         "read" => tell_printed(told, &Rfc3339.read_direct(input)),
-        "stand_in" => {
-            let answer = Rfc3339.read_direct(input);
-            tell_printed(
-                told,
-                &answer.map(|moment| is_valid_leap_second_stand_in(moment)),
-            )
-        }
+        "stand_in" => match Rfc3339.read_direct(input) {
+            Ok(moment) => Ok(write!(told, "{}", is_valid_leap_second_stand_in(moment))?),
+            Err(fault) => Ok(write!(told, "{fault}")?),
+        },
         _ => tell_call(told, &Rfc3339, call, input),
     }
 }
