@@ -12,76 +12,78 @@ const DAY: BorrowedFormatItem<'static> = BorrowedFormatItem::Component(Component
 
 const TEXT: BorrowedFormatItem<'static> = BorrowedFormatItem::StringLiteral("x");
 
-#[test]
-fn items_are_equal_by_their_trees(rt: HostRuntime) {
-    let text = BorrowedFormatItem::StringLiteral("x");
-    let bytes = BorrowedFormatItem::Literal(b"x");
-    let (one, other) = ([text, DAY], [bytes, DAY]);
-    let alike = [
-        text == bytes,
-        BorrowedFormatItem::Compound(&one) == BorrowedFormatItem::Compound(&other),
-        BorrowedFormatItem::First(&one) == BorrowedFormatItem::First(&other),
-        BorrowedFormatItem::Optional(&text) == BorrowedFormatItem::Optional(&bytes),
-    ];
-    assert_eq!(rt; alike, [true, true, true, true]);
-    let unlike = [
-        text == BorrowedFormatItem::StringLiteral("X"),
-        DAY == text,
-        BorrowedFormatItem::Compound(&one) == BorrowedFormatItem::First(&other),
-        BorrowedFormatItem::First(&one) == BorrowedFormatItem::First(&other[..1]),
-        BorrowedFormatItem::Optional(&text) == text,
-    ];
-    assert_eq!(rt; unlike, [false, false, false, false, false]);
+const BYTES: BorrowedFormatItem<'static> = BorrowedFormatItem::Literal(b"x");
+
+const TEXT_AND_DAY: [BorrowedFormatItem<'static>; 2] = [TEXT, DAY];
+
+const BYTES_AND_DAY: [BorrowedFormatItem<'static>; 2] = [BYTES, DAY];
+
+// Text and the same bytes are alike.
+fn are_alike() -> bool {
+    let (one, other) = (TEXT_AND_DAY, BYTES_AND_DAY);
+    TEXT == BYTES
+        && BorrowedFormatItem::Compound(&one) == BorrowedFormatItem::Compound(&other)
+        && BorrowedFormatItem::First(&one) == BorrowedFormatItem::First(&other)
+        && BorrowedFormatItem::Optional(&TEXT) == BorrowedFormatItem::Optional(&BYTES)
 }
 
-#[test]
-fn components_come_back(rt: HostRuntime) {
+fn are_unlike() -> bool {
+    let (one, other) = (TEXT_AND_DAY, BYTES_AND_DAY);
+    TEXT != BorrowedFormatItem::StringLiteral("X")
+        && DAY != TEXT
+        && BorrowedFormatItem::Compound(&one) != BorrowedFormatItem::First(&other)
+        && BorrowedFormatItem::First(&one) != BorrowedFormatItem::First(&other[..1])
+        && BorrowedFormatItem::Optional(&TEXT) != TEXT
+}
+
+// A component comes back from the item that it becomes, and from no other.
+fn components_come_back() -> bool {
     let minute = Component::Minute(Minute::default());
     let item = BorrowedFormatItem::from(minute);
-    assert!(rt; item == BorrowedFormatItem::Component(minute));
-    assert_eq!(rt; Component::try_from(item), Ok(minute));
-    assert_eq!(rt; Component::try_from(TEXT), Err(DifferentVariant));
+    item == BorrowedFormatItem::Component(minute)
+        && Component::try_from(item) == Ok(minute)
+        && Component::try_from(TEXT) == Err(DifferentVariant)
 }
 
-#[test]
-fn slices_come_back(rt: HostRuntime) {
+// So does a slice of items.
+fn slices_come_back() -> bool {
     let items = [TEXT];
     let list = BorrowedFormatItem::from(items.as_slice());
     let back: Result<&[BorrowedFormatItem], DifferentVariant> = list.try_into();
-    assert!(rt; back.is_ok_and(|inside| inside.len() == 1));
     let none: Result<&[BorrowedFormatItem], DifferentVariant> = TEXT.try_into();
-    assert!(rt; none.is_err());
+    matches!(back, Ok([_])) && none.is_err()
+}
+
+fn are_themselves() -> bool {
+    let (am, pm) = (HalfOfDay::Am, HalfOfDay::Pm);
+    am == am && am != pm && pm == pm && (Rfc2822, Rfc3339, Iso8601) == (Rfc2822, Rfc3339, Iso8601)
+}
+
+#[test]
+fn items_are_equal_by_their_trees_and_come_back(rt: HostRuntime) {
+    assert!(rt; are_alike() && are_unlike() && are_themselves());
+    assert!(rt; components_come_back() && slices_come_back());
 }
 
 #[test]
 fn texts(rt: HostRuntime) -> Result<(), Fail> {
-    let items = [TEXT, DAY];
     let (optional, first) = (
         BorrowedFormatItem::Optional(&TEXT),
-        BorrowedFormatItem::First(&items),
+        BorrowedFormatItem::First(&TEXT_AND_DAY),
     );
-    let told = format!(in rt.alloc(); "\n{optional:?}\n{first:?}\n{DifferentVariant}")?;
-    assert_eq!(rt; told.as_str(), TEXTS);
+    let (am, pm) = (HalfOfDay::Am, HalfOfDay::Pm);
+    let told = format!(in rt.alloc();
+        "\n{optional:?}\n{first:?}\n{DifferentVariant}\n{am:?} {pm:?}"
+    )?;
+    assert!(rt; told.as_str() == TEXTS);
     Ok(())
 }
 
 const TEXTS: &str = r#"
 Optional(StringLiteral("x"))
 First([StringLiteral("x"), Component(Day(Day { padding: None }))])
-value was of a different variant"#;
-
-#[test]
-fn halves_of_a_day(rt: HostRuntime) -> Result<(), Fail> {
-    let (am, pm) = (HalfOfDay::Am, HalfOfDay::Pm);
-    assert_eq!(rt; [am == am, am == pm, pm == pm], [true, false, true]);
-    assert_eq!(rt; format!(in rt.alloc(); "{am:?} {pm:?}")?.as_str(), "Am Pm");
-    Ok(())
-}
-
-#[test]
-fn formats_equal_themselves(rt: HostRuntime) {
-    assert_eq!(rt; (Rfc2822, Rfc3339, Iso8601), (Rfc2822, Rfc3339, Iso8601));
-}
+value was of a different variant
+Am Pm"#;
 
 #[test]
 fn older_forms_become_newer_ones(rt: HostRuntime) -> Result<(), Fail> {
@@ -97,10 +99,9 @@ fn older_forms_become_newer_ones(rt: HostRuntime) -> Result<(), Fail> {
         Component::Day(Day::default()),
     ] {
         let newer = older.modern();
-        let line = format!(in rt.alloc(); "\n{newer:?}")?;
-        told.push_str(line.as_str())?;
+        write!(told, "\n{newer:?}")?;
     }
-    assert_eq!(rt; told.as_str(), NEWER);
+    assert!(rt; told.as_str() == NEWER);
     Ok(())
 }
 

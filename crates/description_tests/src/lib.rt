@@ -1,24 +1,18 @@
-//! Tests of the crates of descriptions.
+//! Tests of the crates of descriptions. What their texts are read as stands in the rows of `description_rows`.
 #![tactic(auto)]
 
 #[cfg(test)]
 mod builders;
 #[cfg(test)]
-mod components;
-#[cfg(test)]
-mod faults;
-#[cfg(test)]
 mod items;
 #[cfg(test)]
-mod letters;
+mod made;
 #[cfg(test)]
 mod memory;
 #[cfg(test)]
 mod page;
 #[cfg(test)]
 mod support;
-#[cfg(test)]
-mod texts;
 #[cfg(test)]
 mod trees;
 #[cfg(test)]

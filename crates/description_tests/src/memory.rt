@@ -1,14 +1,15 @@
 //! The calls that take memory, each alone. With memory each gives its answer; `rt try --test
 //! --fail-alloc N` refuses the growths in turn, and then a call may say nothing but that memory ran out.
 
-use crate::support::{ONE, THREE, TWO, failure, given};
-use description::{Description, parse, parse_borrowed, parse_strftime_borrowed};
-use description_items::modifier::{Day, OffsetHour, OffsetMinute, Padding};
+use crate::support::{ONE, THREE, TWO, failure, given, shown};
+use description::{parse, parse_strftime_borrowed};
+use description_items::modifier::{
+    CalendarYearFullExtendedRange, Day, MonthNumerical, OffsetHour, OffsetMinute, Padding,
+};
 use description_items::{BorrowedFormatItem, Component};
 use description_reading::{items_of, tree_of};
-use description_tree::{FormatDescriptionV3, FormatDescriptionV3Inner};
-use description_words::{modifiers_of, whole_of};
-use std::alloc::Global;
+use description_words::{Modifier, modifiers_of, whole_of};
+use std::alloc::{AllocError, Global};
 use std::test::Fail;
 
 const DAY: BorrowedFormatItem<'static> = BorrowedFormatItem::Component(Component::Day(Day {
@@ -30,74 +31,90 @@ const OFFSET_MINUTE: BorrowedFormatItem<'static> = BorrowedFormatItem::Component
     }),
 );
 
+const MONTH: BorrowedFormatItem<'static> = BorrowedFormatItem::Component(
+    Component::MonthNumerical(MonthNumerical {
+        padding: Padding::Zero,
+    }),
+);
+
+const YEAR: BorrowedFormatItem<'static> = BorrowedFormatItem::Component(
+    Component::CalendarYearFullExtendedRange(CalendarYearFullExtendedRange {
+        padding: Padding::Zero,
+        sign_is_mandatory: false,
+    }),
+);
+
+const DASH: BorrowedFormatItem<'static> = BorrowedFormatItem::StringLiteral("-");
+
+// The items of `%dx%zx%d%z%dx`.
+const LETTERS: [BorrowedFormatItem<'static>; 10] = [
+    DAY,
+    X,
+    OFFSET_HOUR,
+    OFFSET_MINUTE,
+    X,
+    DAY,
+    OFFSET_HOUR,
+    OFFSET_MINUTE,
+    DAY,
+    X,
+];
+
+// The items of `%F%F%F`.
+const DATES: [BorrowedFormatItem<'static>; 15] = [
+    YEAR, DASH, MONTH, DASH, DAY, YEAR, DASH, MONTH, DASH, DAY, YEAR, DASH, MONTH, DASH, DAY,
+];
+
 // A text whose items take more room than a list begins with, and these items.
 const LONG: &str = "[day]x[day padding:zero]x[day]x[day]x[day]x";
 
 const LONG_ITEMS: [BorrowedFormatItem<'static>; 10] = [DAY, X, DAY, X, DAY, X, DAY, X, DAY, X];
+
+const LONG_SHOWN: &str =
+    r#"Items([Component(Day(Day { padding: Zero })), StringLiteral("x"), Component(Day(Day { padding: Zero })), StringLiteral("x"), Component(Day(Day { padding: Zero })), StringLiteral("x"), Component(Day(Day { padding: Zero })), StringLiteral("x"), Component(Day(Day { padding: Zero })), StringLiteral("x")])"#;
+
+// The keys and the values, one after the other.
+fn words(alloc: Global, all: &[Modifier<'_>]) -> Result<String, AllocError> {
+    let mut words = String::new(alloc);
+    for modifier in all {
+        write!(words, "{}{}", modifier.key.text, modifier.value.text)?;
+    }
+    Ok(words)
+}
 
 #[test]
 fn modifiers(rt: HostRuntime) -> Result<(), Fail> {
     let text = whole_of(" a:1 b:2 c:3 d:4 e:5 f:6");
     match modifiers_of(rt.alloc(), text) {
         Ok((all, _)) => {
-            let mut values = String::new(rt.alloc());
-            for modifier in &all {
-                values.push_str(modifier.key.text)?;
-                values.push_str(modifier.value.text)?;
-            }
-            assert_eq!(rt; values.as_str(), "a1b2c3d4e5f6");
+            let words = words(rt.alloc(), all.as_slice())?;
+            assert!(rt; words.as_str() == "a1b2c3d4e5f6");
             Ok(())
         }
         Err(fault) => Err(failure(fault)),
     }
 }
 
-#[test]
-fn items_of_versions_1_and_2(rt: HostRuntime) -> Result<(), Fail> {
-    for version in [ONE, TWO] {
-        let items = given(items_of(rt.alloc(), version, LONG))?;
-        assert!(rt; items.as_slice() == LONG_ITEMS.as_slice());
-    }
-    Ok(())
-}
-
-#[test]
-fn items_of_version_1(rt: HostRuntime) -> Result<(), Fail> {
-    let items = given(parse(rt.alloc(), LONG))?;
-    assert!(rt; items.as_slice() == LONG_ITEMS.as_slice());
-    Ok(())
+fn has_letters(alloc: Global, text: &str, wanted: &[BorrowedFormatItem<'_>]) -> Result<bool, Fail> {
+    let items = given(parse_strftime_borrowed(alloc, text))?;
+    Ok(items.as_slice() == wanted)
 }
 
 #[test]
 fn items_of_letters(rt: HostRuntime) -> Result<(), Fail> {
-    let items = given(parse_strftime_borrowed(rt.alloc(), "%dx%zx%d%z%dx"))?;
-    let wanted = [
-        DAY,
-        X,
-        OFFSET_HOUR,
-        OFFSET_MINUTE,
-        X,
-        DAY,
-        OFFSET_HOUR,
-        OFFSET_MINUTE,
-        DAY,
-        X,
-    ];
-    assert!(rt; items.as_slice() == wanted.as_slice());
-    let dashes = given(parse_strftime_borrowed(rt.alloc(), "%F%F%F"))?;
-    assert_eq!(rt; dashes.len(), 15);
-    assert!(rt; dashes[13] == BorrowedFormatItem::StringLiteral("-"));
-    assert!(rt; dashes[14] == DAY);
+    assert!(rt; has_letters(rt.alloc(), "%dx%zx%d%z%dx", &LETTERS)?);
+    assert!(rt; has_letters(rt.alloc(), "%F%F%F", &DATES)?);
     Ok(())
 }
 
 #[test]
-fn descriptions_of_versions_1_and_2(rt: HostRuntime) -> Result<(), Fail> {
+fn items_of_versions_1_and_2(rt: HostRuntime) -> Result<(), Fail> {
+    let items = given(parse(rt.alloc(), LONG))?;
+    assert!(rt; items.as_slice() == LONG_ITEMS.as_slice());
     for version in [ONE, TWO] {
-        let Description::Items(items) = given(parse_borrowed(rt.alloc(), version, LONG))? else {
-            return Err(Fail::from("no items"));
-        };
+        let items = given(items_of(rt.alloc(), version, LONG))?;
         assert!(rt; items.as_slice() == LONG_ITEMS.as_slice());
+        assert!(rt; shown(rt.alloc(), version, LONG)?.as_str() == LONG_SHOWN);
     }
     Ok(())
 }
@@ -105,57 +122,20 @@ fn descriptions_of_versions_1_and_2(rt: HostRuntime) -> Result<(), Fail> {
 // Text, an optional item, alternatives, and more nodes than a list begins with.
 const TREE: &str = "x[day][optional [y[day]]][first [z] [[day]]][day]x";
 
-// How each node of a tree is kept, from the left: `b` borrowed and `o` owned, with a letter for its kind.
-fn push_forms(node: &FormatDescriptionV3Inner<'_>, forms: &mut String) -> Result<(), Fail> {
-    match node {
-        FormatDescriptionV3Inner::BorrowedLiteral(_) => forms.push_str("bl ")?,
-        FormatDescriptionV3Inner::OwnedLiteral(_) => forms.push_str("ol ")?,
-        FormatDescriptionV3Inner::BorrowedCompound(_) => forms.push_str("bc ")?,
-        FormatDescriptionV3Inner::BorrowedFirst(_) => forms.push_str("bf ")?,
-        FormatDescriptionV3Inner::BorrowedOptional { .. } => forms.push_str("bo ")?,
-        FormatDescriptionV3Inner::OwnedCompound(nodes) => {
-            forms.push_str("oc ")?;
-            for node in nodes {
-                push_forms(node, forms)?;
-            }
-        }
-        FormatDescriptionV3Inner::OwnedFirst(nodes) => {
-            forms.push_str("of ")?;
-            for node in nodes {
-                push_forms(node, forms)?;
-            }
-        }
-        FormatDescriptionV3Inner::OwnedOptional { item, .. } => {
-            forms.push_str("oo ")?;
-            push_forms(item, forms)?;
-        }
-        _ => forms.push_str("day ")?,
-    }
-    Ok(())
-}
+// Literals are borrowed, all else is owned.
+const READ: &str =
+    r#"V3(FormatDescriptionV3 { inner: OwnedCompound([BorrowedLiteral("x"), Day(Day { padding: Zero }), OwnedOptional { format: true, item: OwnedCompound([BorrowedLiteral("y"), Day(Day { padding: Zero })]) }, OwnedFirst([OwnedCompound([BorrowedLiteral("z")]), OwnedCompound([Day(Day { padding: Zero })])]), Day(Day { padding: Zero }), BorrowedLiteral("x")]), max_bytes_needed: 11 })"#;
 
-// The forms of a description's nodes.
-fn forms(alloc: Global, description: &FormatDescriptionV3<'_>) -> Result<String, Fail> {
-    let mut forms = String::new(alloc);
-    push_forms(description.inner(), &mut forms)?;
-    Ok(forms)
-}
+// Nothing is borrowed.
+const COPIED: &str =
+    r#"FormatDescriptionV3 { inner: OwnedCompound([OwnedLiteral("x"), Day(Day { padding: Zero }), OwnedOptional { format: true, item: OwnedCompound([OwnedLiteral("y"), Day(Day { padding: Zero })]) }, OwnedFirst([OwnedCompound([OwnedLiteral("z")]), OwnedCompound([Day(Day { padding: Zero })])]), Day(Day { padding: Zero }), OwnedLiteral("x")]), max_bytes_needed: 11 }"#;
 
 #[test]
 fn descriptions_of_version_3(rt: HostRuntime) -> Result<(), Fail> {
-    let Description::V3(tree) = given(parse_borrowed(rt.alloc(), THREE, TREE))? else {
-        return Err(Fail::from("no tree"));
-    };
-    assert_eq!(rt; tree.max_bytes_needed(), 11);
-    assert_eq!(rt; forms(rt.alloc(), &tree)?.as_str(), READ);
+    let shown = shown(rt.alloc(), THREE, TREE)?;
+    assert!(rt; shown.as_str() == READ);
     Ok(())
 }
-
-// Literals are borrowed, all else is owned.
-const READ: &str = "oc bl day oo oc bl day of oc bl oc day day bl ";
-
-// Nothing is borrowed.
-const COPIED: &str = "oc ol day oo oc ol day of oc ol oc day day ol ";
 
 #[test]
 fn copies_of_trees(rt: HostRuntime) -> Result<(), Fail> {
@@ -164,8 +144,7 @@ fn copies_of_trees(rt: HostRuntime) -> Result<(), Fail> {
         return Err(Fail::from("too many bytes"));
     };
     let copy = description.to_owned(rt.alloc())?;
-    assert_eq!(rt; copy.max_bytes_needed(), 11);
-    assert_eq!(rt; forms(rt.alloc(), &description)?.as_str(), READ);
-    assert_eq!(rt; forms(rt.alloc(), &copy)?.as_str(), COPIED);
+    let told = format!(in rt.alloc(); "V3({description:?})\n{copy:?}")?;
+    assert!(rt; told.as_str().split_once('\n') == Some((READ, COPIED)));
     Ok(())
 }

@@ -1,5 +1,6 @@
-//! Versions, and faults told in words.
+//! Versions, and what a call gives.
 
+use description::parse_borrowed;
 use description_faults::DescriptionFault;
 use description_words::DescriptionVersion;
 use std::alloc::{AllocError, Global};
@@ -10,36 +11,6 @@ pub const ONE: DescriptionVersion = DescriptionVersion::One;
 pub const TWO: DescriptionVersion = DescriptionVersion::Two;
 
 pub const THREE: DescriptionVersion = DescriptionVersion::Three;
-
-/// Every version.
-pub const ALL: &[DescriptionVersion] = &[ONE, TWO, THREE];
-
-/// Versions 2 and 3.
-pub const LATER: &[DescriptionVersion] = &[TWO, THREE];
-
-/// The version of a digit.
-pub fn version_of(digit: char) -> DescriptionVersion {
-    match digit {
-        '1' => ONE,
-        '2' => TWO,
-        _ => THREE,
-    }
-}
-
-/// The versions that a row names by their digits, the text, and what is told of it: `12 TEXT => TOLD`.
-pub fn row(line: &str) -> Option<(&str, &str, &str)> {
-    let (versions, row) = line.split_once(' ')?;
-    let (text, told) = row.split_once(" => ")?;
-    Some((versions, text, told))
-}
-
-/// The sentence of a fault, where memory doesn't run out.
-pub fn fault_told(alloc: Global, fault: DescriptionFault<'_>) -> Result<String, Fail> {
-    match fault {
-        DescriptionFault::Description(fault) => Ok(format!(in alloc; "{fault}")?),
-        DescriptionFault::Memory => Err(Fail::from(AllocError)),
-    }
-}
 
 /// What a call gives, where memory doesn't run out and the text has no fault.
 pub fn given<T>(answer: Result<T, DescriptionFault<'_>>) -> Result<T, Fail> {
@@ -55,4 +26,10 @@ pub fn failure(fault: DescriptionFault<'_>) -> Fail {
         DescriptionFault::Memory => Fail::from(AllocError),
         DescriptionFault::Description(_) => Fail::from("a fault"),
     }
+}
+
+/// The description of a text as it is shown, where memory doesn't run out and the text has no fault.
+pub fn shown(alloc: Global, version: DescriptionVersion, text: &str) -> Result<String, Fail> {
+    let description = given(parse_borrowed(alloc, version, text))?;
+    Ok(format!(in alloc; "{description:?}")?)
 }

@@ -1,3 +1,0 @@
-//! Faults of descriptions, and their sentences.
-
-use description_faults::{DescriptionFault, InvalidFormatDescription};
