@@ -1,6 +1,6 @@
 //! Runs at values that are known from outside, alike for both kinds of moment.
 use crate::kinds::DateTime;
-use crate::rows::Parts;
+use crate::rows::{Parts, date_of, offset_of, timestamp_of};
 use calendar::{Date, Month, SignedDuration, Time, UtcOffset, Weekday};
 use datetime::{
     Moment, MomentCall, MomentReply, OffsetDateTime, Timestamp, UtcDateTime, run_calls,
@@ -51,10 +51,9 @@ fn moves_the_start(rt: HostRuntime) -> Result<(), Fail> {
 
 #[test]
 fn answers_every_call(rt: HostRuntime) -> Result<(), Fail> {
-    let noon = Time::from_hms_milli(12, 30, 0, 500)?;
-    let new_year = Date::from_calendar_date(1970, Month::January, 1)?;
-    let west = UtcOffset::from_hms(-13, 0, 0)?;
-    let shown = OffsetDateTime::from_unix_timestamp_nanos(45_000_500_000_000)?;
+    let noon = Time::from_hms_milli(12, 30, 0, 500).unwrap_or(Time::MIDNIGHT);
+    let new_year = date_of(1970, Month::January, 1);
+    let shown = OffsetDateTime::from_unix_timestamp_nanos(45_000_500_000_000).ok();
     let run = Run {
         calls: &[
             MomentCall::InstantNanos,
@@ -65,7 +64,7 @@ fn answers_every_call(rt: HostRuntime) -> Result<(), Fail> {
             MomentCall::AsHmsNano,
             MomentCall::ReplaceTime(noon),
             MomentCall::ReplaceDate(new_year),
-            MomentCall::CheckedToOffset(west),
+            MomentCall::CheckedToOffset(offset_of(-13, 0, 0)),
             MomentCall::CheckedSub(SignedDuration::new(45_000, 500_000_000)),
             MomentCall::CheckedAdd(SignedDuration::MAX),
             MomentCall::CheckedAdd(SignedDuration::SECOND),
@@ -79,14 +78,14 @@ fn answers_every_call(rt: HostRuntime) -> Result<(), Fail> {
             MomentReply::AsHmsNano(0, 0, 0, 0),
             MomentReply::ReplaceTime(951_827_400_500_000_000),
             MomentReply::ReplaceDate(45_000_500_000_000),
-            MomentReply::CheckedToOffset(Some(shown)),
+            MomentReply::CheckedToOffset(shown),
             MomentReply::CheckedSub(Some(0)),
             MomentReply::CheckedAdd(None),
             MomentReply::CheckedAdd(Some(1_000_000_000)),
         ],
         last: 1_000_000_000,
     };
-    check_both(&rt, rt.alloc(), Timestamp::from_seconds(951_782_400)?, &run)
+    check_both(&rt, rt.alloc(), timestamp_of(951_782_400, 0), &run)
 }
 
 // A refused call is answered, and the run goes on from where it was.
@@ -95,7 +94,7 @@ fn goes_on_at_the_end(rt: HostRuntime) -> Result<(), Fail> {
     let last = Run {
         calls: &[
             MomentCall::CheckedAdd(SignedDuration::NANOSECOND),
-            MomentCall::CheckedToOffset(UtcOffset::from_hms(0, 0, 1)?),
+            MomentCall::CheckedToOffset(offset_of(0, 0, 1)),
             MomentCall::ToCalendarDate,
             MomentCall::AsHmsNano,
         ],
@@ -115,7 +114,7 @@ fn goes_on_at_the_beginning(rt: HostRuntime) -> Result<(), Fail> {
     let first = Run {
         calls: &[
             MomentCall::CheckedSub(SignedDuration::NANOSECOND),
-            MomentCall::CheckedToOffset(UtcOffset::from_hms(0, 0, -1)?),
+            MomentCall::CheckedToOffset(offset_of(0, 0, -1)),
             MomentCall::ToOrdinalDate,
             MomentCall::Weekday,
         ],
@@ -160,7 +159,7 @@ fn shows_dates_by_both_calendars(rt: HostRuntime) {
 
 #[test]
 fn takes_no_memory_for_no_calls(rt: HostRuntime) -> Result<(), Fail> {
-    let epoch = UtcDateTime::from_unix_timestamp(0)?;
+    let epoch = Timestamp::UNIX_EPOCH.to_utc();
     let (moment, replies) = run_calls(rt.alloc(), epoch, &[])?;
     assert!(rt; replies.is_empty() && moment == epoch);
     Ok(())
@@ -168,7 +167,7 @@ fn takes_no_memory_for_no_calls(rt: HostRuntime) -> Result<(), Fail> {
 
 #[test]
 fn shows_at_the_offset(rt: HostRuntime) -> Result<(), Fail> {
-    let west = UtcOffset::from_hms(-13, 0, 0)?;
+    let west = offset_of(-13, 0, 0);
     let calls = [MomentCall::CheckedToOffset(west)];
     let (_, replies) = run_calls(rt.alloc(), Timestamp::UNIX_EPOCH, &calls)?;
     let eve = ((1969, Month::December, 31), (11, 0, 0, 0));

@@ -2,27 +2,27 @@
 use crate::kinds::DateTime;
 use crate::rows::{
     CUT, DAY_BEFORE, DAY_VIEWS, EVENING, FIRST, LAST, LEAP_DAY, NEXT_DAY, Part, Parts, REFUSED,
-    REPLACED, Step, TIME_VIEWS, Unit, evening, hash_of, leap_day, moved, past_the_ends, refused,
+    REPLACED, Step, TIME_VIEWS, after_the_last, before_the_first, date_of, east, evening, hash_of,
+    leap_day, moved, refused, timestamp_of,
 };
-use calendar::{Date, Month, SignedDuration, Time, UtcOffset};
+use calendar::{Month, SignedDuration, Time};
 use datetime::{OffsetDateTime, PlainDateTime, Timestamp, UtcDateTime, laws};
 use std::cmp::Ordering;
 use std::hash::Hash;
 use std::process::Abort;
-use std::test::Fail;
 use std::time::Duration;
 
 // The leap day's evening, of each type.
 type Evenings = (PlainDateTime, UtcDateTime, Timestamp, OffsetDateTime);
 
-fn evenings() -> Result<Evenings, Fail> {
-    let (date, time) = (leap_day()?, evening()?);
-    Ok((
+fn evenings() -> Evenings {
+    let (date, time) = (leap_day(), evening());
+    (
         PlainDateTime::new(date, time),
         UtcDateTime::new(date, time),
-        Timestamp::new(1_709_251_198, 123_456_789)?,
-        OffsetDateTime::new_in_offset(date, time, UtcOffset::from_hms(5, 30, 0)?),
-    ))
+        timestamp_of(1_709_251_198, 123_456_789),
+        OffsetDateTime::new_in_offset(date, time, east()),
+    )
 }
 
 fn check_views<T: DateTime>(rt: &impl Abort, value: T) {
@@ -32,13 +32,12 @@ fn check_views<T: DateTime>(rt: &impl Abort, value: T) {
 }
 
 #[test]
-fn shows_its_parts(rt: HostRuntime) -> Result<(), Fail> {
-    let (plain, utc, timestamp, shown) = evenings()?;
+fn shows_its_parts(rt: HostRuntime) {
+    let (plain, utc, timestamp, shown) = evenings();
     check_views(&rt, plain);
     check_views(&rt, utc);
     check_views(&rt, timestamp);
     check_views(&rt, shown);
-    Ok(())
 }
 
 fn check_replaced<T: DateTime>(rt: &impl Abort, value: T) {
@@ -55,8 +54,8 @@ fn check_refused<T: DateTime>(rt: &impl Abort, value: T) {
 }
 
 #[test]
-fn replaces_parts(rt: HostRuntime) -> Result<(), Fail> {
-    let (plain, utc, timestamp, shown) = evenings()?;
+fn replaces_parts(rt: HostRuntime) {
+    let (plain, utc, timestamp, shown) = evenings();
     check_replaced(&rt, plain);
     check_replaced(&rt, utc);
     check_replaced(&rt, timestamp);
@@ -65,7 +64,6 @@ fn replaces_parts(rt: HostRuntime) -> Result<(), Fail> {
     check_refused(&rt, utc);
     check_refused(&rt, timestamp);
     check_refused(&rt, shown);
-    Ok(())
 }
 
 // No April 31.
@@ -77,11 +75,10 @@ fn is_april_31_refused<T: DateTime>(value: T) -> bool {
 }
 
 #[test]
-fn refuses_days_of_other_months(rt: HostRuntime) -> Result<(), Fail> {
-    let (plain, utc, timestamp, shown) = evenings()?;
+fn refuses_days_of_other_months(rt: HostRuntime) {
+    let (plain, utc, timestamp, shown) = evenings();
     assert!(rt; is_april_31_refused(plain) && is_april_31_refused(utc));
     assert!(rt; is_april_31_refused(timestamp) && is_april_31_refused(shown));
-    Ok(())
 }
 
 fn check_moved<T: DateTime>(rt: &impl Abort, value: T) {
@@ -103,18 +100,17 @@ fn check_since<T: DateTime>(rt: &impl Abort, value: T) {
 }
 
 #[test]
-fn moves_by_durations(rt: HostRuntime) -> Result<(), Fail> {
-    let (plain, utc, timestamp, shown) = evenings()?;
+fn moves_by_durations(rt: HostRuntime) {
+    let (plain, utc, timestamp, shown) = evenings();
     check_moved(&rt, plain);
     check_moved(&rt, utc);
     check_moved(&rt, timestamp);
     check_moved(&rt, shown);
-    Ok(())
 }
 
 #[test]
-fn adds_and_subtracts(rt: HostRuntime) -> Result<(), Fail> {
-    let (plain, utc, timestamp, shown) = evenings()?;
+fn adds_and_subtracts(rt: HostRuntime) {
+    let (plain, utc, timestamp, shown) = evenings();
     check_sums(&rt, plain);
     check_sums(&rt, utc);
     check_sums(&rt, timestamp);
@@ -123,28 +119,29 @@ fn adds_and_subtracts(rt: HostRuntime) -> Result<(), Fail> {
     check_since(&rt, utc);
     check_since(&rt, timestamp);
     check_since(&rt, shown);
-    Ok(())
+}
+
+fn check_end<T: DateTime>(rt: &impl Abort, end: T, steps: [(Step, Option<Parts>); 4]) {
+    for (step, wanted) in steps {
+        let moved = end.moved(step);
+        assert!(rt; moved.map(T::parts) == wanted);
+        assert!(rt; moved.unwrap_or(end).own_offset() == end.own_offset());
+    }
 }
 
 fn check_ends<T: DateTime>(rt: &impl Abort, first: T, last: T) {
     assert!(rt; first.parts() == FIRST && last.parts() == LAST);
-    for (is_last, step, wanted) in past_the_ends() {
-        let start = if is_last { last } else { first };
-        let moved = start.moved(step);
-        assert!(rt; moved.map(T::parts) == wanted);
-        assert!(rt; moved.unwrap_or(start).own_offset() == start.own_offset());
-    }
+    check_end(rt, first, before_the_first());
+    check_end(rt, last, after_the_last());
 }
 
 #[test]
-fn ends_with_the_calendar(rt: HostRuntime) -> Result<(), Fail> {
-    let east = UtcOffset::from_hms(5, 30, 0)?;
+fn ends_with_the_calendar(rt: HostRuntime) {
     let [first, last] = laws::ends_of_wall_clocks();
     check_ends(&rt, first, last);
     check_ends(&rt, first.as_utc(), last.as_utc());
-    check_ends(&rt, first.assume_offset(east), last.assume_offset(east));
+    check_ends(&rt, first.assume_offset(east()), last.assume_offset(east()));
     check_ends(&rt, Timestamp::MIN, Timestamp::MAX);
-    Ok(())
 }
 
 fn check_order<T: DateTime + Ord + Hash + Drop>(rt: &impl Abort, value: T, later: T) {
@@ -156,61 +153,61 @@ fn check_order<T: DateTime + Ord + Hash + Drop>(rt: &impl Abort, value: T, later
 }
 
 #[test]
-fn compares(rt: HostRuntime) -> Result<(), Fail> {
-    let (plain, utc, timestamp, shown) = evenings()?;
-    let later = Time::from_hms_nano(23, 59, 58, 123_456_790)?;
+fn compares(rt: HostRuntime) {
+    let (plain, utc, timestamp, shown) = evenings();
+    let later = Time::from_hms_nano(23, 59, 58, 123_456_790).unwrap_or(Time::MIDNIGHT);
     check_order(&rt, plain, plain.replace_time(later));
     check_order(&rt, utc, utc.replace_time(later));
     check_order(&rt, timestamp, timestamp.replace_time(later));
     check_order(&rt, shown, shown.replace_time(later));
-    Ok(())
 }
 
-fn cut_plain(value: PlainDateTime, unit: Unit) -> PlainDateTime {
-    match unit {
-        Unit::Day => value.truncate_to_day(),
-        Unit::Hour => value.truncate_to_hour(),
-        Unit::Minute => value.truncate_to_minute(),
-        Unit::Second => value.truncate_to_second(),
-        Unit::Millisecond => value.truncate_to_millisecond(),
-        Unit::Microsecond => value.truncate_to_microsecond(),
-    }
+fn cut_plain(value: PlainDateTime) -> [PlainDateTime; 6] {
+    [
+        value.truncate_to_day(),
+        value.truncate_to_hour(),
+        value.truncate_to_minute(),
+        value.truncate_to_second(),
+        value.truncate_to_millisecond(),
+        value.truncate_to_microsecond(),
+    ]
 }
 
-fn cut_utc(value: UtcDateTime, unit: Unit) -> UtcDateTime {
-    match unit {
-        Unit::Day => value.truncate_to_day(),
-        Unit::Hour => value.truncate_to_hour(),
-        Unit::Minute => value.truncate_to_minute(),
-        Unit::Second => value.truncate_to_second(),
-        Unit::Millisecond => value.truncate_to_millisecond(),
-        Unit::Microsecond => value.truncate_to_microsecond(),
-    }
+fn cut_utc(value: UtcDateTime) -> [UtcDateTime; 6] {
+    [
+        value.truncate_to_day(),
+        value.truncate_to_hour(),
+        value.truncate_to_minute(),
+        value.truncate_to_second(),
+        value.truncate_to_millisecond(),
+        value.truncate_to_microsecond(),
+    ]
 }
 
-fn cut_shown(value: OffsetDateTime, unit: Unit) -> OffsetDateTime {
-    match unit {
-        Unit::Day => value.truncate_to_day(),
-        Unit::Hour => value.truncate_to_hour(),
-        Unit::Minute => value.truncate_to_minute(),
-        Unit::Second => value.truncate_to_second(),
-        Unit::Millisecond => value.truncate_to_millisecond(),
-        Unit::Microsecond => value.truncate_to_microsecond(),
-    }
+fn cut_shown(value: OffsetDateTime) -> [OffsetDateTime; 6] {
+    [
+        value.truncate_to_day(),
+        value.truncate_to_hour(),
+        value.truncate_to_minute(),
+        value.truncate_to_second(),
+        value.truncate_to_millisecond(),
+        value.truncate_to_microsecond(),
+    ]
 }
 
 // Before 1970 too the units begin at whole numbers of the clock.
 #[test]
-fn cuts_to_units(rt: HostRuntime) -> Result<(), Fail> {
-    let eve = (1969, Month::December, 31);
-    let date = Date::from_calendar_date(1969, Month::December, 31)?;
-    let (plain, utc, _, shown) = evenings()?;
-    for (unit, clock) in CUT {
-        let wanted: Parts = (eve, clock);
-        assert!(rt; cut_plain(plain.replace_date(date), unit).parts() == wanted);
-        assert!(rt; cut_utc(utc.replace_date(date), unit).parts() == wanted);
-        let cut = cut_shown(shown.replace_date(date), unit);
-        assert!(rt; (cut.parts(), cut.offset()) == (wanted, shown.offset()));
+fn cuts_to_units(rt: HostRuntime) {
+    let date = date_of(1969, Month::December, 31);
+    let (plain, utc, _, shown) = evenings();
+    let (plain, utc) = (
+        cut_plain(plain.replace_date(date)),
+        cut_utc(utc.replace_date(date)),
+    );
+    let shown = cut_shown(shown.replace_date(date));
+    for i in 0..6 {
+        let wanted = CUT[i];
+        assert!(rt; (plain[i].parts(), utc[i].parts()) == (wanted, wanted));
+        assert!(rt; shown[i].shown() == (wanted, Some(east())));
     }
-    Ok(())
 }

@@ -1,31 +1,30 @@
 //! Instants counted from 1970, beside each other and of different types.
 use crate::kinds::DateTime;
-use crate::rows::{EVENING, LEAP_DAY, evening, leap_day, refused};
+use crate::rows::{EVENING, LEAP_DAY, east, evening, leap_day, refused, timestamp_of};
 use calendar::{ComponentRange, Month, SignedDuration, UtcOffset};
 use datetime::{OffsetDateTime, PlainDateTime, Timestamp, UtcDateTime, laws};
 use std::cmp::Ordering;
 use std::process::Abort;
-use std::test::Fail;
 
 // One instant in three types.
 type Instants = (Timestamp, UtcDateTime, OffsetDateTime);
 
-fn leap_evening() -> Result<Instants, Fail> {
-    let utc = UtcDateTime::new(leap_day()?, evening()?);
-    let east = UtcOffset::from_hms(5, 30, 0)?;
-    let shown = utc.checked_to_offset(east).ok_or("no such day")?;
-    Ok((Timestamp::new(1_709_251_198, 123_456_789)?, utc, shown))
+fn leap_evening() -> Instants {
+    let utc = UtcDateTime::new(leap_day(), evening());
+    let shown = utc
+        .checked_to_offset(east())
+        .unwrap_or(laws::epoch_at_offset_zero());
+    (timestamp_of(1_709_251_198, 123_456_789), utc, shown)
 }
 
 #[test]
-fn converts(rt: HostRuntime) -> Result<(), Fail> {
-    let (timestamp, utc, shown) = leap_evening()?;
+fn converts(rt: HostRuntime) {
+    let (timestamp, utc, shown) = leap_evening();
     assert!(rt; Timestamp::from(utc) == timestamp && UtcDateTime::from(timestamp) == utc);
     for at_zero in [OffsetDateTime::from(utc), OffsetDateTime::from(timestamp)] {
         assert!(rt; at_zero == shown);
         assert!(rt; (at_zero.parts(), at_zero.offset()) == ((LEAP_DAY, EVENING), UtcOffset::UTC));
     }
-    Ok(())
 }
 
 // The first by each other type: equality both ways, and the order both ways.
@@ -74,14 +73,12 @@ fn same_later(later: Timestamp) -> Instants {
 }
 
 #[test]
-fn compares_and_subtracts(rt: HostRuntime) -> Result<(), Fail> {
-    let instants = leap_evening()?;
-    assert!(rt; answers(instants, instants) == ([true; 6], [Ordering::Equal; 6]));
-    let later = same_later(Timestamp::new(1_709_251_198, 123_456_790)?);
-    assert!(rt; answers(instants, later) == ([false; 6], [Ordering::Less; 6]));
-    let second_later = same_later(Timestamp::new(1_709_251_199, 123_456_789)?);
-    assert!(rt; differences(instants, second_later) == [SignedDuration::SECOND; 6]);
-    Ok(())
+fn compares_and_subtracts(rt: HostRuntime) {
+    assert!(rt; answers(leap_evening(), leap_evening()) == ([true; 6], [Ordering::Equal; 6]));
+    let later = same_later(timestamp_of(1_709_251_198, 123_456_790));
+    assert!(rt; answers(leap_evening(), later) == ([false; 6], [Ordering::Less; 6]));
+    let second_later = same_later(timestamp_of(1_709_251_199, 123_456_789));
+    assert!(rt; differences(leap_evening(), second_later) == [SignedDuration::SECOND; 6]);
 }
 
 fn counted((timestamp, utc, _): Instants) -> (i64, i64, i128, i128, i64, i128) {
@@ -96,7 +93,7 @@ fn counted((timestamp, utc, _): Instants) -> (i64, i64, i128, i128, i64, i128) {
 }
 
 #[test]
-fn counts_units(rt: HostRuntime) -> Result<(), Fail> {
+fn counts_units(rt: HostRuntime) {
     let wanted = (
         1_709_251_198,
         1_709_251_198_123,
@@ -105,8 +102,7 @@ fn counts_units(rt: HostRuntime) -> Result<(), Fail> {
         1_709_251_198,
         1_709_251_198_123_456_789,
     );
-    assert!(rt; counted(leap_evening()?) == wanted);
-    Ok(())
+    assert!(rt; counted(leap_evening()) == wanted);
 }
 
 #[test]
@@ -121,7 +117,7 @@ fn begins_in_1970(rt: HostRuntime) {
 }
 
 #[test]
-fn is_made_of_units(rt: HostRuntime) -> Result<(), Fail> {
+fn is_made_of_units(rt: HostRuntime) {
     for (counted, nanosecond) in [
         (Timestamp::from_seconds(1_709_251_198), 0),
         (Timestamp::from_milliseconds(1_709_251_198_123), 123_000_000),
@@ -134,20 +130,18 @@ fn is_made_of_units(rt: HostRuntime) -> Result<(), Fail> {
             123_456_789,
         ),
     ] {
-        assert!(rt; counted? == Timestamp::new(1_709_251_198, nanosecond)?);
+        assert!(rt; counted == Timestamp::new(1_709_251_198, nanosecond));
     }
-    Ok(())
 }
 
 #[test]
-fn rounds_down_before_1970(rt: HostRuntime) -> Result<(), Fail> {
-    let value = Timestamp::from_milliseconds(-1)?;
-    let nanosecond = Timestamp::from_nanoseconds(-1)?;
+fn rounds_down_before_1970(rt: HostRuntime) {
+    let value = Timestamp::from_milliseconds(-1).unwrap_or(Timestamp::MIN);
+    let nanosecond = Timestamp::from_nanoseconds(-1).unwrap_or(Timestamp::MIN);
     let eve = ((1969, Month::December, 31), (23, 59, 59, 999_000_000));
     assert!(rt; value.parts() == eve);
     assert!(rt; (value.as_seconds(), value.as_milliseconds()) == (-1, -1));
     assert!(rt; (nanosecond.as_milliseconds(), nanosecond.as_microseconds()) == (-1, -1));
-    Ok(())
 }
 
 // Refused as a timestamp, but for the one whose nanoseconds alone are too many.
@@ -169,13 +163,13 @@ fn refuses_what_is_out_of_range(rt: HostRuntime) {
 }
 
 #[test]
-fn counts_from_1970_in_utc(rt: HostRuntime) -> Result<(), Fail> {
-    let value = UtcDateTime::new(leap_day()?, evening()?);
-    let second = UtcDateTime::from_unix_timestamp(1_709_251_198)?;
-    assert!(rt; second == value.replace_nanosecond(0)?);
-    let nanosecond = UtcDateTime::from_unix_timestamp_nanos(1_709_251_198_123_456_789)?;
-    assert!(rt; nanosecond == value);
-    let before = UtcDateTime::from_unix_timestamp_nanos(-1)?;
+fn counts_from_1970_in_utc(rt: HostRuntime) {
+    let value = UtcDateTime::new(leap_day(), evening());
+    let second = UtcDateTime::from_unix_timestamp(1_709_251_198);
+    assert!(rt; second == value.replace_nanosecond(0));
+    let nanosecond = UtcDateTime::from_unix_timestamp_nanos(1_709_251_198_123_456_789);
+    assert!(rt; nanosecond == Ok(value));
+    let before = UtcDateTime::from_unix_timestamp_nanos(-1).unwrap_or(value);
     assert!(rt; (before.unix_timestamp(), before.year()) == (-1, 1969));
     for refusal in [
         UtcDateTime::from_unix_timestamp(31_494_784_780_800),
@@ -183,7 +177,6 @@ fn counts_from_1970_in_utc(rt: HostRuntime) -> Result<(), Fail> {
     ] {
         assert!(rt; refused(refusal) == ("timestamp", false));
     }
-    Ok(())
 }
 
 // At half past five on the next day, where the offset is 5:30.
@@ -203,38 +196,35 @@ fn utc_at(value: UtcDateTime, offset: UtcOffset) -> Option<OffsetDateTime> {
 }
 
 #[test]
-fn is_shown_elsewhere(rt: HostRuntime) -> Result<(), Fail> {
-    let (value, utc, _) = leap_evening()?;
-    let east = UtcOffset::from_hms(5, 30, 0)?;
+fn is_shown_elsewhere(rt: HostRuntime) {
+    let (value, utc, _) = leap_evening();
+    let east = east();
     check_elsewhere(&rt, value.checked_to_offset(east), east);
     check_elsewhere(&rt, utc.checked_to_offset(east), east);
     check_elsewhere(&rt, timestamp_at(value, east), east);
     check_elsewhere(&rt, utc_at(utc, east), east);
-    Ok(())
 }
 
 #[test]
-fn is_shown_in_utc(rt: HostRuntime) -> Result<(), Fail> {
-    let (value, _, _) = leap_evening()?;
+fn is_shown_in_utc(rt: HostRuntime) {
+    let (value, _, _) = leap_evening();
     assert!(rt; value.to_utc().parts() == (LEAP_DAY, EVENING));
-    let east = UtcOffset::from_hms(5, 30, 0)?;
+    let east = east();
     let last = Timestamp::MAX;
     assert!(rt;
         last.checked_to_offset(east) == None && last.to_utc().checked_to_offset(east) == None
     );
-    Ok(())
 }
 
 #[test]
-fn takes_an_offset(rt: HostRuntime) -> Result<(), Fail> {
-    let value = PlainDateTime::new(leap_day()?, evening()?);
-    let east = UtcOffset::from_hms(5, 30, 0)?;
+fn takes_an_offset(rt: HostRuntime) {
+    let value = PlainDateTime::new(leap_day(), evening());
+    let east = east();
     let shown = value.assume_offset(east);
     assert!(rt; (shown.parts(), shown.offset()) == ((LEAP_DAY, EVENING), east));
     let utc = value.assume_utc();
-    assert!(rt; (utc.date(), utc.offset()) == (leap_day()?, UtcOffset::UTC));
+    assert!(rt; (utc.date(), utc.offset()) == (leap_day(), UtcOffset::UTC));
     assert!(rt;
         (utc.unix_timestamp(), value.as_utc().unix_timestamp()) == (1_709_251_198, 1_709_251_198)
     );
-    Ok(())
 }

@@ -106,10 +106,9 @@ impl DateTime for PlainDateTime {
         let (mut moved, mut std_moved) = (self, self);
         moved += duration;
         std_moved += std_duration;
-        let (sum, std_sum) = (self + duration, self + std_duration);
         Some([
-            sum.parts(),
-            std_sum.parts(),
+            (self + duration).parts(),
+            (self + std_duration).parts(),
             moved.parts(),
             std_moved.parts(),
         ])
@@ -123,10 +122,9 @@ impl DateTime for PlainDateTime {
         let (mut moved, mut std_moved) = (self, self);
         moved -= duration;
         std_moved -= std_duration;
-        let (less, std_less) = (self - duration, self - std_duration);
         Some([
-            less.parts(),
-            std_less.parts(),
+            (self - duration).parts(),
+            (self - std_duration).parts(),
             moved.parts(),
             std_moved.parts(),
         ])
@@ -213,10 +211,9 @@ impl DateTime for UtcDateTime {
         let (mut moved, mut std_moved) = (self, self);
         moved += duration;
         std_moved += std_duration;
-        let (sum, std_sum) = (self + duration, self + std_duration);
         Some([
-            sum.parts(),
-            std_sum.parts(),
+            (self + duration).parts(),
+            (self + std_duration).parts(),
             moved.parts(),
             std_moved.parts(),
         ])
@@ -230,10 +227,9 @@ impl DateTime for UtcDateTime {
         let (mut moved, mut std_moved) = (self, self);
         moved -= duration;
         std_moved -= std_duration;
-        let (less, std_less) = (self - duration, self - std_duration);
         Some([
-            less.parts(),
-            std_less.parts(),
+            (self - duration).parts(),
+            (self - std_duration).parts(),
             moved.parts(),
             std_moved.parts(),
         ])
@@ -320,10 +316,9 @@ impl DateTime for Timestamp {
         let (mut moved, mut std_moved) = (self, self);
         moved += duration;
         std_moved += std_duration;
-        let (sum, std_sum) = (self + duration, self + std_duration);
         Some([
-            sum.parts(),
-            std_sum.parts(),
+            (self + duration).parts(),
+            (self + std_duration).parts(),
             moved.parts(),
             std_moved.parts(),
         ])
@@ -337,10 +332,9 @@ impl DateTime for Timestamp {
         let (mut moved, mut std_moved) = (self, self);
         moved -= duration;
         std_moved -= std_duration;
-        let (less, std_less) = (self - duration, self - std_duration);
         Some([
-            less.parts(),
-            std_less.parts(),
+            (self - duration).parts(),
+            (self - std_duration).parts(),
             moved.parts(),
             std_moved.parts(),
         ])
@@ -427,10 +421,9 @@ impl DateTime for OffsetDateTime {
         let (mut moved, mut std_moved) = (self, self);
         moved += duration;
         std_moved += std_duration;
-        let (sum, std_sum) = (self + duration, self + std_duration);
         Some([
-            sum.parts(),
-            std_sum.parts(),
+            (self + duration).parts(),
+            (self + std_duration).parts(),
             moved.parts(),
             std_moved.parts(),
         ])
@@ -444,10 +437,9 @@ impl DateTime for OffsetDateTime {
         let (mut moved, mut std_moved) = (self, self);
         moved -= duration;
         std_moved -= std_duration;
-        let (less, std_less) = (self - duration, self - std_duration);
         Some([
-            less.parts(),
-            std_less.parts(),
+            (self - duration).parts(),
+            (self - std_duration).parts(),
             moved.parts(),
             std_moved.parts(),
         ])

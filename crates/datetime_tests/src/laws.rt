@@ -1,5 +1,5 @@
 //! The laws at values that are known from outside.
-use crate::rows::{evening, leap_day};
+use crate::rows::{east, evening, leap_day, timestamp_of};
 use calendar::{Date, SignedDuration, Time, UtcOffset, Weekday};
 use datetime::{
     MomentCall, MomentReply, OffsetDateTime, PlainDateTime, Timestamp, UtcDateTime, laws,
@@ -9,16 +9,15 @@ use std::process::Abort;
 use std::test::Fail;
 
 #[test]
-fn pins_the_constants(rt: HostRuntime) -> Result<(), Fail> {
+fn pins_the_constants(rt: HostRuntime) {
     let first = PlainDateTime::new(Date::MIN, Time::MIDNIGHT);
     let last = PlainDateTime::new(Date::MAX, Time::MAX);
     assert!(rt; laws::ends_of_wall_clocks() == [first, last]);
-    let epoch = UtcDateTime::from_unix_timestamp(0)?;
+    let epoch = UtcDateTime::from_unix_timestamp(0).unwrap_or(last.as_utc());
     let ends = [first.as_utc(), epoch, last.as_utc()];
     assert!(rt; laws::constants_of_utc() == ends);
     assert!(rt; laws::constants_of_timestamps() == ends.map(Timestamp::from));
     assert!(rt; laws::epoch_at_offset_zero() == OffsetDateTime::from(epoch));
-    Ok(())
 }
 
 #[test]
@@ -40,6 +39,13 @@ fn other_and_back(utc: UtcDateTime) -> (UtcDateTime, Timestamp) {
 
 type Moments = (PlainDateTime, UtcDateTime, Timestamp, OffsetDateTime);
 
+// The leap day's evening, of each type.
+fn moments() -> Moments {
+    let wall = PlainDateTime::new(leap_day(), evening());
+    let utc = wall.as_utc();
+    (wall, utc, utc.into(), wall.assume_offset(east()))
+}
+
 fn day_and_back((wall, utc, timestamp, moment): Moments) -> Option<Moments> {
     Some((
         laws::wall_clock_moved_and_back(wall, SignedDuration::DAY)?,
@@ -50,15 +56,12 @@ fn day_and_back((wall, utc, timestamp, moment): Moments) -> Option<Moments> {
 }
 
 #[test]
-fn leads_back(rt: HostRuntime) -> Result<(), Fail> {
-    let wall = PlainDateTime::new(leap_day()?, evening()?);
-    let (utc, east) = (wall.as_utc(), UtcOffset::from_hms(5, 30, 0)?);
+fn leads_back(rt: HostRuntime) {
+    let utc = UtcDateTime::new(leap_day(), evening());
     assert!(rt; other_and_back(utc) == (utc, utc.into()));
-    let moments = (wall, utc, utc.into(), wall.assume_offset(east));
-    assert!(rt; day_and_back(moments) == Some(moments));
+    assert!(rt; day_and_back(moments()) == Some(moments()));
     let milliseconds = [-1, i64::MAX].map(laws::milliseconds_and_back);
     assert!(rt; milliseconds == [Some(-1), None]);
-    Ok(())
 }
 
 // From the one to the other, by their difference.
@@ -75,15 +78,13 @@ fn led(
 }
 
 #[test]
-fn leads_by_differences(rt: HostRuntime) -> Result<(), Fail> {
-    let wall = PlainDateTime::new(leap_day()?, evening()?);
+fn leads_by_differences(rt: HostRuntime) {
+    let wall = PlainDateTime::new(leap_day(), evening());
     let [first, last] = laws::ends_of_wall_clocks();
     for (one, other) in [(first, last), (last, wall), (last, first)] {
-        let (plain, utc, timestamp) = led(one, other).ok_or("no such day")?;
-        assert!(rt; plain == other && utc == other.as_utc());
-        assert!(rt; timestamp.eq_utc(other.as_utc()));
+        let utc = other.as_utc();
+        assert!(rt; led(one, other) == Some((other, utc, utc.into())));
     }
-    Ok(())
 }
 
 fn check_moments(rt: &impl Abort, moment: OffsetDateTime, utc: OffsetDateTime) {
@@ -99,16 +100,15 @@ fn check_moments(rt: &impl Abort, moment: OffsetDateTime, utc: OffsetDateTime) {
 }
 
 #[test]
-fn leads_moments(rt: HostRuntime) -> Result<(), Fail> {
-    let wall = PlainDateTime::new(leap_day()?, evening()?);
-    let east = UtcOffset::from_hms(5, 30, 0)?;
+fn leads_moments(rt: HostRuntime) {
+    let wall = PlainDateTime::new(leap_day(), evening());
+    let east = east();
     check_moments(&rt, wall.assume_offset(east), wall.assume_utc());
-    Ok(())
 }
 
 #[test]
 fn answers_alike(rt: HostRuntime) -> Result<(), Fail> {
-    let start = Timestamp::from_seconds(1_709_251_198)?;
+    let start = timestamp_of(1_709_251_198, 0);
     let calls = [MomentCall::Weekday, MomentCall::InstantNanos];
     let wanted = [
         MomentReply::Weekday(Weekday::Thursday),

@@ -1,7 +1,7 @@
 //! Known values and what they show, alike for every type of date-time.
-use calendar::{ComponentRange, Date, Month, SignedDuration, Time, Weekday};
+use calendar::{ComponentRange, Date, Month, SignedDuration, Time, UtcOffset, Weekday};
+use datetime::Timestamp;
 use std::hash::{DefaultHasher, Hash, Hasher};
-use std::test::Fail;
 use std::time::Duration;
 
 // A year, a month and a day; an hour, a minute, a second and a nanosecond.
@@ -42,17 +42,6 @@ pub enum Part {
     Millisecond(u16),
     Microsecond(u32),
     Nanosecond(u32),
-}
-
-// A unit that is cut to.
-#[derive(Clone, Copy)]
-pub enum Unit {
-    Day,
-    Hour,
-    Minute,
-    Second,
-    Millisecond,
-    Microsecond,
 }
 
 // A call that moves by a duration.
@@ -135,14 +124,16 @@ pub const REFUSED: [(Part, (&'static str, bool)); 10] = [
     (Part::Nanosecond(1_000_000_000), ("nanosecond", false)),
 ];
 
-// The evening cut to a unit.
-pub const CUT: [(Unit, (u8, u8, u8, u32)); 6] = [
-    (Unit::Day, (0, 0, 0, 0)),
-    (Unit::Hour, (23, 0, 0, 0)),
-    (Unit::Minute, (23, 59, 0, 0)),
-    (Unit::Second, (23, 59, 58, 0)),
-    (Unit::Millisecond, (23, 59, 58, 123_000_000)),
-    (Unit::Microsecond, (23, 59, 58, 123_456_000)),
+const EVE: (i32, Month, u8) = (1969, Month::December, 31);
+
+// The evening of the last day of 1969, cut to a day, an hour, a minute, a second, a millisecond and a microsecond.
+pub const CUT: [Parts; 6] = [
+    (EVE, (0, 0, 0, 0)),
+    (EVE, (23, 0, 0, 0)),
+    (EVE, (23, 59, 0, 0)),
+    (EVE, (23, 59, 58, 0)),
+    (EVE, (23, 59, 58, 123_000_000)),
+    (EVE, (23, 59, 58, 123_456_000)),
 ];
 
 // The leap day's evening moved.
@@ -159,34 +150,51 @@ pub fn moved() -> [(Step, Parts); 8] {
     ]
 }
 
-// The last moment (true) and the first (false) moved past the ends of the calendar.
-pub fn past_the_ends() -> [(bool, Step, Option<Parts>); 8] {
+// The last moment moved past the end of the calendar.
+pub fn after_the_last() -> [(Step, Option<Parts>); 4] {
     [
-        (true, Step::Add(SignedDuration::NANOSECOND), None),
-        (false, Step::Sub(SignedDuration::NANOSECOND), None),
-        (true, Step::AddStd(Duration::from_nanos(1)), None),
-        (false, Step::SubStd(Duration::MAX), None),
-        (
-            true,
-            Step::SaturatingAdd(SignedDuration::NANOSECOND),
-            Some(LAST),
-        ),
-        (true, Step::SaturatingSub(SignedDuration::MAX), Some(FIRST)),
-        (
-            false,
-            Step::SaturatingSub(SignedDuration::NANOSECOND),
-            Some(FIRST),
-        ),
-        (false, Step::SaturatingAdd(SignedDuration::MAX), Some(LAST)),
+        (Step::Add(SignedDuration::NANOSECOND), None),
+        (Step::AddStd(Duration::from_nanos(1)), None),
+        (Step::SaturatingAdd(SignedDuration::NANOSECOND), Some(LAST)),
+        (Step::SaturatingSub(SignedDuration::MAX), Some(FIRST)),
     ]
 }
 
-pub fn leap_day() -> Result<Date, Fail> {
-    Ok(Date::from_calendar_date(2024, Month::February, 29)?)
+// The first moment moved before the beginning of the calendar.
+pub fn before_the_first() -> [(Step, Option<Parts>); 4] {
+    [
+        (Step::Sub(SignedDuration::NANOSECOND), None),
+        (Step::SubStd(Duration::MAX), None),
+        (Step::SaturatingSub(SignedDuration::NANOSECOND), Some(FIRST)),
+        (Step::SaturatingAdd(SignedDuration::MAX), Some(LAST)),
+    ]
 }
 
-pub fn evening() -> Result<Time, Fail> {
-    Ok(Time::from_hms_nano(23, 59, 58, 123_456_789)?)
+// The day, which the calendar has.
+pub fn date_of(year: i32, month: Month, day: u8) -> Date {
+    Date::from_calendar_date(year, month, day).unwrap_or(Date::MAX)
+}
+
+// The offset, which is one.
+pub fn offset_of(hours: i8, minutes: i8, seconds: i8) -> UtcOffset {
+    UtcOffset::from_hms(hours, minutes, seconds).unwrap_or(UtcOffset::UTC)
+}
+
+// The timestamp, which the calendar has.
+pub fn timestamp_of(seconds: i64, nanosecond: u32) -> Timestamp {
+    Timestamp::new(seconds, nanosecond).unwrap_or(Timestamp::UNIX_EPOCH)
+}
+
+pub fn leap_day() -> Date {
+    date_of(2024, Month::February, 29)
+}
+
+pub fn evening() -> Time {
+    Time::from_hms_nano(23, 59, 58, 123_456_789).unwrap_or(Time::MIDNIGHT)
+}
+
+pub fn east() -> UtcOffset {
+    offset_of(5, 30, 0)
 }
 
 // The refusal's name, and whether it is conditional.

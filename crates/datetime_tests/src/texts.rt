@@ -1,54 +1,37 @@
 //! Date-times as they are printed.
-use crate::rows::{evening, leap_day};
+use crate::rows::{date_of, east, evening, leap_day, offset_of, timestamp_of};
 use calendar::{Date, Month, Time, UtcOffset};
 use datetime::{OffsetDateTime, PlainDateTime, Timestamp, UtcDateTime};
 use std::alloc::{AllocError, Global};
 use std::fmt;
-use std::process::Abort;
 use std::string::String;
 use std::test::Fail;
 
-fn printed<T: fmt::Display + fmt::Debug + Drop>(
-    alloc: Global,
-    value: T,
-) -> Result<(String, String), AllocError> {
-    Ok((
-        format!(in alloc; "{value}")?,
-        format!(in alloc; "{value:?}")?,
-    ))
+fn is_text(answer: Result<String, AllocError>, wanted: &str) -> bool {
+    match answer {
+        Ok(given) => given.as_str() == wanted,
+        Err(_) => false,
+    }
 }
 
 // By `Display` and by `Debug` alike.
-fn check<T: fmt::Display + fmt::Debug + Drop>(
-    rt: &impl Abort,
-    alloc: Global,
-    value: T,
-    wanted: &str,
-) -> Result<(), Fail> {
-    let (shown, debugged) = printed(alloc, value)?;
-    assert!(rt; shown.as_str() == wanted);
-    assert!(rt; debugged.as_str() == wanted);
-    Ok(())
+fn prints_as<T: fmt::Display + fmt::Debug + Drop>(alloc: Global, value: T, wanted: &str) -> bool {
+    is_text(format!(in alloc; "{value}"), wanted) && is_text(format!(in alloc; "{value:?}"), wanted)
 }
 
 #[test]
-fn prints(rt: HostRuntime) -> Result<(), Fail> {
-    let (date, time) = (leap_day()?, evening()?);
+fn prints(rt: HostRuntime) {
+    let (date, time) = (leap_day(), evening());
     let plain = PlainDateTime::new(date, time);
-    check(&rt, rt.alloc(), plain, "2024-02-29 23:59:58.123456789")?;
+    assert!(rt; prints_as(rt.alloc(), plain, "2024-02-29 23:59:58.123456789"));
     let utc = UtcDateTime::new(date, time);
-    check(&rt, rt.alloc(), utc, "2024-02-29 23:59:58.123456789 +00")?;
-    let shown = OffsetDateTime::new_in_offset(date, time, UtcOffset::from_hms(5, 30, 0)?);
-    check(
-        &rt,
-        rt.alloc(),
-        shown,
-        "2024-02-29 23:59:58.123456789 +05:30:00",
-    )
+    assert!(rt; prints_as(rt.alloc(), utc, "2024-02-29 23:59:58.123456789 +00"));
+    let shown = OffsetDateTime::new_in_offset(date, time, east());
+    assert!(rt; prints_as(rt.alloc(), shown, "2024-02-29 23:59:58.123456789 +05:30:00"));
 }
 
 #[test]
-fn prints_timestamps(rt: HostRuntime) -> Result<(), Fail> {
+fn prints_timestamps(rt: HostRuntime) {
     for (value, wanted) in [
         (
             Timestamp::new(1_709_251_198, 123_456_789),
@@ -68,14 +51,14 @@ fn prints_timestamps(rt: HostRuntime) -> Result<(), Fail> {
             "31494784780799.999999999",
         ),
     ] {
-        check(&rt, rt.alloc(), value?, wanted)?;
+        let value = value.unwrap_or(timestamp_of(1, 0));
+        assert!(rt; prints_as(rt.alloc(), value, wanted));
     }
-    Ok(())
 }
 
-fn summer_morning() -> Result<(Date, Time), Fail> {
-    let date = Date::from_calendar_date(2024, Month::June, 19)?;
-    Ok((date, Time::from_hms_milli(7, 5, 0, 250)?))
+fn summer_morning() -> (Date, Time) {
+    let time = Time::from_hms_milli(7, 5, 0, 250).unwrap_or(Time::MIDNIGHT);
+    (date_of(2024, Month::June, 19), time)
 }
 
 fn padded(alloc: Global, plain: PlainDateTime) -> Result<String, AllocError> {
@@ -84,7 +67,7 @@ fn padded(alloc: Global, plain: PlainDateTime) -> Result<String, AllocError> {
 
 #[test]
 fn prints_under_a_width(rt: HostRuntime) -> Result<(), Fail> {
-    let (date, time) = summer_morning()?;
+    let (date, time) = summer_morning();
     let printed = padded(rt.alloc(), PlainDateTime::new(date, time))?;
     let wanted =
         "[2024-06-19 7:05:00.25  |  2024-06-19 7:05:00.25|_2024-06-19 7:05:00.25__|2024-06-19 7:05:00.25]";
@@ -103,14 +86,14 @@ fn others_padded(
 
 #[test]
 fn prints_other_types_under_a_width(rt: HostRuntime) -> Result<(), Fail> {
-    let (date, time) = summer_morning()?;
-    let moment = OffsetDateTime::new_in_offset(date, time, UtcOffset::from_hms(5, 30, 0)?);
+    let (date, time) = summer_morning();
+    let moment = OffsetDateTime::new_in_offset(date, time, east());
     let utc = UtcDateTime::new(date, time);
     let printed = others_padded(
         rt.alloc(),
         utc,
         moment,
-        Timestamp::from_milliseconds(-1500)?,
+        Timestamp::from_milliseconds(-1500).unwrap_or(Timestamp::MIN),
     )?;
     let wanted = "  2024-06-19 7:05:00.25 +00[2024-06-19 7:05:00.25 +05:30:00  ][  -1.5]";
     assert!(rt; printed.as_str() == wanted);
@@ -119,14 +102,8 @@ fn prints_other_types_under_a_width(rt: HostRuntime) -> Result<(), Fail> {
 
 #[test]
 fn prints_the_longest_date_times(rt: HostRuntime) -> Result<(), Fail> {
-    let moment = OffsetDateTime::new_in_offset(
-        Date::MIN,
-        Time::MAX,
-        UtcOffset::from_hms(-25, -59, -59)?,
-    );
-    assert_eq!(rt;
-        format!(in rt.alloc(); "{moment:>43}")?.as_str(),
-        " -999999-01-01 23:59:59.999999999 -25:59:59"
-    );
+    let moment = OffsetDateTime::new_in_offset(Date::MIN, Time::MAX, offset_of(-25, -59, -59));
+    let printed = format!(in rt.alloc(); "{moment:>43}")?;
+    assert!(rt; printed.as_str() == " -999999-01-01 23:59:59.999999999 -25:59:59");
     Ok(())
 }

@@ -8,6 +8,10 @@ fn versions_are_told_apart() -> bool {
     ONE.is_one() && !TWO.is_one() && THREE.is_three() && !TWO.is_three()
 }
 
+fn brackets_are_found() -> bool {
+    begins("[day]", b'[') && !begins("", b'[')
+}
+
 fn names_are_cut() -> bool {
     let Ok((name, rest)) = name_of(7, whole_of(" day\u{c}padding:zero ]x")) else {
         return false;
@@ -32,7 +36,7 @@ fn has_no_name(text: &str, index: usize) -> bool {
 
 #[test]
 fn names_and_brackets(rt: HostRuntime) {
-    assert!(rt; versions_are_told_apart());
-    assert!(rt; names_are_cut() && brackets_are_closed());
-    assert!(rt; has_no_name("[ ]", 1) && has_no_name("[]", 0) && !begins("", b'['));
+    assert!(rt; versions_are_told_apart() && names_are_cut());
+    assert!(rt; brackets_are_found() && brackets_are_closed());
+    assert!(rt; has_no_name("[ ]", 1) && has_no_name("[]", 0));
 }
