@@ -6,7 +6,7 @@ use calendar::{Date, Month};
 const LENGTHS: [u8; 12] = [31, 28, 31, 30, 31, 30, 31, 31, 30, 31, 30, 31];
 
 // What the views say of a day.
-#[derive(Clone, Copy, PartialEq)]
+#[derive(Clone, Copy)]
 struct Views {
     year: i32,
     month: u8,
@@ -35,6 +35,15 @@ fn views_of(date: Date) -> Views {
         iso_week,
         julian_day: date.to_julian_day(),
     }
+}
+
+// The same as tuples, which compare.
+fn told(day: Views) -> ((i32, u8, u8, u16), (u8, u8, u8), (i32, u8, i32)) {
+    (
+        (day.year, day.month, day.day, day.ordinal),
+        (day.days_from_monday, day.sundays, day.mondays),
+        (day.iso_year, day.iso_week, day.julian_day),
+    )
 }
 
 fn is_leap(year: i32) -> bool {
@@ -103,8 +112,7 @@ fn walks_eight_centuries(rt: HostRuntime) {
     };
     let mut days = 0u32;
     for expected in date.iter_to(last) {
-        assert!(rt; views_of(date) == day);
-        assert!(rt; date == expected);
+        assert!(rt; date == expected && told(views_of(date)) == told(day));
         days = days.wrapping_add(1);
         date = date.next_day().unwrap_or(Date::MAX);
         advance(&mut day);

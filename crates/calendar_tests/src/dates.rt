@@ -29,27 +29,43 @@ fn one_by_one(date: Date) -> (i32, Month, u8, u16) {
     (date.year(), date.month(), date.day(), date.ordinal())
 }
 
+const DAYS: [Views; 8] = [
+    (
+        (-999_999, Month::January, 1),
+        -363_521_074,
+        0,
+        (-999_999, 1),
+    ),
+    ((-9999, Month::January, 1), -1_930_999, 0, (-9999, 1)),
+    ((1970, Month::January, 1), 2_440_588, 3, (1970, 1)),
+    ((2000, Month::January, 1), 2_451_545, 5, (2000, 1)),
+    ((2024, Month::February, 29), 2_460_370, 3, (2024, 60)),
+    ((2020, Month::December, 31), 2_459_215, 3, (2020, 366)),
+    ((9999, Month::December, 31), 5_373_484, 4, (9999, 365)),
+    (
+        (999_999, Month::December, 31),
+        366_963_559,
+        4,
+        (999_999, 365),
+    ),
+];
+
+// The day that the Julian day, the year and the place in it, and the day's own count name.
+fn found(date: Date, julian_day: i32, year: i32, ordinal: u16) -> [Date; 3] {
+    [
+        answered(Date::from_julian_day(julian_day)),
+        answered(Date::from_ordinal_date(year, ordinal)),
+        Date::from_count(date.count()),
+    ]
+}
+
 #[test]
 fn names_days(rt: HostRuntime) {
-    for (year, month, day, julian_day, weekday, ordinal) in [
-        (-999_999, Month::January, 1, -363_521_074, 0, 1),
-        (-9999, Month::January, 1, -1_930_999, 0, 1),
-        (1970, Month::January, 1, 2_440_588, 3, 1),
-        (2000, Month::January, 1, 2_451_545, 5, 1),
-        (2024, Month::February, 29, 2_460_370, 3, 60),
-        (2020, Month::December, 31, 2_459_215, 3, 366),
-        (9999, Month::December, 31, 5_373_484, 4, 365),
-        (999_999, Month::December, 31, 366_963_559, 4, 365),
-    ] {
-        let date = date_of(year, month, day);
-        assert!(rt; views(date) == ((year, month, day), julian_day, weekday, (year, ordinal)));
-        assert!(rt; one_by_one(date) == (year, month, day, ordinal));
-        let found = [
-            answered(Date::from_julian_day(julian_day)),
-            answered(Date::from_ordinal_date(year, ordinal)),
-            Date::from_count(date.count()),
-        ];
-        assert!(rt; found == [date, date, date]);
+    for day in DAYS {
+        let ((year, month, day_of_month), julian_day, _, (_, ordinal)) = day;
+        let date = date_of(year, month, day_of_month);
+        assert!(rt; views(date) == day && found(date, julian_day, year, ordinal) == [date; 3]);
+        assert!(rt; one_by_one(date) == (year, month, day_of_month, ordinal));
     }
 }
 
@@ -127,6 +143,13 @@ fn replaces_and_steps(rt: HostRuntime) {
     ] {
         assert!(rt; given.to_calendar_date() == expected);
     }
+}
+
+#[test]
+fn orders_days(rt: HostRuntime) {
+    let leap = date_of(2024, Month::February, 29);
+    let before = date_of(2024, Month::February, 28);
+    let after = date_of(2024, Month::March, 1);
     assert!(rt; before < leap && leap < after && Date::MIN < Date::MAX);
 }
 

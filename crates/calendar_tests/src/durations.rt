@@ -18,6 +18,15 @@ fn counts_units(rt: HostRuntime) {
         (SignedDuration::hours(24), day),
         (SignedDuration::minutes(1440), day),
         (SignedDuration::seconds(86_400), day),
+    ] {
+        assert!(rt; given == expected);
+    }
+}
+
+#[test]
+fn counts_fine_units(rt: HostRuntime) {
+    let day = SignedDuration::DAY;
+    for (given, expected) in [
         (SignedDuration::milliseconds(86_400_000), day),
         (SignedDuration::microseconds(86_400_000_000), day),
         (SignedDuration::nanoseconds(86_400_000_000_000), day),
@@ -129,11 +138,9 @@ fn tells_signs(rt: HostRuntime) {
     assert!(rt; SignedDuration::MIN < sample() && sample() < SignedDuration::ZERO);
 }
 
-// The seconds of some overflow, and the whole does not.
 #[test]
 fn refuses_what_is_no_duration(rt: HostRuntime) {
     let (least, greatest) = (SignedDuration::MIN, SignedDuration::MAX);
-    let back = SignedDuration::nanoseconds(-1);
     for (given, expected) in [
         (greatest.checked_add(NANOSECOND), None),
         (least.checked_sub(NANOSECOND), None),
@@ -141,6 +148,17 @@ fn refuses_what_is_no_duration(rt: HostRuntime) {
         (greatest.checked_mul(2), None),
         (least.checked_div(-1), None),
         (greatest.checked_div(0), None),
+    ] {
+        assert!(rt; given == expected);
+    }
+}
+
+// The seconds of some overflow, and the whole does not.
+#[test]
+fn refuses_by_the_whole(rt: HostRuntime) {
+    let (least, greatest) = (SignedDuration::MIN, SignedDuration::MAX);
+    let back = SignedDuration::nanoseconds(-1);
+    for (given, expected) in [
         (
             SignedDuration::try_sum([greatest, NANOSECOND, least].iter().copied()),
             None,

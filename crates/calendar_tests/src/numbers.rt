@@ -11,13 +11,22 @@ fn multiplies(rt: HostRuntime) {
         (half * 3u8, 4500),
         (half * 3u16, 4500),
         (half * 3u32, 4500),
+        (half.checked_mul(-3).unwrap_or(half), -4500),
+    ] {
+        assert!(rt; given == SignedDuration::milliseconds(milliseconds));
+    }
+}
+
+#[test]
+fn multiplies_numbers(rt: HostRuntime) {
+    let half = SignedDuration::milliseconds(1500);
+    for (given, milliseconds) in [
         (-3i8 * half, -4500),
         (-3i16 * half, -4500),
         (-3i32 * half, -4500),
         (3u8 * half, 4500),
         (3u16 * half, 4500),
         (3u32 * half, 4500),
-        (half.checked_mul(-3).unwrap_or(half), -4500),
         (half.saturating_mul(-3), -4500),
     ] {
         assert!(rt; given == SignedDuration::milliseconds(milliseconds));

@@ -26,6 +26,15 @@ fn refuses_dates(rt: HostRuntime) {
         ),
         (Date::from_ordinal_date(-1_000_000, 1), ("year", false)),
         (Date::from_ordinal_date(2021, 366), ("ordinal", true)),
+        (Date::from_julian_day(i32::MAX), ("julian_day", false)),
+    ] {
+        assert!(rt; refused(answer) == expected);
+    }
+}
+
+#[test]
+fn refuses_weeks(rt: HostRuntime) {
+    for (answer, expected) in [
         (
             Date::from_iso_week_date(1_000_000, 0, Weekday::Monday),
             ("year", false),
@@ -42,7 +51,6 @@ fn refuses_dates(rt: HostRuntime) {
             Date::from_iso_week_date(999_999, 52, Weekday::Sunday),
             ("week", true),
         ),
-        (Date::from_julian_day(i32::MAX), ("julian_day", false)),
     ] {
         assert!(rt; refused(answer) == expected);
     }
@@ -67,16 +75,32 @@ fn refuses_replaced_parts(rt: HostRuntime) {
 
 #[test]
 fn refuses_times(rt: HostRuntime) {
-    let sample = Time::from_seconds_nanoseconds(84_050, 123_456_789);
     for (answer, name) in [
         (Time::from_hms(24, 60, 60), "hour"),
         (Time::from_hms(23, 60, 60), "minute"),
         (Time::from_hms(23, 59, 60), "second"),
         (Time::from_hms_nano(23, 59, 59, 1_000_000_000), "nanosecond"),
+    ] {
+        assert!(rt; refused(answer) == (name, false));
+    }
+}
+
+#[test]
+fn refuses_fine_times(rt: HostRuntime) {
+    for (answer, name) in [
         (Time::from_hms_milli(24, 0, 0, 1000), "hour"),
         (Time::from_hms_milli(0, 0, 0, 1000), "millisecond"),
         (Time::from_hms_micro(0, 60, 0, 1_000_000), "minute"),
         (Time::from_hms_micro(0, 0, 0, 1_000_000), "microsecond"),
+    ] {
+        assert!(rt; refused(answer) == (name, false));
+    }
+}
+
+#[test]
+fn refuses_replaced_parts_of_times(rt: HostRuntime) {
+    let sample = Time::from_seconds_nanoseconds(84_050, 123_456_789);
+    for (answer, name) in [
         (sample.replace_hour(24), "hour"),
         (sample.replace_minute(60), "minute"),
         (sample.replace_second(60), "second"),
@@ -103,19 +127,26 @@ fn refuses_offsets(rt: HostRuntime) {
 #[test]
 fn ends_at_the_last_day(rt: HostRuntime) {
     let (first, last) = (Date::MIN, Date::MAX);
-    for (given, expected) in [
-        (last.next_day(), None),
-        (first.previous_day(), None),
-        (last.checked_add(SignedDuration::DAY), None),
-        (first.checked_sub(SignedDuration::DAY), None),
-        (last.checked_next_occurrence(Weekday::Monday), None),
-        (first.checked_prev_occurrence(Weekday::Sunday), None),
-        (Some(last.saturating_add(SignedDuration::MAX)), Some(last)),
-        (Some(last.saturating_add(SignedDuration::MIN)), Some(first)),
-        (Some(first.saturating_sub(SignedDuration::MIN)), Some(last)),
+    for given in [
+        last.next_day(),
+        first.previous_day(),
+        last.checked_add(SignedDuration::DAY),
+        first.checked_sub(SignedDuration::DAY),
+        last.checked_next_occurrence(Weekday::Monday),
+        first.checked_prev_occurrence(Weekday::Sunday),
     ] {
-        assert!(rt; given == expected);
+        assert!(rt; given == None);
     }
-    assert!(rt; (last - first).whole_days() == 730_484_633);
+}
+
+#[test]
+fn stays_at_the_ends(rt: HostRuntime) {
+    let (first, last) = (Date::MIN, Date::MAX);
+    let stayed = [
+        last.saturating_add(SignedDuration::MAX),
+        last.saturating_add(SignedDuration::MIN),
+        first.saturating_sub(SignedDuration::MIN),
+    ];
+    assert!(rt; stayed == [last, first, last] && (last - first).whole_days() == 730_484_633);
     assert!(rt; (last.weekday(), first.weekday()) == (Weekday::Friday, Weekday::Monday));
 }

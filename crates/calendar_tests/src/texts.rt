@@ -105,32 +105,42 @@ fn prints_weekdays(rt: HostRuntime) {
     }
 }
 
+fn displays<T: fmt::Display + Drop>(alloc: Global, value: T, text: &str) -> bool {
+    is_text(value.to_string(alloc), text)
+}
+
 #[test]
 fn prints_refusals(rt: HostRuntime) {
-    for (refusal, text) in [
-        (
-            ComponentRange::conditional(ComponentName::Day),
-            "day was not in range given values of other parameters",
-        ),
-        (
-            ComponentRange::unconditional(ComponentName::JulianDay),
-            "julian_day was not in range",
-        ),
-    ] {
-        assert!(rt; is_text(refusal.to_string(rt.alloc()), text));
-    }
-    let conversion = ConversionRange.to_string(rt.alloc());
-    assert!(rt; is_text(conversion, "value out of range for the target type"));
-    let variant = InvalidVariant.to_string(rt.alloc());
-    assert!(rt; is_text(variant, "value was not a valid variant"));
+    let day = ComponentRange::conditional(ComponentName::Day);
+    assert!(rt;
+        displays(
+            rt.alloc(),
+            day,
+            "day was not in range given values of other parameters"
+        )
+    );
+    let julian_day = ComponentRange::unconditional(ComponentName::JulianDay);
+    assert!(rt; displays(rt.alloc(), julian_day, "julian_day was not in range"));
+    assert!(rt;
+        displays(
+            rt.alloc(),
+            ConversionRange,
+            "value out of range for the target type"
+        ) && displays(rt.alloc(), InvalidVariant, "value was not a valid variant")
+    );
 }
 
 #[test]
 fn prints_a_date_under_widths(rt: HostRuntime) {
     let day = dates::date_of(-44, Month::March, 15);
-    let answer = format!(in rt.alloc(); "[{day:13}|{day:<12}|{day:>12}|{day:*^14}|{day:3}]");
-    let text = "[-0044-03-15  |-0044-03-15 | -0044-03-15|*-0044-03-15**|-0044-03-15]";
-    assert!(rt; is_text(answer, text));
+    let alloc = rt.alloc();
+    assert!(rt;
+        is_text(format!(in alloc; "{day:13}"), "-0044-03-15  ")
+            && is_text(format!(in alloc; "{day:<12}"), "-0044-03-15 ")
+            && is_text(format!(in alloc; "{day:>12}"), " -0044-03-15")
+            && is_text(format!(in alloc; "{day:*^14}"), "*-0044-03-15**")
+            && is_text(format!(in alloc; "{day:3}"), "-0044-03-15")
+    );
 }
 
 #[test]
@@ -150,27 +160,38 @@ fn prints_dates_under_a_width(rt: HostRuntime) {
 #[test]
 fn prints_a_time_under_widths(rt: HostRuntime) {
     let time = Time::from_seconds_nanoseconds(25_500, 250_000_000);
-    let answer = format!(in rt.alloc(); "[{time:12}|{time:>12}|{time:*^13}|{time:3}]");
+    let alloc = rt.alloc();
     assert!(rt;
-        is_text(
-            answer,
-            "[7:05:00.25  |  7:05:00.25|*7:05:00.25**|7:05:00.25]"
-        )
+        is_text(format!(in alloc; "{time:12}"), "7:05:00.25  ")
+            && is_text(format!(in alloc; "{time:>12}"), "  7:05:00.25")
+            && is_text(format!(in alloc; "{time:*^13}"), "*7:05:00.25**")
+            && is_text(format!(in alloc; "{time:3}"), "7:05:00.25")
     );
 }
 
 #[test]
 fn prints_an_offset_under_widths(rt: HostRuntime) {
     let offset = UtcOffset::from_hms(-5, -30, 0).unwrap_or(UtcOffset::UTC);
-    let answer = format!(in rt.alloc(); "[{offset:11}|{offset:>11}|{offset:=^12}|{offset:9}]");
-    assert!(rt; is_text(answer, "[-05:30:00  |  -05:30:00|=-05:30:00==|-05:30:00]"));
+    let alloc = rt.alloc();
+    assert!(rt;
+        is_text(format!(in alloc; "{offset:11}"), "-05:30:00  ")
+            && is_text(format!(in alloc; "{offset:>11}"), "  -05:30:00")
+            && is_text(format!(in alloc; "{offset:=^12}"), "=-05:30:00==")
+            && is_text(format!(in alloc; "{offset:9}"), "-05:30:00")
+    );
 }
 
 #[test]
 fn prints_durations_under_widths(rt: HostRuntime) {
     let (short, none) = (SignedDuration::milliseconds(-1500), SignedDuration::ZERO);
-    let answer = format!(in rt.alloc(); "[{short:9}|{short:>10}|{short:.^11}|{none:>4}|{none:2}]");
-    assert!(rt; is_text(answer, "[-1s500ms |  -1s500ms|.-1s500ms..|  0s|0s]"));
+    let alloc = rt.alloc();
+    assert!(rt;
+        is_text(format!(in alloc; "{short:9}"), "-1s500ms ")
+            && is_text(format!(in alloc; "{short:>10}"), "  -1s500ms")
+            && is_text(format!(in alloc; "{short:.^11}"), ".-1s500ms..")
+            && is_text(format!(in alloc; "{none:>4}"), "  0s")
+            && is_text(format!(in alloc; "{none:2}"), "0s")
+    );
 }
 
 // A width counts characters, of which `µ` is one.
@@ -188,35 +209,31 @@ fn prints_names_under_widths(rt: HostRuntime) {
     assert!(rt; is_text(answer, "[  May|Friday**| May  ]"));
 }
 
-fn debugged<T: fmt::Debug + Drop>(alloc: Global, value: T) -> Result<String, AllocError> {
-    format!(in alloc; "{value:?}")
+fn debugs<T: fmt::Debug + Drop>(alloc: Global, value: T, text: &str) -> bool {
+    is_text(format!(in alloc; "{value:?}"), text)
 }
 
 #[test]
 fn prints_walks(rt: HostRuntime) {
     let leap = dates::date_of(2024, Month::February, 29);
-    for (answer, text) in [
-        (
-            debugged(rt.alloc(), leap.iter_to(leap)),
-            "DateIter { first: 365981444, len: 1 }",
-        ),
-        (
-            debugged(rt.alloc(), Month::iter_from(Month::May)),
-            "MonthIter { due: May }",
-        ),
-        (
-            debugged(rt.alloc(), RevMonthIter::new(Month::May)),
-            "RevMonthIter { due: May }",
-        ),
-        (
-            debugged(rt.alloc(), Weekday::iter_from(Weekday::Monday)),
-            "WeekdayIter { due: Monday }",
-        ),
-        (
-            debugged(rt.alloc(), RevWeekdayIter::new(Weekday::Monday)),
-            "RevWeekdayIter { due: Monday }",
-        ),
-    ] {
-        assert!(rt; is_text(answer, text));
-    }
+    assert!(rt;
+        debugs(
+            rt.alloc(),
+            leap.iter_to(leap),
+            "DateIter { first: 365981444, len: 1 }"
+        )
+    );
+    let (months, turned) = (Month::iter_from(Month::May), RevMonthIter::new(Month::May));
+    assert!(rt;
+        debugs(rt.alloc(), months, "MonthIter { due: May }")
+            && debugs(rt.alloc(), turned, "RevMonthIter { due: May }")
+    );
+    let (weekdays, turned) = (
+        Weekday::iter_from(Weekday::Monday),
+        RevWeekdayIter::new(Weekday::Monday),
+    );
+    assert!(rt;
+        debugs(rt.alloc(), weekdays, "WeekdayIter { due: Monday }")
+            && debugs(rt.alloc(), turned, "RevWeekdayIter { due: Monday }")
+    );
 }

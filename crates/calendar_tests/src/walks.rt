@@ -18,6 +18,16 @@ fn walks_days_from_both_ends(rt: HostRuntime) {
         (back.next_back(), Some(after)),
         (back.nth_back(1), Some(before)),
         (back.nth_back(0), None),
+    ] {
+        assert!(rt; given == expected);
+    }
+}
+
+#[test]
+fn walks_days_to_an_end(rt: HostRuntime) {
+    let before = date_of(2024, Month::February, 28);
+    let after = date_of(2024, Month::March, 1);
+    for (given, expected) in [
         (before.iter_to(before).last(), Some(before)),
         (before.iter_to(after).last(), Some(after)),
         (before.iter_to(after).min(), Some(before)),
@@ -116,6 +126,11 @@ fn copies_walks(rt: HostRuntime) -> Result<(), Fail> {
     let mut later = days.clone()?;
     assert!(rt; later.nth(1) == Some(date_of(2024, Month::March, 1)));
     assert!(rt; (later.count(), days.count()) == (1, 3));
+    Ok(())
+}
+
+#[test]
+fn copies_endless_walks(rt: HostRuntime) -> Result<(), Fail> {
     let mut months = Month::iter_from(Month::May);
     let mut months_back = RevMonthIter::new(Month::May);
     for (copied, due) in [
