@@ -2,9 +2,8 @@
 
 use crate::support::{OUTPUT, STREAM};
 use instants::{BlockWriter, ByteWriter, CutReader, ProgramFault, RunFault, StdWriter, run_words};
-use std::alloc::Global;
+use std::alloc::{AllocError, Global};
 use std::io::{Error, ErrorKind, Result as IoResult, Write};
-use std::process::Abort;
 use std::test::Fail;
 
 // How a device was used: its calls, and the bytes that it took.
@@ -61,75 +60,56 @@ impl Write for FailsOnce<'_> {
     }
 }
 
-// The answer of a run over blocks of so many bytes, and how the device was used until all was dropped.
-fn used_by_run(
+// What a run over blocks of so many bytes answers, and whether its writer has failed.
+fn run_in_blocks(
     alloc: Global,
     size: usize,
-    fails_at: u8,
-    takes_nothing: bool,
-) -> Result<(Result<(), ProgramFault<'static>>, bool, Used), Fail> {
+    device: FailsOnce,
+) -> Result<(Result<(), ProgramFault<'static>>, bool), AllocError> {
+    let block = vec![in alloc; 0; size.max(1)]?;
+    let mut reader = CutReader::new(STREAM, 26, None);
+    let mut writer = BlockWriter::new(block, StdWriter::new(device));
+    let words = ["+00:00", "-", "100", "rfc3339"];
+    let answer = run_words(alloc, &words, &mut reader, &mut writer);
+    Ok((answer, writer.has_failed()))
+}
+
+// Whether a run whose call at this place fails has written what came before, and makes no call behind it.
+fn ends_there(alloc: Global, size: usize, at: u8, takes_nothing: bool) -> Result<bool, AllocError> {
     let mut used = Used {
         calls: 0,
         len: 0,
         bytes: [0; 64],
     };
-    let answer;
-    let has_failed;
-    {
-        let device = FailsOnce {
-            used: &mut used,
-            fails_at,
-            takes_nothing,
-        };
-        let block = vec![in alloc; 0; size.max(1)]?;
-        let mut reader = CutReader::new(STREAM, 26, None);
-        let mut writer = BlockWriter::new(block, StdWriter::new(device));
-        let words = ["+00:00", "-", "100", "rfc3339"];
-        answer = run_words(alloc, &words, &mut reader, &mut writer);
-        has_failed = writer.has_failed();
-    }
-    Ok((answer, has_failed, used))
-}
-
-// A run whose call at this place fails has written what came before, and makes no call behind it.
-fn check(
-    rt: &impl Abort,
-    alloc: Global,
-    size: usize,
-    at: u8,
-    takes_nothing: bool,
-) -> Result<(), Fail> {
-    let (answer, has_failed, used) = used_by_run(alloc, size, at, takes_nothing)?;
+    let device = FailsOnce {
+        used: &mut used,
+        fails_at: at,
+        takes_nothing,
+    };
+    let (answer, has_failed) = run_in_blocks(alloc, size, device)?;
     let fails = at < 48 || at == 48 && !takes_nothing;
     let wanted = if fails {
         Err(ProgramFault::Run(RunFault::Write))
     } else {
         Ok(())
     };
-    let calls = if fails { at + 1 } else { 49 };
-    assert!(rt; answer == wanted, "at {at}");
-    assert!(rt; has_failed == fails && used.calls == calls, "at {at}");
-    let len = (at as usize).min(48);
-    assert!(rt; used.len as usize == len, "at {at}");
-    assert!(rt; used.bytes[..len] == OUTPUT[..len], "at {at}");
-    Ok(())
+    let len = at.min(48);
+    let written = &used.bytes[..len as usize];
+    Ok(
+        answer == wanted
+            && (has_failed, used.calls, used.len) == (fails, len + 1, len)
+            && OUTPUT.starts_with(written),
+    )
 }
 
 #[test]
 fn each_call_fails_once(rt: HostRuntime) -> Result<(), Fail> {
     for size in [1, 7, 64, 100] {
         for at in 0..50 {
-            check(&rt, rt.alloc(), size, at, false)?;
+            assert!(rt; ends_there(rt.alloc(), size, at, false)?);
         }
-    }
-    Ok(())
-}
-
-#[test]
-fn each_write_takes_nothing_once(rt: HostRuntime) -> Result<(), Fail> {
-    for size in [1, 7, 64, 100] {
         for at in 0..48 {
-            check(&rt, rt.alloc(), size, at, true)?;
+            assert!(rt; ends_there(rt.alloc(), size, at, true)?);
         }
     }
     Ok(())

@@ -4,63 +4,71 @@ use instants_devices::{
     ByteReader, ByteWriter, CutReader, CutWriter, DeviceFailed, StdReader, StdWriter, write_all,
 };
 use std::io::{Error, ErrorKind, Read, Result as IoResult, Write};
-use std::process::Abort;
-use std::test::Fail;
 
-// The counts that reads of four bytes give, until one gives none or fails.
-fn check_reads(
-    rt: &impl Abort,
-    most: usize,
-    fail_after: Option<usize>,
-    wanted: &[Result<usize, DeviceFailed>],
-) -> Result<(), Fail> {
-    assert!(rt; most > 0);
-    let mut reader = CutReader::new(b"abcdefgh", most, fail_after);
-    let mut into = [0u8; 4];
-    for count in wanted {
-        assert!(rt; !reader.has_failed());
-        assert!(rt; reader.read(&mut into) == *count);
+// How many bytes a read gives, or how it fails.
+type Count = Result<usize, DeviceFailed>;
+
+// At most how many bytes a read gives, after how many bytes reads fail, and what reads of four bytes give until one gives
+// none or fails.
+const READS: [(usize, Option<usize>, &[Count]); 5] = [
+    (3, None, &[Ok(3), Ok(3), Ok(2), Ok(0)]),
+    (9, None, &[Ok(4), Ok(4), Ok(0)]),
+    (3, Some(4), &[Ok(3), Ok(1), Err(DeviceFailed)]),
+    (3, Some(0), &[Err(DeviceFailed)]),
+    (8, Some(8), &[Ok(4), Ok(4), Err(DeviceFailed)]),
+];
+
+// Whether reads give these counts, and the last one alone fails, if one does.
+fn are_read(most: usize, fail_after: Option<usize>, counts: &[Count]) -> bool {
+    let mut reader = CutReader::new(b"abcdefgh", most.max(1), fail_after);
+    let mut into = [0; 4];
+    for count in counts {
+        if reader.has_failed() || reader.read(&mut into) != *count {
+            return false;
+        }
     }
-    assert_eq!(rt; reader.has_failed(), fail_after.is_some());
-    Ok(())
+    reader.has_failed() == fail_after.is_some()
 }
 
 #[test]
-fn cut_reader(rt: HostRuntime) -> Result<(), Fail> {
-    check_reads(&rt, 3, None, &[Ok(3), Ok(3), Ok(2), Ok(0)])?;
-    check_reads(&rt, 9, None, &[Ok(4), Ok(4), Ok(0)])?;
-    check_reads(&rt, 3, Some(4), &[Ok(3), Ok(1), Err(DeviceFailed)])?;
-    check_reads(&rt, 3, Some(0), &[Err(DeviceFailed)])?;
-    check_reads(&rt, 8, Some(8), &[Ok(4), Ok(4), Err(DeviceFailed)])
+fn cut_reader(rt: HostRuntime) {
+    for (most, fail_after, counts) in READS {
+        assert!(rt; are_read(most, fail_after, counts));
+    }
 }
 
-// What stands in six bytes of space after a try to write these bytes and to flush.
-fn check_writes(
-    rt: &impl Abort,
-    bytes: &[u8],
-    fail_after: Option<usize>,
-    wanted: &[u8],
-    flushes: usize,
-) -> Result<(), Fail> {
-    let mut space = [0u8; 6];
+// Bytes, after how many of them writes fail, what stands in six bytes of space after a try to write and flush them, and how
+// often they are flushed.
+const WRITES: [(&[u8], Option<usize>, &[u8], usize); 4] = [
+    (b"abcdef", None, b"abcdef", 1),
+    (b"abcdefg", None, b"abcdef", 0),
+    (b"abcdef", Some(3), b"abc", 0),
+    (b"abc", Some(3), b"abc", 0),
+];
+
+// Whether the writer is flushed only before it writes and by its flush, whether these bytes are written, how often it was
+// flushed, and whether it has failed.
+fn written(bytes: &[u8], fail_after: Option<usize>, wanted: &[u8]) -> (bool, bool, usize, bool) {
+    let mut space = [0; 6];
     let mut writer = CutWriter::new(&mut space, 4, fail_after);
-    assert!(rt; writer.is_flushed());
+    let mut is_told = writer.is_flushed();
     if write_all(&mut writer, bytes).is_ok() {
-        assert!(rt; !writer.is_flushed());
-        assert_eq!(rt; writer.flush().is_ok(), flushes == 1);
+        is_told &= !writer.is_flushed();
+        is_told &= writer.flush().is_ok() == writer.is_flushed();
     }
-    assert!(rt; writer.written() == wanted);
-    assert_eq!(rt; writer.flushes(), flushes);
-    assert_eq!(rt; writer.has_failed(), flushes == 0);
-    Ok(())
+    (
+        is_told,
+        writer.written() == wanted,
+        writer.flushes(),
+        writer.has_failed(),
+    )
 }
 
 #[test]
-fn cut_writer(rt: HostRuntime) -> Result<(), Fail> {
-    check_writes(&rt, b"abcdef", None, b"abcdef", 1)?;
-    check_writes(&rt, b"abcdefg", None, b"abcdef", 0)?;
-    check_writes(&rt, b"abcdef", Some(3), b"abc", 0)?;
-    check_writes(&rt, b"abc", Some(3), b"abc", 0)
+fn cut_writer(rt: HostRuntime) {
+    for (bytes, fail_after, wanted, flushes) in WRITES {
+        assert!(rt; written(bytes, fail_after, wanted) == (true, true, flushes, flushes == 0));
+    }
 }
 
 // A reader and a writer of std that work a number of times, and then fail, or take nothing.
@@ -108,44 +116,54 @@ impl Write for Tired {
     }
 }
 
-#[test]
-fn std_devices_fail(rt: HostRuntime) {
+// What two reads give, and whether the reader has failed after them. `None` if it has after the first one.
+fn tired_reads() -> Option<(Count, Count, bool)> {
     let mut reader = StdReader::new(Tired {
         calls: 1,
         takes_nothing: false,
     });
-    let mut into = [0u8; 4];
-    assert!(rt; reader.read(&mut into) == Ok(0));
-    assert!(rt; !reader.has_failed());
-    assert!(rt; reader.read(&mut into) == Err(DeviceFailed));
-    assert!(rt; reader.has_failed());
+    let mut into = [0; 4];
+    let first = reader.read(&mut into);
+    if reader.has_failed() {
+        return None;
+    }
+    let second = reader.read(&mut into);
+    Some((first, second, reader.has_failed()))
+}
+
+// What two writes give, and whether the writer has failed after them. `None` if it has after the first one, or is flushed.
+fn tired_writes(takes_nothing: bool) -> Option<(Count, Count, bool)> {
+    let mut writer = StdWriter::new(Tired {
+        calls: 1,
+        takes_nothing,
+    });
+    let first = writer.write(b"ab");
+    if writer.has_failed() || writer.is_flushed() {
+        return None;
+    }
+    let second = writer.write(b"ab");
+    Some((first, second, writer.has_failed()))
+}
+
+#[test]
+fn std_devices_fail(rt: HostRuntime) {
+    assert!(rt; tired_reads() == Some((Ok(0), Err(DeviceFailed), true)));
     for takes_nothing in [false, true] {
-        let mut writer = StdWriter::new(Tired {
-            calls: 1,
-            takes_nothing,
-        });
-        assert!(rt; writer.write(b"ab") == Ok(2));
-        assert!(rt; !writer.is_flushed());
-        assert!(rt; !writer.has_failed());
-        assert!(rt; writer.write(b"ab") == Err(DeviceFailed));
-        assert!(rt; writer.has_failed());
+        assert!(rt; tired_writes(takes_nothing) == Some((Ok(2), Err(DeviceFailed), true)));
     }
     let mut writer = StdWriter::new(Tired {
         calls: 0,
         takes_nothing: false,
     });
-    assert!(rt; writer.flush() == Err(DeviceFailed));
-    assert!(rt; writer.has_failed());
+    assert!(rt; writer.flush() == Err(DeviceFailed) && writer.has_failed());
 }
 
 #[test]
 fn std_devices(rt: HostRuntime) {
     let mut reader = StdReader::new(b"abcde".as_slice());
-    let mut into = [0u8; 3];
-    assert!(rt; reader.read(&mut into) == Ok(3));
-    assert!(rt; into == *b"abc");
+    let mut into = [0; 3];
+    assert!(rt; reader.read(&mut into) == Ok(3) && into == *b"abc");
     let mut writer = StdWriter::new(Vec::new(rt.alloc()));
     assert!(rt; write_all(&mut writer, b"abc").is_ok());
-    assert!(rt; writer.flush().is_ok());
-    assert!(rt; writer.is_flushed());
+    assert!(rt; writer.flush().is_ok() && writer.is_flushed());
 }

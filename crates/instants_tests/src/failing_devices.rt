@@ -1,18 +1,12 @@
-//! Readers and writers that fail.
+//! Readers and writers that fail, under the program's own lines.
 
-use crate::support::{Counting, Full, OUTPUT, STREAM};
+use crate::support::{Counting, End, Full, OUTPUT, STREAM, end_of, wanted_end, written_before};
 use calendar::UtcOffset;
-use instants::{
-    ByteReader, ByteWriter, CutReader, CutWriter, RunFault, SourceText, StdWriter, Timeline, run,
-};
+use instants::{ByteWriter, CutReader, CutWriter, RunFault, SourceText, StdWriter, Timeline, run};
 use std::alloc::Global;
-use std::process::Abort;
 use std::test::Fail;
 
 const SIZES: [usize; 6] = [1, 2, 3, 5, 7, 26];
-
-// How a run is to end: its answer, and how much of the output is written.
-type End = (Result<(), RunFault>, usize);
 
 // One source, and three in order: the first source names the stream's moment, and its fault is told.
 const LISTS: [&[SourceText<'static>]; 2] = [
@@ -24,45 +18,93 @@ const LISTS: [&[SourceText<'static>]; 2] = [
     ],
 ];
 
-// A run over the stream with a limit of 100 bytes, with reads and writes of at most so many bytes that fail after so
-// many.
-fn check(
-    rt: &impl Abort,
-    timeline: &Timeline,
-    most: usize,
-    read_fails: Option<usize>,
-    write_fails: Option<usize>,
-    (wanted, written): End,
-) {
-    let mut buffer = [0; 101];
-    let mut space = [0; 100];
-    assert!(rt; most > 0);
-    let mut reader = CutReader::new(STREAM, most, read_fails);
-    let mut writer = CutWriter::new(&mut space, most, write_fails);
-    let answer = run(timeline, &mut buffer, &mut reader, &mut writer);
-    assert!(rt; answer == wanted);
-    assert_eq!(rt; reader.has_failed(), wanted == Err(RunFault::Read));
-    assert_eq!(rt; writer.has_failed(), wanted == Err(RunFault::Write));
-    assert_eq!(rt; writer.flushes(), if wanted.is_ok() { 1 } else { 0 });
-    assert!(rt; written <= OUTPUT.len());
-    assert!(rt; writer.written() == &OUTPUT[..written]);
+// How devices fail, if they do, after how many bytes.
+#[derive(Clone, Copy)]
+struct Failing {
+    read: Option<usize>,
+    write: Option<usize>,
 }
 
-// The same for each list of sources and for reads and writes of each size.
-fn check_all(
-    rt: &impl Abort,
+// A run over the stream with this limit, with reads and writes of at most so many bytes.
+fn ended(timeline: &Timeline, limit: usize, most: usize, failing: Failing, output: &[u8]) -> End {
+    let mut buffer = [0; 101];
+    let mut space = [0; 100];
+    let mut reader = CutReader::new(STREAM, most.max(1), failing.read);
+    let mut writer = CutWriter::new(&mut space, most.max(1), failing.write);
+    let buffer = &mut buffer[..=limit.clamp(1, 100)];
+    let answer = run(timeline, buffer, &mut reader, &mut writer);
+    end_of(answer, &reader, &writer, output)
+}
+
+// Whether runs with each list of sources, and reads and writes of each size, end so.
+fn end_so(
     alloc: Global,
-    read_fails: Option<usize>,
-    write_fails: Option<usize>,
-    end: End,
-) -> Result<(), Fail> {
+    limit: usize,
+    failing: Failing,
+    answer: Result<(), RunFault>,
+    output: &[u8],
+) -> Result<bool, Fail> {
     for sources in LISTS {
-        assert!(rt; !sources.is_empty());
+        if sources.is_empty() {
+            return Ok(false);
+        }
         let timeline = Timeline::new(alloc, sources, UtcOffset::UTC, None)?;
         for most in SIZES {
-            check(rt, &timeline, most, read_fails, write_fails, end);
+            if ended(&timeline, limit, most, failing, output) != wanted_end(answer) {
+                return Ok(false);
+            }
         }
     }
+    Ok(true)
+}
+
+const NO_READ: Result<(), RunFault> = Err(RunFault::Read);
+
+const NO_WRITE: Result<(), RunFault> = Err(RunFault::Write);
+
+fn read_fails(after: usize) -> Failing {
+    Failing {
+        read: Some(after),
+        write: None,
+    }
+}
+
+fn write_fails(after: usize) -> Failing {
+    Failing {
+        read: None,
+        write: Some(after),
+    }
+}
+
+#[test]
+fn reads_that_fail(rt: HostRuntime) -> Result<(), Fail> {
+    for after in 0..27 {
+        let output = written_before(after);
+        assert!(rt; end_so(rt.alloc(), 100, read_fails(after), NO_READ, output)?);
+    }
+    // a line that is longer than the limit
+    for (after, output) in [(23, b"".as_slice()), (24, b"! long\n".as_slice())] {
+        assert!(rt; end_so(rt.alloc(), 22, read_fails(after), NO_READ, output)?);
+    }
+    let both = Failing {
+        write: Some(0),
+        ..read_fails(0)
+    };
+    assert!(rt; end_so(rt.alloc(), 100, both, NO_READ, b"")?);
+    Ok(())
+}
+
+#[test]
+fn writes_that_fail(rt: HostRuntime) -> Result<(), Fail> {
+    for after in 0..49 {
+        let output = &OUTPUT[..after];
+        assert!(rt; end_so(rt.alloc(), 100, write_fails(after), NO_WRITE, output)?);
+    }
+    let none = Failing {
+        read: None,
+        write: None,
+    };
+    assert!(rt; end_so(rt.alloc(), 100, none, Ok(()), OUTPUT)?);
     Ok(())
 }
 
@@ -70,61 +112,24 @@ fn make_timeline(alloc: Global) -> Result<Timeline<'static>, Fail> {
     Ok(Timeline::new(alloc, &[SourceText::Rfc3339], UtcOffset::UTC, None)?)
 }
 
-#[test]
-fn all_is_written_and_flushed_once(rt: HostRuntime) -> Result<(), Fail> {
-    check_all(&rt, rt.alloc(), None, None, (Ok(()), 48))
-}
-
-#[test]
-fn reads_that_fail(rt: HostRuntime) -> Result<(), Fail> {
-    for after in 0..27 {
-        let written = match after {
-            0..=23 => 0,
-            24 | 25 => 31,
-            _ => 48,
-        };
-        let end = (Err(RunFault::Read), written);
-        check_all(&rt, rt.alloc(), Some(after), None, end)?;
-    }
-    let end = (Err(RunFault::Read), 0);
-    check_all(&rt, rt.alloc(), Some(0), Some(0), end)
-}
-
-#[test]
-fn writes_and_flushes_that_fail(rt: HostRuntime) -> Result<(), Fail> {
-    for after in 0..49 {
-        let end = (Err(RunFault::Write), after);
-        check_all(&rt, rt.alloc(), None, Some(after), end)?;
-    }
-    Ok(())
-}
-
-#[test]
-fn a_long_line_before_a_read_that_fails(rt: HostRuntime) -> Result<(), Fail> {
-    let timeline = make_timeline(rt.alloc())?;
-    for most in SIZES {
-        for (after, output) in [(23, b"".as_slice()), (24, b"! long\n".as_slice())] {
-            let mut buffer = [0; 23];
-            let mut space = [0; 100];
-            let mut reader = CutReader::new(STREAM, most, Some(after));
-            let mut writer = CutWriter::new(&mut space, most, None);
-            let answer = run(&timeline, &mut buffer, &mut reader, &mut writer);
-            assert!(rt; answer == Err(RunFault::Read));
-            assert!(rt; writer.written() == output);
-        }
-    }
-    Ok(())
-}
-
-#[test]
-fn a_writer_that_takes_no_byte(rt: HostRuntime) -> Result<(), Fail> {
-    let timeline = make_timeline(rt.alloc())?;
+// What a run answers whose writer takes so many bytes and then none, and whether that failed.
+fn full(timeline: &Timeline, most: usize, room: usize) -> (Result<(), RunFault>, bool) {
     let mut buffer = [0; 101];
-    let mut reader = CutReader::new(STREAM, 26, None);
-    let mut writer = StdWriter::new(Full { room: 0 });
-    let answer = run(&timeline, &mut buffer, &mut reader, &mut writer);
-    assert!(rt; answer == Err(RunFault::Write));
-    assert!(rt; writer.has_failed());
+    let mut reader = CutReader::new(STREAM, most.max(1), None);
+    let mut writer = StdWriter::new(Full { room });
+    let answer = run(timeline, &mut buffer, &mut reader, &mut writer);
+    (answer, writer.has_failed())
+}
+
+#[test]
+fn writers_that_take_no_byte(rt: HostRuntime) -> Result<(), Fail> {
+    let timeline = make_timeline(rt.alloc())?;
+    for most in [1, 5, 26] {
+        for room in 0..48 {
+            assert!(rt; full(&timeline, most, room) == (NO_WRITE, true));
+        }
+        assert!(rt; full(&timeline, most, 48) == (Ok(()), false));
+    }
     Ok(())
 }
 
@@ -138,8 +143,8 @@ fn one_line_is_two_reads(rt: HostRuntime) -> Result<(), Fail> {
         reads: 0,
     };
     let mut writer = CutWriter::new(&mut space, 100, None);
-    assert!(rt; run(&timeline, &mut buffer, &mut reader, &mut writer).is_ok());
-    assert_eq!(rt; reader.reads, 2);
-    assert!(rt; writer.written() == b"1985-04-12T23:20:50.520000000Z\n".as_slice());
+    let answer = run(&timeline, &mut buffer, &mut reader, &mut writer);
+    let line = b"1985-04-12T23:20:50.520000000Z\n".as_slice();
+    assert!(rt; (answer, reader.reads) == (Ok(()), 2) && writer.written() == line);
     Ok(())
 }

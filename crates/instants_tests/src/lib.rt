@@ -1,4 +1,5 @@
-//! Tests of the program's crates, each by itself and several together.
+//! Tests of the program's crates, each by itself and several together. Rows of words and streams with their answers
+//! stand in `instants_rows`.
 #![tactic(auto)]
 
 #[cfg(test)]
@@ -10,11 +11,9 @@ mod failing_devices;
 #[cfg(test)]
 mod first_bytes;
 #[cfg(test)]
-mod lists;
+mod lines;
 #[cfg(test)]
 mod memory;
-#[cfg(test)]
-mod one_line;
 #[cfg(test)]
 mod ordered_lines;
 #[cfg(test)]
@@ -22,7 +21,7 @@ mod page;
 #[cfg(test)]
 mod places;
 #[cfg(test)]
-mod single_words;
+mod program;
 #[cfg(test)]
 mod sources;
 #[cfg(test)]
@@ -32,10 +31,4 @@ mod streams;
 #[cfg(test)]
 mod support;
 #[cfg(test)]
-mod utc_lines;
-#[cfg(test)]
-mod well_known;
-#[cfg(test)]
-mod words_and_streams;
-#[cfg(test)]
-mod written_lines;
+mod words;

@@ -3,7 +3,6 @@
 use calendar::UtcOffset;
 use instants::{LineFault, SourceText, Timeline};
 use instants_sources::Source;
-use std::process::Abort;
 use std::test::Fail;
 
 const UNIX: SourceText<'static> = SourceText::V2("[unix_timestamp]");
@@ -75,15 +74,13 @@ const CASES: [Case; 14] = [
     ),
 ];
 
-fn check(rt: &impl Abort, timeline: &Timeline, case: &Case) {
+fn is_placed(timeline: &Timeline, case: &Case) -> bool {
     let (answer, tried) = timeline.place_counted(case.1);
-    let seconds = match answer {
+    let second = match answer {
         Ok(moment) => Ok(moment.unix_timestamp()),
         Err(fault) => Err(fault),
     };
-    assert!(rt; seconds == case.2);
-    assert!(rt; tried == case.3);
-    assert!(rt; timeline.places() == case.4);
+    second == case.2 && tried == case.3 && timeline.places() == case.4
 }
 
 #[test]
@@ -91,7 +88,7 @@ fn timelines(rt: HostRuntime) -> Result<(), Fail> {
     for case in &CASES {
         assert!(rt; !case.0.is_empty());
         let timeline = Timeline::new(rt.alloc(), case.0, UtcOffset::UTC, None)?;
-        check(&rt, &timeline, case);
+        assert!(rt; is_placed(&timeline, case));
     }
     Ok(())
 }
@@ -101,21 +98,12 @@ fn timelines(rt: HostRuntime) -> Result<(), Fail> {
 fn an_assumed_offset(rt: HostRuntime) -> Result<(), Fail> {
     let sources = [SourceText::V2("[year]-[month]-[day] [hour]:[minute]"), UNIX];
     let line = b"1970-01-01 00:01";
-    let without = Timeline::new(rt.alloc(), &sources, UtcOffset::UTC, None)?;
-    check(
-        &rt,
-        &without,
-        &(&[], line, Err(LineFault::Insufficient), 10, 10),
-    );
-    let with = Timeline::new(rt.alloc(), &sources, UtcOffset::UTC, Some(UtcOffset::UTC))?;
-    check(&rt, &with, &(&[], line, Ok(60), 9, 10));
-    Ok(())
-}
-
-// Puts so many of the part behind the text.
-fn push_many(text: &mut String, part: &str, count: usize) -> Result<(), Fail> {
-    for _ in 0..count {
-        text.push_str(part)?;
+    for (assumed, second, tried) in [
+        (None, Err(LineFault::Insufficient), 10),
+        (Some(UtcOffset::UTC), Ok(60), 9),
+    ] {
+        let timeline = Timeline::new(rt.alloc(), &sources, UtcOffset::UTC, assumed)?;
+        assert!(rt; is_placed(&timeline, &(&[], line, second, tried, 10)));
     }
     Ok(())
 }
@@ -124,16 +112,15 @@ fn push_many(text: &mut String, part: &str, count: usize) -> Result<(), Fail> {
 #[test]
 fn deep(rt: HostRuntime) -> Result<(), Fail> {
     let mut text = String::new(rt.alloc());
-    push_many(&mut text, "[optional [", 127)?;
-    text.push_str("x")?;
-    push_many(&mut text, "]]", 127)?;
+    for (part, count) in [("[optional [", 127), ("x", 1), ("]]", 127)] {
+        for _ in 0..count {
+            text.push_str(part)?;
+        }
+    }
     let sources = [SourceText::V3(text.as_str())];
     let timeline = Timeline::new(rt.alloc(), &sources, UtcOffset::UTC, None)?;
-    check(
-        &rt,
-        &timeline,
-        &(&[], b"", Err(LineFault::Insufficient), 256, 256),
-    );
+    let insufficient = Err(LineFault::Insufficient);
+    assert!(rt; is_placed(&timeline, &(&[], b"", insufficient, 256, 256)));
     Ok(())
 }
 
@@ -146,14 +133,18 @@ const SOURCES: [(SourceText<'static>, &[u8], u128, u128); 5] = [
     (EITHER, b"x", 6, 8),
 ];
 
+// What a source tries on a line, and its places.
+fn counts(source: &Source, line: &[u8]) -> (u128, u128) {
+    (source.tried(line, &Some(UtcOffset::UTC)), source.places())
+}
+
 #[test]
 fn sources(rt: HostRuntime) -> Result<(), Fail> {
     for (text, line, tried, places) in SOURCES {
-        let Ok(source) = Source::new(rt.alloc(), text) else {
-            return Err(Fail::from("a fault"));
-        };
-        assert!(rt; source.tried(line, &Some(UtcOffset::UTC)) == tried);
-        assert!(rt; source.places() == places);
+        match Source::new(rt.alloc(), text) {
+            Ok(source) => assert!(rt; counts(&source, line) == (tried, places)),
+            Err(_) => return Err(Fail::from("a fault")),
+        }
     }
     Ok(())
 }

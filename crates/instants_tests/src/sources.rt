@@ -4,7 +4,6 @@ use calendar::UtcOffset;
 use datetime::OffsetDateTime;
 use instants::SourceText;
 use instants_sources::{Source, quick_iso8601, quick_rfc2822, quick_rfc3339};
-use std::process::Abort;
 use std::test::Fail;
 
 const DAY: SourceText<'static> = SourceText::V2("[year]-[month]-[day] [hour]:[minute]");
@@ -41,41 +40,49 @@ const CASES: [Case; 20] = [
     (SourceText::V3("at [hour]"), b"yesterday", None, true),
 ];
 
-fn seconds(moment: Option<OffsetDateTime>) -> Option<i64> {
+fn second(moment: Option<OffsetDateTime>) -> Option<i64> {
     Some(moment?.unix_timestamp())
 }
 
-fn check(rt: &impl Abort, source: &Source, case: &Case) -> Result<(), Fail> {
-    let hour = UtcOffset::from_hms(1, 0, 0).ok().ok_or("an offset")?;
-    let read = match source.read(case.1, Some(hour)) {
-        Ok(moment) => Some(moment),
+// What the source names for the line with an hour assumed, by the exact way and by the shortest one, and whether it rules
+// the line out.
+fn named(source: &Source, line: &[u8]) -> Option<(Option<i64>, Option<i64>, bool)> {
+    let hour = UtcOffset::from_hms(1, 0, 0).ok()?;
+    let read = match source.read(line, Some(hour)) {
+        Ok(moment) => Some(moment.unix_timestamp()),
         Err(_) => None,
     };
-    assert!(rt; seconds(read) == case.2);
-    assert!(rt; seconds(source.moment(case.1, &Some(hour))) == case.2);
-    assert!(rt; source.rules_out(case.1) == case.3);
-    Ok(())
+    let moment = source.moment(line, &Some(hour));
+    Some((read, second(moment), source.rules_out(line)))
 }
 
 #[test]
 fn moments(rt: HostRuntime) -> Result<(), Fail> {
-    for case in &CASES {
-        match Source::new(rt.alloc(), case.0) {
-            Ok(source) => check(&rt, &source, case)?,
-            Err(_) => return Err(Fail::from("a fault")),
-        }
+    for (text, line, wanted, is_ruled_out) in CASES {
+        let Ok(source) = Source::new(rt.alloc(), text) else {
+            return Err(Fail::from("a fault"));
+        };
+        assert!(rt; named(&source, line) == Some((wanted, wanted, is_ruled_out)));
     }
     Ok(())
 }
 
+// Lines, and the Unix time that the quick way of ISO 8601 names.
+const ISO8601: [(&[u8], Option<i64>); 6] = [
+    (b"1970-01-01T00:00:01Z", Some(1)),
+    (b"1970-01-01T01:00:01.123456789+01:00", Some(1)),
+    (b"19700101T000001,123456789Z", Some(1)),
+    (b"1970-01-01T00:00:01z", None),
+    (b"1970-01-01 00:00:01Z", None),
+    (b"1970-01-01T00:00:01.9999999999Z", None),
+];
+
 #[test]
 fn quick_ways(rt: HostRuntime) {
-    assert!(rt; seconds(quick_rfc3339(b"1970-01-01T00:00:01Z")) == Some(1));
-    assert!(rt; seconds(quick_rfc2822(b"Thu, 01 Jan 1970 00:00:01 +0000")) == Some(1));
-    assert!(rt; seconds(quick_iso8601(b"1970-01-01T00:00:01Z")) == Some(1));
-    assert!(rt; seconds(quick_iso8601(b"1970-01-01T01:00:01.123456789+01:00")) == Some(1));
-    assert!(rt; seconds(quick_iso8601(b"19700101T000001,123456789Z")) == Some(1));
-    assert!(rt; quick_iso8601(b"1970-01-01T00:00:01z").is_none());
-    assert!(rt; quick_iso8601(b"1970-01-01 00:00:01Z").is_none());
-    assert!(rt; quick_iso8601(b"1970-01-01T00:00:01.9999999999Z").is_none());
+    for (line, wanted) in ISO8601 {
+        assert!(rt; second(quick_iso8601(line)) == wanted);
+    }
+    let rfc3339 = quick_rfc3339(b"1970-01-01T00:00:01Z");
+    let rfc2822 = quick_rfc2822(b"Thu, 01 Jan 1970 00:00:01 +0000");
+    assert!(rt; (second(rfc3339), second(rfc2822)) == (Some(1), Some(1)));
 }

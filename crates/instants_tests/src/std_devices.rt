@@ -2,7 +2,6 @@
 
 use instants_devices::{ByteReader, ByteWriter, DeviceFailed, StdReader, StdWriter};
 use std::io::{Error, ErrorKind, Read, Result as IoResult, Write};
-use std::process::Abort;
 
 // A device of std whose call at one place fails once. It gives and takes so many bytes a call.
 #[derive(Drop)]
@@ -49,9 +48,11 @@ impl Write for Counted<'_> {
     }
 }
 
-// So many reads work, and are one call each, also where they give nothing; the next one fails and is one call too.
-fn check_reads(rt: &impl Abort, works: u8, moves: usize) {
+// Whether so many reads give as much as is moved, and the next one fails. How many calls all were, also of those that gave
+// nothing.
+fn reads_work(works: u8, moves: usize) -> (bool, u8) {
     let mut calls = 0;
+    let mut is_working = true;
     {
         let mut into = [0; 4];
         let mut reader = StdReader::new(Counted {
@@ -60,27 +61,28 @@ fn check_reads(rt: &impl Abort, works: u8, moves: usize) {
             moves,
         });
         for _ in 0..works {
-            assert!(rt; !reader.has_failed());
-            assert!(rt; reader.read(&mut into) == Ok(moves.min(4)));
+            is_working &= !reader.has_failed() && reader.read(&mut into) == Ok(moves.min(4));
         }
-        assert!(rt; !reader.has_failed());
-        assert!(rt; reader.read(&mut into) == Err(DeviceFailed));
-        assert!(rt; reader.has_failed());
+        is_working &= !reader.has_failed() && reader.read(&mut into) == Err(DeviceFailed);
+        is_working &= reader.has_failed();
     }
-    assert_eq!(rt; calls, works.saturating_add(1));
+    (is_working, calls)
 }
 
 #[test]
 fn reads(rt: HostRuntime) {
     for works in [0, 1, 10, 11, 12, 100] {
-        check_reads(&rt, works, 0);
-        check_reads(&rt, works, 1);
+        for moves in [0, 1] {
+            assert!(rt; reads_work(works, moves) == (true, works.saturating_add(1)));
+        }
     }
 }
 
-// So many writes work, and then a flush; a write or a flush that fails is one call.
-fn check_writes(rt: &impl Abort, writes: u8, fails_at: u8, wanted: u8) {
+// How so many writes end that are followed by a flush: whether that works, whether the writer has failed and whether it is
+// flushed, and how many calls all were.
+fn writes_end(writes: u8, fails_at: u8) -> (bool, bool, bool, u8) {
     let mut calls = 0;
+    let end;
     {
         let mut writer = StdWriter::new(Counted {
             calls: &mut calls,
@@ -92,18 +94,16 @@ fn check_writes(rt: &impl Abort, writes: u8, fails_at: u8, wanted: u8) {
                 let _ = writer.write(b"ab");
             }
         }
-        if !writer.has_failed() {
-            assert_eq!(rt; writer.flush().is_ok(), fails_at > writes);
-        }
-        assert_eq!(rt; writer.has_failed(), fails_at <= writes);
-        assert_eq!(rt; writer.is_flushed(), fails_at > writes || writes == 0);
+        let is_ok = !writer.has_failed() && writer.flush().is_ok();
+        end = (is_ok, writer.has_failed(), writer.is_flushed());
     }
-    assert_eq!(rt; calls, wanted);
+    (end.0, end.1, end.2, calls)
 }
 
+// A write or a flush that fails is one call.
 #[test]
 fn writes(rt: HostRuntime) {
-    for (writes, fails_at, wanted) in [
+    for (writes, fails_at, calls) in [
         (0, 0, 1),
         (0, 9, 1),
         (3, 0, 1),
@@ -112,6 +112,8 @@ fn writes(rt: HostRuntime) {
         (12, 11, 12),
         (12, 20, 13),
     ] {
-        check_writes(&rt, writes, fails_at, wanted);
+        let works = fails_at > writes;
+        let end = (works, !works, works || writes == 0, calls);
+        assert!(rt; writes_end(writes, fails_at) == end);
     }
 }

@@ -1,11 +1,9 @@
 //! Runs over readers and writers that fail, with reads and writes of every size.
 
-use crate::support::{Counting, Full, OUTPUT, STREAM};
+use crate::support::{Counting, End, Full, OUTPUT, STREAM, end_of, wanted_end, written_before};
 use instants_answers::Answer;
-use instants_devices::{ByteReader, ByteWriter, CutReader, CutWriter, StdWriter};
+use instants_devices::{CutReader, CutWriter, StdWriter};
 use instants_stream::{AnswersLines, RunFault, run_lines};
-use std::process::Abort;
-use std::test::Fail;
 
 // Answers each long line with a date-time, and each short one with a refusal.
 #[derive(Drop)]
@@ -32,7 +30,7 @@ impl AnswersLines for ByLength {
     }
 }
 
-// How the devices are cut, and the limit.
+// How the devices are cut, when they fail, and the limit.
 #[derive(Clone, Copy)]
 struct Cut {
     limit: usize,
@@ -50,141 +48,128 @@ const WHOLE: Cut = Cut {
     write_fails: None,
 };
 
-// A run over a stream, and what it answers and writes. It flushes once, and only before `Ok`.
-fn check(
-    rt: &impl Abort,
-    stream: &[u8],
-    cut: Cut,
-    wanted: Result<(), RunFault>,
-    output: &[u8],
-) -> Result<(), Fail> {
-    let mut buffer = [0u8; 101];
-    let mut space = [0u8; 100];
-    assert!(rt; 0 < cut.limit && cut.limit <= 100 && cut.read > 0 && cut.write > 0);
-    let mut reader = CutReader::new(stream, cut.read, cut.read_fails);
-    let mut writer = CutWriter::new(&mut space, cut.write, cut.write_fails);
-    let answer = run_lines(
-        &ByLength,
-        cut.limit,
-        &mut buffer[..=cut.limit],
-        &mut reader,
-        &mut writer,
-    );
-    assert!(rt; answer == wanted);
-    assert_eq!(rt; reader.has_failed(), wanted == Err(RunFault::Read));
-    assert_eq!(rt; writer.has_failed(), wanted == Err(RunFault::Write));
-    assert_eq!(rt; writer.flushes(), if wanted.is_ok() { 1 } else { 0 });
-    assert!(rt; writer.written() == output);
-    Ok(())
+const SIZES: [usize; 6] = [1, 2, 3, 5, 7, 26];
+
+// How a run over a stream ends.
+fn ended(stream: &[u8], cut: Cut, output: &[u8]) -> End {
+    let mut buffer = [0; 101];
+    let mut space = [0; 100];
+    let limit = cut.limit.clamp(1, 100);
+    let mut reader = CutReader::new(stream, cut.read.max(1), cut.read_fails);
+    let mut writer = CutWriter::new(&mut space, cut.write.max(1), cut.write_fails);
+    let buffer = &mut buffer[..=limit];
+    let answer = run_lines(&ByLength, limit, buffer, &mut reader, &mut writer);
+    end_of(answer, &reader, &writer, output)
+}
+
+// A limit, a stream and its output.
+const STREAMS: [(usize, &[u8], &[u8]); 5] = [
+    (100, STREAM, OUTPUT),
+    (
+        1,
+        b"x\nxy\n\n",
+        b"! component year\n! long\n! component year\n",
+    ),
+    (
+        1,
+        b"x\nxy\n\nxyz",
+        b"! component year\n! long\n! component year\n! long\n",
+    ),
+    (1, b"x", b"! component year\n"),
+    (1, b"", b""),
+];
+
+#[test]
+fn reads_of_every_size(rt: HostRuntime) {
+    for (limit, stream, output) in STREAMS {
+        for read in 1..27 {
+            for write in [1, 5, 48, 100] {
+                let cut = Cut {
+                    limit,
+                    read,
+                    write,
+                    ..WHOLE
+                };
+                assert!(rt; ended(stream, cut, output) == wanted_end(Ok(())));
+            }
+        }
+    }
+}
+
+// Whether runs over the stream with reads of each size end with this fault.
+fn end_so(cut: Cut, fault: RunFault, output: &[u8]) -> bool {
+    for read in SIZES {
+        let cut = Cut { read, ..cut };
+        if ended(STREAM, cut, output) != wanted_end(Err(fault)) {
+            return false;
+        }
+    }
+    true
 }
 
 #[test]
-fn reads_of_every_size(rt: HostRuntime) -> Result<(), Fail> {
-    for read in 1..27 {
-        for write in [1, 5, 48] {
-            let cut = Cut {
-                read,
-                write,
-                ..WHOLE
-            };
-            check(&rt, STREAM, cut, Ok(()), OUTPUT)?;
-        }
+fn reads_fail(rt: HostRuntime) {
+    for after in 0..27 {
         let cut = Cut {
-            read,
-            limit: 1,
+            read_fails: Some(after),
             ..WHOLE
         };
-        let output = b"! component year\n! long\n! component year\n";
-        check(&rt, b"x\nxy\n\n", cut, Ok(()), output)?;
-        check(
-            &rt,
-            b"x\nxy\n\nxyz",
-            cut,
-            Ok(()),
-            b"! component year\n! long\n! component year\n! long\n",
-        )?;
-        check(&rt, b"x", cut, Ok(()), b"! component year\n")?;
-        check(&rt, b"", cut, Ok(()), b"")?;
+        assert!(rt; end_so(cut, RunFault::Read, written_before(after)));
     }
-    Ok(())
-}
-
-#[test]
-fn reads_fail(rt: HostRuntime) -> Result<(), Fail> {
-    for read in [1, 2, 3, 5, 7, 26] {
-        for after in 0..27 {
-            let count = match after {
-                0..=23 => 0,
-                24 | 25 => 31,
-                _ => 48,
-            };
-            let cut = Cut {
-                read,
-                read_fails: Some(after),
-                ..WHOLE
-            };
-            check(&rt, STREAM, cut, Err(RunFault::Read), &OUTPUT[..count])?;
-        }
+    for (limit, after, write_fails, output) in [
+        (22, 23, None, b"".as_slice()),
+        (22, 24, None, b"! long\n".as_slice()),
+        (100, 0, Some(0), b"".as_slice()),
+    ] {
         let cut = Cut {
-            read,
-            limit: 22,
-            read_fails: Some(23),
+            limit,
+            read_fails: Some(after),
+            write_fails,
             ..WHOLE
         };
-        check(&rt, STREAM, cut, Err(RunFault::Read), b"")?;
-        let cut = Cut {
-            read_fails: Some(24),
-            ..cut
-        };
-        check(&rt, STREAM, cut, Err(RunFault::Read), b"! long\n")?;
-        let cut = Cut {
-            read,
-            read_fails: Some(0),
-            write_fails: Some(0),
-            ..WHOLE
-        };
-        check(&rt, STREAM, cut, Err(RunFault::Read), b"")?;
+        assert!(rt; end_so(cut, RunFault::Read, output));
     }
-    Ok(())
 }
 
 // After all 48 bytes it is the flush that fails.
 #[test]
-fn writes_fail(rt: HostRuntime) -> Result<(), Fail> {
-    for read in [1, 2, 3, 5, 7, 26] {
-        for after in 0..49 {
-            let cut = Cut {
-                read,
-                write_fails: Some(after),
-                ..WHOLE
-            };
-            check(&rt, STREAM, cut, Err(RunFault::Write), &OUTPUT[..after])?;
-        }
+fn writes_fail(rt: HostRuntime) {
+    for after in 0..49 {
+        let cut = Cut {
+            write_fails: Some(after),
+            ..WHOLE
+        };
+        assert!(rt; end_so(cut, RunFault::Write, &OUTPUT[..after]));
     }
-    Ok(())
+}
+
+// What a run answers whose writer takes so many bytes and then none.
+fn full(room: usize) -> Result<(), RunFault> {
+    let mut buffer = [0; 101];
+    let mut reader = CutReader::new(STREAM, 5, None);
+    let mut writer = StdWriter::new(Full { room });
+    run_lines(&ByLength, 100, &mut buffer, &mut reader, &mut writer)
 }
 
 #[test]
 fn writes_take_nothing(rt: HostRuntime) {
-    for room in 0..50 {
-        let mut buffer = [0u8; 101];
-        let mut reader = CutReader::new(STREAM, 5, None);
-        let mut writer = StdWriter::new(Full { room });
-        let answer = run_lines(&ByLength, 100, &mut buffer, &mut reader, &mut writer);
-        assert_eq!(rt; answer == Err(RunFault::Write), room < 48);
-        assert_eq!(rt; answer.is_ok(), room >= 48);
+    for room in 0..48 {
+        assert!(rt; full(room) == Err(RunFault::Write));
+    }
+    for room in 48..50 {
+        assert!(rt; full(room) == Ok(()));
     }
 }
 
 #[test]
 fn two_reads(rt: HostRuntime) {
-    let mut buffer = [0u8; 101];
-    let mut space = [0u8; 100];
+    let mut buffer = [0; 101];
+    let mut space = [0; 100];
     let mut reader = Counting {
         rest: b"2021-01-02T03:04:05Z\n",
         reads: 0,
     };
     let mut writer = CutWriter::new(&mut space, 100, None);
-    assert!(rt; run_lines(&ByLength, 100, &mut buffer, &mut reader, &mut writer).is_ok());
-    assert_eq!(rt; reader.reads, 2);
+    let answer = run_lines(&ByLength, 100, &mut buffer, &mut reader, &mut writer);
+    assert!(rt; (answer, reader.reads) == (Ok(()), 2));
 }

@@ -1,11 +1,8 @@
-//! Runs of the program's parts, and the streams and devices that several tests use.
-
-ghost use Rattle.std.specs.Prelude.{◌<◌};
+//! Streams, devices and ends of runs that several tests use.
 
 use calendar::{Date, Month, Time, UtcOffset};
 use datetime::OffsetDateTime;
-use instants::{ByteReader, CutReader, CutWriter, DeviceFailed, ProgramFault, run_words};
-use std::alloc::Global;
+use instants::{ByteReader, ByteWriter, CutReader, CutWriter, DeviceFailed, RunFault};
 use std::io::{Result as IoResult, Write};
 use std::process::Abort;
 
@@ -15,21 +12,44 @@ pub const STREAM: &[u8; 26] = b"1985-04-12T23:20:50.52Z\nx\n";
 /// Their answers.
 pub const OUTPUT: &[u8; 48] = b"1985-04-12T23:20:50.520000000Z\n! component year\n";
 
-/// Runs the words over the stream, with reads and writes of at most so many bytes, and says how many bytes were
-/// written to the space.
-pub fn answered<'a>(
-    alloc: Global,
-    words: &[&'a str],
-    stream: &[u8],
-    most: usize,
-    space: &mut [u8],
-) -> Result<usize, ProgramFault<'a>>
-    requires { 0 < most }
-{
-    let mut reader = CutReader::new(stream, most, None);
-    let mut writer = CutWriter::new(space, most, None);
-    run_words(alloc, words, &mut reader, &mut writer)?;
-    Ok(writer.written().len())
+/// How a run ended: its answer, whether exactly the output is written, whether the reader failed and whether the writer
+/// did, and how often the writer was flushed.
+pub type End = (Result<(), RunFault>, bool, bool, bool, usize);
+
+/// How a run over these devices ended.
+pub fn end_of(
+    answer: Result<(), RunFault>,
+    reader: &CutReader,
+    writer: &CutWriter,
+    output: &[u8],
+) -> End {
+    (
+        answer,
+        writer.written() == output,
+        reader.has_failed(),
+        writer.has_failed(),
+        writer.flushes(),
+    )
+}
+
+/// How a run with this answer has to end: only the device that it names has failed, and all is flushed once before `Ok`.
+pub fn wanted_end(answer: Result<(), RunFault>) -> End {
+    (
+        answer,
+        true,
+        answer == Err(RunFault::Read),
+        answer == Err(RunFault::Write),
+        usize::from(answer.is_ok()),
+    )
+}
+
+/// What is written of `OUTPUT` where a read fails after so many bytes of `STREAM`.
+pub fn written_before(read_fails: usize) -> &'static [u8] {
+    match read_fails {
+        0..=23 => b"",
+        24 | 25 => &OUTPUT[..31],
+        _ => OUTPUT,
+    }
 }
 
 /// A moment by its year, month, day, second of the day, nanosecond, and offset in seconds.
