@@ -82,26 +82,24 @@ pub fn record_of(words: &str) -> Option<Parsed> {
     let mut parsed = Parsed::new();
     for word in words.split('+') {
         let (name, number) = word.split_once('=')?;
-        set(&mut parsed, name, number.parse().ok()?)?;
+        set(&mut parsed, name, number)?;
     }
     Some(parsed)
 }
 
 // Sets a part by its name.
-fn set(parsed: &mut Parsed, name: &str, number: i32) -> Option<()> {
-    let small = i8::try_from(number).unwrap_or(i8::MAX);
-    let byte = u8::try_from(number).unwrap_or(u8::MAX);
+fn set(parsed: &mut Parsed, name: &str, number: &str) -> Option<()> {
     match name {
-        "year" => parsed.set_year(number),
-        "ordinal" => parsed.set_ordinal(u16::try_from(number).ok()?),
-        "day" => parsed.set_day(byte),
-        "hour" => parsed.set_hour_24(byte),
-        "minute" => parsed.set_minute(byte),
-        "second" => parsed.set_second(byte),
-        "subsecond" => parsed.set_subsecond(u32::try_from(number).ok()?),
-        "offset_hour" => parsed.set_offset_hour(small),
-        "offset_minute" => parsed.set_offset_minute_signed(small),
-        "offset_second" => parsed.set_offset_second_signed(small),
+        "year" => parsed.set_year(number.parse().ok()?),
+        "ordinal" => parsed.set_ordinal(number.parse().ok()?),
+        "day" => parsed.set_day(number.parse().ok()?),
+        "hour" => parsed.set_hour_24(number.parse().ok()?),
+        "minute" => parsed.set_minute(number.parse().ok()?),
+        "second" => parsed.set_second(number.parse().ok()?),
+        "subsecond" => parsed.set_subsecond(number.parse().ok()?),
+        "offset_hour" => parsed.set_offset_hour(number.parse().ok()?),
+        "offset_minute" => parsed.set_offset_minute_signed(number.parse().ok()?),
+        "offset_second" => parsed.set_offset_second_signed(number.parse().ok()?),
         _ => None,
     }
 }
