@@ -1,4 +1,5 @@
 //! Rows of texts that are cut or changed: `changes rfc2822 | 1 Jul 03 (x) 10:52 (y) EST (zz) => 601`.
+ghost use Rattle.std.specs.Prelude.{◌<◌, length};
 
 use crate::row_fault::{RowFault, Told};
 use datetime_types::OffsetDateTime;
@@ -58,20 +59,24 @@ pub fn tell_fronts(told: &mut String, call: &str, input: &[u8]) -> Told {
 }
 
 /// Of how many texts this holds that have one of these bytes in one place.
-pub fn tell_changes(
-    told: &mut String,
-    call: &str,
-    input: &mut [u8],
-    (first, last): (u8, u8),
-) -> Told {
+pub fn tell_changes(told: &mut String, call: &str, input: &mut [u8], bytes: (u8, u8)) -> Told {
     let mut count = 0u64;
     for place in 0..input.len() {
-        let before = input[place];
-        for byte in first..=last {
-            input[place] = byte;
-            count = count.wrapping_add(u64::from(holds(call, input)?));
-        }
-        input[place] = before;
+        count = count.wrapping_add(count_at(call, input, place, bytes)?);
     }
     Ok(write!(told, "{count}")?)
+}
+
+// The same for one place.
+fn count_at(call: &str, input: &mut [u8], place: usize, bytes: (u8, u8)) -> Result<u64, RowFault>
+    requires { place < length input.old }
+{
+    let mut count = 0u64;
+    let before = input[place];
+    for byte in bytes.0..=bytes.1 {
+        input[place] = byte;
+        count = count.wrapping_add(u64::from(holds(call, input)?));
+    }
+    input[place] = before;
+    Ok(count)
 }

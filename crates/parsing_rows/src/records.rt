@@ -64,12 +64,12 @@ pub fn tell(told: &mut String, more: impl Display + Drop) -> Told {
 
 /// Tells the fields that are there.
 pub fn tell_fields(told: &mut String, parsed: &Parsed) -> Told {
-    for (name, value) in date_fields(parsed) {
-        if let Some(value) = value {
-            tell(told, format_args!("{name} {value}"))?;
-        }
-    }
-    for (name, value) in time_fields(parsed) {
+    tell_numbers(told, &date_fields(parsed))?;
+    tell_numbers(told, &time_fields(parsed))
+}
+
+fn tell_numbers<T: Display>(told: &mut String, fields: &[(&'static str, Option<T>)]) -> Told {
+    for (name, value) in fields {
         if let Some(value) = value {
             tell(told, format_args!("{name} {value}"))?;
         }
