@@ -2,6 +2,7 @@
 //! --fail-alloc N` refuses the growths in turn, and then a call may say nothing but that memory ran out.
 
 use crate::support::{ONE, THREE, TWO, failure, given, shown};
+use crate::trees::push_told;
 use description::{parse, parse_strftime_borrowed};
 use description_items::modifier::{
     CalendarYearFullExtendedRange, Day, MonthNumerical, OffsetHour, OffsetMinute, Padding,
@@ -126,9 +127,9 @@ const TREE: &str = "x[day][optional [y[day]]][first [z] [[day]]][day]x";
 const READ: &str =
     r#"V3(FormatDescriptionV3 { inner: OwnedCompound([BorrowedLiteral("x"), Day(Day { padding: Zero }), OwnedOptional { format: true, item: OwnedCompound([BorrowedLiteral("y"), Day(Day { padding: Zero })]) }, OwnedFirst([OwnedCompound([BorrowedLiteral("z")]), OwnedCompound([Day(Day { padding: Zero })])]), Day(Day { padding: Zero }), BorrowedLiteral("x")]), max_bytes_needed: 11 })"#;
 
-// Nothing is borrowed.
-const COPIED: &str =
-    r#"FormatDescriptionV3 { inner: OwnedCompound([OwnedLiteral("x"), Day(Day { padding: Zero }), OwnedOptional { format: true, item: OwnedCompound([OwnedLiteral("y"), Day(Day { padding: Zero })]) }, OwnedFirst([OwnedCompound([OwnedLiteral("z")]), OwnedCompound([Day(Day { padding: Zero })])]), Day(Day { padding: Zero }), OwnedLiteral("x")]), max_bytes_needed: 11 }"#;
+// Nothing of the copy is borrowed.
+const COPIED: &str = r#"
+FormatDescriptionV3 { inner: OwnedCompound([BorrowedLiteral("x"), Day(Day { padding: Zero }), OwnedOptional { format: true, item: OwnedCompound([BorrowedLiteral("y"), Day(Day { padding: Zero })]) }, OwnedFirst([OwnedCompound([BorrowedLiteral("z")]), OwnedCompound([Day(Day { padding: Zero })])]), Day(Day { padding: Zero }), BorrowedLiteral("x")]), max_bytes_needed: 11 }, OwnedCompound([OwnedLiteral("x"), Day(Day { padding: Zero }), OwnedOptional { format: true, item: OwnedCompound([OwnedLiteral("y"), Day(Day { padding: Zero })]) }, OwnedFirst([OwnedCompound([OwnedLiteral("z")]), OwnedCompound([Day(Day { padding: Zero })])]), Day(Day { padding: Zero }), OwnedLiteral("x")]), 11"#;
 
 #[test]
 fn descriptions_of_version_3(rt: HostRuntime) -> Result<(), Fail> {
@@ -139,12 +140,8 @@ fn descriptions_of_version_3(rt: HostRuntime) -> Result<(), Fail> {
 
 #[test]
 fn copies_of_trees(rt: HostRuntime) -> Result<(), Fail> {
-    let node = given(tree_of(rt.alloc(), TREE))?;
-    let Ok(description) = node.into_opaque() else {
-        return Err(Fail::from("too many bytes"));
-    };
-    let copy = description.to_owned(rt.alloc())?;
-    let told = format!(in rt.alloc(); "V3({description:?})\n{copy:?}")?;
-    assert!(rt; told.as_str().split_once('\n') == Some((READ, COPIED)));
+    let mut told = String::new(rt.alloc());
+    push_told(rt.alloc(), given(tree_of(rt.alloc(), TREE))?, &mut told)?;
+    assert!(rt; told.as_str() == COPIED);
     Ok(())
 }

@@ -37,8 +37,8 @@ MonthLong(MonthLong { case_sensitive: true }) Some(MonthLong(MonthLong { case_se
 IsoYearLastTwo(IsoYearLastTwo { padding: Zero }) Some(IsoYearLastTwo(IsoYearLastTwo { padding: Zero }))
 End(End { trailing_input: Prohibit }) Some(End(End { trailing_input: Prohibit }))"#;
 
-// Writes the description of a node as it is shown, and its copy.
-fn push_told(
+/// Writes the description of a node as it is shown, and its copy: the tree, and the bytes that it reserves.
+pub fn push_told(
     alloc: Global,
     node: FormatDescriptionV3Inner<'_>,
     told: &mut String,
@@ -47,8 +47,8 @@ fn push_told(
         return Err(Fail::from("too many bytes"));
     };
     let copy = description.to_owned(alloc)?;
-    let tree = copy.inner();
-    write!(told, "\n{description:?}, {tree:?}")?;
+    let (tree, bytes) = (copy.inner(), copy.max_bytes_needed());
+    write!(told, "\n{description:?}, {tree:?}, {bytes}")?;
     Ok(())
 }
 
@@ -110,10 +110,10 @@ fn lent_trees(rt: HostRuntime) -> Result<(), Fail> {
 
 const LENT: &str = r#"
 Lent { items: [] }
-FormatDescriptionV3 { inner: BorrowedLiteral("four"), max_bytes_needed: 4 }, OwnedLiteral("four")
-FormatDescriptionV3 { inner: BorrowedLiteral("x\n"), max_bytes_needed: 2 }, OwnedLiteral("x\n")
-FormatDescriptionV3 { inner: BorrowedCompound([]), max_bytes_needed: 0 }, OwnedCompound([])
-FormatDescriptionV3 { inner: BorrowedFirst([]), max_bytes_needed: 0 }, OwnedFirst([])"#;
+FormatDescriptionV3 { inner: BorrowedLiteral("four"), max_bytes_needed: 4 }, OwnedLiteral("four"), 4
+FormatDescriptionV3 { inner: BorrowedLiteral("x\n"), max_bytes_needed: 2 }, OwnedLiteral("x\n"), 2
+FormatDescriptionV3 { inner: BorrowedCompound([]), max_bytes_needed: 0 }, OwnedCompound([]), 0
+FormatDescriptionV3 { inner: BorrowedFirst([]), max_bytes_needed: 0 }, OwnedFirst([]), 0"#;
 
 // An ordinal, a literal of four bytes, and an optional day.
 fn nodes(alloc: Global) -> Result<Vec<FormatDescriptionV3Inner<'static>>, Fail> {
@@ -140,5 +140,5 @@ fn owned_trees(rt: HostRuntime) -> Result<(), Fail> {
 }
 
 const OWNED: &str = r#"
-FormatDescriptionV3 { inner: OwnedCompound([Ordinal(Ordinal { padding: Zero }), OwnedLiteral("four"), OwnedOptional { format: true, item: Day(Day { padding: Zero }) }]), max_bytes_needed: 9 }, OwnedCompound([Ordinal(Ordinal { padding: Zero }), OwnedLiteral("four"), OwnedOptional { format: true, item: Day(Day { padding: Zero }) }])
-FormatDescriptionV3 { inner: OwnedFirst([Ordinal(Ordinal { padding: Zero }), OwnedLiteral("four"), OwnedOptional { format: true, item: Day(Day { padding: Zero }) }]), max_bytes_needed: 4 }, OwnedFirst([Ordinal(Ordinal { padding: Zero }), OwnedLiteral("four"), OwnedOptional { format: true, item: Day(Day { padding: Zero }) }])"#;
+FormatDescriptionV3 { inner: OwnedCompound([Ordinal(Ordinal { padding: Zero }), OwnedLiteral("four"), OwnedOptional { format: true, item: Day(Day { padding: Zero }) }]), max_bytes_needed: 9 }, OwnedCompound([Ordinal(Ordinal { padding: Zero }), OwnedLiteral("four"), OwnedOptional { format: true, item: Day(Day { padding: Zero }) }]), 9
+FormatDescriptionV3 { inner: OwnedFirst([Ordinal(Ordinal { padding: Zero }), OwnedLiteral("four"), OwnedOptional { format: true, item: Day(Day { padding: Zero }) }]), max_bytes_needed: 4 }, OwnedFirst([Ordinal(Ordinal { padding: Zero }), OwnedLiteral("four"), OwnedOptional { format: true, item: Day(Day { padding: Zero }) }]), 4"#;
