@@ -12,10 +12,10 @@
 //! - `escape TEXT`: what the escape in front stands for, and what follows it.
 //! - `modifiers TEXT`: each key and value behind its byte index, and what follows them.
 //!
-//! A text stands as it is. Behind a `\` before the call, `\t`, `\r` and `\n` in the text and in what is told are a tab, a
-//! carriage return and a line feed, and `\\` is a backslash. Where versions differ, the row shows the first that differs
-//! from the one before, with ` (in N)` behind it. Blank lines, and lines that begin with `#`, stay as they are, and a line
-//! that is no row is written behind a `?`.
+//! A text stands as it is. Behind a `\` before the call, `\t`, `\r` and `\n` in the text and in what is told are a
+//! tab, a carriage return and a line feed, and `\\` is a backslash. Where versions differ, the row shows the first that
+//! differs from the one before, with ` (in N)` behind it. Blank lines, and lines that begin with `#`, stay as they are,
+//! and a line that is no row is written behind a `?`.
 #![tactic(auto)]
 
 mod escapes;
