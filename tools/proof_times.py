@@ -1,0 +1,80 @@
+#!/usr/bin/env python3
+"""Says which functions of a crate take longest to prove, from nothing, at one job.
+
+    tools/proof_times.py CRATE [COUNT]
+
+The check saves each module as it is done with it, and a file's time less that of the one before it is what the module took.
+A function's modules are added up: `Lts` is the borrow checker's part, which grows with the steps of the body; `Proof` and
+`Tie` are mostly search. The libraries below the crate have to be built (`rt check` in its folder builds them). Times are of
+the wall, so nothing else should run.
+"""
+
+import collections
+import pathlib
+import re
+import subprocess
+import sys
+import tempfile
+import time
+
+sys.dont_write_bytecode = True
+
+from program import ROOT, uses
+
+# Modules that a function has beside its own name.
+PARTS = "Statement Tie Goals Answers Proof Met Code Symbol TheLink Given Lts Kinds Reads Key Mir View Invariants TheImpl Laws Layout Named".split()
+
+
+def below(crate, used):
+    """Returns the crates below one, each behind those that it uses."""
+    found = []
+    for it in used[crate]:
+        found += [one for one in [*below(it, used), it] if one not in found]
+    return list(dict.fromkeys(found))
+
+
+def command(crate, kept):
+    """Returns the check of a crate over the libraries that are built, with what it keeps in a folder."""
+    kit = pathlib.Path(subprocess.run(["rt", "doc"], capture_output=True, text=True, check=True).stdout.strip()).parent
+    used, folder = uses(), ROOT / "crates" / crate
+    root = "src/lib.rt" if (folder / "src" / "lib.rt").exists() else "src/main.rt"
+    rlib = lambda it: f"{ROOT}/crates/{it}/out/rlib"
+    words = [f"{kit}/bin/rattle", "check", "--crate-name", crate, root, "--extern", f"std={kit}/rlibs/std.rlib", "-L", f"dependency={kit}/rlibs"]
+    for it in used[crate]:
+        words += ["--extern", f"{it}={rlib(it)}/{it}.rlib"]
+    for it in below(crate, used):
+        words += ["-L", f"dependency={rlib(it)}"]
+    return [*words, "--antt-project", f"{kit}/rattle/logic/antt-project.json", "--logic-built", f"{kit}/logic_built", "--jobs", "1", "--incremental", kept]
+
+
+def module_times(kept, began):
+    """Returns the modules that a check kept, each with the seconds that it took."""
+    files = [it for it in pathlib.Path(kept).glob("*/*.oantt")]
+    done = sorted((it.stat().st_mtime, it.stem) for it in files)
+    return [(now - before, name) for (before, _), (now, name) in zip([(began, ""), *done], done)]
+
+
+def function_of(module, crate):
+    """Returns the function, or the file, that a module belongs to."""
+    own = re.sub(rf"^Rattle-{crate}-(?:proofs|specs)\.(?:contracts\.)?", "", module)
+    return re.sub(rf"\.(?:{'|'.join(PARTS)})(?:-[\w-]+)?(?:\..*)?$", "", own)
+
+
+def main(crate, count=30):
+    with tempfile.TemporaryDirectory() as kept:
+        began = time.time()
+        how = {"cwd": ROOT / "crates" / crate, "stdout": subprocess.PIPE, "stderr": subprocess.STDOUT, "text": True}
+        ran = subprocess.run(command(crate, kept), errors="replace", **how)
+        times = module_times(kept, began)
+    functions, kinds = collections.Counter(), collections.Counter()
+    for seconds, module in times:
+        functions[function_of(module, crate)] += seconds
+        kinds[re.sub(r"-.*", "", module.rpartition(".")[2])] += seconds
+    print("\n".join(f"{seconds:7.1f} {name}" for name, seconds in functions.most_common(int(count))))
+    print("by kind:", ", ".join(f"{name} {seconds:.0f}" for name, seconds in kinds.most_common(8)))
+    print(f"{crate}: {sum(it for it, _ in times):.0f} s, {ran.stdout.strip().split(chr(10))[-1][:80]}")
+    return ran.returncode
+
+
+if __name__ == "__main__":
+    sys.exit(main(*sys.argv[1:]) if 2 <= len(sys.argv) <= 3 else __doc__)
