@@ -13,9 +13,9 @@ use Rattle.calendar.specs.UtcOffset.{offset_of}
 -- the date with this year, month and day, by its count
 unfoldable pub date_of : ℤ → ℕ → ℕ → Result ℕ ComponentRange
 date_of year month day =
-    if is_in_range 1 12 month
-    then (if is_year year then ok_or (the_day (is_day_of year month day)) (out_of_conditional_range Day) else Err (out_of_range Year))
-    else Err (out_of_range Month)
+    if is_year year
+    then (if is_in_range 1 12 month then ok_or (the_day (is_day_of year month day)) (out_of_conditional_range Day) else Err (out_of_range Month))
+    else Err (out_of_range Year)
 
 -- the time of day with these parts; where it is permitted, a second 60 stands for the last nanosecond of its minute
 unfoldable pub permitted_time_of : Bool → ℕ → ℕ → ℕ → ℕ → Result ℕ ComponentRange

@@ -4,15 +4,21 @@ ghost use Rattle.parsing_resolution.specs.Resolution.{date_of, permitted_time_of
 
 use calendar::{ComponentRange, Date, Month, Time, UtcOffset};
 
-/// The date with this year, month and day of the month. Refused are, in this order, a month that is not 1 to 12, a
-/// year that the calendar does not have, and a day that the month does not have.
+/// The date with this year, month and day of the month. Refused are, in this order, a year that the calendar does not
+/// have, a month that is not 1 to 12, and a day that the month does not have.
 #[tactic(auto, unfolding(crate::specs::Resolution::date_of))]
 #[inline(always)]
 pub fn date(year: i32, month: u8, day: u8) -> Result<Date, ComponentRange>
     ensures { result ≡ date_of year month day }
 {
-    let month = Month::try_from(month)?;
-    Date::from_calendar_date(year, month, day)
+    match Month::try_from(month) {
+        Ok(month) => Date::from_calendar_date(year, month, day),
+        Err(refused) => {
+            // A year that the calendar does not have is refused before the month.
+            Date::from_calendar_date(year, Month::January, 1)?;
+            Err(refused)
+        }
+    }
 }
 
 /// The time of day with these parts: where it is permitted, second 60 stands for the last nanosecond of its minute.

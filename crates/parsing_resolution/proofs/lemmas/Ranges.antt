@@ -63,15 +63,15 @@ pub record DateRanges (y : ℤ) (m d day : ℕ) : Type 0 where
 pub date_ranges : (y : ℤ) (m d day : ℕ) → date_of y m d ≡ Ok day → DateRanges y m d day
 unfolding date_of
 date_ranges y m d day h =
-    let outer = in_both (is_in_range 1 12 m) _ _ day h in
-    let inner = in_both (is_year y) _ _ day outer.1 in
+    let outer = in_both (is_year y) _ _ day h in
+    let inner = in_both (is_in_range 1 12 m) _ _ day outer.1 in
     let days = a_day y m d day _ inner.1 in
     record {
-      least_month = let t = outer.0 in grind (arith, nat_tests);
-      greatest_month = let t = outer.0 in grind (arith, nat_tests);
+      least_month = let t = inner.0 in grind (arith, nat_tests);
+      greatest_month = let t = inner.0 in grind (arith, nat_tests);
       least_day = days.0;
       greatest_day = days.1;
-      in_year = inner.0;
+      in_year = outer.0;
     }
 
 -- ---- times of day
