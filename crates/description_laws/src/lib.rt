@@ -10,7 +10,7 @@ ghost use Rattle.description_items.specs.Tree.{Tree, Part};
 ghost use Rattle.description_words.specs.declared.version.DescriptionVersion.{DescriptionVersion};
 ghost use Rattle.description_words.specs.declared.version.DescriptionVersion.TheVariants.{Two, Three};
 ghost use Rattle.description_words.specs.Version.{is_three};
-ghost use Rattle.description_tree.specs.Reserved.{reserved};
+ghost use Rattle.description_tree.specs.Reserved.{IsLongest, reserved};
 ghost use Rattle.description_faults.specs.Further.{further};
 ghost use Rattle.description_strftime.specs.Outcomes as letters;
 ghost use Rattle.description_spelling.specs.Outcomes.{OneOutcome};
@@ -45,9 +45,11 @@ pub fn faults_behind()
     ensures { (version : DescriptionVersion) (s t : List ℕ) (items : List Tree) (fault : Fault) → Spells version s items → Faulty version t fault → Faulty version (s ++ t) (further (length s) fault) }
 {}
 
-/// A tree of version 3 reserves no more bytes than its text has, so reading one never meets too many.
-/// The tree of any version has at most one node more than its text has bytes.
+/// What a tree reserves is the bytes of its longest layout. A tree of version 3 reserves no more bytes
+/// than its text has, so reading one never meets too many. The tree of any version has at most one
+/// node more than its text has bytes.
 pub fn reserved()
+    ensures longest { (tree : Tree) → IsLongest tree (reserved tree) }
     ensures bytes { (text : List ℕ) (tree : Tree) → SpellsTree Three text tree → reserved tree ≤ length text }
     ensures nodes { (version : DescriptionVersion) (text : List ℕ) (tree : Tree) → SpellsTree version text tree → nodes tree ≤ length text + 1 }
 {}

@@ -1,2 +1,2 @@
 pub mod InnerTrees
-mod Longest
+pub mod Longest

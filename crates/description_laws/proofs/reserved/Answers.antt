@@ -1,6 +1,10 @@
+use Rattle.description_tree.proofs.Longest.{reserved_is_longest}
 use Rattle.description_laws.proofs.Nodes.{tree_nodes}
 use Rattle.description_laws.proofs.Room.{tree_room}
 use Rattle.description_laws.proofs.reserved.Goals as goal
+
+pub returns-clause-longest : goal.returns-clause-longest
+returns-clause-longest c = reserved_is_longest
 
 pub returns-clause-bytes : goal.returns-clause-bytes
 returns-clause-bytes c = tree_room
