@@ -1,10 +1,11 @@
 //! Laws of what is answered.
-ghost use Rattle.std.specs.Prelude.{◌≡◌, ◌<◌, ◌≤◌, ◌↔◌, ℕ, List, [], ◌∷◌, ◌++◌, Option, Some, Ok, Err, length, ℤ};
+ghost use Rattle.std.specs.Prelude.{◌≡◌, ◌<◌, ◌≤◌, ◌↔◌, ℕ, List, [], ◌∷◌, ◌++◌, Option, Some, Ok, Err, length, ℤ, ◌+ℤ◌, ◌-ℤ◌, IsSome, IfSome};
 ghost use Rattle.std.specs.Ordering.{nat_cmp, int_cmp};
 ghost use Rattle.std.specs.Cmp.Lexicographic.{slice_cmp};
 ghost use Rattle.byte_names.specs.Bytes.{line_feed};
+ghost use Rattle.calendar.specs.Duration.{IsDuration};
 ghost use Rattle.calendar.specs.UtcOffset.{IsClockOffset};
-ghost use Rattle.datetime_wall.specs.Wall.{Shown, instant};
+ghost use Rattle.datetime_wall.specs.Wall.{Shown, instant, IsWallClock};
 ghost use Rattle.parsing_pieces.specs.Fault.{Fault};
 ghost use Rattle.instants_answers.specs.Text.{moment_text};
 ghost use Rattle.instants_order.specs.Written.{IsWritten};
@@ -95,12 +96,28 @@ pub fn two_targets()
         ↔ (answer_to (with_target one target) line ≡ answer_to (with_target other target) another) }
 {}
 
-/// The difference of two moments at one offset, added to the second one, is the first one, and so it has its line. Places
-/// of lines at one target are such moments.
-pub fn difference(a: OffsetDateTime, b: OffsetDateTime) -> Option<OffsetDateTime>
-    ensures one_offset { a.offset ≡ b.offset → result ≡ Some a }
+/// The difference of two moments at one offset is a duration, and leads from the wall clock of the second to that of the
+/// first.
+pub fn difference()
+    ensures duration { (a b : Shown)
+        → a.offset ≡ b.offset → IsWallClock a.wall → IsWallClock b.wall
+        → IsDuration (instant a -ℤ instant b) }
+    ensures sum { (a b : Shown)
+        → a.offset ≡ b.offset → b.wall +ℤ (instant a -ℤ instant b) ≡ a.wall }
+{}
+
+/// The second moment moved by the difference of both. Of places of lines at one target it is the first one, and has its
+/// line.
+pub fn difference_added(a: OffsetDateTime, b: OffsetDateTime) -> Option<OffsetDateTime>
+    ensures some { IsSome result ↔ IsWallClock (b.wall +ℤ (instant a -ℤ instant b)) }
+    ensures sum { IfSome result (λ m. m
+        ≡ record { wall = b.wall +ℤ (instant a -ℤ instant b); offset = b.offset }) }
     ensures places { (one other : Setting) (line another : List ℕ)
-        → one.target ≡ other.target → place_of one line ≡ Ok a → place_of other another ≡ Ok b → result ≡ Some a }
+        → one.target ≡ other.target → place_of one line ≡ Ok a → place_of other another ≡ Ok b
+        → result ≡ Some a }
+    ensures line { (one other : Setting) (line another : List ℕ)
+        → one.target ≡ other.target → place_of one line ≡ Ok a → place_of other another ≡ Ok b
+        → IfSome result (λ m. moment_text m ≡ answer_to one line) }
 {
     // its range comes with this call
     let _ = a.date();

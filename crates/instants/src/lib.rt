@@ -41,9 +41,9 @@ pub use instants_devices::{
     BlockWriter, ByteReader, ByteWriter, CutReader, CutWriter, DeviceFailed, FrontWriter,
     StdReader, StdWriter,
 };
-pub use instants_sources::Source;
+pub use instants_sources::{DescribedItems, DescribedTree, Source};
 pub use instants_stream::RunFault;
-pub use instants_words::{SourceText, Words, WordsFault, read_words};
+pub use instants_words::{SourceText, Sources, Words, WordsFault, read_words};
 pub use line_fault::LineFault;
 pub use new_fault::NewFault;
 pub use program::run_words;

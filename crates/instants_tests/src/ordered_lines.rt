@@ -6,7 +6,7 @@ ghost use Rattle.calendar.specs.UtcOffset.{IsClockOffset};
 use crate::support::moment;
 use calendar::{Month, UtcOffset};
 use instants::laws::{
-    appended, difference, embedding, fixed_point, joined_streams, lines_read_again as reread,
+    appended, difference, difference_added, embedding, fixed_point, joined_streams, lines_read_again as reread,
     order_of_lines, two_targets,
 };
 use instants::{Answer, SourceText, Timeline, fits_line, rfc3339_line};
@@ -162,7 +162,9 @@ fn laws(rt: HostRuntime) -> Result<(), Fail> {
     if let Ok(one) = timeline.place(first)
         && let Ok(other) = timeline.place(last)
     {
-        assert!(rt; difference(one, other) == Some(one) && difference(other, one) == Some(other));
+        difference();
+        let (there, back) = (difference_added(one, other), difference_added(other, one));
+        assert!(rt; there == Some(one) && back == Some(other));
         return Ok(());
     }
     Err(Fail::from("no place"))
