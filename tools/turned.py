@@ -81,11 +81,12 @@ def name_of_impl(head):
 
 
 def functions_of(crate):
-    """Returns the crate's functions, each with its lines from its attributes to its end, counted from 1: none of a crate of tests.
+    """Returns the crate's functions, each with its lines from its attributes to its end, counted from 1; none of a crate
+    of tests or rows.
 
     The first function of an impl of a trait begins at the impl, whose ghost members speak of it."""
     found = []
-    for path in sorted((crate / "src").rglob("*.rt") if not crate.name.endswith("_tests") else []):
+    for path in sorted((crate / "src").rglob("*.rt") if not crate.name.endswith(("_tests", "_rows")) else []):
         if any(it.endswith("tests") for it in path.relative_to(crate / "src").with_suffix("").parts):
             continue
         lines = path.read_text().split("\n")

@@ -8,6 +8,7 @@ ghost use Rattle.parsing_moments.specs.NamedMoment.{named_moment, named_utc, nam
 /// Parts that name a date, a time of day and an offset, of which the calendar has the day in UTC, name one instant of
 /// each kind, or none of any kind.
 pub fn three_instants()
-    ensures { (p : MomentParts) (o : OffsetParts) (date time : ℕ) (offset : ℤ) → IsWhole p o date time offset
+    ensures { (p : MomentParts) (o : OffsetParts) (date time : ℕ) (offset : ℤ)
+        → IsWhole p o date time offset
         → IsOneInstant (named_moment p o) (named_utc p o) (named_timestamp p o) }
 {}
