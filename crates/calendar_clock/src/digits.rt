@@ -1,5 +1,5 @@
 //! Numbers written with a fixed number of digits.
-ghost use Rattle.std.specs.Prelude.{◌≡◌, ◌<◌, Some};
+ghost use Rattle.std.specs.Prelude.{◌<◌, Some};
 ghost use Rattle.std.specs.Fmt.{DisplaysOnOk};
 ghost use Rattle.calendar_clock.specs.Digits.{two_digits, three_digits, nine_digits, without_zeros};
 

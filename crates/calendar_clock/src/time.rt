@@ -1,5 +1,5 @@
 //! Times of day.
-ghost use Rattle.std.specs.Prelude.{◌≡◌, ◌+◌, ◌*◌, ◌/◌, ◌%◌, ◌<◌, IfOk, Ok};
+ghost use Rattle.std.specs.Prelude.{◌≡◌, ◌+◌, ◌*◌, ◌/◌, ◌%◌, ◌<◌, IfOk};
 ghost use Rattle.calendar_clock.specs.Time.{second_nanos, day_nanos, hour_at, minute_at, second_at, nanosecond_at, time_of};
 
 use calendar_count::{ComponentName, ComponentRange};
@@ -30,9 +30,15 @@ impl Model for Time {
 
     ghost invariant = { λ t. (t.second_of_day < 86_400) × (t.nanosecond < second_nanos) };
 
-    ghost inverse = { λ n. record { second_of_day = n / second_nanos; nanosecond = n % second_nanos } };
+    ghost inverse = { λ n. record {
+      second_of_day = n / second_nanos;
+      nanosecond = n % second_nanos;
+    } };
 
-    ghost inverse_ok = { λ t h. Prim.rw (second_of_parts t.second_of_day t.nanosecond h.1, nanosecond_of_parts t.second_of_day t.nanosecond h.1) };
+    ghost inverse_ok = { λ t h. Prim.rw (
+      second_of_parts t.second_of_day t.nanosecond h.1,
+      nanosecond_of_parts t.second_of_day t.nanosecond h.1,
+    ) };
 }
 
 impl Time {

@@ -114,7 +114,8 @@ impl Time {
     #[inline(always)]
     pub fn adjusting_add(self, duration: SignedDuration) -> (DateAdjustment, Time)
         ensures sum { pos self +ℤ duration
-            ≡ (int_div duration (pos day_nanos) +ℤ carry result.0) *ℤ pos day_nanos +ℤ pos result.1 }
+            ≡ (int_div duration (pos day_nanos) +ℤ carry result.0) *ℤ pos day_nanos
+            +ℤ pos result.1 }
         ensures bound { result.1 < day_nanos }
         ensures forward { result.0 ≡ adjustment.Next → pos 0 <ℤ duration }
         ensures back { result.0 ≡ adjustment.Previous → duration <ℤ pos 0 }
@@ -128,7 +129,8 @@ impl Time {
     #[inline(always)]
     pub fn adjusting_sub(self, duration: SignedDuration) -> (DateAdjustment, Time)
         ensures sum { pos self -ℤ duration
-            ≡ (carry result.0 -ℤ int_div duration (pos day_nanos)) *ℤ pos day_nanos +ℤ pos result.1 }
+            ≡ (carry result.0 -ℤ int_div duration (pos day_nanos)) *ℤ pos day_nanos
+            +ℤ pos result.1 }
         ensures bound { result.1 < day_nanos }
         ensures forward { result.0 ≡ adjustment.Next → duration <ℤ pos 0 }
         ensures back { result.0 ≡ adjustment.Previous → pos 0 <ℤ duration }

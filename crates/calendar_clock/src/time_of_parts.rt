@@ -111,7 +111,8 @@ impl Time {
 
     /// The same time in another hour, refused from 24 on.
     pub fn replace_hour(self, hour: u8) -> Result<Time, ComponentRange>
-        ensures value { result ≡ time_of hour (minute_at self) (second_at self) (nanosecond_at self) }
+        ensures value { result
+            ≡ time_of hour (minute_at self) (second_at self) (nanosecond_at self) }
         ensures bound { IfOk result (λ t. t < day_nanos) }
     {
         Time::from_hms_nano(hour, self.minute(), self.second(), self.nanosecond())
@@ -119,7 +120,8 @@ impl Time {
 
     /// The same time in another minute of the hour, refused from 60 on.
     pub fn replace_minute(self, minute: u8) -> Result<Time, ComponentRange>
-        ensures value { result ≡ time_of (hour_at self) minute (second_at self) (nanosecond_at self) }
+        ensures value { result
+            ≡ time_of (hour_at self) minute (second_at self) (nanosecond_at self) }
         ensures bound { IfOk result (λ t. t < day_nanos) }
     {
         Time::from_hms_nano(self.hour(), minute, self.second(), self.nanosecond())
@@ -127,7 +129,8 @@ impl Time {
 
     /// The same time in another second of the minute, refused from 60 on.
     pub fn replace_second(self, second: u8) -> Result<Time, ComponentRange>
-        ensures value { result ≡ time_of (hour_at self) (minute_at self) second (nanosecond_at self) }
+        ensures value { result
+            ≡ time_of (hour_at self) (minute_at self) second (nanosecond_at self) }
         ensures bound { IfOk result (λ t. t < day_nanos) }
     {
         Time::from_hms_nano(self.hour(), self.minute(), second, self.nanosecond())
@@ -153,7 +156,8 @@ impl Time {
 
     /// The same second, and so many nanoseconds past it, refused from 1,000,000,000 on.
     pub fn replace_nanosecond(self, nanosecond: u32) -> Result<Time, ComponentRange>
-        ensures value { result ≡ time_of (hour_at self) (minute_at self) (second_at self) nanosecond }
+        ensures value { result
+            ≡ time_of (hour_at self) (minute_at self) (second_at self) nanosecond }
         ensures bound { IfOk result (λ t. t < day_nanos) }
     {
         Time::from_hms_nano(self.hour(), self.minute(), self.second(), nanosecond)

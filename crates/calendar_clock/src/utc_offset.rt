@@ -1,11 +1,11 @@
 //! Offsets from UTC.
-ghost use Rattle.std.specs.Prelude.{◌≡◌, ◌↔◌, ◌≤◌, ℤ, pos, neg_ℤ, ◌+ℤ◌, ◌*ℤ◌, ◌≤ℤ◌, ◌<ℤ◌, IfOk, IsTrue, int_div, int_rem, unsigned_abs};
+ghost use Rattle.std.specs.Prelude.{◌≡◌, ◌↔◌, ◌≤◌, ℤ, pos, neg_ℤ, ◌<ℤ◌, IfOk, IsTrue, int_div, int_rem, unsigned_abs};
 ghost use Rattle.std.proofs.Common.{rules};
 ghost use Rattle.std.specs.Cmp.{partial_order_from_own_ties};
 ghost use Rattle.std.specs.Cmp.Rules.{comparing, hashing};
 ghost use Rattle.std.specs.Ordering.{int_eq, int_cmp, as_partial_cmp};
 ghost use Rattle.std.specs.Hash as fed;
-ghost use Rattle.calendar_clock.specs.UtcOffset.{greatest_offset, IsOffset, with_sign_of, offset_seconds, offset_of, offset_of_seconds};
+ghost use Rattle.calendar_clock.specs.UtcOffset.{IsOffset, with_sign_of, offset_seconds, offset_of, offset_of_seconds};
 
 use calendar_count::{ComponentName, ComponentRange};
 use std::cmp::Ordering;

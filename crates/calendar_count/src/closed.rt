@@ -1,5 +1,5 @@
 //! Years, months and days by division.
-ghost use Rattle.std.specs.Prelude.{◌≡◌, ◌+◌, ◌-◌, ◌<◌, ◌≤◌, pos, ◌+ℤ◌, ◌↔◌, IsTrue};
+ghost use Rattle.std.specs.Prelude.{◌≡◌, ◌+◌, ◌<◌, ◌≤◌, pos, ◌+ℤ◌, ◌↔◌, IsTrue};
 ghost use Rattle.std.specs.Int.{IsInRange, int_rem_euclid};
 ghost use Rattle.calendar_count.specs.Range.{greatest_year, IsYear};
 ghost use Rattle.calendar_count.specs.Calendar.{days_in_year, days_in_month, day_at, weeks_in_year, thursdays_of, has_four_digits};

@@ -1,5 +1,5 @@
 //! Texts under a width: the options of a hole, as in `{:>12}`, for the text as a whole.
-ghost use Rattle.std.specs.Prelude.{◌≡◌, option_map};
+ghost use Rattle.std.specs.Prelude.{option_map};
 ghost use Rattle.std.specs.Fmt.{formatter_spec, styled_text, DisplaysOnOk, DisplaysStyledOnOk};
 
 use std::fmt::{self, InlineText, Write};

@@ -1,5 +1,5 @@
 //! Endless walks over days of the week.
-ghost use Rattle.std.specs.Prelude.{◌≡◌, ◌+◌, IsSomeAnd, Some, false};
+ghost use Rattle.std.specs.Prelude.{◌≡◌, ◌+◌, IsSomeAnd};
 ghost use Rattle.calendar_count.specs.Weekday.{days_from_monday, next_weekday};
 ghost use Rattle.calendar_count.specs.Steps.{steps};
 ghost use Rattle.calendar_count.specs.Walks.{YieldsWeekday, YieldsWeekdayBack};

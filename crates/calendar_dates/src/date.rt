@@ -1,5 +1,5 @@
 //! Dates.
-ghost use Rattle.std.specs.Prelude.{◌≡◌, ◌↔◌, ◌+◌, ◌-◌, ◌<◌, pos, ◌+ℤ◌, IsOk, IfOk, IfErr, IsSome, IfSome, OnErr, ℕ, if◌then◌else◌};
+ghost use Rattle.std.specs.Prelude.{◌≡◌, ◌↔◌, ◌+◌, ◌<◌, pos, ◌+ℤ◌, IsOk, IfOk, IfErr, IsSome, IfSome, OnErr, ℕ, if◌then◌else◌};
 ghost use Rattle.std.specs.Int.{IsInRange};
 ghost use Rattle.std.specs.Result.{result_ok};
 ghost use Rattle.calendar_count.specs.Range.{last_count, julian_zero, IsYear, IsCount};

@@ -43,9 +43,13 @@ impl Model for SignedDuration {
 
     ghost invariant = { λ d. IsParts d.seconds d.nanoseconds };
 
-    ghost inverse = { λ z. record { seconds = int_div z (pos second_nanos); nanoseconds = int_rem z (pos second_nanos) } };
+    ghost inverse = { λ z. record {
+      seconds = int_div z (pos second_nanos);
+      nanoseconds = int_rem z (pos second_nanos);
+    } };
 
-    ghost inverse_ok = { λ d h. Prim.rw (seconds_back d.seconds d.nanoseconds h, nanoseconds_back d.seconds d.nanoseconds h) };
+    ghost inverse_ok = { λ d h. Prim.rw
+        (seconds_back d.seconds d.nanoseconds h, nanoseconds_back d.seconds d.nanoseconds h) };
 }
 
 // The same length as parts that do not differ in sign.

@@ -31,7 +31,8 @@ fn write_seconds<W: fmt::Write>(f: &mut fmt::Formatter<W>, seconds: u64) -> fmt:
 // Nanoseconds of a second in milliseconds, microseconds and nanoseconds.
 #[tactic(auto, unfolding(crate::specs::DurationText::nanoseconds_text))]
 fn write_nanoseconds<W: fmt::Write>(f: &mut fmt::Formatter<W>, nanoseconds: u32) -> fmt::Result
-    ensures { DisplaysOnOk W.write_str_gives f.old result (Some (nanoseconds_text nanoseconds)) f.new }
+    ensures { DisplaysOnOk W.write_str_gives f.old result
+        (Some (nanoseconds_text nanoseconds)) f.new }
 {
     let nanoseconds = u64::from(nanoseconds);
     write_part(f, nanoseconds / 1_000_000, "ms")?;

@@ -1,5 +1,5 @@
 //! Laws that follow from the contracts, each the contract of a function here.
-ghost use Rattle.std.specs.Prelude.{◌≡◌, ◌↔◌, ◌∷◌, [], ℕ, ℤ, pos, ◌+ℤ◌, ◌-ℤ◌, ◌*ℤ◌, Some, IsTrue, IsSome, IfSome, IfOk, ◌<◌};
+ghost use Rattle.std.specs.Prelude.{◌≡◌, ◌↔◌, ◌∷◌, [], ℕ, ℤ, pos, ◌+ℤ◌, ◌*ℤ◌, Some, IsTrue, IsSome, IfSome, IfOk, ◌<◌};
 ghost use Rattle.std.specs.Ordering.{int_cmp};
 ghost use Rattle.calendar.specs.Duration.{milli_nanos};
 ghost use Rattle.datetime_wall.specs.Wall.{first_wall_clock, last_wall_clock, IsWallClock, instant, shown_at, cut_to, day_nanos};
@@ -228,7 +228,8 @@ pub fn replies_alike(
     timestamp: Timestamp,
     calls: &[MomentCall],
 ) -> Result<(Vec<MomentReply>, Vec<MomentReply>), AllocError>
-    ensures { IfOk result (λ both. (both.0.items ≡ replies timestamp calls.now) × (both.1.items ≡ replies timestamp calls.now)) }
+    ensures { IfOk result (λ both. (both.0.items ≡ replies timestamp calls.now)
+        × (both.1.items ≡ replies timestamp calls.now)) }
 {
     let (_, replies) = run_calls(alloc, timestamp, calls)?;
     let (_, others) = run_calls(alloc, timestamp.to_utc(), calls)?;

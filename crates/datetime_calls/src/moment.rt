@@ -27,7 +27,8 @@ pub trait Moment: Copy {
 
     /// The year, the month and the day of the month.
     fn to_calendar_date(self) -> (i32, Month, u8)
-        ensures value { day_at (day_of (instant self)) ≡ ymd result.0 (month_number result.1) result.2 }
+        ensures value { day_at (day_of (instant self))
+            ≡ ymd result.0 (month_number result.1) result.2 }
         ensures valid { IsDay result.0 (month_number result.1) result.2 };
 
     /// The year and the place in it, from 1.
@@ -38,7 +39,8 @@ pub trait Moment: Copy {
 
     /// The year and the week of ISO 8601, and the day of the week. The year is that of the week's Thursday.
     fn to_iso_week_date(self) -> (i32, u8, Weekday)
-        ensures value { IsIsoDay result.0 result.1 (days_from_monday result.2) (day_of (instant self)) }
+        ensures value { IsIsoDay result.0 result.1 (days_from_monday result.2)
+            (day_of (instant self)) }
         ensures year { IsYear result.0 }
         ensures week { IsInRange 1 53 result.1 };
 
@@ -52,7 +54,8 @@ pub trait Moment: Copy {
         ensures minute { result.1 ≡ minute_at (nanosecond_of (instant self)) }
         ensures second { result.2 ≡ second_at (nanosecond_of (instant self)) }
         ensures nanosecond { result.3 ≡ nanosecond_at (nanosecond_of (instant self)) }
-        ensures bound { (result.0 < 24) × (result.1 < 60) × (result.2 < 60) × (result.3 < 1_000_000_000) };
+        ensures bound { (result.0 < 24) × (result.1 < 60) × (result.2 < 60)
+            × (result.3 < 1_000_000_000) };
 
     /// The moment so much later, or `None` where the calendar does not have the day.
     fn checked_add(self, duration: SignedDuration) -> Option<Self>

@@ -1,8 +1,8 @@
 //! The calendar of a count of days from the first one, -999999-01-01, on.
-ghost use Rattle.std.specs.Prelude.{◌≡◌, ◌+◌, ◌-◌, ◌%◌, ◌<◌, ◌≤◌};
+ghost use Rattle.std.specs.Prelude.{◌≡◌, ◌+◌, ◌<◌, ◌≤◌};
 ghost use Rattle.std.specs.Int.{IsInRange};
-ghost use Rattle.calendar_count.specs.Range.{greatest_year, last_count, IsCount, IsYear};
-ghost use Rattle.calendar_count.specs.Calendar.{day_at, ordinal_at, weekday_at, iso_year_at, iso_week_at, sunday_week_at, monday_week_at, thursday_of, ymd, IsDay};
+ghost use Rattle.calendar_count.specs.Range.{last_count, IsCount, IsYear};
+ghost use Rattle.calendar_count.specs.Calendar.{day_at, ordinal_at, weekday_at, iso_year_at, iso_week_at, sunday_week_at, monday_week_at, ymd, IsDay};
 ghost use Rattle.calendar_count.specs.Closed.{days_before_year};
 
 use crate::quotients;

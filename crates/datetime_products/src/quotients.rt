@@ -1,5 +1,5 @@
 //! Quotients by constants: each is a product and a shift, exact below the bound that is required.
-ghost use Rattle.std.specs.Prelude.{◌≡◌, ◌+◌, ◌-◌, ◌*◌, ◌/◌, ◌%◌, ◌<◌, ◌^◌};
+ghost use Rattle.std.specs.Prelude.{◌≡◌, ◌+◌, ◌*◌, ◌/◌, ◌%◌, ◌<◌, ◌^◌};
 ghost use Rattle.calendar_count.specs.March.{march_days};
 ghost use Rattle.std.specs.Int.{IsInRange};
 

@@ -1,5 +1,5 @@
 //! The days and the clock of seconds of Unix time.
-ghost use Rattle.std.specs.Prelude.{◌≡◌, ◌*◌, ◌/◌, ◌%◌, ◌<◌, pos, ◌+ℤ◌};
+ghost use Rattle.std.specs.Prelude.{◌≡◌, ◌/◌, ◌%◌, ◌<◌, pos, ◌+ℤ◌};
 ghost use Rattle.std.specs.Int.{int_div_euclid, int_rem_euclid};
 ghost use Rattle.calendar_count.specs.Range.{IsCount, unix_epoch};
 ghost use Rattle.datetime_products.specs.Seconds.{day_seconds, IsUnixSecond};

@@ -45,7 +45,8 @@ impl Model for PlainDateTime {
 
     ghost inverse = { λ w. record { date = day_of w; time = nanosecond_of w } };
 
-    ghost inverse_ok = { λ s h. Prim.rw (day_of-wall_clock s.date s.time h.1, nanosecond_of-wall_clock s.date s.time h.1) };
+    ghost inverse_ok = { λ s h. Prim.rw
+        (day_of-wall_clock s.date s.time h.1, nanosecond_of-wall_clock s.date s.time h.1) };
 }
 
 impl PlainDateTime {

@@ -1,5 +1,5 @@
 //! Instants by the seconds since 1970.
-ghost use Rattle.std.specs.Prelude.{◌≡◌, ◌<◌, ◌≤◌, unsigned_abs, ◌↔◌, ◌*◌, ◌+◌, ◌/◌, IsOk, IfOk, IfErr, IsSome, IfSome, Some, if◌then◌else◌, ℤ, pos, ◌+ℤ◌, ◌*ℤ◌};
+ghost use Rattle.std.specs.Prelude.{◌≡◌, ◌<◌, ◌≤◌, unsigned_abs, ◌↔◌, ◌/◌, IsOk, IfOk, IfErr, IsSome, IfSome, Some, if◌then◌else◌, ℤ, pos, ◌+ℤ◌, ◌*ℤ◌};
 ghost use Rattle.std.specs.Int.{int_div_euclid};
 ghost use Rattle.std.proofs.Common.{rules};
 ghost use Rattle.std.specs.Cmp.{partial_order_from_own_ties};
@@ -59,9 +59,13 @@ impl Model for Timestamp {
 
     ghost invariant = { λ s. IsUnixSecond s.seconds × (s.nanoseconds < second_nanos) };
 
-    ghost inverse = { λ i. record { seconds = int_div_euclid i (pos second_nanos); nanoseconds = unsigned_abs (int_rem_euclid i (pos second_nanos)) } };
+    ghost inverse = { λ i. record {
+      seconds = int_div_euclid i (pos second_nanos);
+      nanoseconds = unsigned_abs (int_rem_euclid i (pos second_nanos));
+    } };
 
-    ghost inverse_ok = { λ s h. Prim.rw (seconds_back s.seconds s.nanoseconds h.1, nanosecond_back s.seconds s.nanoseconds h.1) };
+    ghost inverse_ok = { λ s h. Prim.rw
+        (seconds_back s.seconds s.nanoseconds h.1, nanosecond_back s.seconds s.nanoseconds h.1) };
 }
 
 impl Timestamp {

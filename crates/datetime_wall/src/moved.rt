@@ -1,5 +1,5 @@
 //! Wall clocks moved by durations.
-ghost use Rattle.std.specs.Prelude.{◌≡◌, ◌↔◌, ◌≤◌, ◌<◌, ◌^◌, ℤ, pos, ◌+ℤ◌, ◌-ℤ◌, ◌≤ℤ◌, IsSome, IfSome, unsigned_abs};
+ghost use Rattle.std.specs.Prelude.{◌≡◌, ◌↔◌, ◌≤◌, ◌<◌, ◌^◌, pos, ◌+ℤ◌, ◌-ℤ◌, ◌≤ℤ◌, IsSome, IfSome, unsigned_abs};
 ghost use Rattle.calendar.specs.Range.{last_count, IsCount};
 ghost use Rattle.calendar.specs.DateAdjustment.{carry};
 ghost use Rattle.datetime_wall.specs.Wall.{day_nanos, wall_clock, IsWallClock};

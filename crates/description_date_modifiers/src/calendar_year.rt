@@ -1,5 +1,5 @@
 //! Years of the calendar.
-ghost use Rattle.std.specs.Prelude.{◌≡◌, true, false};
+ghost use Rattle.std.specs.Prelude.{◌≡◌, false};
 ghost use Rattle.description_date_modifiers.specs.declared.choices.Padding.TheVariants as Padding;
 
 use crate::choices::Padding;

@@ -1,5 +1,5 @@
 //! Months.
-ghost use Rattle.std.specs.Prelude.{◌≡◌, true, false};
+ghost use Rattle.std.specs.Prelude.{◌≡◌, true};
 ghost use Rattle.description_date_modifiers.specs.declared.choices.MonthRepr.TheVariants as MonthRepr;
 ghost use Rattle.description_date_modifiers.specs.declared.choices.Padding.TheVariants as Padding;
 
@@ -96,7 +96,8 @@ pub struct Month {
 }
 
 impl Default for Month {
-    ghost is_default = { λ x. x ≡ record { padding = Padding.Zero; repr = MonthRepr.Numerical; case_sensitive = true } };
+    ghost is_default = { λ x. x
+        ≡ record { padding = Padding.Zero; repr = MonthRepr.Numerical; case_sensitive = true } };
 
     fn default() -> Month {
         Month {

@@ -1,5 +1,5 @@
 //! Weekdays.
-ghost use Rattle.std.specs.Prelude.{◌≡◌, true, false};
+ghost use Rattle.std.specs.Prelude.{◌≡◌, true};
 ghost use Rattle.description_date_modifiers.specs.declared.choices.WeekdayRepr.TheVariants as WeekdayRepr;
 
 use crate::choices::WeekdayRepr;
@@ -117,7 +117,8 @@ pub struct Weekday {
 }
 
 impl Default for Weekday {
-    ghost is_default = { λ x. x ≡ record { repr = WeekdayRepr.Long; one_indexed = true; case_sensitive = true } };
+    ghost is_default = { λ x. x
+        ≡ record { repr = WeekdayRepr.Long; one_indexed = true; case_sensitive = true } };
 
     fn default() -> Weekday {
         Weekday {

@@ -1,5 +1,5 @@
 //! Years of any kind.
-ghost use Rattle.std.specs.Prelude.{◌≡◌, true, false};
+ghost use Rattle.std.specs.Prelude.{◌≡◌, false};
 ghost use Rattle.description_date_modifiers.specs.declared.choices.Padding.TheVariants as Padding;
 ghost use Rattle.description_date_modifiers.specs.declared.choices.YearRange.TheVariants as YearRange;
 ghost use Rattle.description_date_modifiers.specs.declared.choices.YearRepr.TheVariants as YearRepr;
@@ -23,7 +23,14 @@ pub struct Year {
 }
 
 impl Default for Year {
-    ghost is_default = { λ x. x ≡ record { padding = Padding.Zero; repr = YearRepr.Full; range = YearRange.Extended; iso_week_based = false; sign_is_mandatory = false } };
+    ghost is_default = { λ x. x
+        ≡ record {
+          padding = Padding.Zero;
+          repr = YearRepr.Full;
+          range = YearRange.Extended;
+          iso_week_based = false;
+          sign_is_mandatory = false;
+        } };
 
     fn default() -> Year {
         Year {

@@ -109,7 +109,8 @@ fn write_pair<W: fmt::Write>(
     index: usize,
 ) -> fmt::Result
     ensures { DisplaysOnOk W.write_str_gives f.old result
-        (Some (one.now ++ (between.now ++ (other.now ++ (codes " at byte index " ++ decimal index))))) f.new }
+        (Some (one.now
+        ++ (between.now ++ (other.now ++ (codes " at byte index " ++ decimal index))))) f.new }
 {
     f.write_str(one)?;
     write_after(f, between, other, index)

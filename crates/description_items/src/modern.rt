@@ -93,7 +93,8 @@ fn modern_week_number(week: modifier::WeekNumber) -> Component
 
 // A year of the calendar.
 fn calendar_year(year: modifier::Year) -> Component
-    ensures { result ≡ modern_calendar_year year.repr year.range year.padding year.sign_is_mandatory }
+    ensures { result
+        ≡ modern_calendar_year year.repr year.range year.padding year.sign_is_mandatory }
 {
     let modifier::Year {
         padding,

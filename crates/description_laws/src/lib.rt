@@ -36,13 +36,16 @@ pub fn same_trees()
 /// A description behind another one is a description. It has the items of both, save that a literal
 /// that ends the first and one that begins the second are one literal.
 pub fn joined()
-    ensures { (version : DescriptionVersion) (s t : List ℕ) (ss ts : List Tree) → Spells version s ss → Spells version t ts → Joins version s t ss ts }
+    ensures { (version : DescriptionVersion) (s t : List ℕ) (ss ts : List Tree)
+        → Spells version s ss → Spells version t ts → Joins version s t ss ts }
 {}
 
 /// A text with a fault behind one that spells items has that fault, as many bytes further on as the
 /// first text is long.
 pub fn faults_behind()
-    ensures { (version : DescriptionVersion) (s t : List ℕ) (items : List Tree) (fault : Fault) → Spells version s items → Faulty version t fault → Faulty version (s ++ t) (further (length s) fault) }
+    ensures { (version : DescriptionVersion) (s t : List ℕ) (items : List Tree) (fault : Fault)
+        → Spells version s items → Faulty version t fault → Faulty version (s ++ t)
+        (further (length s) fault) }
 {}
 
 /// What a tree reserves is the bytes of its longest layout. A tree of version 3 reserves no more bytes
@@ -50,25 +53,33 @@ pub fn faults_behind()
 /// node more than its text has bytes.
 pub fn reserved()
     ensures longest { (tree : Tree) → IsLongest tree (reserved tree) }
-    ensures bytes { (text : List ℕ) (tree : Tree) → SpellsTree Three text tree → reserved tree ≤ length text }
-    ensures nodes { (version : DescriptionVersion) (text : List ℕ) (tree : Tree) → SpellsTree version text tree → nodes tree ≤ length text + 1 }
+    ensures bytes { (text : List ℕ) (tree : Tree)
+        → SpellsTree Three text tree → reserved tree ≤ length text }
+    ensures nodes { (version : DescriptionVersion) (text : List ℕ) (tree : Tree)
+        → SpellsTree version text tree → nodes tree ≤ length text + 1 }
 {}
 
 /// A text of version 3 without optional items and alternatives is one of version 2, with the same
 /// items: only full and century years that lack their range are of the standard range in version 3,
 /// and of the extended one in version 2.
 pub fn two_versions()
-    ensures items { (text : List ℕ) (ts : List Tree) → Spells Three text ts → IsFlat ts → InTwo text ts }
+    ensures items { (text : List ℕ) (ts : List Tree)
+        → Spells Three text ts → IsFlat ts → InTwo text ts }
     // Where no such year lacks its range, the items are the same.
-    ensures same { (text : List ℕ) (ts : List Tree) → SpellsRanged text ts → Spells Three text ts × Spells Two text ts }
+    ensures same { (text : List ℕ) (ts : List Tree) → SpellsRanged text ts → Spells Three text ts
+        × Spells Two text ts }
 {}
 
 /// In versions 1 and 2 the case of ASCII letters in a component says nothing, be it in its name, in a
 /// key or in a value: a text spells the same items with another case there.
 pub fn letter_case()
-    ensures component { (version : DescriptionVersion) (own other : List ℕ) (c : Component) → is_three version ≡ false → str_eq_ignore_ascii_case own other ≡ true → SpellsComponent version own c → SpellsComponent version other c }
-    ensures text { (version : DescriptionVersion) (front own other back : List ℕ) (before behind : List Tree) (c : Component)
+    ensures component { (version : DescriptionVersion)
+        (own other : List ℕ) (c : Component) → is_three version ≡ false → str_eq_ignore_ascii_case
+        own other ≡ true → SpellsComponent version own c → SpellsComponent version other c }
+    ensures text { (version : DescriptionVersion) (front own other back : List ℕ)
+        (before behind : List Tree) (c : Component)
         → is_three version ≡ false → str_eq_ignore_ascii_case own other ≡ true
         → Spells version front before → SpellsComponent version own c → Spells version back behind
-        → Spells version (front ++ (own ++ back)) (before ++ Part c ∷ behind) × Spells version (front ++ (other ++ back)) (before ++ Part c ∷ behind) }
+        → Spells version (front ++ (own ++ back)) (before ++ Part c ∷ behind)
+        × Spells version (front ++ (other ++ back)) (before ++ Part c ∷ behind) }
 {}

@@ -21,7 +21,8 @@ pub fn component_from<'a>(
     name: Rest<'a>,
     here: Rest<'a>,
 ) -> Result<(Component, Rest<'a>), DescriptionFault<'a>>
-    ensures value { Gives (λ x. (x.0, rest_of x.1)) result (component_from version bracket (rest_of name.entry) (rest_of here.entry)) }
+    ensures value { Gives (λ x. (x.0, rest_of x.1)) result
+        (component_from version bracket (rest_of name.entry) (rest_of here.entry)) }
     ensures modern { IfOk result (λ x. modern x.0 ≡ x.0) }
 {
     let (modifiers, rest) = modifiers_of(alloc, here)?;

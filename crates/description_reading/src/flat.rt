@@ -46,7 +46,8 @@ fn element<'a>(
 ) -> Result<(BorrowedFormatItem<'a>, Rest<'a>), DescriptionFault<'a>>
     requires version { is_three version ≡ false }
     requires some { 0 < length here.text.now }
-    ensures value { Gives (λ x. (tree_of x.0, rest_of x.1)) result (element_at version (nested_at version 127) (rest_of here.entry)) }
+    ensures value { Gives (λ x. (tree_of x.0, rest_of x.1)) result
+        (element_at version (nested_at version 127) (rest_of here.entry)) }
     ensures form { IfOk result (λ x. is_of_text x.0 ≡ true) }
 {
     if let Some((front, rest)) = doubled(version, here) {
@@ -67,7 +68,8 @@ fn bracketed<'a>(
 ) -> Result<(BorrowedFormatItem<'a>, Rest<'a>), DescriptionFault<'a>>
     requires version { is_three version ≡ false }
     requires boundary { IsCharBoundary here.text.now 1 }
-    ensures value { Gives (λ x. (tree_of x.0, rest_of x.1)) result (bracket_at version (nested_at version 127) (rest_of here.entry)) }
+    ensures value { Gives (λ x. (tree_of x.0, rest_of x.1)) result
+        (bracket_at version (nested_at version 127) (rest_of here.entry)) }
     ensures form { IfOk result (λ x. is_of_text x.0 ≡ true) }
 {
     let (_, inside) = cut(here, 1);

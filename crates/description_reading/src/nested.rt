@@ -1,6 +1,6 @@
 //! Descriptions inside one another.
 
-ghost use Rattle.std.specs.Prelude.{suc, ◌≡◌, ◌<◌, true, IfOk, length, codes};
+ghost use Rattle.std.specs.Prelude.{suc, ◌≡◌, ◌<◌, true, IfOk, length};
 ghost use Rattle.std.specs.Str.{IsCharBoundary};
 ghost use Rattle.description_faults.specs.Answer.{Answers, Gives};
 ghost use Rattle.description_faults.specs.Fault.{fault_of};
@@ -84,7 +84,9 @@ fn items<'a>(
     inner: bool,
     here: Rest<'a>,
 ) -> Result<(Vec<FormatDescriptionV3Inner<'a>>, Rest<'a>), DescriptionFault<'a>>
-    ensures value { Gives (λ x. (inner_trees x.0.items, rest_of x.1)) result (many (is_end inner) (element_at version (nested_at version levels)) (suc (length here.entry.text.now)) (rest_of here.entry)) }
+    ensures value { Gives (λ x. (inner_trees x.0.items, rest_of x.1)) result
+        (many (is_end inner) (element_at version (nested_at version levels))
+        (suc (length here.entry.text.now)) (rest_of here.entry)) }
     ensures form { IfOk result (λ x. are_read x.0.items ≡ true) }
 {
     let mut all = Vec::new(alloc);
@@ -106,7 +108,8 @@ fn element<'a>(
     here: Rest<'a>,
 ) -> Result<(FormatDescriptionV3Inner<'a>, Rest<'a>), DescriptionFault<'a>>
     requires { 0 < length here.text.now }
-    ensures value { Gives (λ x. (inner_tree x.0, rest_of x.1)) result (element_at version (nested_at version levels) (rest_of here.entry)) }
+    ensures value { Gives (λ x. (inner_tree x.0, rest_of x.1)) result
+        (element_at version (nested_at version levels) (rest_of here.entry)) }
     ensures form { IfOk result (λ x. is_read x.0 ≡ true) }
 {
     if let Some((front, rest)) = doubled(version, here) {
@@ -128,7 +131,8 @@ fn bracketed<'a>(
     here: Rest<'a>,
 ) -> Result<(FormatDescriptionV3Inner<'a>, Rest<'a>), DescriptionFault<'a>>
     requires { IsCharBoundary here.text.now 1 }
-    ensures value { Gives (λ x. (inner_tree x.0, rest_of x.1)) result (bracket_at version (nested_at version levels) (rest_of here.entry)) }
+    ensures value { Gives (λ x. (inner_tree x.0, rest_of x.1)) result
+        (bracket_at version (nested_at version levels) (rest_of here.entry)) }
     ensures form { IfOk result (λ x. is_read x.0 ≡ true) }
 {
     let (_, inside) = cut(here, 1);
@@ -153,7 +157,8 @@ pub fn optional<'a>(
     bracket: usize,
     here: Rest<'a>,
 ) -> Result<(FormatDescriptionV3Inner<'a>, Rest<'a>), DescriptionFault<'a>>
-    ensures value { Gives (λ x. (inner_tree x.0, rest_of x.1)) result (optional_at version (nested_at version levels) bracket (rest_of here.entry)) }
+    ensures value { Gives (λ x. (inner_tree x.0, rest_of x.1)) result
+        (optional_at version (nested_at version levels) bracket (rest_of here.entry)) }
     ensures form { IfOk result (λ x. is_read x.0 ≡ true) }
 {
     let start = opened("whitespace after `optional`", here)?;
@@ -179,7 +184,8 @@ pub fn first<'a>(
     bracket: usize,
     here: Rest<'a>,
 ) -> Result<(FormatDescriptionV3Inner<'a>, Rest<'a>), DescriptionFault<'a>>
-    ensures value { Gives (λ x. (inner_tree x.0, rest_of x.1)) result (first_at version (nested_at version levels) bracket (rest_of here.entry)) }
+    ensures value { Gives (λ x. (inner_tree x.0, rest_of x.1)) result
+        (first_at version (nested_at version levels) bracket (rest_of here.entry)) }
     ensures form { IfOk result (λ x. is_read x.0 ≡ true) }
 {
     let start = opened("whitespace after `first`", here)?;
@@ -198,7 +204,9 @@ fn alternatives<'a>(
     levels: u8,
     here: Rest<'a>,
 ) -> Result<(Vec<FormatDescriptionV3Inner<'a>>, Rest<'a>), DescriptionFault<'a>>
-    ensures value { Gives (λ x. (inner_trees x.0.items, rest_of x.1)) result (many no_bracket (nested_at version levels) (suc (length here.entry.text.now)) (rest_of here.entry)) }
+    ensures value { Gives (λ x. (inner_trees x.0.items, rest_of x.1)) result
+        (many no_bracket (nested_at version levels) (suc (length here.entry.text.now))
+        (rest_of here.entry)) }
     ensures form { IfOk result (λ x. are_read x.0.items ≡ true) }
 {
     let mut all = Vec::new(alloc);
@@ -221,7 +229,8 @@ fn nested<'a>(
     here: Rest<'a>,
 ) -> Result<(FormatDescriptionV3Inner<'a>, Rest<'a>), DescriptionFault<'a>>
     requires { IsCharBoundary here.text.now 1 }
-    ensures value { Gives (λ x. (inner_tree x.0, rest_of x.1)) result (nested_at version levels (rest_of here.entry)) }
+    ensures value { Gives (λ x. (inner_tree x.0, rest_of x.1)) result
+        (nested_at version levels (rest_of here.entry)) }
     ensures form { IfOk result (λ x. is_read x.0 ≡ true) }
 {
     if levels == 0 {

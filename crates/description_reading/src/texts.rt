@@ -12,7 +12,8 @@ use description_words::{DescriptionVersion, Rest, begins, cut, escape, literal};
 /// The bracket that version 1 spells by two, and what follows them.
 #[tactic(auto, unfolding(crate::specs::Reading::doubled_at))]
 pub fn doubled<'a>(version: DescriptionVersion, here: Rest<'a>) -> Option<(&'a str, Rest<'a>)>
-    ensures { option_map (λ x. (x.0.now, rest_of x.1)) result ≡ doubled_at version (rest_of here.entry) }
+    ensures { option_map (λ x. (x.0.now, rest_of x.1)) result
+        ≡ doubled_at version (rest_of here.entry) }
 {
     if !version.is_one() || !begins(here.text, b'[') {
         return None;

@@ -75,7 +75,8 @@ fn letter<'a>(
     flag: Option<Padding>,
     here: Rest<'a>,
 ) -> Result<(Spelled<'a>, Rest<'a>), InvalidFormatDescription<'a>>
-    ensures value { Answers (λ x. (items_spelled x.0, rest_of x.1)) result (letter_at start flag (rest_of here.entry)) }
+    ensures value { Answers (λ x. (items_spelled x.0, rest_of x.1)) result
+        (letter_at start flag (rest_of here.entry)) }
     ensures form { IfOk result (λ x. is_of_text_part x.0 ≡ true) }
 {
     let [first, ..] = here.text.as_bytes() else {
@@ -109,7 +110,8 @@ fn conversion<'a>(
     start: usize,
     here: Rest<'a>,
 ) -> Result<(Spelled<'a>, Rest<'a>), InvalidFormatDescription<'a>>
-    ensures value { Answers (λ x. (items_spelled x.0, rest_of x.1)) result (conversion_at start (rest_of here.entry)) }
+    ensures value { Answers (λ x. (items_spelled x.0, rest_of x.1)) result
+        (conversion_at start (rest_of here.entry)) }
     ensures form { IfOk result (λ x. is_of_text_part x.0 ≡ true) }
 {
     let (flag, rest) = flag(here);
@@ -119,7 +121,8 @@ fn conversion<'a>(
 /// The part of a text at its front, a conversion or a literal, and what follows it.
 #[tactic(auto, unfolding(crate::specs::Reading::strftime_step))]
 pub fn part<'a>(here: Rest<'a>) -> Result<(Spelled<'a>, Rest<'a>), InvalidFormatDescription<'a>>
-    ensures value { Answers (λ x. (items_spelled x.0, rest_of x.1)) result (strftime_step (rest_of here.entry)) }
+    ensures value { Answers (λ x. (items_spelled x.0, rest_of x.1)) result
+        (strftime_step (rest_of here.entry)) }
     ensures form { IfOk result (λ x. is_of_text_part x.0 ≡ true) }
 {
     if begins(here.text, b'%') {

@@ -41,8 +41,10 @@ fn push_composite(
     all: &mut Vec<BorrowedFormatItem<'_>>,
     letters: &'static str,
 ) -> Result<(), AllocError>
-    ensures items { IfOk result (λ _. trees all.new.items ≡ trees all.old.items ++ map part_of letters.now) }
-    ensures form { IfOk result (λ _. are_of_text all.old.items ≡ true → are_of_text all.new.items ≡ true) }
+    ensures items { IfOk result
+        (λ _. trees all.new.items ≡ trees all.old.items ++ map part_of letters.now) }
+    ensures form { IfOk result (λ _. are_of_text all.old.items ≡ true
+        → are_of_text all.new.items ≡ true) }
 {
     for byte in letters.as_bytes() {
         all.push(part_of(*byte))?;
@@ -53,7 +55,8 @@ fn push_composite(
 // The hours and the minutes of an offset, behind the others.
 fn push_offset(all: &mut Vec<BorrowedFormatItem<'_>>) -> Result<(), AllocError>
     ensures items { IfOk result (λ _. trees all.new.items ≡ trees all.old.items ++ offset) }
-    ensures form { IfOk result (λ _. are_of_text all.old.items ≡ true → are_of_text all.new.items ≡ true) }
+    ensures form { IfOk result (λ _. are_of_text all.old.items ≡ true
+        → are_of_text all.new.items ≡ true) }
 {
     let padding = Padding::Zero;
     let hour = OffsetHour {
@@ -71,8 +74,10 @@ pub fn push_part<'a>(
     all: &mut Vec<BorrowedFormatItem<'a>>,
     part: Spelled<'a>,
 ) -> Result<(), AllocError>
-    ensures items { IfOk result (λ _. trees all.new.items ≡ trees all.old.items ++ items_spelled part.entry) }
-    ensures form { IfOk result (λ _. are_of_text all.old.items ≡ true → is_of_text_part part.entry ≡ true → are_of_text all.new.items ≡ true) }
+    ensures items { IfOk result
+        (λ _. trees all.new.items ≡ trees all.old.items ++ items_spelled part.entry) }
+    ensures form { IfOk result (λ _. are_of_text all.old.items ≡ true
+        → is_of_text_part part.entry ≡ true → are_of_text all.new.items ≡ true) }
 {
     match part {
         Spelled::Item(item) => {

@@ -12,13 +12,15 @@ ghost use Rattle.description_strftime.specs.Spelled.{SpellsStrftime};
 /// Of two texts that spell items, the one followed by the other spells the items of both. Where a literal ends
 /// the first text and one begins the second, these two are one literal there.
 pub fn joined()
-    ensures holds { (s t : List ℕ) (a b : List Tree) → SpellsStrftime s a → SpellsStrftime t b → Joins s t a b }
+    ensures holds { (s t : List ℕ) (a b : List Tree) → SpellsStrftime s a → SpellsStrftime t b
+        → Joins s t a b }
 {}
 
 /// A text that spells items, followed by one that has a fault, has that fault, as many bytes further on as the
 /// first text is long.
 pub fn faults_behind()
-    ensures holds { (s t : List ℕ) (items : List Tree) (fault : Fault) → SpellsStrftime s items → FaultyStrftime t fault → FaultyStrftime (s ++ t) (further (length s) fault) }
+    ensures holds { (s t : List ℕ) (items : List Tree) (fault : Fault) → SpellsStrftime s items
+        → FaultyStrftime t fault → FaultyStrftime (s ++ t) (further (length s) fault) }
 {}
 
 /// A composite letter stands for what its expansion spells.

@@ -55,8 +55,10 @@ pub fn parse_strftime_borrowed<'a>(
     // Literals are text, not bytes.
     ensures form { IfOk result (λ items. are_of_text items.items ≡ true) }
     // What is spelled is answered, unless memory runs out.
-    ensures items { (items : List Tree) → SpellsStrftime text.now items → Gives (λ v. trees v.items) result (Ok items) }
-    ensures fault { (fault : Fault) → FaultyStrftime text.now fault → Gives (λ v. trees v.items) result (Err fault) }
+    ensures items { (items : List Tree) → SpellsStrftime text.now items
+        → Gives (λ v. trees v.items) result (Ok items) }
+    ensures fault { (fault : Fault) → FaultyStrftime text.now fault
+        → Gives (λ v. trees v.items) result (Err fault) }
 {
     items_of_strftime(alloc, text)
 }

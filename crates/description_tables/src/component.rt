@@ -1,6 +1,6 @@
 //! Components, from their names and modifiers.
 
-ghost use Rattle.std.specs.Prelude.{◌≡◌, Result, IfOk};
+ghost use Rattle.std.specs.Prelude.{◌≡◌, IfOk};
 ghost use Rattle.description_faults.specs.Answer.{Answers};
 ghost use Rattle.description_items.specs.Modern.{modern};
 ghost use Rattle.description_words.specs.Views.{rest_of, modifier, modifiers};
@@ -119,7 +119,8 @@ pub fn component_of<'a>(
     word: Rest<'a>,
     all: &[Modifier<'a>],
 ) -> Result<Component, InvalidFormatDescription<'a>>
-    ensures value { Answers (λ c. c) result (component_of version (rest_of word.entry) (modifiers all.now)) }
+    ensures value { Answers (λ c. c) result
+        (component_of version (rest_of word.entry) (modifiers all.now)) }
     // The older forms have no name of their own.
     ensures modern { IfOk result (λ component. modern component ≡ component) }
 {

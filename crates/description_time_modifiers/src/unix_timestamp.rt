@@ -1,5 +1,5 @@
 //! Times since 1970 began in UTC.
-ghost use Rattle.std.specs.Prelude.{◌≡◌, true, false};
+ghost use Rattle.std.specs.Prelude.{◌≡◌, false};
 ghost use Rattle.description_time_modifiers.specs.declared.choices.UnixTimestampPrecision.TheVariants as UnixTimestampPrecision;
 
 use crate::choices::UnixTimestampPrecision;
@@ -122,7 +122,8 @@ pub struct UnixTimestamp {
 }
 
 impl Default for UnixTimestamp {
-    ghost is_default = { λ x. x ≡ record { precision = UnixTimestampPrecision.Second; sign_is_mandatory = false } };
+    ghost is_default = { λ x. x
+        ≡ record { precision = UnixTimestampPrecision.Second; sign_is_mandatory = false } };
 
     fn default() -> UnixTimestamp {
         UnixTimestamp {

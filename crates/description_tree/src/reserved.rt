@@ -36,7 +36,8 @@ pub(crate) fn reserved(node: &Inner<'_>) -> Option<usize>
 // What nodes reserve that follow one another.
 #[cycle(bytes)]
 fn reserved_in_turn(nodes: &[Inner<'_>]) -> Option<usize>
-    ensures some { IfSome result (λ bytes. reserved_in_turn (listed (inner_trees nodes.now)) ≡ bytes) }
+    ensures some { IfSome result
+        (λ bytes. reserved_in_turn (listed (inner_trees nodes.now)) ≡ bytes) }
     ensures none { IsNone result → 2 ^ 64 ≤ reserved_in_turn (listed (inner_trees nodes.now)) }
 {
     let mut total = 0usize;
@@ -49,7 +50,8 @@ fn reserved_in_turn(nodes: &[Inner<'_>]) -> Option<usize>
 // What nodes reserve of which one is taken.
 #[cycle(bytes)]
 fn greatest_reserved(nodes: &[Inner<'_>]) -> Option<usize>
-    ensures some { IfSome result (λ bytes. greatest_reserved (listed (inner_trees nodes.now)) ≡ bytes) }
+    ensures some { IfSome result
+        (λ bytes. greatest_reserved (listed (inner_trees nodes.now)) ≡ bytes) }
     ensures none { IsNone result → 2 ^ 64 ≤ greatest_reserved (listed (inner_trees nodes.now)) }
 {
     let mut greatest = 0usize;

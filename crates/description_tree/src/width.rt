@@ -1,6 +1,6 @@
 //! The bytes that a component may take.
 
-ghost use Rattle.std.specs.Prelude.{◌≡◌, ◌≤◌};
+ghost use Rattle.std.specs.Prelude.{◌≡◌};
 ghost use Rattle.description_tree.specs.Reserved.{digits_width, width_of};
 
 use description_items::Component;

@@ -1,6 +1,6 @@
 //! Literals.
 
-ghost use Rattle.std.specs.Prelude.{◌≡◌, ◌+◌, ◌<◌, take, length};
+ghost use Rattle.std.specs.Prelude.{◌≡◌, ◌<◌, take, length};
 ghost use Rattle.std.specs.Str.{IsCharBoundary};
 ghost use Rattle.description_faults.specs.Answer.{Answers};
 ghost use Rattle.description_words.specs.Text.{after};
@@ -33,8 +33,10 @@ fn literal_len(version: DescriptionVersion, text: &str) -> usize
 /// The literal that a text begins with, whatever its first byte is, and what follows it.
 pub fn literal<'a>(version: DescriptionVersion, here: Rest<'a>) -> (&'a str, Rest<'a>)
     requires { 0 < length here.text.now }
-    ensures bytes { result.0.now ≡ take (literal_len version here.entry.text.now) here.entry.text.now }
-    ensures rest { rest_of result.1 ≡ after (literal_len version here.entry.text.now) (rest_of here.entry) }
+    ensures bytes { result.0.now
+        ≡ take (literal_len version here.entry.text.now) here.entry.text.now }
+    ensures rest { rest_of result.1
+        ≡ after (literal_len version here.entry.text.now) (rest_of here.entry) }
 {
     let (front, rest) = cut(here, literal_len(version, here.text));
     (front.text, rest)

@@ -1,8 +1,8 @@
 //! Modifiers, a key and a value each.
 
-ghost use Rattle.std.specs.Prelude.{◌≡◌, List};
+ghost use Rattle.std.specs.Prelude.{◌≡◌};
 ghost use Rattle.description_faults.specs.Answer.{Answers, Gives};
-ghost use Rattle.description_words.specs.Text.{is_space, is_word_byte, past};
+ghost use Rattle.description_words.specs.Text.{is_space, past};
 ghost use Rattle.description_words.specs.Words.{has_word, modifier_in, modifier_at, modifiers_at};
 ghost use Rattle.description_words.specs.Views.{rest_of, modifier, modifiers};
 
@@ -78,7 +78,8 @@ pub fn modifiers_of<'a>(
     alloc: Global,
     here: Rest<'a>,
 ) -> Result<(Vec<Modifier<'a>>, Rest<'a>), DescriptionFault<'a>>
-    ensures value { Gives (λ x. (modifiers x.0.items, rest_of x.1)) result (modifiers_at (rest_of here.entry)) }
+    ensures value { Gives (λ x. (modifiers x.0.items, rest_of x.1)) result
+        (modifiers_at (rest_of here.entry)) }
 {
     let mut all = Vec::new(alloc);
     let mut rest = here;

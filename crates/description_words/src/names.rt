@@ -39,7 +39,8 @@ pub fn name_of<'a>(
     bracket: usize,
     here: Rest<'a>,
 ) -> Result<(Rest<'a>, Rest<'a>), InvalidFormatDescription<'a>>
-    ensures value { Answers (λ x. (rest_of x.0, rest_of x.1)) result (name_at bracket (rest_of here.entry)) }
+    ensures value { Answers (λ x. (rest_of x.0, rest_of x.1)) result
+        (name_at bracket (rest_of here.entry)) }
 {
     let start = past_space(here);
     let (name, rest) = word(start);

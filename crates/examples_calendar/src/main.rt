@@ -99,7 +99,8 @@ fn is_earlier(one: Date, other: Date) -> bool
 // The last day of a month, which `from_calendar_date` can't refuse: it is proved that `unwrap` never stops.
 fn last_day(year: i32, month: Month) -> Date
     requires { IsYear year }
-    ensures { day_at result ≡ ymd year (month_number month) (days_in_month year (month_number month)) }
+    ensures { day_at result
+        ≡ ymd year (month_number month) (days_in_month year (month_number month)) }
 {
     Date::from_calendar_date(year, month, month.length(year)).unwrap()
 }

@@ -14,7 +14,7 @@ pub struct Answer {
 // Clauses see the bytes. Those of the storage that are not in use are zero, so that equal answers
 // are equal fields.
 impl Model for Answer {
-    ghost use Rattle.std.specs.Prelude.{◌≡◌, ℕ, List, length, take};
+    ghost use Rattle.std.specs.Prelude.{ℕ, List, length, take};
     ghost use Rattle.instants_answers.specs.Padded.{IsPadded, padded, padded-take};
 
     ghost Value = { List ℕ };
@@ -27,7 +27,8 @@ impl Model for Answer {
 
     ghost use Rattle.std.proofs.Common.{ap₂};
 
-    ghost inverse_ok = { λ a h. ap₂ (λ (b : List ℕ) (n : ℕ). record { bytes = b; len = n }) (padded-take a.len a.bytes h).1 (padded-take a.len a.bytes h).0 };
+    ghost inverse_ok = { λ a h. ap₂ (λ (b : List ℕ) (n : ℕ). record { bytes = b; len = n })
+        (padded-take a.len a.bytes h).1 (padded-take a.len a.bytes h).0 };
 }
 
 impl Answer {

@@ -14,7 +14,8 @@ pub(crate) fn push_date(answer: &mut Answer, year: u32, month: u32, day: u32)
     requires year { year < 10_000 }
     requires month { month < 100 }
     requires day { day < 100 }
-    ensures text { answer.new ≡ answer.old ++ date_text (record { year = pos year; month = month; day = day }) }
+    ensures text { answer.new
+        ≡ answer.old ++ date_text (record { year = pos year; month = month; day = day }) }
     ensures len { length answer.new ≡ length answer.old + 10 }
 {
     push_four(answer, year);
@@ -49,7 +50,8 @@ pub(crate) fn push_offset(answer: &mut Answer, seconds: i32)
     requires room { length answer.old + 6 ≤ 64 }
     requires range { unsigned_abs seconds ≤ 86_340 }
     ensures text { answer.new ≡ answer.old ++ offset_text seconds }
-    ensures len { length answer.new ≡ length answer.old + (if int_eq seconds (pos 0) then 1 else 6) }
+    ensures len { length answer.new
+        ≡ length answer.old + (if int_eq seconds (pos 0) then 1 else 6) }
 {
     if seconds == 0 {
         answer.push(b'Z');

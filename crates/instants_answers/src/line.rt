@@ -47,7 +47,8 @@ pub fn fits_line(date_time: OffsetDateTime) -> bool
 #[tactic(auto, unfolding(crate::specs::Text::has_written_year))]
 fn shown_date(date_time: OffsetDateTime) -> (u32, u32, u32)
     requires { IsTrue (has_written_year date_time) }
-    ensures value { day_at (day_of date_time.wall) ≡ record { year = pos result.0; month = result.1; day = result.2 } }
+    ensures value { day_at (day_of date_time.wall)
+        ≡ record { year = pos result.0; month = result.1; day = result.2 } }
     ensures year { result.0 < 10_000 }
     ensures month { result.1 < 100 }
     ensures day { result.2 < 100 }

@@ -45,7 +45,8 @@ pub fn utc_line_by_utc(date_time: OffsetDateTime) -> Answer
 #[tactic(auto, unfolding(crate::specs::Text::has_written_year))]
 fn utc_date<M: Moment>(moment: M) -> (u32, u32, u32)
     requires { IsTrue (has_written_year (in_utc (M.instant moment))) }
-    ensures value { day_at (day_of (M.instant moment)) ≡ record { year = pos result.0; month = result.1; day = result.2 } }
+    ensures value { day_at (day_of (M.instant moment))
+        ≡ record { year = pos result.0; month = result.1; day = result.2 } }
     ensures year { result.0 < 10_000 }
     ensures month { result.1 < 100 }
     ensures day { result.2 < 100 }

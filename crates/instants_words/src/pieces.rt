@@ -41,7 +41,9 @@ fn number(word: &[u8], least: u32, greatest: u32, most_digits: usize) -> Option<
 
 // An offset by its sign, its hours and its minutes.
 fn clock_offset(sign: u8, hours: &[u8], minutes: &[u8]) -> Option<UtcOffset>
-    ensures value { result ≡ with_sign sign (clock_seconds (number_said 0 23 2 hours.now) (number_said 0 59 2 minutes.now)) }
+    ensures value { result
+        ≡ with_sign sign
+        (clock_seconds (number_said 0 23 2 hours.now) (number_said 0 59 2 minutes.now)) }
     ensures bound { IfSome result IsClockOffset }
 {
     let hours = number(hours, 0, 23, 2)?;

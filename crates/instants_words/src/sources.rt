@@ -1,6 +1,6 @@
 //! The sources that words ask for.
 
-ghost use Rattle.std.specs.Prelude.{◌≡◌, ◌≢◌, ◌<◌, ◌≤◌, ℕ, List, map, drop, length, option_map, Ok, Err, IsOk, IfOk, IfErr, IfSome};
+ghost use Rattle.std.specs.Prelude.{◌≡◌, ◌≢◌, ◌<◌, ◌≤◌, List, map, drop, length, option_map, Ok, Err, IsOk, IfOk, IfErr, IfSome};
 ghost use Rattle.instants_words.specs.Sources.{SourceSaid, said_by, format_named, language_named, sources_said};
 ghost use Rattle.instants_words.specs.FirstSource.{source_said};
 
@@ -47,9 +47,12 @@ impl<'a> Model for Sources<'a> {
 impl<'a> Sources<'a> {
     // The sources that the words say, if there is memory. All of the words are looked at before any is taken.
     pub(crate) fn read(alloc: Global, words: &[&'a str]) -> Result<Sources<'a>, WordsFault>
-        ensures ok { IfOk result (λ sources. sources_said 1 (map (λ word. word.now) words.now) ≡ Ok sources) }
-        ensures err { IfErr result (λ fault. fault ≢ WordsFault.Memory → sources_said 1 (map (λ word. word.now) words.now) ≡ Err fault) }
-        ensures memory { result ≡ Err WordsFault.Memory → IsOk (sources_said 1 (map (λ word. word.now) words.now)) }
+        ensures ok { IfOk result
+            (λ sources. sources_said 1 (map (λ word. word.now) words.now) ≡ Ok sources) }
+        ensures err { IfErr result (λ fault. fault ≢ WordsFault.Memory
+            → sources_said 1 (map (λ word. word.now) words.now) ≡ Err fault) }
+        ensures memory { result ≡ Err WordsFault.Memory
+            → IsOk (sources_said 1 (map (λ word. word.now) words.now)) }
         ensures some { 0 < length words.now → IfOk result (λ sources. 0 < length sources) }
     {
         let count = count(words)?;
@@ -72,8 +75,11 @@ impl<'a> Sources<'a> {
 
 // How many sources the words say.
 fn count(words: &[&str]) -> Result<usize, WordsFault>
-    ensures ok { IfOk result (λ count. (sources : List SourceSaid) × (sources_said 1 (map (λ word. word.now) words.now) ≡ Ok sources) × (count ≡ length sources)) }
-    ensures err { IfErr result (λ fault. sources_said 1 (map (λ word. word.now) words.now) ≡ Err fault) }
+    ensures ok { IfOk result (λ count. (sources : List SourceSaid)
+        × (sources_said 1 (map (λ word. word.now) words.now) ≡ Ok sources)
+        × (count ≡ length sources)) }
+    ensures err { IfErr result
+        (λ fault. sources_said 1 (map (λ word. word.now) words.now) ≡ Err fault) }
     ensures never_memory { result ≢ Err WordsFault.Memory }
 {
     let mut at = 0;
@@ -90,7 +96,9 @@ fn count(words: &[&str]) -> Result<usize, WordsFault>
 
 // The source that the words begin with, and how many words say it.
 fn source<'a>(words: &[&'a str]) -> Option<(SourceText<'a>, usize)>
-    ensures said { option_map (λ said. (said_by said.0, drop said.1 (map (λ word. word.now) words.now))) result ≡ source_said (map (λ word. word.now) words.now) }
+    ensures said { option_map
+        (λ said. (said_by said.0, drop said.1 (map (λ word. word.now) words.now))) result
+        ≡ source_said (map (λ word. word.now) words.now) }
     ensures taken { IfSome result (λ said. (0 < said.1) × (said.1 ≤ length words.now)) }
 {
     let (name, words) = words.split_first()?;
@@ -118,7 +126,8 @@ fn format<'a>(name: &str) -> Option<SourceText<'a>>
 
 // A description in the language of this name.
 fn described<'a>(name: &str, description: &'a str) -> Option<SourceText<'a>>
-    ensures { option_map said_by result ≡ option_map (λ language. language description.now) (language_named name.now) }
+    ensures { option_map said_by result
+        ≡ option_map (λ language. language description.now) (language_named name.now) }
 {
     if name == "v1" {
         Some(SourceText::V1(description))

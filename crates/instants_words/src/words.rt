@@ -32,14 +32,16 @@ pub struct Words<'a> {
 #[tactic(auto, unfolding(crate::specs::Words::words_said))]
 pub fn read_words<'a>(alloc: Global, words: &[&'a str]) -> Result<Words<'a>, WordsFault>
     ensures ok { IfOk result (λ read. words_said (map (λ word. word.now) words.now) ≡ Ok read) }
-    ensures err { IfErr result (λ fault. fault ≢ WordsFault.Memory → words_said (map (λ word. word.now) words.now) ≡ Err fault) }
+    ensures err { IfErr result (λ fault. fault ≢ WordsFault.Memory
+        → words_said (map (λ word. word.now) words.now) ≡ Err fault) }
     // What words that are accepted say is in range.
     ensures target { IfOk result (λ read. IsClockOffset read.target) }
     ensures assumed { IfOk result (λ read. IfSome read.assumed IsClockOffset) }
     ensures limit { IfOk result (λ read. IsInRange 1 1_048_576 read.limit) }
     ensures sources { IfOk result (λ read. 0 < length read.sources) }
 
-    ensures memory { result ≡ Err WordsFault.Memory → IsOk (words_said (map (λ word. word.now) words.now)) }
+    ensures memory { result ≡ Err WordsFault.Memory
+        → IsOk (words_said (map (λ word. word.now) words.now)) }
 {
     let [target, assumed, limit, sources @ ..] = words else {
         return Err(WordsFault::Usage);

@@ -1,12 +1,11 @@
 //! The parts of a date but the year.
-ghost use Rattle.std.specs.Prelude.{◌≡◌, true, false, Some, option_map, IfSome};
-ghost use Rattle.parsing_pieces.specs.Pieces.{cut_view};
+ghost use Rattle.std.specs.Prelude.{◌≡◌, true, Some, option_map};
 ghost use Rattle.parsing_shapes.specs.Shape.{taken, digits_between};
-ghost use Rattle.parsing_shapes.specs.Numbers.{padded, year, century, offset_hour, timestamp};
-ghost use Rattle.parsing_shapes.specs.Names.{named, period, short_months, long_months, short_weekdays, long_weekdays};
+ghost use Rattle.parsing_shapes.specs.Numbers.{padded};
+ghost use Rattle.parsing_shapes.specs.Names.{named, short_months, long_months, short_weekdays, long_weekdays};
 ghost use Rattle.parsing_components.specs.Record.{IsWithin};
 ghost use Rattle.parsing_components.specs.Put.{Sets};
-ghost use Rattle.parsing_components.specs.Ranged.{kept, says, entry, between, up_to, since_epoch, counted, months, from_sunday, from_monday};
+ghost use Rattle.parsing_components.specs.Ranged.{says, entry, between, counted, months, from_sunday, from_monday};
 ghost use Rattle.parsing_components.specs.Component as Components;
 ghost use Rattle.parsing_components.specs.Read as read;
 
@@ -22,7 +21,8 @@ use parsing_shapes::{
 #[inline(always)]
 pub(crate) fn day<'a>(padding: Padding, bytes: &'a [u8], fields: &mut Record) -> Option<&'a [u8]>
     requires within { IsWithin fields.old }
-    ensures reads { Sets result fields.old fields.new (says (between 1 31 read.Day) (taken (padded padding 2 2)) bytes.now) }
+    ensures reads { Sets result fields.old fields.new
+        (says (between 1 31 read.Day) (taken (padded padding 2 2)) bytes.now) }
     ensures within { IsWithin fields.new }
 {
     let (n, rest) = padded_two(padding, bytes)?;
@@ -36,7 +36,8 @@ pub(crate) fn day<'a>(padding: Padding, bytes: &'a [u8], fields: &mut Record) ->
 #[inline(always)]
 fn iso_week<'a>(padding: Padding, bytes: &'a [u8], fields: &mut Record) -> Option<&'a [u8]>
     requires within { IsWithin fields.old }
-    ensures reads { Sets result fields.old fields.new (says (between 1 53 read.IsoWeek) (taken (padded padding 2 2)) bytes.now) }
+    ensures reads { Sets result fields.old fields.new
+        (says (between 1 53 read.IsoWeek) (taken (padded padding 2 2)) bytes.now) }
     ensures within { IsWithin fields.new }
 {
     let (n, rest) = padded_two(padding, bytes)?;
@@ -50,7 +51,8 @@ fn iso_week<'a>(padding: Padding, bytes: &'a [u8], fields: &mut Record) -> Optio
 #[inline(always)]
 fn sunday_week<'a>(padding: Padding, bytes: &'a [u8], fields: &mut Record) -> Option<&'a [u8]>
     requires within { IsWithin fields.old }
-    ensures reads { Sets result fields.old fields.new (says (between 0 53 read.SundayWeek) (taken (padded padding 2 2)) bytes.now) }
+    ensures reads { Sets result fields.old fields.new
+        (says (between 0 53 read.SundayWeek) (taken (padded padding 2 2)) bytes.now) }
     ensures within { IsWithin fields.new }
 {
     let (n, rest) = padded_two(padding, bytes)?;
@@ -64,7 +66,8 @@ fn sunday_week<'a>(padding: Padding, bytes: &'a [u8], fields: &mut Record) -> Op
 #[inline(always)]
 fn monday_week<'a>(padding: Padding, bytes: &'a [u8], fields: &mut Record) -> Option<&'a [u8]>
     requires within { IsWithin fields.old }
-    ensures reads { Sets result fields.old fields.new (says (between 0 53 read.MondayWeek) (taken (padded padding 2 2)) bytes.now) }
+    ensures reads { Sets result fields.old fields.new
+        (says (between 0 53 read.MondayWeek) (taken (padded padding 2 2)) bytes.now) }
     ensures within { IsWithin fields.new }
 {
     let (n, rest) = padded_two(padding, bytes)?;
@@ -78,7 +81,8 @@ fn monday_week<'a>(padding: Padding, bytes: &'a [u8], fields: &mut Record) -> Op
 #[inline(always)]
 fn ordinal<'a>(padding: Padding, bytes: &'a [u8], fields: &mut Record) -> Option<&'a [u8]>
     requires within { IsWithin fields.old }
-    ensures reads { Sets result fields.old fields.new (says (between 1 366 read.Ordinal) (taken (padded padding 3 3)) bytes.now) }
+    ensures reads { Sets result fields.old fields.new
+        (says (between 1 366 read.Ordinal) (taken (padded padding 3 3)) bytes.now) }
     ensures within { IsWithin fields.new }
 {
     let (n, rest) = padded(padding, 3, 3, bytes)?;
@@ -96,7 +100,8 @@ pub(crate) fn month_short<'a>(
     fields: &mut Record,
 ) -> Option<&'a [u8]>
     requires within { IsWithin fields.old }
-    ensures reads { Sets result fields.old fields.new (says (λ x. Some (read.Month x)) (taken (named case_sensitive short_months)) bytes.now) }
+    ensures reads { Sets result fields.old fields.new
+        (says (λ x. Some (read.Month x)) (taken (named case_sensitive short_months)) bytes.now) }
     ensures within { IsWithin fields.new }
 {
     let (month, rest) = short_month(case_sensitive, bytes)?;
@@ -111,7 +116,9 @@ pub(crate) fn weekday_short<'a>(
     fields: &mut Record,
 ) -> Option<&'a [u8]>
     requires within { IsWithin fields.old }
-    ensures reads { Sets result fields.old fields.new (says (λ x. Some (read.Weekday x)) (taken (named case_sensitive short_weekdays)) bytes.now) }
+    ensures reads { Sets result fields.old fields.new
+        (says (λ x. Some (read.Weekday x))
+        (taken (named case_sensitive short_weekdays)) bytes.now) }
     ensures within { IsWithin fields.new }
 {
     let (weekday, rest) = short_weekday(case_sensitive, bytes)?;
@@ -122,7 +129,8 @@ pub(crate) fn weekday_short<'a>(
 #[inline(always)]
 fn month_long<'a>(case_sensitive: bool, bytes: &'a [u8], fields: &mut Record) -> Option<&'a [u8]>
     requires within { IsWithin fields.old }
-    ensures reads { Sets result fields.old fields.new (says (λ x. Some (read.Month x)) (taken (named case_sensitive long_months)) bytes.now) }
+    ensures reads { Sets result fields.old fields.new
+        (says (λ x. Some (read.Month x)) (taken (named case_sensitive long_months)) bytes.now) }
     ensures within { IsWithin fields.new }
 {
     let (month, rest) = long_month(case_sensitive, bytes)?;
@@ -133,7 +141,8 @@ fn month_long<'a>(case_sensitive: bool, bytes: &'a [u8], fields: &mut Record) ->
 #[inline(always)]
 fn weekday_long<'a>(case_sensitive: bool, bytes: &'a [u8], fields: &mut Record) -> Option<&'a [u8]>
     requires within { IsWithin fields.old }
-    ensures reads { Sets result fields.old fields.new (says (λ x. Some (read.Weekday x)) (taken (named case_sensitive long_weekdays)) bytes.now) }
+    ensures reads { Sets result fields.old fields.new
+        (says (λ x. Some (read.Weekday x)) (taken (named case_sensitive long_weekdays)) bytes.now) }
     ensures within { IsWithin fields.new }
 {
     let (weekday, rest) = long_weekday(case_sensitive, bytes)?;
@@ -149,7 +158,9 @@ pub(crate) fn month_number<'a>(
     fields: &mut Record,
 ) -> Option<&'a [u8]>
     requires within { IsWithin fields.old }
-    ensures reads { Sets result fields.old fields.new (says (λ n. option_map read.Month (counted true months n)) (taken (padded padding 2 2)) bytes.now) }
+    ensures reads { Sets result fields.old fields.new
+        (says (λ n. option_map read.Month (counted true months n))
+        (taken (padded padding 2 2)) bytes.now) }
     ensures within { IsWithin fields.new }
 {
     let (n, rest) = padded_two(padding, bytes)?;
@@ -210,7 +221,9 @@ fn sunday_counted(one_indexed: bool, n: u32) -> Option<Weekday>
 
 fn sunday_number<'a>(one_indexed: bool, bytes: &'a [u8], fields: &mut Record) -> Option<&'a [u8]>
     requires within { IsWithin fields.old }
-    ensures reads { Sets result fields.old fields.new (says (λ n. option_map read.Weekday (counted one_indexed from_sunday n)) (taken (digits_between 1 1)) bytes.now) }
+    ensures reads { Sets result fields.old fields.new
+        (says (λ n. option_map read.Weekday (counted one_indexed from_sunday n))
+        (taken (digits_between 1 1)) bytes.now) }
     ensures within { IsWithin fields.new }
 {
     let (n, rest) = digits_between(1, 1, bytes)?;
@@ -235,7 +248,9 @@ fn monday_counted(one_indexed: bool, n: u32) -> Option<Weekday>
 
 fn monday_number<'a>(one_indexed: bool, bytes: &'a [u8], fields: &mut Record) -> Option<&'a [u8]>
     requires within { IsWithin fields.old }
-    ensures reads { Sets result fields.old fields.new (says (λ n. option_map read.Weekday (counted one_indexed from_monday n)) (taken (digits_between 1 1)) bytes.now) }
+    ensures reads { Sets result fields.old fields.new
+        (says (λ n. option_map read.Weekday (counted one_indexed from_monday n))
+        (taken (digits_between 1 1)) bytes.now) }
     ensures within { IsWithin fields.new }
 {
     let (n, rest) = digits_between(1, 1, bytes)?;

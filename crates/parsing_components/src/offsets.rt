@@ -1,12 +1,10 @@
 //! The parts of an offset, timestamps, and what is passed over.
-ghost use Rattle.std.specs.Prelude.{◌≡◌, ◌≤◌, ◌<◌, ◌*◌, ◌^◌, pos, neg_ℤ, true, false, Some, option_map, IfSome};
-ghost use Rattle.parsing_pieces.specs.Pieces.{cut_view};
-ghost use Rattle.parsing_shapes.specs.Shape.{taken, digits_between};
-ghost use Rattle.parsing_shapes.specs.Numbers.{padded, year, century, offset_hour, timestamp};
-ghost use Rattle.parsing_shapes.specs.Names.{named, period, short_months, long_months, short_weekdays, long_weekdays};
+ghost use Rattle.std.specs.Prelude.{◌≡◌, ◌≤◌, ◌<◌, ◌*◌, ◌^◌, pos, neg_ℤ, option_map};
+ghost use Rattle.parsing_shapes.specs.Shape.{taken};
+ghost use Rattle.parsing_shapes.specs.Numbers.{padded, offset_hour, timestamp};
 ghost use Rattle.parsing_components.specs.Record.{IsWithin, InSigned};
 ghost use Rattle.parsing_components.specs.Put.{Sets, passed};
-ghost use Rattle.parsing_components.specs.Ranged.{nanoseconds_before_epoch, nanoseconds_after_epoch, says, between, up_to, since_epoch, counted, months, from_sunday, from_monday};
+ghost use Rattle.parsing_components.specs.Ranged.{nanoseconds_before_epoch, nanoseconds_after_epoch, says, between, up_to, since_epoch};
 ghost use Rattle.parsing_components.specs.Component as Components;
 ghost use Rattle.parsing_components.specs.Read as read;
 
@@ -22,7 +20,8 @@ pub(crate) fn offset_minute<'a>(
     fields: &mut Record,
 ) -> Option<&'a [u8]>
     requires within { IsWithin fields.old }
-    ensures reads { Sets result fields.old fields.new (says (between 0 59 read.OffsetMinute) (taken (padded padding 2 2)) bytes.now) }
+    ensures reads { Sets result fields.old fields.new
+        (says (between 0 59 read.OffsetMinute) (taken (padded padding 2 2)) bytes.now) }
     ensures within { IsWithin fields.new }
 {
     let (n, rest) = padded_two(padding, bytes)?;
@@ -36,7 +35,8 @@ pub(crate) fn offset_minute<'a>(
 #[inline(always)]
 fn offset_second<'a>(padding: Padding, bytes: &'a [u8], fields: &mut Record) -> Option<&'a [u8]>
     requires within { IsWithin fields.old }
-    ensures reads { Sets result fields.old fields.new (says (between 0 59 read.OffsetSecond) (taken (padded padding 2 2)) bytes.now) }
+    ensures reads { Sets result fields.old fields.new
+        (says (between 0 59 read.OffsetSecond) (taken (padded padding 2 2)) bytes.now) }
     ensures within { IsWithin fields.new }
 {
     let (n, rest) = padded_two(padding, bytes)?;
@@ -55,7 +55,9 @@ pub(crate) fn hour_of_offset<'a>(
     fields: &mut Record,
 ) -> Option<&'a [u8]>
     requires within { IsWithin fields.old }
-    ensures reads { Sets result fields.old fields.new (says (up_to 25 (λ negative hour. read.OffsetHour hour negative)) (taken (offset_hour padding mandatory)) bytes.now) }
+    ensures reads { Sets result fields.old fields.new
+        (says (up_to 25 (λ negative hour. read.OffsetHour hour negative))
+        (taken (offset_hour padding mandatory)) bytes.now) }
     ensures within { IsWithin fields.new }
 {
     let ((negative, n), rest) = offset_hour(padding, mandatory, bytes)?;
@@ -72,7 +74,8 @@ pub(crate) fn hour_of_offset<'a>(
 fn nanoseconds(is_negative: bool, count: u128, unit: u32) -> Option<i128>
     requires fits { count * unit < 2 ^ 128 }
     ensures value { option_map read.Unix result ≡ since_epoch read.Unix unit (is_negative, count) }
-    ensures bound { InSigned (neg_ℤ (pos nanoseconds_before_epoch)) (pos nanoseconds_after_epoch) result }
+    ensures bound { InSigned (neg_ℤ (pos nanoseconds_before_epoch))
+        (pos nanoseconds_after_epoch) result }
 {
     let count = count * u128::from(unit);
     let greatest = if is_negative {
@@ -99,7 +102,8 @@ fn unix<'a>(
     requires fits { most ≤ 23 }
     requires small { unit ≤ 1_000_000_000 }
     requires within { IsWithin fields.old }
-    ensures reads { Sets result fields.old fields.new (says (since_epoch read.Unix unit) (taken (timestamp mandatory most)) bytes.now) }
+    ensures reads { Sets result fields.old fields.new
+        (says (since_epoch read.Unix unit) (taken (timestamp mandatory most)) bytes.now) }
     ensures within { IsWithin fields.new }
 {
     let ((is_negative, count), rest) = timestamp(mandatory, most, bytes)?;
@@ -144,7 +148,8 @@ pub(crate) fn offset_piece<'a>(
     fields: &mut Record,
 ) -> Option<&'a [u8]>
     requires within { IsWithin fields.old }
-    ensures reads { Sets result fields.old fields.new (Components.offset_piece component bytes.now) }
+    ensures reads { Sets result fields.old fields.new
+        (Components.offset_piece component bytes.now) }
     ensures within { IsWithin fields.new }
 {
     match component {

@@ -80,7 +80,9 @@ fn read_piece<'a>(
     fields: &mut Record,
 ) -> Result<&'a [u8], ParseFromDescription>
     requires within { IsWithin fields.old }
-    ensures reads { Reads result fields.old fields.new (putting (Components.date_piece component or fault.component (Components.component_name component)) fields.old bytes.now) }
+    ensures reads { Reads result fields.old fields.new
+        (putting (Components.date_piece component or fault.component
+        (Components.component_name component)) fields.old bytes.now) }
     ensures within { IsWithin fields.new }
 {
     match date_piece(component, bytes, fields) {
@@ -98,7 +100,8 @@ fn read_modern<'a>(
     fields: &mut Record,
 ) -> Result<&'a [u8], ParseFromDescription>
     requires within { IsWithin fields.old }
-    ensures reads { Reads result fields.old fields.new (putting (Components.reads_modern component) fields.old bytes.now) }
+    ensures reads { Reads result fields.old fields.new
+        (putting (Components.reads_modern component) fields.old bytes.now) }
     ensures within { IsWithin fields.new }
 {
     match component {
@@ -115,7 +118,8 @@ pub fn read_component<'a>(
     fields: &mut Record,
 ) -> Result<&'a [u8], ParseFromDescription>
     requires within { IsWithin fields.old }
-    ensures reads { Reads result fields.old fields.new (putting (Components.reads_component component) fields.old bytes.now) }
+    ensures reads { Reads result fields.old fields.new
+        (putting (Components.reads_component component) fields.old bytes.now) }
     ensures within { IsWithin fields.new }
 {
     read_modern(component.modern(), bytes, fields)
@@ -129,7 +133,8 @@ pub fn read_component_v3<'a>(
     fields: &mut Record,
 ) -> Result<&'a [u8], ParseFromDescription>
     requires within { IsWithin fields.old }
-    ensures reads { Reads result fields.old fields.new (putting (Components.reads_component_v3 component) fields.old bytes.now) }
+    ensures reads { Reads result fields.old fields.new
+        (putting (Components.reads_component_v3 component) fields.old bytes.now) }
     ensures within { IsWithin fields.new }
 {
     match component {

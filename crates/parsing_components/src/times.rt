@@ -1,12 +1,11 @@
 //! The parts of a time.
-ghost use Rattle.std.specs.Prelude.{◌≡◌, true, false, Some, option_map, IfSome};
-ghost use Rattle.parsing_pieces.specs.Pieces.{cut_view};
-ghost use Rattle.parsing_shapes.specs.Shape.{taken, digits_between};
-ghost use Rattle.parsing_shapes.specs.Numbers.{padded, year, century, offset_hour, timestamp};
-ghost use Rattle.parsing_shapes.specs.Names.{named, period, short_months, long_months, short_weekdays, long_weekdays};
+ghost use Rattle.std.specs.Prelude.{Some};
+ghost use Rattle.parsing_shapes.specs.Shape.{taken};
+ghost use Rattle.parsing_shapes.specs.Numbers.{padded};
+ghost use Rattle.parsing_shapes.specs.Names.{period};
 ghost use Rattle.parsing_components.specs.Record.{IsWithin};
 ghost use Rattle.parsing_components.specs.Put.{Sets};
-ghost use Rattle.parsing_components.specs.Ranged.{says, between, up_to, since_epoch, counted, months, from_sunday, from_monday};
+ghost use Rattle.parsing_components.specs.Ranged.{says, between};
 ghost use Rattle.parsing_components.specs.Component as Components;
 ghost use Rattle.parsing_components.specs.Read as read;
 
@@ -19,7 +18,8 @@ use parsing_shapes::{fraction_between, padded_two, period};
 #[inline(always)]
 fn hour_12<'a>(padding: Padding, bytes: &'a [u8], fields: &mut Record) -> Option<&'a [u8]>
     requires within { IsWithin fields.old }
-    ensures reads { Sets result fields.old fields.new (says (between 1 12 read.Hour12) (taken (padded padding 2 2)) bytes.now) }
+    ensures reads { Sets result fields.old fields.new
+        (says (between 1 12 read.Hour12) (taken (padded padding 2 2)) bytes.now) }
     ensures within { IsWithin fields.new }
 {
     let (n, rest) = padded_two(padding, bytes)?;
@@ -37,7 +37,8 @@ pub(crate) fn hour_24<'a>(
     fields: &mut Record,
 ) -> Option<&'a [u8]>
     requires within { IsWithin fields.old }
-    ensures reads { Sets result fields.old fields.new (says (between 0 23 read.Hour24) (taken (padded padding 2 2)) bytes.now) }
+    ensures reads { Sets result fields.old fields.new
+        (says (between 0 23 read.Hour24) (taken (padded padding 2 2)) bytes.now) }
     ensures within { IsWithin fields.new }
 {
     let (n, rest) = padded_two(padding, bytes)?;
@@ -51,7 +52,8 @@ pub(crate) fn hour_24<'a>(
 #[inline(always)]
 pub(crate) fn minute<'a>(padding: Padding, bytes: &'a [u8], fields: &mut Record) -> Option<&'a [u8]>
     requires within { IsWithin fields.old }
-    ensures reads { Sets result fields.old fields.new (says (between 0 59 read.Minute) (taken (padded padding 2 2)) bytes.now) }
+    ensures reads { Sets result fields.old fields.new
+        (says (between 0 59 read.Minute) (taken (padded padding 2 2)) bytes.now) }
     ensures within { IsWithin fields.new }
 {
     let (n, rest) = padded_two(padding, bytes)?;
@@ -65,7 +67,8 @@ pub(crate) fn minute<'a>(padding: Padding, bytes: &'a [u8], fields: &mut Record)
 #[inline(always)]
 pub(crate) fn second<'a>(padding: Padding, bytes: &'a [u8], fields: &mut Record) -> Option<&'a [u8]>
     requires within { IsWithin fields.old }
-    ensures reads { Sets result fields.old fields.new (says (between 0 60 read.Second) (taken (padded padding 2 2)) bytes.now) }
+    ensures reads { Sets result fields.old fields.new
+        (says (between 0 60 read.Second) (taken (padded padding 2 2)) bytes.now) }
     ensures within { IsWithin fields.new }
 {
     let (n, rest) = padded_two(padding, bytes)?;
@@ -84,7 +87,9 @@ fn half_of_day<'a>(
     fields: &mut Record,
 ) -> Option<&'a [u8]>
     requires within { IsWithin fields.old }
-    ensures reads { Sets result fields.old fields.new (says (λ x. Some (read.Afternoon x)) (taken (period is_uppercase case_sensitive)) bytes.now) }
+    ensures reads { Sets result fields.old fields.new
+        (says (λ x. Some (read.Afternoon x))
+        (taken (period is_uppercase case_sensitive)) bytes.now) }
     ensures within { IsWithin fields.new }
 {
     let (afternoon, rest) = period(is_uppercase, case_sensitive, bytes)?;
@@ -95,7 +100,8 @@ fn half_of_day<'a>(
 #[inline(always)]
 fn subsecond<'a>(digits: SubsecondDigits, bytes: &'a [u8], fields: &mut Record) -> Option<&'a [u8]>
     requires within { IsWithin fields.old }
-    ensures reads { Sets result fields.old fields.new (says (λ n. Some (read.Subsecond n)) (taken (Components.fraction_of digits)) bytes.now) }
+    ensures reads { Sets result fields.old fields.new
+        (says (λ n. Some (read.Subsecond n)) (taken (Components.fraction_of digits)) bytes.now) }
     ensures within { IsWithin fields.new }
 {
     let (n, rest) = match digits {

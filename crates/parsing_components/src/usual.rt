@@ -16,8 +16,11 @@ use description_items::Component;
 #[tactic(auto, unfolding(crate::specs::Component::date_piece, crate::specs::Component::year_piece, crate::specs::Component::time_piece, crate::specs::Component::offset_piece, crate::specs::Component::reads_component_v3), using(crate::proofs::Settings::may_set))]
 fn usual_piece<'a>(component: &Component, bytes: &'a [u8], fields: &mut Record) -> Option<&'a [u8]>
     requires within { IsWithin fields.old }
-    ensures reads { MaySet result fields.old fields.new (Components.date_piece component.now bytes.now) }
-    ensures v3 { IfSome result (λ _. Components.reads_component_v3 component.now bytes.now ≡ Components.reads_component component.now bytes.now) }
+    ensures reads { MaySet result fields.old fields.new
+        (Components.date_piece component.now bytes.now) }
+    ensures v3 { IfSome result
+        (λ _. Components.reads_component_v3 component.now bytes.now
+        ≡ Components.reads_component component.now bytes.now) }
     ensures within { IsWithin fields.new }
 {
     match component {
@@ -58,8 +61,10 @@ pub fn read_usual<'a>(
     fields: &mut Record,
 ) -> Option<&'a [u8]>
     requires within { IsWithin fields.old }
-    ensures reads { MayRead result fields.old fields.new (putting (Components.reads_component component.now) fields.old bytes.now) }
-    ensures reads_v3 { MayRead result fields.old fields.new (putting (Components.reads_component_v3 component.now) fields.old bytes.now) }
+    ensures reads { MayRead result fields.old fields.new
+        (putting (Components.reads_component component.now) fields.old bytes.now) }
+    ensures reads_v3 { MayRead result fields.old fields.new
+        (putting (Components.reads_component_v3 component.now) fields.old bytes.now) }
     ensures within { IsWithin fields.new }
 {
     usual_piece(component, bytes, fields)

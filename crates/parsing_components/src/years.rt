@@ -1,13 +1,11 @@
 //! Years.
-ghost use Rattle.std.specs.Prelude.{◌≡◌, ◌<◌, true, false, Some, option_map, IfSome};
-ghost use Rattle.parsing_pieces.specs.Pieces.{cut_view};
-ghost use Rattle.parsing_shapes.specs.Shape.{taken, digits_between};
-ghost use Rattle.parsing_shapes.specs.Numbers.{padded, year, century, offset_hour, timestamp};
-ghost use Rattle.parsing_shapes.specs.Names.{named, period, short_months, long_months, short_weekdays, long_weekdays};
+ghost use Rattle.std.specs.Prelude.{◌≡◌, ◌<◌};
+ghost use Rattle.parsing_shapes.specs.Shape.{taken};
+ghost use Rattle.parsing_shapes.specs.Numbers.{padded, year, century};
 ghost use Rattle.calendar_count.specs.Range.{greatest_year};
 ghost use Rattle.parsing_components.specs.Record.{IsWithin};
 ghost use Rattle.parsing_components.specs.Put.{Sets};
-ghost use Rattle.parsing_components.specs.Ranged.{greatest_century, says, between, up_to, since_epoch, counted, months, from_sunday, from_monday};
+ghost use Rattle.parsing_components.specs.Ranged.{greatest_century, says, between, up_to};
 ghost use Rattle.parsing_components.specs.Ranged as Ranged;
 ghost use Rattle.parsing_components.specs.Component as Components;
 ghost use Rattle.parsing_components.specs.Read as read;
@@ -36,7 +34,9 @@ pub(crate) fn full_year<'a>(
     fields: &mut Record,
 ) -> Option<&'a [u8]>
     requires within { IsWithin fields.old }
-    ensures reads { Sets result fields.old fields.new (says (up_to greatest_year (λ negative y. read.Year y)) (taken (year padding mandatory extended)) bytes.now) }
+    ensures reads { Sets result fields.old fields.new
+        (says (up_to greatest_year (λ negative y. read.Year y))
+        (taken (year padding mandatory extended)) bytes.now) }
     ensures within { IsWithin fields.new }
 {
     let ((negative, n), rest) = year(padding, mandatory, extended, bytes)?;
@@ -53,7 +53,9 @@ fn year_century<'a>(
     fields: &mut Record,
 ) -> Option<&'a [u8]>
     requires within { IsWithin fields.old }
-    ensures reads { Sets result fields.old fields.new (says (up_to greatest_century (λ negative c. read.YearCentury c negative)) (taken (century padding mandatory extended)) bytes.now) }
+    ensures reads { Sets result fields.old fields.new
+        (says (up_to greatest_century (λ negative c. read.YearCentury c negative))
+        (taken (century padding mandatory extended)) bytes.now) }
     ensures within { IsWithin fields.new }
 {
     let ((negative, n), rest) = century(padding, mandatory, extended, bytes)?;
@@ -66,7 +68,8 @@ fn year_century<'a>(
 #[inline(always)]
 fn last_two<'a>(padding: Padding, bytes: &'a [u8], fields: &mut Record) -> Option<&'a [u8]>
     requires within { IsWithin fields.old }
-    ensures reads { Sets result fields.old fields.new (says (between 0 99 read.YearLastTwo) (taken (padded padding 2 2)) bytes.now) }
+    ensures reads { Sets result fields.old fields.new
+        (says (between 0 99 read.YearLastTwo) (taken (padded padding 2 2)) bytes.now) }
     ensures within { IsWithin fields.new }
 {
     let (n, rest) = padded_two(padding, bytes)?;
@@ -83,7 +86,9 @@ fn iso_full_year<'a>(
     fields: &mut Record,
 ) -> Option<&'a [u8]>
     requires within { IsWithin fields.old }
-    ensures reads { Sets result fields.old fields.new (says (up_to greatest_year (λ negative y. read.IsoYear y)) (taken (year padding mandatory extended)) bytes.now) }
+    ensures reads { Sets result fields.old fields.new
+        (says (up_to greatest_year (λ negative y. read.IsoYear y))
+        (taken (year padding mandatory extended)) bytes.now) }
     ensures within { IsWithin fields.new }
 {
     let ((negative, n), rest) = year(padding, mandatory, extended, bytes)?;
@@ -100,7 +105,9 @@ fn iso_year_century<'a>(
     fields: &mut Record,
 ) -> Option<&'a [u8]>
     requires within { IsWithin fields.old }
-    ensures reads { Sets result fields.old fields.new (says (up_to greatest_century (λ negative c. read.IsoYearCentury c negative)) (taken (century padding mandatory extended)) bytes.now) }
+    ensures reads { Sets result fields.old fields.new
+        (says (up_to greatest_century (λ negative c. read.IsoYearCentury c negative))
+        (taken (century padding mandatory extended)) bytes.now) }
     ensures within { IsWithin fields.new }
 {
     let ((negative, n), rest) = century(padding, mandatory, extended, bytes)?;
@@ -113,7 +120,8 @@ fn iso_year_century<'a>(
 #[inline(always)]
 fn iso_last_two<'a>(padding: Padding, bytes: &'a [u8], fields: &mut Record) -> Option<&'a [u8]>
     requires within { IsWithin fields.old }
-    ensures reads { Sets result fields.old fields.new (says (between 0 99 read.IsoYearLastTwo) (taken (padded padding 2 2)) bytes.now) }
+    ensures reads { Sets result fields.old fields.new
+        (says (between 0 99 read.IsoYearLastTwo) (taken (padded padding 2 2)) bytes.now) }
     ensures within { IsWithin fields.new }
 {
     let (n, rest) = padded_two(padding, bytes)?;

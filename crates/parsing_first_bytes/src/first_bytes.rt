@@ -1,5 +1,5 @@
 //! The bytes that can stand at the first places of a line.
-ghost use Rattle.std.specs.Prelude.{◌≡◌, false, get_or, map};
+ghost use Rattle.std.specs.Prelude.{◌≡◌, get_or, map};
 ghost use Rattle.description_items.specs.Tree.{trees, listed};
 ghost use Rattle.description_tree.specs.Description.{v3_tree};
 ghost use Rattle.parsing_components.specs.Component.{reads_component, reads_component_v3};

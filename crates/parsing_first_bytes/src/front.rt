@@ -1,6 +1,5 @@
 //! What each text that an item reads begins with.
 ghost use Rattle.std.specs.Prelude.{◌≡◌, ◌≤◌, ℕ, false, Bool, List};
-ghost use Rattle.description_date_modifiers.specs.declared.choices.Padding.{Padding};
 ghost use Rattle.parsing_shapes.specs.Shape.{digits_as, taken};
 ghost use Rattle.parsing_shapes.specs.Numbers.{padded, signed_if};
 ghost use Rattle.parsing_record.specs.Meaning.{literally, unchanged};
@@ -69,7 +68,8 @@ impl<'a> Front<'a> {
 
     /// The front of one digit or more.
     pub(crate) fn of_digits() -> Front<'a>
-        ensures { (value : List ℕ → ℕ) (n m : ℕ) → 1 ≤ n → HasFront result (taken (digits_as value n m)) }
+        ensures { (value : List ℕ → ℕ) (n m : ℕ) → 1 ≤ n
+            → HasFront result (taken (digits_as value n m)) }
     {
         Front {
             bytes: Bytes::Digits {
@@ -102,7 +102,9 @@ impl<'a> Front<'a> {
 
     /// The front of a number of at least this width, padded so, behind a sign or without one.
     pub(crate) fn of_signed(padding: Padding, width: usize) -> Front<'a>
-        ensures { (mandatory : Bool) (n m k l : ℕ) → width ≤ n → width ≤ k → HasFront result (taken (signed_if mandatory (padded padding n m) (padded padding k l))) }
+        ensures { (mandatory : Bool) (n m k l : ℕ) → width ≤ n → width ≤ k
+            → HasFront result
+            (taken (signed_if mandatory (padded padding n m) (padded padding k l))) }
     {
         let (spaced, least) = match padding {
             Padding::Zero => (false, width),

@@ -71,7 +71,8 @@ impl<I: HasFront> HasFront for &I {
 
 // Whether a line that all of the items read can have this byte at this place: `true` says nothing of it.
 fn can_stand<I: HasFront>(items: &[I], place: usize, byte: u8) -> bool
-    ensures { result ≡ false → IsRefusedAt (reading_of_all I.language (listed (map I.tree items.now))) place byte }
+    ensures { result ≡ false
+        → IsRefusedAt (reading_of_all I.language (listed (map I.tree items.now))) place byte }
 {
     let mut place = place;
     for item in items {
@@ -89,7 +90,8 @@ fn can_stand<I: HasFront>(items: &[I], place: usize, byte: u8) -> bool
 
 /// The bytes that can stand at a place of a line that all of the items read, one after the other.
 pub(crate) fn bytes_at<I: HasFront>(items: &[I], place: usize) -> [bool; 256]
-    ensures { (byte : ℕ) → get_or result byte true ≡ false → IsRefusedAt (reading_of_all I.language (listed (map I.tree items.now))) place byte }
+    ensures { (byte : ℕ) → get_or result byte true ≡ false
+        → IsRefusedAt (reading_of_all I.language (listed (map I.tree items.now))) place byte }
 {
     let mut bytes = [true; 256];
     for byte in 0..=255u8 {

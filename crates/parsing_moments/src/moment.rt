@@ -18,7 +18,8 @@ pub fn plain_date_time(
     date_parts: &DateParts,
     time_parts: &TimeParts,
 ) -> Result<PlainDateTime, TryFromParsed>
-    ensures { Gives (λ w. w) resolution_fault result (named_wall leap_second_is_permitted date_parts.now time_parts.now) }
+    ensures { Gives (λ w. w) resolution_fault result
+        (named_wall leap_second_is_permitted date_parts.now time_parts.now) }
 {
     let date = parsing_dates::date(date_parts)?;
     let time = clock::time(leap_second_is_permitted, time_parts)?;

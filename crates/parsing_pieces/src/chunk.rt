@@ -191,7 +191,8 @@ fn padded_digits(bytes: &[u8], chunk: Chunk, count: usize) -> Option<u32>
     requires chunk { chunk ≡ Chunks.chunk (take 8 bytes.now) }
     requires few { count ≤ 8 }
     requires within { count ≤ length bytes.now }
-    ensures digits { IfSome result (λ v. Pieces.digits 8 (Chunks.padded count bytes.now) ≡ Some (v, [])) }
+    ensures digits { IfSome result
+        (λ v. Pieces.digits 8 (Chunks.padded count bytes.now) ≡ Some (v, [])) }
     ensures bound { IfSome result (λ v. v < 100_000_000) }
 {
     let chunk = padded_chunk(bytes, chunk, count);

@@ -1,5 +1,5 @@
 //! Functions that cut a piece off the front of bytes, where they have such a front.
-ghost use Rattle.std.specs.Prelude.{◌≡◌, ◌≤◌, ◌<◌, ◌^◌, IfSome, length};
+ghost use Rattle.std.specs.Prelude.{◌≡◌, ◌≤◌, ◌<◌, IfSome, length};
 ghost use Rattle.parsing_pieces.specs.Pieces as Pieces;
 
 /// Exactly two digits.

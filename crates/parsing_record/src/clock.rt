@@ -1,9 +1,7 @@
 //! The time of day of a record.
-ghost use Rattle.std.specs.Prelude.{◌≡◌, pos, neg_ℤ, Some, option_map, unsigned_abs};
+ghost use Rattle.std.specs.Prelude.{◌≡◌, Some};
 ghost use Rattle.std.specs.Int.{is_in_range};
-ghost use Rattle.calendar_count.specs.Range.{greatest_year};
-ghost use Rattle.parsing_record.specs.Record.{set_if, with_if, is_up_to, is_between, century_sign, InRange, InSigned, Reaches};
-ghost use Rattle.parsing_components.specs.Ranged.{greatest_century, nanoseconds_before_epoch, nanoseconds_after_epoch};
+ghost use Rattle.parsing_record.specs.Record.{set_if, with_if, InRange};
 
 use crate::parsed::Parsed;
 
@@ -18,7 +16,8 @@ impl Parsed {
 
     /// Sets the hour of the day. `None` where it is not 0 to 23, and then nothing changes.
     pub fn set_hour_24(&mut self, value: u8) -> Option<()>
-        ensures { (result, self.new) ≡ set_if (is_in_range 0 23 value) self.old (record self.old { hour_24 = Some value }) }
+        ensures { (result, self.new)
+            ≡ set_if (is_in_range 0 23 value) self.old (record self.old { hour_24 = Some value }) }
     {
         if value > 23 {
             return None;
@@ -45,7 +44,8 @@ impl Parsed {
 
     /// Sets the hour of a half day. `None` where it is not 1 to 12, and then nothing changes.
     pub fn set_hour_12(&mut self, value: u8) -> Option<()>
-        ensures { (result, self.new) ≡ set_if (is_in_range 1 12 value) self.old (record self.old { hour_12 = Some value }) }
+        ensures { (result, self.new)
+            ≡ set_if (is_in_range 1 12 value) self.old (record self.old { hour_12 = Some value }) }
     {
         if value < 1 || value > 12 {
             return None;
@@ -96,7 +96,8 @@ impl Parsed {
 
     /// Sets the minute. `None` where it is not 0 to 59, and then nothing changes.
     pub fn set_minute(&mut self, value: u8) -> Option<()>
-        ensures { (result, self.new) ≡ set_if (is_in_range 0 59 value) self.old (record self.old { minute = Some value }) }
+        ensures { (result, self.new)
+            ≡ set_if (is_in_range 0 59 value) self.old (record self.old { minute = Some value }) }
     {
         if value > 59 {
             return None;
@@ -123,7 +124,8 @@ impl Parsed {
 
     /// Sets the second. `None` where it is not 0 to 60, and then nothing changes.
     pub fn set_second(&mut self, value: u8) -> Option<()>
-        ensures { (result, self.new) ≡ set_if (is_in_range 0 60 value) self.old (record self.old { second = Some value }) }
+        ensures { (result, self.new)
+            ≡ set_if (is_in_range 0 60 value) self.old (record self.old { second = Some value }) }
     {
         if value > 60 {
             return None;
@@ -151,7 +153,9 @@ impl Parsed {
     /// Sets the fraction of the second, in nanoseconds. `None` where it is not 0 to 999999999, and then nothing
     /// changes.
     pub fn set_subsecond(&mut self, value: u32) -> Option<()>
-        ensures { (result, self.new) ≡ set_if (is_in_range 0 999_999_999 value) self.old (record self.old { subsecond = Some value }) }
+        ensures { (result, self.new)
+            ≡ set_if (is_in_range 0 999_999_999 value) self.old
+            (record self.old { subsecond = Some value }) }
     {
         if value > 999_999_999 {
             return None;
@@ -162,7 +166,8 @@ impl Parsed {
 
     /// The record with the fraction of the second, in nanoseconds. `None` where it is not 0 to 999999999.
     pub fn with_subsecond(mut self, value: u32) -> Option<Self>
-        ensures { result ≡ with_if (is_in_range 0 999_999_999 value) (record self { subsecond = Some value }) }
+        ensures { result
+            ≡ with_if (is_in_range 0 999_999_999 value) (record self { subsecond = Some value }) }
     {
         self.set_subsecond(value)?;
         Some(self)

@@ -88,7 +88,8 @@ impl Parsed {
     /// date, a time or an offset that is not there or out of range, and a leap second that can be none.
     #[inline(always)]
     pub fn offset_date_time(&self) -> Result<OffsetDateTime, TryFromParsed>
-        ensures { Gives (λ value. value) resolution_fault result (named_moment (moment_parts self.now) (offset_parts self.now)) }
+        ensures { Gives (λ value. value) resolution_fault result
+            (named_moment (moment_parts self.now) (offset_parts self.now)) }
     {
         match self.usual_moment() {
             Some(moment) => Ok(moment),
@@ -100,7 +101,8 @@ impl Parsed {
 impl TryFrom<Parsed> for Date {
     type Error = TryFromParsed;
 
-    ghost try_from_gives = { λ parsed result. Gives (λ value. value) resolution_fault result (named_date (date_parts parsed)) };
+    ghost try_from_gives = { λ parsed result. Gives (λ value. value) resolution_fault result
+        (named_date (date_parts parsed)) };
 
     #[inline(always)]
     fn try_from(parsed: Parsed) -> Result<Date, TryFromParsed> {
@@ -111,7 +113,8 @@ impl TryFrom<Parsed> for Date {
 impl TryFrom<Parsed> for Time {
     type Error = TryFromParsed;
 
-    ghost try_from_gives = { λ parsed result. Gives (λ value. value) resolution_fault result (named_time false (time_parts parsed)) };
+    ghost try_from_gives = { λ parsed result. Gives (λ value. value) resolution_fault result
+        (named_time false (time_parts parsed)) };
 
     #[inline(always)]
     fn try_from(parsed: Parsed) -> Result<Time, TryFromParsed> {
@@ -122,7 +125,8 @@ impl TryFrom<Parsed> for Time {
 impl TryFrom<Parsed> for UtcOffset {
     type Error = TryFromParsed;
 
-    ghost try_from_gives = { λ parsed result. Gives (λ value. value) resolution_fault result (named_offset (offset_parts parsed)) };
+    ghost try_from_gives = { λ parsed result. Gives (λ value. value) resolution_fault result
+        (named_offset (offset_parts parsed)) };
 
     #[inline(always)]
     fn try_from(parsed: Parsed) -> Result<UtcOffset, TryFromParsed> {
@@ -133,7 +137,8 @@ impl TryFrom<Parsed> for UtcOffset {
 impl TryFrom<Parsed> for PlainDateTime {
     type Error = TryFromParsed;
 
-    ghost try_from_gives = { λ parsed result. Gives (λ value. value) resolution_fault result (named_wall false (date_parts parsed) (time_parts parsed)) };
+    ghost try_from_gives = { λ parsed result. Gives (λ value. value) resolution_fault result
+        (named_wall false (date_parts parsed) (time_parts parsed)) };
 
     #[inline(always)]
     fn try_from(parsed: Parsed) -> Result<PlainDateTime, TryFromParsed> {
@@ -144,7 +149,8 @@ impl TryFrom<Parsed> for PlainDateTime {
 impl TryFrom<Parsed> for OffsetDateTime {
     type Error = TryFromParsed;
 
-    ghost try_from_gives = { λ parsed result. Gives (λ value. value) resolution_fault result (named_moment (moment_parts parsed) (offset_parts parsed)) };
+    ghost try_from_gives = { λ parsed result. Gives (λ value. value) resolution_fault result
+        (named_moment (moment_parts parsed) (offset_parts parsed)) };
 
     #[inline(always)]
     fn try_from(parsed: Parsed) -> Result<OffsetDateTime, TryFromParsed> {
@@ -155,7 +161,8 @@ impl TryFrom<Parsed> for OffsetDateTime {
 impl TryFrom<Parsed> for UtcDateTime {
     type Error = TryFromParsed;
 
-    ghost try_from_gives = { λ parsed result. Gives (λ value. value) resolution_fault result (named_utc (moment_parts parsed) (offset_parts parsed)) };
+    ghost try_from_gives = { λ parsed result. Gives (λ value. value) resolution_fault result
+        (named_utc (moment_parts parsed) (offset_parts parsed)) };
 
     #[inline(always)]
     fn try_from(parsed: Parsed) -> Result<UtcDateTime, TryFromParsed> {
@@ -166,7 +173,8 @@ impl TryFrom<Parsed> for UtcDateTime {
 impl TryFrom<Parsed> for Timestamp {
     type Error = TryFromParsed;
 
-    ghost try_from_gives = { λ parsed result. Gives (λ value. value) resolution_fault result (named_timestamp (moment_parts parsed) (offset_parts parsed)) };
+    ghost try_from_gives = { λ parsed result. Gives (λ value. value) resolution_fault result
+        (named_timestamp (moment_parts parsed) (offset_parts parsed)) };
 
     #[inline(always)]
     fn try_from(parsed: Parsed) -> Result<Timestamp, TryFromParsed> {

@@ -1,9 +1,7 @@
 //! The days of a record: months, weeks, weekdays.
-ghost use Rattle.std.specs.Prelude.{◌≡◌, pos, neg_ℤ, Some, option_map, unsigned_abs};
+ghost use Rattle.std.specs.Prelude.{◌≡◌, Some};
 ghost use Rattle.std.specs.Int.{is_in_range};
-ghost use Rattle.calendar_count.specs.Range.{greatest_year};
-ghost use Rattle.parsing_record.specs.Record.{set_if, with_if, is_up_to, is_between, century_sign, InRange, InSigned, Reaches};
-ghost use Rattle.parsing_components.specs.Ranged.{greatest_century, nanoseconds_before_epoch, nanoseconds_after_epoch};
+ghost use Rattle.parsing_record.specs.Record.{set_if, with_if, InRange};
 
 use crate::parsed::Parsed;
 use calendar_count::{Month, Weekday};
@@ -43,7 +41,9 @@ impl Parsed {
 
     /// Sets the week, counted from the year's first Sunday. `None` where it is not 0 to 53, and then nothing changes.
     pub fn set_sunday_week_number(&mut self, value: u8) -> Option<()>
-        ensures { (result, self.new) ≡ set_if (is_in_range 0 53 value) self.old (record self.old { sunday_week_number = Some value }) }
+        ensures { (result, self.new)
+            ≡ set_if (is_in_range 0 53 value) self.old
+            (record self.old { sunday_week_number = Some value }) }
     {
         if value > 53 {
             return None;
@@ -54,7 +54,8 @@ impl Parsed {
 
     /// The record with the week, counted from the year's first Sunday. `None` where it is not 0 to 53.
     pub fn with_sunday_week_number(mut self, value: u8) -> Option<Self>
-        ensures { result ≡ with_if (is_in_range 0 53 value) (record self { sunday_week_number = Some value }) }
+        ensures { result
+            ≡ with_if (is_in_range 0 53 value) (record self { sunday_week_number = Some value }) }
     {
         self.set_sunday_week_number(value)?;
         Some(self)
@@ -70,7 +71,9 @@ impl Parsed {
 
     /// Sets the week, counted from the year's first Monday. `None` where it is not 0 to 53, and then nothing changes.
     pub fn set_monday_week_number(&mut self, value: u8) -> Option<()>
-        ensures { (result, self.new) ≡ set_if (is_in_range 0 53 value) self.old (record self.old { monday_week_number = Some value }) }
+        ensures { (result, self.new)
+            ≡ set_if (is_in_range 0 53 value) self.old
+            (record self.old { monday_week_number = Some value }) }
     {
         if value > 53 {
             return None;
@@ -81,7 +84,8 @@ impl Parsed {
 
     /// The record with the week, counted from the year's first Monday. `None` where it is not 0 to 53.
     pub fn with_monday_week_number(mut self, value: u8) -> Option<Self>
-        ensures { result ≡ with_if (is_in_range 0 53 value) (record self { monday_week_number = Some value }) }
+        ensures { result
+            ≡ with_if (is_in_range 0 53 value) (record self { monday_week_number = Some value }) }
     {
         self.set_monday_week_number(value)?;
         Some(self)
@@ -97,7 +101,9 @@ impl Parsed {
 
     /// Sets the week of ISO 8601. `None` where it is not 1 to 53, and then nothing changes.
     pub fn set_iso_week_number(&mut self, value: u8) -> Option<()>
-        ensures { (result, self.new) ≡ set_if (is_in_range 1 53 value) self.old (record self.old { iso_week_number = Some value }) }
+        ensures { (result, self.new)
+            ≡ set_if (is_in_range 1 53 value) self.old
+            (record self.old { iso_week_number = Some value }) }
     {
         if value < 1 || value > 53 {
             return None;
@@ -108,7 +114,8 @@ impl Parsed {
 
     /// The record with the week of ISO 8601. `None` where it is not 1 to 53.
     pub fn with_iso_week_number(mut self, value: u8) -> Option<Self>
-        ensures { result ≡ with_if (is_in_range 1 53 value) (record self { iso_week_number = Some value }) }
+        ensures { result
+            ≡ with_if (is_in_range 1 53 value) (record self { iso_week_number = Some value }) }
     {
         self.set_iso_week_number(value)?;
         Some(self)
@@ -148,7 +155,8 @@ impl Parsed {
 
     /// Sets the day of the year. `None` where it is not 1 to 366, and then nothing changes.
     pub fn set_ordinal(&mut self, value: u16) -> Option<()>
-        ensures { (result, self.new) ≡ set_if (is_in_range 1 366 value) self.old (record self.old { ordinal = Some value }) }
+        ensures { (result, self.new)
+            ≡ set_if (is_in_range 1 366 value) self.old (record self.old { ordinal = Some value }) }
     {
         if value < 1 || value > 366 {
             return None;
@@ -159,7 +167,8 @@ impl Parsed {
 
     /// The record with the day of the year. `None` where it is not 1 to 366.
     pub fn with_ordinal(mut self, value: u16) -> Option<Self>
-        ensures { result ≡ with_if (is_in_range 1 366 value) (record self { ordinal = Some value }) }
+        ensures { result
+            ≡ with_if (is_in_range 1 366 value) (record self { ordinal = Some value }) }
     {
         self.set_ordinal(value)?;
         Some(self)
@@ -175,7 +184,8 @@ impl Parsed {
 
     /// Sets the day of the month. `None` where it is not 1 to 31, and then nothing changes.
     pub fn set_day(&mut self, value: u8) -> Option<()>
-        ensures { (result, self.new) ≡ set_if (is_in_range 1 31 value) self.old (record self.old { day = Some value }) }
+        ensures { (result, self.new)
+            ≡ set_if (is_in_range 1 31 value) self.old (record self.old { day = Some value }) }
     {
         if value < 1 || value > 31 {
             return None;

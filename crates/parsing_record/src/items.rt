@@ -1,10 +1,10 @@
 //! Reading by the items of a description.
-ghost use Rattle.std.specs.Prelude.{◌≡◌, Ok, IfSome, map};
+ghost use Rattle.std.specs.Prelude.{◌≡◌, Ok, IfSome};
 ghost use Rattle.description_items.specs.Tree.{tree_of, trees, listed};
 ghost use Rattle.parsing_pieces.specs.FaultOf.{Gives, reading_fault};
 ghost use Rattle.parsing_components.specs.Component.{reads_component, reads_component_v3};
 ghost use Rattle.parsing_components.specs.Put.{MayRead};
-ghost use Rattle.parsing_record.specs.Meaning.{Answers, Reads, literally, first_of, meaning};
+ghost use Rattle.parsing_record.specs.Meaning.{Answers, Reads, literally, first_of};
 ghost use Rattle.parsing_record.specs.Reads.{putting, reading, reading_of_all, each_reads, tried, tried_in_all};
 
 use crate::parsed::Parsed;
@@ -21,7 +21,8 @@ impl Parsed {
         input: &'a [u8],
         literal: &[u8],
     ) -> Result<&'a [u8], ParseFromDescription>
-        ensures { Gives (λ rest. (tt, rest.now)) reading_fault result (literally literal.now input.now) }
+        ensures { Gives (λ rest. (tt, rest.now)) reading_fault result
+            (literally literal.now input.now) }
     {
         match input.strip_prefix(literal) {
             Some(rest) => Ok(rest),
@@ -40,7 +41,8 @@ impl Parsed {
         input: &'a [u8],
         component: Component,
     ) -> Result<&'a [u8], ParseFromDescription>
-        ensures { Reads result self.old self.new (putting (reads_component component) self.old input.now) }
+        ensures { Reads result self.old self.new
+            (putting (reads_component component) self.old input.now) }
     {
         read_component(component, input, &mut self.fields)
     }
@@ -54,7 +56,8 @@ impl Parsed {
         input: &'a [u8],
         component: Component,
     ) -> Result<&'a [u8], ParseFromDescription>
-        ensures { Reads result self.old self.new (putting (reads_component_v3 component) self.old input.now) }
+        ensures { Reads result self.old self.new
+            (putting (reads_component_v3 component) self.old input.now) }
     {
         read_component_v3(component, input, &mut self.fields)
     }
@@ -69,7 +72,8 @@ impl Parsed {
         input: &'a [u8],
         item: &BorrowedFormatItem<'_>,
     ) -> Result<&'a [u8], ParseFromDescription>
-        ensures { Reads result self.old self.new (reading reads_component (tree_of item.now) self.old input.now) }
+        ensures { Reads result self.old self.new
+            (reading reads_component (tree_of item.now) self.old input.now) }
     {
         self.parse_item_tallied(input, item, &mut NoTally)
     }
@@ -81,8 +85,10 @@ impl Parsed {
         item: &BorrowedFormatItem<'_>,
         tally: &mut T,
     ) -> Result<&'a [u8], ParseFromDescription>
-        ensures reads { Reads result self.old self.new (reading reads_component (tree_of item.now) self.old input.now) }
-        ensures tally { T.grows tally.old tally.new (tried reads_component (tree_of item.now) self.old input.now) }
+        ensures reads { Reads result self.old self.new
+            (reading reads_component (tree_of item.now) self.old input.now) }
+        ensures tally { T.grows tally.old tally.new
+            (tried reads_component (tree_of item.now) self.old input.now) }
     {
         let before = *self;
         let answer = read_item(item, input, self, tally);
@@ -99,7 +105,8 @@ impl Parsed {
         input: &'a [u8],
         items: &[BorrowedFormatItem<'_>],
     ) -> Result<&'a [u8], ParseFromDescription>
-        ensures { Reads result self.old self.new (reading_of_all reads_component (listed (trees items.now)) self.old input.now) }
+        ensures { Reads result self.old self.new
+            (reading_of_all reads_component (listed (trees items.now)) self.old input.now) }
     {
         self.parse_items_tallied(input, items, &mut NoTally)
     }
@@ -111,8 +118,10 @@ impl Parsed {
         items: &[BorrowedFormatItem<'_>],
         tally: &mut T,
     ) -> Result<&'a [u8], ParseFromDescription>
-        ensures reads { Reads result self.old self.new (reading_of_all reads_component (listed (trees items.now)) self.old input.now) }
-        ensures tally { T.grows tally.old tally.new (tried_in_all reads_component (listed (trees items.now)) self.old input.now) }
+        ensures reads { Reads result self.old self.new
+            (reading_of_all reads_component (listed (trees items.now)) self.old input.now) }
+        ensures tally { T.grows tally.old tally.new
+            (tried_in_all reads_component (listed (trees items.now)) self.old input.now) }
     {
         let before = *self;
         let answer = read_items(items, input, self, tally);
@@ -143,8 +152,10 @@ fn read_usual_item<'a>(
     input: &'a [u8],
     parsed: &mut Parsed,
 ) -> Option<&'a [u8]>
-    ensures answer { MayRead result parsed.old parsed.new (reading reads_component (tree_of item.now) parsed.old input.now) }
-    ensures tally { IfSome result (λ _. tried reads_component (tree_of item.now) parsed.old input.now ≡ 1) }
+    ensures answer { MayRead result parsed.old parsed.new
+        (reading reads_component (tree_of item.now) parsed.old input.now) }
+    ensures tally { IfSome result
+        (λ _. tried reads_component (tree_of item.now) parsed.old input.now ≡ 1) }
 {
     match item {
         BorrowedFormatItem::Literal(literal) => after_byte(literal, input),
@@ -167,8 +178,10 @@ fn read_next<'a, T: Tally>(
     parsed: &mut Parsed,
     tally: &mut T,
 ) -> Result<&'a [u8], ParseFromDescription>
-    ensures answer { Answers result parsed.new (reading reads_component (tree_of item.now) parsed.old input.now) }
-    ensures tally { T.grows tally.old tally.new (tried reads_component (tree_of item.now) parsed.old input.now) }
+    ensures answer { Answers result parsed.new
+        (reading reads_component (tree_of item.now) parsed.old input.now) }
+    ensures tally { T.grows tally.old tally.new
+        (tried reads_component (tree_of item.now) parsed.old input.now) }
 {
     if let Some(rest) = read_usual_item(item, input, parsed) {
         tally.begin();
@@ -186,8 +199,10 @@ fn read_item<'a, T: Tally>(
     parsed: &mut Parsed,
     tally: &mut T,
 ) -> Result<&'a [u8], ParseFromDescription>
-    ensures answer { Answers result parsed.new (reading reads_component (tree_of item.now) parsed.old input.now) }
-    ensures tally { T.grows tally.old tally.new (tried reads_component (tree_of item.now) parsed.old input.now) }
+    ensures answer { Answers result parsed.new
+        (reading reads_component (tree_of item.now) parsed.old input.now) }
+    ensures tally { T.grows tally.old tally.new
+        (tried reads_component (tree_of item.now) parsed.old input.now) }
 {
     tally.begin();
     match item {
@@ -220,8 +235,10 @@ fn read_items<'a, T: Tally>(
     parsed: &mut Parsed,
     tally: &mut T,
 ) -> Result<&'a [u8], ParseFromDescription>
-    ensures answer { Answers result parsed.new (reading_of_all reads_component (listed (trees items.now)) parsed.old input.now) }
-    ensures tally { T.grows tally.old tally.new (tried_in_all reads_component (listed (trees items.now)) parsed.old input.now) }
+    ensures answer { Answers result parsed.new
+        (reading_of_all reads_component (listed (trees items.now)) parsed.old input.now) }
+    ensures tally { T.grows tally.old tally.new
+        (tried_in_all reads_component (listed (trees items.now)) parsed.old input.now) }
 {
     let mut rest = input;
     for item in items {
@@ -238,8 +255,10 @@ fn read_first<'a, T: Tally>(
     parsed: &mut Parsed,
     tally: &mut T,
 ) -> Result<&'a [u8], ParseFromDescription>
-    ensures answer { Answers result parsed.new (first_of (each_reads reads_component (listed (trees items.now))) parsed.old input.now).0 }
-    ensures tally { T.grows tally.old tally.new (first_of (each_reads reads_component (listed (trees items.now))) parsed.old input.now).1 }
+    ensures answer { Answers result parsed.new
+        (first_of (each_reads reads_component (listed (trees items.now))) parsed.old input.now).0 }
+    ensures tally { T.grows tally.old tally.new
+        (first_of (each_reads reads_component (listed (trees items.now))) parsed.old input.now).1 }
 {
     let before = *parsed;
     let mut fault = None;

@@ -1,9 +1,8 @@
 //! The offset of a record, and its Unix time.
 ghost use Rattle.std.specs.Prelude.{◌≡◌, pos, neg_ℤ, Some, option_map, unsigned_abs};
 ghost use Rattle.std.specs.Int.{is_in_range};
-ghost use Rattle.calendar_count.specs.Range.{greatest_year};
-ghost use Rattle.parsing_record.specs.Record.{set_if, with_if, is_up_to, is_between, century_sign, InRange, InSigned, Reaches};
-ghost use Rattle.parsing_components.specs.Ranged.{greatest_century, nanoseconds_before_epoch, nanoseconds_after_epoch};
+ghost use Rattle.parsing_record.specs.Record.{set_if, with_if, is_up_to, is_between, InRange, InSigned, Reaches};
+ghost use Rattle.parsing_components.specs.Ranged.{nanoseconds_before_epoch, nanoseconds_after_epoch};
 ghost use Rattle.parsing_record.specs.Parts.{under_sign};
 
 use crate::parsed::Parsed;
@@ -27,7 +26,8 @@ impl Parsed {
 
     /// Sets the hours of the offset, east of UTC. `None` where they are not -25 to 25, and then nothing changes.
     pub fn set_offset_hour(&mut self, value: i8) -> Option<()>
-        ensures { (result, self.new) ≡ set_if (is_up_to 25 value) self.old (record self.old { offset_hour = Some value }) }
+        ensures { (result, self.new)
+            ≡ set_if (is_up_to 25 value) self.old (record self.old { offset_hour = Some value }) }
     {
         if value < -25 || value > 25 {
             return None;
@@ -68,7 +68,9 @@ impl Parsed {
 
     /// Sets the minutes of the offset as they stand. `None` where they are not 0 to 59, and then nothing changes.
     pub fn set_offset_minute(&mut self, value: u8) -> Option<()>
-        ensures { (result, self.new) ≡ set_if (is_in_range 0 59 value) self.old (record self.old { offset_minute = Some (pos value) }) }
+        ensures { (result, self.new)
+            ≡ set_if (is_in_range 0 59 value) self.old
+            (record self.old { offset_minute = Some (pos value) }) }
     {
         if value > 59 {
             return None;
@@ -79,7 +81,8 @@ impl Parsed {
 
     /// The record with the minutes of the offset as they stand. `None` where they are not 0 to 59.
     pub fn with_offset_minute(mut self, value: u8) -> Option<Self>
-        ensures { result ≡ with_if (is_in_range 0 59 value) (record self { offset_minute = Some (pos value) }) }
+        ensures { result
+            ≡ with_if (is_in_range 0 59 value) (record self { offset_minute = Some (pos value) }) }
     {
         self.set_offset_minute(value)?;
         Some(self)
@@ -87,7 +90,8 @@ impl Parsed {
 
     /// Sets the minutes of the offset as they stand. `None` where they are not -59 to 59, and then nothing changes.
     pub fn set_offset_minute_signed(&mut self, value: i8) -> Option<()>
-        ensures { (result, self.new) ≡ set_if (is_up_to 59 value) self.old (record self.old { offset_minute = Some value }) }
+        ensures { (result, self.new)
+            ≡ set_if (is_up_to 59 value) self.old (record self.old { offset_minute = Some value }) }
     {
         if value < -59 || value > 59 {
             return None;
@@ -98,7 +102,8 @@ impl Parsed {
 
     /// The record with the minutes of the offset as they stand. `None` where they are not -59 to 59.
     pub fn with_offset_minute_signed(mut self, value: i8) -> Option<Self>
-        ensures { result ≡ with_if (is_up_to 59 value) (record self { offset_minute = Some value }) }
+        ensures { result
+            ≡ with_if (is_up_to 59 value) (record self { offset_minute = Some value }) }
     {
         self.set_offset_minute_signed(value)?;
         Some(self)
@@ -128,7 +133,9 @@ impl Parsed {
 
     /// Sets the seconds of the offset as they stand. `None` where they are not 0 to 59, and then nothing changes.
     pub fn set_offset_second(&mut self, value: u8) -> Option<()>
-        ensures { (result, self.new) ≡ set_if (is_in_range 0 59 value) self.old (record self.old { offset_second = Some (pos value) }) }
+        ensures { (result, self.new)
+            ≡ set_if (is_in_range 0 59 value) self.old
+            (record self.old { offset_second = Some (pos value) }) }
     {
         if value > 59 {
             return None;
@@ -139,7 +146,8 @@ impl Parsed {
 
     /// The record with the seconds of the offset as they stand. `None` where they are not 0 to 59.
     pub fn with_offset_second(mut self, value: u8) -> Option<Self>
-        ensures { result ≡ with_if (is_in_range 0 59 value) (record self { offset_second = Some (pos value) }) }
+        ensures { result
+            ≡ with_if (is_in_range 0 59 value) (record self { offset_second = Some (pos value) }) }
     {
         self.set_offset_second(value)?;
         Some(self)
@@ -147,7 +155,8 @@ impl Parsed {
 
     /// Sets the seconds of the offset as they stand. `None` where they are not -59 to 59, and then nothing changes.
     pub fn set_offset_second_signed(&mut self, value: i8) -> Option<()>
-        ensures { (result, self.new) ≡ set_if (is_up_to 59 value) self.old (record self.old { offset_second = Some value }) }
+        ensures { (result, self.new)
+            ≡ set_if (is_up_to 59 value) self.old (record self.old { offset_second = Some value }) }
     {
         if value < -59 || value > 59 {
             return None;
@@ -158,7 +167,8 @@ impl Parsed {
 
     /// The record with the seconds of the offset as they stand. `None` where they are not -59 to 59.
     pub fn with_offset_second_signed(mut self, value: i8) -> Option<Self>
-        ensures { result ≡ with_if (is_up_to 59 value) (record self { offset_second = Some value }) }
+        ensures { result
+            ≡ with_if (is_up_to 59 value) (record self { offset_second = Some value }) }
     {
         self.set_offset_second_signed(value)?;
         Some(self)
@@ -169,7 +179,8 @@ impl Parsed {
     /// there is one.
     pub fn unix_timestamp_nanos(&self) -> Option<i128>
         ensures value { result ≡ self.now.unix_timestamp_nanos }
-        ensures bound { InSigned (neg_ℤ (pos nanoseconds_before_epoch)) (pos nanoseconds_after_epoch) result }
+        ensures bound { InSigned (neg_ℤ (pos nanoseconds_before_epoch))
+            (pos nanoseconds_after_epoch) result }
     {
         self.fields.unix_timestamp_nanos
     }
@@ -177,7 +188,10 @@ impl Parsed {
     /// Sets the nanoseconds since 1970 began in UTC. `None` where the calendar does not have their day, and then
     /// nothing changes.
     pub fn set_unix_timestamp_nanos(&mut self, value: i128) -> Option<()>
-        ensures { (result, self.new) ≡ set_if (is_between (neg_ℤ (pos nanoseconds_before_epoch)) (pos nanoseconds_after_epoch) value) self.old (record self.old { unix_timestamp_nanos = Some value }) }
+        ensures { (result, self.new)
+            ≡ set_if (is_between (neg_ℤ (pos nanoseconds_before_epoch))
+            (pos nanoseconds_after_epoch) value) self.old
+            (record self.old { unix_timestamp_nanos = Some value }) }
     {
         if value < LEAST_NANOSECONDS || value > GREATEST_NANOSECONDS {
             return None;
@@ -188,7 +202,10 @@ impl Parsed {
 
     /// The record with the nanoseconds since 1970 began in UTC. `None` where the calendar does not have their day.
     pub fn with_unix_timestamp_nanos(mut self, value: i128) -> Option<Self>
-        ensures { result ≡ with_if (is_between (neg_ℤ (pos nanoseconds_before_epoch)) (pos nanoseconds_after_epoch) value) (record self { unix_timestamp_nanos = Some value }) }
+        ensures { result
+            ≡ with_if
+            (is_between (neg_ℤ (pos nanoseconds_before_epoch)) (pos nanoseconds_after_epoch) value)
+            (record self { unix_timestamp_nanos = Some value }) }
     {
         self.set_unix_timestamp_nanos(value)?;
         Some(self)

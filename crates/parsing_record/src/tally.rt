@@ -1,6 +1,6 @@
 //! Counting the items that a reading begins.
-ghost use Rattle.std.specs.Prelude.{◌≡◌, ◌+◌, ℕ, min};
-ghost use Rattle.parsing_record.specs.Tally.{greatest_count, Tallied, tallied_none, tallied_more};
+ghost use Rattle.std.specs.Prelude.{◌+◌, ℕ};
+ghost use Rattle.parsing_record.specs.Tally.{Tallied, tallied_none, tallied_more};
 
 /// What is told of each item that a reading begins.
 pub trait Tally {

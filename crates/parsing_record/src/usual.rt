@@ -53,7 +53,8 @@ impl Parsed {
     #[inline(always)]
     #[tactic(auto, unfolding(parsing_moments::specs::NamedMoment::named_moment, parsing_moments::specs::NamedMoment::dated_moment, parsing_moments::specs::NamedMoment::named_wall, parsing_resolution::specs::StandIn::leap_checked))]
     pub(crate) fn usual_moment(&self) -> Option<OffsetDateTime>
-        ensures { IfSome result (λ m. named_moment (moment_parts self.now) (offset_parts self.now) ≡ Ok m) }
+        ensures { IfSome result
+            (λ m. named_moment (moment_parts self.now) (offset_parts self.now) ≡ Ok m) }
     {
         let fields = &self.fields;
         if fields.leap_second_is_permitted || fields.unix_timestamp_nanos.is_some() {

@@ -1,9 +1,9 @@
 //! The years of a record.
-ghost use Rattle.std.specs.Prelude.{◌≡◌, pos, neg_ℤ, Some, option_map, unsigned_abs};
+ghost use Rattle.std.specs.Prelude.{◌≡◌, Some, option_map};
 ghost use Rattle.std.specs.Int.{is_in_range};
 ghost use Rattle.calendar_count.specs.Range.{greatest_year};
-ghost use Rattle.parsing_record.specs.Record.{set_if, with_if, is_up_to, is_between, century_sign, InRange, InSigned, Reaches};
-ghost use Rattle.parsing_components.specs.Ranged.{greatest_century, nanoseconds_before_epoch, nanoseconds_after_epoch};
+ghost use Rattle.parsing_record.specs.Record.{set_if, with_if, is_up_to, century_sign, InRange, Reaches};
+ghost use Rattle.parsing_components.specs.Ranged.{greatest_century};
 
 use crate::parsed::Parsed;
 use calendar_count::range::GREATEST_YEAR;
@@ -21,7 +21,9 @@ impl Parsed {
 
     /// Sets the year. `None` where it is not -999999 to 999999, and then nothing changes.
     pub fn set_year(&mut self, value: i32) -> Option<()>
-        ensures { (result, self.new) ≡ set_if (is_up_to greatest_year value) self.old (record self.old { year = Some value }) }
+        ensures { (result, self.new)
+            ≡ set_if (is_up_to greatest_year value) self.old
+            (record self.old { year = Some value }) }
     {
         if value < -GREATEST_YEAR || value > GREATEST_YEAR {
             return None;
@@ -32,7 +34,8 @@ impl Parsed {
 
     /// The record with the year. `None` where it is not -999999 to 999999.
     pub fn with_year(mut self, value: i32) -> Option<Self>
-        ensures { result ≡ with_if (is_up_to greatest_year value) (record self { year = Some value }) }
+        ensures { result
+            ≡ with_if (is_up_to greatest_year value) (record self { year = Some value }) }
     {
         self.set_year(value)?;
         Some(self)
@@ -49,7 +52,8 @@ impl Parsed {
 
     /// Whether the century is behind a minus, which -0 has too. The last two digits then lead backwards.
     pub fn year_century_is_negative(&self) -> Option<bool>
-        ensures { result ≡ option_map (λ _. self.now.year_century_is_negative) self.now.year_century }
+        ensures { result
+            ≡ option_map (λ _. self.now.year_century_is_negative) self.now.year_century }
     {
         self.fields.year_century?;
         Some(self.fields.year_century_is_negative)
@@ -58,7 +62,12 @@ impl Parsed {
     /// Sets the century and its sign, which `is_negative` says of 0 alone. `None` where it is not -9999 to 9999, and
     /// then nothing changes.
     pub fn set_year_century(&mut self, value: i16, is_negative: bool) -> Option<()>
-        ensures { (result, self.new) ≡ set_if (is_up_to greatest_century value) self.old (record self.old { year_century = Some value; year_century_is_negative = century_sign value is_negative }) }
+        ensures { (result, self.new)
+            ≡ set_if (is_up_to greatest_century value) self.old
+            (record self.old {
+              year_century = Some value;
+              year_century_is_negative = century_sign value is_negative;
+            }) }
     {
         if value < -GREATEST_CENTURY || value > GREATEST_CENTURY {
             return None;
@@ -71,7 +80,12 @@ impl Parsed {
     /// The record with the century and its sign, which `is_negative` says of 0 alone. `None` where it is not -9999 to
     /// 9999.
     pub fn with_year_century(mut self, value: i16, is_negative: bool) -> Option<Self>
-        ensures { result ≡ with_if (is_up_to greatest_century value) (record self { year_century = Some value; year_century_is_negative = century_sign value is_negative }) }
+        ensures { result
+            ≡ with_if (is_up_to greatest_century value)
+            (record self {
+              year_century = Some value;
+              year_century_is_negative = century_sign value is_negative;
+            }) }
     {
         self.set_year_century(value, is_negative)?;
         Some(self)
@@ -87,7 +101,9 @@ impl Parsed {
 
     /// Sets the last two digits of the year. `None` where they are not 0 to 99, and then nothing changes.
     pub fn set_year_last_two(&mut self, value: u8) -> Option<()>
-        ensures { (result, self.new) ≡ set_if (is_in_range 0 99 value) self.old (record self.old { year_last_two = Some value }) }
+        ensures { (result, self.new)
+            ≡ set_if (is_in_range 0 99 value) self.old
+            (record self.old { year_last_two = Some value }) }
     {
         if value > 99 {
             return None;
@@ -98,7 +114,8 @@ impl Parsed {
 
     /// The record with the last two digits of the year. `None` where they are not 0 to 99.
     pub fn with_year_last_two(mut self, value: u8) -> Option<Self>
-        ensures { result ≡ with_if (is_in_range 0 99 value) (record self { year_last_two = Some value }) }
+        ensures { result
+            ≡ with_if (is_in_range 0 99 value) (record self { year_last_two = Some value }) }
     {
         self.set_year_last_two(value)?;
         Some(self)
@@ -115,7 +132,9 @@ impl Parsed {
     /// Sets the year of ISO 8601, to which its weeks belong. `None` where it is not -999999 to 999999, and then
     /// nothing changes.
     pub fn set_iso_year(&mut self, value: i32) -> Option<()>
-        ensures { (result, self.new) ≡ set_if (is_up_to greatest_year value) self.old (record self.old { iso_year = Some value }) }
+        ensures { (result, self.new)
+            ≡ set_if (is_up_to greatest_year value) self.old
+            (record self.old { iso_year = Some value }) }
     {
         if value < -GREATEST_YEAR || value > GREATEST_YEAR {
             return None;
@@ -126,7 +145,8 @@ impl Parsed {
 
     /// The record with the year of ISO 8601, to which its weeks belong. `None` where it is not -999999 to 999999.
     pub fn with_iso_year(mut self, value: i32) -> Option<Self>
-        ensures { result ≡ with_if (is_up_to greatest_year value) (record self { iso_year = Some value }) }
+        ensures { result
+            ≡ with_if (is_up_to greatest_year value) (record self { iso_year = Some value }) }
     {
         self.set_iso_year(value)?;
         Some(self)
@@ -143,7 +163,8 @@ impl Parsed {
 
     /// Whether the century of that year is behind a minus, which -0 has too. The last two digits then lead backwards.
     pub fn iso_year_century_is_negative(&self) -> Option<bool>
-        ensures { result ≡ option_map (λ _. self.now.iso_year_century_is_negative) self.now.iso_year_century }
+        ensures { result
+            ≡ option_map (λ _. self.now.iso_year_century_is_negative) self.now.iso_year_century }
     {
         self.fields.iso_year_century?;
         Some(self.fields.iso_year_century_is_negative)
@@ -152,7 +173,12 @@ impl Parsed {
     /// Sets the century of that year and its sign, which `is_negative` says of 0 alone. `None` where it is not -9999
     /// to 9999, and then nothing changes.
     pub fn set_iso_year_century(&mut self, value: i16, is_negative: bool) -> Option<()>
-        ensures { (result, self.new) ≡ set_if (is_up_to greatest_century value) self.old (record self.old { iso_year_century = Some value; iso_year_century_is_negative = century_sign value is_negative }) }
+        ensures { (result, self.new)
+            ≡ set_if (is_up_to greatest_century value) self.old
+            (record self.old {
+              iso_year_century = Some value;
+              iso_year_century_is_negative = century_sign value is_negative;
+            }) }
     {
         if value < -GREATEST_CENTURY || value > GREATEST_CENTURY {
             return None;
@@ -165,7 +191,12 @@ impl Parsed {
     /// The record with the century of that year and its sign, which `is_negative` says of 0 alone. `None` where it is
     /// not -9999 to 9999.
     pub fn with_iso_year_century(mut self, value: i16, is_negative: bool) -> Option<Self>
-        ensures { result ≡ with_if (is_up_to greatest_century value) (record self { iso_year_century = Some value; iso_year_century_is_negative = century_sign value is_negative }) }
+        ensures { result
+            ≡ with_if (is_up_to greatest_century value)
+            (record self {
+              iso_year_century = Some value;
+              iso_year_century_is_negative = century_sign value is_negative;
+            }) }
     {
         self.set_iso_year_century(value, is_negative)?;
         Some(self)
@@ -181,7 +212,9 @@ impl Parsed {
 
     /// Sets the last two digits of that year. `None` where they are not 0 to 99, and then nothing changes.
     pub fn set_iso_year_last_two(&mut self, value: u8) -> Option<()>
-        ensures { (result, self.new) ≡ set_if (is_in_range 0 99 value) self.old (record self.old { iso_year_last_two = Some value }) }
+        ensures { (result, self.new)
+            ≡ set_if (is_in_range 0 99 value) self.old
+            (record self.old { iso_year_last_two = Some value }) }
     {
         if value > 99 {
             return None;
@@ -192,7 +225,8 @@ impl Parsed {
 
     /// The record with the last two digits of that year. `None` where they are not 0 to 99.
     pub fn with_iso_year_last_two(mut self, value: u8) -> Option<Self>
-        ensures { result ≡ with_if (is_in_range 0 99 value) (record self { iso_year_last_two = Some value }) }
+        ensures { result
+            ≡ with_if (is_in_range 0 99 value) (record self { iso_year_last_two = Some value }) }
     {
         self.set_iso_year_last_two(value)?;
         Some(self)

@@ -1,5 +1,5 @@
 //! The values that numbers name: the first number out of range is refused.
-ghost use Rattle.std.specs.Prelude.{◌≡◌, ◌≤◌, ◌<◌};
+ghost use Rattle.std.specs.Prelude.{◌≡◌, ◌<◌};
 ghost use Rattle.parsing_resolution.specs.Resolution.{date_of, permitted_time_of, leap_time_of, signed_offset_of};
 
 use calendar::{ComponentRange, Date, Month, Time, UtcOffset};

@@ -1,5 +1,4 @@
 //! Reading by the nodes of a tree.
-ghost use Rattle.std.specs.Prelude.{◌≡◌, map};
 ghost use Rattle.description_items.specs.Tree.{listed};
 ghost use Rattle.description_tree.specs.Inner.{inner_tree, inner_trees};
 ghost use Rattle.description_tree.specs.Description.{v3_tree};
@@ -19,8 +18,10 @@ pub fn parse_tree<'a, T: Tally>(
     parsed: &mut Parsed,
     tally: &mut T,
 ) -> Result<&'a [u8], ParseFromDescription>
-    ensures reads { Reads result parsed.old parsed.new (reading reads_component_v3 (v3_tree description.now) parsed.old input.now) }
-    ensures tally { T.grows tally.old tally.new (tried reads_component_v3 (v3_tree description.now) parsed.old input.now) }
+    ensures reads { Reads result parsed.old parsed.new
+        (reading reads_component_v3 (v3_tree description.now) parsed.old input.now) }
+    ensures tally { T.grows tally.old tally.new
+        (tried reads_component_v3 (v3_tree description.now) parsed.old input.now) }
 {
     let before = *parsed;
     let answer = read_node(description.inner(), input, parsed, tally);
@@ -39,8 +40,10 @@ fn read_node<'a, T: Tally>(
     parsed: &mut Parsed,
     tally: &mut T,
 ) -> Result<&'a [u8], ParseFromDescription>
-    ensures answer { Answers result parsed.new (reading reads_component_v3 (inner_tree node.now) parsed.old input.now) }
-    ensures tally { T.grows tally.old tally.new (tried reads_component_v3 (inner_tree node.now) parsed.old input.now) }
+    ensures answer { Answers result parsed.new
+        (reading reads_component_v3 (inner_tree node.now) parsed.old input.now) }
+    ensures tally { T.grows tally.old tally.new
+        (tried reads_component_v3 (inner_tree node.now) parsed.old input.now) }
 {
     tally.begin();
     if let Some(component) = node.component() {
@@ -68,8 +71,10 @@ fn read_optional<'a, T: Tally>(
     parsed: &mut Parsed,
     tally: &mut T,
 ) -> Result<&'a [u8], ParseFromDescription>
-    ensures answer { Answers result parsed.new (optionally (reads reads_component_v3 (inner_tree node.now)) parsed.old input.now).0 }
-    ensures tally { T.grows tally.old tally.new (optionally (reads reads_component_v3 (inner_tree node.now)) parsed.old input.now).1 }
+    ensures answer { Answers result parsed.new
+        (optionally (reads reads_component_v3 (inner_tree node.now)) parsed.old input.now).0 }
+    ensures tally { T.grows tally.old tally.new
+        (optionally (reads reads_component_v3 (inner_tree node.now)) parsed.old input.now).1 }
 {
     let before = *parsed;
     match read_node(node, input, parsed, tally) {
@@ -89,8 +94,10 @@ fn read_nodes<'a, T: Tally>(
     parsed: &mut Parsed,
     tally: &mut T,
 ) -> Result<&'a [u8], ParseFromDescription>
-    ensures answer { Answers result parsed.new (reading_of_all reads_component_v3 (listed (inner_trees nodes.now)) parsed.old input.now) }
-    ensures tally { T.grows tally.old tally.new (tried_in_all reads_component_v3 (listed (inner_trees nodes.now)) parsed.old input.now) }
+    ensures answer { Answers result parsed.new
+        (reading_of_all reads_component_v3 (listed (inner_trees nodes.now)) parsed.old input.now) }
+    ensures tally { T.grows tally.old tally.new
+        (tried_in_all reads_component_v3 (listed (inner_trees nodes.now)) parsed.old input.now) }
 {
     let mut rest = input;
     for node in nodes {
@@ -107,8 +114,14 @@ fn read_first<'a, T: Tally>(
     parsed: &mut Parsed,
     tally: &mut T,
 ) -> Result<&'a [u8], ParseFromDescription>
-    ensures answer { Answers result parsed.new (first_of (each_reads reads_component_v3 (listed (inner_trees nodes.now))) parsed.old input.now).0 }
-    ensures tally { T.grows tally.old tally.new (first_of (each_reads reads_component_v3 (listed (inner_trees nodes.now))) parsed.old input.now).1 }
+    ensures answer { Answers result parsed.new
+        (first_of
+        (each_reads reads_component_v3 (listed (inner_trees nodes.now))) parsed.old
+        input.now).0 }
+    ensures tally { T.grows tally.old tally.new
+        (first_of
+        (each_reads reads_component_v3 (listed (inner_trees nodes.now))) parsed.old
+        input.now).1 }
 {
     let before = *parsed;
     let mut fault = None;

@@ -30,7 +30,8 @@ fn is_obsolete_text(byte: u8) -> bool
 
 #[tactic(auto, unfolding(crate::specs::Skips::byte_where))]
 fn text(bytes: &[u8]) -> Option<&[u8]>
-    ensures skips { option_map (λ r. r.now) result ≡ Skips.byte_where White.is_comment_text bytes.now }
+    ensures skips { option_map (λ r. r.now) result
+        ≡ Skips.byte_where White.is_comment_text bytes.now }
     ensures shorter { IfSome result (λ r. length r.now < length bytes.now) }
 {
     match bytes {
@@ -52,7 +53,8 @@ fn quotable(bytes: &[u8]) -> Option<&[u8]>
 
 #[tactic(auto, unfolding(crate::specs::Skips::byte_where))]
 fn obsolete_text(bytes: &[u8]) -> Option<&[u8]>
-    ensures skips { option_map (λ r. r.now) result ≡ Skips.byte_where White.is_obsolete_text bytes.now }
+    ensures skips { option_map (λ r. r.now) result
+        ≡ Skips.byte_where White.is_obsolete_text bytes.now }
     ensures shorter { IfSome result (λ r. length r.now < length bytes.now) }
 {
     match bytes {
@@ -178,7 +180,8 @@ fn past_white_and_comments(bytes: &[u8]) -> &[u8]
 #[inline(always)]
 pub fn may_begin(bytes: &[u8]) -> bool
     ensures absent { result ≡ false → White.comments_and_white_space bytes.now ≡ None }
-    ensures first { (result ≡ true) ↔ ((0 < length bytes.now) × (slice_index bytes.now 0 ≤ White.left_parenthesis)) }
+    ensures first { (result ≡ true)
+        ↔ ((0 < length bytes.now) × (slice_index bytes.now 0 ≤ White.left_parenthesis)) }
 {
     match bytes {
         [first, ..] => *first <= b'(',
@@ -193,7 +196,8 @@ pub fn one_space(bytes: &[u8]) -> Option<&[u8]>
     ensures skips { IfSome result (λ r. White.comments_and_white_space bytes.now ≡ Some r.now) }
     ensures folds { IfSome result (λ r. White.folding_white_space bytes.now ≡ Some r.now) }
     ensures shorter { IfSome result (λ r. length r.now < length bytes.now) }
-    ensures there { IsSome result ↔ ((slice_index bytes.now 0 ≡ space) × (White.left_parenthesis < slice_index bytes.now 1)) }
+    ensures there { IsSome result
+        ↔ ((slice_index bytes.now 0 ≡ space) × (White.left_parenthesis < slice_index bytes.now 1)) }
 {
     match bytes {
         [first, next, ..] if *first == b' ' && *next > b'(' => Some(&bytes[1..]),

@@ -14,7 +14,8 @@ impl OffsetDateTime {
     #[inline(always)]
     pub fn checked_add(self, duration: SignedDuration) -> Option<OffsetDateTime>
         ensures some { IsSome result ↔ IsWallClock (self.wall +ℤ duration) }
-        ensures value { IfSome result (λ m. m ≡ record { wall = self.wall +ℤ duration; offset = self.offset }) }
+        ensures value { IfSome result
+            (λ m. m ≡ record { wall = self.wall +ℤ duration; offset = self.offset }) }
         ensures range { IsWallClock self.wall }
     {
         let wall = self.wall.checked_add(duration)?;
@@ -25,7 +26,8 @@ impl OffsetDateTime {
     #[inline(always)]
     pub fn checked_sub(self, duration: SignedDuration) -> Option<OffsetDateTime>
         ensures some { IsSome result ↔ IsWallClock (self.wall -ℤ duration) }
-        ensures value { IfSome result (λ m. m ≡ record { wall = self.wall -ℤ duration; offset = self.offset }) }
+        ensures value { IfSome result
+            (λ m. m ≡ record { wall = self.wall -ℤ duration; offset = self.offset }) }
         ensures range { IsWallClock self.wall }
     {
         let wall = self.wall.checked_sub(duration)?;
@@ -35,7 +37,11 @@ impl OffsetDateTime {
     /// The date and time at the offset so much later, or `None` where the calendar does not have the day.
     pub fn checked_add_std(self, duration: Duration) -> Option<OffsetDateTime>
         ensures some { IsSome result ↔ IsWallClock (self.wall +ℤ pos (as_nanos duration)) }
-        ensures value { IfSome result (λ m. m ≡ record { wall = self.wall +ℤ pos (as_nanos duration); offset = self.offset }) }
+        ensures value { IfSome result
+            (λ m. m ≡ record {
+              wall = self.wall +ℤ pos (as_nanos duration);
+              offset = self.offset;
+            }) }
     {
         let wall = self.wall.checked_add_std(duration)?;
         Some(OffsetDateTime::from_wall(wall, self.offset))
@@ -44,7 +50,11 @@ impl OffsetDateTime {
     /// The date and time at the offset so much earlier, or `None` where the calendar does not have the day.
     pub fn checked_sub_std(self, duration: Duration) -> Option<OffsetDateTime>
         ensures some { IsSome result ↔ IsWallClock (self.wall -ℤ pos (as_nanos duration)) }
-        ensures value { IfSome result (λ m. m ≡ record { wall = self.wall -ℤ pos (as_nanos duration); offset = self.offset }) }
+        ensures value { IfSome result
+            (λ m. m ≡ record {
+              wall = self.wall -ℤ pos (as_nanos duration);
+              offset = self.offset;
+            }) }
     {
         let wall = self.wall.checked_sub_std(duration)?;
         Some(OffsetDateTime::from_wall(wall, self.offset))
@@ -53,7 +63,8 @@ impl OffsetDateTime {
     /// The date and time at the offset so much later, or the nearest one that the calendar has, with the
     /// same offset.
     pub fn saturating_add(self, duration: SignedDuration) -> OffsetDateTime
-        ensures { result ≡ record { wall = nearest_wall_clock (self.wall +ℤ duration); offset = self.offset } }
+        ensures { result
+            ≡ record { wall = nearest_wall_clock (self.wall +ℤ duration); offset = self.offset } }
     {
         OffsetDateTime::from_wall(self.wall.saturating_add(duration), self.offset)
     }
@@ -61,7 +72,8 @@ impl OffsetDateTime {
     /// The date and time at the offset so much earlier, or the nearest one that the calendar has, with the
     /// same offset.
     pub fn saturating_sub(self, duration: SignedDuration) -> OffsetDateTime
-        ensures { result ≡ record { wall = nearest_wall_clock (self.wall -ℤ duration); offset = self.offset } }
+        ensures { result
+            ≡ record { wall = nearest_wall_clock (self.wall -ℤ duration); offset = self.offset } }
     {
         OffsetDateTime::from_wall(self.wall.saturating_sub(duration), self.offset)
     }
@@ -116,7 +128,8 @@ impl Add<Duration> for OffsetDateTime {
 
     ghost can_add = { λ a d. IsWallClock (a.wall +ℤ pos (as_nanos d)) };
 
-    ghost add_gives = { λ a d r. r ≡ record { wall = a.wall +ℤ pos (as_nanos d); offset = a.offset } };
+    ghost add_gives = { λ a d r. r
+        ≡ record { wall = a.wall +ℤ pos (as_nanos d); offset = a.offset } };
 
     fn add(self, duration: Duration) -> OffsetDateTime {
         self.checked_add_std(duration).unwrap()
@@ -126,7 +139,8 @@ impl Add<Duration> for OffsetDateTime {
 impl AddAssign<Duration> for OffsetDateTime {
     ghost can_add_assign = { λ a d. IsWallClock (a.wall +ℤ pos (as_nanos d)) };
 
-    ghost add_assign_gives = { λ a d r. r ≡ record { wall = a.wall +ℤ pos (as_nanos d); offset = a.offset } };
+    ghost add_assign_gives = { λ a d r. r
+        ≡ record { wall = a.wall +ℤ pos (as_nanos d); offset = a.offset } };
 
     fn add_assign(&mut self, duration: Duration) {
         *self = *self + duration;
@@ -138,7 +152,8 @@ impl Sub<Duration> for OffsetDateTime {
 
     ghost can_sub = { λ a d. IsWallClock (a.wall -ℤ pos (as_nanos d)) };
 
-    ghost sub_gives = { λ a d r. r ≡ record { wall = a.wall -ℤ pos (as_nanos d); offset = a.offset } };
+    ghost sub_gives = { λ a d r. r
+        ≡ record { wall = a.wall -ℤ pos (as_nanos d); offset = a.offset } };
 
     fn sub(self, duration: Duration) -> OffsetDateTime {
         self.checked_sub_std(duration).unwrap()
@@ -148,7 +163,8 @@ impl Sub<Duration> for OffsetDateTime {
 impl SubAssign<Duration> for OffsetDateTime {
     ghost can_sub_assign = { λ a d. IsWallClock (a.wall -ℤ pos (as_nanos d)) };
 
-    ghost sub_assign_gives = { λ a d r. r ≡ record { wall = a.wall -ℤ pos (as_nanos d); offset = a.offset } };
+    ghost sub_assign_gives = { λ a d r. r
+        ≡ record { wall = a.wall -ℤ pos (as_nanos d); offset = a.offset } };
 
     fn sub_assign(&mut self, duration: Duration) {
         *self = *self - duration;

@@ -16,7 +16,8 @@ impl OffsetDateTime {
     /// The same time of day on another date.
     #[inline(always)]
     pub fn replace_date(self, date: Date) -> OffsetDateTime
-        ensures value { result ≡ record { wall = wall_clock date (nanosecond_of self.wall); offset = self.offset } }
+        ensures value { result
+            ≡ record { wall = wall_clock date (nanosecond_of self.wall); offset = self.offset } }
         ensures day { day_of result.wall ≡ date }
         ensures time { nanosecond_of result.wall ≡ nanosecond_of self.wall }
     {
@@ -26,7 +27,8 @@ impl OffsetDateTime {
     /// Another time of day on the same date.
     #[inline(always)]
     pub fn replace_time(self, time: Time) -> OffsetDateTime
-        ensures value { result ≡ record { wall = wall_clock (day_of self.wall) time; offset = self.offset } }
+        ensures value { result
+            ≡ record { wall = wall_clock (day_of self.wall) time; offset = self.offset } }
     {
         OffsetDateTime::from_wall(self.wall.replace_time(time), self.offset)
     }
@@ -54,10 +56,16 @@ impl OffsetDateTime {
     /// A year beyond ±999999 is refused as `year`, and else 29 February, where the year does not have it, as
     /// `day`.
     pub fn replace_year(self, year: i32) -> Result<OffsetDateTime, ComponentRange>
-        ensures succeeds { IsOk result ↔ IsDay year (day_at (day_of self.wall)).month (day_at (day_of self.wall)).day }
-        ensures value { IfOk result (λ m. day_at (day_of m.wall) ≡ ymd year (day_at (day_of self.wall)).month (day_at (day_of self.wall)).day) }
-        ensures kept { IfOk result (λ m. (nanosecond_of m.wall ≡ nanosecond_of self.wall) × (m.offset ≡ self.offset)) }
-        ensures err { IfErr result (λ e. e ≡ (if is_year year then out_of_conditional_range component.Day else out_of_range component.Year)) }
+        ensures succeeds { IsOk result
+            ↔ IsDay year (day_at (day_of self.wall)).month (day_at (day_of self.wall)).day }
+        ensures value { IfOk result
+            (λ m. day_at (day_of m.wall)
+            ≡ ymd year (day_at (day_of self.wall)).month (day_at (day_of self.wall)).day) }
+        ensures kept { IfOk result (λ m. (nanosecond_of m.wall ≡ nanosecond_of self.wall)
+            × (m.offset ≡ self.offset)) }
+        ensures err { IfErr result
+            (λ e. e ≡ (if is_year year then out_of_conditional_range component.Day
+            else out_of_range component.Year)) }
     {
         Ok(OffsetDateTime::from_wall(self.wall.replace_year(year)?, self.offset))
     }
@@ -65,9 +73,15 @@ impl OffsetDateTime {
     /// The same day of the month and time in another month of the year, refused where that month does
     /// not have it, as `day`.
     pub fn replace_month(self, month: Month) -> Result<OffsetDateTime, ComponentRange>
-        ensures succeeds { IsOk result ↔ IsDay (day_at (day_of self.wall)).year (month_number month) (day_at (day_of self.wall)).day }
-        ensures value { IfOk result (λ m. day_at (day_of m.wall) ≡ ymd (day_at (day_of self.wall)).year (month_number month) (day_at (day_of self.wall)).day) }
-        ensures kept { IfOk result (λ m. (nanosecond_of m.wall ≡ nanosecond_of self.wall) × (m.offset ≡ self.offset)) }
+        ensures succeeds { IsOk result
+            ↔ IsDay (day_at (day_of self.wall)).year (month_number month)
+            (day_at (day_of self.wall)).day }
+        ensures value { IfOk result
+            (λ m. day_at (day_of m.wall)
+            ≡ ymd (day_at (day_of self.wall)).year (month_number month)
+            (day_at (day_of self.wall)).day) }
+        ensures kept { IfOk result (λ m. (nanosecond_of m.wall ≡ nanosecond_of self.wall)
+            × (m.offset ≡ self.offset)) }
         ensures err { IfErr result (λ e. e ≡ out_of_conditional_range component.Day) }
     {
         Ok(OffsetDateTime::from_wall(self.wall.replace_month(month)?, self.offset))
@@ -75,9 +89,13 @@ impl OffsetDateTime {
 
     /// The same time on another day of the month, from 1, refused where the month does not have it.
     pub fn replace_day(self, day: u8) -> Result<OffsetDateTime, ComponentRange>
-        ensures succeeds { IsOk result ↔ IsDay (day_at (day_of self.wall)).year (day_at (day_of self.wall)).month day }
-        ensures value { IfOk result (λ m. day_at (day_of m.wall) ≡ ymd (day_at (day_of self.wall)).year (day_at (day_of self.wall)).month day) }
-        ensures kept { IfOk result (λ m. (nanosecond_of m.wall ≡ nanosecond_of self.wall) × (m.offset ≡ self.offset)) }
+        ensures succeeds { IsOk result
+            ↔ IsDay (day_at (day_of self.wall)).year (day_at (day_of self.wall)).month day }
+        ensures value { IfOk result
+            (λ m. day_at (day_of m.wall)
+            ≡ ymd (day_at (day_of self.wall)).year (day_at (day_of self.wall)).month day) }
+        ensures kept { IfOk result (λ m. (nanosecond_of m.wall ≡ nanosecond_of self.wall)
+            × (m.offset ≡ self.offset)) }
         ensures err { IfErr result (λ e. e ≡ out_of_conditional_range component.Day) }
     {
         Ok(OffsetDateTime::from_wall(self.wall.replace_day(day)?, self.offset))
@@ -86,9 +104,13 @@ impl OffsetDateTime {
     /// The same time on the day with this place in the year, from 1, refused where the year does not
     /// have it.
     pub fn replace_ordinal(self, ordinal: u16) -> Result<OffsetDateTime, ComponentRange>
-        ensures succeeds { IsOk result ↔ IsInRange 1 (days_in_year (day_at (day_of self.wall)).year) ordinal }
-        ensures value { IfOk result (λ m. ((day_at (day_of m.wall)).year ≡ (day_at (day_of self.wall)).year) × (ordinal_at (day_of m.wall) ≡ ordinal)) }
-        ensures kept { IfOk result (λ m. (nanosecond_of m.wall ≡ nanosecond_of self.wall) × (m.offset ≡ self.offset)) }
+        ensures succeeds { IsOk result
+            ↔ IsInRange 1 (days_in_year (day_at (day_of self.wall)).year) ordinal }
+        ensures value { IfOk result
+            (λ m. ((day_at (day_of m.wall)).year ≡ (day_at (day_of self.wall)).year)
+            × (ordinal_at (day_of m.wall) ≡ ordinal)) }
+        ensures kept { IfOk result (λ m. (nanosecond_of m.wall ≡ nanosecond_of self.wall)
+            × (m.offset ≡ self.offset)) }
         ensures err { IfErr result (λ e. e ≡ out_of_conditional_range component.Ordinal) }
     {
         Ok(OffsetDateTime::from_wall(self.wall.replace_ordinal(ordinal)?, self.offset))
@@ -96,48 +118,61 @@ impl OffsetDateTime {
 
     /// The same date at another hour, refused from 24 on.
     pub fn replace_hour(self, hour: u8) -> Result<OffsetDateTime, ComponentRange>
-        ensures { result ≡ at_time (λ t. record { wall = wall_clock (day_of self.wall) t; offset = self.offset })
-            (time_of hour (minute_at (nanosecond_of self.wall)) (second_at (nanosecond_of self.wall)) (nanosecond_at (nanosecond_of self.wall))) }
+        ensures { result
+            ≡ at_time (λ t. record { wall = wall_clock (day_of self.wall) t; offset = self.offset })
+            (time_of hour (minute_at (nanosecond_of self.wall))
+            (second_at (nanosecond_of self.wall)) (nanosecond_at (nanosecond_of self.wall))) }
     {
         Ok(OffsetDateTime::from_wall(self.wall.replace_hour(hour)?, self.offset))
     }
 
     /// The same date at another minute of the hour, refused from 60 on.
     pub fn replace_minute(self, minute: u8) -> Result<OffsetDateTime, ComponentRange>
-        ensures { result ≡ at_time (λ t. record { wall = wall_clock (day_of self.wall) t; offset = self.offset })
-            (time_of (hour_at (nanosecond_of self.wall)) minute (second_at (nanosecond_of self.wall)) (nanosecond_at (nanosecond_of self.wall))) }
+        ensures { result
+            ≡ at_time (λ t. record { wall = wall_clock (day_of self.wall) t; offset = self.offset })
+            (time_of (hour_at (nanosecond_of self.wall)) minute
+            (second_at (nanosecond_of self.wall)) (nanosecond_at (nanosecond_of self.wall))) }
     {
         Ok(OffsetDateTime::from_wall(self.wall.replace_minute(minute)?, self.offset))
     }
 
     /// The same date at another second of the minute, refused from 60 on.
     pub fn replace_second(self, second: u8) -> Result<OffsetDateTime, ComponentRange>
-        ensures { result ≡ at_time (λ t. record { wall = wall_clock (day_of self.wall) t; offset = self.offset })
-            (time_of (hour_at (nanosecond_of self.wall)) (minute_at (nanosecond_of self.wall)) second (nanosecond_at (nanosecond_of self.wall))) }
+        ensures { result
+            ≡ at_time (λ t. record { wall = wall_clock (day_of self.wall) t; offset = self.offset })
+            (time_of (hour_at (nanosecond_of self.wall))
+            (minute_at (nanosecond_of self.wall)) second
+            (nanosecond_at (nanosecond_of self.wall))) }
     {
         Ok(OffsetDateTime::from_wall(self.wall.replace_second(second)?, self.offset))
     }
 
     /// The same date at so many whole milliseconds past the second, refused from 1000 on.
     pub fn replace_millisecond(self, millisecond: u16) -> Result<OffsetDateTime, ComponentRange>
-        ensures { result ≡ at_time (λ t. record { wall = wall_clock (day_of self.wall) t; offset = self.offset })
-            (time_of_milli (hour_at (nanosecond_of self.wall)) (minute_at (nanosecond_of self.wall)) (second_at (nanosecond_of self.wall)) millisecond) }
+        ensures { result
+            ≡ at_time (λ t. record { wall = wall_clock (day_of self.wall) t; offset = self.offset })
+            (time_of_milli (hour_at (nanosecond_of self.wall)) (minute_at (nanosecond_of self.wall))
+            (second_at (nanosecond_of self.wall)) millisecond) }
     {
         Ok(OffsetDateTime::from_wall(self.wall.replace_millisecond(millisecond)?, self.offset))
     }
 
     /// The same date at so many whole microseconds past the second, refused from 1,000,000 on.
     pub fn replace_microsecond(self, microsecond: u32) -> Result<OffsetDateTime, ComponentRange>
-        ensures { result ≡ at_time (λ t. record { wall = wall_clock (day_of self.wall) t; offset = self.offset })
-            (time_of_micro (hour_at (nanosecond_of self.wall)) (minute_at (nanosecond_of self.wall)) (second_at (nanosecond_of self.wall)) microsecond) }
+        ensures { result
+            ≡ at_time (λ t. record { wall = wall_clock (day_of self.wall) t; offset = self.offset })
+            (time_of_micro (hour_at (nanosecond_of self.wall)) (minute_at (nanosecond_of self.wall))
+            (second_at (nanosecond_of self.wall)) microsecond) }
     {
         Ok(OffsetDateTime::from_wall(self.wall.replace_microsecond(microsecond)?, self.offset))
     }
 
     /// The same date at so many nanoseconds past the second, refused from 1,000,000,000 on.
     pub fn replace_nanosecond(self, nanosecond: u32) -> Result<OffsetDateTime, ComponentRange>
-        ensures { result ≡ at_time (λ t. record { wall = wall_clock (day_of self.wall) t; offset = self.offset })
-            (time_of (hour_at (nanosecond_of self.wall)) (minute_at (nanosecond_of self.wall)) (second_at (nanosecond_of self.wall)) nanosecond) }
+        ensures { result
+            ≡ at_time (λ t. record { wall = wall_clock (day_of self.wall) t; offset = self.offset })
+            (time_of (hour_at (nanosecond_of self.wall)) (minute_at (nanosecond_of self.wall))
+            (second_at (nanosecond_of self.wall)) nanosecond) }
     {
         Ok(OffsetDateTime::from_wall(self.wall.replace_nanosecond(nanosecond)?, self.offset))
     }

@@ -58,7 +58,8 @@ impl Timestamp {
         requires nanoseconds { unsigned_abs nanoseconds < second_nanos }
         ensures some { IsSome result
             ↔ IsWallClock (self +ℤ (seconds *ℤ pos second_nanos +ℤ nanoseconds)) }
-        ensures value { IfSome result (λ t. t ≡ self +ℤ (seconds *ℤ pos second_nanos +ℤ nanoseconds)) }
+        ensures value { IfSome result
+            (λ t. t ≡ self +ℤ (seconds *ℤ pos second_nanos +ℤ nanoseconds)) }
         ensures range { IsWallClock self }
     {
         let (own_seconds, own_nanosecond) = self.parts();

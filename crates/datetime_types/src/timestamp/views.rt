@@ -212,7 +212,8 @@ impl Timestamp {
         ensures minute { result.1 ≡ minute_at (nanosecond_of self) }
         ensures second { result.2 ≡ second_at (nanosecond_of self) }
         ensures microsecond { result.3 ≡ microsecond_at (nanosecond_of self) }
-        ensures bound { (result.0 < 24) × (result.1 < 60) × (result.2 < 60) × (result.3 < 1_000_000) }
+        ensures bound { (result.0 < 24) × (result.1 < 60) × (result.2 < 60)
+            × (result.3 < 1_000_000) }
     {
         let (hour, minute, second) = self.as_hms();
         (hour, minute, second, self.microsecond())
@@ -225,7 +226,8 @@ impl Timestamp {
         ensures minute { result.1 ≡ minute_at (nanosecond_of self) }
         ensures second { result.2 ≡ second_at (nanosecond_of self) }
         ensures nanosecond { result.3 ≡ nanosecond_at (nanosecond_of self) }
-        ensures bound { (result.0 < 24) × (result.1 < 60) × (result.2 < 60) × (result.3 < 1_000_000_000) }
+        ensures bound { (result.0 < 24) × (result.1 < 60) × (result.2 < 60)
+            × (result.3 < 1_000_000_000) }
     {
         let (hour, minute, second) = self.as_hms();
         (hour, minute, second, self.nanosecond())

@@ -204,7 +204,8 @@ impl UtcDateTime {
         ensures minute { result.1 ≡ minute_at (nanosecond_of self) }
         ensures second { result.2 ≡ second_at (nanosecond_of self) }
         ensures microsecond { result.3 ≡ microsecond_at (nanosecond_of self) }
-        ensures bound { (result.0 < 24) × (result.1 < 60) × (result.2 < 60) × (result.3 < 1_000_000) }
+        ensures bound { (result.0 < 24) × (result.1 < 60) × (result.2 < 60)
+            × (result.3 < 1_000_000) }
     {
         self.time().as_hms_micro()
     }
@@ -216,7 +217,8 @@ impl UtcDateTime {
         ensures minute { result.1 ≡ minute_at (nanosecond_of self) }
         ensures second { result.2 ≡ second_at (nanosecond_of self) }
         ensures nanosecond { result.3 ≡ nanosecond_at (nanosecond_of self) }
-        ensures bound { (result.0 < 24) × (result.1 < 60) × (result.2 < 60) × (result.3 < 1_000_000_000) }
+        ensures bound { (result.0 < 24) × (result.1 < 60) × (result.2 < 60)
+            × (result.3 < 1_000_000_000) }
     {
         self.time().as_hms_nano()
     }
