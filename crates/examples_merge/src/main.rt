@@ -2,11 +2,19 @@
 //! that `sort` merges logs by time and no line is lost. The words and the answers are those of `instants`.
 #![tactic(auto)]
 
-use instants::{ProgramFault, RunFault, Timeline, WordsFault, read_words};
-use std::alloc::AllocError;
+ghost use Rattle.std.specs.Prelude.{◌≡◌, false, OnOk};
+
+use instants::{
+    BlockWriter, ByteWriter, DeviceFailed, ProgramFault, RunFault, StdWriter, Timeline, WordsFault,
+    read_words,
+};
+use std::alloc::Global;
 use std::env;
-use std::io::{self, BufReader, BufWriter, Read, Write};
+use std::io::{BufRead, BufReader};
 use std::process::ExitCode;
+
+// Bytes that are written at once.
+const BLOCK: usize = 65_536;
 
 fn main(rt: HostRuntime) -> ExitCode {
     match words(&rt) {
@@ -45,75 +53,53 @@ fn merge_input<'a>(rt: &HostRuntime, words: &'a Vec<String>) -> Result<(), Progr
     // `new` requires a source, and offsets of whole minutes. The contract of `read_words` promises both of the words
     // that it accepts, so the check lets the call stand without a test.
     let timeline = Timeline::new(alloc, said.sources.as_slice(), said.target, said.assumed)?;
-    let line = Vec::with_capacity(alloc, said.limit)?;
     let reader = BufReader::new(alloc, rt.stdin()).map_err(|_| ProgramFault::Memory)?;
-    let writer = BufWriter::new(alloc, rt.stdout()).map_err(|_| ProgramFault::Memory)?;
-    let mut merger = Merger {
-        timeline,
-        limit: said.limit,
-        line,
-        is_long: false,
-        writer,
-    };
-    let merged = merger.take_all(reader);
-    // What was answered is handed on also where a read failed, which stays the fault.
-    let flushed = merger.writer.flush();
+    let block = vec![in alloc; 0; BLOCK]?;
+    let mut writer = BlockWriter::new(block, StdWriter::new(rt.stdout()));
+    let merged = merge_lines(alloc, &timeline, said.limit, reader, &mut writer);
+    // What has failed can't be written to again: each write requires that none failed, so the check asks for this test.
+    if writer.has_failed() {
+        return Err(ProgramFault::Run(RunFault::Write));
+    }
+    // What was answered is flushed also where a read failed, which stays the fault.
+    let flushed = writer.flush();
     merged?;
     Ok(flushed.map_err(|_| RunFault::Write)?)
 }
 
-// Writes lines behind their answers.
-#[derive(Drop)]
-struct Merger<'a, W> {
-    timeline: Timeline<'a>,
+// Writes each line behind its answer. A line is kept whole till its line feed, or the end, was read, however long it is.
+fn merge_lines<R: BufRead + Drop, W: ByteWriter>(
+    alloc: Global,
+    timeline: &Timeline,
     limit: usize,
-    // What was read of the line, up to the limit. Past the limit all that was read is written, behind the answer.
-    line: Vec<u8>,
-    is_long: bool,
-    writer: W,
+    reader: R,
+    writer: &mut W,
+) -> Result<(), RunFault>
+    requires { W.failed writer.old ≡ false }
+{
+    for line in reader.split(alloc, b'\n') {
+        let line = line.map_err(|_| RunFault::Read)?;
+        merge_line(timeline, limit, line.as_slice(), writer).map_err(|_| RunFault::Write)?;
+    }
+    Ok(())
 }
 
-impl<W: Write> Merger<'_, W> {
-    // A last line needs no line feed.
-    fn take_all(&mut self, reader: impl Read + Drop) -> Result<(), ProgramFault<'static>> {
-        for byte in reader.bytes() {
-            self.take(byte.map_err(|_| RunFault::Read)?)?;
-        }
-        if self.is_long || !self.line.is_empty() {
-            self.end_line()?;
-        }
-        Ok(())
+// Writes the answer to a line, a tab, the line and a line feed.
+fn merge_line<W: ByteWriter>(
+    timeline: &Timeline,
+    limit: usize,
+    line: &[u8],
+    writer: &mut W,
+) -> Result<(), DeviceFailed>
+    requires { W.failed writer.old ≡ false }
+    ensures ok { OnOk result (W.failed writer.new ≡ W.failed writer.old) }
+{
+    if line.len() > limit {
+        writer.write_all(b"! long")?;
+    } else {
+        writer.write_all(timeline.answer_line(line).as_bytes())?;
     }
-
-    fn take(&mut self, byte: u8) -> Result<(), ProgramFault<'static>> {
-        if byte == b'\n' {
-            self.end_line()?;
-        } else if self.is_long {
-            write(&mut self.writer, &[byte])?;
-        } else if self.line.len() < self.limit {
-            self.line.push(byte).map_err(AllocError::from)?;
-        } else {
-            self.is_long = true;
-            write(&mut self.writer, b"! long\t")?;
-            write(&mut self.writer, self.line.as_slice())?;
-            write(&mut self.writer, &[byte])?;
-        }
-        Ok(())
-    }
-
-    fn end_line(&mut self) -> Result<(), RunFault> {
-        if !self.is_long {
-            let answer = self.timeline.answer_line(self.line.as_slice());
-            write(&mut self.writer, answer.as_bytes())?;
-            write(&mut self.writer, b"\t")?;
-            write(&mut self.writer, self.line.as_slice())?;
-        }
-        self.line.clear();
-        self.is_long = false;
-        write(&mut self.writer, b"\n")
-    }
-}
-
-fn write<W: Write>(writer: &mut W, bytes: &[u8]) -> Result<(), RunFault> {
-    writer.write_all(bytes).map_err(|_| RunFault::Write)
+    writer.write_all(b"\t")?;
+    writer.write_all(line)?;
+    writer.write_all(b"\n")
 }

@@ -38,8 +38,7 @@ pub use instants_answers::{
     Answer, fits_line, fits_utc_line, rfc3339_line, utc_line_by_timestamp, utc_line_by_utc,
 };
 pub use instants_devices::{
-    BlockWriter, ByteReader, ByteWriter, CutReader, CutWriter, DeviceFailed, FrontWriter,
-    StdReader, StdWriter,
+    BlockWriter, ByteReader, ByteWriter, CutReader, CutWriter, DeviceFailed, StdReader, StdWriter,
 };
 pub use instants_sources::{DescribedItems, DescribedTree, Source};
 pub use instants_stream::RunFault;

@@ -14,7 +14,7 @@ ghost use Rattle.instants.specs.declared.new_fault.NewFault.{NewFault};
 
 use crate::program_fault::ProgramFault;
 use crate::timeline::Timeline;
-use instants_devices::{ByteReader, ByteWriter, FrontWriter};
+use instants_devices::{ByteReader, ByteWriter};
 use instants_stream::{RunFault, run_lines};
 use instants_words::read_words;
 use std::alloc::Global;
@@ -27,7 +27,7 @@ const BLOCK: usize = 65_536;
 ///
 /// The words are `TARGET ASSUMED LIMIT SOURCE...`. They are all looked at, and all memory is taken, before anything is
 /// read. The first device that fails ends the run; after a failed read what was answered is flushed.
-pub fn run_words<'a, R: ByteReader, W: ByteWriter + FrontWriter>(
+pub fn run_words<'a, R: ByteReader, W: ByteWriter>(
     alloc: Global,
     words: &[&'a str],
     reader: &mut R,
@@ -70,7 +70,7 @@ pub fn run_words<'a, R: ByteReader, W: ByteWriter + FrontWriter>(
 }
 
 // Answers each line, and flushes what was answered also where a read failed.
-fn run_and_flush<R: ByteReader, W: ByteWriter + FrontWriter>(
+fn run_and_flush<R: ByteReader, W: ByteWriter>(
     timeline: &Timeline,
     limit: usize,
     buffer: &mut [u8],

@@ -7,7 +7,7 @@ ghost use Rattle.instants.specs.Place.{answer_to};
 ghost use Rattle.instants.specs.Settings.{setting_of};
 
 use crate::timeline::Timeline;
-use instants_devices::{ByteReader, ByteWriter, FrontWriter};
+use instants_devices::{ByteReader, ByteWriter};
 use instants_stream::{RunFault, run_lines};
 
 /// Writes the answer to each line that the reader gives, each followed by a line feed, and flushes the writer.
@@ -15,7 +15,7 @@ use instants_stream::{RunFault, run_lines};
 /// Lines end in LF; a nonempty last part is a line too. A line that is longer than the limit, which is one less than
 /// the buffer's length, is answered `! long`. The first device that fails ends the run; nothing is tried again. Of what
 /// the buffer holds afterwards nothing is said.
-pub fn run<R: ByteReader, W: ByteWriter + FrontWriter>(
+pub fn run<R: ByteReader, W: ByteWriter>(
     timeline: &Timeline,
     buffer: &mut [u8],
     reader: &mut R,

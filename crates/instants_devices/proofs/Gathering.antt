@@ -1,11 +1,10 @@
 -- Lemmas on a writer that gathers bytes.
-use Rattle.std.proofs.Common.{◌≡◌, ℕ, ◌+◌, ◌-◌, ◌≤◌, List, ◌++◌, Option, None, Some, length, take, drop, sym, ap, ◌∙◌, subst, arith, take-append-drop, append-nil, take-take, Result, Ok, Err, OnErr}
+use Rattle.std.proofs.Common.{◌≡◌, ℕ, ◌+◌, ◌-◌, ◌≤◌, List, ◌++◌, Option, None, Some, length, take, drop, refl, sym, ap, ◌∙◌, subst, arith, take-append-drop, append-nil, take-take, Result, Ok, Err, OnOk, OnErr}
 use Rattle.std.proofs.lemmas.List.{drop-take, drop-append-le, length-take-le}
 use Rattle.std.proofs.Math.Seq.{drop-drop, drop-nil, take-append-add}
 use Rattle.std.specs.Io.KnownBytes.{Appends, Keeps, append_known}
 use Rattle.std.proofs.KnownBytes.{append_known-moved, append_known-grown, Keeps-refl}
 use Rattle.instants_devices.specs.Gathering.{gathered}
-use Rattle.instants_devices.specs.Told.{StaysOrUntold}
 
 -- the writer below took some of what was gathered
 pub gathered-moved : (below next : Option (List ℕ)) (block : List ℕ) (start end count : ℕ) → start ≤ end
@@ -36,12 +35,30 @@ gathered-front below old new bytes start end len ordered within few put =
     sym (take-take (end + len) (end + length bytes) new (omega arith)) ∙ ap (take (end + len)) put ∙ (rw (length-take-le end old within) at there) in
     rw size at (gathered-grown below old new (take len bytes) start end ordered within (rw size shorter))
 
--- what stays below stays where nothing is gathered
-pub gathered-stays : (all below next : Option (List ℕ)) (block : List ℕ) (start : ℕ) → Keeps all below → StaysOrUntold below next → StaysOrUntold all (gathered next block start 0)
-gathered-stays None below next block start p q = tt
-gathered-stays (Some x) None next block start p q = absurd p
-gathered-stays (Some x) (Some y) None block start p q = tt
-gathered-stays (Some x) (Some y) (Some z) block start p q = ap (λ (l : List ℕ). z ++ l) (drop-nil start) ∙ append-nil z ∙ q ∙ p
+-- where nothing is gathered all is held below
+gathered-none : (below : Option (List ℕ)) (block : List ℕ) (start end : ℕ) → end ≡ 0 → gathered below block start end ≡ below
+gathered-none None block start end none = refl
+gathered-none (Some z) block start end none = ap Some (rw none (ap (λ (l : List ℕ). z ++ l) (drop-nil start) ∙ append-nil z))
+
+pub gathered-below : (below : Option (List ℕ)) (block : List ℕ) (start end : ℕ) → end ≡ 0 → Keeps (gathered below block start end) below
+gathered-below below block start end none = subst (λ (all : Option (List ℕ)). Keeps all below) (sym (gathered-none below block start end none)) (Keeps-refl below)
+
+-- All that was gathered is held below, and then something is done there: the same is done to all.
+pub done_below : (R : Option (List ℕ) → Option (List ℕ) → Type 0) → ((new : Option (List ℕ)) → R None new)
+    → (all below next : Option (List ℕ)) (block : List ℕ) (start end : ℕ) → Keeps all below → end ≡ 0 → R below next → R all (gathered next block start end)
+done_below R untold None below next block start end kept none done = untold (gathered next block start end)
+done_below R untold (Some x) None next block start end kept none done = absurd kept
+done_below R untold (Some x) (Some y) next block start end kept none done =
+    subst (λ (new : Option (List ℕ)). R (Some x) new) (sym (gathered-none next block start end none)) (subst (λ (l : List ℕ). R (Some l) next) kept done)
+
+-- what follows from a result's clause
+pub OnOk-map : {T E P Q : Type 0} (r : Result T E) → (P → Q) → OnOk r P → OnOk r Q
+OnOk-map (Ok x) f h = f h
+OnOk-map (Err e) f h = tt
+
+pub OnErr-map : {T E P Q : Type 0} (r : Result T E) → (P → Q) → OnErr r P → OnErr r Q
+OnErr-map (Ok x) f h = tt
+OnErr-map (Err e) f h = f h
 
 -- a fact holds of a fault too
 pub on_any_err : {T E P : Type 0} (r : Result T E) → P → OnErr r P

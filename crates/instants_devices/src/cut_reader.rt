@@ -1,6 +1,6 @@
 //! A reader over lent bytes, which gives few of them at a time and fails when it is told to.
 
-ghost use Rattle.std.specs.Prelude.{◌≡◌, ◌-◌, ◌<◌, ◌≤◌, Some, None, length, take, true, false, min, IfOk, OnOk, OnErr};
+ghost use Rattle.std.specs.Prelude.{◌≡◌, ◌<◌, ◌≤◌, Some, length, take, true, false, min, IfOk, OnOk, OnErr};
 ghost use Rattle.std.specs.Io.KnownBytes.{Consumes, IsAtEnd};
 ghost use Rattle.instants_devices.specs.CutDevices.{CutReading, moved, left_until_failure};
 
@@ -22,7 +22,12 @@ impl<'a> Model for CutReader<'a> {
 
     ghost Value = { CutReading };
 
-    ghost view = { λ r. record { left = r.rest.now; most = r.most; until_failure = r.until_failure; has_failed = r.has_failed } };
+    ghost view = { λ r. record {
+      left = r.rest.now;
+      most = r.most;
+      until_failure = r.until_failure;
+      has_failed = r.has_failed;
+    } };
 
     ghost invariant = { λ r. 0 < r.most };
 }
@@ -31,7 +36,12 @@ impl<'a> CutReader<'a> {
     /// Gives at most `most` bytes a read, and fails once `fail_after` bytes were read.
     pub fn new(bytes: &'a [u8], most: usize, fail_after: Option<usize>) -> Self
         requires { 0 < most }
-        ensures { result ≡ record { left = bytes.now; most = most; until_failure = fail_after; has_failed = false } }
+        ensures { result ≡ record {
+          left = bytes.now;
+          most = most;
+          until_failure = fail_after;
+          has_failed = false;
+        } }
     {
         CutReader {
             rest: bytes,
@@ -51,15 +61,20 @@ impl<'a> ByteReader for CutReader<'a> {
 
     fn read(&mut self, into: &mut [u8]) -> Result<usize, DeviceFailed>
         ensures within { IfOk result (λ count. count ≤ length into.new) }
-        ensures moved { IfOk result (λ count. Consumes (Some self.old.left) (Some self.new.left) (take count into.new)) }
-        ensures none { IfOk result (λ count. count ≡ 0 → 0 < length into.new → IsAtEnd (Some self.new.left)) }
-        ensures ends { IfOk result (λ count. 0 < count → length self.new.left < length self.old.left) }
+        ensures moved { IfOk result (λ count.
+            Consumes (Some self.old.left) (Some self.new.left) (take count into.new)) }
+        ensures none { IfOk result (λ count.
+            count ≡ 0 → 0 < length into.new → IsAtEnd (Some self.new.left)) }
+        ensures ends { IfOk result (λ count.
+            0 < count → length self.new.left < length self.old.left) }
         ensures ok { OnOk result (self.new.has_failed ≡ self.old.has_failed) }
         ensures err { OnErr result (self.new.has_failed ≡ true) }
         ensures kept { OnErr result (self.new.left ≡ self.old.left) }
 
-        ensures count { result ≡ moved (min (min self.old.most (length into.old)) (length self.old.left)) self.old.until_failure }
-        ensures until { IfOk result (λ count. self.new.until_failure ≡ left_until_failure self.old.until_failure count) }
+        ensures count { let most = min self.old.most (length into.old)
+            in result ≡ moved (min most (length self.old.left)) self.old.until_failure }
+        ensures until { IfOk result (λ count.
+            self.new.until_failure ≡ left_until_failure self.old.until_failure count) }
         ensures stays { OnErr result (self.new ≡ record self.old { has_failed = true }) }
         ensures most { self.new.most ≡ self.old.most }
     {

@@ -1,6 +1,6 @@
 //! A writer into lent memory, which takes few bytes at a time and fails when it is told to.
 
-ghost use Rattle.std.specs.Prelude.{◌≡◌, ◌+◌, ◌-◌, ◌^◌, ◌<◌, ◌≤◌, ◌↔◌, [], Some, None, length, take, true, false, min, IsErr, IfOk, OnOk, OnErr};
+ghost use Rattle.std.specs.Prelude.{◌≡◌, ◌+◌, ◌-◌, ◌^◌, ◌<◌, ◌≤◌, ◌↔◌, [], Some, length, take, true, false, min, IsErr, IfOk, OnOk, OnErr};
 ghost use Rattle.std.specs.Io.KnownBytes.{Appends, Keeps};
 ghost use Rattle.instants_devices.specs.CutDevices.{CutWriting, taken, left_until_failure};
 
@@ -25,7 +25,15 @@ impl<'a> Model for CutWriter<'a> {
 
     ghost Value = { CutWriting };
 
-    ghost view = { λ w. record { held = take w.len w.space.now; room = length w.space.now - w.len; most = w.most; until_failure = w.until_failure; has_failed = w.has_failed; is_flushed = w.is_flushed; flushes = w.flushes } };
+    ghost view = { λ w. record {
+      held = take w.len w.space.now;
+      room = length w.space.now - w.len;
+      most = w.most;
+      until_failure = w.until_failure;
+      has_failed = w.has_failed;
+      is_flushed = w.is_flushed;
+      flushes = w.flushes;
+    } };
 
     ghost invariant = { λ w. (0 < w.most) × (w.len ≤ length w.space.now) };
 }
@@ -35,7 +43,15 @@ impl<'a> CutWriter<'a> {
     /// write of some bytes where the space is full.
     pub fn new(space: &'a mut [u8], most: usize, fail_after: Option<usize>) -> Self
         requires { 0 < most }
-        ensures { result ≡ record { held = []; room = length space.old; most = most; until_failure = fail_after; has_failed = false; is_flushed = true; flushes = 0 } }
+        ensures { result ≡ record {
+          held = [];
+          room = length space.old;
+          most = most;
+          until_failure = fail_after;
+          has_failed = false;
+          is_flushed = true;
+          flushes = 0;
+        } }
     {
         CutWriter {
             space,
@@ -72,7 +88,8 @@ impl<'a> ByteWriter for CutWriter<'a> {
 
     fn write(&mut self, from: &[u8]) -> Result<usize, DeviceFailed>
         ensures within { IfOk result (λ count. count ≤ length from.now) }
-        ensures moved { IfOk result (λ count. Appends (Some self.old.held) (Some self.new.held) (take count from.now)) }
+        ensures moved { IfOk result (λ count.
+            Appends (Some self.old.held) (Some self.new.held) (take count from.now)) }
         ensures unflushed { self.new.is_flushed ≡ false }
         ensures none { IfOk result (λ count. 0 < length from.now → 0 < count) }
         ensures ok { OnOk result (self.new.has_failed ≡ self.old.has_failed) }
@@ -80,9 +97,11 @@ impl<'a> ByteWriter for CutWriter<'a> {
         ensures kept { OnErr result (self.new.held ≡ self.old.held) }
 
         ensures count { result ≡ taken self.old (length from.now) }
-        ensures until { IfOk result (λ count. self.new.until_failure ≡ left_until_failure self.old.until_failure count) }
+        ensures until { IfOk result (λ count.
+            self.new.until_failure ≡ left_until_failure self.old.until_failure count) }
         ensures room { IfOk result (λ count. self.new.room ≡ self.old.room - count) }
-        ensures stays { OnErr result (self.new ≡ record self.old { has_failed = true; is_flushed = false }) }
+        ensures stays { OnErr result
+            (self.new ≡ record self.old { has_failed = true; is_flushed = false }) }
         ensures flushes { self.new.flushes ≡ self.old.flushes }
         ensures most { self.new.most ≡ self.old.most }
     {
@@ -115,7 +134,10 @@ impl<'a> ByteWriter for CutWriter<'a> {
         ensures kept { OnErr result (self.new.held ≡ self.old.held) }
 
         ensures fails { IsErr result ↔ (self.old.until_failure ≡ Some 0) }
-        ensures counted { OnOk result (self.new ≡ record self.old { is_flushed = true; flushes = min (self.old.flushes + 1) (2 ^ 64 - 1) }) }
+        ensures counted { OnOk result (self.new ≡ record self.old {
+          is_flushed = true;
+          flushes = min (self.old.flushes + 1) (2 ^ 64 - 1);
+        }) }
         ensures stays { OnErr result (self.new ≡ record self.old { has_failed = true }) }
     {
         if self.until_failure == Some(0) {

@@ -1,4 +1,4 @@
-//! The traits of devices, and the writing of all of some bytes.
+//! The traits of devices.
 
 ghost use Rattle.std.specs.Prelude.{◌≡◌, ◌<◌, ◌≤◌, ℕ, Bool, true, false, List, length, take, Option, IfOk, OnOk, OnErr};
 ghost use Rattle.std.specs.Io.KnownBytes.{Consumes, Appends, Keeps, IsAtEnd};
@@ -26,9 +26,12 @@ pub trait ByteReader {
     fn read(&mut self, into: &mut [u8]) -> Result<usize, DeviceFailed>
         requires { failed self.old ≡ false }
         ensures within { IfOk result (λ count. count ≤ length into.new) }
-        ensures moved { IfOk result (λ count. Consumes (left self.old) (left self.new) (take count into.new)) }
-        ensures none { IfOk result (λ count. count ≡ 0 → 0 < length into.new → IsAtEnd (left self.new)) }
-        ensures ends { IfOk result (λ count. 0 < count → reads_left self.new < reads_left self.old) }
+        ensures moved { IfOk result (λ count.
+            Consumes (left self.old) (left self.new) (take count into.new)) }
+        ensures none { IfOk result (λ count.
+            count ≡ 0 → 0 < length into.new → IsAtEnd (left self.new)) }
+        ensures ends { IfOk result (λ count.
+            0 < count → reads_left self.new < reads_left self.old) }
         ensures ok { OnOk result (failed self.new ≡ failed self.old) }
 
         ensures err { OnErr result (failed self.new ≡ true) }
@@ -56,7 +59,8 @@ pub trait ByteWriter {
     fn write(&mut self, from: &[u8]) -> Result<usize, DeviceFailed>
         requires { failed self.old ≡ false }
         ensures within { IfOk result (λ count. count ≤ length from.now) }
-        ensures moved { IfOk result (λ count. Appends (held self.old) (held self.new) (take count from.now)) }
+        ensures moved { IfOk result (λ count.
+            Appends (held self.old) (held self.new) (take count from.now)) }
         ensures unflushed { flushed self.new ≡ false }
         ensures none { IfOk result (λ count. 0 < length from.now → 0 < count) }
         ensures ok { OnOk result (failed self.new ≡ failed self.old) }
@@ -64,7 +68,7 @@ pub trait ByteWriter {
         ensures err { OnErr result (failed self.new ≡ true) }
         ensures kept { OnErr result (StaysOrUntold (held self.old) (held self.new)) };
 
-    /// Hands on what was written.
+    /// Flushes what was written, here and below.
     fn flush(&mut self) -> Result<(), DeviceFailed>
         requires { failed self.old ≡ false }
         ensures moved { OnOk result (Keeps (held self.old) (held self.new)) }
@@ -81,22 +85,56 @@ pub trait ByteWriter {
     /// Whether a write or a flush has failed.
     fn has_failed(&self) -> bool
         ensures { result ≡ failed self.now };
-}
 
-/// Writes all of the bytes. The first write that fails ends it, and a front of them is written.
-#[inline(always)]
-pub fn write_all<W: ByteWriter>(writer: &mut W, bytes: &[u8]) -> Result<(), DeviceFailed>
-    requires { W.failed writer.old ≡ false }
-    ensures written { OnOk result (Appends (W.held writer.old) (W.held writer.new) bytes.now) }
-    ensures ok { OnOk result (W.failed writer.new ≡ W.failed writer.old) }
-    ensures unflushed { OnOk result (0 < length bytes.now → W.flushed writer.new ≡ false) }
-    ensures front { OnErr result (AppendsFront (W.held writer.old) (W.held writer.new) bytes.now) }
-    ensures err { OnErr result (W.failed writer.new ≡ true) }
-{
-    let mut rest = bytes;
-    while !rest.is_empty() {
-        let count = writer.write(rest)?;
-        rest = &rest[count..];
+    /// Hands on to the writer below what this one holds back, so that it need not wait for more bytes or a flush.
+    ///
+    /// A writer that holds nothing back does nothing. This is no flush, and its failure is that of a write.
+    fn hand_on(&mut self) -> Result<(), DeviceFailed>
+        requires { failed self.old ≡ false }
+        ensures held { OnOk result (Keeps (held self.old) (held self.new)) }
+        ensures flushed { OnOk result (flushed self.new ≡ flushed self.old) }
+        ensures ok { OnOk result (failed self.new ≡ failed self.old) }
+
+        ensures err { OnErr result (failed self.new ≡ true) }
+        ensures kept { OnErr result (StaysOrUntold (held self.old) (held self.new)) }
+    {
+        Ok(())
     }
-    Ok(())
+
+    /// Writes all of the bytes. The first write that fails ends it, and a front of them is written.
+    #[inline(always)]
+    fn write_all(&mut self, bytes: &[u8]) -> Result<(), DeviceFailed>
+        requires { failed self.old ≡ false }
+        ensures written { OnOk result (Appends (held self.old) (held self.new) bytes.now) }
+        ensures ok { OnOk result (failed self.new ≡ failed self.old) }
+        ensures unflushed { OnOk result (0 < length bytes.now → flushed self.new ≡ false) }
+
+        ensures front { OnErr result (AppendsFront (held self.old) (held self.new) bytes.now) }
+        ensures err { OnErr result (failed self.new ≡ true) }
+    {
+        let mut rest = bytes;
+        while !rest.is_empty() {
+            let count = self.write(rest)?;
+            rest = &rest[count..];
+        }
+        Ok(())
+    }
+
+    /// Writes all of the first `len` bytes. The first write that fails ends it, and a front of them is written.
+    ///
+    /// A writer into memory can copy all 64 bytes, whatever the length is, which takes fewer instructions.
+    fn write_front(&mut self, bytes: &[u8; 64], len: usize) -> Result<(), DeviceFailed>
+        requires works { failed self.old ≡ false }
+        requires within { len ≤ 64 }
+        ensures written { OnOk result
+            (Appends (held self.old) (held self.new) (take len bytes.now)) }
+        ensures ok { OnOk result (failed self.new ≡ failed self.old) }
+        ensures unflushed { OnOk result (0 < len → flushed self.new ≡ false) }
+
+        ensures front { OnErr result
+            (AppendsFront (held self.old) (held self.new) (take len bytes.now)) }
+        ensures err { OnErr result (failed self.new ≡ true) }
+    {
+        self.write_all(&bytes[..len])
+    }
 }

@@ -5,14 +5,12 @@ mod block_writer;
 mod cut_reader;
 mod cut_writer;
 mod devices;
-mod front_writer;
 mod std_reader;
 mod std_writer;
 
 pub use block_writer::BlockWriter;
 pub use cut_reader::CutReader;
 pub use cut_writer::CutWriter;
-pub use devices::{ByteReader, ByteWriter, DeviceFailed, write_all};
-pub use front_writer::FrontWriter;
+pub use devices::{ByteReader, ByteWriter, DeviceFailed};
 pub use std_reader::StdReader;
 pub use std_writer::StdWriter;

@@ -1,6 +1,6 @@
 //! A reader of std, as a device.
 
-ghost use Rattle.std.specs.Prelude.{◌≡◌, None, true, false, if◌then◌else◌};
+ghost use Rattle.std.specs.Prelude.{◌≡◌, ◌-◌, ◌^◌, None, false, if◌then◌else◌};
 
 use crate::devices::{ByteReader, DeviceFailed};
 use std::io::Read;
@@ -20,7 +20,7 @@ impl<R: Read> StdReader<R> {
     /// A reader that has not failed.
     pub fn new(inner: R) -> Self
         ensures left { ⟦<StdReader<R> as ByteReader>⟧.left result ≡ R.remaining inner }
-        ensures reads { ⟦<StdReader<R> as ByteReader>⟧.reads_left result ≡ 18_446_744_073_709_551_615 }
+        ensures reads { ⟦<StdReader<R> as ByteReader>⟧.reads_left result ≡ 2 ^ 64 - 1 }
         ensures works { ⟦<StdReader<R> as ByteReader>⟧.failed result ≡ false }
     {
         StdReader {

@@ -8,7 +8,8 @@ use std::io::Write;
 /// Writes to a writer of std.
 ///
 /// It fails where that writer's `write` or `flush` does, and where a `write` takes no byte of some.
-/// A failure leaves its bytes untold.
+/// A failure leaves its bytes untold. What a buffered writer of std holds back stays there until `flush`: a
+/// `BlockWriter` over one without a buffer hands on.
 #[derive(Drop)]
 pub struct StdWriter<W> {
     inner: W,

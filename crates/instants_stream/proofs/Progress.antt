@@ -46,6 +46,16 @@ module _ (answer : List ℕ → List ℕ) (limit : ℕ) where
       long = p.long;
     }
 
+  -- what was answered is handed on
+  pub handed_on : (left_first left held_first held held_next : Option (List ℕ)) (line : List ℕ) (is_long : Bool) → Progress answer limit left_first left held_first held line is_long → Keeps held held_next → Progress answer limit left_first left held_first held_next line is_long
+  handed_on left_first left held_first held held_next line is_long p keeps = record {
+    bytes = p.bytes;
+    read = p.read;
+    written = Appends-kept held_first held held_next (owed answer limit p.bytes) p.written keeps;
+    kept = p.kept;
+    long = p.long;
+  }
+
   -- what is owed is due
   pub due_from_owed : (a c : Option (List ℕ)) (bytes : List ℕ) (left : Option (List ℕ)) → AppendsFront a c (owed answer limit bytes) → AppendsFront a c (due answer limit bytes left)
   due_from_owed a c bytes None h = let more = output_extends answer limit bytes in subst (AppendsFront a c) (sym more.1) (AppendsFront-more a c (owed answer limit bytes) more.0 h)
@@ -106,6 +116,11 @@ module _ (answer : List ℕ → List ℕ) (limit : ℕ) where
 
   AppendsFront-all : (a b c : Option (List ℕ)) (bytes : List ℕ) → Appends a b bytes → StaysOrUntold b c → AppendsFront a c bytes
   AppendsFront-all a b c bytes = AppendsFront-stays a b c bytes [] bytes (sym (append-nil bytes))
+
+  -- handing on failed
+  pub fails_to_hand_on : (left_first left held_first held held_next : Option (List ℕ)) (line : List ℕ) (is_long : Bool) → Progress answer limit left_first left held_first held line is_long → StaysOrUntold held held_next → Fails left_first left held_first held_next
+  fails_to_hand_on left_first left held_first held held_next line is_long p stays =
+      (p.bytes, p.read, due_from_owed held_first held_next p.bytes left (AppendsFront-all held_first held held_next (owed answer limit p.bytes) p.written stays))
 
   -- the flush failed
   pub fails_at_flush : (left_first left held_first held held_next : Option (List ℕ)) → Through left_first left held_first held → StaysOrUntold held held_next → Fails left_first left held_first held_next

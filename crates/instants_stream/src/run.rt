@@ -1,6 +1,6 @@
 //! The run over a stream, whole lines lent out of one buffer.
 
-ghost use Rattle.std.specs.Prelude.{◌≡◌, ◌-◌, ◌<◌, ◌≤◌, ◌↔◌, ℕ, true, false, List, [], ◌∷◌, ◌++◌, codes, length, take, drop, Some, Err, IsTrue, IfSome, IfOk, OnOk, OnErr};
+ghost use Rattle.std.specs.Prelude.{◌≡◌, ◌<◌, ◌≤◌, ◌↔◌, ℕ, true, false, List, [], ◌∷◌, ◌++◌, codes, length, take, drop, Some, Err, IsTrue, IfSome, IfOk, OnOk, OnErr};
 ghost use Rattle.std.specs.Io.KnownBytes.{Consumes, Appends};
 ghost use Rattle.byte_names.specs.Bytes.{line_feed};
 ghost use Rattle.instants_devices.specs.Told.{ConsumesOrUntold, AppendsFront};
@@ -10,7 +10,7 @@ ghost use Rattle.instants_stream.specs.Answers.{output, owed, due, answer_or_lon
 use crate::answers_lines::AnswersLines;
 use crate::search::{LINE_FEED, line_len};
 use instants_answers::Answer;
-use instants_devices::{ByteReader, ByteWriter, DeviceFailed, FrontWriter, write_all};
+use instants_devices::{ByteReader, ByteWriter, DeviceFailed};
 
 /// Which device ended a run.
 #[derive(Clone, Copy, Debug, PartialEq, Eq)]
@@ -26,18 +26,20 @@ pub enum RunFault {
 #[inline(never)]
 fn write_long<W: ByteWriter>(writer: &mut W) -> Result<(), DeviceFailed>
     requires { W.failed writer.old ≡ false }
-    ensures written { OnOk result (Appends (W.held writer.old) (W.held writer.new) (codes "! long" ++ line_feed ∷ [])) }
+    ensures written { OnOk result (Appends (W.held writer.old) (W.held writer.new)
+        (codes "! long" ++ line_feed ∷ [])) }
     ensures ok { OnOk result (W.failed writer.new ≡ W.failed writer.old) }
-    ensures front { OnErr result (AppendsFront (W.held writer.old) (W.held writer.new) (codes "! long" ++ line_feed ∷ [])) }
+    ensures front { OnErr result (AppendsFront (W.held writer.old) (W.held writer.new)
+        (codes "! long" ++ line_feed ∷ [])) }
     ensures err { OnErr result (W.failed writer.new ≡ true) }
 {
-    write_all(writer, b"! long\n")
+    writer.write_all(b"! long\n")
 }
 
 // Writes the answer to a line, or that it is too long, and a line feed.
 #[inline(always)]
 #[tactic(auto, unfolding(crate::specs::Answers::answer_or_long))]
-fn write_answer<A: AnswersLines, W: ByteWriter + FrontWriter>(
+fn write_answer_or_long<A: AnswersLines, W: ByteWriter>(
     answers: &A,
     line: &[u8],
     is_long: bool,
@@ -65,7 +67,7 @@ fn write_answer<A: AnswersLines, W: ByteWriter + FrontWriter>(
 #[cold]
 #[inline(never)]
 #[tactic(auto, unfolding(crate::specs::Answers::answer_or_long))]
-fn write_last_answer<A: AnswersLines, W: ByteWriter>(
+fn write_last_answer_or_long<A: AnswersLines, W: ByteWriter>(
     answers: &A,
     line: &[u8],
     is_long: bool,
@@ -84,13 +86,13 @@ fn write_last_answer<A: AnswersLines, W: ByteWriter>(
     }
     let mut answer = answers.answer_line(line);
     answer.push(LINE_FEED);
-    write_all(writer, answer.as_bytes())
+    writer.write_all(answer.as_bytes())
 }
 
 // Answers each whole line, and says where the last part begins. The first `searched` bytes are
 // known to be no line feeds, and maybe that the first line is too long, with what came before.
 #[inline(always)]
-fn answer_lines<A: AnswersLines, W: ByteWriter + FrontWriter>(
+fn answer_lines<A: AnswersLines, W: ByteWriter>(
     answers: &A,
     limit: usize,
     bytes: &[u8],
@@ -118,7 +120,7 @@ fn answer_lines<A: AnswersLines, W: ByteWriter + FrontWriter>(
     let mut is_long = is_long;
     while let Some(len) = line_len(&bytes[start..], searched) {
         let line = &bytes[start..start + len];
-        write_answer(answers, line, is_long | (len > limit), storage, writer)?;
+        write_answer_or_long(answers, line, is_long | (len > limit), storage, writer)?;
         start += len + 1;
         searched = 0;
         is_long = false;
@@ -129,8 +131,9 @@ fn answer_lines<A: AnswersLines, W: ByteWriter + FrontWriter>(
 /// Writes the answer to each line that the reader gives, and a line feed behind each answer.
 ///
 /// A line with more bytes than the limit is answered `! long`. The buffer is longer than the limit.
-/// The writer is flushed once, before `Ok`. A reader or a writer that failed isn't tried again.
-pub fn run_lines<A: AnswersLines, R: ByteReader, W: ByteWriter + FrontWriter>(
+/// What is answered is handed on before each read, and the writer is flushed once, before `Ok`. A reader or a writer
+/// that failed isn't tried again.
+pub fn run_lines<A: AnswersLines, R: ByteReader, W: ByteWriter>(
     answers: &A,
     limit: usize,
     buffer: &mut [u8],
@@ -165,6 +168,10 @@ pub fn run_lines<A: AnswersLines, R: ByteReader, W: ByteWriter + FrontWriter>(
     let mut filled = 0;
     let mut is_long = false;
     loop {
+        // Who waits for the answers before writing on is not kept waiting.
+        if writer.hand_on().is_err() {
+            return Err(RunFault::Write);
+        }
         let Ok(count) = reader.read(&mut buffer[filled..]) else {
             return Err(RunFault::Read);
         };
@@ -199,7 +206,7 @@ pub fn run_lines<A: AnswersLines, R: ByteReader, W: ByteWriter + FrontWriter>(
     }
     if is_long || start < filled {
         let line = &buffer[start..filled];
-        if write_last_answer(answers, line, is_long, writer).is_err() {
+        if write_last_answer_or_long(answers, line, is_long, writer).is_err() {
             return Err(RunFault::Write);
         }
     }

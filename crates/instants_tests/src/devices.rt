@@ -1,7 +1,7 @@
 //! The devices at work: what they move, when they fail, and what they then hold.
 
 use instants_devices::{
-    ByteReader, ByteWriter, CutReader, CutWriter, DeviceFailed, StdReader, StdWriter, write_all,
+    ByteReader, ByteWriter, CutReader, CutWriter, DeviceFailed, StdReader, StdWriter,
 };
 use std::io::{Error, ErrorKind, Read, Result as IoResult, Write};
 
@@ -52,7 +52,7 @@ fn written(bytes: &[u8], fail_after: Option<usize>, wanted: &[u8]) -> (bool, boo
     let mut space = [0; 6];
     let mut writer = CutWriter::new(&mut space, 4, fail_after);
     let mut is_told = writer.is_flushed();
-    if write_all(&mut writer, bytes).is_ok() {
+    if writer.write_all(bytes).is_ok() {
         is_told &= !writer.is_flushed();
         is_told &= writer.flush().is_ok() == writer.is_flushed();
     }
@@ -164,6 +164,6 @@ fn std_devices(rt: HostRuntime) {
     let mut into = [0; 3];
     assert!(rt; reader.read(&mut into) == Ok(3) && into == *b"abc");
     let mut writer = StdWriter::new(Vec::new(rt.alloc()));
-    assert!(rt; write_all(&mut writer, b"abc").is_ok());
+    assert!(rt; writer.write_all(b"abc").is_ok());
     assert!(rt; writer.flush().is_ok() && writer.is_flushed());
 }

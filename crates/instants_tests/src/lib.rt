@@ -11,6 +11,8 @@ mod failing_devices;
 #[cfg(test)]
 mod first_bytes;
 #[cfg(test)]
+mod handing_on;
+#[cfg(test)]
 mod lines;
 #[cfg(test)]
 mod memory;

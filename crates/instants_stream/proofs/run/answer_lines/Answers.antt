@@ -38,7 +38,7 @@ loop-len-preserved g c =
     let line_feed = rw whole at c.in-Some.ensures.line_feed in
     let free : HasNoLineFeed (take len (drop start bytes)) = subst (λ (l : List ℕ). HasNoLineFeed (take len l)) whole c.in-Some.ensures.before in
     let same : start + len - start ≡ len = omega arith in
-    let wrote = rw same at c.in_ok-write_answer.ensures.written in
+    let wrote = rw same at c.in_ok-write_answer_or_long.ensures.written in
     record {
       within = let h = simp length-drop at within in omega arith;
       ended = next_ended bytes start len i.ended within line_feed free;
@@ -47,11 +47,11 @@ loop-len-preserved g c =
       written = rw (next_lines bytes start len i.ended within line_feed free, answers_to-next (g.A.AnswersLines.answer c.args.answers.now) c.args.limit c.args.is_long c.loop-len.is_long (whole_lines (take start bytes)) (take len (drop start bytes)) start len (length-take-le len (drop start bytes) (omega arith)) (λ e. (i.first e, none_before bytes start e)) i.later) (Appends-trans _ _ _ _ _ i.written wrote);
       searched = omega arith;
       free = All-nil (λ (b : ℕ). (b == 10) ≡ false);
-      works = c.in_ok-write_answer.ensures.ok ∙ i.works;
+      works = c.in_ok-write_answer_or_long.ensures.ok ∙ i.works;
     }
 
-pub returns-in_err-write_answer-clause-front : goal.returns-in_err-write_answer-clause-front
-returns-in_err-write_answer-clause-front g c =
+pub returns-in_err-write_answer_or_long-clause-front : goal.returns-in_err-write_answer_or_long-clause-front
+returns-in_err-write_answer_or_long-clause-front g c =
     let p = err_from_is_err_and c.from_residual.result c.from_residual.ensures.1 in
     let i = c.loop-len.invariant in
     let bytes = c.args.bytes.now in
@@ -62,7 +62,7 @@ returns-in_err-write_answer-clause-front g c =
     let line_feed = rw whole at c.in-Some.ensures.line_feed in
     let free : HasNoLineFeed (take len (drop start bytes)) = subst (λ (l : List ℕ). HasNoLineFeed (take len l)) whole c.in-Some.ensures.before in
     let same : start + len - start ≡ len = omega arith in
-    let wrote = rw same at c.in_err-write_answer.ensures.front in
+    let wrote = rw same at c.in_err-write_answer_or_long.ensures.front in
     let more = answers_to-front (g.A.AnswersLines.answer c.args.answers.now) c.args.limit c.args.is_long bytes (start + (len + 1)) (next_ended bytes start len i.ended within line_feed free) in
     rw (p.1, more.1, next_lines bytes start len i.ended within line_feed free, answers_to-next (g.A.AnswersLines.answer c.args.answers.now) c.args.limit c.args.is_long c.loop-len.is_long (whole_lines (take start bytes)) (take len (drop start bytes)) start len (length-take-le len (drop start bytes) (omega arith)) (λ e. (i.first e, none_before bytes start e)) i.later)
     (AppendsFront-more _ _ _ more.0 (AppendsFront-after _ _ _ _ _ i.written wrote))

@@ -6,15 +6,15 @@ use Rattle.std.proofs.lemmas.List.Elements.{All-nil}
 use Rattle.instants_stream.specs.Lines.{HasNoLineFeed, last_part}
 use Rattle.instants_devices.proofs.Told.{on_ok, on_err}
 use Rattle.instants_stream.proofs.Lines.{last_part_free}
-use Rattle.instants_stream.proofs.Progress.{Progress, begins, pauses, fails_at_end, through_with_rest, through, fails_at_flush, done, Through}
+use Rattle.instants_stream.proofs.Progress.{Progress, begins, handed_on, pauses, fails_to_hand_on, fails_at_end, through_with_rest, through, fails_at_flush, done, Through}
 use Rattle.instants_stream.proofs.ReadSteps.{more_step, more_fails, forgets}
 use Rattle.instants_stream.proofs.Pending.{pending, length-pending, pending_more, pending_rest, pending_moved, pending_kept, pending_same, size_kept}
 use Rattle.instants_stream.proofs.run.run_lines.Goals as goal
-use Rattle.instants_stream.proofs.run.run_lines.Goals.{In-Ok-answer_lines, In-Ok, After-flush, then-is_long+else-is_err, then-is_long-via-then-is_long, then-is_long-via-else-is_long+then-start-filled, else-is_long+else-start-filled}
+use Rattle.instants_stream.proofs.run.run_lines.Goals.{In-Ok-answer_lines, In-Ok, After-flush, then-is_long+else-is_err-2, then-is_long-via-then-is_long, then-is_long-via-else-is_long+then-start-filled, else-is_long+else-start-filled}
 use borrow.Rule.Slice.PartMut.{put_mid}
 
-pub loop-count-init : goal.loop-count-init
-loop-count-init g c = record {
+pub loop-storage-init : goal.loop-storage-init
+loop-storage-init g c = record {
   progress = begins _ _ _ _;
   free = All-nil (λ (b : ℕ). (b == 10) ≡ false);
   size = refl;
@@ -28,17 +28,18 @@ loop-count-init g c = record {
 
 pub returns-in_default-answer_lines-clause-write : goal.returns-in_default-answer_lines-clause-write
 returns-in_default-answer_lines-clause-write g c =
-    let i = c.loop-count.invariant in
-    let buffer = c.loop-count.buffer in
-    let start = c.loop-count.start in
-    let filled = c.loop-count.filled in
+    let i = c.loop-storage.invariant in
+    let buffer = c.loop-storage.buffer in
+    let start = c.loop-storage.start in
+    let filled = c.loop-storage.filled in
     let into = c.read.new.into in
     let count = c.in-Ok.count in
     let fits : filled ≤ length buffer = omega arith in
     let more = pending_more buffer into start filled count (length buffer - filled) i.ordered fits c.in-Ok.ensures.within in
     let wrote = rw more at c.in_default-answer_lines.ensures.front in
     let into_size : length into ≡ length buffer - filled = grind (arith, common_steps) in
-    λ _. more_fails _ _ _ _ _ _ _ _ _ _ _ i.progress i.free c.in-Ok.ensures.moved wrote
+    let handed = on_ok c.hand_on.result c.is_err.result c.is_err.ensures.value c.if-is_err.false c.hand_on.ensures.held in
+    λ _. more_fails _ _ _ _ _ _ _ _ _ _ _ (handed_on _ _ _ _ _ _ _ _ _ i.progress handed) i.free c.in-Ok.ensures.moved wrote
 
 -- a line stays too long exactly if no line feed ended it
 still_long : (was : Bool) (answered : ℕ) → ((0 < answered) × ((was && (answered == 0)) ≡ false)) ⊎ ((answered ≡ 0) × ((was && (answered == 0)) ≡ was))
@@ -48,15 +49,15 @@ still_long true (suc answered) = inl (omega arith, rw (eqb-suc-zero answered) re
 still_long false (suc answered) = inl (omega arith, refl)
 
 -- where the run stands when the whole lines are answered
-stands : (g : _) (c : In-Ok-answer_lines g) (is_long : Bool) → ((0 < c.in-Ok-answer_lines.answered) × (is_long ≡ false)) ⊎ ((c.in-Ok-answer_lines.answered ≡ 0) × (is_long ≡ c.loop-count.is_long))
-    → (let line = pending (put_mid c.loop-count.filled (length c.loop-count.buffer - c.loop-count.filled) c.loop-count.buffer c.read.new.into) (c.loop-count.start + c.in-Ok-answer_lines.answered) (c.loop-count.filled + c.in-Ok.count) in
+stands : (g : _) (c : In-Ok-answer_lines g) (is_long : Bool) → ((0 < c.in-Ok-answer_lines.answered) × (is_long ≡ false)) ⊎ ((c.in-Ok-answer_lines.answered ≡ 0) × (is_long ≡ c.loop-storage.is_long))
+    → (let line = pending (put_mid c.loop-storage.filled (length c.loop-storage.buffer - c.loop-storage.filled) c.loop-storage.buffer c.read.new.into) (c.loop-storage.start + c.in-Ok-answer_lines.answered) (c.loop-storage.filled + c.in-Ok.count) in
     Progress (g.A.AnswersLines.answer c.args.answers.now) c.args.limit (g.R.ByteReader.left c.args.reader.now) (g.R.ByteReader.left c.read.new.self) (g.W.ByteWriter.held c.args.writer.now) (g.W.ByteWriter.held c.answer_lines.new.writer) line is_long
-    × HasNoLineFeed line × (c.loop-count.start + c.in-Ok-answer_lines.answered ≤ c.loop-count.filled + c.in-Ok.count) × (c.loop-count.filled + c.in-Ok.count ≤ length c.loop-count.buffer))
+    × HasNoLineFeed line × (c.loop-storage.start + c.in-Ok-answer_lines.answered ≤ c.loop-storage.filled + c.in-Ok.count) × (c.loop-storage.filled + c.in-Ok.count ≤ length c.loop-storage.buffer))
 stands g c is_long which =
-    let i = c.loop-count.invariant in
-    let buffer = c.loop-count.buffer in
-    let start = c.loop-count.start in
-    let filled = c.loop-count.filled in
+    let i = c.loop-storage.invariant in
+    let buffer = c.loop-storage.buffer in
+    let start = c.loop-storage.start in
+    let filled = c.loop-storage.filled in
     let into = c.read.new.into in
     let count = c.in-Ok.count in
     let k = length buffer - filled in
@@ -69,24 +70,25 @@ stands g c is_long which =
     let whole = length-pending (put_mid filled k buffer into) start (filled + count) (omega arith) in
     let ordered : start + answered ≤ filled + count = omega (arith, c.in-Ok-answer_lines.ensures.within, whole, i.ordered) in
     let line_is : pending (put_mid filled k buffer into) (start + answered) (filled + count) ≡ last_part (pending buffer start filled ++ take count into) = pending_rest (put_mid filled k buffer into) start (filled + count) answered ordered ∙ c.in-Ok-answer_lines.ensures.rest ∙ ap last_part more in
-    let progress = more_step (g.A.AnswersLines.answer c.args.answers.now) c.args.limit (g.R.ByteReader.left c.args.reader.now) (g.R.ByteReader.left c.loop-count.reader) (g.R.ByteReader.left c.read.new.self) (g.W.ByteWriter.held c.args.writer.now) (g.W.ByteWriter.held c.loop-count.writer) (g.W.ByteWriter.held c.answer_lines.new.writer) (pending buffer start filled) (take count into) c.loop-count.is_long i.progress i.free c.in-Ok.ensures.moved answered is_long
+    let handed = on_ok c.hand_on.result c.is_err.result c.is_err.ensures.value c.if-is_err.false c.hand_on.ensures.held in
+    let progress = more_step (g.A.AnswersLines.answer c.args.answers.now) c.args.limit (g.R.ByteReader.left c.args.reader.now) (g.R.ByteReader.left c.loop-storage.reader) (g.R.ByteReader.left c.read.new.self) (g.W.ByteWriter.held c.args.writer.now) (g.W.ByteWriter.held c.hand_on.new.self) (g.W.ByteWriter.held c.answer_lines.new.writer) (pending buffer start filled) (take count into) c.loop-storage.is_long (handed_on _ _ _ _ _ _ _ _ _ i.progress handed) i.free c.in-Ok.ensures.moved answered is_long
     (rw more at c.in-Ok-answer_lines.ensures.some) (rw more at c.in-Ok-answer_lines.ensures.none) which (rw more at c.in-Ok-answer_lines.ensures.written) in
     (rw line_is progress, rw line_is (last_part_free (pending buffer start filled ++ take count into)), ordered, next_fits)
 
-pub loop-count-preserved-then-filled-start : goal.loop-count-preserved-then-filled-start
-loop-count-preserved-then-filled-start g c =
-    let i = c.loop-count.invariant in
-    let buffer = c.loop-count.buffer in
-    let filled = c.loop-count.filled in
+pub loop-storage-preserved-then-filled-start : goal.loop-storage-preserved-then-filled-start
+loop-storage-preserved-then-filled-start g c =
+    let i = c.loop-storage.invariant in
+    let buffer = c.loop-storage.buffer in
+    let filled = c.loop-storage.filled in
     let into = c.read.new.into in
     let k = length buffer - filled in
     let next = put_mid filled k buffer into in
     let fits : filled ≤ length buffer = omega arith in
     let into_size : length into ≡ length buffer - filled = grind (arith, common_steps) in
     let size = size_kept buffer into filled k fits refl into_size in
-    let which : ((0 < c.in-Ok-answer_lines.answered) × ((c.loop-count.is_long && (c.in-Ok-answer_lines.answered == 0)) ≡ false)) ⊎ ((c.in-Ok-answer_lines.answered ≡ 0) × ((c.loop-count.is_long && (c.in-Ok-answer_lines.answered == 0)) ≡ c.loop-count.is_long)) = still_long c.loop-count.is_long c.in-Ok-answer_lines.answered in
-    let (progress, free, ordered, ends) = stands g (goal.at.loop-count-preserved-then-filled-start g c).In-Ok-answer_lines (c.loop-count.is_long && (c.in-Ok-answer_lines.answered == 0)) which in
-    let start_next = c.loop-count.start + c.in-Ok-answer_lines.answered in
+    let which : ((0 < c.in-Ok-answer_lines.answered) × ((c.loop-storage.is_long && (c.in-Ok-answer_lines.answered == 0)) ≡ false)) ⊎ ((c.in-Ok-answer_lines.answered ≡ 0) × ((c.loop-storage.is_long && (c.in-Ok-answer_lines.answered == 0)) ≡ c.loop-storage.is_long)) = still_long c.loop-storage.is_long c.in-Ok-answer_lines.answered in
+    let (progress, free, ordered, ends) = stands g (goal.at.loop-storage-preserved-then-filled-start g c).In-Ok-answer_lines (c.loop-storage.is_long && (c.in-Ok-answer_lines.answered == 0)) which in
+    let start_next = c.loop-storage.start + c.in-Ok-answer_lines.answered in
     let filled_next = filled + c.in-Ok.count in
     let over : c.args.limit < length (pending next start_next filled_next) = omega (arith, length-pending next start_next filled_next (omega arith), c.if-filled-start.true) in
     record {
@@ -98,23 +100,23 @@ loop-count-preserved-then-filled-start g c =
       within = omega (arith, i.room);
       short = omega arith;
       reader_works = c.in-Ok.ensures.ok ∙ i.reader_works;
-      writer_works = c.in-Ok-answer_lines.ensures.ok ∙ i.writer_works;
+      writer_works = c.in-Ok-answer_lines.ensures.ok ∙ on_ok c.hand_on.result c.is_err.result c.is_err.ensures.value c.if-is_err.false c.hand_on.ensures.ok ∙ i.writer_works;
     }
 
-pub loop-count-preserved-then-filled-buffer : goal.loop-count-preserved-then-filled-buffer
-loop-count-preserved-then-filled-buffer g c =
-    let i = c.loop-count.invariant in
-    let buffer = c.loop-count.buffer in
-    let filled = c.loop-count.filled in
+pub loop-storage-preserved-then-filled-buffer : goal.loop-storage-preserved-then-filled-buffer
+loop-storage-preserved-then-filled-buffer g c =
+    let i = c.loop-storage.invariant in
+    let buffer = c.loop-storage.buffer in
+    let filled = c.loop-storage.filled in
     let into = c.read.new.into in
     let k = length buffer - filled in
     let next = put_mid filled k buffer into in
     let fits : filled ≤ length buffer = omega arith in
     let into_size : length into ≡ length buffer - filled = grind (arith, common_steps) in
     let size = size_kept buffer into filled k fits refl into_size in
-    let which : ((0 < c.in-Ok-answer_lines.answered) × ((c.loop-count.is_long && (c.in-Ok-answer_lines.answered == 0)) ≡ false)) ⊎ ((c.in-Ok-answer_lines.answered ≡ 0) × ((c.loop-count.is_long && (c.in-Ok-answer_lines.answered == 0)) ≡ c.loop-count.is_long)) = still_long c.loop-count.is_long c.in-Ok-answer_lines.answered in
-    let (progress, free, ordered, ends) = stands g (goal.at.loop-count-preserved-then-filled-buffer g c).In-Ok-answer_lines (c.loop-count.is_long && (c.in-Ok-answer_lines.answered == 0)) which in
-    let start_next = c.loop-count.start + c.in-Ok-answer_lines.answered in
+    let which : ((0 < c.in-Ok-answer_lines.answered) × ((c.loop-storage.is_long && (c.in-Ok-answer_lines.answered == 0)) ≡ false)) ⊎ ((c.in-Ok-answer_lines.answered ≡ 0) × ((c.loop-storage.is_long && (c.in-Ok-answer_lines.answered == 0)) ≡ c.loop-storage.is_long)) = still_long c.loop-storage.is_long c.in-Ok-answer_lines.answered in
+    let (progress, free, ordered, ends) = stands g (goal.at.loop-storage-preserved-then-filled-buffer g c).In-Ok-answer_lines (c.loop-storage.is_long && (c.in-Ok-answer_lines.answered == 0)) which in
+    let start_next = c.loop-storage.start + c.in-Ok-answer_lines.answered in
     let filled_next = filled + c.in-Ok.count in
     let moved : take (filled_next - start_next - 0) c.copy_within.new.self ≡ pending next start_next filled_next = ap (take (filled_next - start_next - 0)) c.copy_within.ensures.after ∙ pending_moved next start_next filled_next (filled_next - start_next - 0) ordered c.if-filled-buffer.true (omega arith) in
     record {
@@ -126,22 +128,22 @@ loop-count-preserved-then-filled-buffer g c =
       within = omega (arith, i.room, c.if-filled-start.false);
       short = omega (arith, c.if-filled-start.false);
       reader_works = c.in-Ok.ensures.ok ∙ i.reader_works;
-      writer_works = c.in-Ok-answer_lines.ensures.ok ∙ i.writer_works;
+      writer_works = c.in-Ok-answer_lines.ensures.ok ∙ on_ok c.hand_on.result c.is_err.result c.is_err.ensures.value c.if-is_err.false c.hand_on.ensures.ok ∙ i.writer_works;
     }
 
-pub loop-count-preserved : goal.loop-count-preserved
-loop-count-preserved g c =
-    let i = c.loop-count.invariant in
-    let buffer = c.loop-count.buffer in
-    let filled = c.loop-count.filled in
+pub loop-storage-preserved : goal.loop-storage-preserved
+loop-storage-preserved g c =
+    let i = c.loop-storage.invariant in
+    let buffer = c.loop-storage.buffer in
+    let filled = c.loop-storage.filled in
     let into = c.read.new.into in
     let k = length buffer - filled in
     let next = put_mid filled k buffer into in
     let fits : filled ≤ length buffer = omega arith in
     let into_size : length into ≡ length buffer - filled = grind (arith, common_steps) in
     let size = size_kept buffer into filled k fits refl into_size in
-    let which : ((0 < c.in-Ok-answer_lines.answered) × ((c.loop-count.is_long && (c.in-Ok-answer_lines.answered == 0)) ≡ false)) ⊎ ((c.in-Ok-answer_lines.answered ≡ 0) × ((c.loop-count.is_long && (c.in-Ok-answer_lines.answered == 0)) ≡ c.loop-count.is_long)) = still_long c.loop-count.is_long c.in-Ok-answer_lines.answered in
-    let (progress, free, ordered, ends) = stands g (goal.at.loop-count-preserved g c).In-Ok-answer_lines (c.loop-count.is_long && (c.in-Ok-answer_lines.answered == 0)) which in
+    let which : ((0 < c.in-Ok-answer_lines.answered) × ((c.loop-storage.is_long && (c.in-Ok-answer_lines.answered == 0)) ≡ false)) ⊎ ((c.in-Ok-answer_lines.answered ≡ 0) × ((c.loop-storage.is_long && (c.in-Ok-answer_lines.answered == 0)) ≡ c.loop-storage.is_long)) = still_long c.loop-storage.is_long c.in-Ok-answer_lines.answered in
+    let (progress, free, ordered, ends) = stands g (goal.at.loop-storage-preserved g c).In-Ok-answer_lines (c.loop-storage.is_long && (c.in-Ok-answer_lines.answered == 0)) which in
     let room : filled + c.in-Ok.count < length c.args.buffer.now = omega (arith, size, i.size, ends, c.if-filled-buffer.false) in
     record {
       progress = progress;
@@ -152,31 +154,38 @@ loop-count-preserved g c =
       within = room;
       short = omega (arith, c.if-filled-start.false);
       reader_works = c.in-Ok.ensures.ok ∙ i.reader_works;
-      writer_works = c.in-Ok-answer_lines.ensures.ok ∙ i.writer_works;
+      writer_works = c.in-Ok-answer_lines.ensures.ok ∙ on_ok c.hand_on.result c.is_err.result c.is_err.ensures.value c.if-is_err.false c.hand_on.ensures.ok ∙ i.writer_works;
     }
 
 -- the reader is at its end
-paused : (g : _) (c : In-Ok g) → c.in-Ok.count ≡ 0 → Progress (g.A.AnswersLines.answer c.args.answers.now) c.args.limit (g.R.ByteReader.left c.args.reader.now) (g.R.ByteReader.left c.read.new.self) (g.W.ByteWriter.held c.args.writer.now) (g.W.ByteWriter.held c.loop-count.writer) (pending c.loop-count.buffer c.loop-count.start c.loop-count.filled) c.loop-count.is_long × IsAtEnd (g.R.ByteReader.left c.read.new.self)
+paused : (g : _) (c : In-Ok g) → c.in-Ok.count ≡ 0 → Progress (g.A.AnswersLines.answer c.args.answers.now) c.args.limit (g.R.ByteReader.left c.args.reader.now) (g.R.ByteReader.left c.read.new.self) (g.W.ByteWriter.held c.args.writer.now) (g.W.ByteWriter.held c.hand_on.new.self) (pending c.loop-storage.buffer c.loop-storage.start c.loop-storage.filled) c.loop-storage.is_long × IsAtEnd (g.R.ByteReader.left c.read.new.self)
 paused g c none =
-    let i = c.loop-count.invariant in
-    let into_size : length c.read.new.into ≡ length c.loop-count.buffer - c.loop-count.filled = grind (arith, common_steps) in (
-      pauses (g.A.AnswersLines.answer c.args.answers.now) c.args.limit (g.R.ByteReader.left c.args.reader.now) (g.R.ByteReader.left c.loop-count.reader) (g.R.ByteReader.left c.read.new.self) (g.W.ByteWriter.held c.args.writer.now) (g.W.ByteWriter.held c.loop-count.writer) (pending c.loop-count.buffer c.loop-count.start c.loop-count.filled) c.loop-count.is_long i.progress (rw none at c.in-Ok.ensures.moved),
+    let i = c.loop-storage.invariant in
+    let handed = on_ok c.hand_on.result c.is_err.result c.is_err.ensures.value c.if-is_err.false c.hand_on.ensures.held in
+    let into_size : length c.read.new.into ≡ length c.loop-storage.buffer - c.loop-storage.filled = grind (arith, common_steps) in (
+      pauses (g.A.AnswersLines.answer c.args.answers.now) c.args.limit (g.R.ByteReader.left c.args.reader.now) (g.R.ByteReader.left c.loop-storage.reader) (g.R.ByteReader.left c.read.new.self) (g.W.ByteWriter.held c.args.writer.now) (g.W.ByteWriter.held c.hand_on.new.self) (pending c.loop-storage.buffer c.loop-storage.start c.loop-storage.filled) c.loop-storage.is_long (handed_on _ _ _ _ _ _ _ _ _ i.progress handed) (rw none at c.in-Ok.ensures.moved),
       c.in-Ok.ensures.none none (omega arith),
     )
 
--- a write at the end failed
+-- handing on failed
 pub returns-then-is_err-clause-write : goal.returns-then-is_err-clause-write
 returns-then-is_err-clause-write g c =
-    let i = c.loop-count.invariant in
-    let buffer = c.loop-count.buffer in
-    let start = c.loop-count.start in
-    let filled = c.loop-count.filled in
-    let (progress, ends) = paused g (goal.at.returns-then-is_err-clause-write g c).In-Ok c.if-count-eq0.true in
+    let stays = on_err c.hand_on.result c.is_err.result c.is_err.ensures.value c.if-is_err.true c.hand_on.ensures.kept in
+    λ _. fails_to_hand_on _ _ _ _ _ _ _ _ _ c.loop-storage.invariant.progress stays
+
+-- a write at the end failed
+pub returns-then-is_err-2-clause-write : goal.returns-then-is_err-2-clause-write
+returns-then-is_err-2-clause-write g c =
+    let i = c.loop-storage.invariant in
+    let buffer = c.loop-storage.buffer in
+    let start = c.loop-storage.start in
+    let filled = c.loop-storage.filled in
+    let (progress, ends) = paused g (goal.at.returns-then-is_err-2-clause-write g c).In-Ok c.if-count-eq0.true in
     let fits : filled ≤ length buffer = omega arith in
     let size = length-pending buffer start filled fits in
     let same = pending_same buffer c.read.new.into start filled (length buffer - filled) i.ordered fits in
-    let wrote = on_err c.write_last_answer.result c.is_err.result c.is_err.ensures.value c.if-is_err.true c.write_last_answer.ensures.front in
-    let some : (c.loop-count.is_long ≡ true) ⊎ (0 < length (pending buffer start filled)) = elim c.then-is_long.branch [
+    let wrote = on_err c.write_last_answer_or_long.result c.is_err-then-is_long.result c.is_err-then-is_long.ensures.value c.if-is_err-2.true c.write_last_answer_or_long.ensures.front in
+    let some : (c.loop-storage.is_long ≡ true) ⊎ (0 < length (pending buffer start filled)) = elim c.then-is_long.branch [
       | then-is_long-via-then-is_long w ↦ inl w.if-is_long.true
       | then-is_long-via-else-is_long+then-start-filled w ↦ inr (omega (arith, size, w.if-start-filled.true))
     ] in
@@ -185,20 +194,21 @@ returns-then-is_err-clause-write g c =
 -- the run is through, but for the flush
 finished : (g : _) (c : After-flush g) → Through (g.A.AnswersLines.answer c.args.answers.now) c.args.limit (g.R.ByteReader.left c.args.reader.now) (g.R.ByteReader.left c.read.new.self) (g.W.ByteWriter.held c.args.writer.now) (g.W.ByteWriter.held c.if-is_long.writer)
 finished g c =
-    let i = c.loop-count.invariant in
-    let buffer = c.loop-count.buffer in
-    let start = c.loop-count.start in
-    let filled = c.loop-count.filled in
+    let i = c.loop-storage.invariant in
+    let buffer = c.loop-storage.buffer in
+    let start = c.loop-storage.start in
+    let filled = c.loop-storage.filled in
     let into_size : length c.read.new.into ≡ length buffer - filled = grind (arith, common_steps) in
     let ends = c.in-Ok.ensures.none c.if-count-eq0.true (omega arith) in
-    let progress = pauses (g.A.AnswersLines.answer c.args.answers.now) c.args.limit (g.R.ByteReader.left c.args.reader.now) (g.R.ByteReader.left c.loop-count.reader) (g.R.ByteReader.left c.read.new.self) (g.W.ByteWriter.held c.args.writer.now) (g.W.ByteWriter.held c.loop-count.writer) (pending buffer start filled) c.loop-count.is_long i.progress (rw c.if-count-eq0.true at c.in-Ok.ensures.moved) in
+    let handed = on_ok c.hand_on.result c.is_err.result c.is_err.ensures.value c.if-is_err.false c.hand_on.ensures.held in
+    let progress = pauses (g.A.AnswersLines.answer c.args.answers.now) c.args.limit (g.R.ByteReader.left c.args.reader.now) (g.R.ByteReader.left c.loop-storage.reader) (g.R.ByteReader.left c.read.new.self) (g.W.ByteWriter.held c.args.writer.now) (g.W.ByteWriter.held c.hand_on.new.self) (pending buffer start filled) c.loop-storage.is_long (handed_on _ _ _ _ _ _ _ _ _ i.progress handed) (rw c.if-count-eq0.true at c.in-Ok.ensures.moved) in
     let fits : filled ≤ length buffer = omega arith in
     let size = length-pending buffer start filled fits in
     let same = pending_same buffer c.read.new.into start filled (length buffer - filled) i.ordered fits in
     elim c.if-is_long.branch [
-      | then-is_long+else-is_err w ↦
-          let wrote = on_ok w.write_last_answer.result w.is_err.result w.is_err.ensures.value w.if-is_err.false w.write_last_answer.ensures.written in
-          let some : (c.loop-count.is_long ≡ true) ⊎ (0 < length (pending buffer start filled)) = elim w.then-is_long.branch [
+      | then-is_long+else-is_err-2 w ↦
+          let wrote = on_ok w.write_last_answer_or_long.result w.is_err-then-is_long.result w.is_err-then-is_long.ensures.value w.if-is_err-2.false w.write_last_answer_or_long.ensures.written in
+          let some : (c.loop-storage.is_long ≡ true) ⊎ (0 < length (pending buffer start filled)) = elim w.then-is_long.branch [
             | then-is_long-via-then-is_long v ↦ inl v.if-is_long.true
             | then-is_long-via-else-is_long+then-start-filled v ↦ inr (omega (arith, size, v.if-start-filled.true))
           ] in
@@ -206,24 +216,24 @@ finished g c =
       | else-is_long+else-start-filled w ↦
           let none : filled - start ≡ 0 = omega (arith, w.if-start-filled.false) in
           let line_is : pending buffer start filled ≡ [] = rw none refl in
-          rw w.writer-is (through _ _ _ _ _ _ (g.W.ByteWriter.held c.loop-count.writer) _ _ progress w.if-is_long.false line_is ends)
+          rw w.writer-is (through _ _ _ _ _ _ (g.W.ByteWriter.held c.hand_on.new.self) _ _ progress w.if-is_long.false line_is ends)
     ]
 
-pub returns-then-is_err-2-clause-write : goal.returns-then-is_err-2-clause-write
-returns-then-is_err-2-clause-write g c =
-    let stays = on_err c.flush.result c.is_err-2.result c.is_err-2.ensures.value c.if-is_err-2.true c.flush.ensures.kept in
-    λ _. fails_at_flush _ _ _ _ _ _ _ (finished g (goal.at.returns-then-is_err-2-clause-write g c).After-flush) stays
+pub returns-then-is_err-3-clause-write : goal.returns-then-is_err-3-clause-write
+returns-then-is_err-3-clause-write g c =
+    let stays = on_err c.flush.result c.is_err-2.result c.is_err-2.ensures.value c.if-is_err-3.true c.flush.ensures.kept in
+    λ _. fails_at_flush _ _ _ _ _ _ _ (finished g (goal.at.returns-then-is_err-3-clause-write g c).After-flush) stays
 
 pub returns-clause-ok : goal.returns-clause-ok
 returns-clause-ok g c =
-    let stays = on_ok c.flush.result c.is_err-2.result c.is_err-2.ensures.value c.if-is_err-2.false c.flush.ensures.moved in
+    let stays = on_ok c.flush.result c.is_err-2.result c.is_err-2.ensures.value c.if-is_err-3.false c.flush.ensures.moved in
     done _ _ _ _ _ _ _ (finished g (goal.at.returns-clause-ok g c).After-flush) stays
 
 -- no byte that was pending before the read is a line feed
 pub answer_lines-requires-clause-free : goal.answer_lines-requires-clause-free
 answer_lines-requires-clause-free g c =
-    let i = c.loop-count.invariant in
-    let buffer = c.loop-count.buffer in
-    let filled = c.loop-count.filled in
+    let i = c.loop-storage.invariant in
+    let buffer = c.loop-storage.buffer in
+    let filled = c.loop-storage.filled in
     let fits : filled ≤ length buffer = omega arith in
-    rw (pending_kept buffer c.read.new.into c.loop-count.start filled c.in-Ok.count (length buffer - filled) i.ordered fits c.in-Ok.ensures.within) i.free
+    rw (pending_kept buffer c.read.new.into c.loop-storage.start filled c.in-Ok.count (length buffer - filled) i.ordered fits c.in-Ok.ensures.within) i.free

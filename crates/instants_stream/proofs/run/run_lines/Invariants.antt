@@ -3,8 +3,8 @@ use Rattle.instants_stream.specs.Lines.{HasNoLineFeed}
 use Rattle.instants_stream.proofs.Progress.{Progress}
 use Rattle.instants_stream.proofs.run.run_lines.Given as goal
 
-abbrev pub invariant-loop-count : goal.invariant-loop-count
-invariant-loop-count g l =
+abbrev pub invariant-loop-storage : goal.invariant-loop-storage
+invariant-loop-storage g l =
     let left = g.R.ByteReader.left in
     let held = g.W.ByteWriter.held in
     let line = take (l.filled - l.start) (drop l.start l.buffer) in
@@ -20,5 +20,5 @@ invariant-loop-count g l =
       writer_works : g.W.ByteWriter.failed l.writer ≡ false;
     }
 
-abbrev pub decreases-loop-count : goal.decreases-loop-count
-decreases-loop-count g l = g.R.ByteReader.reads_left l.reader
+abbrev pub decreases-loop-storage : goal.decreases-loop-storage
+decreases-loop-storage g l = g.R.ByteReader.reads_left l.reader

@@ -1,6 +1,6 @@
 use Rattle.std.proofs.Common.{◌≤◌, length, rules, arith}
 use Rattle.instants_devices.proofs.Gathering.{gathered-front}
-use Rattle.instants_devices.proofs.block_writer.BlockWriterFrontWriter.write_front.Goals as goal
+use Rattle.instants_devices.proofs.block_writer.BlockWriterByteWriter.write_front.Goals as goal
 
 pub returns-clause-written : goal.returns-clause-written
 returns-clause-written g c =
