@@ -4,9 +4,10 @@
 Usage: bench/growing_descriptions.py [PROGRAM]
 
 PROGRAM is crates/description_check/out/description_check if left out
-(`tools/build_program.py description_check` builds it). Each row is one shape of text: what is repeated, and the instructions a byte at 16, 64 and 256
-KiB and at 1 MiB, less those of a run on an empty text. The last column is the last of these over the
-first: about 1 where time grows with the length alone.
+(`tools/build_program.py description_check` builds it). Each row is one shape of text: what is
+repeated, and the instructions a byte at 16, 64 and 256 KiB and at 1 MiB, less those of a run on an
+empty text. The last column is the last of these over the first: about 1 where time grows with the
+length alone.
 """
 
 import pathlib
