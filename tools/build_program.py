@@ -1,4 +1,7 @@
+#!/usr/bin/env python3
 """Proves and builds a program of this repository.
+
+    tools/build_program.py CRATE    as in tools/build_program.py description_check
 
 The build is `rt ci` over a copy of the program's crates alone, without tests and edits: it proves them side by side, the
 longest chain first, has both compilers make the program, and compares what it writes with the stored run. What it proves is
@@ -18,7 +21,7 @@ import tempfile
 import time
 
 from ended_with_caller import ended_with_caller
-from program import PARTS, ROOT, uses
+from program import PARTS, ROOT, Program, uses
 
 # What of a program's crate its stored run reads.
 RUN = ("args", "stdin", "stdout", "status")
@@ -138,3 +141,12 @@ class Progress:
         self.worked += self.due.pop(crate)
         left = f", {told(self.left(passed))} or so left" if self.due else ""
         self.program.say(f"{crate} is proved, {self.count - len(self.due)} of {self.count} crates, {passed:.0f} s{left}")
+
+
+if __name__ == "__main__":
+    if len(sys.argv) != 2 or sys.argv[1] not in uses():
+        sys.exit(__doc__)
+    try:
+        build(Program(sys.argv[1], sys.argv[1]))
+    except BuildFailed as fault:
+        sys.exit(f"{sys.argv[1]}: {fault}")

@@ -1,38 +1,102 @@
 #!/usr/bin/env python3
-"""Says which words of the tables of descriptions docs/DESCRIPTIONS.md leaves out: names of components, keys of modifiers, their
-values, and the letters, flags and refused signs of strftime, each as the code has it. The status is 1 where one is missing."""
+"""Says which words of the tables of descriptions docs/DESCRIPTIONS.md leaves out, each as the code has it: components; of each
+component its modifiers and their values; the letters, flags and refused signs of strftime. It reads the columns that tell what
+can be written, not the examples. The status is 1 where a word is missing."""
 
+import collections
 import pathlib
 import re
 import sys
 
 ROOT = pathlib.Path(__file__).resolve().parent.parent
-CRATES = ROOT / "crates"
+TABLES = ROOT / "crates" / "description_tables" / "src"
+LETTERS = ROOT / "crates" / "description_strftime" / "src"
+PAGE = ROOT / "docs" / "DESCRIPTIONS.md"
+EXAMPLES = ("example", "line", "answer")
+# The functions of values.rt that read a modifier's value, where they are not named after it.
+READERS = {"case_sensitive": "flag_of", "one_indexed": "flag_of"}
+REPRS = {"month": "month_repr_of", "weekday": "weekday_repr_of", "week_number": "week_repr_of", "year": "year_repr_of", "hour": "hour_repr_of"}
 
 
-def words_in(file):
-    """Returns the words that a table compares with."""
-    return re.findall(r'is_named\(version, word, "([^"]+)"\)', (CRATES / "description_tables" / "src" / file).read_text())
+def named(file, kind):
+    """Returns the word of each variant of a table, by the variant."""
+    rows = re.findall(rf'is_named\(version, word, "([^"]+)"\) \{{\s*Some\({kind}::(\w+)\)', (TABLES / file).read_text())
+    return {variant: word for word, variant in rows}
 
 
-def letters_in(file):
-    """Returns the bytes that a table of strftime matches."""
-    rows = re.findall(r"((?:b'.'(?: \| )?)+) =>", (CRATES / "description_strftime" / "src" / file).read_text())
-    return [it for row in rows for it in re.findall(r"b'(.)'", row)]
+def values_of(component, key):
+    """Returns the words that a component's modifier can have."""
+    reader = REPRS[component] if key == "repr" else READERS.get(key, f"{key}_of")
+    body = re.search(rf"fn {reader}\(.*?\n}}", (TABLES / "values.rt").read_text(), re.S)[0]
+    return re.findall(r'is_named\(version, word, "([^"]+)"\)', body)
+
+
+def modifiers():
+    """Returns the modifiers of each component."""
+    names, keys, found = named("names.rt", "Name"), named("keys.rt", "Key"), {}
+    body = (TABLES / "keys.rt").read_text().partition("pub fn has_key")[2]
+    for key, listed in re.findall(r"Key::(\w+) => matches!\(\s*name,([^)]*)\)", body):
+        for name in re.findall(r"Name::(\w+)", listed):
+            found.setdefault(names[name], []).append(keys[key])
+    return {it: found.get(it, []) for it in names.values()}
+
+
+def rows_of(text):
+    """Returns the rows of the page's tables, each by its columns, without the examples."""
+    rows, head = [], None
+    for line in text.split("\n"):
+        cells = [it.strip() for it in re.split(r"(?<!\\)\|", line)[1:-1]]
+        if not cells or re.fullmatch(r"[-|]+", line):
+            head = head if cells else None
+        elif head is None:
+            head = cells
+        else:
+            rows.append({key: it for key, it in zip(head, cells) if key not in EXAMPLES})
+    return rows
+
+
+def words_in(text):
+    """Returns the words of a text's spans of code."""
+    return {word for span in re.findall(r"`([^`]+)`", text) for word in re.findall(r"[a-z_0-9+]+", span)}
+
+
+def missing_words(rows):
+    told, component = collections.defaultdict(str), None
+    for row in rows:
+        if "component" in row:
+            component = row["component"].strip("`[]") or component
+            told[component] += " ".join(it for key, it in row.items() if key != "component")
+    paddings = words_in(" ".join(it.get("`padding`", "") for it in rows))
+    for name, keys in modifiers().items():
+        if name not in told:
+            yield f"component {name}"
+        there = words_in(told[name])
+        there |= {str(it) for it in range(1, 10)} if "`1` to `9`" in told[name] else set()
+        for key in keys:
+            if key not in there:
+                yield f"modifier {key} of {name}"
+            due = [] if key == "count" else values_of(name, key)
+            yield from (f"value {it} of {key} of {name}" for it in due if it not in (paddings if key == "padding" else there))
+
+
+def missing_letters(rows):
+    told = " ".join(it.get("letter", "") + it.get("written", "") for it in rows)
+    flags = {it["flag"].strip("`") for it in rows if "flag" in it}
+    for file in ("letters.rt", "numbers.rt"):
+        for letter in re.findall(r"b'(.)'", (LETTERS / file).read_text()):
+            if f"%{letter}" not in told and letter not in flags:
+                yield f"letter %{letter}"
+
+
+def missing_nesting(rows):
+    told = " ".join(it.get("written", "") for it in rows)
+    heads = (ROOT / "crates" / "description_spelling" / "specs" / "Spelling.antt").read_text()
+    return [f"nesting {it}" for it in re.findall(r'SpellsNesting v \(codes "(\w+)"\)', heads) if f"[{it} " not in told]
 
 
 def main():
-    text = (ROOT / "docs" / "DESCRIPTIONS.md").read_text()
-    spans = re.findall(r"`([^`]+)`", text)
-    words = {it for span in spans for it in re.findall(r"[a-z_0-9+]+", span)}
-    digits = set("123456789") if "`1` to `9`" in text else set()
-    missing = [f"component {it}" for it in words_in("names.rt") if f"`[{it}]`" not in text]
-    missing += [f"modifier {it}" for it in words_in("keys.rt") if it not in words]
-    missing += [f"value {it}" for it in words_in("values.rt") if it not in words | digits]
-    letters = {it for file in ("letters.rt", "numbers.rt") for it in letters_in(file)} - {"/", "-", ":", "_", "0"}
-    told = {it for span in spans for it in re.findall(r"%[-_0]?(.)", span)}
-    missing += [f"letter %{it}" for it in sorted(letters) if it not in told | {"^", "#"} or f"%{it}" not in text]
-    missing += [f"flag {it}" for it in "_-0" if f"| `{it}` |" not in text]
+    rows = rows_of(PAGE.read_text())
+    missing = [*missing_words(rows), *missing_nesting(rows), *missing_letters(rows)]
     print("\n".join([*missing, f"{len(missing)} words missing"]))
     return int(bool(missing))
 

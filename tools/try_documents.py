@@ -23,8 +23,10 @@ error, so that none is left out by a slip, and so is a fence of another kind but
 The page of each family's crate, the `//!` lines at the head of its `src/lib.rt`, has one fence, whose lines stand one
 behind the other in the file `src/page.rt` of the family's tests, which the gate proves and runs.
 
-What is run is the program as it was built last; `./instants` builds it, and `rt run` in its crate `description_check`. It
-prints each example that differs, and ends with status 1 if there is any.
+With no FILE it also asks the tools that write pages from the sources, or compare one with them, whether each is current.
+
+What is run are the programs as they were built last; `./instants --build` and `tools/build_program.py description_check`
+build them. It prints each example that differs, and ends with status 1 if there is any.
 """
 
 import argparse
@@ -42,6 +44,8 @@ DOCUMENTS = ("README.md", "docs/GUIDE.md", "docs/DESCRIPTIONS.md", "docs/FORMATS
 PAGES = ("calendar", "datetime", "description", "parsing", "instants")
 PROGRAM = ROOT / "crates" / "instants_program" / "out" / "instants_program"
 CHECK = ROOT / "crates" / "description_check" / "out" / "description_check"
+# The tools that say whether a page is as the sources have it.
+CHECKS = (("description_page.py", "--check"), ("described_words.py",), ("calls_page.py", "--check"), ("believed_files.py", "--check"))
 SECONDS = 60
 # Fences of code that is read and not run.
 NOT_RUN = ("sh builds", "rust")
@@ -194,7 +198,7 @@ def main():
     if not given.files:
         wrong = [line for crate in PAGES for line in try_page(crate)]
         print("\n".join([*wrong, f"pages of crates: {len(PAGES)} examples, {len(wrong)} wrong"]), flush=True)
-        count += len(wrong)
+        count += len(wrong) + sum(subprocess.run([ROOT / "tools" / it[0], *it[1:]], check=False).returncode != 0 for it in CHECKS)
     return bool(count)
 
 

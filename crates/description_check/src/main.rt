@@ -1,7 +1,14 @@
-//! `description_check LANGUAGE`: reads a description from standard input, in version `1`, `2` or `3` or by the letters
-//! of `strftime`, and says on standard output how many items or bytes it has, or on standard error what is wrong.
+//! `description_check LANGUAGE`: reads a description from standard input, in `v1`, `v2`, `v3` or `strftime`, and shows
+//! where its fault stands, or says that it is well formed and which values it can never name alone.
 #![tactic(auto)]
 
+mod parts;
+mod told;
+mod walk;
+
+use crate::parts::Parts;
+use crate::told::{show_fault, show_parts};
+use crate::walk::{parts_of_items, parts_of_node};
 use description::{
     Description, DescriptionFault, DescriptionVersion, parse_borrowed, parse_strftime_borrowed,
 };
@@ -9,7 +16,7 @@ use std::alloc::Global;
 use std::process::ExitCode;
 use std::{env, io};
 
-// Memory ran out, or the input is not to be had.
+// Memory ran out, or reading or writing failed.
 const FAILED: u8 = 1;
 
 // The text is no description, or there is no such language.
@@ -17,30 +24,28 @@ const REFUSED: u8 = 2;
 
 fn main(rt: HostRuntime) -> ExitCode {
     let Some(language) = named_language(&rt) else {
-        let _ = eprintln!(rt; "usage: description_check 1|2|3|strftime");
+        let _ = eprintln!(rt; "usage: description_check v1|v2|v3|strftime");
         return ExitCode::from(REFUSED);
     };
     let Ok(text) = io::read_to_string(rt.alloc(), rt.stdin()) else {
         let _ = eprintln!(rt; "description_check: the input can't be read");
         return ExitCode::from(FAILED);
     };
-    match read(rt.alloc(), language, text.as_str()) {
-        Ok(said) => {
-            let _ = match said {
-                Said::Items(count) => println!(rt; "{count} items"),
-                Said::Bytes(count) => println!(rt; "{count} bytes"),
-            };
-            ExitCode::SUCCESS
-        }
+    // A fault borrows from the text the words that it complains of.
+    let (shown, status) = match read(rt.alloc(), language, text.as_str()) {
+        Ok(parts) => (show_parts(&rt, &parts), 0),
         Err(DescriptionFault::Description(fault)) => {
-            let _ = eprintln!(rt; "description_check: {fault}");
-            ExitCode::from(REFUSED)
+            (show_fault(&rt, text.as_str(), fault), REFUSED)
         }
         Err(DescriptionFault::Memory) => {
-            let _ = eprintln!(rt; "description_check: out of memory");
-            ExitCode::from(FAILED)
+            (eprintln!(rt; "description_check: out of memory"), FAILED)
         }
+    };
+    if shown.is_err() {
+        let _ = eprintln!(rt; "description_check: writing failed");
+        return ExitCode::from(FAILED);
     }
+    ExitCode::from(status)
 }
 
 // The languages of descriptions.
@@ -58,27 +63,26 @@ fn named_language(rt: &HostRuntime) -> Option<Language> {
         return None;
     }
     match args[0].as_str() {
-        "1" => Some(Language::Version(DescriptionVersion::One)),
-        "2" => Some(Language::Version(DescriptionVersion::Two)),
-        "3" => Some(Language::Version(DescriptionVersion::Three)),
+        "v1" => Some(Language::Version(DescriptionVersion::One)),
+        "v2" => Some(Language::Version(DescriptionVersion::Two)),
+        "v3" => Some(Language::Version(DescriptionVersion::Three)),
         "strftime" => Some(Language::Strftime),
         _ => None,
     }
 }
 
-// What is said of a description: how many items it has, or how many bytes it reserves.
-#[derive(Clone, Copy)]
-enum Said {
-    Items(usize),
-    Bytes(usize),
-}
-
-fn read(alloc: Global, language: Language, text: &str) -> Result<Said, DescriptionFault<'_>> {
+// The parts that a text describes. `?` hands its fault on.
+fn read(alloc: Global, language: Language, text: &str) -> Result<Parts, DescriptionFault<'_>> {
+    let mut parts = Parts::default();
     match language {
-        Language::Strftime => Ok(Said::Items(parse_strftime_borrowed(alloc, text)?.len())),
+        Language::Strftime => {
+            let items = parse_strftime_borrowed(alloc, text)?;
+            parts_of_items(items.as_slice(), &mut parts);
+        }
         Language::Version(version) => match parse_borrowed(alloc, version, text)? {
-            Description::Items(items) => Ok(Said::Items(items.len())),
-            Description::V3(description) => Ok(Said::Bytes(description.max_bytes_needed())),
+            Description::Items(items) => parts_of_items(items.as_slice(), &mut parts),
+            Description::V3(description) => parts_of_node(description.inner(), &mut parts),
         },
     }
+    Ok(parts)
 }

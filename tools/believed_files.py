@@ -1,0 +1,127 @@
+#!/usr/bin/env python3
+"""Says which definitions the contract of `run_words` rests on: file by file of the crates' specs/, how many lines of definitions
+are reached from its clauses, and writes the table into docs/CLAIMS.md, between the lines that name this tool.
+
+    tools/believed_files.py            writes it
+    tools/believed_files.py --check    says whether it is as it would be written, with status 1 where it is not
+    tools/believed_files.py --names    prints the names that are reached
+"""
+
+import functools
+import pathlib
+import re
+import sys
+
+ROOT = pathlib.Path(__file__).resolve().parent.parent
+CRATES, PAGE = ROOT / "crates", ROOT / "docs" / "CLAIMS.md"
+BEGIN, END = "<!-- tools/believed_files.py begins -->", "<!-- tools/believed_files.py ends -->"
+LAYERS = {"instants": "lines and answers", "parsing": "reading", "description": "descriptions", "datetime": "date-times", "calendar": "calendar", "byte_names": "bytes"}
+WORD = r"[^\s(){}\[\].,;=:λ→]+(?:\.[^\s(){}\[\].,;=:λ→]+)*|◌[^\s(){},;]*◌"
+
+
+def file_of(path):
+    """Returns the file of a module of specs/, or none where it is not of this repository or tells what src/ declares."""
+    parts = path.split(".")
+    if parts[0] != "Rattle" or len(parts) < 4 or parts[2] != "specs" or "declared" in parts:
+        return None
+    file = CRATES / parts[1] / "specs" / ("/".join(parts[3:]) + ".antt")
+    return file if file.exists() else None
+
+
+def imports_in(text, keyword):
+    """Returns what each name that is brought in stands for: a file, and the name there."""
+    found = {}
+    for path, names, alias in re.findall(rf"^ *{keyword} (Rattle[\w.]+?)(?:\.\{{([^}}]*)\}})?(?: as (\w+))?;?$", text, re.M):
+        file = file_of(path)
+        if file and alias:
+            found[f"{alias}."] = (file, None)
+        for name in (it.strip() for it in names.split(",")) if file and names else ():
+            there, _, here = name.partition(" as ")
+            found[here or there] = (file, there)
+    return found
+
+
+@functools.cache
+def definitions_in(file):
+    """Returns the definitions of a file by name, each with its lines."""
+    found = {}
+    lines = [it for it in file.read_text().split("\n") if not it.strip().startswith("--") and not it.startswith("use ")]
+    text = "\n".join(lines)
+    # (what stands in a mutual block stands as it would outside of it)
+    text = re.sub(r"^(?:abbrev |unfoldable |opaque )?mutual\b.*\n((?:(?:  .*)?\n)*)", lambda it: re.sub(r"^  ", "", it[1], flags=re.M), text, flags=re.M)
+    for block in re.split(r"\n(?=(?:abbrev |unfoldable |opaque )?pub )", text):
+        head = re.match(r"(?:abbrev |unfoldable |opaque )?pub (?:record |data )?(\S+)", block)
+        if head:
+            body = [it for it in block.split("\n") if it.strip() and not it.startswith(("infix", "prefix", "postfix"))]
+            found[head[1]] = body
+            # (the variants of a data type and the fields of a record go with it)
+            for name in re.findall(r"^  (?:pub )?(\S+) :", "\n".join(body), re.M):
+                found.setdefault(name, [])
+                found[name] = found[name] or body
+    return found
+
+
+def words_of(text, names):
+    """Returns the words of a text, and those operators among the names whose parts it has."""
+    found = set(re.findall(WORD, text))
+    tokens = set(re.split(r"[\s(){},;]+", text))
+    bound = {">>="} if re.search(r"\bdo$", text, re.M) else set()
+    return found | {it for it in names if "◌" in it and {part for part in it.split("◌") if part} <= tokens | bound}
+
+
+def reached_from(text, imports, own, seen):
+    """Adds all definitions that a text rests on."""
+    for word in words_of(text, [*imports, *(definitions_in(own) if own else ())]):
+        head, _, tail = word.partition(".")
+        file, name = imports.get(word) or imports.get(head) or (None, None)
+        if f"{head}." in imports and tail:
+            file, name = imports[f"{head}."][0], tail.split(".")[0]
+        if file is None and own and head in definitions_in(own):
+            file, name = own, head
+        if file is None or (file, name) in seen:
+            continue
+        body = definitions_in(file).get(name)
+        if body:
+            seen[file, name] = body
+            reached_from("\n".join(body), imports_in(file.read_text(), "use"), file, seen)
+
+
+def believed():
+    source = (CRATES / "instants" / "src" / "program.rt").read_text()
+    clauses = source[source.index("pub fn run_words") : source.index("let said = read_words")]
+    seen = {}
+    reached_from(clauses, imports_in(source, "ghost use"), None, seen)
+    return seen
+
+
+def table(seen):
+    crates = {}
+    for (file, _), body in seen.items():
+        crate, _, module = file.relative_to(CRATES).parts
+        crates.setdefault(crate, {}).setdefault(module.removesuffix(".antt"), set()).add("\n".join(body))
+    rows, files, count = ["| layer | in `specs/` of | files, with their lines of definitions |", "|---|---|---|"], 0, 0
+    for layer, told in LAYERS.items():
+        for crate in sorted(it for it in crates if it == layer or it.startswith(f"{layer}_")):
+            lines = {module: sum(len(it.split("\n")) for it in bodies) for module, bodies in sorted(crates[crate].items())}
+            rows.append(f"| {told} | `{crate}` | {', '.join(f'`{module}` {size}' for module, size in lines.items())} |")
+            files, count, told = files + len(lines), count + sum(lines.values()), ""
+    return "\n".join([*rows, f"| all | {len(rows) - 2} crates | {files} files, {count} lines |"])
+
+
+def main(words):
+    seen = believed()
+    if words == ["--names"]:
+        print("\n".join(sorted(f"{file.relative_to(CRATES)} {name}" for file, name in seen)))
+        return 0
+    text = PAGE.read_text()
+    before, behind = text.split(BEGIN)[0], text.split(END)[1]
+    written = f"{before}{BEGIN}\n\n{table(seen)}\n\n{END}{behind}"
+    if words == ["--check"]:
+        print(f"the table of {PAGE.relative_to(ROOT)} is {'as' if written == text else 'not as'} the definitions have it")
+        return int(written != text)
+    PAGE.write_text(written)
+    return 0
+
+
+if __name__ == "__main__":
+    sys.exit(main(sys.argv[1:]))
