@@ -10,7 +10,8 @@ use crate::timeline::Timeline;
 use instants_devices::{ByteReader, ByteWriter};
 use instants_stream::{RunFault, run_lines};
 
-/// Writes the answer to each line that the reader gives, each followed by a line feed, and flushes the writer.
+/// Writes the answer to each line that the reader gives, each followed by a line feed. The answers are handed on before
+/// each read, and the writer is flushed at the end.
 ///
 /// Lines end in LF; a nonempty last part is a line too. A line that is longer than the limit, which is one less than
 /// the buffer's length, is answered `! long`. The first device that fails ends the run; nothing is tried again. Of what

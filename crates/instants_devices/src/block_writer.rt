@@ -109,27 +109,24 @@ impl<W: ByteWriter> BlockWriter<W> {
         Ok(count)
     }
 
-    // Makes room, and puts the first bytes into the block. Where it is shorter they go to the other writer.
+    // Writes the first bytes where the block has no room for all 64. They go by the block, however short it is: if their
+    // address got to a device, the compiler would no longer know that they lie apart from the block, at six instructions
+    // more a line.
     #[cold]
     #[inline(never)]
     fn write_front_past_end(&mut self, bytes: &[u8; 64], len: usize) -> Result<(), DeviceFailed>
         requires works { W.failed self.old.inner ≡ false }
         requires within { len ≤ 64 }
-        requires unflushed { self.old.is_flushed ≡ false }
         ensures written { OnOk result (Appends
             (held_by W.held self.old) (held_by W.held self.new) (take len bytes.now)) }
         ensures ok { OnOk result (W.failed self.new.inner ≡ W.failed self.old.inner) }
+        ensures unflushed { OnOk result (0 < len →
+            ⟦<BlockWriter<W> as ByteWriter>⟧.flushed self.new ≡ false) }
         ensures front { OnErr result (AppendsFront
             (held_by W.held self.old) (held_by W.held self.new) (take len bytes.now)) }
         ensures err { OnErr result (W.failed self.new.inner ≡ true) }
-        ensures flushed { self.new.is_flushed ≡ self.old.is_flushed }
     {
-        self.write_block()?;
-        if self.block.len() < len {
-            return self.inner.write_front(bytes, len);
-        }
-        self.gather(&bytes[..len]);
-        Ok(())
+        self.write_all(&bytes[..len])
     }
 }
 
@@ -189,10 +186,10 @@ impl<W: ByteWriter> ByteWriter for BlockWriter<W> {
     // All 64 bytes are put into the block, which needs no test of how many they are.
     #[inline(always)]
     fn write_front(&mut self, bytes: &[u8; 64], len: usize) -> Result<(), DeviceFailed> {
-        self.is_flushed = false;
         if self.block.len() - self.end < 64 {
             return self.write_front_past_end(bytes, len);
         }
+        self.is_flushed = false;
         put(&mut self.block, self.end, bytes);
         self.end += len;
         Ok(())

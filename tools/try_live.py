@@ -1,0 +1,134 @@
+#!/usr/bin/env python3
+"""Tries whether the proved program answers each line as soon as its line feed is there, before the next line is written.
+
+    tools/try_live.py [PROGRAM]
+
+PROGRAM is the one that was built last (`./instants --build` builds it), unless another is named. It is started with pipes for
+its input and its output, and asked for one line after the other:
+
+- a hundred lines, each written when the answer to the last one is there;
+- lines in two pieces: nothing is answered before the second one;
+- two lines at once, and behind them a line that is too long, in three pieces;
+- at the end of the input a last line without a line feed.
+
+An answer that does not come within ten seconds has failed. The last line counts what passed; the status is 1 where anything
+failed.
+"""
+
+import os
+import pathlib
+import select
+import subprocess
+import sys
+import time
+
+ROOT = pathlib.Path(__file__).resolve().parent.parent
+PROGRAM = ROOT / "crates" / "instants_program" / "out" / "instants_program"
+WORDS = ["+00:00", "-", "100", "rfc3339"]
+# How long an answer may take, and how long it is seen that none comes, in seconds.
+PATIENCE, SILENCE = 10, 0.2
+PIECES = 10
+
+counts = {True: 0, False: 0}
+
+
+def tell(what, is_well, why=""):
+    counts[bool(is_well)] += 1
+    if not is_well:
+        print(f"FAILED: {what}{f': {why}' if why else ''}", flush=True)
+    return is_well
+
+
+class Live:
+    """The program at work, its standard input and output in our hands."""
+
+    def __init__(self, program):
+        self.program = subprocess.Popen([program, *WORDS], stdin=subprocess.PIPE, stdout=subprocess.PIPE, bufsize=0)
+
+    def write(self, text):
+        self.program.stdin.write(text)
+
+    def read(self, count, patience=PATIENCE):
+        """Returns as many bytes, or those that came in time or before the end."""
+        until, taken = time.monotonic() + patience, b""
+        while len(taken) < count and select.select([self.program.stdout], [], [], max(until - time.monotonic(), 0))[0]:
+            piece = os.read(self.program.stdout.fileno(), count - len(taken))
+            if not piece:
+                break
+            taken += piece
+        return taken
+
+    def answers(self, what, lines, wanted):
+        """Writes lines, and says whether exactly these answers come."""
+        self.write(lines)
+        came = self.read(len(wanted))
+        return tell(what, came == wanted, f"{came!r} in place of {wanted!r}")
+
+    def end(self, what, last, wanted):
+        """Writes a last line and the end, and says whether exactly this and the status 0 come."""
+        self.write(last)
+        self.program.stdin.close()
+        came = self.read(len(wanted) + 1)
+        tell(what, came == wanted, f"{came!r} in place of {wanted!r}")
+        try:
+            tell("the status", self.program.wait(PATIENCE) == 0)
+        except subprocess.TimeoutExpired:
+            tell("the end", False)
+
+    def stop(self):
+        if self.program.poll() is None:
+            self.program.kill()
+        self.program.wait()
+
+
+def line_and_answer(at):
+    moment = f"2021-01-02T{at // 60 % 24:02}:{at % 60:02}:05"
+    return f"{moment}Z\n".encode(), f"{moment}.000000000Z\n".encode()
+
+
+def try_lines(live):
+    """Tries one line after the other; after one that is not answered none is tried."""
+    return all(live.answers(f"line {at + 1}", *line_and_answer(at)) for at in range(100))
+
+
+def try_pieces(live):
+    for at in range(PIECES):
+        line, answer = line_and_answer(at)
+        cut = 1 + at * (len(line) - 2) // (PIECES - 1)
+        live.write(line[:cut])
+        tell(f"a line cut at {cut}", live.read(1, SILENCE) == b"", "it is answered before its line feed")
+        if not live.answers(f"a line cut at {cut}", line[cut:], answer):
+            return False
+    return True
+
+
+def try_several(live):
+    both = [line_and_answer(at) for at in (7, 8)]
+    live.answers("two lines at once", *(b"".join(it) for it in zip(*both)))
+    for piece in (b"9" * 60, b"9" * 60):
+        live.write(piece)
+        tell("a line that is too long", live.read(1, SILENCE) == b"", "it is answered before its line feed")
+    live.answers("a line that is too long", b"9\n", b"! long\n")
+
+
+def main(words):
+    program = pathlib.Path(words[0]).resolve() if words else PROGRAM
+    if not program.is_file():
+        print(f"{program} is not built")
+        return 1
+    live = Live(program)
+    try:
+        if try_lines(live) and try_pieces(live):
+            try_several(live)
+            line, answer = line_and_answer(9)
+            live.end("the last line", line[:-1], answer)
+    except BrokenPipeError:
+        tell("the program reads on", False)
+    finally:
+        live.stop()
+    print(f"{counts[True]} passed, {counts[False]} failed")
+    return int(counts[False] > 0)
+
+
+if __name__ == "__main__":
+    sys.exit(main(sys.argv[1:]))
