@@ -1,5 +1,5 @@
 //! The program between its words and its end.
-ghost use Rattle.std.specs.Prelude.{◌≡◌, ◌<◌, ◌↔◌, ℕ, false, true, List, [], length, map, Some, Ok, Err, IsOk, IsTrue, IfSome, IfErr, OnOk};
+ghost use Rattle.std.specs.Prelude.{◌≡◌, ◌≢◌, ◌<◌, ◌↔◌, ℕ, false, true, List, [], length, map, Some, Ok, Err, IsOk, IsTrue, IfSome, IfErr, OnOk};
 ghost use Rattle.std.specs.Io.KnownBytes.{Consumes, Appends};
 ghost use Rattle.instants_devices.specs.Told.{ConsumesOrUntold, AppendsFront};
 ghost use Rattle.instants_stream.specs.Answers.{output, owed, due};
@@ -47,6 +47,10 @@ pub fn run_words<'a, R: ByteReader, W: ByteWriter>(
     ensures refused { (fault : WordsFault)
         → words_said (map (λ word. word.now) words.now) ≡ Err fault
         → result ≡ Err (ProgramFault.Words fault) }
+    // No others are refused as wrong.
+    ensures only_wrong { (fault : WordsFault)
+        → result ≡ Err (ProgramFault.Words fault) → fault ≢ WordsFault.Memory
+        → words_said (map (λ word. word.now) words.now) ≡ Err fault }
     // A source that is no description is refused by its place and its fault; it is the first such one.
     ensures new { (fault : NewFault) → result ≡ Err (ProgramFault.New fault) → (said : Words)
         × (words_said (map (λ word. word.now) words.now) ≡ Ok said)
