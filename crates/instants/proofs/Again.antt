@@ -11,7 +11,7 @@ use Rattle.instants_order.proofs.Lines.{day_fits, has_year}
 use Rattle.instants_sources.specs.Grammar.{Rfc3339, Iso8601}
 use Rattle.instants_sources.specs.Named.{defaults_of, named}
 use Rattle.parsing_rfc3339.specs.Direct.{direct}
-use Rattle.parsing_rfc3339.proofs.QuickLemmas.{moment_read}
+use Rattle.parsing_rfc3339.proofs.FastLemmas.{moment_read}
 use Rattle.parsing_rfc3339.proofs.StrictLemmas.{strict_is_in_range}
 use Rattle.parsing_staged.specs.Staged.{reads_rfc3339}
 use Rattle.parsing_two_roads.specs.TwoRoads.{AgreeOn}

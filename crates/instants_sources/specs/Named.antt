@@ -1,5 +1,6 @@
 -- The moment that a source names for a line.
-use Rattle.std.specs.Prelude.{ℕ, List, Option, None, Some, Result, ℤ, pos, int_div, int_rem}
+use Rattle.std.specs.Prelude.{◌≡◌, ℕ, List, Option, None, Some, Result, Ok, ℤ, pos, int_div, int_rem}
+use Rattle.std.specs.Result.{result_ok}
 use Rattle.datetime_wall.specs.Wall.{Shown}
 use Rattle.description_items.specs.Tree.{listed}
 use Rattle.parsing_components.specs.Component.{reads_component, reads_component_v3}
@@ -26,3 +27,11 @@ named assumed (V3 tree) line = names moment_named (whole (meaning (reads reads_c
 named assumed Rfc2822 line = by_roads rfc2822.direct reads_rfc2822 (defaults_of assumed) line
 named assumed Rfc3339 line = by_roads rfc3339.direct reads_rfc3339 (defaults_of assumed) line
 named assumed Iso8601 line = names moment_named (whole reads_iso8601 (defaults_of assumed) line)
+
+-- the source names this moment for the line, whatever offset is assumed
+abbrev pub IsNamedBy : Grammar → List ℕ → Shown → Type 0
+IsNamedBy grammar line moment = (assumed : Option ℤ) → named assumed grammar line ≡ Ok moment
+
+-- the source names no moment for the line, whatever offset is assumed
+abbrev pub NamesNothing : Grammar → List ℕ → Type 0
+NamesNothing grammar line = (assumed : Option ℤ) → result_ok (named assumed grammar line) ≡ None

@@ -30,22 +30,24 @@ pub fn three_instants()
 
 /// RFC 3339 and RFC 2822: a text names a moment directly exactly where it names one by a record without any field, or with
 /// an assumed offset, and then it is the same one.
-pub fn two_roads(bytes: &[u8])
-    ensures rfc3339 { AgreeOn rfc3339.direct reads_rfc3339 bytes.now }
-    ensures rfc2822 { AgreeOn rfc2822.direct reads_rfc2822 bytes.now }
+pub fn two_roads()
+    ensures rfc3339 { (bytes : List ℕ) → AgreeOn rfc3339.direct reads_rfc3339 bytes }
+    ensures rfc2822 { (bytes : List ℕ) → AgreeOn rfc2822.direct reads_rfc2822 bytes }
 {
-    parsing_two_roads::laws::two_roads_of_rfc3339(bytes);
-    parsing_two_roads::laws::two_roads_of_rfc2822(bytes);
+    parsing_two_roads::laws::two_roads_of_rfc3339();
+    parsing_two_roads::laws::two_roads_of_rfc2822();
 }
 
 /// Where RFC 3339 names a moment for a text, ISO 8601 names one exactly if a `T` stands between date and time, a `Z` is
 /// no small letter, and the fraction does not round up to a whole second. It is the same moment, or the next nanosecond
 /// where more than nine digits round up; that of a leap second is the same whatever its fraction. An offset that both
 /// assume changes nothing of that.
-pub fn two_formats(bytes: &[u8])
-    ensures { (defaults : Option Record) → HoldsAtMostAnOffset defaults → (m : Shown) → by_roads rfc3339.direct reads_rfc3339 defaults bytes.now ≡ Ok m → IsReadAlike defaults bytes.now m }
+pub fn two_formats()
+    ensures { (bytes : List ℕ) (defaults : Option Record) → HoldsAtMostAnOffset defaults →
+        (m : Shown) → by_roads rfc3339.direct reads_rfc3339 defaults bytes ≡ Ok m →
+        IsReadAlike defaults bytes m }
 {
-    parsing_two_roads::laws::two_formats(bytes);
+    parsing_two_roads::laws::two_formats();
 }
 
 /// Of two texts that a language of descriptions accepts, it accepts the one followed by the other. Reading by that is
