@@ -2,6 +2,7 @@
 ghost use Rattle.description_items.specs.Tree.{tree_of};
 ghost use Rattle.parsing_components.specs.Component.{reads_component};
 ghost use Rattle.parsing_record.specs.Reads.{reads};
+ghost use Rattle.parsing_trait.specs.Moment.{moment_by};
 
 use crate::parsable::Parsable;
 use datetime_types::OffsetDateTime;
@@ -11,6 +12,8 @@ use parsing_record::{ItemTally, Parsed};
 
 impl Parsable for BorrowedFormatItem<'_> {
     ghost reading = { λ item. reads reads_component (tree_of item) };
+
+    ghost moment = { λ item. moment_by (reads reads_component (tree_of item)) };
 
     fn parse_into<'a>(&self, input: &'a [u8], parsed: &mut Parsed) -> Result<&'a [u8], Parse> {
         Ok(parsed.parse_item(input, self)?)

@@ -2,6 +2,7 @@
 ghost use Rattle.description_tree.specs.Description.{v3_tree};
 ghost use Rattle.parsing_components.specs.Component.{reads_component_v3};
 ghost use Rattle.parsing_record.specs.Reads.{reads};
+ghost use Rattle.parsing_trait.specs.Moment.{moment_by};
 
 use crate::parsable::Parsable;
 use datetime_types::OffsetDateTime;
@@ -12,6 +13,8 @@ use parsing_trees::parse_tree;
 
 impl Parsable for FormatDescriptionV3<'_> {
     ghost reading = { λ description. reads reads_component_v3 (v3_tree description) };
+
+    ghost moment = { λ description. moment_by (reads reads_component_v3 (v3_tree description)) };
 
     fn parse_into<'a>(&self, input: &'a [u8], parsed: &mut Parsed) -> Result<&'a [u8], Parse> {
         Ok(parse_tree(self, input, parsed, &mut NoTally)?)

@@ -1,6 +1,7 @@
 //! Reading by ISO 8601.
 ghost use Rattle.parsing_record.specs.Meaning.{alone};
 ghost use Rattle.parsing_staged.specs.Staged.{reads_iso8601};
+ghost use Rattle.parsing_trait.specs.Moment.{moment_by};
 
 use crate::parsable::Parsable;
 use datetime_types::OffsetDateTime;
@@ -11,6 +12,8 @@ use parsing_staged::read_iso8601;
 
 impl Parsable for Iso8601 {
     ghost reading = { λ _. alone reads_iso8601 };
+
+    ghost moment = { λ _. moment_by (alone reads_iso8601) };
 
     fn parse_into<'a>(&self, input: &'a [u8], parsed: &mut Parsed) -> Result<&'a [u8], Parse> {
         Ok(read_iso8601(input, parsed)?)

@@ -39,8 +39,7 @@ pub trait Parsable {
 
     // The moment that all of the bytes name where there are no defaults: that of the record which they set, but for a
     // format with a reading of its own.
-    ghost moment: { Self → List ℕ → Result Shown Fault } = { λ format bytes.
-        names moment_named (whole (meaning (reading format)) None bytes) };
+    ghost moment: { Self → List ℕ → Result Shown Fault };
 
     /// Reads the front of the bytes into the record, and returns the rest. A refusal leaves the record as it was.
     fn parse_into<'a>(&self, input: &'a [u8], parsed: &mut Parsed) -> Result<&'a [u8], Parse>
