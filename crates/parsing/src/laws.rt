@@ -55,10 +55,14 @@ pub fn two_formats()
 /// fault. A literal that ends the first text and one that begins the second may be one there.
 pub fn joined_descriptions()
     // items as versions 1 and 2 read them
-    ensures versions { (version : DescriptionVersion) (s t : List ℕ) (a b : List Tree) → Spells version s a → Spells version t b → IsReadInTurn (Spells version (s ++ t)) by_items a b }
-    ensures strftime { (s t : List ℕ) (a b : List Tree) → SpellsStrftime s a → SpellsStrftime t b → IsReadInTurn (SpellsStrftime (s ++ t)) by_items a b }
+    ensures versions { (version : DescriptionVersion) (s t : List ℕ) (a b : List Tree)
+        → Spells version s a → Spells version t b → IsReadInTurn
+        (Spells version (s ++ t)) by_items a b }
+    ensures strftime { (s t : List ℕ) (a b : List Tree) → SpellsStrftime s a → SpellsStrftime t b
+        → IsReadInTurn (SpellsStrftime (s ++ t)) by_items a b }
     // trees as version 3 reads them
-    ensures trees { (s t : List ℕ) (a b : Tree) → SpellsTree Three s a → SpellsTree Three t b → IsReadInTurn (SpellsTree Three (s ++ t)) by_tree a b }
+    ensures trees { (s t : List ℕ) (a b : Tree) → SpellsTree Three s a → SpellsTree Three t b
+        → IsReadInTurn (SpellsTree Three (s ++ t)) by_tree a b }
 {
     parsing_descriptions::laws::joined_descriptions();
 }
@@ -67,7 +71,8 @@ pub fn joined_descriptions()
 /// ignored, is one of version 2. By either version each line names the same moment, or has the same fault, whatever the
 /// defaults are.
 pub fn two_versions()
-    ensures { (text : List ℕ) (items : List Tree) → SpellsRanged text items → IgnoresNothing items → IsReadByBoth text items }
+    ensures { (text : List ℕ) (items : List Tree)
+        → SpellsRanged text items → IgnoresNothing items → IsReadByBoth text items }
 {
     parsing_descriptions::laws::two_versions();
 }

@@ -6,7 +6,7 @@ ghost use Rattle.parsing_pieces.specs.FaultOf.{fault_of, Gives};
 ghost use Rattle.parsing_pieces.specs.ShortName.{HasShortName};
 ghost use Rattle.calendar.specs.UtcOffset.{IsClockOffset};
 ghost use Rattle.instants_answers.specs.Text.{FitsLine};
-ghost use Rattle.instants.specs.Refusal.{IsShort, long, refusal_of, refusal_said, refusal_text, year};
+ghost use Rattle.instants.specs.Refusal.{IsShort, long, refusal_said, year};
 ghost use Rattle.instants.specs.Sources.{AllMean, IsRefusal};
 ghost use Rattle.instants_words.specs.Sources.{said_by};
 ghost use Rattle.instants_sources.specs.Grammar.{grammar_of};
@@ -40,7 +40,8 @@ impl<'a> Timeline<'a> {
         requires sources { 0 < length sources.now }
         requires target { IsClockOffset target }
         requires assumed { IfSome assumed IsClockOffset }
-        ensures sources { IfOk result (λ timeline. AllMean (map said_by sources.now) (setting_of timeline).sources) }
+        ensures sources { IfOk result
+            (λ timeline. AllMean (map said_by sources.now) (setting_of timeline).sources) }
         ensures target { IfOk result (λ timeline. (setting_of timeline).target ≡ target) }
         ensures assumed { IfOk result (λ timeline. (setting_of timeline).assumed ≡ assumed) }
         ensures refused { IfErr result (IsRefusal (map said_by sources.now)) }
@@ -64,7 +65,8 @@ impl<'a> Timeline<'a> {
     #[inline(always)]
     #[tactic(auto, unfolding(crate::specs::Place::first_named))]
     fn exact_moment(&self, line: &[u8]) -> Result<OffsetDateTime, Parse>
-        ensures gives { Gives (λ m. m) fault_of result (first_named (setting_of self.now).assumed (setting_of self.now).sources line.now) }
+        ensures gives { Gives (λ m. m) fault_of result
+            (first_named (setting_of self.now).assumed (setting_of self.now).sources line.now) }
         ensures short { IfErr result (λ fault. HasShortName (fault_of fault)) }
     {
         let sources = self.sources.as_slice();
@@ -119,7 +121,8 @@ impl<'a> Timeline<'a> {
     // A moment as it is shown at the target, if its year there is written in four digits.
     #[inline(always)]
     fn shown(&self, named: OffsetDateTime) -> Option<OffsetDateTime>
-        ensures shown { ok_or result year ≡ shown_or_refused (setting_of self.now).target (Ok named) }
+        ensures shown { ok_or result year ≡
+            shown_or_refused (setting_of self.now).target (Ok named) }
         ensures fits { IfSome result FitsLine }
     {
         let moment = named.checked_to_offset(self.target)?;
@@ -133,7 +136,8 @@ impl<'a> Timeline<'a> {
     // Writes a moment as it is shown at the target, or that its year there is not written.
     #[inline(always)]
     fn write_shown(&self, named: OffsetDateTime, storage: &mut Answer)
-        ensures bytes { storage.new ≡ place_text (shown_or_refused (setting_of self.now).target (Ok named)) }
+        ensures bytes { storage.new ≡
+            place_text (shown_or_refused (setting_of self.now).target (Ok named)) }
         ensures room { length storage.new ≤ 63 }
         ensures never_long { storage.new ≢ codes "! long" }
     {
