@@ -11,7 +11,8 @@ ghost use Rattle.instants.specs.Sources.{AllMean, IsRefusal};
 ghost use Rattle.instants_words.specs.Sources.{said_by};
 ghost use Rattle.instants_sources.specs.Grammar.{grammar_of};
 ghost use Rattle.instants_sources.specs.Grammar as grammar;
-ghost use Rattle.instants.specs.Place.{IsFirst, IsFirstNamed, first_named, place_of, place_text, shown_or_refused, answer_to, IsPlace};
+ghost use Rattle.instants.specs.FirstNamed.{IsFirst, IsFirstNamed};
+ghost use Rattle.instants.specs.Place.{first_named, place_of, place_text, shown_or_refused, answer_to, IsPlace};
 ghost use Rattle.instants.specs.Settings.{setting_of};
 
 use crate::line_fault::LineFault;
