@@ -11,14 +11,13 @@ use Rattle.instants_order.proofs.Lines.{day_fits, has_year}
 use Rattle.instants_sources.specs.Grammar.{Rfc3339, Iso8601}
 use Rattle.instants_sources.specs.Named.{defaults_of, named}
 use Rattle.parsing_rfc3339.specs.Direct.{direct}
-use Rattle.parsing_rfc3339.proofs.QuickLemmas.{moment_read}
+use Rattle.parsing_rfc3339.proofs.FastLemmas.{moment_read}
 use Rattle.parsing_rfc3339.proofs.StrictLemmas.{strict_is_in_range}
 use Rattle.parsing_staged.specs.Staged.{reads_rfc3339}
 use Rattle.parsing_two_roads.specs.TwoRoads.{AgreeOn}
 use Rattle.parsing_two_roads.proofs.Rfc3339.{agree}
-use Rattle.parsing_two_roads.proofs.Iso8601.{from_holding}
 use Rattle.parsing_two_roads.specs.TwoFormats.{HoldsAtMostAnOffset}
-use Rattle.parsing_two_roads.proofs.Assumed.{same_moment, two_formats}
+use Rattle.parsing_two_roads.proofs.Assumed.{one_road, same_moment, two_formats}
 use Rattle.instants.proofs.Pieces.{date_read, any_read, clock_read, subsecond_read, zone_named, offset_read, offset_ends}
 use Rattle.instants.proofs.Values.{day_named, time_named, offset_named}
 use Rattle.instants.proofs.Bytes.{behind_second, behind_date, line_parts, both, unrounded}
@@ -65,5 +64,5 @@ at_most_an_offset (Some offset) = refl
 pub iso8601_again : (m : Shown) → IsWritten m → IsClockOffset m.offset → (assumed : Option ℤ) → named assumed Iso8601 (moment_text m) ≡ Ok m
 iso8601_again m h o assumed =
     let bytes = moment_text m in
-    (two_formats bytes (roads_agree bytes) (from_holding bytes) (defaults_of assumed) (at_most_an_offset assumed) m (rfc3339_again m h o assumed)).named (both m)
+    (two_formats bytes (roads_agree bytes) (one_road bytes) (defaults_of assumed) (at_most_an_offset assumed) m (rfc3339_again m h o assumed)).named (both m)
     ∙ ap (λ (shown : Shown). Ok shown) (unrounded m m)

@@ -26,10 +26,6 @@ unfoldable pub first_named : Option ℤ → List Grammar → List ℕ → Result
 first_named assumed [] line = Err insufficient
 first_named assumed (grammar ∷ others) line = or_named (named assumed grammar line) (result_ok (first_named assumed others line))
 
--- a moment that this source names is that of the first source with one
-abbrev pub IsFirst : Setting → Grammar → List ℕ → Type 0
-IsFirst setting grammar line = (m : Shown) → named setting.assumed grammar line ≡ Ok m → first_named setting.assumed setting.sources line ≡ Ok m
-
 -- a moment whose year is written in four digits
 abbrev pub in_written_years : Option Shown → Result Shown Refusal
 in_written_years (Some moment) = if has_written_year moment then Ok moment else Err year

@@ -18,6 +18,7 @@ use Rattle.parsing_staged.specs.Staged.{reads_rfc3339}
 use Rattle.parsing_two_roads.specs.TwoFormats.{digits_behind, fraction_of, rounds_up, is_of_both, HoldsAtMostAnOffset, IsReadAlike}
 use Rattle.instants_sources.specs.Grammar.{Rfc3339, Iso8601}
 use Rattle.instants_sources.specs.Named.{defaults_of, named}
+use Rattle.instants_sources.proofs.Roads.{assumed_alone}
 
 chosen : (b : Bool) (cs : List ℕ) (k : ℕ) → digit_count cs ≤ k → length (digits_behind (if b then Some (tt, cs) else None)) ≤ k
 chosen true cs k h = rw (length-prefix_len is_ascii_digit cs) h
@@ -52,10 +53,6 @@ before_other bytes k other small =
 pub unrounded : (bytes : List ℕ) → length (fraction_of bytes) ≤ 9 → rounds_up (fraction_of bytes) ≡ false
 unfolding rounds_up
 unrounded bytes h = none_left (fraction_of bytes) h
-
-assumed_alone : (assumed : Option ℤ) → HoldsAtMostAnOffset (defaults_of assumed)
-assumed_alone None = tt
-assumed_alone (Some offset) = refl
 
 -- what RFC 3339 names ISO 8601 names too
 named_alike : (line : List ℕ) (m : Shown)

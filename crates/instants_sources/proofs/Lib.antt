@@ -1,4 +1,5 @@
 pub mod BothFormats
 pub mod FewPlaces
 pub mod Refused
+pub mod Roads
 pub mod RuledOut

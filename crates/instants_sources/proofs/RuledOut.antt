@@ -12,11 +12,8 @@ use Rattle.parsing_pieces.specs.Fault.{Fault, literal, component}
 use Rattle.parsing_pieces.specs.Pieces.{digits, digit_count, byte, byte_of, skip_of}
 use Rattle.parsing_pieces.proofs.Decimal.{digit_here}
 use Rattle.parsing_pieces.proofs.Fixed.{digits_two}
-use Rattle.parsing_record.specs.Meaning.{Meaning}
 use Rattle.parsing_record.specs.Record.{Record}
-use Rattle.parsing_record.specs.Whole.{by_roads}
 use Rattle.parsing_staged.specs.Staged.{reads_iso8601}
-use Rattle.parsing_two_roads.specs.TwoRoads.{AgreeOn}
 use Rattle.parsing_iso8601.specs.declared.kind.Kind.TheVariants.{Unknown}
 use Rattle.parsing_iso8601.specs.Reading as iso8601
 use Rattle.parsing_iso8601.specs.Dates as iso8601_dates
@@ -29,13 +26,6 @@ use Rattle.parsing_rfc2822.specs.Reading as rfc2822
 use Rattle.parsing_rfc2822.specs.Names.{weekday, weekday_of}
 use Rattle.parsing_rfc2822.specs.Direct as rfc2822_direct
 use Rattle.parsing_white_space.proofs.WhiteSpaceLemmas.{none_at, none_of_nothing}
-use Rattle.instants_sources.specs.Named.{defaults_of}
-
--- what is named by no road from nothing is named by none with an offset assumed
-pub by_no_road : (direct : List ℕ → Result Shown Fault) (m : Meaning) (line : List ℕ) → AgreeOn direct m line → result_ok (direct line) ≡ None
-    → (assumed : Option ℤ) → result_ok (by_roads direct m (defaults_of assumed) line) ≡ None
-by_no_road direct m line agree none None = none
-by_no_road direct m line agree none (Some offset) = sym (agree _ _) ∙ none
 
 -- ---- RFC 3339: a hyphen is due behind four digits
 

@@ -17,7 +17,8 @@ use parsing_first_bytes::FirstBytes;
 pub struct DescribedItems<'a> {
     items: Vec<BorrowedFormatItem<'a>>,
     first_bytes: FirstBytes,
-    ghost first: { AreOf (reading_of_all reads_component (listed (trees items.items))) first_bytes },
+    ghost first: { AreOf
+        (reading_of_all reads_component (listed (trees items.items))) first_bytes },
 }
 
 impl<'a> DescribedItems<'a> {
@@ -38,8 +39,11 @@ impl<'a> DescribedItems<'a> {
 
     /// Whether the first bytes of a line show that the items don't read it.
     #[inline(always)]
-    pub(crate) fn rule_out(&self, line: &[u8]) -> bool
-        ensures { result ≡ true → (r : Record) → result_ok (reading_of_all reads_component (listed (trees self.now.items.items)) r line.now) ≡ None }
+    pub(crate) fn cannot_match(&self, line: &[u8]) -> bool
+        ensures { result ≡ true → (r : Record)
+            → result_ok
+            (reading_of_all reads_component (listed (trees self.now.items.items)) r line.now)
+            ≡ None }
     {
         self.first_bytes.rule_out(line)
     }
@@ -71,8 +75,9 @@ impl<'a> DescribedTree<'a> {
 
     /// Whether the first bytes of a line show that the tree doesn't read it.
     #[inline(always)]
-    pub(crate) fn rule_out(&self, line: &[u8]) -> bool
-        ensures { result ≡ true → (r : Record) → result_ok (reading reads_component_v3 (v3_tree self.now.tree) r line.now) ≡ None }
+    pub(crate) fn cannot_match(&self, line: &[u8]) -> bool
+        ensures { result ≡ true → (r : Record)
+            → result_ok (reading reads_component_v3 (v3_tree self.now.tree) r line.now) ≡ None }
     {
         self.first_bytes.rule_out(line)
     }

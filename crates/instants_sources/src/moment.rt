@@ -1,79 +1,77 @@
-//! The moment of a line, by the shortest way that finds it.
-ghost use Rattle.std.specs.Prelude.{◌≡◌, true, ℤ, Option, None, Ok, IfSome};
+//! The moment of a line, by the fast way or the exact one.
+ghost use Rattle.std.specs.Prelude.{◌≡◌, true, IfSome};
 ghost use Rattle.std.specs.Result.{result_ok};
 ghost use Rattle.instants_sources.specs.Grammar.{grammar_of};
 ghost use Rattle.instants_sources.specs.Grammar as grammar;
-ghost use Rattle.instants_sources.specs.Named.{named};
+ghost use Rattle.instants_sources.specs.Named.{named, IsNamedBy, NamesNothing};
 
 use crate::both_formats::is_read_alike;
 use crate::ruled_out::{begins_no_day, begins_no_part, has_no_hyphen, has_no_space};
 use crate::source::Source;
 use calendar::UtcOffset;
 use datetime_types::OffsetDateTime;
-use description_formats::{Rfc2822, Rfc3339};
-use parsing_trait::TwoRoads;
 use parsing_two_roads::laws::{
     one_road_of_iso8601, two_formats, two_roads_of_rfc2822, two_roads_of_rfc3339,
 };
 
-/// The moment of a line of RFC 2822, where the shortest way finds one, whatever offset is assumed: `None` says nothing
+/// The moment of a line of RFC 2822, where the fast way finds one, whatever offset is assumed: `None` says nothing
 /// of the line.
 #[inline(always)]
-pub fn quick_rfc2822(line: &[u8]) -> Option<OffsetDateTime>
-    ensures { IfSome result (λ moment. (assumed : Option ℤ) → named assumed grammar.Rfc2822 line.now ≡ Ok moment) }
+pub fn fast_rfc2822(line: &[u8]) -> Option<OffsetDateTime>
+    ensures { IfSome result (IsNamedBy grammar.Rfc2822 line.now) }
 {
-    two_roads_of_rfc2822(line);
-    Rfc2822.read_quickly(line)
+    two_roads_of_rfc2822();
+    parsing_rfc2822::read_fast(line)
 }
 
 /// The same of a line of RFC 3339.
 #[inline(always)]
-pub fn quick_rfc3339(line: &[u8]) -> Option<OffsetDateTime>
-    ensures { IfSome result (λ moment. (assumed : Option ℤ) → named assumed grammar.Rfc3339 line.now ≡ Ok moment) }
+pub fn fast_rfc3339(line: &[u8]) -> Option<OffsetDateTime>
+    ensures { IfSome result (IsNamedBy grammar.Rfc3339 line.now) }
 {
-    two_roads_of_rfc3339(line);
-    Rfc3339.read_quickly(line)
+    two_roads_of_rfc3339();
+    parsing_rfc3339::read_fast(line)
 }
 
 // The same of a line of ISO 8601 that RFC 3339 reads alike.
 #[inline(always)]
-fn quick_read_alike(line: &[u8]) -> Option<OffsetDateTime>
-    ensures { IfSome result (λ moment. (assumed : Option ℤ) → named assumed grammar.Iso8601 line.now ≡ Ok moment) }
+fn fast_read_alike(line: &[u8]) -> Option<OffsetDateTime>
+    ensures { IfSome result (IsNamedBy grammar.Iso8601 line.now) }
 {
     if !is_read_alike(line) {
         return None;
     }
-    two_formats(line);
-    quick_rfc3339(line)
+    two_formats();
+    fast_rfc3339(line)
 }
 
 /// The same of a line of ISO 8601.
 #[inline(always)]
-pub fn quick_iso8601(line: &[u8]) -> Option<OffsetDateTime>
-    ensures { IfSome result (λ moment. (assumed : Option ℤ) → named assumed grammar.Iso8601 line.now ≡ Ok moment) }
+pub fn fast_iso8601(line: &[u8]) -> Option<OffsetDateTime>
+    ensures { IfSome result (IsNamedBy grammar.Iso8601 line.now) }
 {
-    if let Some(moment) = quick_read_alike(line) {
+    if let Some(moment) = fast_read_alike(line) {
         return Some(moment);
     }
-    one_road_of_iso8601(line);
-    parsing_iso8601::read_quickly(line)
+    one_road_of_iso8601();
+    parsing_iso8601::read_fast(line)
 }
 
 // Whether the first bytes of a line show that RFC 2822 names no moment for it.
 #[inline(always)]
 fn is_no_rfc2822(line: &[u8]) -> bool
-    ensures { result ≡ true → (assumed : Option ℤ) → result_ok (named assumed grammar.Rfc2822 line.now) ≡ None }
+    ensures { result ≡ true → NamesNothing grammar.Rfc2822 line.now }
 {
-    two_roads_of_rfc2822(line);
+    two_roads_of_rfc2822();
     has_no_space(line) || begins_no_day(line)
 }
 
 // The same of RFC 3339.
 #[inline(always)]
 fn is_no_rfc3339(line: &[u8]) -> bool
-    ensures { result ≡ true → (assumed : Option ℤ) → result_ok (named assumed grammar.Rfc3339 line.now) ≡ None }
+    ensures { result ≡ true → NamesNothing grammar.Rfc3339 line.now }
 {
-    two_roads_of_rfc3339(line);
+    two_roads_of_rfc3339();
     has_no_hyphen(line)
 }
 
@@ -81,27 +79,27 @@ impl<'a> Source<'a> {
     /// Whether the first bytes of a line show that this source names no moment for it, whatever offset is assumed:
     /// `false` says nothing of the line.
     #[inline(always)]
-    pub fn rules_out(&self, line: &[u8]) -> bool
-        ensures { result ≡ true → (assumed : Option ℤ) → result_ok (named assumed (grammar_of self.now) line.now) ≡ None }
+    pub fn cannot_match(&self, line: &[u8]) -> bool
+        ensures { result ≡ true → NamesNothing (grammar_of self.now) line.now }
     {
         match self {
-            Source::Items(described) => described.rule_out(line),
-            Source::V3(described) => described.rule_out(line),
+            Source::Items(described) => described.cannot_match(line),
+            Source::V3(described) => described.cannot_match(line),
             Source::Rfc2822 => is_no_rfc2822(line),
             Source::Rfc3339 => is_no_rfc3339(line),
             Source::Iso8601 => begins_no_part(line),
         }
     }
 
-    // The moment of a line, where the shortest way finds one, whatever offset is assumed.
+    /// The moment of a line, where the fast way finds one, whatever offset is assumed: `None` says nothing of the line.
     #[inline(always)]
-    fn quick(&self, line: &[u8]) -> Option<OffsetDateTime>
-        ensures { IfSome result (λ moment. (assumed : Option ℤ) → named assumed (grammar_of self.now) line.now ≡ Ok moment) }
+    pub fn read_fast(&self, line: &[u8]) -> Option<OffsetDateTime>
+        ensures { IfSome result (IsNamedBy (grammar_of self.now) line.now) }
     {
         match self {
-            Source::Rfc2822 => quick_rfc2822(line),
-            Source::Rfc3339 => quick_rfc3339(line),
-            Source::Iso8601 => quick_iso8601(line),
+            Source::Rfc2822 => fast_rfc2822(line),
+            Source::Rfc3339 => fast_rfc3339(line),
+            Source::Iso8601 => fast_iso8601(line),
             _ => None,
         }
     }
@@ -110,13 +108,13 @@ impl<'a> Source<'a> {
     pub fn moment(&self, line: &[u8], assumed: &Option<UtcOffset>) -> Option<OffsetDateTime>
         ensures { result ≡ result_ok (named assumed.now (grammar_of self.now) line.now) }
     {
-        if self.rules_out(line) {
+        if self.cannot_match(line) {
             return None;
         }
-        if let Some(moment) = self.quick(line) {
+        if let Some(moment) = self.read_fast(line) {
             return Some(moment);
         }
-        match self.read(line, *assumed) {
+        match self.read_exact(line, *assumed) {
             Ok(moment) => Some(moment),
             Err(_) => None,
         }

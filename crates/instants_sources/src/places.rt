@@ -25,7 +25,8 @@ impl Source<'_> {
     /// How many items the source tries on a line, with an offset assumed or none: all whose reading begins; a well-known
     /// format is one. Where they are more than `u128` holds, it is the greatest `u128`.
     pub fn tried(&self, line: &[u8], assumed: &Option<UtcOffset>) -> u128
-        ensures { result ≡ min (tried_by assumed.now (grammar_of self.now) line.now) greatest_count }
+        ensures { result
+            ≡ min (tried_by assumed.now (grammar_of self.now) line.now) greatest_count }
     {
         let mut parsed = starting(*assumed);
         match self {

@@ -17,7 +17,7 @@ use description::{
 };
 use description_formats::{Iso8601, Rfc2822, Rfc3339};
 use instants_words::SourceText;
-use parsing_pieces::{Parse, ParseFromDescription};
+use parsing_pieces::Parse;
 use parsing_record::Parsed;
 use parsing_trait::{Items, Parsable};
 use std::alloc::Global;
@@ -62,52 +62,47 @@ impl<'a> Source<'a> {
     }
 
     /// The moment that the whole line names, with an offset assumed or none. Hours and minutes of the assumed offset
-    /// count, and each only where the line does not say it.
+    /// count, and each only where the line does not say it. It reads the exact way, which tells the fault too;
+    /// `read_fast` finds most moments sooner.
     #[inline(always)]
-    pub fn read(&self, line: &[u8], assumed: Option<UtcOffset>) -> Result<OffsetDateTime, Parse>
-        ensures gives { Gives (λ m. m) fault_of result (named assumed (grammar_of self.now) line.now) }
+    pub fn read_exact(
+        &self,
+        line: &[u8],
+        assumed: Option<UtcOffset>,
+    ) -> Result<OffsetDateTime, Parse>
+        ensures gives { Gives (λ m. m) fault_of result
+            (named assumed (grammar_of self.now) line.now) }
         ensures short { IfErr result (λ fault. HasShortName (fault_of fault)) }
     {
         match self {
-            Source::Items(described) => read_by(&Items(described.items()), line, assumed),
-            Source::V3(described) => read_by(described.tree(), line, assumed),
-            Source::Rfc2822 => read_from(&Rfc2822, line, assumed),
-            Source::Rfc3339 => read_from(&Rfc3339, line, assumed),
-            Source::Iso8601 => read_by(&Iso8601, line, assumed),
+            Source::Items(described) => read_staged(&Items(described.items()), line, assumed),
+            Source::V3(described) => read_staged(described.tree(), line, assumed),
+            Source::Rfc2822 => match assumed {
+                None => parsing_rfc2822::read_exact(line),
+                Some(_) => read_staged(&Rfc2822, line, assumed),
+            },
+            Source::Rfc3339 => match assumed {
+                None => parsing_rfc3339::read_exact(line),
+                Some(_) => read_staged(&Rfc3339, line, assumed),
+            },
+            Source::Iso8601 => read_staged(&Iso8601, line, assumed),
         }
     }
 }
 
-// The moment that the whole line names by a format that needs a record only where an offset is assumed.
+// The moment of the record that the whole line sets, with an offset assumed or none.
 #[inline(never)]
-fn read_from<F: Parsable>(
+fn read_staged<F: Parsable>(
     format: &F,
     line: &[u8],
     assumed: Option<UtcOffset>,
 ) -> Result<OffsetDateTime, Parse>
-    ensures gives { Gives (λ m. m) fault_of result (F.moment format.now (defaults_of assumed) line.now) }
+    ensures gives { Gives (λ m. m) fault_of result
+        (names moment_named
+        (whole (meaning (F.reading format.now)) (defaults_of assumed) line.now)) }
     ensures short { IfErr result (λ fault. HasShortName (fault_of fault)) }
 {
-    format.parse_offset_date_time(line, defaults(assumed))
-}
-
-// The moment that the whole line names by what sets a record, which stays where it is.
-#[inline(never)]
-#[tactic(auto, unfolding(parsing_record::specs::Whole::whole))]
-fn read_by<F: Parsable>(
-    format: &F,
-    line: &[u8],
-    assumed: Option<UtcOffset>,
-) -> Result<OffsetDateTime, Parse>
-    ensures gives { Gives (λ m. m) fault_of result (names moment_named (whole (meaning (F.reading format.now)) (defaults_of assumed) line.now)) }
-    ensures short { IfErr result (λ fault. HasShortName (fault_of fault)) }
-{
-    let mut parsed = starting(assumed);
-    let rest = format.parse_into(line, &mut parsed)?;
-    if !rest.is_empty() {
-        return Err(ParseFromDescription::UnexpectedTrailingCharacters.into());
-    }
-    Ok(parsed.offset_date_time()?)
+    format.read_staged(line, defaults(assumed))
 }
 
 // A description of one of the three versions.
@@ -140,6 +135,7 @@ pub(crate) fn starting(assumed: Option<UtcOffset>) -> Parsed
 }
 
 // The same as defaults, if there is an offset.
+#[inline(always)]
 fn defaults(assumed: Option<UtcOffset>) -> Option<Parsed>
     ensures { result ≡ defaults_of assumed }
 {

@@ -3,7 +3,7 @@
 use calendar::UtcOffset;
 use datetime::OffsetDateTime;
 use instants::SourceText;
-use instants_sources::{Source, quick_iso8601, quick_rfc2822, quick_rfc3339};
+use instants_sources::{Source, fast_iso8601, fast_rfc2822, fast_rfc3339};
 use std::test::Fail;
 
 const DAY: SourceText<'static> = SourceText::V2("[year]-[month]-[day] [hour]:[minute]");
@@ -44,16 +44,16 @@ fn second(moment: Option<OffsetDateTime>) -> Option<i64> {
     Some(moment?.unix_timestamp())
 }
 
-// What the source names for the line with an hour assumed, by the exact way and by the shortest one, and whether it rules
-// the line out.
+// What the source names for the line with an hour assumed, by the exact way and by the fast one, and whether it cannot
+// match the line.
 fn named(source: &Source, line: &[u8]) -> Option<(Option<i64>, Option<i64>, bool)> {
     let hour = UtcOffset::from_hms(1, 0, 0).ok()?;
-    let read = match source.read(line, Some(hour)) {
+    let read = match source.read_exact(line, Some(hour)) {
         Ok(moment) => Some(moment.unix_timestamp()),
         Err(_) => None,
     };
     let moment = source.moment(line, &Some(hour));
-    Some((read, second(moment), source.rules_out(line)))
+    Some((read, second(moment), source.cannot_match(line)))
 }
 
 #[test]
@@ -67,7 +67,7 @@ fn moments(rt: HostRuntime) -> Result<(), Fail> {
     Ok(())
 }
 
-// Lines, and the Unix time that the quick way of ISO 8601 names.
+// Lines, and the Unix time that the fast way of ISO 8601 names.
 const ISO8601: [(&[u8], Option<i64>); 6] = [
     (b"1970-01-01T00:00:01Z", Some(1)),
     (b"1970-01-01T01:00:01.123456789+01:00", Some(1)),
@@ -78,11 +78,11 @@ const ISO8601: [(&[u8], Option<i64>); 6] = [
 ];
 
 #[test]
-fn quick_ways(rt: HostRuntime) {
+fn fast_ways(rt: HostRuntime) {
     for (line, wanted) in ISO8601 {
-        assert!(rt; second(quick_iso8601(line)) == wanted);
+        assert!(rt; second(fast_iso8601(line)) == wanted);
     }
-    let rfc3339 = quick_rfc3339(b"1970-01-01T00:00:01Z");
-    let rfc2822 = quick_rfc2822(b"Thu, 01 Jan 1970 00:00:01 +0000");
+    let rfc3339 = fast_rfc3339(b"1970-01-01T00:00:01Z");
+    let rfc2822 = fast_rfc2822(b"Thu, 01 Jan 1970 00:00:01 +0000");
     assert!(rt; (second(rfc3339), second(rfc2822)) == (Some(1), Some(1)));
 }

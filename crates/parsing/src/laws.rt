@@ -30,22 +30,24 @@ pub fn three_instants()
 
 /// RFC 3339 and RFC 2822: a text names a moment directly exactly where it names one by a record without any field, or with
 /// an assumed offset, and then it is the same one.
-pub fn two_roads(bytes: &[u8])
-    ensures rfc3339 { AgreeOn rfc3339.direct reads_rfc3339 bytes.now }
-    ensures rfc2822 { AgreeOn rfc2822.direct reads_rfc2822 bytes.now }
+pub fn two_roads()
+    ensures rfc3339 { (bytes : List ℕ) → AgreeOn rfc3339.direct reads_rfc3339 bytes }
+    ensures rfc2822 { (bytes : List ℕ) → AgreeOn rfc2822.direct reads_rfc2822 bytes }
 {
-    parsing_two_roads::laws::two_roads_of_rfc3339(bytes);
-    parsing_two_roads::laws::two_roads_of_rfc2822(bytes);
+    parsing_two_roads::laws::two_roads_of_rfc3339();
+    parsing_two_roads::laws::two_roads_of_rfc2822();
 }
 
 /// Where RFC 3339 names a moment for a text, ISO 8601 names one exactly if a `T` stands between date and time, a `Z` is
 /// no small letter, and the fraction does not round up to a whole second. It is the same moment, or the next nanosecond
 /// where more than nine digits round up; that of a leap second is the same whatever its fraction. An offset that both
 /// assume changes nothing of that.
-pub fn two_formats(bytes: &[u8])
-    ensures { (defaults : Option Record) → HoldsAtMostAnOffset defaults → (m : Shown) → by_roads rfc3339.direct reads_rfc3339 defaults bytes.now ≡ Ok m → IsReadAlike defaults bytes.now m }
+pub fn two_formats()
+    ensures { (bytes : List ℕ) (defaults : Option Record) → HoldsAtMostAnOffset defaults →
+        (m : Shown) → by_roads rfc3339.direct reads_rfc3339 defaults bytes ≡ Ok m →
+        IsReadAlike defaults bytes m }
 {
-    parsing_two_roads::laws::two_formats(bytes);
+    parsing_two_roads::laws::two_formats();
 }
 
 /// Of two texts that a language of descriptions accepts, it accepts the one followed by the other. Reading by that is
@@ -53,10 +55,14 @@ pub fn two_formats(bytes: &[u8])
 /// fault. A literal that ends the first text and one that begins the second may be one there.
 pub fn joined_descriptions()
     // items as versions 1 and 2 read them
-    ensures versions { (version : DescriptionVersion) (s t : List ℕ) (a b : List Tree) → Spells version s a → Spells version t b → IsReadInTurn (Spells version (s ++ t)) by_items a b }
-    ensures strftime { (s t : List ℕ) (a b : List Tree) → SpellsStrftime s a → SpellsStrftime t b → IsReadInTurn (SpellsStrftime (s ++ t)) by_items a b }
+    ensures versions { (version : DescriptionVersion) (s t : List ℕ) (a b : List Tree)
+        → Spells version s a → Spells version t b → IsReadInTurn
+        (Spells version (s ++ t)) by_items a b }
+    ensures strftime { (s t : List ℕ) (a b : List Tree) → SpellsStrftime s a → SpellsStrftime t b
+        → IsReadInTurn (SpellsStrftime (s ++ t)) by_items a b }
     // trees as version 3 reads them
-    ensures trees { (s t : List ℕ) (a b : Tree) → SpellsTree Three s a → SpellsTree Three t b → IsReadInTurn (SpellsTree Three (s ++ t)) by_tree a b }
+    ensures trees { (s t : List ℕ) (a b : Tree) → SpellsTree Three s a → SpellsTree Three t b
+        → IsReadInTurn (SpellsTree Three (s ++ t)) by_tree a b }
 {
     parsing_descriptions::laws::joined_descriptions();
 }
@@ -65,7 +71,8 @@ pub fn joined_descriptions()
 /// ignored, is one of version 2. By either version each line names the same moment, or has the same fault, whatever the
 /// defaults are.
 pub fn two_versions()
-    ensures { (text : List ℕ) (items : List Tree) → SpellsRanged text items → IgnoresNothing items → IsReadByBoth text items }
+    ensures { (text : List ℕ) (items : List Tree)
+        → SpellsRanged text items → IgnoresNothing items → IsReadByBoth text items }
 {
     parsing_descriptions::laws::two_versions();
 }

@@ -1,8 +1,8 @@
 pub mod Carrying
 pub mod Entries
 pub mod Pieces
-pub mod QuickDates
-pub mod QuickMoments
-pub mod QuickTimes
+pub mod FastDates
+pub mod FastMoments
+pub mod FastTimes
 pub mod Rounding
 pub mod TameLemmas

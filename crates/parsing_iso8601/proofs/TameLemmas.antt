@@ -15,7 +15,7 @@ use Rattle.parsing_pieces.specs.declared.fault.ParseFromDescription.{ParseFromDe
 use Rattle.parsing_pieces.proofs.lemmas.Tame.{joined, whole_end, digits_leaves, byte_leaves, skip_leaves, run_leaves, piece_tame, further, then_tame, require_tame, entered_tame, front_ends, front_short}
 use Rattle.parsing_iso8601.specs.declared.kind.Kind.{Kind}
 use Rattle.parsing_iso8601.specs.declared.kind.Kind.TheVariants.{Unknown, Basic, Extended}
-use Rattle.parsing_iso8601.specs.declared.written.Written.{Written}
+use Rattle.parsing_iso8601.specs.declared.written.Iso8601Parts.{Iso8601Parts}
 use Rattle.parsing_iso8601.specs.declared.written.WrittenDate.{WrittenDate}
 use Rattle.parsing_iso8601.specs.declared.written.WrittenTime.{WrittenTime}
 use Rattle.parsing_iso8601.specs.declared.written.WrittenOffset.{WrittenOffset}
@@ -290,8 +290,8 @@ iso8601_tame b0 =
     then_tame b2 _ _ (offset_behind_tame (is_ok d.0) (is_some t) _ b2) (λ o b3. gathered_tame d.0 _ o b3 short)))
 
 -- what a function returns that reads the front of the bytes
-pub given_end : (result : Result (Written × Bor (List ℕ)) ParseFromDescription) (bytes : List ℕ) → Gives (λ x. (x.0, x.1.now)) reading_fault result (iso8601 bytes) → IfOk result (λ x. EndsWith bytes x.1.now)
+pub given_end : (result : Result (Iso8601Parts × Bor (List ℕ)) ParseFromDescription) (bytes : List ℕ) → Gives (λ x. (x.0, x.1.now)) reading_fault result (iso8601 bytes) → IfOk result (λ x. EndsWith bytes x.1.now)
 given_end result bytes given = front_ends (λ w. w) result bytes (iso8601 bytes) given (iso8601_tame bytes)
 
-pub given_short : (result : Result (Written × Bor (List ℕ)) ParseFromDescription) (bytes : List ℕ) → Gives (λ x. (x.0, x.1.now)) reading_fault result (iso8601 bytes) → IfErr result (λ e. HasShortName (reading_fault e))
+pub given_short : (result : Result (Iso8601Parts × Bor (List ℕ)) ParseFromDescription) (bytes : List ℕ) → Gives (λ x. (x.0, x.1.now)) reading_fault result (iso8601 bytes) → IfErr result (λ e. HasShortName (reading_fault e))
 given_short result bytes given = front_short (λ w. w) result bytes (iso8601 bytes) given (iso8601_tame bytes)

@@ -5,7 +5,7 @@ use Rattle.parsing_dates.specs.declared.date_parts.DateParts.{DateParts}
 use Rattle.parsing_moments.specs.declared.parts.TimeParts.{TimeParts}
 use Rattle.parsing_moments.specs.declared.parts.OffsetParts.{OffsetParts}
 use Rattle.parsing_moments.specs.declared.parts.MomentParts.{MomentParts}
-use Rattle.parsing_iso8601.specs.declared.written.Written.{Written}
+use Rattle.parsing_iso8601.specs.declared.written.Iso8601Parts.{Iso8601Parts}
 use Rattle.parsing_iso8601.specs.declared.written.WrittenDate.{WrittenDate}
 use Rattle.parsing_iso8601.specs.declared.written.WrittenDate.TheVariants.{OfMonth, OfYear, OfWeek}
 use Rattle.parsing_iso8601.specs.declared.written.WrittenTime.{WrittenTime}
@@ -35,12 +35,12 @@ offset_parts None = record { hour = None; minute = None; second = None }
 offset_parts (Some o) = record { hour = Some o.hour; minute = Some o.minute; second = o.second }
 
 -- second 60 stands for the last nanosecond before it
-abbrev pub parts_of : Written → MomentParts
+abbrev pub parts_of : Iso8601Parts → MomentParts
 parts_of w = record { date = date_parts w.date; time = time_parts w.time; leap_second_is_permitted = true; unix_nanoseconds = None }
 
-abbrev pub offset_parts_of : Written → OffsetParts
+abbrev pub offset_parts_of : Iso8601Parts → OffsetParts
 offset_parts_of w = offset_parts w.offset
 
 -- a text that has all three
-abbrev pub all_three : WrittenDate → WrittenTime → WrittenOffset → Written
+abbrev pub all_three : WrittenDate → WrittenTime → WrittenOffset → Iso8601Parts
 all_three date time offset = record { date = Some date; time = Some time; offset = Some offset }

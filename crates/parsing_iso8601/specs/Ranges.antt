@@ -2,7 +2,7 @@
 use Rattle.std.specs.Prelude.{◌≡◌, ℕ, ◌<◌, ◌≤◌, ℤ, pos, neg_ℤ, ◌≤ℤ◌, IfSome}
 use Rattle.std.specs.Int.{IsInRange}
 use Rattle.calendar_count.specs.Range.{IsYear}
-use Rattle.parsing_iso8601.specs.declared.written.Written.{Written}
+use Rattle.parsing_iso8601.specs.declared.written.Iso8601Parts.{Iso8601Parts}
 use Rattle.parsing_iso8601.specs.declared.written.WrittenDate.{WrittenDate}
 use Rattle.parsing_iso8601.specs.declared.written.WrittenDate.TheVariants.{OfMonth, OfYear, OfWeek}
 use Rattle.parsing_iso8601.specs.declared.written.WrittenTime.{WrittenTime}
@@ -25,7 +25,7 @@ IsWithin most z = (neg_ℤ (pos most) ≤ℤ z) × (z ≤ℤ pos most)
 abbrev pub IsOffsetInRange : WrittenOffset → Type 0
 IsOffsetInRange o = IsWithin 25 o.hour × IsWithin 59 o.minute × IfSome o.second (λ second. second ≡ pos 0)
 
-pub record AreInRange (w : Written) : Type 0 where
+pub record AreInRange (w : Iso8601Parts) : Type 0 where
   pub date : IfSome w.date IsDateInRange
   pub time : IfSome w.time IsTimeInRange
   pub offset : IfSome w.offset IsOffsetInRange

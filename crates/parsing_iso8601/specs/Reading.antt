@@ -6,7 +6,7 @@ use Rattle.parsing_pieces.specs.Pieces.{Piece}
 use Rattle.parsing_pieces.specs.Readings.{Reading, ◌>>=◌, ◌>>◌, give, end}
 use Rattle.parsing_iso8601.specs.declared.kind.Kind.{Kind}
 use Rattle.parsing_iso8601.specs.declared.kind.Kind.TheVariants.{Unknown}
-use Rattle.parsing_iso8601.specs.declared.written.Written.{Written}
+use Rattle.parsing_iso8601.specs.declared.written.Iso8601Parts.{Iso8601Parts}
 use Rattle.parsing_iso8601.specs.declared.written.WrittenDate.{WrittenDate}
 use Rattle.parsing_iso8601.specs.declared.written.WrittenTime.{WrittenTime}
 use Rattle.parsing_iso8601.specs.declared.written.WrittenOffset.{WrittenOffset}
@@ -48,14 +48,14 @@ abbrev pub offset_behind : Bool → Bool → Kind → Reading (Option WrittenOff
 offset_behind has_date has_time kind = if has_time || not has_date then maybe (offset kind) else give None
 
 -- what was read; without any part, why there is no date
-abbrev pub gathered : Result WrittenDate Fault → Option WrittenTime → Option WrittenOffset → Reading Written
+abbrev pub gathered : Result WrittenDate Fault → Option WrittenTime → Option WrittenOffset → Reading Iso8601Parts
 gathered (Ok date) t o = give (record { date = Some date; time = t; offset = o })
 gathered (Err f) None None = refuse f
 gathered (Err f) None (Some o) = give (record { date = None; time = None; offset = Some o })
 gathered (Err f) (Some t) o = give (record { date = None; time = Some t; offset = o })
 
 -- the parts in their order; what the last one leaves is the rest
-unfoldable pub iso8601 : Reading Written
+unfoldable pub iso8601 : Reading Iso8601Parts
 iso8601 = do
   d ← dated
   t ← maybe (time d.1 (is_ok d.0))
@@ -63,7 +63,7 @@ iso8601 = do
   gathered d.0 (option_map (λ x. x.0) t) o
 
 -- the parts of a whole text: nothing follows them
-unfoldable pub whole : Reading Written
+unfoldable pub whole : Reading Iso8601Parts
 whole = do
   w ← iso8601
   end

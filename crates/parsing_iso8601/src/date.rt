@@ -1,5 +1,5 @@
 //! The date of a text.
-ghost use Rattle.std.specs.Prelude.{◌≡◌, IfOk};
+ghost use Rattle.std.specs.Prelude.{IfOk};
 ghost use Rattle.std.specs.Int.{IsInRange};
 ghost use Rattle.calendar_count.specs.Range.{IsYear};
 ghost use Rattle.parsing_pieces.specs.FaultOf.{Gives, reading_fault};
@@ -16,7 +16,8 @@ use parsing_pieces::byte;
 #[tactic(auto, unfolding(crate::specs::Dates::month_and_day))]
 #[inline(always)]
 fn month_and_day(kind: Kind, bytes: &[u8]) -> Result<((Month, u8), &[u8]), ParseFromDescription>
-    ensures gives { Gives (λ x. (x.0, x.1.now)) reading_fault result (Dates.month_and_day kind bytes.now) }
+    ensures gives { Gives (λ x. (x.0, x.1.now)) reading_fault result
+        (Dates.month_and_day kind bytes.now) }
     ensures range { IfOk result (λ x. IsInRange 1 99 x.0.1) }
 {
     let (month, rest) = number::month(bytes).ok_or(InvalidComponent("month"))?;
@@ -31,7 +32,8 @@ fn week_and_weekday(
     kind: Kind,
     bytes: &[u8],
 ) -> Result<((u8, Weekday), &[u8]), ParseFromDescription>
-    ensures gives { Gives (λ x. (x.0, x.1.now)) reading_fault result (Dates.week_and_weekday kind bytes.now) }
+    ensures gives { Gives (λ x. (x.0, x.1.now)) reading_fault result
+        (Dates.week_and_weekday kind bytes.now) }
     ensures range { IfOk result (λ x. IsInRange 1 99 x.0.0) }
 {
     let (week, rest) = number::two_from_one(bytes).ok_or(InvalidComponent("week"))?;
@@ -48,7 +50,8 @@ fn date_of_week(
     bytes: &[u8],
 ) -> Result<(WrittenDate, &[u8]), ParseFromDescription>
     requires year { IsYear year }
-    ensures gives { Gives (λ x. (x.0, x.1.now)) reading_fault result (Dates.date_of_week kind year bytes.now) }
+    ensures gives { Gives (λ x. (x.0, x.1.now)) reading_fault result
+        (Dates.date_of_week kind year bytes.now) }
     ensures range { IfOk result (λ x. IsDateInRange x.0) }
 {
     let ((week, weekday), rest) = week_and_weekday(kind, bytes)?;
@@ -68,7 +71,8 @@ fn date_without_month(
     bytes: &[u8],
 ) -> Result<(WrittenDate, &[u8]), ParseFromDescription>
     requires year { IsYear year }
-    ensures gives { Gives (λ x. (x.0, x.1.now)) reading_fault result (Dates.date_without_month kind year (reading_fault fault) bytes.now) }
+    ensures gives { Gives (λ x. (x.0, x.1.now)) reading_fault result
+        (Dates.date_without_month kind year (reading_fault fault) bytes.now) }
     ensures range { IfOk result (λ x. IsDateInRange x.0) }
 {
     if let Some((ordinal, rest)) = number::ordinal(bytes) {
@@ -93,7 +97,8 @@ pub fn date_behind(
     bytes: &[u8],
 ) -> Result<(WrittenDate, &[u8]), ParseFromDescription>
     requires year { IsYear year }
-    ensures gives { Gives (λ x. (x.0, x.1.now)) reading_fault result (Dates.date_behind kind year bytes.now) }
+    ensures gives { Gives (λ x. (x.0, x.1.now)) reading_fault result
+        (Dates.date_behind kind year bytes.now) }
     ensures range { IfOk result (λ x. IsDateInRange x.0) }
 {
     match month_and_day(kind, bytes) {
@@ -111,7 +116,8 @@ pub fn date_behind(
 #[tactic(auto, unfolding(crate::specs::Dates::year_and_kind))]
 #[inline(always)]
 pub fn year_and_kind(bytes: &[u8]) -> Result<((i32, Kind), &[u8]), ParseFromDescription>
-    ensures gives { Gives (λ x. (x.0, x.1.now)) reading_fault result (Dates.year_and_kind bytes.now) }
+    ensures gives { Gives (λ x. (x.0, x.1.now)) reading_fault result
+        (Dates.year_and_kind bytes.now) }
     ensures year { IfOk result (λ x. IsYear x.0.0) }
 {
     let (year, rest) = number::year(bytes).ok_or(InvalidComponent("year"))?;

@@ -38,7 +38,7 @@ pub fn rounded_part_of(unit: u64, run: &[u8]) -> u64
 
 /// The nanoseconds of a fraction of a second of at most nine digits, or of none: these need no rounding.
 #[inline(always)]
-pub fn quick_subsecond(bytes: &[u8]) -> Option<(u32, &[u8])>
+pub fn fast_subsecond(bytes: &[u8]) -> Option<(u32, &[u8])>
     ensures reads { IfSome result (λ x. subsecond bytes.now ≡ Some (x.0, x.1.now)) }
     ensures bound { IfSome result (λ x. x.0 < 1_000_000_000) }
 {

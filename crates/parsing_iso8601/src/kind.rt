@@ -1,5 +1,5 @@
 //! The kind of a text, handed from part to part.
-ghost use Rattle.std.specs.Prelude.{◌≡◌, Ok, Some, option_map};
+ghost use Rattle.std.specs.Prelude.{◌≡◌, Ok};
 ghost use Rattle.parsing_pieces.specs.FaultOf.{Gives, reading_fault};
 ghost use Rattle.parsing_pieces.specs.Pieces.{cut_view};
 ghost use Rattle.parsing_iso8601.specs.Kinds as Kinds;

@@ -2,17 +2,16 @@
 #![tactic(auto)]
 
 mod date;
+mod fast;
 mod fraction;
 mod kind;
 mod moment;
 mod number;
 mod offset;
-mod parts;
-mod quick;
 mod reading;
 mod time;
 mod written;
 
-pub use moment::{read, read_quickly};
-pub use reading::front;
-pub use written::{Written, WrittenDate, WrittenOffset, WrittenTime};
+pub use moment::read_fast;
+pub use reading::parse_prefix;
+pub use written::{Iso8601Parts, WrittenDate, WrittenOffset, WrittenTime};

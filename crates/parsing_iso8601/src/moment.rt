@@ -1,31 +1,40 @@
 //! The moment that a text names.
-ghost use Rattle.std.specs.Prelude.{◌≡◌, Ok, Some, ◌==◌, false, IfErr, IfSome};
-ghost use Rattle.parsing_pieces.specs.FaultOf.{Gives, fault_of, reading_fault};
-ghost use Rattle.parsing_pieces.specs.Readings.{value_read};
-ghost use Rattle.parsing_pieces.specs.ShortName.{HasShortName};
+ghost use Rattle.std.specs.Prelude.{◌≡◌, Ok, ◌==◌, false, IfSome};
 ghost use Rattle.parsing_moments.specs.NamedMoment.{named_moment};
-ghost use Rattle.parsing_iso8601.specs.Moment.{moment, IsOfOffset};
+ghost use Rattle.parsing_iso8601.specs.Moment.{IsOfOffset};
 ghost use Rattle.parsing_iso8601.specs.Parts.{all_three, parts_of, offset_parts_of};
-ghost use Rattle.parsing_iso8601.specs.Reading as Reading;
+ghost use Rattle.parsing_iso8601.specs.ReadView.{day_named};
 
+use crate::fast::{fast_date, fast_time};
 use crate::offset::offset;
-use crate::parts::{day_named, moment_parts, offset_parts};
-use crate::quick::{quick_date, quick_time};
-use crate::reading::front;
-use crate::written::{Written, WrittenDate, WrittenOffset, WrittenTime};
-use calendar::{Time, UtcOffset};
+use crate::written::{WrittenDate, WrittenOffset, WrittenTime};
+use calendar::{ComponentRange, Date, Time, UtcOffset};
 use datetime_types::OffsetDateTime;
-use parsing_pieces::{Parse, ParseFromDescription};
+use parsing_dates::named_day;
+
+// The day that a date names, or the first of its numbers that is out of range.
+#[inline(always)]
+fn day_named(date: WrittenDate) -> Result<Date, ComponentRange>
+    ensures { result ≡ day_named date }
+{
+    match date {
+        WrittenDate::OfMonth(year, month, day) => named_day::calendar_date(year, month, day),
+        WrittenDate::OfYear(year, ordinal) => named_day::ordinal_date(year, ordinal),
+        WrittenDate::OfWeek(year, week, weekday) => named_day::iso_week_date(year, week, weekday),
+    }
+}
 
 // The moment of a date, a time of day without a leap second and an offset, where they name one.
 #[inline(always)]
-fn quick_moment(
+fn fast_moment(
     date: WrittenDate,
     time: WrittenTime,
     offset: WrittenOffset,
 ) -> Option<OffsetDateTime>
     requires { (time.second == 60) ≡ false }
-    ensures { IfSome result (λ m. named_moment (parts_of (all_three date time offset)) (offset_parts_of (all_three date time offset)) ≡ Ok m) }
+    ensures { IfSome result
+        (λ m. named_moment (parts_of (all_three date time offset))
+        (offset_parts_of (all_three date time offset)) ≡ Ok m) }
 {
     let Ok(date) = day_named(date) else {
         return None;
@@ -40,63 +49,18 @@ fn quick_moment(
     Some(OffsetDateTime::new_in_offset(date, time, offset))
 }
 
-/// The moment that a text names, where the shortest way finds one: `None` says nothing of the text.
+/// The moment that a text of ISO 8601 names, where the fast way finds one: `None` says nothing of the text.
 ///
-/// Most texts have a date, a time of day without a leap second, and an offset.
+/// It finds that of most texts: a date, a time of day without a leap second, and an offset.
 #[inline(always)]
-pub fn read_quickly(input: &[u8]) -> Option<OffsetDateTime>
-    ensures gives { IfSome result (λ m. moment input.now ≡ Ok m) }
-    ensures has_offset { IfSome result (λ m. IsOfOffset input.now m) }
+pub fn read_fast(input: &[u8]) -> Option<OffsetDateTime>
+    ensures { IfSome result (IsOfOffset input.now) }
 {
-    let ((date, kind), rest) = quick_date(input)?;
-    let ((time, kind), rest) = quick_time(kind, rest)?;
+    let ((date, kind), rest) = fast_date(input)?;
+    let ((time, kind), rest) = fast_time(kind, rest)?;
     let (offset, rest) = offset(kind, rest)?;
     if !rest.is_empty() || time.second == 60 {
         return None;
     }
-    quick_moment(date, time, offset)
-}
-
-// The parts of a whole text.
-#[tactic(auto, unfolding(crate::specs::Reading::whole))]
-fn whole(input: &[u8]) -> Result<Written, ParseFromDescription>
-    ensures gives { Gives (λ w. w) reading_fault result (value_read (Reading.whole input.now)) }
-    ensures short_name { IfErr result (λ e. HasShortName (reading_fault e)) }
-{
-    let (written, rest) = front(input)?;
-    if !rest.is_empty() {
-        return Err(ParseFromDescription::UnexpectedTrailingCharacters);
-    }
-    Ok(written)
-}
-
-// The same moment or fault as `read`, piece by piece.
-#[tactic(auto, unfolding(crate::specs::Moment::moment))]
-#[cold]
-fn read_by_pieces(input: &[u8]) -> Result<OffsetDateTime, Parse>
-    ensures gives { Gives (λ d. d) fault_of result (moment input.now) }
-    ensures short_name { IfErr result (λ e. HasShortName (fault_of e)) }
-{
-    let written = whole(input)?;
-    let moment = parsing_moments::offset_date_time(
-        &moment_parts(&written),
-        &offset_parts(&written),
-    )?;
-    Ok(moment)
-}
-
-/// The moment that a text of ISO 8601 names: a calendar date, a day of the year or a day of a week, then a time of
-/// day and an offset, in the basic or the extended format.
-///
-/// The first fault counts: what can't be read, what follows, what is missing, the ranges of the date, and last
-/// whether a second 60 can be a leap second.
-#[inline(always)]
-pub fn read(input: &[u8]) -> Result<OffsetDateTime, Parse>
-    ensures gives { Gives (λ d. d) fault_of result (moment input.now) }
-    ensures short_name { IfErr result (λ e. HasShortName (fault_of e)) }
-{
-    match read_quickly(input) {
-        Some(moment) => Ok(moment),
-        None => read_by_pieces(input),
-    }
+    fast_moment(date, time, offset)
 }

@@ -1,5 +1,5 @@
 //! The numbers of a text.
-ghost use Rattle.std.specs.Prelude.{◌≡◌, ◌≤◌, ◌<◌, IfSome, option_map};
+ghost use Rattle.std.specs.Prelude.{◌≡◌, ◌<◌, IfSome, option_map};
 ghost use Rattle.std.specs.Int.{IsInRange};
 ghost use Rattle.calendar_count.specs.Range.{IsYear};
 ghost use Rattle.parsing_pieces.specs.Pieces.{cut_view, rest_view};
@@ -27,7 +27,8 @@ pub fn decimal_mark(bytes: &[u8]) -> Option<&[u8]>
 #[tactic(auto, unfolding(crate::specs::Numbers::fraction_digits, crate::specs::Numbers::due_digits))]
 #[inline(always)]
 fn fraction_digits(bytes: &[u8]) -> Option<(Option<&[u8]>, &[u8])>
-    ensures cut { option_map (λ x. (digits_view x.0, x.1.now)) result ≡ Numbers.fraction_digits bytes.now }
+    ensures cut { option_map (λ x. (digits_view x.0, x.1.now)) result
+        ≡ Numbers.fraction_digits bytes.now }
     ensures all { IfSome result (λ x. AreDigits x.0) }
 {
     let Some(behind) = decimal_mark(bytes) else {
@@ -41,7 +42,8 @@ fn fraction_digits(bytes: &[u8]) -> Option<(Option<&[u8]>, &[u8])>
 #[tactic(auto, unfolding(crate::specs::Numbers::number))]
 #[inline(always)]
 pub fn number(bytes: &[u8]) -> Option<((u8, Option<&[u8]>), &[u8])>
-    ensures cut { option_map (λ x. ((x.0.0, digits_view x.0.1), x.1.now)) result ≡ Numbers.number bytes.now }
+    ensures cut { option_map (λ x. ((x.0.0, digits_view x.0.1), x.1.now)) result
+        ≡ Numbers.number bytes.now }
     ensures bound { IfSome result (λ x. x.0.0 < 100) }
     ensures all { IfSome result (λ x. AreDigits x.0.1) }
 {

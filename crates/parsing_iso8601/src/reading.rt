@@ -13,7 +13,7 @@ use crate::date::{date_behind, year_and_kind};
 use crate::kind::Kind;
 use crate::offset::offset;
 use crate::time::time;
-use crate::written::{Written, WrittenDate, WrittenOffset, WrittenTime};
+use crate::written::{Iso8601Parts, WrittenDate, WrittenOffset, WrittenTime};
 use parsing_pieces::ParseFromDescription;
 
 type DateOrFault = Result<WrittenDate, ParseFromDescription>;
@@ -22,7 +22,8 @@ type DateOrFault = Result<WrittenDate, ParseFromDescription>;
 #[tactic(auto, unfolding(crate::specs::Reading::dated))]
 #[inline(always)]
 pub(crate) fn dated(bytes: &[u8]) -> ((DateOrFault, Kind), &[u8])
-    ensures gives { Reading.dated bytes.now ≡ Ok ((date_view result.0.0, result.0.1), result.1.now) }
+    ensures gives { Reading.dated bytes.now
+        ≡ Ok ((date_view result.0.0, result.0.1), result.1.now) }
     ensures range { IfOk result.0.0 IsDateInRange }
 {
     match year_and_kind(bytes) {
@@ -36,7 +37,8 @@ pub(crate) fn dated(bytes: &[u8]) -> ((DateOrFault, Kind), &[u8])
 
 // The time, where it is there, and the kind that it hands on.
 fn maybe_time(kind: Kind, behind_date: bool, bytes: &[u8]) -> (Option<(WrittenTime, Kind)>, &[u8])
-    ensures gives { Reading.maybe (Times.time kind behind_date) bytes.now ≡ Ok (result.0, result.1.now) }
+    ensures gives { Reading.maybe (Times.time kind behind_date) bytes.now
+        ≡ Ok (result.0, result.1.now) }
     ensures range { IfSome result.0 (λ t. IsTimeInRange t.0) }
 {
     match time(kind, behind_date, bytes) {
@@ -63,7 +65,8 @@ fn offset_behind(
     kind: Kind,
     bytes: &[u8],
 ) -> (Option<WrittenOffset>, &[u8])
-    ensures gives { Reading.offset_behind has_date has_time kind bytes.now ≡ Ok (result.0, result.1.now) }
+    ensures gives { Reading.offset_behind has_date has_time kind bytes.now
+        ≡ Ok (result.0, result.1.now) }
     ensures range { IfSome result.0 IsOffsetInRange }
 {
     if has_time || !has_date {
@@ -89,11 +92,12 @@ fn gathered(
     time: Option<WrittenTime>,
     offset: Option<WrittenOffset>,
     rest: &[u8],
-) -> Result<(Written, &[u8]), ParseFromDescription>
+) -> Result<(Iso8601Parts, &[u8]), ParseFromDescription>
     requires date { IfOk date IsDateInRange }
     requires time { IfSome time IsTimeInRange }
     requires offset { IfSome offset IsOffsetInRange }
-    ensures gives { Gives (λ x. (x.0, x.1.now)) reading_fault result (Reading.gathered (date_view date) time offset rest.now) }
+    ensures gives { Gives (λ x. (x.0, x.1.now)) reading_fault result
+        (Reading.gathered (date_view date) time offset rest.now) }
     ensures range { IfOk result (λ x. AreInRange x.0) }
 {
     let date = match date {
@@ -101,11 +105,11 @@ fn gathered(
         Err(fault) if time.is_none() && offset.is_none() => return Err(fault),
         Err(_) => None,
     };
-    Ok((Written { date, time, offset }, rest))
+    Ok((Iso8601Parts { date, time, offset }, rest))
 }
 
 #[tactic(auto, unfolding(crate::specs::Reading::iso8601))]
-fn parts(bytes: &[u8]) -> Result<(Written, &[u8]), ParseFromDescription>
+fn parts(bytes: &[u8]) -> Result<(Iso8601Parts, &[u8]), ParseFromDescription>
     ensures gives { Gives (λ x. (x.0, x.1.now)) reading_fault result (Reading.iso8601 bytes.now) }
     ensures range { IfOk result (λ x. AreInRange x.0) }
 {
@@ -117,7 +121,7 @@ fn parts(bytes: &[u8]) -> Result<(Written, &[u8]), ParseFromDescription>
 }
 
 /// The parts at the front of the bytes, and the rest.
-pub fn front(bytes: &[u8]) -> Result<(Written, &[u8]), ParseFromDescription>
+pub fn parse_prefix(bytes: &[u8]) -> Result<(Iso8601Parts, &[u8]), ParseFromDescription>
     ensures gives { Gives (λ x. (x.0, x.1.now)) reading_fault result (Reading.iso8601 bytes.now) }
     ensures range { IfOk result (λ x. AreInRange x.0) }
     ensures end { IfOk result (λ x. EndsWith bytes.now x.1.now) }

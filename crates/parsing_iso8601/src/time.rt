@@ -1,5 +1,5 @@
 //! The time of day of a text.
-ghost use Rattle.std.specs.Prelude.{◌≡◌, ◌≤◌, ◌<◌, true, Some, IfSome};
+ghost use Rattle.std.specs.Prelude.{◌≡◌, ◌≤◌, ◌<◌, IfSome};
 ghost use Rattle.parsing_pieces.specs.Pieces.{cut_view, rest_view};
 ghost use Rattle.parsing_iso8601.specs.Ranges.{IsTimeInRange};
 ghost use Rattle.parsing_iso8601.specs.ReadView.{digits_view, AreDigits};
@@ -75,7 +75,8 @@ fn to_second<'a>(
     requires hour { hour ≤ 23 }
     requires minute { minute ≤ 59 }
     requires digits { AreDigits second.1 }
-    ensures cut { cut_view result ≡ Times.to_second hour minute (second.entry.0, digits_view second.entry.1) bytes.now }
+    ensures cut { cut_view result
+        ≡ Times.to_second hour minute (second.entry.0, digits_view second.entry.1) bytes.now }
     ensures range { IfSome result (λ x. IsTimeInRange x.0) }
 {
     if second.0 > 60 {
@@ -166,7 +167,8 @@ fn from_minute<'a>(
 ) -> Option<((WrittenTime, Kind), &'a [u8])>
     requires hour { hour ≤ 23 }
     requires digits { AreDigits minute.1 }
-    ensures cut { cut_view result ≡ Times.from_minute kind hour (minute.entry.0, digits_view minute.entry.1) bytes.now }
+    ensures cut { cut_view result
+        ≡ Times.from_minute kind hour (minute.entry.0, digits_view minute.entry.1) bytes.now }
     ensures range { IfSome result (λ x. IsTimeInRange x.0.0) }
 {
     if minute.0 > 59 {

@@ -35,7 +35,7 @@ pub struct WrittenOffset {
 
 /// The parts that a text has, one at least.
 #[derive(Clone, Copy, Debug, PartialEq, Eq)]
-pub struct Written {
+pub struct Iso8601Parts {
     pub date: Option<WrittenDate>,
     pub time: Option<WrittenTime>,
     pub offset: Option<WrittenOffset>,

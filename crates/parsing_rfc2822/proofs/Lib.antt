@@ -1,4 +1,4 @@
-pub mod QuickLemmas
+pub mod FastLemmas
 pub mod StrictLemmas
 pub mod TameLemmas
 pub mod WordLemmas

@@ -13,7 +13,7 @@ use Rattle.parsing_pieces.specs.declared.zone.Zone.{Zone}
 use Rattle.parsing_pieces.proofs.lemmas.Strict.{Narrows, Says, given, denied, then_misses, then_narrows, plain_then, checked, entered_narrows, within_yes, within_no, same_narrows, narrows_iff, strict_passes}
 use Rattle.parsing_white_space.specs.Skips.{optional, past}
 use Rattle.parsing_white_space.specs.WhiteSpace.{comments_and_white_space}
-use Rattle.parsing_rfc2822.specs.declared.written.Written.{Written}
+use Rattle.parsing_rfc2822.specs.declared.parts.Rfc2822Parts.{Rfc2822Parts}
 use Rattle.parsing_rfc2822.specs.Names.{is_name, is_military, zone_of, military_zone, short_zone, zone_name}
 use Rattle.parsing_rfc2822.specs.Range.{AreInRange}
 use Rattle.parsing_rfc2822.specs.Reading.{spaced_colon, one_or_two_digits, optional_weekday, day, month_and_year, hour_and_minute, due_second, second, clock, signed_zone, named_zone, zone, spaced_zone, rfc2822}
@@ -177,10 +177,10 @@ rfc2822_narrows b0 =
     then_misses AreInRange (clock false b2) _ (λ t b3.
     then_misses AreInRange (spaced_zone false b3) _ (λ z b4. denied AreInRange _ b4 (λ w. no w.day)))))
 
-pub strict_is_in_range : (bytes : List ℕ) (w : Written) (rest : List ℕ) → (rfc2822 true bytes ≡ Ok (w, rest)) ↔ ((rfc2822 false bytes ≡ Ok (w, rest)) × AreInRange w)
+pub strict_is_in_range : (bytes : List ℕ) (w : Rfc2822Parts) (rest : List ℕ) → (rfc2822 true bytes ≡ Ok (w, rest)) ↔ ((rfc2822 false bytes ≡ Ok (w, rest)) × AreInRange w)
 strict_is_in_range bytes w rest = narrows_iff AreInRange (rfc2822 true bytes) (rfc2822 false bytes) (rfc2822_narrows bytes) w rest
 
 -- what a function returns that gives the strict reading
-pub front_in_range : (is_strict : Bool) (result : Result (Written × Bor (List ℕ)) ParseFromDescription) (bytes : List ℕ) → Gives (λ x. (x.0, x.1.now)) reading_fault result (rfc2822 is_strict bytes) → is_strict ≡ true → IfOk result (λ x. AreInRange x.0)
+pub front_in_range : (is_strict : Bool) (result : Result (Rfc2822Parts × Bor (List ℕ)) ParseFromDescription) (bytes : List ℕ) → Gives (λ x. (x.0, x.1.now)) reading_fault result (rfc2822 is_strict bytes) → is_strict ≡ true → IfOk result (λ x. AreInRange x.0)
 front_in_range true result bytes given e = strict_passes AreInRange (λ w. w) result (rfc2822 true bytes) (rfc2822 false bytes) given (rfc2822_narrows bytes)
 front_in_range false result bytes given e = absurd cc

@@ -21,7 +21,7 @@ use Rattle.parsing_resolution.specs.Resolution.{date_of, leap_time_of, signed_of
 use Rattle.parsing_white_space.specs.Skips.{optional, past, byte_where}
 use Rattle.parsing_white_space.specs.WhiteSpace.{folding_white_space, comments_and_white_space}
 use Rattle.parsing_white_space.proofs.lemmas.Ends.{Ends, IsEnding, byte_ends, optional_ends, past_leaves, folding_ends, spacing_ends}
-use Rattle.parsing_rfc2822.specs.declared.written.Written.{Written}
+use Rattle.parsing_rfc2822.specs.declared.parts.Rfc2822Parts.{Rfc2822Parts}
 use Rattle.parsing_rfc2822.specs.Names.{is_name, named, weekday_of, weekday, month_of, month, zone_of, is_military, military_zone, short_zone, zone_name}
 use Rattle.parsing_rfc2822.specs.Reading.{comma, first_or, spaced_colon, one_or_two_digits, named_day, optional_weekday, day, full_year, short_year, year, month_and_year, hour_and_minute, due_second, second, clock, signed_zone, named_zone, zone, spaced_zone, rfc2822}
 use Rattle.parsing_rfc2822.specs.Direct.{moment, moment_of, direct}
@@ -194,8 +194,8 @@ unfolding direct
 given_short result bytes given = value_given_short (λ d. d) result bytes (moment bytes) given (moment_tame bytes)
 
 -- the same of what stands at the front
-pub given_end : (is_strict : Bool) (result : Result (Written × Bor (List ℕ)) ParseFromDescription) (bytes : List ℕ) → Gives (λ x. (x.0, x.1.now)) reading_fault result (rfc2822 is_strict bytes) → IfOk result (λ x. EndsWith bytes x.1.now)
+pub given_end : (is_strict : Bool) (result : Result (Rfc2822Parts × Bor (List ℕ)) ParseFromDescription) (bytes : List ℕ) → Gives (λ x. (x.0, x.1.now)) reading_fault result (rfc2822 is_strict bytes) → IfOk result (λ x. EndsWith bytes x.1.now)
 given_end is_strict result bytes given = front_ends (λ w. w) result bytes (rfc2822 is_strict bytes) given (rfc2822_tame is_strict bytes)
 
-pub given_front_short : (is_strict : Bool) (result : Result (Written × Bor (List ℕ)) ParseFromDescription) (bytes : List ℕ) → Gives (λ x. (x.0, x.1.now)) reading_fault result (rfc2822 is_strict bytes) → IfErr result (λ e. HasShortName (reading_fault e))
+pub given_front_short : (is_strict : Bool) (result : Result (Rfc2822Parts × Bor (List ℕ)) ParseFromDescription) (bytes : List ℕ) → Gives (λ x. (x.0, x.1.now)) reading_fault result (rfc2822 is_strict bytes) → IfErr result (λ e. HasShortName (reading_fault e))
 given_front_short is_strict result bytes given = front_short (λ w. w) result bytes (rfc2822 is_strict bytes) given (rfc2822_tame is_strict bytes)

@@ -7,13 +7,13 @@ use Rattle.parsing_pieces.specs.Fault.{Fault}
 use Rattle.parsing_pieces.specs.Readings.{Reading, ◌>>=◌, ◌>>◌, resolved, end, value_read}
 use Rattle.parsing_resolution.specs.Resolution.{date_of, leap_time_of, signed_offset_of}
 use Rattle.parsing_resolution.specs.StandIn.{leap_checked}
-use Rattle.parsing_rfc2822.specs.declared.written.Written.{Written}
+use Rattle.parsing_rfc2822.specs.declared.parts.Rfc2822Parts.{Rfc2822Parts}
 use Rattle.parsing_rfc2822.specs.Reading.{rfc2822}
 
 -- the moment of the numbers: nothing behind them; the ranges of the date, of the time and of the offset; the test of a leap second
 --
 -- The weekday has no effect.
-unfoldable pub moment_of : Written → Reading Shown
+unfoldable pub moment_of : Rfc2822Parts → Reading Shown
 moment_of w = do
   end
   date ← resolved (date_of (pos w.year) (month_number w.month) w.day)

@@ -1,9 +1,9 @@
--- Written numbers that a record of components takes.
+-- Rfc2822Parts numbers that a record of components takes.
 use Rattle.std.specs.Prelude.{◌≤◌, IfSome}
 use Rattle.std.specs.Int.{IsInRange}
-use Rattle.parsing_rfc2822.specs.declared.written.Written.{Written}
+use Rattle.parsing_rfc2822.specs.declared.parts.Rfc2822Parts.{Rfc2822Parts}
 
-pub record AreInRange (w : Written) : Type 0 where
+pub record AreInRange (w : Rfc2822Parts) : Type 0 where
   pub day : IsInRange 1 31 w.day
   pub hour : w.hour ≤ 23
   pub minute : w.minute ≤ 59

@@ -11,7 +11,7 @@ use Rattle.parsing_pieces.specs.Readings.{Reading, ◌or◌, ◌>>=◌, ◌>>◌
 use Rattle.parsing_white_space.specs.Skips.{Skip, optional, byte_where, past}
 use Rattle.parsing_white_space.specs.WhiteSpace.{folding_white_space, comments_and_white_space}
 use Rattle.parsing_rfc2822.specs.Names.{weekday, month, zone_name}
-use Rattle.parsing_rfc2822.specs.declared.written.Written.{Written}
+use Rattle.parsing_rfc2822.specs.declared.parts.Rfc2822Parts.{Rfc2822Parts}
 use Rattle.parsing_pieces.specs.declared.zone.Zone.{Zone}
 
 -- `,`
@@ -133,7 +133,7 @@ spaced_zone is_strict = do
   give z
 
 -- `Tue, 1 Jul 2003 10:52:37 +0200`
-unfoldable pub rfc2822 : Bool → Reading Written
+unfoldable pub rfc2822 : Bool → Reading Rfc2822Parts
 rfc2822 is_strict = do
   d ← day is_strict
   m ← month_and_year

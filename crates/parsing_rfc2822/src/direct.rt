@@ -5,9 +5,9 @@ ghost use Rattle.parsing_pieces.specs.Readings.{value_read};
 ghost use Rattle.parsing_pieces.specs.ShortName.{HasShortName};
 ghost use Rattle.parsing_rfc2822.specs.Direct.{direct, moment_of};
 
-use crate::quick::quick_front;
-use crate::reading::front;
-use crate::written::Written;
+use crate::fast::fast_prefix;
+use crate::parts::Rfc2822Parts;
+use crate::reading::parse_prefix;
 use datetime_types::OffsetDateTime;
 use parsing_pieces::{Parse, ParseFromDescription};
 use parsing_resolution::{leap_checked, resolve};
@@ -15,63 +15,54 @@ use parsing_resolution::{leap_checked, resolve};
 // The moment of what a text says, with what follows it.
 #[tactic(auto, unfolding(crate::specs::Direct::moment_of))]
 #[inline(always)]
-fn resolved(written: Written, rest: &[u8]) -> Result<OffsetDateTime, Parse>
-    requires hours { written.zone.hours < 100 }
-    requires minutes { written.zone.minutes < 100 }
-    ensures { Gives (λ d. d) fault_of result (value_read (moment_of written rest.now)) }
+fn resolved(parts: Rfc2822Parts, rest: &[u8]) -> Result<OffsetDateTime, Parse>
+    requires hours { parts.zone.hours < 100 }
+    requires minutes { parts.zone.minutes < 100 }
+    ensures { Gives (λ d. d) fault_of result (value_read (moment_of parts rest.now)) }
 {
     if !rest.is_empty() {
         return Err(ParseFromDescription::UnexpectedTrailingCharacters.into());
     }
-    let month = written.month.number();
-    let date = resolve::date(i32::from(written.year), month, written.day)?;
-    let second = written.second.unwrap_or(0);
-    let time = resolve::leap_time(written.hour, written.minute, second, 0)?;
-    let zone = written.zone;
+    let month = parts.month.number();
+    let date = resolve::date(i32::from(parts.year), month, parts.day)?;
+    let second = parts.second.unwrap_or(0);
+    let time = resolve::leap_time(parts.hour, parts.minute, second, 0)?;
+    let zone = parts.zone;
     let offset = resolve::signed_offset(zone.is_negative, zone.hours, zone.minutes)?;
     let shown = OffsetDateTime::new_in_offset(date, time, offset);
     Ok(leap_checked(second == 60, shown)?)
 }
 
-/// The moment that a text names, where the shortest way finds one: `None` says nothing of the text.
+/// The moment that a text names, where the fast way finds one: `None` says nothing of the text.
 ///
-/// Most texts have one: single spaces between their parts, all numbers of the clock, no leap second and no comment.
+/// It finds that of most texts: single spaces between their parts, all numbers of the clock, no leap second and no
+/// comment.
 #[tactic(auto, unfolding(crate::specs::Direct::direct, crate::specs::Direct::moment))]
 #[inline(always)]
-pub fn read_quickly(input: &[u8]) -> Option<OffsetDateTime>
+pub fn read_fast(input: &[u8]) -> Option<OffsetDateTime>
     ensures { IfSome result (λ moment. direct input.now ≡ Ok moment) }
 {
-    let (written, rest) = quick_front(input)?;
-    if written.second == Some(60) {
+    let (parts, rest) = fast_prefix(input)?;
+    if parts.second == Some(60) {
         return None;
     }
-    let Ok(moment) = resolved(written, rest) else {
+    let Ok(moment) = resolved(parts, rest) else {
         return None;
     };
     Some(moment)
 }
 
-// The same moment or fault as `read`, piece by piece.
-#[tactic(auto, unfolding(crate::specs::Direct::direct, crate::specs::Direct::moment))]
-#[cold]
-fn read_by_pieces(input: &[u8]) -> Result<OffsetDateTime, Parse>
-    ensures { Gives (λ d. d) fault_of result (direct input.now) }
-{
-    let (written, rest) = front(false, input)?;
-    resolved(written, rest)
-}
-
 /// The moment that a text of RFC 2822, section 3.3, names, with the obsolete years and zones of its section 4.3.
 ///
 /// The first fault counts: what can't be read, what follows, the ranges of date, time and offset, and last whether a
-/// second 60 can be a leap second. The weekday is read and has no effect.
-#[inline(always)]
-pub fn read(input: &[u8]) -> Result<OffsetDateTime, Parse>
+/// second 60 can be a leap second. The weekday is read and has no effect. It reads piece by piece; `read_fast` finds
+/// most moments sooner.
+#[tactic(auto, unfolding(crate::specs::Direct::direct, crate::specs::Direct::moment))]
+#[cold]
+pub fn read_exact(input: &[u8]) -> Result<OffsetDateTime, Parse>
     ensures gives { Gives (λ d. d) fault_of result (direct input.now) }
     ensures short_name { IfErr result (λ e. HasShortName (fault_of e)) }
 {
-    match read_quickly(input) {
-        Some(moment) => Ok(moment),
-        None => read_by_pieces(input),
-    }
+    let (parts, rest) = parse_prefix(false, input)?;
+    resolved(parts, rest)
 }

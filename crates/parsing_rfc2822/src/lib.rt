@@ -2,13 +2,13 @@
 #![tactic(auto)]
 
 mod direct;
+mod fast;
 pub mod laws;
 mod names;
-mod quick;
+mod parts;
 mod reading;
 mod spacing;
-mod written;
 
-pub use direct::{read, read_quickly};
-pub use reading::front;
-pub use written::Written;
+pub use direct::{read_exact, read_fast};
+pub use parts::Rfc2822Parts;
+pub use reading::parse_prefix;

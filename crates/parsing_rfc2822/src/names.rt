@@ -1,7 +1,7 @@
 //! The names of weekdays, months and zones, in any case.
 //!
 //! Three letters stand in one number, the first one highest: one comparison takes a name.
-ghost use Rattle.std.specs.Prelude.{◌≡◌, ◌≤◌, ◌<◌, IfSome, length};
+ghost use Rattle.std.specs.Prelude.{◌≡◌, ◌≤◌, IfSome, length};
 ghost use Rattle.parsing_pieces.specs.Pieces.{cut_view};
 ghost use Rattle.parsing_rfc2822.specs.Names as Names;
 ghost use Rattle.parsing_rfc2822.specs.Words.{word_of};

@@ -1,5 +1,5 @@
 //! Readings of the parts of a text.
-ghost use Rattle.std.specs.Prelude.{◌≡◌, ◌≤◌, ◌<◌, IfOk, IfErr, IfSome, true};
+ghost use Rattle.std.specs.Prelude.{◌≡◌, ◌<◌, IfOk, IfErr, true};
 ghost use Rattle.parsing_pieces.specs.FaultOf.{Gives, reading_fault};
 ghost use Rattle.parsing_pieces.specs.Pieces as Pieces;
 ghost use Rattle.parsing_pieces.specs.ShortName.{HasShortName};
@@ -8,8 +8,8 @@ ghost use Rattle.parsing_rfc2822.specs.Range.{AreInRange};
 ghost use Rattle.parsing_rfc2822.specs.Reading as Reading;
 
 use crate::names::{month, weekday, zone_name};
+use crate::parts::Rfc2822Parts;
 use crate::spacing::{past_spacing, spaced_colon};
-use crate::written::Written;
 use calendar_count::{Month, Weekday};
 use parsing_pieces::ParseFromDescription::{self, InvalidComponent, InvalidLiteral};
 use parsing_pieces::{Zone, byte, four_digits, one_digit, sign, two_digits, within};
@@ -37,7 +37,8 @@ fn named_day(day: Weekday, bytes: &[u8]) -> Result<(Option<Weekday>, &[u8]), Par
 
 #[tactic(auto, unfolding(crate::specs::Reading::optional_weekday))]
 fn optional_weekday(bytes: &[u8]) -> Result<(Option<Weekday>, &[u8]), ParseFromDescription>
-    ensures { Gives (λ x. (x.0, x.1.now)) reading_fault result (Reading.optional_weekday bytes.now) }
+    ensures { Gives (λ x. (x.0, x.1.now)) reading_fault result
+        (Reading.optional_weekday bytes.now) }
 {
     match weekday(bytes) {
         Some((day, rest)) => named_day(day, rest),
@@ -106,7 +107,8 @@ fn month_and_year(bytes: &[u8]) -> Result<((Month, u16), &[u8]), ParseFromDescri
 
 #[tactic(auto, unfolding(crate::specs::Reading::hour_and_minute))]
 fn hour_and_minute(is_strict: bool, bytes: &[u8]) -> Result<((u8, u8), &[u8]), ParseFromDescription>
-    ensures { Gives (λ x. (x.0, x.1.now)) reading_fault result (Reading.hour_and_minute is_strict bytes.now) }
+    ensures { Gives (λ x. (x.0, x.1.now)) reading_fault result
+        (Reading.hour_and_minute is_strict bytes.now) }
 {
     let (hour, rest) = two_digits(bytes).ok_or(InvalidComponent("hour"))?;
     if !within(is_strict, 0, 23, hour) {
@@ -122,7 +124,8 @@ fn hour_and_minute(is_strict: bool, bytes: &[u8]) -> Result<((u8, u8), &[u8]), P
 
 #[tactic(auto, unfolding(crate::specs::Reading::due_second))]
 fn due_second(is_strict: bool, bytes: &[u8]) -> Result<(Option<u8>, &[u8]), ParseFromDescription>
-    ensures { Gives (λ x. (x.0, x.1.now)) reading_fault result (Reading.due_second is_strict bytes.now) }
+    ensures { Gives (λ x. (x.0, x.1.now)) reading_fault result
+        (Reading.due_second is_strict bytes.now) }
 {
     let (second, rest) = two_digits(bytes).ok_or(InvalidComponent("second"))?;
     if !within(is_strict, 0, 60, second) {
@@ -133,7 +136,8 @@ fn due_second(is_strict: bool, bytes: &[u8]) -> Result<(Option<u8>, &[u8]), Pars
 
 #[tactic(auto, unfolding(crate::specs::Reading::second))]
 fn second(is_strict: bool, bytes: &[u8]) -> Result<(Option<u8>, &[u8]), ParseFromDescription>
-    ensures { Gives (λ x. (x.0, x.1.now)) reading_fault result (Reading.second is_strict bytes.now) }
+    ensures { Gives (λ x. (x.0, x.1.now)) reading_fault result
+        (Reading.second is_strict bytes.now) }
 {
     match spaced_colon(bytes) {
         Some(rest) => due_second(is_strict, rest),
@@ -160,7 +164,8 @@ fn signed_zone(
     mark: u8,
     bytes: &[u8],
 ) -> Result<(Zone, &[u8]), ParseFromDescription>
-    ensures gives { Gives (λ x. (x.0, x.1.now)) reading_fault result (Reading.signed_zone is_strict mark bytes.now) }
+    ensures gives { Gives (λ x. (x.0, x.1.now)) reading_fault result
+        (Reading.signed_zone is_strict mark bytes.now) }
     ensures hours { IfOk result (λ x. x.0.hours < 100) }
     ensures minutes { IfOk result (λ x. x.0.minutes < 100) }
 {
@@ -183,7 +188,8 @@ fn signed_zone(
 
 #[tactic(auto, unfolding(crate::specs::Reading::named_zone))]
 fn named_zone(bytes: &[u8]) -> Result<(Zone, &[u8]), ParseFromDescription>
-    ensures gives { Gives (λ x. (x.0, x.1.now)) reading_fault result (Reading.named_zone bytes.now) }
+    ensures gives { Gives (λ x. (x.0, x.1.now)) reading_fault result
+        (Reading.named_zone bytes.now) }
     ensures hours { IfOk result (λ x. x.0.hours < 100) }
     ensures minutes { IfOk result (λ x. x.0.minutes < 100) }
 {
@@ -199,7 +205,8 @@ fn named_zone(bytes: &[u8]) -> Result<(Zone, &[u8]), ParseFromDescription>
 
 #[tactic(auto, unfolding(crate::specs::Reading::zone))]
 fn zone(is_strict: bool, bytes: &[u8]) -> Result<(Zone, &[u8]), ParseFromDescription>
-    ensures gives { Gives (λ x. (x.0, x.1.now)) reading_fault result (Reading.zone is_strict bytes.now) }
+    ensures gives { Gives (λ x. (x.0, x.1.now)) reading_fault result
+        (Reading.zone is_strict bytes.now) }
     ensures hours { IfOk result (λ x. x.0.hours < 100) }
     ensures minutes { IfOk result (λ x. x.0.minutes < 100) }
 {
@@ -211,7 +218,8 @@ fn zone(is_strict: bool, bytes: &[u8]) -> Result<(Zone, &[u8]), ParseFromDescrip
 
 #[tactic(auto, unfolding(crate::specs::Reading::spaced_zone))]
 fn spaced_zone(is_strict: bool, bytes: &[u8]) -> Result<(Zone, &[u8]), ParseFromDescription>
-    ensures gives { Gives (λ x. (x.0, x.1.now)) reading_fault result (Reading.spaced_zone is_strict bytes.now) }
+    ensures gives { Gives (λ x. (x.0, x.1.now)) reading_fault result
+        (Reading.spaced_zone is_strict bytes.now) }
     ensures hours { IfOk result (λ x. x.0.hours < 100) }
     ensures minutes { IfOk result (λ x. x.0.minutes < 100) }
 {
@@ -221,8 +229,9 @@ fn spaced_zone(is_strict: bool, bytes: &[u8]) -> Result<(Zone, &[u8]), ParseFrom
 }
 
 #[tactic(auto, unfolding(crate::specs::Reading::rfc2822))]
-fn parts(is_strict: bool, bytes: &[u8]) -> Result<(Written, &[u8]), ParseFromDescription>
-    ensures gives { Gives (λ x. (x.0, x.1.now)) reading_fault result (Reading.rfc2822 is_strict bytes.now) }
+fn parts(is_strict: bool, bytes: &[u8]) -> Result<(Rfc2822Parts, &[u8]), ParseFromDescription>
+    ensures gives { Gives (λ x. (x.0, x.1.now)) reading_fault result
+        (Reading.rfc2822 is_strict bytes.now) }
     ensures hours { IfOk result (λ x. x.0.zone.hours < 100) }
     ensures minutes { IfOk result (λ x. x.0.zone.minutes < 100) }
 {
@@ -230,7 +239,7 @@ fn parts(is_strict: bool, bytes: &[u8]) -> Result<(Written, &[u8]), ParseFromDes
     let ((month, year), rest) = month_and_year(rest)?;
     let ((hour, minute, second), rest) = clock(is_strict, rest)?;
     let (zone, rest) = spaced_zone(is_strict, rest)?;
-    let written = Written {
+    let parts = Rfc2822Parts {
         weekday,
         day,
         month,
@@ -240,15 +249,19 @@ fn parts(is_strict: bool, bytes: &[u8]) -> Result<(Written, &[u8]), ParseFromDes
         second,
         zone,
     };
-    Ok((written, rest))
+    Ok((parts, rest))
 }
 
 /// What is written at the front of the bytes, and the rest: RFC 2822, section 3.3, with the obsolete years and zones.
 ///
 /// A strict reading refuses each number out of range where it stands. Each fault names the part that can't be read; one
 /// of a zone is the offset hour's, or behind a sign that of its minutes.
-pub fn front(is_strict: bool, bytes: &[u8]) -> Result<(Written, &[u8]), ParseFromDescription>
-    ensures gives { Gives (λ x. (x.0, x.1.now)) reading_fault result (Reading.rfc2822 is_strict bytes.now) }
+pub fn parse_prefix(
+    is_strict: bool,
+    bytes: &[u8],
+) -> Result<(Rfc2822Parts, &[u8]), ParseFromDescription>
+    ensures gives { Gives (λ x. (x.0, x.1.now)) reading_fault result
+        (Reading.rfc2822 is_strict bytes.now) }
     ensures range { is_strict ≡ true → IfOk result (λ x. AreInRange x.0) }
     ensures hours { IfOk result (λ x. x.0.zone.hours < 100) }
     ensures minutes { IfOk result (λ x. x.0.zone.minutes < 100) }

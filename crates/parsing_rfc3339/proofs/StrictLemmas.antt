@@ -13,7 +13,7 @@ use Rattle.parsing_pieces.specs.Readings.{piece_or, give, require, within}
 use Rattle.parsing_pieces.specs.declared.fault.ParseFromDescription.{ParseFromDescription}
 use Rattle.parsing_pieces.specs.declared.zone.Zone.{Zone}
 use Rattle.parsing_pieces.proofs.lemmas.Strict.{Narrows, given, denied, then_misses, then_narrows, same_then, plain_then, checked, entered_narrows, within_yes, within_no, required_says, narrows_iff, strict_passes}
-use Rattle.parsing_rfc3339.specs.declared.written.Written.{Written}
+use Rattle.parsing_rfc3339.specs.declared.parts.Rfc3339Parts.{Rfc3339Parts}
 use Rattle.parsing_rfc3339.specs.Range.{AreInRange}
 use Rattle.parsing_rfc3339.specs.Reading.{date, clock, subsecond, zulu, signed_offset, offset, rfc3339}
 
@@ -108,10 +108,10 @@ rfc3339_narrows b0 =
     then_misses AreInRange (subsecond b3) _ (λ n b4.
     then_misses AreInRange (offset false b4) _ (λ z b5. denied AreInRange _ b5 (λ w. no (w.month, w.day)))))))
 
-pub strict_is_in_range : (bytes : List ℕ) (w : Written) (rest : List ℕ) → (rfc3339 true bytes ≡ Ok (w, rest)) ↔ ((rfc3339 false bytes ≡ Ok (w, rest)) × AreInRange w)
+pub strict_is_in_range : (bytes : List ℕ) (w : Rfc3339Parts) (rest : List ℕ) → (rfc3339 true bytes ≡ Ok (w, rest)) ↔ ((rfc3339 false bytes ≡ Ok (w, rest)) × AreInRange w)
 strict_is_in_range bytes w rest = narrows_iff AreInRange (rfc3339 true bytes) (rfc3339 false bytes) (rfc3339_narrows bytes) w rest
 
 -- what a function returns that gives the strict reading
-pub front_in_range : (is_strict : Bool) (result : Result (Written × Bor (List ℕ)) ParseFromDescription) (bytes : List ℕ) → Gives (λ x. (x.0, x.1.now)) reading_fault result (rfc3339 is_strict bytes) → is_strict ≡ true → IfOk result (λ x. AreInRange x.0)
+pub front_in_range : (is_strict : Bool) (result : Result (Rfc3339Parts × Bor (List ℕ)) ParseFromDescription) (bytes : List ℕ) → Gives (λ x. (x.0, x.1.now)) reading_fault result (rfc3339 is_strict bytes) → is_strict ≡ true → IfOk result (λ x. AreInRange x.0)
 front_in_range true result bytes given e = strict_passes AreInRange (λ w. w) result (rfc3339 true bytes) (rfc3339 false bytes) given (rfc3339_narrows bytes)
 front_in_range false result bytes given e = absurd cc

@@ -15,7 +15,7 @@ use Rattle.parsing_pieces.specs.declared.fault.Parse.{Parse}
 use Rattle.parsing_pieces.specs.declared.fault.ParseFromDescription.{ParseFromDescription}
 use Rattle.parsing_pieces.proofs.lemmas.Tame.{digits_leaves, byte_leaves, skip_leaves, fraction_leaves, whole_end, piece_tame, then_tame, require_tame, resolved_tame, end_tame, entered_tame, front_ends, front_short, value_given_short}
 use Rattle.parsing_resolution.specs.Resolution.{date_of, leap_time_of, signed_offset_of}
-use Rattle.parsing_rfc3339.specs.declared.written.Written.{Written}
+use Rattle.parsing_rfc3339.specs.declared.parts.Rfc3339Parts.{Rfc3339Parts}
 use Rattle.parsing_rfc3339.specs.Reading.{date, clock, due_fraction, subsecond, zulu, signed_offset, offset, rfc3339}
 use Rattle.parsing_rfc3339.specs.Direct.{moment, moment_of, direct}
 
@@ -90,8 +90,8 @@ unfolding direct
 given_short result bytes given = value_given_short (λ d. d) result bytes (moment bytes) given (moment_tame bytes)
 
 -- the same of what stands at the front
-pub given_end : (is_strict : Bool) (result : Result (Written × Bor (List ℕ)) ParseFromDescription) (bytes : List ℕ) → Gives (λ x. (x.0, x.1.now)) reading_fault result (rfc3339 is_strict bytes) → IfOk result (λ x. EndsWith bytes x.1.now)
+pub given_end : (is_strict : Bool) (result : Result (Rfc3339Parts × Bor (List ℕ)) ParseFromDescription) (bytes : List ℕ) → Gives (λ x. (x.0, x.1.now)) reading_fault result (rfc3339 is_strict bytes) → IfOk result (λ x. EndsWith bytes x.1.now)
 given_end is_strict result bytes given = front_ends (λ w. w) result bytes (rfc3339 is_strict bytes) given (rfc3339_tame is_strict bytes)
 
-pub given_front_short : (is_strict : Bool) (result : Result (Written × Bor (List ℕ)) ParseFromDescription) (bytes : List ℕ) → Gives (λ x. (x.0, x.1.now)) reading_fault result (rfc3339 is_strict bytes) → IfErr result (λ e. HasShortName (reading_fault e))
+pub given_front_short : (is_strict : Bool) (result : Result (Rfc3339Parts × Bor (List ℕ)) ParseFromDescription) (bytes : List ℕ) → Gives (λ x. (x.0, x.1.now)) reading_fault result (rfc3339 is_strict bytes) → IfErr result (λ e. HasShortName (reading_fault e))
 given_front_short is_strict result bytes given = front_short (λ w. w) result bytes (rfc3339 is_strict bytes) given (rfc3339_tame is_strict bytes)

@@ -6,11 +6,11 @@ use Rattle.parsing_pieces.specs.Fault.{Fault}
 use Rattle.parsing_pieces.specs.Readings.{Reading, ◌>>=◌, ◌>>◌, resolved, end, value_read}
 use Rattle.parsing_resolution.specs.Resolution.{date_of, leap_time_of, signed_offset_of}
 use Rattle.parsing_resolution.specs.StandIn.{leap_checked}
-use Rattle.parsing_rfc3339.specs.declared.written.Written.{Written}
+use Rattle.parsing_rfc3339.specs.declared.parts.Rfc3339Parts.{Rfc3339Parts}
 use Rattle.parsing_rfc3339.specs.Reading.{rfc3339}
 
 -- the moment of the numbers: the range of the offset; nothing behind them; the ranges of the date and of the time; the test of a leap second
-unfoldable pub moment_of : Written → Reading Shown
+unfoldable pub moment_of : Rfc3339Parts → Reading Shown
 moment_of w = do
   offset ← resolved (signed_offset_of w.zone.is_negative w.zone.hours w.zone.minutes)
   end

@@ -1,3 +1,4 @@
 pub mod Direct
+mod Fast
 pub mod Range
 pub mod Reading

@@ -1,9 +1,9 @@
--- Written numbers that a record of components takes.
+-- Rfc3339Parts numbers that a record of components takes.
 use Rattle.std.specs.Prelude.{◌≤◌}
 use Rattle.std.specs.Int.{IsInRange}
-use Rattle.parsing_rfc3339.specs.declared.written.Written.{Written}
+use Rattle.parsing_rfc3339.specs.declared.parts.Rfc3339Parts.{Rfc3339Parts}
 
-pub record AreInRange (w : Written) : Type 0 where
+pub record AreInRange (w : Rfc3339Parts) : Type 0 where
   pub month : IsInRange 1 12 w.month
   pub day : IsInRange 1 31 w.day
   pub hour : w.hour ≤ 23

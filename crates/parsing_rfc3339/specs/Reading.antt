@@ -7,7 +7,7 @@ use Rattle.parsing_pieces.specs.Fault.{literal, component}
 use Rattle.parsing_pieces.specs.Pieces.{Piece, digits, fraction, byte, skip_of, any_byte, sign}
 use Rattle.parsing_pieces.specs.Readings.{Reading, ◌or◌, ◌>>=◌, ◌>>◌, give, if_there, require, within}
 use Rattle.parsing_pieces.specs.declared.zone.Zone.{Zone}
-use Rattle.parsing_rfc3339.specs.declared.written.Written.{Written}
+use Rattle.parsing_rfc3339.specs.declared.parts.Rfc3339Parts.{Rfc3339Parts}
 
 -- `1985-04-12`; there is no month 00
 unfoldable pub date : Bool → Reading (ℕ × ℕ × ℕ)
@@ -63,7 +63,7 @@ unfoldable pub offset : Bool → Reading Zone
 offset is_strict = if_there zulu (λ _. give (record { is_named = true; is_negative = false; hours = 0; minutes = 0 })) (signed_offset is_strict)
 
 -- `1985-04-12T23:20:50.52Z`
-unfoldable pub rfc3339 : Bool → Reading Written
+unfoldable pub rfc3339 : Bool → Reading Rfc3339Parts
 rfc3339 is_strict = do
   d ← date is_strict
   any_byte or component (codes "separator")

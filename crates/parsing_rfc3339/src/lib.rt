@@ -1,11 +1,11 @@
-//! The reading of RFC 3339.
+//! The readings of RFC 3339: the numbers of a text, and the moment that it names.
 #![tactic(auto)]
 
 mod direct;
 pub mod laws;
+mod parts;
 mod reading;
-mod written;
 
-pub use direct::{read, read_quickly};
-pub use reading::front;
-pub use written::Written;
+pub use direct::{read_exact, read_fast};
+pub use parts::Rfc3339Parts;
+pub use reading::parse_prefix;

@@ -1,16 +1,14 @@
 //! Readings of the parts of a text.
-ghost use Rattle.std.specs.Prelude.{◌≡◌, ◌≤◌, ◌<◌, ℕ, Option, [], IfOk, IfErr, IfSome, Ok, true, false};
-ghost use Rattle.std.specs.Option.{unwrap_or};
+ghost use Rattle.std.specs.Prelude.{◌≡◌, ◌≤◌, ◌<◌, IfOk, IfErr, IfSome, Ok, true, false};
 ghost use Rattle.parsing_pieces.specs.FaultOf.{Gives, reading_fault};
 ghost use Rattle.parsing_pieces.specs.Pieces.{rest_view};
 ghost use Rattle.parsing_pieces.specs.ShortName.{HasShortName};
 ghost use Rattle.parsing_pieces.specs.Tame.{EndsWith};
-ghost use Rattle.parsing_pieces.specs.declared.zone.Zone.{Zone};
-ghost use Rattle.parsing_resolution.specs.Resolution.{signed_offset_of};
+ghost use Rattle.parsing_rfc3339.specs.Fast.{IsAllOffset, ReadsNanosecond};
 ghost use Rattle.parsing_rfc3339.specs.Range.{AreInRange};
 ghost use Rattle.parsing_rfc3339.specs.Reading as Reading;
 
-use crate::written::Written;
+use crate::parts::Rfc3339Parts;
 use calendar::UtcOffset;
 use parsing_pieces::ParseFromDescription::{self, InvalidComponent, InvalidLiteral};
 use parsing_pieces::{
@@ -21,7 +19,7 @@ use parsing_resolution::resolve;
 // The date at the front, where no piece of it is missing.
 #[tactic(auto, unfolding(crate::specs::Reading::date))]
 #[inline(always)]
-pub(crate) fn quick_date(bytes: &[u8]) -> Option<((u16, u8, u8), &[u8])>
+pub(crate) fn fast_date(bytes: &[u8]) -> Option<((u16, u8, u8), &[u8])>
     ensures { IfSome result (λ x. Reading.date false bytes.now ≡ Ok (x.0, x.1.now)) }
 {
     let ((year, month), rest) = year_month(bytes)?;
@@ -74,7 +72,7 @@ fn clock(is_strict: bool, bytes: &[u8]) -> Result<((u8, u8, u8), &[u8]), ParseFr
 // The time of day to the second at the front, where no piece of it is missing.
 #[tactic(auto, unfolding(crate::specs::Reading::clock))]
 #[inline(always)]
-pub(crate) fn quick_clock(bytes: &[u8]) -> Option<((u8, u8, u8), &[u8])>
+pub(crate) fn fast_clock(bytes: &[u8]) -> Option<((u8, u8, u8), &[u8])>
     ensures { IfSome result (λ x. Reading.clock false bytes.now ≡ Ok (x.0, x.1.now)) }
 {
     parsing_pieces::clock(bytes)
@@ -96,8 +94,8 @@ fn subsecond(bytes: &[u8]) -> Result<(Option<u32>, &[u8]), ParseFromDescription>
 // The nanoseconds of the fraction at the front, and 0 where none stands there.
 #[tactic(auto, unfolding(crate::specs::Reading::subsecond, crate::specs::Reading::due_fraction))]
 #[inline(always)]
-pub(crate) fn quick_subsecond(bytes: &[u8]) -> Option<(u32, &[u8])>
-    ensures { IfSome result (λ x. (written : Option ℕ) × (Reading.subsecond bytes.now ≡ Ok (written, x.1.now)) × (unwrap_or written 0 ≡ x.0)) }
+pub(crate) fn fast_subsecond(bytes: &[u8]) -> Option<(u32, &[u8])>
+    ensures { IfSome result (λ x. ReadsNanosecond bytes.now x.0 x.1.now) }
 {
     match byte(b'.', bytes) {
         Some(rest) => fraction(rest),
@@ -119,7 +117,8 @@ fn zulu(bytes: &[u8]) -> Option<&[u8]>
 #[tactic(auto, unfolding(crate::specs::Reading::signed_offset))]
 #[inline(always)]
 fn signed_offset(is_strict: bool, bytes: &[u8]) -> Result<(Zone, &[u8]), ParseFromDescription>
-    ensures gives { Gives (λ x. (x.0, x.1.now)) reading_fault result (Reading.signed_offset is_strict bytes.now) }
+    ensures gives { Gives (λ x. (x.0, x.1.now)) reading_fault result
+        (Reading.signed_offset is_strict bytes.now) }
     ensures hours { IfOk result (λ x. x.0.hours ≤ 23) }
     ensures minutes { IfOk result (λ x. x.0.minutes < 100) }
 {
@@ -145,7 +144,8 @@ fn signed_offset(is_strict: bool, bytes: &[u8]) -> Result<(Zone, &[u8]), ParseFr
 #[tactic(auto, unfolding(crate::specs::Reading::offset))]
 #[inline(always)]
 fn offset(is_strict: bool, bytes: &[u8]) -> Result<(Zone, &[u8]), ParseFromDescription>
-    ensures gives { Gives (λ x. (x.0, x.1.now)) reading_fault result (Reading.offset is_strict bytes.now) }
+    ensures gives { Gives (λ x. (x.0, x.1.now)) reading_fault result
+        (Reading.offset is_strict bytes.now) }
     ensures hours { IfOk result (λ x. x.0.hours ≤ 23) }
     ensures minutes { IfOk result (λ x. x.0.minutes < 100) }
 {
@@ -163,8 +163,8 @@ fn offset(is_strict: bool, bytes: &[u8]) -> Result<(Zone, &[u8]), ParseFromDescr
 
 // The signed offset that is all that is there, where its numbers are in range.
 #[inline(always)]
-fn quick_signed_offset(bytes: &[u8]) -> Option<UtcOffset>
-    ensures { IfSome result (λ o. (zone : Zone) × (Reading.signed_offset false bytes.now ≡ Ok (zone, [])) × (signed_offset_of zone.is_negative zone.hours zone.minutes ≡ Ok o)) }
+fn fast_signed_offset(bytes: &[u8]) -> Option<UtcOffset>
+    ensures { IfSome result (IsAllOffset (Reading.signed_offset false bytes.now)) }
 {
     if bytes.len() != 6 {
         return None;
@@ -186,11 +186,11 @@ fn quick_signed_offset(bytes: &[u8]) -> Option<UtcOffset>
 // It is handed on as a value: a `Zone` of either branch would be packed into a word and taken apart again.
 #[tactic(auto, unfolding(crate::specs::Reading::offset))]
 #[inline(always)]
-pub(crate) fn quick_offset(bytes: &[u8]) -> Option<UtcOffset>
-    ensures { IfSome result (λ o. (zone : Zone) × (Reading.offset false bytes.now ≡ Ok (zone, [])) × (signed_offset_of zone.is_negative zone.hours zone.minutes ≡ Ok o)) }
+pub(crate) fn fast_offset(bytes: &[u8]) -> Option<UtcOffset>
+    ensures { IfSome result (IsAllOffset (Reading.offset false bytes.now)) }
 {
     let Some(rest) = zulu(bytes) else {
-        return quick_signed_offset(bytes);
+        return fast_signed_offset(bytes);
     };
     if !rest.is_empty() {
         return None;
@@ -199,8 +199,9 @@ pub(crate) fn quick_offset(bytes: &[u8]) -> Option<UtcOffset>
 }
 
 #[tactic(auto, unfolding(crate::specs::Reading::rfc3339))]
-fn parts(is_strict: bool, bytes: &[u8]) -> Result<(Written, &[u8]), ParseFromDescription>
-    ensures gives { Gives (λ x. (x.0, x.1.now)) reading_fault result (Reading.rfc3339 is_strict bytes.now) }
+fn parts(is_strict: bool, bytes: &[u8]) -> Result<(Rfc3339Parts, &[u8]), ParseFromDescription>
+    ensures gives { Gives (λ x. (x.0, x.1.now)) reading_fault result
+        (Reading.rfc3339 is_strict bytes.now) }
     ensures subsecond { IfOk result (λ x. IfSome x.0.subsecond (λ n. n < 1_000_000_000)) }
     ensures hours { IfOk result (λ x. x.0.zone.hours ≤ 23) }
     ensures minutes { IfOk result (λ x. x.0.zone.minutes < 100) }
@@ -210,7 +211,7 @@ fn parts(is_strict: bool, bytes: &[u8]) -> Result<(Written, &[u8]), ParseFromDes
     let ((hour, minute, second), rest) = clock(is_strict, rest)?;
     let (subsecond, rest) = subsecond(rest)?;
     let (zone, rest) = offset(is_strict, rest)?;
-    let written = Written {
+    let parts = Rfc3339Parts {
         year,
         month,
         day,
@@ -220,14 +221,18 @@ fn parts(is_strict: bool, bytes: &[u8]) -> Result<(Written, &[u8]), ParseFromDes
         subsecond,
         zone,
     };
-    Ok((written, rest))
+    Ok((parts, rest))
 }
 
 /// The numbers at the front of the bytes, and the rest, piece by piece: RFC 3339, section 5.6.
 ///
 /// A strict reading refuses each number out of range where it stands. Each fault names the part that can't be read.
-pub fn front(is_strict: bool, bytes: &[u8]) -> Result<(Written, &[u8]), ParseFromDescription>
-    ensures gives { Gives (λ x. (x.0, x.1.now)) reading_fault result (Reading.rfc3339 is_strict bytes.now) }
+pub fn parse_prefix(
+    is_strict: bool,
+    bytes: &[u8],
+) -> Result<(Rfc3339Parts, &[u8]), ParseFromDescription>
+    ensures gives { Gives (λ x. (x.0, x.1.now)) reading_fault result
+        (Reading.rfc3339 is_strict bytes.now) }
     ensures range { is_strict ≡ true → IfOk result (λ x. AreInRange x.0) }
     ensures subsecond { IfOk result (λ x. IfSome x.0.subsecond (λ n. n < 1_000_000_000)) }
     ensures hours { IfOk result (λ x. x.0.zone.hours ≤ 23) }

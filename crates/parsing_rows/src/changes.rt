@@ -14,39 +14,41 @@ fn is_same(one: &Result<OffsetDateTime, Parse>, other: &Result<OffsetDateTime, P
     }
 }
 
-// Whether the shortest way finds that moment, or nothing.
-fn is_found(quick: Option<OffsetDateTime>, answer: &Result<OffsetDateTime, Parse>) -> bool {
-    match (quick, answer) {
+// Whether the fast way finds that moment, or nothing.
+fn is_found(fast: Option<OffsetDateTime>, answer: &Result<OffsetDateTime, Parse>) -> bool {
+    match (fast, answer) {
         (None, _) => true,
         (Some(moment), Ok(same)) => moment == *same,
         _ => false,
     }
 }
 
-// Whether the format is read alike with a record and without one, and the shortest way finds nothing else.
+// Whether the format is read alike with a record and without one.
 fn is_read_alike<F: TwoRoads>(format: &F, input: &[u8]) -> bool {
     let direct = format.read_direct(input);
-    is_same(&direct, &format.read_staged(input, Parsed::new()))
+    is_same(&direct, &format.read_staged(input, Some(Parsed::new())))
         && direct == format.parse_offset_date_time(input, None)
-        && is_found(format.read_quickly(input), &direct)
 }
 
 // Whether a text is read by RFC 2822 or ISO 8601, or the ways to read it differ.
 fn holds(call: &str, input: &[u8]) -> Result<bool, RowFault> {
     match call {
-        "rfc2822" => Ok(parsing_rfc2822::read(input).is_ok()),
-        "iso8601" => Ok(parsing_iso8601::read(input).is_ok()),
+        "rfc2822" => Ok(Rfc2822.read_direct(input).is_ok()),
+        "iso8601" => Ok(Iso8601.parse_offset_date_time(input, None).is_ok()),
         "differ" => Ok(!is_all_alike(input)),
         _ => Err(RowFault::NoRow),
     }
 }
 
 fn is_all_alike(input: &[u8]) -> bool {
-    let answer = parsing_iso8601::read(input);
+    let rfc3339 = parsing_rfc3339::read_exact(input);
+    let rfc2822 = parsing_rfc2822::read_exact(input);
+    let iso8601 = Iso8601.parse_offset_date_time(input, None);
     is_read_alike(&Rfc3339, input)
         && is_read_alike(&Rfc2822, input)
-        && answer == Iso8601.parse_offset_date_time(input, None)
-        && is_found(parsing_iso8601::read_quickly(input), &answer)
+        && is_found(parsing_rfc3339::read_fast(input), &rfc3339)
+        && is_found(parsing_rfc2822::read_fast(input), &rfc2822)
+        && is_found(parsing_iso8601::read_fast(input), &iso8601)
 }
 
 /// Of how many fronts of the text, without itself, this holds.

@@ -1,9 +1,9 @@
 //! Rows of the formats: `rfc2822 moment | 32 Jan 2021 00:00 GMT x => ! trailing`. Beside the calls of `Parsable`, `read`
-//! is the reading without a record, whose fault is told as it is printed, and `quickly` its shortest way.
+//! is the reading without a record, whose fault is told as it is printed, and `fast` its fast way.
 
 use crate::calls::tell_call;
 use crate::row_fault::Told;
-use parsing::{Iso8601, Rfc2822, Rfc3339, TwoRoads, is_valid_leap_second_stand_in};
+use parsing::{Iso8601, Parsable, Rfc2822, Rfc3339, TwoRoads, is_valid_leap_second_stand_in};
 use std::fmt::{Debug, Display};
 
 // A value or a fault, as it is printed.
@@ -37,10 +37,10 @@ pub fn tell_rfc3339(told: &mut String, call: &str, input: &[u8]) -> Told {
 /// `strict` and `lax` are what a front says.
 pub fn tell_rfc2822(told: &mut String, call: &str, input: &[u8]) -> Told {
     match call {
-        "read" => tell_printed(told, &parsing_rfc2822::read(input)),
-        "quickly" => tell_printed(told, &parsing_rfc2822::read_quickly(input).ok_or("none")),
-        "strict" => tell_parts(told, &parsing_rfc2822::front(true, input)),
-        "lax" => tell_parts(told, &parsing_rfc2822::front(false, input)),
+        "read" => tell_printed(told, &Rfc2822.read_direct(input)),
+        "fast" => tell_printed(told, &parsing_rfc2822::read_fast(input).ok_or("none")),
+        "strict" => tell_parts(told, &parsing_rfc2822::parse_prefix(true, input)),
+        "lax" => tell_parts(told, &parsing_rfc2822::parse_prefix(false, input)),
         _ => tell_call(told, &Rfc2822, call, input),
     }
 }
@@ -48,9 +48,9 @@ pub fn tell_rfc2822(told: &mut String, call: &str, input: &[u8]) -> Told {
 /// `parts` are what a front says.
 pub fn tell_iso8601(told: &mut String, call: &str, input: &[u8]) -> Told {
     match call {
-        "read" => tell_printed(told, &parsing_iso8601::read(input)),
-        "quickly" => tell_printed(told, &parsing_iso8601::read_quickly(input).ok_or("none")),
-        "parts" => tell_parts(told, &parsing_iso8601::front(input)),
+        "read" => tell_printed(told, &Iso8601.parse_offset_date_time(input, None)),
+        "fast" => tell_printed(told, &parsing_iso8601::read_fast(input).ok_or("none")),
+        "parts" => tell_parts(told, &parsing_iso8601::parse_prefix(input)),
         _ => tell_call(told, &&Iso8601, call, input),
     }
 }

@@ -8,7 +8,7 @@ ghost use Rattle.parsing_iso8601.specs.Ranges.{AreInRange, IsDateInRange, IsTime
 ghost use Rattle.parsing_staged.specs.Put as Put;
 ghost use Rattle.parsing_staged.specs.Staged as Staged;
 
-use parsing_iso8601::{Written, WrittenDate, WrittenOffset, WrittenTime, front};
+use parsing_iso8601::{Iso8601Parts, WrittenDate, WrittenOffset, WrittenTime, parse_prefix};
 use parsing_pieces::ParseFromDescription;
 use parsing_record::Parsed;
 
@@ -56,18 +56,18 @@ fn set_offset(offset: WrittenOffset, parsed: &mut Parsed)
 }
 
 // Sets all that a text says.
-fn set_written(written: &Written, parsed: &mut Parsed)
-    requires { AreInRange written.now }
-    ensures { parsed.new ≡ Put.put_iso8601 written.now parsed.old }
+fn set_parts(parts: &Iso8601Parts, parsed: &mut Parsed)
+    requires { AreInRange parts.now }
+    ensures { parsed.new ≡ Put.put_iso8601 parts.now parsed.old }
 {
     parsed.permit_leap_second();
-    if let Some(date) = written.date {
+    if let Some(date) = parts.date {
         set_date(date, parsed);
     }
-    if let Some(time) = written.time {
+    if let Some(time) = parts.time {
         set_time(time, parsed);
     }
-    if let Some(offset) = written.offset {
+    if let Some(offset) = parts.offset {
         set_offset(offset, parsed);
     }
 }
@@ -86,7 +86,7 @@ pub fn read_iso8601<'a>(
     ensures end { IfOk result (λ rest. EndsWith input.now rest.now) }
     ensures short_name { IfErr result (λ e. HasShortName (reading_fault e)) }
 {
-    let (written, rest) = front(input)?;
-    set_written(&written, parsed);
+    let (parts, rest) = parse_prefix(input)?;
+    set_parts(&parts, parsed);
     Ok(rest)
 }

@@ -11,25 +11,25 @@ ghost use Rattle.parsing_staged.specs.Staged as Staged;
 use crate::zone::set_zone;
 use parsing_pieces::ParseFromDescription;
 use parsing_record::Parsed;
-use parsing_rfc2822::{Written, front};
+use parsing_rfc2822::{Rfc2822Parts, parse_prefix};
 
 // Sets all that a text says.
-fn set_written(written: &Written, parsed: &mut Parsed)
-    requires { AreInRange written.now }
-    ensures { parsed.new ≡ Put.put_rfc2822 written.now parsed.old }
+fn set_parts(parts: &Rfc2822Parts, parsed: &mut Parsed)
+    requires { AreInRange parts.now }
+    ensures { parsed.new ≡ Put.put_rfc2822 parts.now parsed.old }
 {
-    if let Some(weekday) = written.weekday {
+    if let Some(weekday) = parts.weekday {
         parsed.set_weekday(weekday);
     }
-    parsed.set_day(written.day);
-    parsed.set_month(written.month);
-    parsed.set_year(i32::from(written.year));
-    parsed.set_hour_24(written.hour);
-    parsed.set_minute(written.minute);
-    if let Some(second) = written.second {
+    parsed.set_day(parts.day);
+    parsed.set_month(parts.month);
+    parsed.set_year(i32::from(parts.year));
+    parsed.set_hour_24(parts.hour);
+    parsed.set_minute(parts.minute);
+    if let Some(second) = parts.second {
         parsed.set_second(second);
     }
-    set_zone(written.zone, parsed);
+    set_zone(parts.zone, parsed);
     parsed.permit_leap_second();
 }
 
@@ -46,7 +46,7 @@ pub fn read_rfc2822<'a>(
     ensures end { IfOk result (λ rest. EndsWith input.now rest.now) }
     ensures short_name { IfErr result (λ e. HasShortName (reading_fault e)) }
 {
-    let (written, rest) = front(true, input)?;
-    set_written(&written, parsed);
+    let (parts, rest) = parse_prefix(true, input)?;
+    set_parts(&parts, parsed);
     Ok(rest)
 }

@@ -12,24 +12,24 @@ use crate::zone::set_zone;
 use calendar_count::Month;
 use parsing_pieces::ParseFromDescription;
 use parsing_record::Parsed;
-use parsing_rfc3339::{Written, front};
+use parsing_rfc3339::{Rfc3339Parts, parse_prefix};
 
 // Sets all that a text says.
-fn set_written(written: &Written, parsed: &mut Parsed)
-    requires range { AreInRange written.now }
-    requires subsecond { IfSome written.now.subsecond (λ n. n < 1_000_000_000) }
-    ensures { parsed.new ≡ Put.put_rfc3339 written.now parsed.old }
+fn set_parts(parts: &Rfc3339Parts, parsed: &mut Parsed)
+    requires range { AreInRange parts.now }
+    requires subsecond { IfSome parts.now.subsecond (λ n. n < 1_000_000_000) }
+    ensures { parsed.new ≡ Put.put_rfc3339 parts.now parsed.old }
 {
-    parsed.set_year(i32::from(written.year));
-    parsed.set_month(Month::from_number(written.month));
-    parsed.set_day(written.day);
-    parsed.set_hour_24(written.hour);
-    parsed.set_minute(written.minute);
-    parsed.set_second(written.second);
-    if let Some(nanosecond) = written.subsecond {
+    parsed.set_year(i32::from(parts.year));
+    parsed.set_month(Month::from_number(parts.month));
+    parsed.set_day(parts.day);
+    parsed.set_hour_24(parts.hour);
+    parsed.set_minute(parts.minute);
+    parsed.set_second(parts.second);
+    if let Some(nanosecond) = parts.subsecond {
         parsed.set_subsecond(nanosecond);
     }
-    set_zone(written.zone, parsed);
+    set_zone(parts.zone, parsed);
     parsed.permit_leap_second();
 }
 
@@ -46,7 +46,7 @@ pub fn read_rfc3339<'a>(
     ensures end { IfOk result (λ rest. EndsWith input.now rest.now) }
     ensures short_name { IfErr result (λ e. HasShortName (reading_fault e)) }
 {
-    let (written, rest) = front(true, input)?;
-    set_written(&written, parsed);
+    let (parts, rest) = parse_prefix(true, input)?;
+    set_parts(&parts, parsed);
     Ok(rest)
 }

@@ -1,9 +1,8 @@
 //! Reading by one item.
 ghost use Rattle.description_items.specs.Tree.{tree_of};
 ghost use Rattle.parsing_components.specs.Component.{reads_component};
-ghost use Rattle.parsing_record.specs.Meaning.{meaning};
 ghost use Rattle.parsing_record.specs.Reads.{reads};
-ghost use Rattle.parsing_record.specs.Whole.{whole, names, moment_named};
+ghost use Rattle.parsing_trait.specs.Moment.{moment_by};
 
 use crate::parsable::Parsable;
 use datetime_types::OffsetDateTime;
@@ -14,7 +13,7 @@ use parsing_record::{ItemTally, Parsed};
 impl Parsable for BorrowedFormatItem<'_> {
     ghost reading = { λ item. reads reads_component (tree_of item) };
 
-    ghost moment = { λ item defaults bytes. names moment_named (whole (meaning (reads reads_component (tree_of item))) defaults bytes) };
+    ghost moment = { λ item. moment_by (reads reads_component (tree_of item)) };
 
     fn parse_into<'a>(&self, input: &'a [u8], parsed: &mut Parsed) -> Result<&'a [u8], Parse> {
         Ok(parsed.parse_item(input, self)?)
@@ -37,9 +36,6 @@ impl Parsable for BorrowedFormatItem<'_> {
         input: &[u8],
         defaults: Option<Parsed>,
     ) -> Result<OffsetDateTime, Parse> {
-        match self.parse_internal(input, defaults) {
-            Ok(parsed) => Ok(OffsetDateTime::try_from(parsed)?),
-            Err(fault) => Err(fault),
-        }
+        self.read_staged(input, defaults)
     }
 }

@@ -1,9 +1,6 @@
 //! Reading by items, one behind the other.
-ghost use Rattle.description_items.specs.Tree.{trees, listed};
-ghost use Rattle.parsing_components.specs.Component.{reads_component};
-ghost use Rattle.parsing_record.specs.Meaning.{all_of, meaning};
-ghost use Rattle.parsing_record.specs.Reads.{each_reads};
-ghost use Rattle.parsing_record.specs.Whole.{whole, names, moment_named};
+ghost use Rattle.description_items.specs.Tree.{trees};
+ghost use Rattle.parsing_trait.specs.Moment.{moment_by, reads_in_turn};
 
 use crate::parsable::Parsable;
 use datetime_types::OffsetDateTime;
@@ -19,9 +16,9 @@ pub struct Items<'a>(
 );
 
 impl Parsable for Items<'_> {
-    ghost reading = { λ items. all_of (each_reads reads_component (listed (trees items.0.now))) };
+    ghost reading = { λ items. reads_in_turn (trees items.0.now) };
 
-    ghost moment = { λ items defaults bytes. names moment_named (whole (meaning (all_of (each_reads reads_component (listed (trees items.0.now))))) defaults bytes) };
+    ghost moment = { λ items. moment_by (reads_in_turn (trees items.0.now)) };
 
     fn parse_into<'a>(&self, input: &'a [u8], parsed: &mut Parsed) -> Result<&'a [u8], Parse> {
         Ok(parsed.parse_items(input, self.0)?)
@@ -44,9 +41,6 @@ impl Parsable for Items<'_> {
         input: &[u8],
         defaults: Option<Parsed>,
     ) -> Result<OffsetDateTime, Parse> {
-        match self.parse_internal(input, defaults) {
-            Ok(parsed) => Ok(OffsetDateTime::try_from(parsed)?),
-            Err(fault) => Err(fault),
-        }
+        self.read_staged(input, defaults)
     }
 }

@@ -1,9 +1,8 @@
 //! Reading by a tree of version 3.
 ghost use Rattle.description_tree.specs.Description.{v3_tree};
 ghost use Rattle.parsing_components.specs.Component.{reads_component_v3};
-ghost use Rattle.parsing_record.specs.Meaning.{meaning};
 ghost use Rattle.parsing_record.specs.Reads.{reads};
-ghost use Rattle.parsing_record.specs.Whole.{whole, names, moment_named};
+ghost use Rattle.parsing_trait.specs.Moment.{moment_by};
 
 use crate::parsable::Parsable;
 use datetime_types::OffsetDateTime;
@@ -15,7 +14,7 @@ use parsing_trees::parse_tree;
 impl Parsable for FormatDescriptionV3<'_> {
     ghost reading = { λ description. reads reads_component_v3 (v3_tree description) };
 
-    ghost moment = { λ description defaults bytes. names moment_named (whole (meaning (reads reads_component_v3 (v3_tree description))) defaults bytes) };
+    ghost moment = { λ description. moment_by (reads reads_component_v3 (v3_tree description)) };
 
     fn parse_into<'a>(&self, input: &'a [u8], parsed: &mut Parsed) -> Result<&'a [u8], Parse> {
         Ok(parse_tree(self, input, parsed, &mut NoTally)?)
@@ -38,9 +37,6 @@ impl Parsable for FormatDescriptionV3<'_> {
         input: &[u8],
         defaults: Option<Parsed>,
     ) -> Result<OffsetDateTime, Parse> {
-        match self.parse_internal(input, defaults) {
-            Ok(parsed) => Ok(OffsetDateTime::try_from(parsed)?),
-            Err(fault) => Err(fault),
-        }
+        self.read_staged(input, defaults)
     }
 }

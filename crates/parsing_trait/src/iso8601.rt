@@ -1,7 +1,7 @@
 //! Reading by ISO 8601.
-ghost use Rattle.parsing_record.specs.Meaning.{alone, meaning};
+ghost use Rattle.parsing_record.specs.Meaning.{alone};
 ghost use Rattle.parsing_staged.specs.Staged.{reads_iso8601};
-ghost use Rattle.parsing_record.specs.Whole.{whole, names, moment_named};
+ghost use Rattle.parsing_trait.specs.Moment.{moment_by};
 
 use crate::parsable::Parsable;
 use datetime_types::OffsetDateTime;
@@ -13,7 +13,7 @@ use parsing_staged::read_iso8601;
 impl Parsable for Iso8601 {
     ghost reading = { λ _. alone reads_iso8601 };
 
-    ghost moment = { λ _ defaults bytes. names moment_named (whole (meaning (alone reads_iso8601)) defaults bytes) };
+    ghost moment = { λ _. moment_by (alone reads_iso8601) };
 
     fn parse_into<'a>(&self, input: &'a [u8], parsed: &mut Parsed) -> Result<&'a [u8], Parse> {
         Ok(read_iso8601(input, parsed)?)
@@ -32,9 +32,6 @@ impl Parsable for Iso8601 {
         input: &[u8],
         defaults: Option<Parsed>,
     ) -> Result<OffsetDateTime, Parse> {
-        match self.parse_internal(input, defaults) {
-            Ok(parsed) => Ok(OffsetDateTime::try_from(parsed)?),
-            Err(fault) => Err(fault),
-        }
+        self.read_staged(input, defaults)
     }
 }

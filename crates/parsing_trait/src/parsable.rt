@@ -1,19 +1,32 @@
 //! What bytes can be read by.
-ghost use Rattle.std.specs.Prelude.{◌≡◌, ℕ, List, Option, None, Result, min, IfOk, IfErr};
+ghost use Rattle.std.specs.Prelude.{◌≡◌, ℕ, List, None, Result, ◌<◌, length, min, IfOk, IfErr, OnOk, OnErr};
 ghost use Rattle.datetime_wall.specs.Wall.{Shown};
-ghost use Rattle.parsing_pieces.specs.Fault.{Fault};
+ghost use Rattle.parsing_pieces.specs.Fault.{Fault, trailing};
 ghost use Rattle.parsing_pieces.specs.FaultOf.{Gives, fault_of};
 ghost use Rattle.parsing_pieces.specs.ShortName.{HasShortName};
 ghost use Rattle.parsing_pieces.specs.Tame.{EndsWith};
-ghost use Rattle.parsing_record.specs.Record.{Record};
 ghost use Rattle.parsing_record.specs.Meaning.{Counted, meaning};
 ghost use Rattle.parsing_record.specs.Tally.{greatest_count};
-ghost use Rattle.parsing_record.specs.Whole.{ReadsInto, whole, names, date_named, time_named, offset_named, wall_named, utc_named, timestamp_named};
+ghost use Rattle.parsing_record.specs.Whole.{ReadsInto, whole, names, date_named, time_named, offset_named, wall_named, utc_named, timestamp_named, moment_named, by_roads};
 
 use calendar::{Date, Time, UtcOffset};
 use datetime_types::{OffsetDateTime, PlainDateTime, Timestamp, UtcDateTime};
 use parsing_pieces::{Parse, ParseFromDescription};
 use parsing_record::Parsed;
+
+// Refuses what follows.
+#[inline(always)]
+fn ended(rest: &[u8]) -> Result<(), Parse>
+    ensures nothing { OnOk result (length rest.now ≡ 0) }
+    ensures some { OnErr result (0 < length rest.now) }
+    ensures fault { IfErr result (λ e. fault_of e ≡ trailing) }
+{
+    if rest.is_empty() {
+        Ok(())
+    } else {
+        Err(ParseFromDescription::UnexpectedTrailingCharacters.into())
+    }
+}
 
 /// A description or a format that bytes are read by.
 ///
@@ -24,12 +37,14 @@ pub trait Parsable {
     // From a record and bytes a record and the rest, or a fault, and how many items were begun.
     ghost reading: { Self → Counted };
 
-    // The moment that all of the bytes name, with these defaults.
-    ghost moment: { Self → Option Record → List ℕ → Result Shown Fault };
+    // The moment that all of the bytes name where there are no defaults: that of the record which they set, but for a
+    // format with a reading of its own.
+    ghost moment: { Self → List ℕ → Result Shown Fault };
 
     /// Reads the front of the bytes into the record, and returns the rest. A refusal leaves the record as it was.
     fn parse_into<'a>(&self, input: &'a [u8], parsed: &mut Parsed) -> Result<&'a [u8], Parse>
-        ensures reads { ReadsInto result parsed.old parsed.new (reading self.now parsed.old input.now).0 }
+        ensures reads { ReadsInto result parsed.old parsed.new
+            (reading self.now parsed.old input.now).0 }
         ensures end { IfOk result (λ rest. EndsWith input.now rest.now) }
         ensures short_name { IfErr result (λ e. HasShortName (fault_of e)) };
 
@@ -39,7 +54,8 @@ pub trait Parsable {
         input: &'a [u8],
         parsed: &mut Parsed,
     ) -> (Result<&'a [u8], Parse>, u128)
-        ensures reads { ReadsInto result.0 parsed.old parsed.new (reading self.now parsed.old input.now).0 }
+        ensures reads { ReadsInto result.0 parsed.old parsed.new
+            (reading self.now parsed.old input.now).0 }
         ensures tried { result.1 ≡ min (reading self.now parsed.old input.now).1 greatest_count }
         ensures end { IfOk result.0 (λ rest. EndsWith input.now rest.now) }
         ensures short_name { IfErr result.0 (λ e. HasShortName (fault_of e)) };
@@ -48,23 +64,22 @@ pub trait Parsable {
     /// `UnexpectedTrailingCharacters`.
     #[tactic(auto, unfolding(parsing_record::specs::Whole::whole))]
     fn parse_internal(&self, input: &[u8], defaults: Option<Parsed>) -> Result<Parsed, Parse>
-        ensures record { Gives (λ r. r) fault_of result (whole (meaning (reading self.now)) defaults input.now) }
+        ensures record { Gives (λ r. r) fault_of result
+            (whole (meaning (reading self.now)) defaults input.now) }
         ensures short_name { IfErr result (λ e. HasShortName (fault_of e)) }
     {
         let mut parsed = match defaults {
             Some(defaults) => defaults,
             None => Parsed::new(),
         };
-        let rest = self.parse_into(input, &mut parsed)?;
-        if !rest.is_empty() {
-            return Err(ParseFromDescription::UnexpectedTrailingCharacters.into());
-        }
+        ended(self.parse_into(input, &mut parsed)?)?;
         Ok(parsed)
     }
 
     /// Reads all of the bytes into a record, without defaults.
     fn parse(&self, input: &[u8]) -> Result<Parsed, Parse>
-        ensures record { Gives (λ r. r) fault_of result (whole (meaning (reading self.now)) None input.now) }
+        ensures record { Gives (λ r. r) fault_of result
+            (whole (meaning (reading self.now)) None input.now) }
         ensures short_name { IfErr result (λ e. HasShortName (fault_of e)) }
     {
         self.parse_internal(input, None)
@@ -73,7 +88,8 @@ pub trait Parsable {
     /// The date that all of the bytes name. A year and the day in it count first, then a year, a month and a day,
     /// then the weeks: of ISO 8601, from Sunday, from Monday.
     fn parse_date(&self, input: &[u8], defaults: Option<Parsed>) -> Result<Date, Parse>
-        ensures value { Gives (λ value. value) fault_of result (names date_named (whole (meaning (reading self.now)) defaults input.now)) }
+        ensures value { Gives (λ value. value) fault_of result
+            (names date_named (whole (meaning (reading self.now)) defaults input.now)) }
         ensures short_name { IfErr result (λ e. HasShortName (fault_of e)) }
     {
         match self.parse_internal(input, defaults) {
@@ -85,7 +101,8 @@ pub trait Parsable {
     /// The time of day that all of the bytes name: its hour has to be said, and what is finer than the last part said
     /// is 0. Second 60 is out of range.
     fn parse_time(&self, input: &[u8], defaults: Option<Parsed>) -> Result<Time, Parse>
-        ensures value { Gives (λ value. value) fault_of result (names time_named (whole (meaning (reading self.now)) defaults input.now)) }
+        ensures value { Gives (λ value. value) fault_of result
+            (names time_named (whole (meaning (reading self.now)) defaults input.now)) }
         ensures short_name { IfErr result (λ e. HasShortName (fault_of e)) }
     {
         match self.parse_internal(input, defaults) {
@@ -96,7 +113,8 @@ pub trait Parsable {
 
     /// The offset that all of the bytes name: its hour has to be said, minutes and seconds that are not are 0.
     fn parse_offset(&self, input: &[u8], defaults: Option<Parsed>) -> Result<UtcOffset, Parse>
-        ensures value { Gives (λ value. value) fault_of result (names offset_named (whole (meaning (reading self.now)) defaults input.now)) }
+        ensures value { Gives (λ value. value) fault_of result
+            (names offset_named (whole (meaning (reading self.now)) defaults input.now)) }
         ensures short_name { IfErr result (λ e. HasShortName (fault_of e)) }
     {
         match self.parse_internal(input, defaults) {
@@ -112,7 +130,8 @@ pub trait Parsable {
         input: &[u8],
         defaults: Option<Parsed>,
     ) -> Result<PlainDateTime, Parse>
-        ensures value { Gives (λ value. value) fault_of result (names wall_named (whole (meaning (reading self.now)) defaults input.now)) }
+        ensures value { Gives (λ value. value) fault_of result
+            (names wall_named (whole (meaning (reading self.now)) defaults input.now)) }
         ensures short_name { IfErr result (λ e. HasShortName (fault_of e)) }
     {
         match self.parse_internal(input, defaults) {
@@ -128,7 +147,8 @@ pub trait Parsable {
         input: &[u8],
         defaults: Option<Parsed>,
     ) -> Result<UtcDateTime, Parse>
-        ensures value { Gives (λ value. value) fault_of result (names utc_named (whole (meaning (reading self.now)) defaults input.now)) }
+        ensures value { Gives (λ value. value) fault_of result
+            (names utc_named (whole (meaning (reading self.now)) defaults input.now)) }
         ensures short_name { IfErr result (λ e. HasShortName (fault_of e)) }
     {
         match self.parse_internal(input, defaults) {
@@ -140,7 +160,8 @@ pub trait Parsable {
     /// The instant that all of the bytes name: of Unix time, or of a date, a time of day and an offset. Where it is
     /// of these, any refusal but one of reading is `InsufficientInformation`.
     fn parse_timestamp(&self, input: &[u8], defaults: Option<Parsed>) -> Result<Timestamp, Parse>
-        ensures value { Gives (λ value. value) fault_of result (names timestamp_named (whole (meaning (reading self.now)) defaults input.now)) }
+        ensures value { Gives (λ value. value) fault_of result
+            (names timestamp_named (whole (meaning (reading self.now)) defaults input.now)) }
         ensures short_name { IfErr result (λ e. HasShortName (fault_of e)) }
     {
         match self.parse_internal(input, defaults) {
@@ -149,14 +170,34 @@ pub trait Parsable {
         }
     }
 
-    /// The moment that all of the bytes name, with its offset: of Unix time, at offset zero, or of a date, a time of
-    /// day and an offset. Second 60 of a well-known format stands for the last nanosecond before it, and has to end a
-    /// month in UTC.
+    /// The moment, with its offset, of the record that all of the bytes set: of Unix time, at offset zero, or of a date, a
+    /// time of day and an offset. The record is not copied.
+    #[inline(always)]
+    #[tactic(auto, unfolding(parsing_record::specs::Whole::whole))]
+    fn read_staged(&self, input: &[u8], defaults: Option<Parsed>) -> Result<OffsetDateTime, Parse>
+        ensures value { Gives (λ value. value) fault_of result
+            (names moment_named (whole (meaning (reading self.now)) defaults input.now)) }
+        ensures short_name { IfErr result (λ e. HasShortName (fault_of e)) }
+    {
+        let mut parsed = match defaults {
+            Some(defaults) => defaults,
+            None => Parsed::new(),
+        };
+        ended(self.parse_into(input, &mut parsed)?)?;
+        Ok(parsed.offset_date_time()?)
+    }
+
+    /// The moment that all of the bytes name, with its offset. Second 60 of a well-known format stands for the last
+    /// nanosecond before it, and has to end a month in UTC.
+    ///
+    /// It is `read_staged`, but that `Rfc2822` and `Rfc3339` read a text without defaults by no record: a refusal is
+    /// then the first one in the order that `TwoRoads::read_direct` says.
     fn parse_offset_date_time(
         &self,
         input: &[u8],
         defaults: Option<Parsed>,
     ) -> Result<OffsetDateTime, Parse>
-        ensures value { Gives (λ value. value) fault_of result (moment self.now defaults input.now) }
+        ensures value { Gives (λ value. value) fault_of result
+            (by_roads (moment self.now) (meaning (reading self.now)) defaults input.now) }
         ensures short_name { IfErr result (λ e. HasShortName (fault_of e)) };
 }

@@ -1,8 +1,7 @@
 //! Reading by RFC 2822.
-ghost use Rattle.parsing_record.specs.Meaning.{alone, meaning};
+ghost use Rattle.parsing_record.specs.Meaning.{alone};
 ghost use Rattle.parsing_rfc2822.specs.Direct.{direct};
 ghost use Rattle.parsing_staged.specs.Staged.{reads_rfc2822};
-ghost use Rattle.parsing_record.specs.Whole.{by_roads};
 
 use crate::parsable::Parsable;
 use crate::two_roads::TwoRoads;
@@ -15,7 +14,7 @@ use parsing_staged::read_rfc2822;
 impl Parsable for Rfc2822 {
     ghost reading = { λ _. alone reads_rfc2822 };
 
-    ghost moment = { λ _. by_roads direct (meaning (alone reads_rfc2822)) };
+    ghost moment = { λ _. direct };
 
     fn parse_into<'a>(&self, input: &'a [u8], parsed: &mut Parsed) -> Result<&'a [u8], Parse> {
         Ok(read_rfc2822(input, parsed)?)
@@ -34,26 +33,19 @@ impl Parsable for Rfc2822 {
         input: &[u8],
         defaults: Option<Parsed>,
     ) -> Result<OffsetDateTime, Parse> {
-        let Some(defaults) = defaults else {
-            return parsing_rfc2822::read(input);
-        };
-        match self.parse_internal(input, Some(defaults)) {
-            Ok(parsed) => Ok(OffsetDateTime::try_from(parsed)?),
-            Err(fault) => Err(fault),
+        match defaults {
+            None => self.read_direct(input),
+            Some(_) => self.read_staged(input, defaults),
         }
     }
 }
 
 impl TwoRoads for Rfc2822 {
-    ghost direct = { λ _. direct };
-
     #[inline(always)]
     fn read_direct(&self, input: &[u8]) -> Result<OffsetDateTime, Parse> {
-        parsing_rfc2822::read(input)
-    }
-
-    #[inline(always)]
-    fn read_quickly(&self, input: &[u8]) -> Option<OffsetDateTime> {
-        parsing_rfc2822::read_quickly(input)
+        match parsing_rfc2822::read_fast(input) {
+            Some(moment) => Ok(moment),
+            None => parsing_rfc2822::read_exact(input),
+        }
     }
 }

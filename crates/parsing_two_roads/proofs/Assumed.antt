@@ -11,7 +11,7 @@ use Rattle.parsing_record.specs.Whole.{starting, whole, names, moment_named, by_
 use Rattle.parsing_rfc3339.specs.Direct.{direct}
 use Rattle.parsing_staged.specs.Staged.{reads_rfc3339, reads_iso8601}
 use Rattle.parsing_two_roads.specs.TwoRoads.{holding, staged, AgreeOn}
-use Rattle.parsing_two_roads.proofs.Iso8601.{from_unread}
+use Rattle.parsing_two_roads.proofs.Iso8601.{from_holding, from_unread}
 use Rattle.parsing_two_roads.specs.TwoFormats.{HoldsAtMostAnOffset, IsReadAlike, rounded}
 use Rattle.parsing_two_roads.proofs.Moments.{whole_alike}
 
@@ -40,13 +40,19 @@ named_directly bytes (Some r) m agree holds named =
     let a = assumed (Some r) holds in
     same_moment (direct bytes) _ m (agree a.hour a.minute) (sym (as_staged reads_rfc3339 (Some r) a bytes) ∙ named)
 
--- what the laws of the roads say decides it
-pub two_formats : (bytes : List ℕ) → AgreeOn direct reads_rfc3339 bytes → ((m : Shown) → IsOfOffset bytes m → (hour minute : Option ℤ) → staged reads_iso8601 (holding hour minute) bytes ≡ Ok m)
-    → (defaults : Option Record) → HoldsAtMostAnOffset defaults → (m : Shown) → by_roads direct reads_rfc3339 defaults bytes ≡ Ok m → IsReadAlike defaults bytes m
-two_formats bytes agree one_road defaults holds m named =
+-- the moment of a text with an offset is that of the record which the text sets
+pub one_road : (bytes : List ℕ) (m : Shown) → IsOfOffset bytes m → (defaults : Option Record) → HoldsAtMostAnOffset defaults → names moment_named (whole reads_iso8601 defaults bytes) ≡ Ok m
+one_road bytes m has_offset defaults holds =
     let a = assumed defaults holds in
+    as_staged reads_iso8601 defaults a bytes ∙ from_holding bytes m has_offset a.hour a.minute
+
+-- what the laws of the roads say decides it
+pub two_formats : (bytes : List ℕ) → AgreeOn direct reads_rfc3339 bytes
+    → ((m : Shown) → IsOfOffset bytes m → (defaults : Option Record) → HoldsAtMostAnOffset defaults → names moment_named (whole reads_iso8601 defaults bytes) ≡ Ok m)
+    → (defaults : Option Record) → HoldsAtMostAnOffset defaults → (m : Shown) → by_roads direct reads_rfc3339 defaults bytes ≡ Ok m → IsReadAlike defaults bytes m
+two_formats bytes agree one_way defaults holds m named =
     let alike = whole_alike bytes m (named_directly bytes defaults m agree holds named) in
     record {
-      named = λ both. as_staged reads_iso8601 defaults a bytes ∙ one_road (rounded bytes m) (alike.named both) a.hour a.minute;
+      named = λ both. one_way (rounded bytes m) (alike.named both) defaults holds;
       refused = λ neither. from_unread bytes (alike.unread neither) defaults;
     }

@@ -3,12 +3,12 @@ use Rattle.std.proofs.Common.{◌≡◌, ℕ, true, false, List, [], ◌∷◌, 
 use Rattle.std.specs.Option.{IsSome}
 use Rattle.std.specs.Result.{IsErr}
 use Rattle.datetime_wall.specs.Wall.{Shown}
-use Rattle.parsing_iso8601.specs.declared.written.Written.{Written}
+use Rattle.parsing_iso8601.specs.declared.written.Iso8601Parts.{Iso8601Parts}
 use Rattle.parsing_iso8601.specs.declared.written.WrittenDate.{WrittenDate}
 use Rattle.parsing_iso8601.specs.declared.written.WrittenDate.TheVariants.{OfMonth, OfYear, OfWeek}
 use Rattle.parsing_iso8601.specs.declared.written.WrittenTime.{WrittenTime}
 use Rattle.parsing_iso8601.specs.declared.written.WrittenOffset.{WrittenOffset}
-use Rattle.parsing_iso8601.specs.Moment.{moment, IsOfOffset}
+use Rattle.parsing_iso8601.specs.Moment.{IsOfOffset}
 use Rattle.parsing_iso8601.specs.Parts.{parts_of, offset_parts_of}
 use Rattle.parsing_iso8601.specs.Parts as written
 use Rattle.parsing_iso8601.specs.Reading as reading
@@ -53,56 +53,37 @@ laid (Some (OfWeek y w d)) (Some t) hour minute = record { parts = refl; sign = 
 with_offset : (d : Option WrittenDate) (t : Option WrittenTime) (o : WrittenOffset) (hour minute : Option ℤ) (r : Record) → Laid d t hour minute r → moment_named (put_offset (Some o) r) ≡ named_moment (parts d t) (written.offset_parts (Some o))
 with_offset d t o hour minute r l = rw (l.parts, l.sign, l.second, no_more o.second) refl
 
-without_offset : (d : Option WrittenDate) (t : Option WrittenTime) (r : Record) → Laid d t None None r → moment_named r ≡ named_moment (parts d t) (written.offset_parts None)
-without_offset d t r l = rw (l.parts, l.sign, l.hours, l.minutes, l.second) refl
-
-empty_named : (d : Option WrittenDate) (t : Option WrittenTime) (o : Option WrittenOffset) → moment_named (put_offset o (put_time t (put_date d (permitted None None)))) ≡ named_moment (parts d t) (written.offset_parts o)
-empty_named d t (Some o) = with_offset d t o None None _ (laid d t None None)
-empty_named d t None = without_offset d t _ (laid d t None None)
-
 holding_named : (d : Option WrittenDate) (t : Option WrittenTime) (o : Option WrittenOffset) (hour minute : Option ℤ) → IsSome o → moment_named (put_offset o (put_time t (put_date d (permitted hour minute)))) ≡ named_moment (parts d t) (written.offset_parts o)
 holding_named d t (Some o) hour minute some = with_offset d t o hour minute _ (laid d t hour minute)
 holding_named d t None hour minute some = absurd (cc)
 
 -- ---- whole texts
 
-abbrev read_whole : Result (Written × List ℕ) Fault → Result (Written × List ℕ) Fault
+abbrev read_whole : Result (Iso8601Parts × List ℕ) Fault → Result (Iso8601Parts × List ℕ) Fault
 read_whole r = then_read r (λ w rest. then_read (end rest) (λ _ last. Ok (w, last)))
 
-abbrev parts_named : Written → Result Shown Fault
+abbrev parts_named : Iso8601Parts → Result Shown Fault
 parts_named w = named_moment (parts_of w) (offset_parts_of w)
 
-abbrev set_named : Record → Result (Written × List ℕ) Fault → Result Shown Fault
+abbrev set_named : Record → Result (Iso8601Parts × List ℕ) Fault → Result Shown Fault
 set_named defaults r = names moment_named (all_read (then_read r (λ w rest. Ok (put_iso8601 w defaults, rest))))
 
-empty_by_rest : (w : Written) (rest : List ℕ) → set_named empty (Ok (w, rest)) ≡ value_read (read_whole (Ok (w, rest))) >>= parts_named
-empty_by_rest w [] = empty_named w.date w.time w.offset
-empty_by_rest w (c ∷ cs) = rw (not_all c cs) refl
-
-empty_by : (r : Result (Written × List ℕ) Fault) → set_named empty r ≡ value_read (read_whole r) >>= parts_named
-empty_by (Ok x) = empty_by_rest x.0 x.1
-empty_by (Err e) = refl
-
-pub from_empty : (bytes : List ℕ) → names moment_named (whole reads_iso8601 None bytes) ≡ moment bytes
-unfolding moment reading.whole whole reads_iso8601
-from_empty bytes = empty_by (reading.iso8601 bytes)
-
-value_of : Written → Result Written Fault → Written
+value_of : Iso8601Parts → Result Iso8601Parts Fault → Iso8601Parts
 value_of other (Ok w) = w
 value_of other (Err e) = other
 
-abbrev read_as : Written → Result Written Fault
+abbrev read_as : Iso8601Parts → Result Iso8601Parts Fault
 read_as w = Ok w
 
-same_written : (v w : Written) → read_as v ≡ read_as w → v ≡ w
+same_written : (v w : Iso8601Parts) → read_as v ≡ read_as w → v ≡ w
 unfolding value_of
 same_written v w e = ap (value_of v) e
 
-holding_by_rest : (v : Written) (rest : List ℕ) (w : Written) (m : Shown) (hour minute : Option ℤ) → value_read (read_whole (Ok (v, rest))) ≡ Ok w → IsSome w.offset → parts_named w ≡ Ok m → set_named (holding hour minute) (Ok (v, rest)) ≡ Ok m
+holding_by_rest : (v : Iso8601Parts) (rest : List ℕ) (w : Iso8601Parts) (m : Shown) (hour minute : Option ℤ) → value_read (read_whole (Ok (v, rest))) ≡ Ok w → IsSome w.offset → parts_named w ≡ Ok m → set_named (holding hour minute) (Ok (v, rest)) ≡ Ok m
 holding_by_rest v [] w m hour minute read some named = rw (same_written v w read) (holding_named w.date w.time w.offset hour minute some ∙ named)
 holding_by_rest v (c ∷ cs) w m hour minute read some named = absurd (cc)
 
-holding_by : (r : Result (Written × List ℕ) Fault) (w : Written) (m : Shown) (hour minute : Option ℤ) → value_read (read_whole r) ≡ Ok w → IsSome w.offset → parts_named w ≡ Ok m → set_named (holding hour minute) r ≡ Ok m
+holding_by : (r : Result (Iso8601Parts × List ℕ) Fault) (w : Iso8601Parts) (m : Shown) (hour minute : Option ℤ) → value_read (read_whole r) ≡ Ok w → IsSome w.offset → parts_named w ≡ Ok m → set_named (holding hour minute) r ≡ Ok m
 holding_by (Ok x) w m hour minute read some named = holding_by_rest x.0 x.1 w m hour minute read some named
 holding_by (Err e) w m hour minute read some named = absurd (cc)
 
@@ -111,11 +92,11 @@ unfolding reading.whole whole reads_iso8601
 from_holding bytes m h hour minute = holding_by (reading.iso8601 bytes) h.written m hour minute h.read h.offset h.named
 
 -- what is not read wholly sets nothing, whatever was there before
-unread_by_rest : (w : Written) (rest : List ℕ) (defaults : Record) → IsErr (value_read (read_whole (Ok (w, rest)))) → IsErr (set_named defaults (Ok (w, rest)))
+unread_by_rest : (w : Iso8601Parts) (rest : List ℕ) (defaults : Record) → IsErr (value_read (read_whole (Ok (w, rest)))) → IsErr (set_named defaults (Ok (w, rest)))
 unread_by_rest w [] defaults unread = absurd (cc)
 unread_by_rest w (c ∷ cs) defaults unread = rw (not_all c cs) unread
 
-unread_by : (r : Result (Written × List ℕ) Fault) (defaults : Record) → IsErr (value_read (read_whole r)) → IsErr (set_named defaults r)
+unread_by : (r : Result (Iso8601Parts × List ℕ) Fault) (defaults : Record) → IsErr (value_read (read_whole r)) → IsErr (set_named defaults r)
 unread_by (Ok x) defaults unread = unread_by_rest x.0 x.1 defaults unread
 unread_by (Err e) defaults unread = unread
 

@@ -28,7 +28,7 @@ use Rattle.parsing_iso8601.specs.Offsets.{offset, signed_offset}
 use Rattle.parsing_iso8601.specs.Reading.{dated, iso8601, whole}
 use Rattle.parsing_iso8601.specs.ReadView.{day_named}
 use Rattle.parsing_iso8601.specs.Times.{time, time_of, subsecond_of}
-use Rattle.parsing_iso8601.proofs.QuickMoments.{of_offset, moment_named}
+use Rattle.parsing_iso8601.proofs.FastMoments.{of_offset, moment_named}
 use Rattle.parsing_two_roads.specs.TwoFormats.{separator, last_byte, second_of, fraction_of, rounds_up, fills_second, is_of_both, rounded}
 use Rattle.parsing_two_roads.proofs.Places.{digits_place, byte_place, any_place, further, byte_at, last_of_rest}
 use Rattle.parsing_two_roads.proofs.RfcPieces.{date_pieces, clock_pieces, TextPieces, text_pieces, shown}

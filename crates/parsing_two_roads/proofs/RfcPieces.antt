@@ -9,7 +9,7 @@ use Rattle.parsing_pieces.specs.Readings.{◌>>=◌, resolved}
 use Rattle.parsing_pieces.specs.declared.zone.Zone.{Zone}
 use Rattle.parsing_resolution.specs.Resolution.{date_of, leap_time_of, signed_offset_of}
 use Rattle.parsing_resolution.specs.StandIn.{leap_checked}
-use Rattle.parsing_rfc3339.specs.declared.written.Written.{Written}
+use Rattle.parsing_rfc3339.specs.declared.parts.Rfc3339Parts.{Rfc3339Parts}
 use Rattle.parsing_rfc3339.specs.Direct.{direct, moment, moment_of}
 use Rattle.parsing_rfc3339.specs.Reading.{date, clock, subsecond, offset, rfc3339}
 use Rattle.parsing_two_roads.proofs.Inversion.{due_piece, due_check, due_part, due_value, due_end, due_whole, last_value, same_end}
@@ -69,7 +69,7 @@ clock_pieces b0 t rest h =
     let er : b5 ≡ rest = ap (λ (p : (ℕ × ℕ × ℕ) × List ℕ). p.1) e in
     record { b1 = b1; b2 = b2; b3 = b3; b4 = b4; hour = rw (← ey) p1; first = p2; minute = rw (← em) p3; between = p4; second = rw (← en, ← er) p5 })))))
 
-abbrev made : ℕ × ℕ × ℕ → ℕ × ℕ × ℕ → Option ℕ → Zone → Written
+abbrev made : ℕ × ℕ × ℕ → ℕ × ℕ × ℕ → Option ℕ → Zone → Rfc3339Parts
 made d t n z = record { year = d.0; month = d.1; day = d.2; hour = t.0; minute = t.1; second = t.2; subsecond = n; zone = z }
 
 abbrev pub shown : ℕ → ℕ → ℤ → Shown
@@ -101,7 +101,7 @@ pub record TextPieces (bytes : List ℕ) (m : Shown) : Type 0 where
   pub checked : leap_checked (t.2 == 60) (shown day time seconds) ≡ Ok m
 
 -- the pieces of the numbers
-record FrontPieces (bytes : List ℕ) (w : Written) (rest : List ℕ) : Type 0 where
+record FrontPieces (bytes : List ℕ) (w : Rfc3339Parts) (rest : List ℕ) : Type 0 where
   d : ℕ × ℕ × ℕ
   t : ℕ × ℕ × ℕ
   n : Option ℕ
@@ -117,7 +117,7 @@ record FrontPieces (bytes : List ℕ) (w : Written) (rest : List ℕ) : Type 0 w
   offset_read : offset false b4 ≡ Ok (z, rest)
   is : made d t n z ≡ w
 
-front_pieces : (bytes : List ℕ) (w : Written) (rest : List ℕ) → rfc3339 false bytes ≡ Ok (w, rest) → FrontPieces bytes w rest
+front_pieces : (bytes : List ℕ) (w : Rfc3339Parts) (rest : List ℕ) → rfc3339 false bytes ≡ Ok (w, rest) → FrontPieces bytes w rest
 unfolding rfc3339
 front_pieces b0 w rest h =
     due_part (date false b0) _ (w, rest) h (λ d b1 e1 k1.
@@ -126,11 +126,11 @@ front_pieces b0 w rest h =
     due_part (subsecond b3) _ (w, rest) k3 (λ n b4 e4 k4.
     due_part (offset false b4) _ (w, rest) k4 (λ z b5 e5 k5.
     let e = same_end (made d t n z, b5) (w, rest) k5 in
-    let left : b5 ≡ rest = ap (λ (p : Written × List ℕ). p.1) e in
-    record { d = d; t = t; n = n; z = z; b1 = b1; b2 = b2; b3 = b3; b4 = b4; date_read = e1; separated = e2; clock_read = e3; fraction_read = e4; offset_read = rw (← left) e5; is = ap (λ (p : Written × List ℕ). p.0) e })))))
+    let left : b5 ≡ rest = ap (λ (p : Rfc3339Parts × List ℕ). p.1) e in
+    record { d = d; t = t; n = n; z = z; b1 = b1; b2 = b2; b3 = b3; b4 = b4; date_read = e1; separated = e2; clock_read = e3; fraction_read = e4; offset_read = rw (← left) e5; is = ap (λ (p : Rfc3339Parts × List ℕ). p.0) e })))))
 
 -- what the numbers name
-record NamedParts (w : Written) (rest : List ℕ) (m : Shown) : Type 0 where
+record NamedParts (w : Rfc3339Parts) (rest : List ℕ) (m : Shown) : Type 0 where
   seconds : ℤ
   day : ℕ
   time : ℕ
@@ -140,7 +140,7 @@ record NamedParts (w : Written) (rest : List ℕ) (m : Shown) : Type 0 where
   time_named : leap_time_of w.hour w.minute w.second (unwrap_or w.subsecond 0) ≡ Ok time
   checked : leap_checked (w.second == 60) (shown day time seconds) ≡ Ok m
 
-named_parts : (w : Written) (rest : List ℕ) (m : Shown) (last : List ℕ) → moment_of w rest ≡ Ok (m, last) → NamedParts w rest m
+named_parts : (w : Rfc3339Parts) (rest : List ℕ) (m : Shown) (last : List ℕ) → moment_of w rest ≡ Ok (m, last) → NamedParts w rest m
 unfolding moment_of
 named_parts w rest m last h =
     due_value (signed_offset_of w.zone.is_negative w.zone.hours w.zone.minutes) rest _ (m, last) h (λ seconds ho h2.
@@ -149,7 +149,7 @@ named_parts w rest m last h =
     due_value (leap_time_of w.hour w.minute w.second (unwrap_or w.subsecond 0)) [] (λ time. resolved (leap_checked (w.second == 60) (shown day time seconds))) (m, last) h4 (λ time ht h5.
     record { seconds = seconds; day = day; time = time; none = none; offset_named = ho; date_named = hd; time_named = ht; checked = last_value (leap_checked (w.second == 60) (shown day time seconds)) [] (m, last) h5 }))))
 
-joined : (bytes : List ℕ) (m : Shown) (w : Written) (rest : List ℕ) → FrontPieces bytes w rest → NamedParts w rest m → TextPieces bytes m
+joined : (bytes : List ℕ) (m : Shown) (w : Rfc3339Parts) (rest : List ℕ) → FrontPieces bytes w rest → NamedParts w rest m → TextPieces bytes m
 joined bytes m w rest f v =
     record {
       d = f.d;

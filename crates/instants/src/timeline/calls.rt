@@ -6,12 +6,13 @@ ghost use Rattle.parsing_pieces.specs.FaultOf.{fault_of, Gives};
 ghost use Rattle.parsing_pieces.specs.ShortName.{HasShortName};
 ghost use Rattle.calendar.specs.UtcOffset.{IsClockOffset};
 ghost use Rattle.instants_answers.specs.Text.{FitsLine};
-ghost use Rattle.instants.specs.Refusal.{IsShort, long, refusal_of, refusal_said, refusal_text, year};
+ghost use Rattle.instants.specs.Refusal.{IsShort, long, refusal_said, year};
 ghost use Rattle.instants.specs.Sources.{AllMean, IsRefusal};
 ghost use Rattle.instants_words.specs.Sources.{said_by};
 ghost use Rattle.instants_sources.specs.Grammar.{grammar_of};
 ghost use Rattle.instants_sources.specs.Grammar as grammar;
-ghost use Rattle.instants.specs.Place.{IsFirst, first_named, place_of, place_text, shown_or_refused, answer_to, IsPlace};
+ghost use Rattle.instants.specs.FirstNamed.{IsFirst, IsFirstNamed};
+ghost use Rattle.instants.specs.Place.{first_named, place_of, place_text, shown_or_refused, answer_to, IsPlace};
 ghost use Rattle.instants.specs.Settings.{setting_of};
 
 use crate::line_fault::LineFault;
@@ -20,7 +21,7 @@ use crate::timeline::Timeline;
 use calendar::UtcOffset;
 use datetime_types::OffsetDateTime;
 use instants_answers::{Answer, has_written_year, write_line};
-use instants_sources::{Source, quick_iso8601, quick_rfc2822, quick_rfc3339};
+use instants_sources::{Source, fast_iso8601, fast_rfc2822, fast_rfc3339};
 use instants_stream::AnswersLines;
 use instants_words::SourceText;
 use parsing_pieces::Parse;
@@ -40,7 +41,8 @@ impl<'a> Timeline<'a> {
         requires sources { 0 < length sources.now }
         requires target { IsClockOffset target }
         requires assumed { IfSome assumed IsClockOffset }
-        ensures sources { IfOk result (λ timeline. AllMean (map said_by sources.now) (setting_of timeline).sources) }
+        ensures sources { IfOk result
+            (λ timeline. AllMean (map said_by sources.now) (setting_of timeline).sources) }
         ensures target { IfOk result (λ timeline. (setting_of timeline).target ≡ target) }
         ensures assumed { IfOk result (λ timeline. (setting_of timeline).assumed ≡ assumed) }
         ensures refused { IfErr result (IsRefusal (map said_by sources.now)) }
@@ -59,19 +61,21 @@ impl<'a> Timeline<'a> {
         })
     }
 
-    // What the first source that names a moment names, and else the first source's fault.
+    // What the first source that names a moment names, and else the first source's fault; the first source is read the
+    // exact way.
     #[inline(always)]
     #[tactic(auto, unfolding(crate::specs::Place::first_named))]
-    fn first_named(&self, line: &[u8]) -> Result<OffsetDateTime, Parse>
-        ensures gives { Gives (λ m. m) fault_of result (first_named (setting_of self.now).assumed (setting_of self.now).sources line.now) }
+    fn exact_moment(&self, line: &[u8]) -> Result<OffsetDateTime, Parse>
+        ensures gives { Gives (λ m. m) fault_of result
+            (first_named (setting_of self.now).assumed (setting_of self.now).sources line.now) }
         ensures short { IfErr result (λ fault. HasShortName (fault_of fault)) }
     {
         let sources = self.sources.as_slice();
         let (first, others) = (&sources[0], &sources[1..]);
         let mut refused = None;
         // A source alone is read in any case, for its fault.
-        if others.is_empty() || !first.rules_out(line) {
-            match first.read(line, self.assumed) {
+        if others.is_empty() || !first.cannot_match(line) {
+            match first.read_exact(line, self.assumed) {
                 Ok(moment) => return Ok(moment),
                 Err(fault) => refused = Some(fault),
             }
@@ -81,8 +85,16 @@ impl<'a> Timeline<'a> {
         }
         match refused {
             Some(fault) => Err(fault),
-            None => first.read(line, self.assumed),
+            None => first.read_exact(line, self.assumed),
         }
+    }
+
+    // The moment that the first source's fast way finds.
+    #[tactic(auto, unfolding(crate::specs::Place::first_named))]
+    fn fast_moment(&self, line: &[u8]) -> Option<OffsetDateTime>
+        ensures { IfSome result (IsFirstNamed (setting_of self.now) line.now) }
+    {
+        self.sources.as_slice()[0].read_fast(line)
     }
 
     /// The line's place: the moment that the first source with one names for the whole line, shown at the target.
@@ -97,9 +109,12 @@ impl<'a> Timeline<'a> {
         ensures short { IfErr result (λ fault. IsShort (refusal_said fault)) }
         ensures never_long { IfErr result (λ fault. refusal_said fault ≢ long) }
     {
-        let named = match self.first_named(line) {
-            Ok(named) => named,
-            Err(fault) => return Err(LineFault::from(fault)),
+        let named = match self.fast_moment(line) {
+            Some(named) => named,
+            None => match self.exact_moment(line) {
+                Ok(named) => named,
+                Err(fault) => return Err(LineFault::from(fault)),
+            },
         };
         self.shown(named).ok_or(LineFault::Year)
     }
@@ -107,7 +122,8 @@ impl<'a> Timeline<'a> {
     // A moment as it is shown at the target, if its year there is written in four digits.
     #[inline(always)]
     fn shown(&self, named: OffsetDateTime) -> Option<OffsetDateTime>
-        ensures shown { ok_or result year ≡ shown_or_refused (setting_of self.now).target (Ok named) }
+        ensures shown { ok_or result year ≡
+            shown_or_refused (setting_of self.now).target (Ok named) }
         ensures fits { IfSome result FitsLine }
     {
         let moment = named.checked_to_offset(self.target)?;
@@ -121,7 +137,8 @@ impl<'a> Timeline<'a> {
     // Writes a moment as it is shown at the target, or that its year there is not written.
     #[inline(always)]
     fn write_shown(&self, named: OffsetDateTime, storage: &mut Answer)
-        ensures bytes { storage.new ≡ place_text (shown_or_refused (setting_of self.now).target (Ok named)) }
+        ensures bytes { storage.new ≡
+            place_text (shown_or_refused (setting_of self.now).target (Ok named)) }
         ensures room { length storage.new ≤ 63 }
         ensures never_long { storage.new ≢ codes "! long" }
     {
@@ -135,65 +152,48 @@ impl<'a> Timeline<'a> {
     #[inline(always)]
     #[tactic(auto, unfolding(crate::specs::Place::answer_to, crate::specs::Place::place_of))]
     fn write_named(&self, named: Option<OffsetDateTime>, line: &[u8], storage: &mut Answer)
-        requires { IfSome named (λ moment. first_named (setting_of self.now).assumed (setting_of self.now).sources line.now ≡ Ok moment) }
+        requires { IfSome named (IsFirstNamed (setting_of self.now) line.now) }
         ensures bytes { storage.new ≡ answer_to (setting_of self.now) line.now }
         ensures room { length storage.new ≤ 63 }
+        ensures never_long { storage.new ≢ codes "! long" }
     {
         match named {
             Some(named) => self.write_shown(named, storage),
-            None => self.write_place(line, storage),
+            None => self.write_exact_answer(line, storage),
         }
     }
 
     // Writes the answer to a line whose first source is RFC 2822.
     #[inline(never)]
     #[tactic(auto, unfolding(crate::specs::Place::first_named))]
-    fn write_rfc2822(&self, line: &[u8], storage: &mut Answer)
+    fn answer_by_rfc2822(&self, line: &[u8], storage: &mut Answer)
         requires { IsFirst (setting_of self.now) grammar.Rfc2822 line.now }
         ensures bytes { storage.new ≡ answer_to (setting_of self.now) line.now }
         ensures room { length storage.new ≤ 63 }
     {
-        self.write_named(quick_rfc2822(line), line, storage);
+        self.write_named(fast_rfc2822(line), line, storage);
     }
 
     // Writes the answer to a line whose first source is ISO 8601.
     #[inline(never)]
     #[tactic(auto, unfolding(crate::specs::Place::first_named))]
-    fn write_iso8601(&self, line: &[u8], storage: &mut Answer)
+    fn answer_by_iso8601(&self, line: &[u8], storage: &mut Answer)
         requires { IsFirst (setting_of self.now) grammar.Iso8601 line.now }
         ensures bytes { storage.new ≡ answer_to (setting_of self.now) line.now }
         ensures room { length storage.new ≤ 63 }
     {
-        self.write_named(quick_iso8601(line), line, storage);
+        self.write_named(fast_iso8601(line), line, storage);
     }
 
-    // Writes the answer to a line in place of what the storage held.
-    //
-    // Each source has a way of its own from the line to the answer, and but one of them by a call: together they would
-    // keep the moment, and what the run holds, in memory.
-    #[inline(always)]
-    #[tactic(auto, unfolding(crate::specs::Place::first_named))]
-    fn write_answer(&self, line: &[u8], storage: &mut Answer)
-        ensures bytes { storage.new ≡ answer_to (setting_of self.now) line.now }
-        ensures room { length storage.new ≤ 63 }
-    {
-        match &self.sources.as_slice()[0] {
-            Source::Rfc3339 => self.write_named(quick_rfc3339(line), line, storage),
-            Source::Rfc2822 => self.write_rfc2822(line, storage),
-            Source::Iso8601 => self.write_iso8601(line, storage),
-            Source::Items(_) | Source::V3(_) => self.write_place(line, storage),
-        }
-    }
-
-    // The same, by all sources.
+    // Writes the answer to a line by all sources, the first one read the exact way.
     #[inline(never)]
     #[tactic(auto, unfolding(crate::specs::Place::answer_to, crate::specs::Place::place_of))]
-    fn write_place(&self, line: &[u8], storage: &mut Answer)
+    fn write_exact_answer(&self, line: &[u8], storage: &mut Answer)
         ensures bytes { storage.new ≡ answer_to (setting_of self.now) line.now }
         ensures room { length storage.new ≤ 63 }
         ensures never_long { storage.new ≢ codes "! long" }
     {
-        match self.first_named(line) {
+        match self.exact_moment(line) {
             Ok(named) => self.write_shown(named, storage),
             Err(fault) => LineFault::from(fault).write(storage),
         }
@@ -206,7 +206,7 @@ impl<'a> Timeline<'a> {
         ensures never_long { result ≢ codes "! long" }
     {
         let mut answer = Answer::new();
-        self.write_place(line, &mut answer);
+        self.write_named(self.fast_moment(line), line, &mut answer);
         answer
     }
 }
@@ -237,8 +237,16 @@ impl AnswersLines for Timeline<'_> {
         Timeline::answer_line(self, line)
     }
 
+    // Each source has a way of its own from the line to the answer, and but one of them by a call: together they would
+    // keep the moment, and what the run holds, in memory.
     #[inline(always)]
+    #[tactic(auto, unfolding(crate::specs::Place::first_named))]
     fn write_answer(&self, line: &[u8], storage: &mut Answer) {
-        Timeline::write_answer(self, line, storage)
+        match &self.sources.as_slice()[0] {
+            Source::Rfc3339 => self.write_named(fast_rfc3339(line), line, storage),
+            Source::Rfc2822 => self.answer_by_rfc2822(line, storage),
+            Source::Iso8601 => self.answer_by_iso8601(line, storage),
+            Source::Items(_) | Source::V3(_) => self.write_exact_answer(line, storage),
+        }
     }
 }

@@ -18,7 +18,8 @@ impl Timeline<'_> {
         ensures fits { IfOk result.0 FitsLine }
         ensures short { IfErr result.0 (λ fault. IsShort (refusal_said fault)) }
         ensures never_long { IfErr result.0 (λ fault. refusal_said fault ≢ long) }
-        ensures tried { result.1 ≡ tried_on (setting_of self.now).assumed (setting_of self.now).sources line.now }
+        ensures tried { result.1 ≡
+            tried_on (setting_of self.now).assumed (setting_of self.now).sources line.now }
         ensures at_most { result.1 ≤ places_of (setting_of self.now).sources }
     {
         (self.place(line), self.tried(line))
@@ -26,7 +27,8 @@ impl Timeline<'_> {
 
     // How many items are tried on the line.
     fn tried(&self, line: &[u8]) -> u128
-        ensures { result ≡ tried_on (setting_of self.now).assumed (setting_of self.now).sources line.now }
+        ensures { result ≡
+            tried_on (setting_of self.now).assumed (setting_of self.now).sources line.now }
     {
         let mut tried = 0u128;
         for source in &self.sources {

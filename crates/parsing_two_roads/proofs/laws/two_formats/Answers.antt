@@ -2,4 +2,4 @@ use Rattle.parsing_two_roads.proofs.Assumed.{two_formats}
 use Rattle.parsing_two_roads.proofs.laws.two_formats.Goals as goal
 
 pub returns : goal.returns
-returns c = two_formats c.args.bytes.now c.two_roads_of_rfc3339.ensures c.one_road_of_iso8601.ensures.holding
+returns c = λ bytes. two_formats bytes (c.two_roads_of_rfc3339.ensures bytes) (c.one_road_of_iso8601.ensures bytes)

@@ -1,0 +1,48 @@
+-- What the laws of the roads say of a line, whatever offset is assumed.
+use Rattle.std.proofs.Common.{◌≡◌, ℕ, List, Option, Some, None, Result, Ok, Err, refl, sym, ap, ◌∙◌, ℤ}
+use Rattle.std.specs.Prelude.{IfSome}
+use Rattle.std.specs.Result.{result_ok}
+use Rattle.datetime_wall.specs.Wall.{Shown}
+use Rattle.parsing_pieces.specs.Fault.{Fault}
+use Rattle.parsing_record.specs.Meaning.{Meaning}
+use Rattle.parsing_record.specs.Record.{Record}
+use Rattle.parsing_record.specs.Whole.{by_roads, whole, names, moment_named}
+use Rattle.parsing_iso8601.specs.Moment.{IsOfOffset}
+use Rattle.parsing_iso8601.proofs.Pieces.{same}
+use Rattle.parsing_staged.specs.Staged.{reads_iso8601}
+use Rattle.parsing_two_roads.specs.TwoFormats.{HoldsAtMostAnOffset}
+use Rattle.parsing_two_roads.specs.TwoRoads.{AgreeOn}
+use Rattle.instants_sources.specs.Grammar.{Iso8601}
+use Rattle.instants_sources.specs.Named.{defaults_of, IsNamedBy}
+
+same_moment : (x y : Result Shown Fault) (m : Shown) → result_ok x ≡ result_ok y → x ≡ Ok m → y ≡ Ok m
+same_moment x (Ok y) m alike e = let is : Some y ≡ Some m = sym alike ∙ ap result_ok e in ap (λ (v : Shown). Ok v) (same y m is)
+same_moment x (Err f) m alike e = absurd (let none : None ≡ Some m = sym alike ∙ ap result_ok e in cc)
+
+by_either : (direct : List ℕ → Result Shown Fault) (m : Meaning) (line : List ℕ) (moment : Shown) → AgreeOn direct m line → direct line ≡ Ok moment
+    → (assumed : Option ℤ) → by_roads direct m (defaults_of assumed) line ≡ Ok moment
+by_either direct m line moment agree e None = e
+by_either direct m line moment agree e (Some offset) = same_moment (direct line) _ moment (agree _ _) e
+
+-- what is found directly is named by either road
+pub by_either_road : (direct : List ℕ → Result Shown Fault) (m : Meaning) (line : List ℕ) (found : Option Shown) → AgreeOn direct m line → IfSome found (λ moment. direct line ≡ Ok moment)
+    → IfSome found (λ moment. (assumed : Option ℤ) → by_roads direct m (defaults_of assumed) line ≡ Ok moment)
+by_either_road direct m line None agree e = tt
+by_either_road direct m line (Some moment) agree e = by_either direct m line moment agree e
+
+-- what is named by no road from nothing is named by none with an offset assumed
+pub by_no_road : (direct : List ℕ → Result Shown Fault) (m : Meaning) (line : List ℕ) → AgreeOn direct m line → result_ok (direct line) ≡ None
+    → (assumed : Option ℤ) → result_ok (by_roads direct m (defaults_of assumed) line) ≡ None
+by_no_road direct m line agree none None = none
+by_no_road direct m line agree none (Some offset) = sym (agree _ _) ∙ none
+
+pub assumed_alone : (assumed : Option ℤ) → HoldsAtMostAnOffset (defaults_of assumed)
+assumed_alone None = tt
+assumed_alone (Some offset) = refl
+
+-- what is found with an offset is named from a record
+pub with_offset : (line : List ℕ) (found : Option Shown)
+    → ((m : Shown) → IsOfOffset line m → (defaults : Option Record) → HoldsAtMostAnOffset defaults → names moment_named (whole reads_iso8601 defaults line) ≡ Ok m)
+    → IfSome found (IsOfOffset line) → IfSome found (IsNamedBy Iso8601 line)
+with_offset line None law h = tt
+with_offset line (Some m) law h = λ assumed. law m h (defaults_of assumed) (assumed_alone assumed)
