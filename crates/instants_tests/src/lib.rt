@@ -23,6 +23,8 @@ mod page;
 #[cfg(test)]
 mod places;
 #[cfg(test)]
+mod printed;
+#[cfg(test)]
 mod program;
 #[cfg(test)]
 mod sources;

@@ -17,6 +17,8 @@ mod moments;
 #[cfg(test)]
 mod page;
 #[cfg(test)]
+mod printed;
+#[cfg(test)]
 mod records;
 #[cfg(test)]
 mod support;
