@@ -82,11 +82,11 @@ def name_of_impl(head):
 
 def functions_of(crate):
     """Returns the crate's functions, each with its lines from its attributes to its end, counted from 1; none of a crate
-    of tests or rows.
+    of tests, and of a program, which has no callers, only those that promise something.
 
     The first function of an impl of a trait begins at the impl, whose ghost members speak of it."""
-    found = []
-    for path in sorted((crate / "src").rglob("*.rt") if not crate.name.endswith(("_tests", "_rows")) else []):
+    found, is_program = [], (crate / "src" / "main.rt").exists()
+    for path in sorted((crate / "src").rglob("*.rt") if not crate.name.endswith("_tests") else []):
         if any(it.endswith("tests") for it in path.relative_to(crate / "src").with_suffix("").parts):
             continue
         lines = path.read_text().split("\n")
@@ -113,7 +113,8 @@ def functions_of(crate):
             own = "" if within and not trait else module
             place = "::".join(it for it in (own, within, named[3]) if it)
             # (an empty body without a clause of its own says nothing that could be turned)
-            is_public = (named[2] == "pub " or bool(trait)) and not line.endswith("{}")
+            promises = not is_program or any("ensures" in it for it in lines[at:last])
+            is_public = (named[2] == "pub " or bool(trait)) and promises and not line.endswith("{}")
             found.append(Function(file, named[3], trait, place, is_public, first + 1, last + 1))
             opened = None
     return found

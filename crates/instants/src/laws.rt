@@ -30,10 +30,12 @@ pub fn appended()
     ensures kept { (setting : Setting) (grammar : Grammar) (line : List ℕ) (moment : Shown)
         → first_named setting.assumed setting.sources line ≡ Ok moment
         → answer_to (with_source setting grammar) line ≡ answer_to setting line }
-    ensures gained { (setting : Setting) (grammar : Grammar) (line : List ℕ) (fault : Fault) (moment : Shown)
+    ensures gained { (setting : Setting) (grammar : Grammar) (line : List ℕ) (fault : Fault)
+        (moment : Shown)
         → first_named setting.assumed setting.sources line ≡ Err fault
         → named setting.assumed grammar line ≡ Ok moment
-        → answer_to (with_source setting grammar) line ≡ place_text (shown_or_refused setting.target (Ok moment)) }
+        → answer_to (with_source setting grammar) line
+        ≡ place_text (shown_or_refused setting.target (Ok moment)) }
     ensures refused { (setting : Setting) (grammar : Grammar) (line : List ℕ) (fault other : Fault)
         → 0 < length setting.sources
         → first_named setting.assumed setting.sources line ≡ Err fault
@@ -41,7 +43,8 @@ pub fn appended()
         → answer_to (with_source setting grammar) line ≡ answer_to setting line }
     ensures long { (setting : Setting) (grammar : Grammar) (limit : ℕ) (line : List ℕ)
         → limit < length line
-        → answered (answer_to (with_source setting grammar)) limit line ≡ answered (answer_to setting) limit line }
+        → answered (answer_to (with_source setting grammar)) limit line
+        ≡ answered (answer_to setting) limit line }
 {}
 
 /// Lines that are answered by date-times at one target, from whatever sources and with whatever offset assumed, are
@@ -50,21 +53,26 @@ pub fn appended()
 pub fn embedding()
     ensures order { (one other : Setting) (line another : List ℕ) (m n : Shown)
         → one.target ≡ other.target → IsAnswered one line m → IsAnswered other another n
-        → slice_cmp nat_cmp (answer_to one line) (answer_to other another) ≡ int_cmp (instant m) (instant n) }
+        → slice_cmp nat_cmp (answer_to one line) (answer_to other another)
+        ≡ int_cmp (instant m) (instant n) }
     ensures equality { (one other : Setting) (line another : List ℕ) (m n : Shown)
         → one.target ≡ other.target → IsAnswered one line m → IsAnswered other another n
         → (answer_to one line ≡ answer_to other another) ↔ (instant m ≡ instant n) }
-    ensures output { (setting : Setting) (limit : ℕ) (stream line : List ℕ) (before behind : List (List ℕ)) (m : Shown)
+    ensures output { (setting : Setting) (limit : ℕ) (stream line : List ℕ)
+        (before behind : List (List ℕ)) (m : Shown)
         → IsAnsweredIn setting limit stream before line behind m
         → output (answer_to setting) limit stream
-        ≡ written setting limit before ++ ((answer_to setting line ++ line_feed ∷ []) ++ written setting limit behind) }
+        ≡ written setting limit before
+        ++ ((answer_to setting line ++ line_feed ∷ []) ++ written setting limit behind) }
 {}
 
 /// The line of a moment, read by RFC 3339 alone or by ISO 8601 alone, names that moment, whatever offset is assumed. The
 /// line of any moment has at most 35 bytes.
 pub fn lines_read_again()
-    ensures rfc3339 { (m : Shown) → IsWritten m → IsClockOffset m.offset → (assumed : Option ℤ) → named assumed grammar.Rfc3339 (moment_text m) ≡ Ok m }
-    ensures iso8601 { (m : Shown) → IsWritten m → IsClockOffset m.offset → (assumed : Option ℤ) → named assumed grammar.Iso8601 (moment_text m) ≡ Ok m }
+    ensures rfc3339 { (m : Shown) → IsWritten m → IsClockOffset m.offset → (assumed : Option ℤ)
+        → named assumed grammar.Rfc3339 (moment_text m) ≡ Ok m }
+    ensures iso8601 { (m : Shown) → IsWritten m → IsClockOffset m.offset → (assumed : Option ℤ)
+        → named assumed grammar.Iso8601 (moment_text m) ≡ Ok m }
     ensures length { (m : Shown) → length (moment_text m) ≤ 35 }
 {}
 
@@ -72,11 +80,14 @@ pub fn lines_read_again()
 /// least 35, is answered at every target as the line that it was written for is answered there, `! year` included. So at
 /// its own target it is written as itself.
 pub fn fixed_point()
-    ensures answer { (setting : Setting) (grammar : Grammar) (assumed : Option ℤ) (target : ℤ) (limit bound : ℕ) (line : List ℕ) (m : Shown)
-        → IsClockOffset setting.target → IsAnswered setting line m → length line ≤ bound → ReadsLines grammar → 35 ≤ limit
+    ensures answer { (setting : Setting) (grammar : Grammar) (assumed : Option ℤ) (target : ℤ)
+        (limit bound : ℕ) (line : List ℕ) (m : Shown)
+        → IsClockOffset setting.target → IsAnswered setting line m → length line ≤ bound
+        → ReadsLines grammar → 35 ≤ limit
         → answered (answer_to (alone grammar target assumed)) limit (answer_to setting line)
         ≡ answered (answer_to (with_target setting target)) bound line }
-    ensures itself { (setting : Setting) (grammar : Grammar) (assumed : Option ℤ) (limit : ℕ) (line : List ℕ) (m : Shown)
+    ensures itself { (setting : Setting) (grammar : Grammar) (assumed : Option ℤ) (limit : ℕ)
+        (line : List ℕ) (m : Shown)
         → IsClockOffset setting.target → IsAnswered setting line m → ReadsLines grammar → 35 ≤ limit
         → answered (answer_to (alone grammar setting.target assumed)) limit (answer_to setting line)
         ≡ answer_to setting line ++ line_feed ∷ [] }
@@ -86,12 +97,15 @@ pub fn fixed_point()
 pub fn two_targets()
     ensures order { (one other : Setting) (target : ℤ) (line another : List ℕ) (m n : Shown)
         → one.target ≡ other.target → IsAnswered one line m → IsAnswered other another n
-        → IsAnswered (with_target one target) line m → IsAnswered (with_target other target) another n
+        → IsAnswered (with_target one target) line m
+        → IsAnswered (with_target other target) another n
         → slice_cmp nat_cmp (answer_to one line) (answer_to other another)
-        ≡ slice_cmp nat_cmp (answer_to (with_target one target) line) (answer_to (with_target other target) another) }
+        ≡ slice_cmp nat_cmp (answer_to (with_target one target) line)
+        (answer_to (with_target other target) another) }
     ensures equality { (one other : Setting) (target : ℤ) (line another : List ℕ) (m n : Shown)
         → one.target ≡ other.target → IsAnswered one line m → IsAnswered other another n
-        → IsAnswered (with_target one target) line m → IsAnswered (with_target other target) another n
+        → IsAnswered (with_target one target) line m
+        → IsAnswered (with_target other target) another n
         → (answer_to one line ≡ answer_to other another)
         ↔ (answer_to (with_target one target) line ≡ answer_to (with_target other target) another) }
 {}

@@ -39,7 +39,8 @@ pub fn run<R: ByteReader, W: ByteWriter>(
     ensures write { result ≡ Err RunFault.Write → (read : List ℕ)
         × Consumes (R.left reader.old) (R.left reader.new) read
         × AppendsFront (W.held writer.old) (W.held writer.new)
-        (due (answer_to (setting_of timeline.now)) (length buffer.old - 1) read (R.left reader.new)) }
+        (due (answer_to (setting_of timeline.now)) (length buffer.old - 1) read
+        (R.left reader.new)) }
     // A fault is one of the device that it names.
     ensures read_failed { IsTrue (R.failed reader.new) ↔ (result ≡ Err RunFault.Read) }
     ensures write_failed { IsTrue (W.failed writer.new) ↔ (result ≡ Err RunFault.Write) }

@@ -9,5 +9,6 @@ ghost use Rattle.instants_stream.specs.Answers.{output};
 pub fn joined_streams()
     ensures { (answer : List ℕ → List ℕ) (limit : ℕ) (first second : List ℕ)
         → ((first ≡ []) ⊎ ((front : List ℕ) × (first ≡ front ++ line_feed ∷ [])))
-        → output answer limit (first ++ second) ≡ output answer limit first ++ output answer limit second }
+        → output answer limit (first ++ second)
+        ≡ output answer limit first ++ output answer limit second }
 {}

@@ -12,7 +12,8 @@ struct ByLength;
 impl AnswersLines for ByLength {
     ghost use Rattle.std.specs.Prelude.{length, nat_lt, codes, if◌then◌else◌};
 
-    ghost answer = { λ _ line. if nat_lt 10 (length line) then codes "1985-04-12T23:20:50.520000000Z" else codes "! component year" };
+    ghost answer = { λ _ line. if nat_lt 10 (length line)
+        then codes "1985-04-12T23:20:50.520000000Z" else codes "! component year" };
 
     fn answer_line(&self, line: &[u8]) -> Answer {
         let mut answer = Answer::new();
