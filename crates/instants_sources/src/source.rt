@@ -17,7 +17,7 @@ use description::{
 };
 use description_formats::{Iso8601, Rfc2822, Rfc3339};
 use instants_words::SourceText;
-use parsing_pieces::Parse;
+use parsing_pieces::{Parse, ParseFromDescription};
 use parsing_record::Parsed;
 use parsing_trait::{Items, Parsable};
 use std::alloc::Global;
@@ -90,8 +90,10 @@ impl<'a> Source<'a> {
     }
 }
 
-// The moment of the record that the whole line sets, with an offset assumed or none.
+// The moment of the record that the whole line sets, with an offset assumed or none: `Parsable::read_staged`, but that the
+// record lies here from the start. Handed over with the call it is copied, at some eighty instructions a line.
 #[inline(never)]
+#[tactic(auto, unfolding(parsing_record::specs::Whole::whole))]
 fn read_staged<F: Parsable>(
     format: &F,
     line: &[u8],
@@ -102,7 +104,12 @@ fn read_staged<F: Parsable>(
         (whole (meaning (F.reading format.now)) (defaults_of assumed) line.now)) }
     ensures short { IfErr result (λ fault. HasShortName (fault_of fault)) }
 {
-    format.read_staged(line, defaults(assumed))
+    let mut parsed = starting(assumed);
+    let rest = format.parse_into(line, &mut parsed)?;
+    if !rest.is_empty() {
+        return Err(ParseFromDescription::UnexpectedTrailingCharacters.into());
+    }
+    Ok(parsed.offset_date_time()?)
 }
 
 // A description of one of the three versions.
@@ -132,15 +139,4 @@ pub(crate) fn starting(assumed: Option<UtcOffset>) -> Parsed
         parsed.set_offset_minute_signed(offset.minutes_past_hour());
     }
     parsed
-}
-
-// The same as defaults, if there is an offset.
-#[inline(always)]
-fn defaults(assumed: Option<UtcOffset>) -> Option<Parsed>
-    ensures { result ≡ defaults_of assumed }
-{
-    match assumed {
-        Some(_) => Some(starting(assumed)),
-        None => None,
-    }
 }
