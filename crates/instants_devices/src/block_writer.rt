@@ -164,6 +164,8 @@ impl<W: ByteWriter> ByteWriter for BlockWriter<W> {
         self.inner.has_failed()
     }
 
+    // (a call before each read leaves the loop over lines its registers)
+    #[inline(never)]
     fn hand_on(&mut self) -> Result<(), DeviceFailed>
         requires { W.failed self.old.inner ≡ false }
         ensures held { OnOk result (Keeps (held_by W.held self.old) (held_by W.held self.new)) }
