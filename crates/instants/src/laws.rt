@@ -126,6 +126,7 @@ pub fn difference_added(a: OffsetDateTime, b: OffsetDateTime) -> Option<OffsetDa
     ensures some { IsSome result ↔ IsWallClock (b.wall +ℤ (instant a -ℤ instant b)) }
     ensures sum { IfSome result (λ m. m
         ≡ record { wall = b.wall +ℤ (instant a -ℤ instant b); offset = b.offset }) }
+    ensures one_offset { a.offset ≡ b.offset → result ≡ Some a }
     ensures places { (one other : Setting) (line another : List ℕ)
         → one.target ≡ other.target → place_of one line ≡ Ok a → place_of other another ≡ Ok b
         → result ≡ Some a }

@@ -11,6 +11,7 @@ returns c =
     record {
       some = rw c.sub.ensures at c.checked_add.ensures.some;
       sum = rw c.sub.ensures at c.checked_add.ensures.value;
+      one_offset = first;
       places = λ one other line another target h g. first (shown_at_target one line c.args.a h ∙ target ∙ sym (shown_at_target other another c.args.b g));
       line = λ one other line another target h g. has_line one line c.args.a c.checked_add.result h (first (shown_at_target one line c.args.a h ∙ target ∙ sym (shown_at_target other another c.args.b g)));
     }
