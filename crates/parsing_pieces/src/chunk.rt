@@ -206,6 +206,30 @@ fn padded_digits(bytes: &[u8], chunk: Chunk, count: usize) -> Option<u32>
     Some((high * 10_000 + low) as u32)
 }
 
+/// At most eight digits at the front, in one number with the digit zero behind them, the first one lowest, and how many
+/// they are. More digits may follow.
+#[inline(always)]
+pub fn digit_chunk(bytes: &[u8]) -> Option<(u64, usize)>
+    ensures { IfSome result (λ x. Chunks.IsDigitChunk bytes.now x.0 x.1) }
+{
+    let chunk = chunk_of(bytes);
+    let count = likely_digits(chunk);
+    if count == 0 || count > bytes.len() {
+        return None;
+    }
+    let digits = padded_chunk(bytes, chunk, count);
+    let pattern = 0x3030_3030_3030_3030;
+    if !fits(
+        digits,
+        0xf0f0_f0f0_f0f0_f0f0,
+        pattern,
+        0x0606_0606_0606_0606,
+    ) {
+        return None;
+    }
+    Some((digits, count))
+}
+
 // The nanoseconds of a fraction of at most eight digits, where they are all that are there.
 #[inline(always)]
 pub(crate) fn short_fraction(bytes: &[u8]) -> Option<(u32, &[u8])>
