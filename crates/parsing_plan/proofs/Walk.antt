@@ -1,14 +1,16 @@
 -- Items one after the other.
-use Rattle.std.proofs.Common.{◌≡◌, ◌≤◌, ◌∙◌, ℕ, List, [], ◌∷◌, length, drop, Ok, refl, ap}
+use Rattle.std.proofs.Common.{◌≡◌, ◌≤◌, ◌∙◌, ℕ, List, [], ◌∷◌, length, drop, Option, Some, None, Ok, refl, ap}
+use Rattle.std.specs.Prelude.{IfSome}
 use Rattle.std.specs.Result.{result_ok}
 use Rattle.description_items.specs.Tree.{Tree, Compound, listed}
-use Rattle.parsing_record.specs.Meaning.{Answer, Counted, then_counted, all_of}
+use Rattle.parsing_record.specs.Meaning.{Meaning, Answer, Counted, then_counted, all_of}
 use Rattle.parsing_record.specs.Reads.{Language, reading, reading_of_all, reads, each_reads}
 use Rattle.parsing_record.specs.Record.{Record}
 use Rattle.parsing_plan.specs.declared.layout.Layout.{Layout}
 use Rattle.parsing_plan.specs.Slot.{Values}
 use Rattle.parsing_plan.specs.Layout.{Says, with_values}
-use Rattle.parsing_plan.specs.Plan.{IsLayoutOf}
+use Rattle.parsing_plan.specs.declared.plan.Plan.{Plan}
+use Rattle.parsing_plan.specs.Plan.{IsLayoutOf, IsPlanOf}
 use Rattle.parsing_plan.specs.Steps.{IsStep}
 
 -- behind a line's front that has the layout, the items that are left go on reading
@@ -41,6 +43,11 @@ leads_to_end language all left l leads end line v fits says r = ap result_ok (
     leads line v fits says r
     ∙ ap (λ (xs : List Tree). reading_of_all language (listed xs) (with_values l v r) (drop l.length line)) end
     ∙ nothing_left language (with_values l v r) (drop l.length line))
+
+-- a plan of a layout
+pub planned : (m : Meaning) (o : Option Plan) (l : Layout) → IfSome o (λ plan. plan.layout ≡ l) → IsLayoutOf m l → IfSome o (IsPlanOf m)
+planned m None l is h = tt
+planned m (Some plan) l is h = rw is h
 
 -- an item that holds others reads what they read, one after the other
 pub compound_layout : (language : Language) (ts : List Tree) (l : Layout) → IsLayoutOf (reading_of_all language (listed ts)) l → IsLayoutOf (reading language (Compound (listed ts))) l
