@@ -1,5 +1,5 @@
 //! Fractions of a second.
-ghost use Rattle.std.specs.Prelude.{◌≡◌, ◌+◌, ◌<◌, ◌≤◌, [], length, Some, IfSome};
+ghost use Rattle.std.specs.Prelude.{◌≡◌, ◌+◌, ◌<◌, ◌≤◌, [], length, None, Some, IfSome};
 ghost use Rattle.byte_names.specs.Bytes.{digit_zero};
 ghost use Rattle.parsing_pieces.specs.Pieces as Pieces;
 
@@ -52,6 +52,20 @@ fn digit(value: u32) -> u8
     b'0' + value as u8
 }
 
+// A digit behind so many: where they are fewer than eight, they are all that are there.
+#[inline(always)]
+fn ninth_digit(count: usize, rest: &[u8]) -> Option<(u8, &[u8])>
+    requires { count < 8 → Pieces.digits 1 rest.now ≡ None }
+    ensures cut { Pieces.cut_view result ≡ Pieces.digits 1 rest.now }
+    ensures bound { IfSome result (λ x. x.0 < 10) }
+    ensures eight { IfSome result (λ x. 8 ≤ count) }
+{
+    if count < 8 {
+        return None;
+    }
+    one_digit(rest)
+}
+
 impl Fraction {
     /// The fraction of so many nanoseconds.
     #[inline(always)]
@@ -96,10 +110,10 @@ impl Fraction {
     {
         let (first, count) = digit_chunk(bytes)?;
         let rest = &bytes[count..];
-        let Some((last, behind)) = one_digit(rest) else {
+        let Some((last, behind)) = ninth_digit(count, rest) else {
             return Some((Fraction { first, last: b'0' }, rest));
         };
-        if count < 8 || one_digit(behind).is_some() {
+        if one_digit(behind).is_some() {
             return None;
         }
         let last = b'0' + last;
