@@ -2,3 +2,4 @@ pub mod Decimal
 pub mod Text
 pub mod Padded
 pub mod Utc
+pub mod Moved

@@ -20,10 +20,14 @@ offset_text offset =
     if int_eq offset (pos 0) then codes "Z"
     else (if int_lt offset (pos 0) then codes "-" else codes "+") ++ decimal 2 (unsigned_abs offset / 3600) ++ codes ":" ++ decimal 2 (unsigned_abs offset / 60 % 60)
 
+-- a day, a second of it, a nanosecond of that, and an offset
+abbrev pub parts_text : YearMonthDay → ℕ → ℕ → ℤ → List ℕ
+parts_text day second nanosecond offset = date_text day ++ codes "T" ++ time_text second nanosecond ++ offset_text offset
+
 unfoldable pub moment_text : Shown → List ℕ
 moment_text m =
     let nanosecond = nanosecond_of m.wall in
-    date_text (day_at (day_of m.wall)) ++ codes "T" ++ time_text (nanosecond / second_nanos) (nanosecond % second_nanos) ++ offset_text m.offset
+    parts_text (day_at (day_of m.wall)) (nanosecond / second_nanos) (nanosecond % second_nanos) m.offset
 
 -- four digits write the year
 unfoldable pub has_written_year : Shown → Bool

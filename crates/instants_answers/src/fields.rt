@@ -1,11 +1,12 @@
 //! The date, the time and the offset of a line, added to an answer.
 
-ghost use Rattle.std.specs.Prelude.{◌≡◌, ◌+◌, ◌<◌, ◌≤◌, ◌++◌, length, pos, unsigned_abs, if◌then◌else◌};
+ghost use Rattle.std.specs.Prelude.{◌≡◌, ◌+◌, ◌*◌, ◌<◌, ◌≤◌, ◌++◌, length, pos, unsigned_abs, if◌then◌else◌};
 ghost use Rattle.std.specs.Ordering.{int_eq};
 ghost use Rattle.instants_answers.specs.Text.{date_text, time_text, offset_text};
 
 use crate::answer::Answer;
 use crate::digits::{push_four, push_nine, push_two};
+use parsing_fields::Fraction;
 
 #[inline(always)]
 #[tactic(auto, unfolding(crate::specs::Text::date_text))]
@@ -42,6 +43,26 @@ pub(crate) fn push_time(answer: &mut Answer, second: u32, nanosecond: u32)
     push_two(answer, second % 60);
     answer.push(b'.');
     push_nine(answer, nanosecond);
+}
+
+// The time of a minute of the day, a second of it and a fraction of that.
+#[inline(always)]
+#[tactic(auto, unfolding(crate::specs::Text::time_text))]
+pub(crate) fn push_clock(answer: &mut Answer, minute: u32, second: u32, fraction: Fraction)
+    requires room { length answer.old + 18 ≤ 64 }
+    requires minute { minute < 1440 }
+    requires second { second < 60 }
+    ensures text { answer.new ≡ answer.old ++ time_text (minute * 60 + second) fraction }
+    ensures len { length answer.new ≡ length answer.old + 18 }
+    ensures fraction { fraction < 1_000_000_000 }
+{
+    push_two(answer, minute / 60);
+    answer.push(b':');
+    push_two(answer, minute % 60);
+    answer.push(b':');
+    push_two(answer, second);
+    answer.push(b'.');
+    answer.push_bytes(&fraction.digits());
 }
 
 #[inline(always)]

@@ -1,0 +1,129 @@
+-- Moments at another offset, by the minutes between the offsets.
+use Rattle.std.proofs.Common.{◌≡◌, ℕ, suc, ◌+◌, ◌*◌, ◌/◌, ◌%◌, ◌<◌, ◌≤◌, List, [], ◌∷◌, ◌++◌, append_assoc, codes, true, Some, refl, sym, ap, subst, ◌∙◌, arith, ℤ, pos, ◌+ℤ◌, ◌-ℤ◌, ◌*ℤ◌}
+use Rattle.std.specs.Prelude.{IsTrue, int_le, int_div, int_rem, unsigned_abs}
+use Rattle.std.proofs.lemmas.Bool.Decides.{nat_tests}
+use Rattle.std.proofs.lemmas.Int.{ints, quot-rem}
+use Rattle.byte_names.specs.Bytes.{colon, dot}
+use Rattle.calendar.specs.UtcOffset.{IsClockOffset}
+use Rattle.calendar_clock.specs.TimeParts.{second_of_parts, nanosecond_of_parts}
+use Rattle.calendar_count.specs.Range.{IsCount}
+use Rattle.calendar_count.specs.Calendar.{YearMonthDay, day_at, next_day, ymd, days_in_month}
+use Rattle.calendar_count.proofs.lemmas.Days.{day_at_same}
+use Rattle.calendar_count.proofs.lemmas.Signed.{signed}
+use Rattle.calendar_count.proofs.lemmas.TheDay.{the_day-named}
+use Rattle.datetime_wall.specs.Wall.{Shown, wall_clock, wall_at, instant, day_of, nanosecond_of, second_nanos, day_nanos, shown_at, IsWallClock}
+use Rattle.datetime_wall.proofs.lemmas.Shown.{wall_at-instant, shown_at_some}
+use Rattle.datetime_wall.proofs.lemmas.WallClocks.{day_of-wall_clock, nanosecond_of-wall_clock, IsWallClock-wall_clock}
+use Rattle.parsing_fields.specs.Moment.{day_of_fields, time_of_fields, moment_of}
+use Rattle.parsing_fields.specs.declared.fields.Fields.{Fields}
+use Rattle.instants_answers.specs.Decimal.{decimal}
+use Rattle.instants_answers.specs.Moved.{at_offset, IsMoved}
+use Rattle.instants_answers.specs.Text.{date_text, time_text, offset_text, parts_text, moment_text, has_written_year, FitsLine}
+
+-- ---- days beside each other
+
+next_at : (n : ℕ) → day_at (n + 1) ≡ next_day (day_at n)
+unfolding day_at
+next_at n = ap day_at (let e : n + 1 ≡ suc n = omega arith in e)
+
+in_month : (y : ℤ) (m d : ℕ) → d < days_in_month y m → next_day (ymd y m d) ≡ ymd y m (d + 1)
+in_month y m d h = grind (arith, nat_tests)
+
+-- the day after a day, in its month, has the next count
+pub next_count : (y : ℤ) (m d next c n : ℕ) → day_at c ≡ ymd y m d → day_at n ≡ ymd y m next → next ≡ d + 1 → next ≤ days_in_month y m → n ≡ c + 1
+next_count y m d next c n here there e h =
+    let same : ymd y m next ≡ ymd y m (d + 1) = ap (λ (k : ℕ). ymd y m k) e in
+    day_at_same n (c + 1) (there ∙ same ∙ sym (next_at c ∙ ap next_day here ∙ in_month y m d (omega arith)))
+
+pub longest_month : (y : ℤ) (m : ℕ) → days_in_month y m ≤ 31
+longest_month y m = grind arith
+
+-- ---- the day of fields
+
+count_is : (f : Fields) (c : ℕ) → IsCount c → day_at c ≡ ymd (pos f.year) f.month f.day → day_of_fields f ≡ c
+count_is f c low e = rw (the_day-named (pos f.year) f.month f.day c low e) refl
+
+pub moved : (f : Fields) (c n day minute : ℕ) (minutes : ℤ) → IsCount c → IsCount n → day_at c ≡ ymd (pos f.year) f.month f.day → day_at n ≡ ymd (pos f.year) f.month day
+    → day ≤ days_in_month (pos f.year) f.month → minute < 1440 → pos (n * 1440 + minute) ≡ pos (c * 1440) +ℤ minutes → IsMoved f minutes day minute
+moved f c n day minute minutes low in_calendar here there short within since = record {
+  count = n;
+  in_calendar = in_calendar;
+  day_is = there;
+  day_small = omega (arith, longest_month (pos f.year) f.month);
+  within_a_day = within;
+  since = rw (count_is f c low here) since;
+}
+
+-- ---- the wall clock
+
+whole_minutes : (target : ℤ) → IsClockOffset target → target ≡ pos 60 *ℤ int_div target (pos 60)
+whole_minutes target h = omega (arith, signed, quot-rem target (pos 60), h.whole_minutes)
+
+-- a wall clock of whole minutes and a part of one, moved by the minutes between two offsets
+wall_moved : (c n minute second fraction other : ℕ) (target target_minutes offset minutes : ℤ) → target ≡ pos 60 *ℤ target_minutes → minutes ≡ pos minute +ℤ (target_minutes -ℤ offset) → pos (n * 1440 + other) ≡ pos (c * 1440) +ℤ minutes
+    → wall_clock c ((minute * 60 + second) * second_nanos + fraction) +ℤ (target -ℤ pos 60 *ℤ offset) *ℤ pos second_nanos ≡ wall_clock n ((other * 60 + second) * second_nanos + fraction)
+unfolding wall_clock
+wall_moved c n minute second fraction other target target_minutes offset minutes whole e since = omega (arith, signed)
+
+-- ---- the line
+
+-- a minute and a second of it are a second of the day
+pub second_parts : (minute second : ℕ) → second < 60 → ((minute * 60 + second) / 3600 ≡ minute / 60) × ((minute * 60 + second) / 60 % 60 ≡ minute % 60) × ((minute * 60 + second) % 60 ≡ second)
+second_parts minute second h = (omega arith, omega arith, omega arith)
+
+by_parts : (front a b c d : List ℕ) → ((((((front ++ a) ++ colon ∷ []) ++ b) ++ colon ∷ []) ++ c) ++ dot ∷ []) ++ d ≡ front ++ (a ++ codes ":" ++ b ++ codes ":" ++ c ++ codes "." ++ d)
+by_parts front a b c d = grind (arith, append_assoc)
+
+-- the time of a minute and a second of it, piece by piece behind what is there
+pub clock_text : (front nine : List ℕ) (minute second fraction : ℕ) → second < 60 → decimal 9 fraction ≡ nine
+    → ((((((front ++ decimal 2 (minute / 60)) ++ colon ∷ []) ++ decimal 2 (minute % 60)) ++ colon ∷ []) ++ decimal 2 second) ++ dot ∷ []) ++ nine ≡ front ++ time_text (minute * 60 + second) fraction
+unfolding time_text
+clock_text front nine minute second fraction h e =
+    let parts = second_parts minute second h in
+    rw (parts.0, parts.1, parts.2, e) (by_parts front (decimal 2 (minute / 60)) (decimal 2 (minute % 60)) (decimal 2 second) nine)
+
+-- what is written of a wall clock
+text_of : (n second fraction : ℕ) (offset : ℤ) (day : YearMonthDay) → second < 86_400 → fraction < second_nanos → day_at n ≡ day
+    → moment_text (record { wall = wall_clock n (second * second_nanos + fraction); offset = offset }) ≡ parts_text day second fraction offset
+unfolding moment_text
+text_of n second fraction offset day h k e =
+    let within : second * second_nanos + fraction < day_nanos = omega arith in
+    rw (day_of-wall_clock n (second * second_nanos + fraction) within, nanosecond_of-wall_clock n (second * second_nanos + fraction) within, second_of_parts second fraction k, nanosecond_of_parts second fraction k, e) refl
+
+four_digits : (wall : ℤ) (n year : ℕ) (offset : ℤ) (t : YearMonthDay) → day_of wall ≡ n → day_at n ≡ t → t.year ≡ pos year → year ≤ 9999 → IsTrue (has_written_year (record { wall = wall; offset = offset }))
+unfolding has_written_year
+four_digits wall n year offset t day e year_is low = rw (day, e, year_is) (grind (arith, nat_tests, ints))
+
+second_of_day : (minute second : ℕ) → minute < 1440 → second < 60 → minute * 60 + second < 86_400
+second_of_day minute second h k = omega arith
+
+nanosecond_of_day : (second fraction : ℕ) → second < 86_400 → fraction < second_nanos → second * second_nanos + fraction < day_nanos
+nanosecond_of_day second fraction h k = omega arith
+
+-- what fields name, at a target so many minutes on
+module _ (f : Fields) (target minutes : ℤ) (day minute : ℕ) (is : IsMoved f minutes day minute) (clock : IsClockOffset target) (fraction_small : f.fraction < second_nanos) (minutes_are : minutes ≡ pos f.minute +ℤ (int_div target (pos 60) -ℤ f.offset)) where
+  in_day : minute * 60 + f.second < 86_400
+  in_day = second_of_day minute f.second is.within_a_day f.within_a_minute
+
+  within : (minute * 60 + f.second) * second_nanos + f.fraction < day_nanos
+  within = nanosecond_of_day (minute * 60 + f.second) f.fraction in_day fraction_small
+
+  wall_is : wall_at target (instant (moment_of f)) ≡ wall_clock is.count ((minute * 60 + f.second) * second_nanos + f.fraction)
+  unfolding moment_of
+  wall_is = wall_at-instant (moment_of f) target ∙ wall_moved (day_of_fields f) is.count f.minute f.second f.fraction minute target (int_div target (pos 60)) f.offset minutes (whole_minutes target clock) minutes_are is.since
+
+  there : at_offset target (moment_of f) ≡ record { wall = wall_clock is.count ((minute * 60 + f.second) * second_nanos + f.fraction); offset = target }
+  there = ap (λ (w : ℤ). record { wall = w; offset = target }) wall_is
+
+  pub line_is : moment_text (at_offset target (moment_of f)) ≡ parts_text (ymd (pos f.year) f.month day) (minute * 60 + f.second) f.fraction target
+  line_is = ap moment_text there ∙ text_of is.count (minute * 60 + f.second) f.fraction target (ymd (pos f.year) f.month day) in_day fraction_small is.day_is
+
+  pub shown_is : shown_at target (instant (moment_of f)) ≡ Some (at_offset target (moment_of f))
+  shown_is = shown_at_some (moment_of f) target (wall_at target (instant (moment_of f))) (wall_at-instant (moment_of f) target) (subst (λ (w : ℤ). IsWallClock w) (sym wall_is) (IsWallClock-wall_clock is.count ((minute * 60 + f.second) * second_nanos + f.fraction) is.in_calendar within))
+
+  pub fits : FitsLine (at_offset target (moment_of f))
+  fits = record {
+    year = subst (λ (m : Shown). IsTrue (has_written_year m)) (sym there)
+        (four_digits (wall_clock is.count ((minute * 60 + f.second) * second_nanos + f.fraction)) is.count f.year target (ymd (pos f.year) f.month day) (day_of-wall_clock is.count ((minute * 60 + f.second) * second_nanos + f.fraction) within) is.day_is refl f.four_digits);
+    offset = clock;
+  }

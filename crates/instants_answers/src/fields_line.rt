@@ -1,0 +1,63 @@
+//! The line of the fields of a date-time, shown at another offset.
+
+ghost use Rattle.std.specs.Prelude.{◌≡◌, ◌+◌, ◌*◌, ◌<◌, ◌≤◌, ◌++◌, [], true, false, pos, length, unsigned_abs, Some, if◌then◌else◌};
+ghost use Rattle.std.specs.Ordering.{int_eq};
+ghost use Rattle.calendar.specs.UtcOffset.{IsClockOffset};
+ghost use Rattle.calendar_count.specs.Calendar.{ymd};
+ghost use Rattle.datetime_wall.specs.Wall.{instant, shown_at};
+ghost use Rattle.parsing_fields.specs.Moment.{moment_of};
+ghost use Rattle.instants_answers.specs.Moved.{at_offset};
+ghost use Rattle.instants_answers.specs.Text.{FitsLine, moment_text, parts_text};
+
+use crate::answer::Answer;
+use crate::fields::{push_clock, push_date, push_offset};
+use crate::moved::moved_within_month;
+use calendar::UtcOffset;
+use parsing_fields::Fields;
+
+// Writes the line of a day of the fields' month, a minute of it, and the fields' second and fraction.
+#[inline(always)]
+fn write_parts(fields: &Fields, day: u8, minute: u32, offset: i32, answer: &mut Answer)
+    requires day { day ≤ 31 }
+    requires minute { minute < 1440 }
+    requires offset { unsigned_abs offset ≤ 86_340 }
+    ensures line { answer.new ≡ parts_text
+        (ymd (pos fields.now.year) fields.now.month day)
+        (minute * 60 + fields.now.second) fields.now.fraction offset }
+    ensures len { length answer.new ≡ (if int_eq offset (pos 0) then 30 else 35) }
+    ensures fraction { fields.now.fraction < 1_000_000_000 }
+{
+    answer.clear();
+    push_date(
+        answer,
+        u32::from(fields.year),
+        u32::from(fields.month),
+        u32::from(day),
+    );
+    answer.push(b'T');
+    push_clock(answer, minute, u32::from(fields.second), fields.fraction);
+    push_offset(answer, offset);
+}
+
+/// Writes the line of the moment that fields name, as it is shown at the target, in place of what the answer held.
+///
+/// No day is counted: `false`, with the answer as it was, where the day at the target is in another month, or
+/// more than one day away.
+#[inline(always)]
+pub fn write_fields(fields: &Fields, target: UtcOffset, answer: &mut Answer) -> bool
+    requires { IsClockOffset target }
+    ensures line { result ≡ true → answer.new ≡ moment_text
+        (at_offset target (moment_of fields.now)) }
+    ensures shown { result ≡ true → shown_at target (instant (moment_of fields.now))
+        ≡ Some (at_offset target (moment_of fields.now)) }
+    ensures fits { result ≡ true → FitsLine (at_offset target (moment_of fields.now)) }
+    ensures len { result ≡ true → length answer.new ≡ (if int_eq target (pos 0) then 30 else 35) }
+    ensures kept { result ≡ false → answer.new ≡ answer.old }
+{
+    let apart = i32::from(target.whole_minutes()) - i32::from(fields.offset);
+    let Some(moved) = moved_within_month(fields, i32::from(fields.minute) + apart) else {
+        return false;
+    };
+    write_parts(fields, moved.0, moved.1, target.whole_seconds(), answer);
+    true
+}
