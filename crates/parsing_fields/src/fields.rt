@@ -1,8 +1,11 @@
 //! The fields of a date-time.
-ghost use Rattle.std.specs.Prelude.{◌<◌, ◌≤◌, pos, unsigned_abs};
+ghost use Rattle.std.specs.Prelude.{◌≡◌, ◌<◌, ◌≤◌, ◌↔◌, pos, unsigned_abs, IsSome, IfSome};
 ghost use Rattle.calendar_count.specs.Calendar.{IsDay};
 
 use crate::fraction::Fraction;
+use calendar::{Date, Time, UtcOffset};
+use calendar_count::{closed, march};
+use datetime_types::OffsetDateTime;
 
 /// The fields of a date-time in a year of four digits: a day of the calendar, a time of day, and an offset of whole minutes,
 /// at most 25:59. No second is a leap second.
@@ -27,4 +30,56 @@ pub struct Fields {
     ghost within_a_day: { minute < 1440 },
     ghost within_a_minute: { second < 60 },
     ghost is_offset: { unsigned_abs offset ≤ 1559 },
+}
+
+impl Fields {
+    ghost use Rattle.parsing_fields.specs.Moment.{moment_of};
+    ghost use Rattle.parsing_fields.specs.Numbers.{NameFields, HaveNumbers};
+
+    /// The fields with these numbers, where there are such fields.
+    #[inline(always)]
+    pub fn new(
+        year: u16,
+        month: u8,
+        day: u8,
+        minute: u16,
+        second: u8,
+        fraction: Fraction,
+        offset: i16,
+    ) -> Option<Fields>
+        ensures some { IsSome result ↔ NameFields year month day minute second offset }
+        ensures numbers { IfSome result
+            (λ f. HaveNumbers f year month day minute second fraction offset) }
+    {
+        if month < 1 || month > 12 || !closed::has_day(i32::from(year), month, day) {
+            return None;
+        }
+        if year > 9999 || minute >= 1440 || second >= 60 || offset.unsigned_abs() > 1559 {
+            return None;
+        }
+        Some(Fields {
+            year,
+            month,
+            day,
+            minute,
+            second,
+            fraction,
+            offset,
+        })
+    }
+
+    /// The moment that they name.
+    #[inline(always)]
+    pub fn moment(self) -> OffsetDateTime
+        ensures { result ≡ moment_of self }
+    {
+        let count = march::count_of_day(i32::from(self.year), self.month, self.day);
+        let second_of_day = u32::from(self.minute) * 60 + u32::from(self.second);
+        let time = Time::from_seconds_nanoseconds(second_of_day, self.fraction.nanosecond());
+        let offset = match UtcOffset::from_whole_seconds(i32::from(self.offset) * 60) {
+            Ok(offset) => offset,
+            Err(_) => unreachable!(),
+        };
+        OffsetDateTime::new_in_offset(Date::from_count(count), time, offset)
+    }
 }

@@ -3,6 +3,8 @@
 
 mod fields;
 mod fraction;
+mod minutes;
 
 pub use fields::Fields;
 pub use fraction::Fraction;
+pub use minutes::{minute_of_day, signed_minutes};

@@ -1,0 +1,2 @@
+-- The lemmas on fields that crates above cite, each over the definitions of `specs/`.
+pub mod Moments

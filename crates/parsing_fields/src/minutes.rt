@@ -1,0 +1,31 @@
+//! Minutes of the day, and offsets in minutes.
+ghost use Rattle.std.specs.Prelude.{◌≡◌, ◌+◌, ◌*◌, ◌≤◌, ◌↔◌, IsSome, IfSome, IsOk, Ok, pos, ◌*ℤ◌, unsigned_abs};
+ghost use Rattle.parsing_resolution.specs.Resolution.{signed_offset_of};
+
+/// The minute of the day of an hour below 24 and a minute below 60.
+#[inline(always)]
+pub fn minute_of_day(hour: u8, minute: u8) -> Option<u16>
+    ensures some { IsSome result ↔ ((hour ≤ 23) × (minute ≤ 59)) }
+    ensures value { IfSome result (λ m. m ≡ hour * 60 + minute) }
+{
+    if hour > 23 || minute > 59 {
+        return None;
+    }
+    Some(u16::from(hour) * 60 + u16::from(minute))
+}
+
+/// The minutes of an offset of hours and minutes under one sign, where it has at most 25 hours and 59 minutes.
+#[tactic(auto, unfolding(parsing_resolution::specs::Resolution::signed_offset_of, calendar_clock::specs::UtcOffset::offset_of))]
+#[inline(always)]
+pub fn signed_minutes(is_negative: bool, hours: u8, minutes: u8) -> Option<i16>
+    ensures some { IsSome result ↔ IsOk (signed_offset_of is_negative hours minutes) }
+    ensures value { IfSome result
+        (λ m. signed_offset_of is_negative hours minutes ≡ Ok (pos 60 *ℤ m)) }
+    ensures bound { IfSome result (λ m. unsigned_abs m ≤ 1559) }
+{
+    if hours > 25 || minutes > 59 {
+        return None;
+    }
+    let length = i16::from(hours) * 60 + i16::from(minutes);
+    Some(if is_negative { -length } else { length })
+}
