@@ -1,6 +1,6 @@
 -- Moments at another offset, by the minutes between the offsets.
-use Rattle.std.proofs.Common.{◌≡◌, ℕ, suc, ◌+◌, ◌*◌, ◌/◌, ◌%◌, ◌<◌, ◌≤◌, List, [], ◌∷◌, ◌++◌, append_assoc, codes, true, Some, refl, sym, ap, subst, ◌∙◌, arith, ℤ, pos, ◌+ℤ◌, ◌-ℤ◌, ◌*ℤ◌}
-use Rattle.std.specs.Prelude.{IsTrue, int_le, int_div, int_rem, unsigned_abs}
+use Rattle.std.proofs.Common.{◌≡◌, ℕ, suc, ◌+◌, ◌*◌, ◌/◌, ◌%◌, ◌<◌, ◌≤◌, List, [], ◌∷◌, ◌++◌, append_assoc, codes, Some, refl, sym, ap, subst, ◌∙◌, arith, to_z, of_z, w32, ℤ, pos, ◌+ℤ◌, ◌-ℤ◌, ◌*ℤ◌}
+use Rattle.std.specs.Prelude.{IsTrue, int_div, unsigned_abs}
 use Rattle.std.proofs.lemmas.Bool.Decides.{nat_tests}
 use Rattle.std.proofs.lemmas.Int.{ints, quot-rem}
 use Rattle.byte_names.specs.Bytes.{colon, dot}
@@ -11,14 +11,14 @@ use Rattle.calendar_count.specs.Calendar.{YearMonthDay, day_at, next_day, ymd, d
 use Rattle.calendar_count.proofs.lemmas.Days.{day_at_same}
 use Rattle.calendar_count.proofs.lemmas.Signed.{signed}
 use Rattle.calendar_count.proofs.lemmas.TheDay.{the_day-named}
-use Rattle.datetime_wall.specs.Wall.{Shown, wall_clock, wall_at, instant, day_of, nanosecond_of, second_nanos, day_nanos, shown_at, IsWallClock}
+use Rattle.datetime_wall.specs.Wall.{Shown, wall_clock, wall_at, instant, day_of, second_nanos, day_nanos, shown_at, IsWallClock}
 use Rattle.datetime_wall.proofs.lemmas.Shown.{wall_at-instant, shown_at_some}
 use Rattle.datetime_wall.proofs.lemmas.WallClocks.{day_of-wall_clock, nanosecond_of-wall_clock, IsWallClock-wall_clock}
-use Rattle.parsing_fields.specs.Moment.{day_of_fields, time_of_fields, moment_of}
+use Rattle.parsing_fields.specs.Moment.{day_of_fields, moment_of}
 use Rattle.parsing_fields.specs.declared.fields.Fields.{Fields}
 use Rattle.instants_answers.specs.Decimal.{decimal}
 use Rattle.instants_answers.specs.Moved.{at_offset, IsMoved}
-use Rattle.instants_answers.specs.Text.{date_text, time_text, offset_text, parts_text, moment_text, has_written_year, FitsLine}
+use Rattle.instants_answers.specs.Text.{time_text, parts_text, moment_text, has_written_year, FitsLine}
 
 -- ---- days beside each other
 
@@ -55,6 +55,10 @@ moved f c n day minute minutes low in_calendar here there short within since = r
 }
 
 -- ---- the wall clock
+
+-- a small number is kept in 32 bits
+pub kept_number : (z : ℤ) → unsigned_abs z ≤ 10_000 → to_z w32 (of_z w32 z) ≡ z
+kept_number z h = omega (arith, signed)
 
 whole_minutes : (target : ℤ) → IsClockOffset target → target ≡ pos 60 *ℤ int_div target (pos 60)
 whole_minutes target h = omega (arith, signed, quot-rem target (pos 60), h.whole_minutes)

@@ -48,17 +48,17 @@ pub(crate) fn push_time(answer: &mut Answer, second: u32, nanosecond: u32)
 // The time of a minute of the day, a second of it and a fraction of that.
 #[inline(always)]
 #[tactic(auto, unfolding(crate::specs::Text::time_text))]
-pub(crate) fn push_clock(answer: &mut Answer, minute: u32, second: u32, fraction: Fraction)
+pub(crate) fn push_clock(answer: &mut Answer, minute_of_day: u32, second: u32, fraction: Fraction)
     requires room { length answer.old + 18 ≤ 64 }
-    requires minute { minute < 1440 }
+    requires minute { minute_of_day < 1440 }
     requires second { second < 60 }
-    ensures text { answer.new ≡ answer.old ++ time_text (minute * 60 + second) fraction }
+    ensures text { answer.new ≡ answer.old ++ time_text (minute_of_day * 60 + second) fraction }
     ensures len { length answer.new ≡ length answer.old + 18 }
     ensures fraction { fraction < 1_000_000_000 }
 {
-    push_two(answer, minute / 60);
+    push_two(answer, minute_of_day / 60);
     answer.push(b':');
-    push_two(answer, minute % 60);
+    push_two(answer, minute_of_day % 60);
     answer.push(b':');
     push_two(answer, second);
     answer.push(b'.');

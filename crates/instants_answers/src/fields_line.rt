@@ -1,6 +1,6 @@
 //! The line of the fields of a date-time, shown at another offset.
 
-ghost use Rattle.std.specs.Prelude.{◌≡◌, ◌+◌, ◌*◌, ◌<◌, ◌≤◌, ◌++◌, [], true, false, pos, length, unsigned_abs, Some, if◌then◌else◌};
+ghost use Rattle.std.specs.Prelude.{◌≡◌, ◌+◌, ◌*◌, ◌<◌, ◌≤◌, ◌++◌, [], true, false, pos, ◌+ℤ◌, ◌-ℤ◌, int_div, length, unsigned_abs, Some, if◌then◌else◌};
 ghost use Rattle.std.specs.Ordering.{int_eq};
 ghost use Rattle.calendar.specs.UtcOffset.{IsClockOffset};
 ghost use Rattle.calendar_count.specs.Calendar.{ymd};
@@ -39,6 +39,17 @@ fn write_parts(fields: &Fields, day: u8, minute: u32, offset: i32, answer: &mut 
     push_offset(answer, offset);
 }
 
+// The minutes from where the fields' day begins to their time at the target.
+#[inline(always)]
+fn minutes_at(fields: &Fields, target: UtcOffset) -> i32
+    ensures value { result
+        ≡ pos fields.now.minute +ℤ (int_div target (pos 60) -ℤ fields.now.offset) }
+    ensures bound { unsigned_abs result ≤ 5000 }
+{
+    let apart = i32::from(target.whole_minutes()) - i32::from(fields.offset);
+    i32::from(fields.minute) + apart
+}
+
 /// Writes the line of the moment that fields name, as it is shown at the target, in place of what the answer held.
 ///
 /// No day is counted: `false`, with the answer as it was, where the day at the target is in another month, or
@@ -54,8 +65,7 @@ pub fn write_fields(fields: &Fields, target: UtcOffset, answer: &mut Answer) -> 
     ensures len { result ≡ true → length answer.new ≡ (if int_eq target (pos 0) then 30 else 35) }
     ensures kept { result ≡ false → answer.new ≡ answer.old }
 {
-    let apart = i32::from(target.whole_minutes()) - i32::from(fields.offset);
-    let Some(moved) = moved_within_month(fields, i32::from(fields.minute) + apart) else {
+    let Some(moved) = moved_within_month(fields, minutes_at(fields, target)) else {
         return false;
     };
     write_parts(fields, moved.0, moved.1, target.whole_seconds(), answer);
