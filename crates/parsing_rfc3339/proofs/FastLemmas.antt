@@ -1,19 +1,24 @@
 -- A text whose pieces are read one after another, with numbers in range and no leap second, names their moment.
-use Rattle.std.proofs.Common.{◌≡◌, ℕ, false, List, [], Option, Some, None, Ok, ℤ, pos, refl, arith}
+use Rattle.std.proofs.Common.{◌≡◌, ℕ, ◌+◌, ◌*◌, ◌<◌, ◌≤◌, false, List, [], Option, Some, None, Ok, ℤ, pos, refl, arith}
 use Rattle.std.specs.Option.{unwrap_or}
 use Rattle.std.proofs.lemmas.Bool.Decides.{nat_tests}
 use Rattle.std.specs.Borrow.{Bor}
-use Rattle.std.specs.Prelude.{◌==◌, IfSome}
+use Rattle.std.specs.Prelude.{◌==◌, IfSome, ◌*ℤ◌}
 use Rattle.calendar.specs.Time.{time_of}
 use Rattle.datetime_wall.specs.Wall.{wall_clock}
 use Rattle.byte_names.specs.Bytes.{dot}
-use Rattle.parsing_pieces.specs.Pieces.{byte, any_byte, fraction, cut_view}
+use Rattle.parsing_pieces.specs.Pieces.{byte, any_byte, fraction}
 use Rattle.parsing_pieces.specs.declared.zone.Zone.{Zone}
 use Rattle.parsing_resolution.specs.Resolution.{date_of, permitted_time_of, signed_offset_of}
 use Rattle.parsing_resolution.specs.StandIn.{leap_checked}
 use Rattle.parsing_rfc3339.specs.declared.parts.Rfc3339Parts.{Rfc3339Parts}
 use Rattle.parsing_rfc3339.specs.Reading.{date, clock, due_fraction, subsecond, offset, rfc3339}
 use Rattle.parsing_rfc3339.specs.Direct.{direct, moment, moment_of}
+use Rattle.parsing_fields.specs.declared.fields.Fields.{Fields}
+use Rattle.parsing_fields.specs.Moment as Moment
+use Rattle.parsing_fields.specs.Moment.{day_of_fields, time_of_fields}
+use Rattle.parsing_fields.specs.Numbers.{HaveNumbers}
+use Rattle.parsing_fields.proofs.lemmas.Moments.{fields_date, fields_time, moment_is}
 
 -- the numbers of the pieces
 abbrev numbers : ℕ × ℕ × ℕ → ℕ × ℕ × ℕ → Option ℕ → Zone → Rfc3339Parts
@@ -32,12 +37,17 @@ unfolding direct moment moment_of permitted_time_of leap_checked
 all_resolved b0 w o day time read in_zone in_day in_time = rw (read, in_zone, in_day, no_leap w.hour w.minute w.second (unwrap_or w.subsecond 0) time in_time, in_time)
 
 -- what a function returns that reads the fraction behind a point
-pub fraction_read : (b0 b1 : List ℕ) (result : Option (ℕ × Bor (List ℕ))) → byte dot b0 ≡ Some (tt, b1) → cut_view result ≡ fraction b1 → IfSome result (λ x. (n : Option ℕ) × (subsecond b0 ≡ Ok (n, x.1.now)) × (unwrap_or n 0 ≡ x.0))
+pub fraction_read : (b0 b1 : List ℕ) (result : Option (ℕ × Bor (List ℕ))) → byte dot b0 ≡ Some (tt, b1) → IfSome result (λ x. fraction b1 ≡ Some (x.0, x.1.now)) → IfSome result (λ x. (n : Option ℕ) × (subsecond b0 ≡ Ok (n, x.1.now)) × (unwrap_or n 0 ≡ x.0))
 unfolding subsecond due_fraction
 fraction_read b0 b1 None there cut = tt
-fraction_read b0 b1 (Some x) there cut = (Some x.0, rw (there, ← cut), refl)
+fraction_read b0 b1 (Some x) there cut = (Some x.0, rw (there, cut) refl, refl)
 
 -- what a function returns that reads the pieces one after another
 pub moment_read : (b0 b1 b2 b3 b4 : List ℕ) (d t : ℕ × ℕ × ℕ) (nanosecond : ℕ) (o : ℤ) (day time : ℕ) → date false b0 ≡ Ok (d, b1) → any_byte b1 ≡ Some (tt, b2) → clock false b2 ≡ Ok (t, b3) → ((n : Option ℕ) × (subsecond b3 ≡ Ok (n, b4)) × (unwrap_or n 0 ≡ nanosecond)) → ((z : Zone) × (offset false b4 ≡ Ok (z, [])) × (signed_offset_of z.is_negative z.hours z.minutes ≡ Ok o)) → date_of (pos d.0) d.1 d.2 ≡ Ok day → time_of t.0 t.1 t.2 nanosecond ≡ Ok time → direct b0 ≡ Ok (record { wall = wall_clock day time; offset = o })
 moment_read b0 b1 b2 b3 b4 d t nanosecond o day time in_date between in_clock in_subsecond in_offset in_day in_time =
     all_resolved b0 (numbers d t in_subsecond.0 in_offset.0) o day time (all_read b0 b1 b2 b3 b4 d t in_subsecond.0 in_offset.0 in_date between in_clock in_subsecond.1 in_offset.1) in_offset.2 in_day (rw in_subsecond.2 in_time)
+
+-- the same of fields that have the numbers of the pieces
+pub fields_read : (f : Fields) (b0 b1 b2 b3 b4 : List ℕ) (d t : ℕ × ℕ × ℕ) (fraction : ℕ) (o : ℤ) → date false b0 ≡ Ok (d, b1) → any_byte b1 ≡ Some (tt, b2) → clock false b2 ≡ Ok (t, b3) → ((n : Option ℕ) × (subsecond b3 ≡ Ok (n, b4)) × (unwrap_or n 0 ≡ fraction)) → ((z : Zone) × (offset false b4 ≡ Ok (z, [])) × (signed_offset_of z.is_negative z.hours z.minutes ≡ Ok (pos 60 *ℤ o))) → HaveNumbers f d.0 d.1 d.2 (t.0 * 60 + t.1) t.2 fraction o → t.0 ≤ 23 → t.1 ≤ 59 → fraction < 1_000_000_000 → direct b0 ≡ Ok (Moment.moment_of f)
+fields_read f b0 b1 b2 b3 b4 d t fraction o in_date between in_clock in_subsecond in_offset numbers hour minute bound =
+    rw (← moment_is f, numbers.same_offset) (moment_read b0 b1 b2 b3 b4 d t fraction (pos 60 *ℤ o) (day_of_fields f) (time_of_fields f) in_date between in_clock in_subsecond in_offset (fields_date f _ _ _ _ _ _ _ numbers) (fields_time f _ _ _ _ _ _ _ _ numbers hour minute bound))

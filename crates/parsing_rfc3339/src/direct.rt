@@ -1,15 +1,15 @@
 //! The moment that a text names.
-ghost use Rattle.std.specs.Prelude.{◌≡◌, ◌<◌, IfErr, IfSome, Ok, pos};
+ghost use Rattle.std.specs.Prelude.{◌≡◌, ◌<◌, IfErr, IfSome, Ok};
 ghost use Rattle.parsing_pieces.specs.FaultOf.{Gives, fault_of};
 ghost use Rattle.parsing_pieces.specs.ShortName.{HasShortName};
 ghost use Rattle.parsing_rfc3339.specs.Direct.{direct, moment_of};
 ghost use Rattle.parsing_pieces.specs.Readings.{value_read};
-ghost use Rattle.parsing_resolution.specs.Resolution.{date_of};
+ghost use Rattle.parsing_fields.specs.Moment as Moment;
 
 use crate::parts::Rfc3339Parts;
-use crate::reading::{fast_clock, fast_date, fast_offset, fast_subsecond, parse_prefix};
-use calendar::{Date, Time};
+use crate::reading::{fast_clock, fast_date, fast_fraction, fast_offset, parse_prefix};
 use datetime_types::OffsetDateTime;
+use parsing_fields::{Fields, minute_of_day};
 use parsing_pieces::{Parse, ParseFromDescription, any_byte};
 use parsing_resolution::{leap_checked, resolve};
 
@@ -33,26 +33,15 @@ fn resolved(parts: Rfc3339Parts, rest: &[u8]) -> Result<OffsetDateTime, Parse>
     Ok(leap_checked(parts.second == 60, shown)?)
 }
 
-// The date of these numbers, where they have one.
-#[inline(always)]
-fn fast_day(year: u16, month: u8, day: u8) -> Option<Date>
-    ensures { IfSome result (λ date. date_of (pos year) month day ≡ Ok date) }
-{
-    match resolve::date(i32::from(year), month, day) {
-        Ok(date) => Some(date),
-        Err(_) => None,
-    }
-}
-
 // The bytes of a text without a fraction, in UTC: no text has fewer.
 const SHORTEST: usize = 20;
 
-/// The moment that a text names, where the fast way finds one: `None` says nothing of the text.
+/// The fields of a text, where the fast way finds them: `None` says nothing of the text.
 ///
-/// It finds that of most texts: no leap second, and an offset in range.
+/// It finds those of most texts: at most nine digits of a fraction, no leap second, and an offset in range.
 #[inline(always)]
-pub fn read_fast(input: &[u8]) -> Option<OffsetDateTime>
-    ensures { IfSome result (λ moment. direct input.now ≡ Ok moment) }
+pub fn read_fields(input: &[u8]) -> Option<Fields>
+    ensures { IfSome result (λ fields. direct input.now ≡ Ok (Moment.moment_of fields)) }
 {
     if input.len() < SHORTEST {
         return None;
@@ -61,13 +50,21 @@ pub fn read_fast(input: &[u8]) -> Option<OffsetDateTime>
     let ((year, month, day), rest) = fast_date(input)?;
     let rest = any_byte(rest)?;
     let ((hour, minute, second), rest) = fast_clock(rest)?;
-    let (nanosecond, rest) = fast_subsecond(rest)?;
-    let offset = fast_offset(rest)?;
-    let date = fast_day(year, month, day)?;
-    match Time::from_hms_nano(hour, minute, second, nanosecond) {
-        Ok(time) => Some(OffsetDateTime::new_in_offset(date, time, offset)),
-        Err(_) => None,
-    }
+    let Some(read) = fast_fraction(rest) else {
+        return None;
+    };
+    let offset = fast_offset(read.1)?;
+    let minute_of_day = minute_of_day(hour, minute)?;
+    Fields::new(year, month, day, minute_of_day, second, read.0, offset)
+}
+
+/// The moment that a text names, where the fast way finds one: `None` says nothing of the text.
+#[inline(always)]
+pub fn read_fast(input: &[u8]) -> Option<OffsetDateTime>
+    ensures { IfSome result (λ moment. direct input.now ≡ Ok moment) }
+{
+    let fields = read_fields(input)?;
+    Some(fields.moment())
 }
 
 /// The moment that a text of RFC 3339, section 5.6, names, with any one byte between date and time.

@@ -6,6 +6,6 @@ pub mod laws;
 mod parts;
 mod reading;
 
-pub use direct::{read_exact, read_fast};
+pub use direct::{read_exact, read_fast, read_fields};
 pub use parts::Rfc3339Parts;
 pub use reading::parse_prefix;

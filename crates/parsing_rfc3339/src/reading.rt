@@ -9,12 +9,11 @@ ghost use Rattle.parsing_rfc3339.specs.Range.{AreInRange};
 ghost use Rattle.parsing_rfc3339.specs.Reading as Reading;
 
 use crate::parts::Rfc3339Parts;
-use calendar::UtcOffset;
+use parsing_fields::{Fraction, signed_minutes};
 use parsing_pieces::ParseFromDescription::{self, InvalidComponent, InvalidLiteral};
 use parsing_pieces::{
     Zone, any_byte, byte, four_digits, fraction, sign, two_digits, within, year_month,
 };
-use parsing_resolution::resolve;
 
 // The date at the front, where no piece of it is missing.
 #[tactic(auto, unfolding(crate::specs::Reading::date))]
@@ -91,15 +90,16 @@ fn subsecond(bytes: &[u8]) -> Result<(Option<u32>, &[u8]), ParseFromDescription>
     Ok((Some(nanosecond), rest))
 }
 
-// The nanoseconds of the fraction at the front, and 0 where none stands there.
+// The fraction at the front, at most nine digits, and 0 where none stands there.
 #[tactic(auto, unfolding(crate::specs::Reading::subsecond, crate::specs::Reading::due_fraction))]
 #[inline(always)]
-pub(crate) fn fast_subsecond(bytes: &[u8]) -> Option<(u32, &[u8])>
-    ensures { IfSome result (λ x. ReadsNanosecond bytes.now x.0 x.1.now) }
+pub(crate) fn fast_fraction(bytes: &[u8]) -> Option<(Fraction, &[u8])>
+    ensures reads { IfSome result (λ x. ReadsNanosecond bytes.now x.0 x.1.now) }
+    ensures bound { IfSome result (λ x. x.0 < 1_000_000_000) }
 {
     match byte(b'.', bytes) {
-        Some(rest) => fraction(rest),
-        None => Some((0, bytes)),
+        Some(rest) => Fraction::read(rest),
+        None => Some((Fraction::new(0), bytes)),
     }
 }
 
@@ -161,9 +161,9 @@ fn offset(is_strict: bool, bytes: &[u8]) -> Result<(Zone, &[u8]), ParseFromDescr
     signed_offset(is_strict, bytes)
 }
 
-// The signed offset that is all that is there, where its numbers are in range.
+// The minutes of the signed offset that is all that is there, where its numbers are in range.
 #[inline(always)]
-fn fast_signed_offset(bytes: &[u8]) -> Option<UtcOffset>
+fn fast_signed_offset(bytes: &[u8]) -> Option<i16>
     ensures { IfSome result (IsAllOffset (Reading.signed_offset false bytes.now)) }
 {
     if bytes.len() != 6 {
@@ -175,18 +175,15 @@ fn fast_signed_offset(bytes: &[u8]) -> Option<UtcOffset>
     if !rest.is_empty() {
         return None;
     }
-    match resolve::signed_offset(zone.is_negative, zone.hours, zone.minutes) {
-        Ok(offset) => Some(offset),
-        Err(_) => None,
-    }
+    signed_minutes(zone.is_negative, zone.hours, zone.minutes)
 }
 
-// The offset that is all that is there, where its numbers are in range.
+// The minutes of the offset that is all that is there, where its numbers are in range.
 //
-// It is handed on as a value: a `Zone` of either branch would be packed into a word and taken apart again.
+// They are handed on as a number: a `Zone` of either branch would be packed into a word and taken apart again.
 #[tactic(auto, unfolding(crate::specs::Reading::offset))]
 #[inline(always)]
-pub(crate) fn fast_offset(bytes: &[u8]) -> Option<UtcOffset>
+pub(crate) fn fast_offset(bytes: &[u8]) -> Option<i16>
     ensures { IfSome result (IsAllOffset (Reading.offset false bytes.now)) }
 {
     let Some(rest) = zulu(bytes) else {
@@ -195,7 +192,7 @@ pub(crate) fn fast_offset(bytes: &[u8]) -> Option<UtcOffset>
     if !rest.is_empty() {
         return None;
     }
-    Some(UtcOffset::UTC)
+    Some(0)
 }
 
 #[tactic(auto, unfolding(crate::specs::Reading::rfc3339))]
