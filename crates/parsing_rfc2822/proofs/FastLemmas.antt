@@ -1,20 +1,35 @@
 -- A time of day without white space in it, and a day without a weekday.
-use Rattle.std.proofs.Common.{◌≡◌, ℕ, ◌+◌, ◌≤◌, Bool, true, false, cond, eqb, leb, List, [], ◌∷◌, length, Option, Some, None, refl, sym, ap, ◌∙◌, arith}
+use Rattle.std.proofs.Common.{◌≡◌, ℕ, ◌+◌, ◌*◌, ◌≤◌, Bool, true, false, cond, eqb, leb, List, [], ◌∷◌, length, Option, Some, None, refl, sym, ap, ◌∙◌, arith, lit<, ℤ, pos}
 use Rattle.std.specs.Borrow.{Bor}
-use Rattle.std.specs.Prelude.{Ok, option_map, is_some}
+use Rattle.std.specs.Prelude.{Ok, option_map, is_some, ◌==◌, ◌*ℤ◌, IfSome}
 use Rattle.std.specs.Char.{is_ascii_digit, to_ascii_lowercase}
 use Rattle.std.proofs.lemmas.Bool.{eqb-true}
 use Rattle.std.proofs.lemmas.Bool.Decides.{nat_tests}
 use Rattle.calendar_count.specs.declared.weekday.Weekday.{Weekday}
 use Rattle.byte_names.specs.Bytes.{colon}
-use Rattle.parsing_pieces.specs.Pieces.{digits, byte, skip_of, cut_view}
+use Rattle.parsing_pieces.specs.Pieces.{digits, byte, skip_of, cut_view, sign}
 use Rattle.parsing_pieces.specs.Chunks.{IsClock}
 use Rattle.parsing_pieces.proofs.Decimal.{digit_here}
 use Rattle.parsing_white_space.specs.Skips.{rest_or, byte_where}
 use Rattle.parsing_white_space.specs.WhiteSpace.{comments_and_white_space}
-use Rattle.parsing_white_space.proofs.WhiteSpaceLemmas.{none_at}
+use Rattle.parsing_white_space.proofs.WhiteSpaceLemmas.{none_at, none_of_empty}
 use Rattle.parsing_rfc2822.specs.Names.{weekday, weekday_of}
-use Rattle.parsing_rfc2822.specs.Reading.{spaced_colon, hour_and_minute, due_second, second, clock}
+use Rattle.parsing_rfc2822.specs.Reading.{spaced_colon, hour_and_minute, due_second, second, clock, day, month_and_year, zone, signed_zone, named_zone, spaced_zone, rfc2822}
+use Rattle.calendar.specs.Time.{time_of}
+use Rattle.calendar_count.specs.Month.{month_number}
+use Rattle.calendar_count.specs.declared.month.Month.{Month}
+use Rattle.datetime_wall.specs.Wall.{wall_clock}
+use Rattle.parsing_pieces.specs.declared.zone.Zone.{Zone}
+use Rattle.parsing_resolution.specs.Resolution.{date_of, permitted_time_of, signed_offset_of}
+use Rattle.parsing_resolution.specs.StandIn.{leap_checked}
+use Rattle.parsing_fields.specs.declared.fields.Fields.{Fields}
+use Rattle.parsing_fields.specs.Moment as Moment
+use Rattle.parsing_fields.specs.Moment.{day_of_fields, time_of_fields}
+use Rattle.parsing_fields.specs.Numbers.{HaveNumbers}
+use Rattle.parsing_fields.proofs.lemmas.Moments.{fields_date, fields_time, moment_is}
+use Rattle.parsing_rfc2822.specs.Direct.{direct, moment, moment_of}
+use Rattle.parsing_rfc2822.specs.Fast.{IsAllZone}
+use Rattle.parsing_rfc2822.specs.declared.parts.Rfc2822Parts.{Rfc2822Parts}
 
 digit_above : (c : ℕ) (b : Bool) → is_ascii_digit c ≡ b → b ≡ true → 41 ≤ c
 digit_above c b e h = let d = digit_here c (e ∙ h) in omega (arith, d.0)
@@ -49,10 +64,15 @@ colon_here bytes rest after n e f =
     rw (colon_parts bytes rest e, none_at colon rest (omega arith)) (ap (λ o. Some (rest_or o rest)) (digit_begins rest after n f))
 
 -- a time of day without white space is read at once
-pub clock_at_once : (bytes rest : List ℕ) (h m s : ℕ) → IsClock bytes h m s rest → clock false bytes ≡ Ok ((h, m, Some s), rest)
+clock_at_once : (bytes rest : List ℕ) (h m s : ℕ) → IsClock bytes h m s rest → clock false bytes ≡ Ok ((h, m, Some s), rest)
 unfolding clock hour_and_minute second due_second
 clock_at_once bytes rest h m s i =
     rw (i.hour_digits, colon_here _ _ _ _ i.first_colon i.minute_digits, i.minute_digits, colon_here _ _ _ _ i.second_colon i.second_digits, i.second_digits, i.rest_is) refl
+
+-- what a function returns that reads such a time of day
+pub clock_reads : (bytes : List ℕ) (result : Option ((ℕ × ℕ × ℕ) × Bor (List ℕ))) → IfSome result (λ x. IsClock bytes x.0.0 x.0.1 x.0.2 x.1.now) → IfSome result (λ x. clock false bytes ≡ Ok ((x.0.0, x.0.1, Some x.0.2), x.1.now))
+clock_reads bytes None read = tt
+clock_reads bytes (Some x) read = clock_at_once bytes x.1.now x.0.0 x.0.1 x.0.2 read
 
 -- ---- no weekday begins with a digit
 
@@ -97,3 +117,53 @@ some_of (Some x) h = refl
 -- where a function reads a digit there is no weekday
 pub no_weekday : (result : Option (ℕ × Bor (List ℕ))) (bytes : List ℕ) → cut_view result ≡ digits 1 bytes → is_some result ≡ true → weekday bytes ≡ None
 no_weekday result bytes e h = weekday_unless (cut_view result) bytes e (some_of result h)
+
+-- ---- a text whose pieces are read one after another
+
+no_leap : (hour minute second nanosecond time : ℕ) → time_of hour minute second nanosecond ≡ Ok time → (second == 60) ≡ false
+unfolding time_of
+no_leap hour minute second nanosecond time e = grind (arith, nat_tests)
+
+-- the numbers of the pieces
+abbrev numbers : Option Weekday × ℕ → Month × ℕ → ℕ × ℕ × Option ℕ → Zone → Rfc2822Parts
+numbers d m t z = record { weekday = d.0; day = d.1; month = m.0; year = m.1; hour = t.0; minute = t.1; second = t.2; zone = z }
+
+all_read : (b0 b1 b2 b3 : List ℕ) (d : Option Weekday × ℕ) (m : Month × ℕ) (t : ℕ × ℕ × Option ℕ) (z : Zone) → day false b0 ≡ Ok (d, b1) → month_and_year b1 ≡ Ok (m, b2) → clock false b2 ≡ Ok (t, b3) → spaced_zone false b3 ≡ Ok (z, []) → rfc2822 false b0 ≡ Ok (numbers d m t z, [])
+unfolding rfc2822
+all_read b0 b1 b2 b3 d m t z e0 e1 e2 e3 = rw (e0, e1, e2, e3) refl
+
+all_resolved : (b0 : List ℕ) (w : Rfc2822Parts) (o : ℤ) (date second time : ℕ) → rfc2822 false b0 ≡ Ok (w, []) → w.second ≡ Some second → date_of (pos w.year) (month_number w.month) w.day ≡ Ok date → time_of w.hour w.minute second 0 ≡ Ok time → signed_offset_of w.zone.is_negative w.zone.hours w.zone.minutes ≡ Ok o → direct b0 ≡ Ok (record { wall = wall_clock date time; offset = o })
+unfolding direct moment moment_of permitted_time_of leap_checked
+all_resolved b0 w o date second time read in_second in_day in_time in_zone = rw (read, in_day, in_second, no_leap w.hour w.minute second 0 time in_time, in_time, in_zone) refl
+
+-- the moment of fields that have the numbers of the pieces
+pub fields_read : (f : Fields) (b0 b1 b2 b3 : List ℕ) (d : Option Weekday × ℕ) (m : Month × ℕ) (hour minute second : ℕ) (o : ℤ) → day false b0 ≡ Ok (d, b1) → month_and_year b1 ≡ Ok (m, b2) → clock false b2 ≡ Ok ((hour, minute, Some second), b3) → IsAllZone (spaced_zone false b3) o → HaveNumbers f m.1 (month_number m.0) d.1 (hour * 60 + minute) second 0 o → hour ≤ 23 → minute ≤ 59 → direct b0 ≡ Ok (Moment.moment_of f)
+fields_read f b0 b1 b2 b3 d m hour minute second o in_day in_month in_clock zone n low small =
+    let z = zone.0 in
+    let read = all_read b0 b1 b2 b3 d m (hour, minute, Some second) z in_day in_month in_clock zone.1 in
+    rw (← moment_is f, n.same_offset) (all_resolved b0 (numbers d m (hour, minute, Some second) z) (pos 60 *ℤ o) (day_of_fields f) second (time_of_fields f) read refl (fields_date f _ _ _ _ _ _ _ n) (fields_time f _ _ _ _ _ _ _ _ n low small (lit< tt)) zone.2)
+
+-- ---- a zone that is all that is there
+
+zone_spaced : (bytes rest : List ℕ) (z : Zone) → comments_and_white_space bytes ≡ Some rest → zone false rest ≡ Ok (z, []) → spaced_zone false bytes ≡ Ok (z, [])
+unfolding spaced_zone
+zone_spaced bytes rest z e f = rw (e, f, none_of_empty [] refl) refl
+
+by_sign : (rest behind : List ℕ) (mark : ℕ) → sign rest ≡ Some (mark, behind) → zone false rest ≡ signed_zone false mark behind
+unfolding zone
+by_sign rest behind mark e = rw e refl
+
+by_name : (rest : List ℕ) → sign rest ≡ None → zone false rest ≡ named_zone rest
+unfolding zone
+by_name rest e = rw e refl
+
+all_spaced : (result : Option ℤ) (bytes rest : List ℕ) → comments_and_white_space bytes ≡ Some rest → IfSome result (IsAllZone (zone false rest)) → IfSome result (IsAllZone (spaced_zone false bytes))
+all_spaced None bytes rest e all = tt
+all_spaced (Some m) bytes rest e all = (all.0, zone_spaced bytes rest all.0 e all.1, all.2)
+
+-- what functions return that read one behind a space
+pub signed_spaced : (result : Option ℤ) (bytes rest behind : List ℕ) (mark : ℕ) → comments_and_white_space bytes ≡ Some rest → sign rest ≡ Some (mark, behind) → IfSome result (IsAllZone (signed_zone false mark behind)) → IfSome result (IsAllZone (spaced_zone false bytes))
+signed_spaced result bytes rest behind mark e f all = all_spaced result bytes rest e (rw (by_sign rest behind mark f) all)
+
+pub named_spaced : (result : Option ℤ) (bytes rest : List ℕ) → comments_and_white_space bytes ≡ Some rest → sign rest ≡ None → IfSome result (IsAllZone (named_zone rest)) → IfSome result (IsAllZone (spaced_zone false bytes))
+named_spaced result bytes rest e f all = all_spaced result bytes rest e (rw (by_name rest f) all)

@@ -1,4 +1,5 @@
 pub mod Direct
+pub mod Fast
 pub mod Names
 pub mod Range
 pub mod Reading

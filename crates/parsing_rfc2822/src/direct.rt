@@ -5,7 +5,7 @@ ghost use Rattle.parsing_pieces.specs.Readings.{value_read};
 ghost use Rattle.parsing_pieces.specs.ShortName.{HasShortName};
 ghost use Rattle.parsing_rfc2822.specs.Direct.{direct, moment_of};
 
-use crate::fast::fast_prefix;
+use crate::fast::read_fields;
 use crate::parts::Rfc2822Parts;
 use crate::reading::parse_prefix;
 use datetime_types::OffsetDateTime;
@@ -34,22 +34,12 @@ fn resolved(parts: Rfc2822Parts, rest: &[u8]) -> Result<OffsetDateTime, Parse>
 }
 
 /// The moment that a text names, where the fast way finds one: `None` says nothing of the text.
-///
-/// It finds that of most texts: single spaces between their parts, all numbers of the clock, no leap second and no
-/// comment.
-#[tactic(auto, unfolding(crate::specs::Direct::direct, crate::specs::Direct::moment))]
 #[inline(always)]
 pub fn read_fast(input: &[u8]) -> Option<OffsetDateTime>
     ensures { IfSome result (λ moment. direct input.now ≡ Ok moment) }
 {
-    let (parts, rest) = fast_prefix(input)?;
-    if parts.second == Some(60) {
-        return None;
-    }
-    let Ok(moment) = resolved(parts, rest) else {
-        return None;
-    };
-    Some(moment)
+    let fields = read_fields(input)?;
+    Some(fields.moment())
 }
 
 /// The moment that a text of RFC 2822, section 3.3, names, with the obsolete years and zones of its section 4.3.

@@ -1,14 +1,17 @@
 //! The fast way: texts of the shape `Tue, 01 Jul 2003 10:52:37 +0200`.
 //!
 //! Each function gives up where a text has another shape, and then says nothing of it.
-ghost use Rattle.std.specs.Prelude.{◌≡◌, ◌<◌, IfSome, Ok, false};
+ghost use Rattle.std.specs.Prelude.{◌≡◌, IfSome, Ok, Some, false};
+ghost use Rattle.parsing_fields.specs.Moment.{moment_of};
+ghost use Rattle.parsing_rfc2822.specs.Direct.{direct};
+ghost use Rattle.parsing_rfc2822.specs.Fast.{IsAllZone};
 ghost use Rattle.parsing_rfc2822.specs.Reading as Reading;
 
 use crate::names::{month, weekday, zone_name};
-use crate::parts::Rfc2822Parts;
 use crate::reading::one_or_two_digits;
 use calendar_count::{Month, Weekday};
-use parsing_pieces::{Zone, byte, four_digits, one_digit, sign, two_digits};
+use parsing_fields::{Fields, Fraction, minute_of_day, signed_minutes};
+use parsing_pieces::{byte, four_digits, one_digit, sign, two_digits};
 use parsing_white_space::{may_begin, one_space};
 
 // `Tue, `, or nothing before a digit.
@@ -59,90 +62,76 @@ fn fast_month_and_year(bytes: &[u8]) -> Option<((Month, u16), &[u8])>
 
 // `10:52:37`.
 #[inline(always)]
-fn fast_clock(bytes: &[u8]) -> Option<((u8, u8, Option<u8>), &[u8])>
-    ensures { IfSome result (λ x. Reading.clock false bytes.now ≡ Ok (x.0, x.1.now)) }
+fn fast_clock(bytes: &[u8]) -> Option<((u8, u8, u8), &[u8])>
+    ensures { IfSome result
+        (λ x. Reading.clock false bytes.now ≡ Ok ((x.0.0, x.0.1, Some x.0.2), x.1.now)) }
 {
-    let ((hour, minute, second), rest) = parsing_pieces::clock(bytes)?;
-    Some(((hour, minute, Some(second)), rest))
+    parsing_pieces::clock(bytes)
 }
 
-// `+0200` or `GMT`.
-#[tactic(auto, unfolding(crate::specs::Reading::zone, crate::specs::Reading::signed_zone, crate::specs::Reading::named_zone))]
+// The minutes of `+0200`, where it is all that is there and its numbers are in range.
+#[tactic(auto, unfolding(crate::specs::Reading::zone, crate::specs::Reading::signed_zone))]
 #[inline(always)]
-fn bare_zone(bytes: &[u8]) -> Option<(Zone, &[u8])>
-    ensures zone { IfSome result (λ x. Reading.zone false bytes.now ≡ Ok (x.0, x.1.now)) }
-    ensures hours { IfSome result (λ x. x.0.hours < 100) }
-    ensures minutes { IfSome result (λ x. x.0.minutes < 100) }
+fn signed_zone(mark: u8, bytes: &[u8]) -> Option<i16>
+    ensures { IfSome result (IsAllZone (Reading.signed_zone false mark bytes.now)) }
 {
-    let Some((mark, rest)) = sign(bytes) else {
-        let (hours, rest) = zone_name(bytes)?;
-        let zone = Zone {
-            is_named: true,
-            is_negative: true,
-            hours,
-            minutes: 0,
-        };
-        return Some((zone, rest));
-    };
-    let (hours, rest) = two_digits(rest)?;
+    let (hours, rest) = two_digits(bytes)?;
     let (minutes, rest) = two_digits(rest)?;
-    let zone = Zone {
-        is_named: false,
-        is_negative: mark == b'-',
-        hours,
-        minutes,
-    };
-    Some((zone, rest))
+    if !rest.is_empty() {
+        return None;
+    }
+    signed_minutes(mark == b'-', hours, minutes)
 }
 
-// ` +0200` or ` GMT`, where it is all that is there.
-#[tactic(auto, unfolding(crate::specs::Reading::spaced_zone))]
+// The minutes of `GMT`, where it is all that is there.
+#[tactic(auto, unfolding(crate::specs::Reading::named_zone))]
 #[inline(always)]
-fn fast_zone(bytes: &[u8]) -> Option<(Zone, &[u8])>
-    ensures zone { IfSome result (λ x. Reading.spaced_zone false bytes.now ≡ Ok (x.0, x.1.now)) }
-    ensures hours { IfSome result (λ x. x.0.hours < 100) }
-    ensures minutes { IfSome result (λ x. x.0.minutes < 100) }
+fn named_zone(bytes: &[u8]) -> Option<i16>
+    ensures { IfSome result (IsAllZone (Reading.named_zone bytes.now)) }
+{
+    let (hours, rest) = zone_name(bytes)?;
+    if !rest.is_empty() {
+        return None;
+    }
+    signed_minutes(true, hours, 0)
+}
+
+// The minutes of ` +0200` or ` GMT`, where it is all that is there.
+#[tactic(auto, unfolding(crate::specs::Reading::spaced_zone, crate::specs::Reading::zone))]
+#[inline(always)]
+fn fast_zone(bytes: &[u8]) -> Option<i16>
+    ensures { IfSome result (IsAllZone (Reading.spaced_zone false bytes.now)) }
 {
     let rest = one_space(bytes)?;
     if rest.len() != 5 && rest.len() != 3 {
         return None;
     }
-    let (zone, rest) = bare_zone(rest)?;
-    if may_begin(rest) {
-        return None;
+    match sign(rest) {
+        Some((mark, rest)) => signed_zone(mark, rest),
+        None => named_zone(rest),
     }
-    Some((zone, rest))
 }
 
 // The bytes of ` Jul 2003 10:52:37 GMT`: behind its day no text of this shape has fewer.
 const SHORTEST: usize = 22;
 
-/// What is written at the front of the bytes, and the rest, where the text has the shape that the fast way reads.
-#[tactic(auto, unfolding(crate::specs::Reading::rfc2822))]
+/// The fields of a text, where the fast way finds them: `None` says nothing of the text.
+///
+/// It finds those of most texts: single spaces between their parts, all numbers of the clock, no leap second and no
+/// comment.
 #[inline(always)]
-pub(crate) fn fast_prefix(bytes: &[u8]) -> Option<(Rfc2822Parts, &[u8])>
-    ensures reads { IfSome result (λ x. Reading.rfc2822 false bytes.now ≡ Ok (x.0, x.1.now)) }
-    ensures hours { IfSome result (λ x. x.0.zone.hours < 100) }
-    ensures minutes { IfSome result (λ x. x.0.zone.minutes < 100) }
+pub fn read_fields(input: &[u8]) -> Option<Fields>
+    ensures { IfSome result (λ fields. direct input.now ≡ Ok (moment_of fields)) }
 {
-    let ((weekday, day), rest) = fast_day(bytes)?;
+    let ((_, day), rest) = fast_day(input)?;
     if rest.len() < SHORTEST {
         return None;
     }
     let ((month, year), rest) = fast_month_and_year(rest)?;
     let ((hour, minute, second), rest) = fast_clock(rest)?;
-    let (zone, rest) = fast_zone(rest)?;
-    Some((
-        Rfc2822Parts {
-            weekday,
-            day,
-            month,
-            year,
-            hour,
-            minute,
-            second,
-            zone,
-        },
-        rest,
-    ))
+    let offset = fast_zone(rest)?;
+    let minute_of_day = minute_of_day(hour, minute)?;
+    let month = month.number();
+    let fraction = Fraction::new(0);
+    Fields::new(year, month, day, minute_of_day, second, fraction, offset)
 }

@@ -10,5 +10,6 @@ mod reading;
 mod spacing;
 
 pub use direct::{read_exact, read_fast};
+pub use fast::read_fields;
 pub use parts::Rfc2822Parts;
 pub use reading::parse_prefix;

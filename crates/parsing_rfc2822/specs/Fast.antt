@@ -1,0 +1,9 @@
+-- What the fast way of the code finds.
+use Rattle.std.specs.Prelude.{◌≡◌, ℕ, List, [], Result, Ok, ℤ, pos, ◌*ℤ◌}
+use Rattle.parsing_pieces.specs.Fault.{Fault}
+use Rattle.parsing_pieces.specs.declared.zone.Zone.{Zone}
+use Rattle.parsing_resolution.specs.Resolution.{signed_offset_of}
+
+-- a zone is all that was there, and these are its minutes
+abbrev pub IsAllZone : Result (Zone × List ℕ) Fault → ℤ → Type 0
+IsAllZone read minutes = (zone : Zone) × (read ≡ Ok (zone, [])) × (signed_offset_of zone.is_negative zone.hours zone.minutes ≡ Ok (pos 60 *ℤ minutes))
