@@ -1,9 +1,11 @@
 -- The first source that names a moment.
 use Rattle.std.proofs.Common.{◌≡◌, ℕ, List, ◌∷◌, Option, None, Some, Result, Ok, Err, refl, ap, unwrap_or, ℤ}
 use Rattle.std.specs.Prelude.{IfSome}
-use Rattle.std.specs.Option.{ok_or}
+use Rattle.std.specs.Option.{ok_or, option_map}
 use Rattle.std.specs.Result.{result_ok}
 use Rattle.datetime_wall.specs.Wall.{Shown}
+use Rattle.parsing_fields.specs.Moment.{moment_of}
+use Rattle.parsing_fields.specs.declared.fields.Fields.{Fields}
 use Rattle.parsing_pieces.specs.Fault.{Fault}
 use Rattle.instants_sources.specs.Grammar.{Grammar}
 use Rattle.instants_sources.specs.Named.{named, IsNamedBy}
@@ -33,11 +35,11 @@ pub first_named-later : (assumed : Option ℤ) (grammar : Grammar) (others : Lis
 unfolding first_named
 first_named-later assumed grammar others line e = later (named assumed grammar line) (result_ok (first_named assumed others line)) e
 
--- what is found is what a source names for a line
-pub found_named : (setting : Setting) (found : Option Shown) (grammar : Grammar) (line bytes : List ℕ) → IfSome found (IsNamedBy grammar line)
-    → IsAnswerOf setting found bytes → IsAnswerOf setting (result_ok (named setting.assumed grammar line)) bytes
+-- what fields name is what a source names for a line
+pub found_named : (setting : Setting) (found : Option Fields) (grammar : Grammar) (line bytes : List ℕ) → IfSome found (λ f. IsNamedBy grammar line (moment_of f))
+    → IsAnswerOf setting (option_map moment_of found) bytes → IsAnswerOf setting (result_ok (named setting.assumed grammar line)) bytes
 found_named setting None grammar line bytes h a = absurd (let e = a.is in cc)
-found_named setting (Some m) grammar line bytes h a = rw (h setting.assumed) (record {
+found_named setting (Some f) grammar line bytes h a = rw (h setting.assumed) (record {
   moment = a.moment;
   is = a.is;
   text = a.text;

@@ -5,6 +5,7 @@ ghost use Rattle.std.specs.Result.{result_ok};
 ghost use Rattle.parsing_pieces.specs.FaultOf.{fault_of, Gives};
 ghost use Rattle.parsing_pieces.specs.ShortName.{HasShortName};
 ghost use Rattle.calendar.specs.UtcOffset.{IsClockOffset};
+ghost use Rattle.parsing_fields.specs.Moment.{moment_of};
 ghost use Rattle.instants_answers.specs.Text.{FitsLine};
 ghost use Rattle.instants.specs.Refusal.{IsShort, long, refusal_said, year};
 ghost use Rattle.instants.specs.Sources.{AllMean, IsRefusal};
@@ -22,6 +23,7 @@ use datetime_types::OffsetDateTime;
 use instants_answers::has_written_year;
 use instants_sources::Source;
 use instants_words::SourceText;
+use parsing_fields::Fields;
 use parsing_pieces::Parse;
 use std::alloc::{AllocError, Global};
 
@@ -87,10 +89,11 @@ impl<'a> Timeline<'a> {
         }
     }
 
-    // The moment that the first source's fast way finds.
+    // The fields that the first source's fast way finds.
     #[tactic(auto, unfolding(crate::specs::Place::first_named))]
-    fn fast_moment(&self, line: &[u8]) -> Option<OffsetDateTime>
-        ensures { IfSome result (IsFirstNamed (setting_of self.now) line.now) }
+    fn fast_fields(&self, line: &[u8]) -> Option<Fields>
+        ensures { IfSome result
+            (λ fields. IsFirstNamed (setting_of self.now) line.now (moment_of fields)) }
     {
         self.sources.as_slice()[0].read_fast(line)
     }
@@ -107,8 +110,8 @@ impl<'a> Timeline<'a> {
         ensures short { IfErr result (λ fault. IsShort (refusal_said fault)) }
         ensures never_long { IfErr result (λ fault. refusal_said fault ≢ long) }
     {
-        let named = match self.fast_moment(line) {
-            Some(named) => named,
+        let named = match self.fast_fields(line) {
+            Some(fields) => fields.moment(),
             None => match self.exact_moment(line) {
                 Ok(named) => named,
                 Err(fault) => return Err(LineFault::from(fault)),
