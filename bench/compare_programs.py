@@ -1,5 +1,5 @@
 #!/usr/bin/env python3
-"""Measures the program beside other programs that do the same, and prints one table.
+"""Measures the program beside other programs that do the same, and prints two tables.
 
     bench/compare_programs.py [--tools] [--rounds N] [--lines N] [--no-count] [--program PATH] [--build FOLDER]
 
@@ -8,12 +8,14 @@ The packages of Debian to install: valgrind librust-time-dev librust-chrono-dev 
 that was built last (`./instants` builds it), or PATH. All that this makes lies in a folder `compare_programs` of the
 system's temporary folder, or in FOLDER.
 
-The peers (`bench/peers`) are a program over the crate `time`, one over the crate `chrono`, and two by hand that read no
-ISO 8601, in plain Rust and in C. With --tools, GNU `date` and `dateconv` of the dateutils are run too, on the first
+The peers (`bench/peers`) are a program over the crate `time`, one over the crate `chrono`, two by hand that read no
+ISO 8601, in plain Rust and in C, and one in C by sixteen bytes at a time, for processors with SSE4.2. With --tools, GNU `date` and `dateconv` of the dateutils are run too, on the first
 50,000 lines of a file. A cell is `–` for a file that a program does not read, and for figures left out by --no-count.
 
 The files of lines (`bench/lines.py`) are of RFC 3339, of RFC 2822, of ISO 8601, and a mixed one, for which the programs
-try RFC 3339, RFC 2822 and `%d/%b/%Y:%H:%M:%S %z` in order. Every program is asked for UTC with nine digits of a
+try RFC 3339, RFC 2822 and `%d/%b/%Y:%H:%M:%S %z` in order. The second table is of logs, which descriptions read: of a
+web server (as strftime), PostgreSQL and Python (version 3), a system's log with its year, Unix time in seconds and
+milliseconds, and `%c`; there the peers are those that read them. Every program is asked for UTC with nine digits of a
 fraction. For each file the table has two figures of a program:
 
   instructions  a line, as callgrind counts them on the first 20,000 lines, less those of a run on an empty input
@@ -46,16 +48,44 @@ import lines
 
 BENCH = pathlib.Path(__file__).resolve().parent
 PROGRAM = BENCH.parent / "crates" / "instants_program" / "out" / "instants_program"
-NAMES = {"rfc3339": "RFC 3339", "rfc2822": "RFC 2822", "iso8601": "ISO 8601", "mixed": "mixed"}
+FORMATS = {"rfc3339": "RFC 3339", "rfc2822": "RFC 2822", "iso8601": "ISO 8601", "mixed": "mixed"}
+LOGS = {
+    "log": "web server",
+    "postgres": "PostgreSQL",
+    "python": "Python",
+    "syslog": "system's log",
+    "unix": "Unix seconds",
+    "unix_ms": "Unix milliseconds",
+    "asctime": "`%c`",
+}
+NAMES = FORMATS | LOGS
 COUNTED_LINES = 20_000
 TOOL_LINES = 50_000
 ENVIRONMENT = dict(os.environ, TZ="UTC0", LC_ALL="C")
 
 # The words for the sources of each file: those of the peers, of the two by hand, of `instants`.
 LOG = "%d/%b/%Y:%H:%M:%S %z"
-SOURCES = {"rfc3339": ["rfc3339"], "rfc2822": ["rfc2822"], "iso8601": ["iso8601"], "mixed": ["rfc3339", "rfc2822", LOG]}
+SOURCES = {
+    "rfc3339": ["rfc3339"],
+    "rfc2822": ["rfc2822"],
+    "iso8601": ["iso8601"],
+    "mixed": ["rfc3339", "rfc2822", LOG],
+    "log": [LOG],
+}
 SOURCES_BY_HAND = {file: words for file, words in SOURCES.items() if file != "iso8601"}
-SOURCES_OF_INSTANTS = dict(SOURCES, mixed=["rfc3339", "rfc2822", "strftime", LOG])
+SOURCES_OF_TIME = {file: [file] for file in LOGS} | SOURCES
+SOURCES_OF_INSTANTS = SOURCES | {
+    "mixed": ["rfc3339", "rfc2822", "strftime", LOG],
+    "log": ["strftime", LOG],
+    "postgres": ["v3", "[year]-[month]-[day] [hour]:[minute]:[second].[subsecond] UTC"],
+    "python": ["v3", "[year]-[month]-[day] [hour]:[minute]:[second],[subsecond]"],
+    "syslog": ["strftime", "%Y %b %e %T"],
+    "unix": ["v3", "[unix_timestamp]"],
+    "unix_ms": ["v3", "[unix_timestamp precision:millisecond]"],
+    "asctime": ["strftime", "%c"],
+}
+# What has no offset is read as of UTC.
+ASSUMED = {file: "+00:00" for file in ("postgres", "python", "syslog", "asctime")}
 
 # What `dateconv` reads. The form with a fraction comes first, as the other one takes such a line too, and drops what is
 # behind the second. There are none for ISO 8601: forms for all of its dates take some month and day for a day of the
@@ -68,6 +98,9 @@ FORMS = {
     "rfc2822": [FORM_OF_RFC2822],
     "mixed": [*FORMS_OF_RFC3339, FORM_OF_RFC2822, "%d/%b/%Y:%H:%M:%S %Z"],
 }
+
+# The peers in C, with the flags that they take.
+C_PEERS = {"c_peer": [], "c_vector_peer": ["-march=x86-64-v2"]}
 
 # A program: its row's title, its command for each file that it reads, and whether it is a tool.
 Program = collections.namedtuple("Program", "title commands is_tool")
@@ -103,7 +136,8 @@ def build_peers(build):
     (copy / ".cargo" / "config.toml").write_text(config)
     environment = dict(os.environ, CARGO_TARGET_DIR=str(build / "target"))
     subprocess.run(["cargo", "build", "--release", "--quiet", "--offline"], cwd=copy, env=environment, check=True)
-    subprocess.run(["gcc", "-O3", "-o", build / "c_peer", copy / "c_peer" / "main.c"], check=True)
+    for name, flags in C_PEERS.items():
+        subprocess.run(["gcc", "-O3", *flags, "-o", build / name, copy / name / "main.c"], check=True)
     locked = (copy / "Cargo.lock").read_text()
     return build / "target" / "release", dict(re.findall(r'^name = "(.*)"\nversion = "(.*)"$', locked, re.MULTILINE))
 
@@ -113,7 +147,7 @@ def make_lines(build, count):
     folder = build / f"lines_{count}"
     made = folder / "made"
     if not made.exists() or made.stat().st_mtime < (BENCH / "lines.py").stat().st_mtime:
-        tell(f"making four files of {count:,} lines")
+        tell(f"making files of {count:,} lines")
         lines.write(folder, count)
         for file in NAMES:
             for part in (COUNTED_LINES, TOOL_LINES):
@@ -125,7 +159,7 @@ def make_lines(build, count):
 
 def peer(title, path, sources):
     """Returns a program that takes the words of `instants`."""
-    commands = {file: [str(path), "+00:00", "-", "100", *words] for file, words in sources.items()}
+    commands = {file: [str(path), "+00:00", ASSUMED.get(file, "-"), "100", *words] for file, words in sources.items()}
     return Program(title, commands, False)
 
 
@@ -146,10 +180,11 @@ def programs(arguments):
     rust, releases = build_peers(arguments.build)
     calls = "`parse`, `to_offset`, `format_into`"
     return [
-        peer(f"the crate `time` {releases['time']}, {calls}", rust / "time_peer", SOURCES),
+        peer(f"the crate `time` {releases['time']}, {calls}", rust / "time_peer", SOURCES_OF_TIME),
         peer(f"the crate `chrono` {releases['chrono']}", rust / "chrono_peer", SOURCES),
         peer("plain Rust by hand", rust / "plain_peer", SOURCES_BY_HAND),
         peer("C by hand, eight bytes at a time", arguments.build / "c_peer", SOURCES_BY_HAND),
+        peer("C by hand, sixteen bytes at a time", arguments.build / "c_vector_peer", SOURCES),
         peer("`instants`", arguments.program, SOURCES_OF_INSTANTS),
     ] + (tools() if arguments.tools else [])
 
@@ -285,18 +320,19 @@ def cells(title, counted, measured):
     ]
 
 
-def print_table(all_programs, counted, measured):
-    """Prints the table."""
-    print("| program | " + " | ".join(f"{name}, instructions | speed" for name in NAMES.values()) + " |")
-    print("|---" * (1 + 2 * len(NAMES)) + "|")
+def print_table(names, all_programs, counted, measured):
+    """Prints a table of the files with these names."""
+    print("| program | " + " | ".join(f"{name}, instructions | speed" for name in names.values()) + " |")
+    print("|---" * (1 + 2 * len(names)) + "|")
     for program in all_programs:
-        row = [cell for file in NAMES for cell in cells(program.title, counted[file], measured[file])]
-        print(f"| {program.title} | " + " | ".join(row) + " |")
+        row = [cell for file in names for cell in cells(program.title, counted[file], measured[file])]
+        if any(it != "–" for it in row):
+            print(f"| {program.title} | " + " | ".join(row) + " |")
 
 
 def words():
     """Returns the words of the command line."""
-    parser = argparse.ArgumentParser(description="Measures the program beside others, and prints one table.")
+    parser = argparse.ArgumentParser(description="Measures the program beside others, and prints two tables.")
     folder = pathlib.Path(tempfile.gettempdir()) / "compare_programs"
     parser.add_argument("--tools", action="store_true", help="measure GNU date and dateconv too")
     parser.add_argument("--rounds", type=int, default=9, help="how often each program reads each file (9)")
@@ -325,8 +361,10 @@ def main():
         counted[file] = {} if arguments.no_count else count(all_programs, file, folder, lines_counted)
     print(f"{date}, {machine()}, load {min(loads):.1f} to {max(loads):.1f}, ", end="")
     print(f"{arguments.rounds} rounds, {arguments.lines:,} lines\n")
-    print_table(all_programs, counted, measured)
-    print("".join(f"\n{sentence}\n" for sentence in said), end="")
+    for names in (FORMATS, LOGS):
+        print_table(names, all_programs, counted, measured)
+        print()
+    print("".join(f"{sentence}\n\n" for sentence in said), end="")
     return 1 if bad else 0
 
 

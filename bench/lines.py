@@ -1,15 +1,22 @@
 #!/usr/bin/env python3
-"""Makes the lines of the benchmark: the same ones each time, of four kinds.
+"""Makes the lines of the benchmark: the same ones each time, of eleven kinds.
 
     bench/lines.py FOLDER [LINES]
 
-Writes four files of LINES lines (1000000 if left out) to the folder:
+Writes eleven files of LINES lines (1000000 if left out) to the folder:
 
     rfc3339.txt   RFC 3339: `Z` or a numeric offset, a fraction of 0 to 9 digits
     iso8601.txt   ISO 8601: calendar, week and ordinal dates, extended and basic, a fraction of 0 to 9 digits
     rfc2822.txt   RFC 2822: `Tue, 01 Jul 2003 10:52:37 +0200` and the like, some with a day of one digit
     mixed.txt     of 100 lines 40 are of RFC 3339, 30 of RFC 2822, 20 as a web server logs them
                   (`01/Jul/2003:10:52:37 +0200`), and 10 name no moment in any of these
+    log.txt       as a web server logs it, alone
+    postgres.txt  `2003-07-01 10:52:37.123 UTC`
+    python.txt    `2003-07-01 10:52:37,123`
+    syslog.txt    `2003 Jul  1 10:52:37`
+    unix.txt      seconds since 1970-01-01, as `1057049557`
+    unix_ms.txt   milliseconds since then, as `1057049557123`
+    asctime.txt   `Tue Jul  1 10:52:37 2003`
 
 All years are 1950 to 2099. Each file has a seed of its own, and a short file is the beginning of a long one.
 """
@@ -84,6 +91,46 @@ def log(rng):
     return f"{date}:{hour:02}:{minute:02}:{second:02} {offset_text(offset, '', False)}"
 
 
+def clock(rng):
+    """Returns a day and the text of a time of day."""
+    day, hour, minute, second, _, _ = moment(rng)
+    return day, f"{hour:02}:{minute:02}:{second:02}"
+
+
+def postgres(rng):
+    """Returns a time as PostgreSQL logs it."""
+    day, time = clock(rng)
+    return f"{day} {time}.{rng.randrange(1000):03} UTC"
+
+
+def python(rng):
+    """Returns a time as Python's module `logging` writes it."""
+    day, time = clock(rng)
+    return f"{day} {time},{rng.randrange(1000):03}"
+
+
+def syslog(rng):
+    """Returns a time as a system's log has it, with its year in front."""
+    day, time = clock(rng)
+    return f"{day.year} {MONTHS[day.month - 1]} {day.day:2} {time}"
+
+
+def unix(rng):
+    """Returns seconds since 1970, of 2001 to 2099."""
+    return str(rng.randint(1_000_000_000, 4_099_999_999))
+
+
+def unix_ms(rng):
+    """Returns milliseconds since 1970, of 2001 to 2099."""
+    return str(rng.randint(1_000_000_000_000, 4_099_999_999_999))
+
+
+def asctime(rng):
+    """Returns a time as C's `asctime` writes it."""
+    day, time = clock(rng)
+    return f"{DAYS[day.weekday()]} {MONTHS[day.month - 1]} {day.day:2} {time} {day.year}"
+
+
 def garbage(rng):
     """Returns a line that names no moment, but for those with `!` in place of `T`, which some programs read."""
     kind = rng.randrange(6)
@@ -111,10 +158,13 @@ def mixed(rng):
     return log(rng) if share < 0.9 else garbage(rng)
 
 
+FILES = (rfc3339, iso8601, rfc2822, mixed, log, postgres, python, syslog, unix, unix_ms, asctime)
+
+
 def write(folder, count):
-    """Writes the four files of so many lines each to the folder."""
+    """Writes the files of so many lines each to the folder."""
     folder.mkdir(parents=True, exist_ok=True)
-    for seed, line in enumerate((rfc3339, iso8601, rfc2822, mixed), FIRST_SEED):
+    for seed, line in enumerate(FILES, FIRST_SEED):
         rng = random.Random(seed)
         with open(folder / f"{line.__name__}.txt", "w", encoding="ascii") as file:
             file.writelines(line(rng) + "\n" for _ in range(count))

@@ -4,6 +4,7 @@ ghost use Rattle.std.specs.Prelude.{suc, ◌≡◌, ◌<◌, true, IfOk, length}
 ghost use Rattle.std.specs.Str.{IsCharBoundary};
 ghost use Rattle.description_faults.specs.Answer.{Answers, Gives};
 ghost use Rattle.description_faults.specs.Fault.{fault_of};
+ghost use Rattle.description_items.specs.Tree.{Compound, listed};
 ghost use Rattle.description_tree.specs.Forms.{is_read, are_read};
 ghost use Rattle.description_tree.specs.Inner.{inner_tree, inner_trees};
 ghost use Rattle.description_words.specs.Many.{many};
@@ -162,12 +163,12 @@ pub fn optional<'a>(
     ensures form { IfOk result (λ x. is_read x.0 ≡ true) }
 {
     let start = opened("whitespace after `optional`", here)?;
-    let (item, rest) = nested(alloc, version, levels, start)?;
+    let (items, rest) = nested(alloc, version, levels, start)?;
     let rest = closed(bracket, rest)?;
     if !version.is_three() {
         return Err(DescriptionFault::Description(unsupported(bracket)));
     }
-    let item = Box::new(alloc, item)?;
+    let item = Box::new(alloc, FormatDescriptionV3Inner::OwnedCompound(items))?;
     Ok((
         FormatDescriptionV3Inner::OwnedOptional { format: true, item },
         rest,
@@ -212,14 +213,14 @@ fn alternatives<'a>(
     let mut all = Vec::new(alloc);
     let mut rest = here;
     'others: while begins(rest.text, b'[') {
-        let (item, after) = nested(alloc, version, levels, rest)?;
-        all.push(item)?;
+        let (items, after) = nested(alloc, version, levels, rest)?;
+        all.push(FormatDescriptionV3Inner::OwnedCompound(items))?;
         rest = after;
     }
     Ok((all, rest))
 }
 
-// A nested description from its bracket on, where so many levels may be opened.
+// The items of a nested description from its bracket on, where so many levels may be opened.
 #[tactic(auto, unfolding(crate::specs::Reading::nested_at))]
 #[cycle(nested)]
 fn nested<'a>(
@@ -227,11 +228,11 @@ fn nested<'a>(
     version: DescriptionVersion,
     levels: u8,
     here: Rest<'a>,
-) -> Result<(FormatDescriptionV3Inner<'a>, Rest<'a>), DescriptionFault<'a>>
+) -> Result<(Vec<FormatDescriptionV3Inner<'a>>, Rest<'a>), DescriptionFault<'a>>
     requires { IsCharBoundary here.text.now 1 }
-    ensures value { Gives (λ x. (inner_tree x.0, rest_of x.1)) result
+    ensures value { Gives (λ x. (Compound (listed (inner_trees x.0.items)), rest_of x.1)) result
         (nested_at version levels (rest_of here.entry)) }
-    ensures form { IfOk result (λ x. is_read x.0 ≡ true) }
+    ensures form { IfOk result (λ x. are_read x.0.items ≡ true) }
 {
     if levels == 0 {
         return Err(DescriptionFault::Description(InvalidFormatDescription::NotSupported {
@@ -243,8 +244,5 @@ fn nested<'a>(
     let (_, inside) = cut(here, 1);
     let (all, rest) = items(alloc, version, levels - 1, true, inside)?;
     let rest = closed(here.index, rest)?;
-    Ok((
-        FormatDescriptionV3Inner::OwnedCompound(all),
-        past_space(rest),
-    ))
+    Ok((all, past_space(rest)))
 }

@@ -1,11 +1,22 @@
 -- A calendar date of the extended kind by its pieces.
-use Rattle.std.proofs.Common.{◌≡◌, ℕ, ◌≤◌, true, leb, List, drop, Some, Ok, refl, arith, lit<}
+use Rattle.std.proofs.Common.{◌≡◌, ℕ, zero, suc, ◌≤◌, true, leb, List, drop, Option, Some, Ok, ℤ, refl, sym, ap, ◌∙◌, arith, lit<}
 use Rattle.std.specs.Prelude.{pos}
 use Rattle.std.specs.Int.{is_in_range}
 use Rattle.std.proofs.lemmas.Bool.Decides.{nat_tests}
 use Rattle.byte_names.specs.Bytes.{hyphen}
 use Rattle.calendar_count.specs.Month.{month_number}
 use Rattle.calendar_count.specs.declared.month.Month.{Month}
+use Rattle.calendar_count.specs.declared.month.Month.TheVariants.{January, February, March, April, May, June, July, August, September, October, November, December}
+use Rattle.std.specs.Option.{ok_or}
+use Rattle.std.proofs.lemmas.Int.{ints}
+use Rattle.calendar_count.specs.Calendar.{is_year, day_at, ymd}
+use Rattle.calendar_count.specs.ComponentRange.{out_of_conditional_range}
+use Rattle.calendar_count.specs.declared.component_range.ComponentName.TheVariants.{Day}
+use Rattle.parsing_dates.specs.NamedDay.{calendar_date_of}
+use Rattle.parsing_fields.proofs.lemmas.Moments.{day_found, day_of_count}
+use Rattle.parsing_iso8601.specs.declared.written.WrittenDate.{WrittenDate}
+use Rattle.parsing_iso8601.specs.Fast.{NamesDay, ReadsDay}
+use Rattle.parsing_iso8601.specs.ReadView.{day_named}
 use Rattle.parsing_pieces.specs.Chunks.{IsYearMonth}
 use Rattle.parsing_pieces.specs.Pieces.{digits, byte}
 use Rattle.parsing_iso8601.specs.declared.kind.Kind.TheVariants.{Extended}
@@ -51,3 +62,39 @@ pub date_of_chunk : (bytes : List ℕ) (y n : ℕ) (behind : List ℕ) (m : Mont
 date_of_chunk bytes y n behind m d rest c is two some most =
     let day : digits 2 (drop 8 bytes) ≡ Some (d, rest) = rw c.rest_is two in
     date_of_pieces bytes (drop 4 bytes) (drop 5 bytes) (drop 7 bytes) (drop 8 bytes) rest y n d m c.year_digits c.first_hyphen c.month_digits is c.second_hyphen day some most
+
+-- ---- the days that dates name
+
+-- a month has its number
+named_month : (n : ℕ) → 1 ≤ n → n ≤ 12 → (m : Month) × (month_number m ≡ n)
+named_month zero low high = absurd (omega arith)
+named_month (suc zero) low high = (January, refl)
+named_month (suc (suc zero)) low high = (February, refl)
+named_month (suc (suc (suc zero))) low high = (March, refl)
+named_month (suc (suc (suc (suc zero)))) low high = (April, refl)
+named_month (suc (suc (suc (suc (suc zero))))) low high = (May, refl)
+named_month (suc (suc (suc (suc (suc (suc zero)))))) low high = (June, refl)
+named_month (suc (suc (suc (suc (suc (suc (suc zero))))))) low high = (July, refl)
+named_month (suc (suc (suc (suc (suc (suc (suc (suc zero)))))))) low high = (August, refl)
+named_month (suc (suc (suc (suc (suc (suc (suc (suc (suc zero))))))))) low high = (September, refl)
+named_month (suc (suc (suc (suc (suc (suc (suc (suc (suc (suc zero)))))))))) low high = (October, refl)
+named_month (suc (suc (suc (suc (suc (suc (suc (suc (suc (suc (suc zero))))))))))) low high = (November, refl)
+named_month (suc (suc (suc (suc (suc (suc (suc (suc (suc (suc (suc (suc zero)))))))))))) low high = (December, refl)
+named_month (suc (suc (suc (suc (suc (suc (suc (suc (suc (suc (suc (suc (suc n))))))))))))) low high = absurd (omega arith)
+
+-- a date with a month and a day
+pub month_names : (year : ℤ) (month : Month) (y n d : ℕ) → pos y ≡ year → month_number month ≡ n → NamesDay (OfMonth year month d) y n d
+unfolding calendar_date_of
+month_names year month y n d same number = λ is.
+    let in_year : is_year (pos y) ≡ true = let t = is.0 in grind (arith, nat_tests, ints) in
+    rw (← same, number, in_year) (ap (λ (o : Option ℕ). ok_or o (out_of_conditional_range Day)) (day_found (pos y) n d is))
+
+-- any date by the count of its day
+pub count_names : (date : WrittenDate) (year : ℤ) (y n d count : ℕ) → day_named date ≡ Ok count → pos y ≡ year → day_at count ≡ ymd year n d → NamesDay date y n d
+count_names date year y n d count named same e = λ is. named ∙ ap (λ (k : ℕ). Ok k) (sym (day_of_count (pos y) n d count is (rw same e)))
+
+pub day_of_chunk : (bytes : List ℕ) (y n : ℕ) (behind : List ℕ) (d : ℕ) (rest : List ℕ) → IsYearMonth bytes y n behind → 1 ≤ n → n ≤ 12 → digits 2 behind ≡ Some (d, rest) → 1 ≤ d → d ≤ 31
+    → ReadsDay bytes y n d Extended rest
+day_of_chunk bytes y n behind d rest c low high two some most =
+    let m = named_month n low high in
+    (OfMonth (pos y) m.0 d, date_of_chunk bytes y n behind m.0 d rest c m.1 two some most, month_names (pos y) m.0 y n d refl m.1)

@@ -3,6 +3,7 @@ pub mod Entries
 pub mod Pieces
 pub mod FastDates
 pub mod FastMoments
+pub mod FastOffsets
 pub mod FastTimes
 pub mod Rounding
 pub mod TameLemmas

@@ -1,6 +1,7 @@
 pub mod AllOrNothing
 pub mod Dates
 pub mod Designators
+pub mod Fast
 pub mod Fractions
 pub mod Kinds
 pub mod Moment

@@ -1,20 +1,49 @@
 //! The fast way: the shapes of most texts, each read at once: `None` says nothing of the text.
-ghost use Rattle.std.specs.Prelude.{◌≡◌, true, Ok, Some, IfSome};
-ghost use Rattle.parsing_iso8601.specs.Reading as Reading;
-ghost use Rattle.parsing_iso8601.specs.Times as Times;
+ghost use Rattle.std.specs.Prelude.{◌≡◌, IfSome, pos};
+ghost use Rattle.parsing_iso8601.specs.Fast.{NamesDay, ReadsDay, ReadsClock, IsAllOffset};
+ghost use Rattle.parsing_iso8601.specs.Offsets as Offsets;
 ghost use Rattle.parsing_iso8601.specs.declared.kind.Kind.TheVariants as kind;
 
-use crate::fraction::fast_subsecond;
 use crate::kind::Kind;
+use crate::moment::day_named;
+use crate::offset::{maybe_colon, offset_minute};
 use crate::reading::dated;
-use crate::written::{WrittenDate, WrittenTime};
-use calendar_count::Month;
-use parsing_pieces::{byte, clock, two_digits, year_month};
+use crate::written::WrittenDate;
+use parsing_fields::signed_minutes;
+use parsing_pieces::{byte, clock, sign, two_digits, year_month};
 
-// A date such as `1985-04-12`.
+// The year of a date in four digits.
 #[inline(always)]
-fn extended_date(bytes: &[u8]) -> Option<(WrittenDate, &[u8])>
-    ensures { IfSome result (λ x. Reading.dated bytes.now ≡ Ok ((Ok x.0, kind.Extended), x.1.now)) }
+fn four_digit_year(year: i32) -> Option<u16>
+    ensures { IfSome result (λ y. pos y ≡ year) }
+{
+    if year < 0 || year > 9999 {
+        return None;
+    }
+    Some(year as u16)
+}
+
+// The year, the month and the day of the day that a date names.
+#[inline(always)]
+fn numbers_of(date: WrittenDate) -> Option<(u16, u8, u8)>
+    ensures { IfSome result (λ x. NamesDay date x.0 x.1 x.2) }
+{
+    if let WrittenDate::OfMonth(year, month, day) = date {
+        let year = four_digit_year(year)?;
+        return Some((year, month.number(), day));
+    }
+    let Ok(date) = day_named(date) else {
+        return None;
+    };
+    let (year, month, day) = date.to_calendar_date();
+    let year = four_digit_year(year)?;
+    Some((year, month.number(), day))
+}
+
+// The day of a date such as `1985-04-12`.
+#[inline(always)]
+fn extended_day(bytes: &[u8]) -> Option<((u16, u8, u8), &[u8])>
+    ensures { IfSome result (λ x. ReadsDay bytes.now x.0.0 x.0.1 x.0.2 kind.Extended x.1.now) }
 {
     let ((year, month), rest) = year_month(bytes)?;
     if month < 1 || month > 12 {
@@ -24,91 +53,92 @@ fn extended_date(bytes: &[u8]) -> Option<(WrittenDate, &[u8])>
     if day < 1 || day > 31 {
         return None;
     }
-    let date = WrittenDate::OfMonth(i32::from(year), Month::from_number(month), day);
-    Some((date, rest))
+    Some(((year, month, day), rest))
 }
 
-// Any other date, and the kind that it hands on.
+// The day of any other date, and the kind that it hands on.
 #[inline(always)]
-fn other_date(bytes: &[u8]) -> Option<((WrittenDate, Kind), &[u8])>
-    ensures { IfSome result (λ x. Reading.dated bytes.now ≡ Ok ((Ok x.0.0, x.0.1), x.1.now)) }
+fn other_day(bytes: &[u8]) -> Option<(((u16, u8, u8), Kind), &[u8])>
+    ensures { IfSome result (λ x. ReadsDay bytes.now x.0.0.0 x.0.0.1 x.0.0.2 x.0.1 x.1.now) }
 {
     let ((date, kind), rest) = dated(bytes);
-    match date {
-        Ok(date) => Some(((date, kind), rest)),
-        Err(_) => None,
-    }
+    let Ok(date) = date else {
+        return None;
+    };
+    let day = numbers_of(date)?;
+    Some(((day, kind), rest))
 }
 
-/// The date and the kind that it hands on.
+/// The day of the date, by its year, month and day of the month, and the kind that it hands on.
 #[inline(always)]
-pub fn fast_date(bytes: &[u8]) -> Option<((WrittenDate, Kind), &[u8])>
-    ensures { IfSome result (λ x. Reading.dated bytes.now ≡ Ok ((Ok x.0.0, x.0.1), x.1.now)) }
+pub fn fast_day(bytes: &[u8]) -> Option<(((u16, u8, u8), Kind), &[u8])>
+    ensures { IfSome result (λ x. ReadsDay bytes.now x.0.0.0 x.0.0.1 x.0.0.2 x.0.1 x.1.now) }
 {
-    match extended_date(bytes) {
-        Some((date, rest)) => Some(((date, Kind::Extended), rest)),
-        None => other_date(bytes),
+    match extended_day(bytes) {
+        Some((day, rest)) => Some(((day, Kind::Extended), rest)),
+        None => other_day(bytes),
     }
 }
 
-// A time of day such as `T23:20:50.52`.
+// The hour, the minute and the second of a time of day such as `T23:20:50`.
 #[inline(always)]
-fn extended_time(bytes: &[u8]) -> Option<(WrittenTime, &[u8])>
-    ensures { IfSome result
-        (λ x. Times.time kind.Extended true bytes.now ≡ Some ((x.0, kind.Extended), x.1.now)) }
+fn extended_clock(bytes: &[u8]) -> Option<((u8, u8, u8), &[u8])>
+    ensures { IfSome result (λ x. ReadsClock kind.Extended bytes.now x.0.0 x.0.1 x.0.2 x.1.now) }
 {
     let rest = byte(b'T', bytes)?;
-    let ((hour, minute, second), rest) = clock(rest)?;
-    if hour > 23 || minute > 59 || second > 60 {
-        return None;
-    }
-    let (subsecond, rest) = fast_subsecond(rest)?;
-    let time = WrittenTime {
-        hour,
-        minute,
-        second,
-        subsecond,
-    };
-    Some((time, rest))
+    clock(rest)
 }
 
-// A time of day such as `T232050.52`.
+// The hour, the minute and the second of a time of day such as `T232050`.
 #[inline(always)]
-fn basic_time(bytes: &[u8]) -> Option<(WrittenTime, &[u8])>
-    ensures { IfSome result
-        (λ x. Times.time kind.Basic true bytes.now ≡ Some ((x.0, kind.Basic), x.1.now)) }
+fn basic_clock(bytes: &[u8]) -> Option<((u8, u8, u8), &[u8])>
+    ensures { IfSome result (λ x. ReadsClock kind.Basic bytes.now x.0.0 x.0.1 x.0.2 x.1.now) }
 {
     let rest = byte(b'T', bytes)?;
     let (hour, rest) = two_digits(rest)?;
     let (minute, rest) = two_digits(rest)?;
     let (second, rest) = two_digits(rest)?;
-    if hour > 23 || minute > 59 || second > 60 {
-        return None;
-    }
-    let (subsecond, rest) = fast_subsecond(rest)?;
-    let time = WrittenTime {
-        hour,
-        minute,
-        second,
-        subsecond,
-    };
-    Some((time, rest))
+    Some(((hour, minute, second), rest))
 }
 
-/// The time of day behind a date, and the kind that it hands on.
+/// The hour, the minute and the second of the time of day behind a date.
 #[inline(always)]
-pub fn fast_time(kind: Kind, bytes: &[u8]) -> Option<((WrittenTime, Kind), &[u8])>
-    ensures { IfSome result (λ x. Times.time kind true bytes.now ≡ Some (x.0, x.1.now)) }
+pub fn fast_clock(kind: Kind, bytes: &[u8]) -> Option<((u8, u8, u8), &[u8])>
+    ensures { IfSome result (λ x. ReadsClock kind bytes.now x.0.0 x.0.1 x.0.2 x.1.now) }
 {
     match kind {
-        Kind::Extended => {
-            let (time, rest) = extended_time(bytes)?;
-            Some(((time, Kind::Extended), rest))
-        }
-        Kind::Basic => {
-            let (time, rest) = basic_time(bytes)?;
-            Some(((time, Kind::Basic), rest))
-        }
+        Kind::Extended => extended_clock(bytes),
+        Kind::Basic => basic_clock(bytes),
         Kind::Unknown => None,
     }
+}
+
+// The minutes of the signed offset that is all that is there.
+#[tactic(auto, unfolding(crate::specs::Offsets::signed_offset))]
+#[inline(always)]
+fn fast_signed_offset(kind: Kind, bytes: &[u8]) -> Option<i16>
+    ensures { IfSome result (IsAllOffset (Offsets.signed_offset kind bytes.now)) }
+{
+    let (mark, rest) = sign(bytes)?;
+    let (hour, rest) = two_digits(rest)?;
+    let (minute, rest) = offset_minute(maybe_colon(kind, rest))?;
+    if !rest.is_empty() {
+        return None;
+    }
+    signed_minutes(mark == b'-', hour, minute)
+}
+
+/// The minutes of the offset that is all that is there.
+#[tactic(auto, unfolding(crate::specs::Offsets::offset))]
+#[inline(always)]
+pub fn fast_offset(kind: Kind, bytes: &[u8]) -> Option<i16>
+    ensures { IfSome result (IsAllOffset (Offsets.offset kind bytes.now)) }
+{
+    let Some(rest) = byte(b'Z', bytes) else {
+        return fast_signed_offset(kind, bytes);
+    };
+    if !rest.is_empty() {
+        return None;
+    }
+    Some(0)
 }

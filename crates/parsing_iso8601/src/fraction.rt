@@ -5,7 +5,7 @@ ghost use Rattle.parsing_iso8601.specs.Fractions as Fractions;
 ghost use Rattle.parsing_iso8601.specs.ReadView.{subsecond};
 
 use crate::number::decimal_mark;
-use parsing_pieces::fraction;
+use parsing_fields::Fraction;
 
 /// The whole nanoseconds in a fraction of `unit` nanoseconds that these digits write.
 ///
@@ -36,18 +36,14 @@ pub fn rounded_part_of(unit: u64, run: &[u8]) -> u64
     (part_of(2 * unit, run) + 1) / 2
 }
 
-/// The nanoseconds of a fraction of a second of at most nine digits, or of none: these need no rounding.
+/// A fraction of a second of at most nine digits, or of none: these need no rounding.
 #[inline(always)]
-pub fn fast_subsecond(bytes: &[u8]) -> Option<(u32, &[u8])>
+pub fn fast_fraction(bytes: &[u8]) -> Option<(Fraction, &[u8])>
     ensures reads { IfSome result (λ x. subsecond bytes.now ≡ Some (x.0, x.1.now)) }
     ensures bound { IfSome result (λ x. x.0 < 1_000_000_000) }
 {
     let Some(behind) = decimal_mark(bytes) else {
-        return Some((0, bytes));
+        return Some((Fraction::new(0), bytes));
     };
-    let (nanosecond, rest) = fraction(behind)?;
-    if behind.len() > rest.len() + 9 {
-        return None;
-    }
-    Some((nanosecond, rest))
+    Fraction::read(behind)
 }

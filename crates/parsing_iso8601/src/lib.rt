@@ -12,6 +12,6 @@ mod reading;
 mod time;
 mod written;
 
-pub use moment::read_fast;
+pub use moment::{read_fast, read_fields};
 pub use reading::parse_prefix;
 pub use written::{Iso8601Parts, WrittenDate, WrittenOffset, WrittenTime};

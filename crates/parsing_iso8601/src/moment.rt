@@ -1,20 +1,20 @@
 //! The moment that a text names.
-ghost use Rattle.std.specs.Prelude.{◌≡◌, Ok, ◌==◌, false, IfSome};
-ghost use Rattle.parsing_moments.specs.NamedMoment.{named_moment};
+ghost use Rattle.std.specs.Prelude.{◌≡◌, IfSome};
+ghost use Rattle.parsing_fields.specs.Moment.{moment_of};
 ghost use Rattle.parsing_iso8601.specs.Moment.{IsOfOffset};
-ghost use Rattle.parsing_iso8601.specs.Parts.{all_three, parts_of, offset_parts_of};
 ghost use Rattle.parsing_iso8601.specs.ReadView.{day_named};
 
-use crate::fast::{fast_date, fast_time};
-use crate::offset::offset;
-use crate::written::{WrittenDate, WrittenOffset, WrittenTime};
-use calendar::{ComponentRange, Date, Time, UtcOffset};
+use crate::fast::{fast_clock, fast_day, fast_offset};
+use crate::fraction::fast_fraction;
+use crate::written::WrittenDate;
+use calendar::{ComponentRange, Date};
 use datetime_types::OffsetDateTime;
 use parsing_dates::named_day;
+use parsing_fields::{Fields, minute_of_day};
 
 // The day that a date names, or the first of its numbers that is out of range.
 #[inline(always)]
-fn day_named(date: WrittenDate) -> Result<Date, ComponentRange>
+pub(crate) fn day_named(date: WrittenDate) -> Result<Date, ComponentRange>
     ensures { result ≡ day_named date }
 {
     match date {
@@ -24,43 +24,29 @@ fn day_named(date: WrittenDate) -> Result<Date, ComponentRange>
     }
 }
 
-// The moment of a date, a time of day without a leap second and an offset, where they name one.
+/// The fields of a text, where the fast way finds them: `None` says nothing of the text.
+///
+/// It finds those of most texts: a date, a time of day to the second without a leap second, a fraction of at most nine
+/// digits, and an offset.
 #[inline(always)]
-fn fast_moment(
-    date: WrittenDate,
-    time: WrittenTime,
-    offset: WrittenOffset,
-) -> Option<OffsetDateTime>
-    requires { (time.second == 60) ≡ false }
-    ensures { IfSome result
-        (λ m. named_moment (parts_of (all_three date time offset))
-        (offset_parts_of (all_three date time offset)) ≡ Ok m) }
+pub fn read_fields(input: &[u8]) -> Option<Fields>
+    ensures { IfSome result (λ fields. IsOfOffset input.now (moment_of fields)) }
 {
-    let Ok(date) = day_named(date) else {
+    let (((year, month, day), kind), rest) = fast_day(input)?;
+    let ((hour, minute, second), rest) = fast_clock(kind, rest)?;
+    let Some(read) = fast_fraction(rest) else {
         return None;
     };
-    let Ok(time) = Time::from_hms_nano(time.hour, time.minute, time.second, time.subsecond) else {
-        return None;
-    };
-    let second = offset.second.unwrap_or(0);
-    let Ok(offset) = UtcOffset::from_hms(offset.hour, offset.minute, second) else {
-        return None;
-    };
-    Some(OffsetDateTime::new_in_offset(date, time, offset))
+    let offset = fast_offset(kind, read.1)?;
+    let minute_of_day = minute_of_day(hour, minute)?;
+    Fields::new(year, month, day, minute_of_day, second, read.0, offset)
 }
 
 /// The moment that a text of ISO 8601 names, where the fast way finds one: `None` says nothing of the text.
-///
-/// It finds that of most texts: a date, a time of day without a leap second, and an offset.
 #[inline(always)]
 pub fn read_fast(input: &[u8]) -> Option<OffsetDateTime>
     ensures { IfSome result (IsOfOffset input.now) }
 {
-    let ((date, kind), rest) = fast_date(input)?;
-    let ((time, kind), rest) = fast_time(kind, rest)?;
-    let (offset, rest) = offset(kind, rest)?;
-    if !rest.is_empty() || time.second == 60 {
-        return None;
-    }
-    fast_moment(date, time, offset)
+    let fields = read_fields(input)?;
+    Some(fields.moment())
 }

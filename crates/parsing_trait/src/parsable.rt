@@ -1,5 +1,5 @@
 //! What bytes can be read by.
-ghost use Rattle.std.specs.Prelude.{◌≡◌, ℕ, List, None, Result, ◌<◌, length, min, IfOk, IfErr, OnOk, OnErr};
+ghost use Rattle.std.specs.Prelude.{◌≡◌, ℕ, List, None, Some, Result, ◌<◌, length, min, IfOk, IfErr, OnOk, OnErr};
 ghost use Rattle.datetime_wall.specs.Wall.{Shown};
 ghost use Rattle.parsing_pieces.specs.Fault.{Fault, trailing};
 ghost use Rattle.parsing_pieces.specs.FaultOf.{Gives, fault_of};
@@ -170,8 +170,20 @@ pub trait Parsable {
         }
     }
 
-    /// The moment, with its offset, of the record that all of the bytes set: of Unix time, at offset zero, or of a date, a
-    /// time of day and an offset. The record is not copied.
+    /// The moment, with its offset, of what a record holds and all of the bytes set: of Unix time, at offset zero, or of a
+    /// date, a time of day and an offset. What the record holds afterwards is not said.
+    #[inline(always)]
+    #[tactic(auto, unfolding(parsing_record::specs::Whole::whole))]
+    fn read_staged_into(&self, input: &[u8], parsed: &mut Parsed) -> Result<OffsetDateTime, Parse>
+        ensures value { Gives (λ value. value) fault_of result
+            (names moment_named (whole (meaning (reading self.now)) (Some parsed.old) input.now)) }
+        ensures short_name { IfErr result (λ e. HasShortName (fault_of e)) }
+    {
+        ended(self.parse_into(input, parsed)?)?;
+        Ok(parsed.offset_date_time()?)
+    }
+
+    /// The same, from the defaults where there are any. The record is not copied.
     #[inline(always)]
     #[tactic(auto, unfolding(parsing_record::specs::Whole::whole))]
     fn read_staged(&self, input: &[u8], defaults: Option<Parsed>) -> Result<OffsetDateTime, Parse>
@@ -183,8 +195,7 @@ pub trait Parsable {
             Some(defaults) => defaults,
             None => Parsed::new(),
         };
-        ended(self.parse_into(input, &mut parsed)?)?;
-        Ok(parsed.offset_date_time()?)
+        self.read_staged_into(input, &mut parsed)
     }
 
     /// The moment that all of the bytes name, with its offset. Second 60 of a well-known format stands for the last

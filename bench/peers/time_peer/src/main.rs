@@ -2,8 +2,10 @@
 //! written at the target offset with nine digits of a fraction, by `parse`, `to_offset` and `format_into`. A line that
 //! no source takes is answered by `! invalid`.
 //!
-//! A source is `rfc3339`, `rfc2822`, `iso8601` or `%d/%b/%Y:%H:%M:%S %z`. For the last two the crate's release 0.3.9
-//! has no format of its own; they are descriptions here, ISO 8601 one for each form of a date.
+//! A source is `rfc3339`, `rfc2822`, `iso8601`, `%d/%b/%Y:%H:%M:%S %z`, or one of the names of `local`, which are read as
+//! UTC, or `unix` or `unix_ms`. For ISO 8601, the logs and Unix time the crate's release 0.3.9 has no format of its own;
+//! they are descriptions here, ISO 8601 one for each form of a date, and Unix time is a number and
+//! `from_unix_timestamp_nanos`.
 
 use std::io::{self, BufRead, BufReader, BufWriter, Write};
 use time::format_description::well_known::{Rfc2822, Rfc3339};
@@ -21,6 +23,17 @@ const OFFSET_LINE: &[FormatItem<'static>] = format_description!(
 
 const LOG: &[FormatItem<'static>] = format_description!(
     "[day]/[month repr:short]/[year]:[hour]:[minute]:[second] [offset_hour sign:mandatory][offset_minute]"
+);
+
+const POSTGRES: &[FormatItem<'static>] =
+    format_description!("[year]-[month]-[day] [hour]:[minute]:[second].[subsecond] UTC");
+const PYTHON: &[FormatItem<'static>] =
+    format_description!("[year]-[month]-[day] [hour]:[minute]:[second],[subsecond]");
+const SYSLOG: &[FormatItem<'static>] = format_description!(
+    "[year] [month repr:short] [day padding:space] [hour]:[minute]:[second]"
+);
+const ASCTIME: &[FormatItem<'static>] = format_description!(
+    "[weekday repr:short] [month repr:short] [day padding:space] [hour]:[minute]:[second] [year]"
 );
 
 const OFFSET_WORD: &[FormatItem<'static>] =
@@ -71,6 +84,19 @@ enum Source {
     Rfc2822,
     Iso8601,
     Log,
+    Local(&'static [FormatItem<'static>]),
+    // So many nanoseconds are one of its units.
+    Unix(i128),
+}
+
+fn local(word: &str) -> Option<&'static [FormatItem<'static>]> {
+    match word {
+        "postgres" => Some(POSTGRES),
+        "python" => Some(PYTHON),
+        "syslog" => Some(SYSLOG),
+        "asctime" => Some(ASCTIME),
+        _ => None,
+    }
 }
 
 fn source(word: &str) -> Source {
@@ -79,7 +105,9 @@ fn source(word: &str) -> Source {
         "rfc2822" => Source::Rfc2822,
         "iso8601" => Source::Iso8601,
         "%d/%b/%Y:%H:%M:%S %z" => Source::Log,
-        _ => panic!("no source: {word}"),
+        "unix" => Source::Unix(1_000_000_000),
+        "unix_ms" => Source::Unix(1_000_000),
+        _ => Source::Local(local(word).unwrap_or_else(|| panic!("no source: {word}"))),
     }
 }
 
@@ -101,6 +129,13 @@ fn parse(source: &Source, text: &str) -> Option<OffsetDateTime> {
         Source::Rfc2822 => OffsetDateTime::parse(text, &Rfc2822).ok(),
         Source::Iso8601 => parse_iso(text),
         Source::Log => OffsetDateTime::parse(text, LOG).ok(),
+        Source::Local(items) => PrimitiveDateTime::parse(text, items)
+            .ok()
+            .map(PrimitiveDateTime::assume_utc),
+        Source::Unix(unit) => {
+            let count: i128 = text.parse().ok()?;
+            OffsetDateTime::from_unix_timestamp_nanos(count * unit).ok()
+        }
     }
 }
 

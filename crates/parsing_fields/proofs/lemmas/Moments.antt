@@ -17,6 +17,7 @@ use Rattle.calendar_count.specs.Closed.{days_before_year}
 use Rattle.calendar_count.specs.March.{march_days}
 use Rattle.calendar_count.proofs.lemmas.Signed.{signed}
 use Rattle.calendar_count.proofs.lemmas.Places.{march_day, january_day}
+use Rattle.calendar_count.proofs.lemmas.Days.{day_at_same}
 use Rattle.calendar_count.proofs.lemmas.Years.{years_since, years_apart}
 use Rattle.calendar_count.proofs.lemmas.TheDay.{the_day-named}
 use Rattle.datetime_wall.specs.Wall.{wall_clock}
@@ -78,7 +79,7 @@ counted : (y : ℤ) (m d : ℕ) → IsDay y m d → Counted y m d
 counted y m d h = elim (cases_lt m 3) [ inl lt ↦ earlier y m d h lt | inr le ↦ later y m d h le ]
 
 -- the day of a count
-pub day_is : (y : ℤ) (m d n : ℕ) → n ≤ last_count → day_at n ≡ ymd y m d → unwrap_or (the_day (is_day_of y m d)) 0 ≡ n
+day_is : (y : ℤ) (m d n : ℕ) → n ≤ last_count → day_at n ≡ ymd y m d → unwrap_or (the_day (is_day_of y m d)) 0 ≡ n
 day_is y m d n within e = ap (λ (o : Option ℕ). unwrap_or o 0) (the_day-named y m d n within e)
 
 -- a day that is there is found
@@ -86,6 +87,13 @@ pub day_found : (y : ℤ) (m d : ℕ) → IsDay y m d → the_day (is_day_of y m
 day_found y m d h =
     let c = counted y m d h in
     the_day-named y m d c.count c.within c.day_is ∙ ap (λ (n : ℕ). Some n) (sym (day_is y m d c.count c.within c.day_is))
+
+-- and so is the count of its day
+pub day_of_count : (y : ℤ) (m d n : ℕ) → IsDay y m d → day_at n ≡ ymd y m d → unwrap_or (the_day (is_day_of y m d)) 0 ≡ n
+day_of_count y m d n h e =
+    let c = counted y m d h in
+    let same : c.count ≡ n = day_at_same c.count n (c.day_is ∙ sym e) in
+    day_is y m d c.count c.within c.day_is ∙ same
 
 -- it is the one that resolution finds
 date_there : (y : ℤ) (m d : ℕ) → IsDay y m d → date_of y m d ≡ Ok (unwrap_or (the_day (is_day_of y m d)) 0)

@@ -1,0 +1,7 @@
+mod Slots
+mod ItemReads
+mod Steps
+mod Walk
+mod Numbers
+mod Parts
+mod Moments

@@ -1,0 +1,112 @@
+-- The moment of a line that has the layout of a plan.
+use Rattle.std.proofs.Common.{◌≡◌, ◌≤◌, ◌+◌, ◌*◌, ◌∙◌, ℕ, false, List, [], length, drop, Option, Some, None, Ok, Err, refl, sym, ap, arith, pos, ℤ}
+use Rattle.std.specs.Prelude.{IfSome, IsSome, ◌*ℤ◌}
+use Rattle.std.specs.Result.{result_ok}
+use Rattle.std.specs.Int.{is_in_range}
+use Rattle.std.proofs.lemmas.List.{drop_all}
+use Rattle.calendar_count.specs.Calendar.{is_year}
+use Rattle.calendar_count.specs.Month.{month_number}
+use Rattle.calendar_clock.specs.Time.{time_of}
+use Rattle.datetime_wall.specs.Wall.{Shown, wall_clock}
+use Rattle.parsing_resolution.specs.Resolution.{date_of, permitted_time_of}
+use Rattle.parsing_resolution.specs.StandIn.{leap_checked}
+use Rattle.parsing_resolution.proofs.lemmas.Ranges.{in_both}
+use Rattle.parsing_fields.specs.declared.fields.Fields.{Fields}
+use Rattle.parsing_fields.specs.Moment.{day_of_fields, time_of_fields, moment_of}
+use Rattle.parsing_fields.specs.Numbers.{HaveNumbers}
+use Rattle.parsing_fields.proofs.lemmas.Moments.{fields_date, fields_time, moment_is}
+use Rattle.parsing_dates.specs.NamedDate.{named_date, by_ordinal, by_day, year_of}
+use Rattle.parsing_dates.specs.NamedDay.{calendar_date_of}
+use Rattle.parsing_moments.specs.NamedTime.{named_time, hour_of, finer_parts}
+use Rattle.parsing_moments.specs.NamedMoment.{named_wall, dated_moment, named_moment}
+use Rattle.parsing_components.specs.Ranged.{under}
+use Rattle.parsing_record.specs.Meaning.{Meaning, Answer}
+use Rattle.parsing_record.specs.Record.{Record}
+use Rattle.parsing_record.specs.Whole.{whole, names, moment_named, offset_named, starting}
+use Rattle.parsing_plan.specs.declared.layout.Layout.{Layout}
+use Rattle.parsing_plan.specs.Slot.{Values}
+use Rattle.parsing_plan.specs.Layout.{HasText, Says, read_or, with_values}
+use Rattle.parsing_plan.specs.Parts.{SaysDate, SaysClock, SaysOffset}
+use Rattle.parsing_plan.specs.Plan.{IsLayoutOf, beginning}
+
+-- ---- the record
+
+-- where there are places for all of a date and a time of day
+abbrev filled : Layout → Values → Record → Record
+filled l v r = record r { year = Some (pos v.year); month = Some v.month; day = Some v.day; hour_24 = Some v.hour; minute = Some v.minute; second = Some v.second; offset_hour = read_or l.offset_hour (Some (under v.is_negative v.offset_hour)) r.offset_hour; offset_is_negative = read_or l.offset_hour v.is_negative r.offset_is_negative; offset_minute = read_or l.offset_minute (Some (pos v.offset_minute)) r.offset_minute }
+
+read_here : {A : Type 0} (o : Option ℕ) (new old : A) → IsSome o → read_or o new old ≡ new
+read_here None new old h = absurd (cc)
+read_here (Some place) new old h = refl
+
+filled_is : (l : Layout) (v : Values) (r : Record) → IsSome l.year → IsSome l.month → IsSome l.day → IsSome l.hour → IsSome l.minute → IsSome l.second → with_values l v r ≡ filled l v r
+filled_is l v r a b c d e f =
+    rw (read_here l.year (Some (pos v.year)) r.year a, read_here l.month (Some v.month) r.month b, read_here l.day (Some v.day) r.day c, read_here l.hour (Some v.hour) r.hour_24 d, read_here l.minute (Some v.minute) r.minute e, read_here l.second (Some v.second) r.second f) refl
+
+-- ---- its moment
+
+calendar_date : (y : ℤ) (m d day : ℕ) → date_of y m d ≡ Ok day → calendar_date_of y m d ≡ Ok day
+unfolding date_of calendar_date_of
+calendar_date y m d day e =
+    let outer = in_both (is_year y) _ _ day e in
+    let inner = in_both (is_in_range 1 12 m) _ _ day outer.1 in
+    rw outer.0 inner.1
+
+-- nothing was read before but an offset
+record IsBare (r : Record) : Type 0 where
+  ordinal : r.ordinal ≡ None
+  unix : r.unix_timestamp_nanos ≡ None
+  subsecond : r.subsecond ≡ None
+  leap : r.leap_second_is_permitted ≡ false
+
+bare_beginning : (assumed : Option ℤ) → IsBare (beginning assumed)
+bare_beginning None = record { ordinal = refl; unix = refl; subsecond = refl; leap = refl }
+bare_beginning (Some offset) = record { ordinal = refl; unix = refl; subsecond = refl; leap = refl }
+
+dated : (l : Layout) (v : Values) (r : Record) (day time : ℕ) (offset : ℤ) → IsBare r → calendar_date_of (pos v.year) (month_number v.month) v.day ≡ Ok day → time_of v.hour v.minute v.second 0 ≡ Ok time → offset_named (filled l v r) ≡ Ok offset → moment_named (filled l v r) ≡ Ok (record { wall = wall_clock day time; offset = offset })
+unfolding named_moment dated_moment named_wall named_date by_ordinal by_day year_of named_time hour_of finer_parts permitted_time_of leap_checked
+dated l v r day time offset bare in_day in_time in_offset = rw (bare.unix, bare.ordinal, bare.leap, bare.subsecond, in_day, in_time, in_offset) refl
+
+-- ---- the line
+
+values_of : (l : Layout) (line : List ℕ) (assumed : Option ℤ) (year month day minute second : ℕ) (offset : ℤ) → SaysDate l line year month day → SaysClock l line minute second → SaysOffset l line assumed offset → Values
+values_of l line assumed year month day minute second offset d t o = record { year = year; month = d.name; day = day; hour = t.hour; minute = t.minute; second = second; is_negative = o.values.is_negative; offset_hour = o.values.offset_hour; offset_minute = o.values.offset_minute }
+
+all_says : (l : Layout) (line : List ℕ) (assumed : Option ℤ) (year month day minute second : ℕ) (offset : ℤ) (d : SaysDate l line year month day) (t : SaysClock l line minute second) (o : SaysOffset l line assumed offset) → HasText l line → Says l line (values_of l line assumed year month day minute second offset d t o)
+unfolding values_of
+all_says l line assumed year month day minute second offset d t o text = record { text = text; year = d.year_says; month = d.month_says; day = d.day_says; hour = t.hour_says; minute = t.minute_says; second = t.second_says; offset_hour = o.hour_says; offset_minute = o.minute_says }
+
+moment_there : (l : Layout) (line : List ℕ) (assumed : Option ℤ) (year month day minute second : ℕ) (offset : ℤ) (d : SaysDate l line year month day) (t : SaysClock l line minute second) (o : SaysOffset l line assumed offset) (f : Fields) → HaveNumbers f year month day minute second 0 offset
+    → moment_named (with_values l (values_of l line assumed year month day minute second offset d t o) (beginning assumed)) ≡ Ok (moment_of f)
+unfolding values_of
+moment_there l line assumed year month day minute second offset d t o f n =
+    let v : Values = values_of l line assumed year month day minute second offset d t o in
+    let r : Record = beginning assumed in
+    let same : with_values l v r ≡ filled l v r = filled_is l v r d.year_there d.month_there d.day_there t.hour_there t.minute_there t.second_there in
+    let in_day : calendar_date_of (pos year) (month_number d.name) day ≡ Ok (day_of_fields f) = rw d.number_is (calendar_date (pos year) month day (day_of_fields f) (fields_date f year month day minute second 0 offset n)) in
+    let numbers : HaveNumbers f year month day (t.hour * 60 + t.minute) second 0 offset = rw t.minute_is at n in
+    let in_time : time_of t.hour t.minute second 0 ≡ Ok (time_of_fields f) = fields_time f year month day t.hour t.minute second 0 offset numbers t.within_a_day t.within_an_hour (omega arith) in
+    let in_offset : offset_named (filled l v r) ≡ Ok (pos 60 *ℤ f.offset) = rw n.same_offset o.offset_is in
+    ap (λ (x : Record). moment_named x) same ∙ dated l v r (day_of_fields f) (time_of_fields f) (pos 60 *ℤ f.offset) (bare_beginning assumed) in_day in_time in_offset ∙ ap (λ (x : Shown). Ok x) (moment_is f)
+
+whole_is : (m : Meaning) (defaults : Option Record) (line : List ℕ) (r : Record) → m (starting defaults) line ≡ Ok (r, []) → whole m defaults line ≡ Ok r
+unfolding whole
+whole_is m defaults line r e = rw e refl
+
+was_read : (x : Answer) (y : Record × List ℕ) → result_ok x ≡ Some y → x ≡ Ok y
+was_read (Ok x) y e = ap (λ (z : Record × List ℕ). Ok z) (let same : x ≡ y = cc in same)
+was_read (Err f) y e = absurd cc
+
+line_read : (l : Layout) (line : List ℕ) (assumed : Option ℤ) (year month day minute second : ℕ) (offset : ℤ) → HasText l line → length line ≡ l.length → SaysDate l line year month day → SaysClock l line minute second → SaysOffset l line assumed offset
+    → (f : Fields) → HaveNumbers f year month day minute second 0 offset → (m : Meaning) (defaults : Option Record) → IsLayoutOf m l → starting defaults ≡ beginning assumed → names moment_named (whole m defaults line) ≡ Ok (moment_of f)
+line_read l line assumed year month day minute second offset text long d t o f n m defaults plan start =
+    let v : Values = values_of l line assumed year month day minute second offset d t o in
+    let nothing : drop l.length line ≡ [] = drop_all l.length line (omega (arith, long)) in
+    let read = was_read (m (starting defaults) line) _ (plan line v (omega (arith, long)) (all_says l line assumed year month day minute second offset d t o text) (starting defaults)) in
+    let all : m (starting defaults) line ≡ Ok (with_values l v (beginning assumed), []) = rw (← start, ← nothing) read in
+    rw (whole_is m defaults line (with_values l v (beginning assumed)) all) (moment_there l line assumed year month day minute second offset d t o f n)
+
+pub lines_read : (l : Layout) (line : List ℕ) (assumed : Option ℤ) (year month day minute second : ℕ) (offset : ℤ) → HasText l line → length line ≡ l.length → SaysDate l line year month day → SaysClock l line minute second → SaysOffset l line assumed offset
+    → (o : Option Fields) → IfSome o (λ f. HaveNumbers f year month day minute second 0 offset) → (m : Meaning) (defaults : Option Record) → IsLayoutOf m l → starting defaults ≡ beginning assumed → IfSome o (λ f. names moment_named (whole m defaults line) ≡ Ok (moment_of f))
+lines_read l line assumed year month day minute second offset text long d t o None n m defaults plan start = tt
+lines_read l line assumed year month day minute second offset text long d t o (Some f) n m defaults plan start = line_read l line assumed year month day minute second offset text long d t o f n m defaults plan start

@@ -1,0 +1,68 @@
+-- Layouts: what stands at each place of a line, and what a line that has it sets in a record.
+use Rattle.std.specs.Prelude.{◌≡◌, ◌≤◌, ℕ, ◌+◌, pos, Bool, true, false, List, drop, length, get_or, Option, Some, None, IfSome, set}
+use Rattle.parsing_components.specs.Ranged.{under}
+use Rattle.parsing_components.specs.Read.{Read}
+use Rattle.parsing_record.specs.Record.{Record}
+use Rattle.parsing_plan.specs.Slot.{Values, slot_piece, value_in, width}
+use Rattle.parsing_plan.specs.declared.layout.Layout.{Layout}
+use Rattle.parsing_plan.specs.declared.slot.Slot.{Slot}
+use Rattle.parsing_plan.specs.declared.slot.Slot.TheVariants as slot
+
+abbrev pub place_of : Layout → Slot → Option ℕ
+place_of l slot.Year = l.year
+place_of l slot.Month = l.month
+place_of l slot.MonthName = l.month
+place_of l slot.Day = l.day
+place_of l slot.Hour = l.hour
+place_of l slot.Minute = l.minute
+place_of l slot.Second = l.second
+place_of l slot.OffsetHour = l.offset_hour
+place_of l slot.OffsetMinute = l.offset_minute
+
+-- with a slot more, or a byte more
+abbrev pub with_slot : Layout → Slot → Layout
+with_slot l slot.Year = record l { year = Some l.length; length = l.length + 4 }
+with_slot l slot.Month = record l { month = Some l.length; month_is_named = false; length = l.length + 2 }
+with_slot l slot.MonthName = record l { month = Some l.length; month_is_named = true; length = l.length + 3 }
+with_slot l slot.Day = record l { day = Some l.length; length = l.length + 2 }
+with_slot l slot.Hour = record l { hour = Some l.length; length = l.length + 2 }
+with_slot l slot.Minute = record l { minute = Some l.length; length = l.length + 2 }
+with_slot l slot.Second = record l { second = Some l.length; length = l.length + 2 }
+with_slot l slot.OffsetHour = record l { offset_hour = Some l.length; length = l.length + 3 }
+with_slot l slot.OffsetMinute = record l { offset_minute = Some l.length; length = l.length + 2 }
+
+abbrev pub with_byte : Layout → ℕ → Layout
+with_byte l b = record l { text = set l.text l.length b; mask = set l.mask l.length 255; length = l.length + 1 }
+
+-- at the place of a slot, if it has one, this is read
+abbrev pub SaysAt : Slot → Option ℕ → List ℕ → Read → Type 0
+SaysAt s place line said = IfSome place (λ p. slot_piece s (drop p line) ≡ Some (said, drop (p + width s) line))
+
+-- the bytes that have to stand somewhere stand there
+abbrev pub HasText : Layout → List ℕ → Type 0
+HasText l line = (k : ℕ) → get_or l.mask k 0 ≡ 255 → get_or line k 0 ≡ get_or l.text k 0
+
+abbrev pub month_slot : Bool → Slot
+month_slot true = slot.MonthName
+month_slot false = slot.Month
+
+-- the line has the layout, with these values
+pub record Says (l : Layout) (line : List ℕ) (v : Values) : Type 0 where
+  pub text : HasText l line
+  pub year : SaysAt slot.Year l.year line (value_in slot.Year v)
+  pub month : SaysAt (month_slot l.month_is_named) l.month line (value_in slot.Month v)
+  pub day : SaysAt slot.Day l.day line (value_in slot.Day v)
+  pub hour : SaysAt slot.Hour l.hour line (value_in slot.Hour v)
+  pub minute : SaysAt slot.Minute l.minute line (value_in slot.Minute v)
+  pub second : SaysAt slot.Second l.second line (value_in slot.Second v)
+  pub offset_hour : SaysAt slot.OffsetHour l.offset_hour line (value_in slot.OffsetHour v)
+  pub offset_minute : SaysAt slot.OffsetMinute l.offset_minute line (value_in slot.OffsetMinute v)
+
+-- what is read where there is a place for it, and else what was there
+abbrev pub read_or : {A : Type 0} → Option ℕ → A → A → A
+read_or None new old = old
+read_or (Some place) new old = new
+
+-- the record with the values of the slots that have places
+abbrev pub with_values : Layout → Values → Record → Record
+with_values l v r = record r { year = read_or l.year (Some (pos v.year)) r.year; month = read_or l.month (Some v.month) r.month; day = read_or l.day (Some v.day) r.day; hour_24 = read_or l.hour (Some v.hour) r.hour_24; minute = read_or l.minute (Some v.minute) r.minute; second = read_or l.second (Some v.second) r.second; offset_hour = read_or l.offset_hour (Some (under v.is_negative v.offset_hour)) r.offset_hour; offset_is_negative = read_or l.offset_hour v.is_negative r.offset_is_negative; offset_minute = read_or l.offset_minute (Some (pos v.offset_minute)) r.offset_minute }

@@ -1,0 +1,5 @@
+pub mod Slot
+pub mod Layout
+pub mod Steps
+pub mod Parts
+pub mod Plan

@@ -1,0 +1,63 @@
+-- What the slots of a line say of a date, a time of day and an offset.
+use Rattle.std.specs.Prelude.{◌≡◌, ◌≤◌, ℕ, ◌+◌, ◌*◌, Bool, List, drop, Option, Some, Ok, IsSome, ℤ, pos, ◌*ℤ◌}
+use Rattle.calendar_count.specs.declared.month.Month.{Month}
+use Rattle.calendar_count.specs.Month.{month_number}
+use Rattle.parsing_pieces.specs.Pieces.{digits}
+use Rattle.parsing_resolution.specs.Resolution.{signed_offset_of}
+use Rattle.parsing_components.specs.Ranged.{under}
+use Rattle.parsing_components.specs.Read as read
+use Rattle.parsing_record.specs.Whole.{offset_named}
+use Rattle.parsing_plan.specs.Slot.{Values, slot_piece, value_in, width}
+use Rattle.parsing_plan.specs.Layout.{SaysAt, month_slot, with_values}
+use Rattle.parsing_plan.specs.Plan.{beginning}
+use Rattle.parsing_plan.specs.declared.layout.Layout.{Layout}
+use Rattle.parsing_plan.specs.declared.slot.Slot.TheVariants as slot
+
+-- so many digits at a place write a number
+abbrev pub WritesAt : ℕ → List ℕ → ℕ → ℕ → Type 0
+WritesAt n line place number = digits n (drop place line) ≡ Some (number, drop (place + n) line)
+
+-- a month at a place, by its name or its number
+pub record SaysMonth (is_named : Bool) (line : List ℕ) (place number : ℕ) : Type 0 where
+  pub month : Month
+  pub number_is : month_number month ≡ number
+  pub says : slot_piece (month_slot is_named) (drop place line) ≡ Some (read.Month month, drop (place + width (month_slot is_named)) line)
+
+pub record SaysDate (l : Layout) (line : List ℕ) (year month day : ℕ) : Type 0 where
+  pub year_there : IsSome l.year
+  pub month_there : IsSome l.month
+  pub day_there : IsSome l.day
+  pub year_says : SaysAt slot.Year l.year line (read.Year (pos year))
+  pub name : Month
+  pub number_is : month_number name ≡ month
+  pub month_says : SaysAt (month_slot l.month_is_named) l.month line (read.Month name)
+  pub day_says : SaysAt slot.Day l.day line (read.Day day)
+
+pub record SaysClock (l : Layout) (line : List ℕ) (minute_of_day second : ℕ) : Type 0 where
+  pub hour : ℕ
+  pub minute : ℕ
+  pub hour_there : IsSome l.hour
+  pub minute_there : IsSome l.minute
+  pub second_there : IsSome l.second
+  pub hour_says : SaysAt slot.Hour l.hour line (read.Hour24 hour)
+  pub minute_says : SaysAt slot.Minute l.minute line (read.Minute minute)
+  pub second_says : SaysAt slot.Second l.second line (read.Second second)
+  pub within_a_day : hour ≤ 23
+  pub within_an_hour : minute ≤ 59
+  pub minute_is : minute_of_day ≡ hour * 60 + minute
+
+-- hours behind a sign and minutes, each at a place, are an offset of so many minutes
+pub record WritesOffset (line : List ℕ) (hour_place minute_place : ℕ) (offset : ℤ) : Type 0 where
+  pub is_negative : Bool
+  pub hours : ℕ
+  pub minutes : ℕ
+  pub hour_says : slot_piece slot.OffsetHour (drop hour_place line) ≡ Some (read.OffsetHour (under is_negative hours) is_negative, drop (hour_place + 3) line)
+  pub minute_says : slot_piece slot.OffsetMinute (drop minute_place line) ≡ Some (read.OffsetMinute minutes, drop (minute_place + 2) line)
+  pub offset_is : signed_offset_of is_negative hours minutes ≡ Ok (pos 60 *ℤ offset)
+
+-- the offset in minutes, with one assumed or none
+pub record SaysOffset (l : Layout) (line : List ℕ) (assumed : Option ℤ) (offset : ℤ) : Type 0 where
+  pub values : Values
+  pub hour_says : SaysAt slot.OffsetHour l.offset_hour line (value_in slot.OffsetHour values)
+  pub minute_says : SaysAt slot.OffsetMinute l.offset_minute line (value_in slot.OffsetMinute values)
+  pub offset_is : offset_named (with_values l values (beginning assumed)) ≡ Ok (pos 60 *ℤ offset)

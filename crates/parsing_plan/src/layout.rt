@@ -1,0 +1,166 @@
+//! What stands at each place of a line.
+ghost use Rattle.std.specs.Prelude.{◌≡◌, ◌≢◌, ◌<◌, ◌≤◌, true, None, length, get_or, IfSome};
+ghost use Rattle.parsing_record.specs.Record.{Record};
+ghost use Rattle.parsing_plan.specs.Layout.{HasText, place_of, with_byte, with_slot, with_values};
+ghost use Rattle.parsing_plan.specs.Slot.{Values};
+ghost use Rattle.parsing_plan.specs.Steps.{IsTextStep};
+
+use crate::slot::Slot;
+
+/// The most bytes of a layout.
+pub(crate) const LENGTH: usize = 32;
+
+/// What stands at each place of the front of a line: a byte of a literal, or a slot, if any.
+#[derive(Clone, Copy)]
+pub(crate) struct Layout {
+    /// The bytes of the front.
+    pub(crate) length: usize,
+    pub(crate) year: Option<usize>,
+    pub(crate) month: Option<usize>,
+    /// Whether the month is written by its name.
+    pub(crate) month_is_named: bool,
+    pub(crate) day: Option<usize>,
+    pub(crate) hour: Option<usize>,
+    pub(crate) minute: Option<usize>,
+    pub(crate) second: Option<usize>,
+    pub(crate) offset_hour: Option<usize>,
+    pub(crate) offset_minute: Option<usize>,
+    /// The bytes of the literals.
+    pub(crate) text: [u8; LENGTH],
+    /// 255 where a literal has a byte.
+    pub(crate) mask: [u8; LENGTH],
+}
+
+impl Layout {
+    /// The layout of no bytes.
+    pub(crate) fn new() -> Layout
+        ensures length { result.length ≡ 0 }
+        ensures values { (v : Values) (r : Record) → with_values result v r ≡ r }
+    {
+        Layout {
+            length: 0,
+            year: None,
+            month: None,
+            month_is_named: false,
+            day: None,
+            hour: None,
+            minute: None,
+            second: None,
+            offset_hour: None,
+            offset_minute: None,
+            text: [0; LENGTH],
+            mask: [0; LENGTH],
+        }
+    }
+
+    fn place_of(&self, slot: Slot) -> Option<usize>
+        ensures { result ≡ place_of self.now slot }
+    {
+        match slot {
+            Slot::Year => self.year,
+            Slot::Month | Slot::MonthName => self.month,
+            Slot::Day => self.day,
+            Slot::Hour => self.hour,
+            Slot::Minute => self.minute,
+            Slot::Second => self.second,
+            Slot::OffsetHour => self.offset_hour,
+            Slot::OffsetMinute => self.offset_minute,
+        }
+    }
+
+    /// The layout with a slot behind it: `None` where it has that slot, or is too long.
+    pub(crate) fn with_slot(self, slot: Slot) -> Option<Layout>
+        ensures value { IfSome result (λ l. l ≡ with_slot self slot) }
+        ensures free { IfSome result (λ _. place_of self slot ≡ None) }
+    {
+        if self.place_of(slot).is_some() || self.length > LENGTH {
+            return None;
+        }
+        let place = Some(self.length);
+        let length = self.length + slot.width();
+        let longer = Layout { length, ..self };
+        Some(match slot {
+            Slot::Year => Layout {
+                year: place,
+                ..longer
+            },
+            Slot::Month => Layout {
+                month: place,
+                month_is_named: false,
+                ..longer
+            },
+            Slot::MonthName => Layout {
+                month: place,
+                month_is_named: true,
+                ..longer
+            },
+            Slot::Day => Layout {
+                day: place,
+                ..longer
+            },
+            Slot::Hour => Layout {
+                hour: place,
+                ..longer
+            },
+            Slot::Minute => Layout {
+                minute: place,
+                ..longer
+            },
+            Slot::Second => Layout {
+                second: place,
+                ..longer
+            },
+            Slot::OffsetHour => Layout {
+                offset_hour: place,
+                ..longer
+            },
+            Slot::OffsetMinute => Layout {
+                offset_minute: place,
+                ..longer
+            },
+        })
+    }
+
+    // The layout with a byte of a literal behind it.
+    fn with_byte(self, byte: u8) -> Option<Layout>
+        ensures value { IfSome result (λ l. l ≡ with_byte self byte) }
+        ensures room { IfSome result (λ _. self.length < length self.text) }
+        ensures mask_room { IfSome result (λ _. self.length < length self.mask) }
+        ensures free { IfSome result (λ _. get_or self.mask self.length 0 ≢ 255) }
+    {
+        let place = self.length;
+        if place >= LENGTH || self.mask[place] == 255 {
+            return None;
+        }
+        let mut longer = self;
+        longer.text[place] = byte;
+        longer.mask[place] = 255;
+        longer.length = place + 1;
+        Some(longer)
+    }
+
+    /// The layout with a literal behind it: `None` where it is too long.
+    pub(crate) fn with_text(self, text: &[u8]) -> Option<Layout>
+        ensures { IfSome result (IsTextStep text.now self) }
+    {
+        let mut layout = self;
+        for byte in text {
+            layout = layout.with_byte(*byte)?;
+        }
+        Some(layout)
+    }
+
+    /// Whether the bytes of the literals stand where they have to.
+    pub(crate) fn has_text(&self, line: &[u8]) -> bool
+        ensures { result ≡ true → HasText self.now line.now }
+    {
+        for place in 0..LENGTH {
+            if self.mask[place] == 255
+                && line.get(place).copied().unwrap_or(0) != self.text[place]
+            {
+                return false;
+            }
+        }
+        true
+    }
+}

@@ -1,0 +1,10 @@
+//! Plans that read a line by places, where all items of a description have fixed widths.
+#![tactic(auto)]
+
+mod items;
+mod layout;
+mod plan;
+mod read;
+mod slot;
+
+pub use plan::Plan;

@@ -1,0 +1,92 @@
+//! The components of fixed width.
+ghost use Rattle.std.specs.Prelude.{◌≡◌, true, false, IfSome};
+ghost use Rattle.description_date_modifiers.specs.declared.choices.Padding.TheVariants as Padding;
+ghost use Rattle.parsing_plan.specs.Slot.{IsSlotOf, width};
+
+use description_items::Component;
+use description_items::modifier::Padding;
+
+/// A component of fixed width.
+#[derive(Clone, Copy)]
+pub(crate) enum Slot {
+    /// A year of four digits without a sign.
+    Year,
+    Month,
+    /// The first three letters of a month's English name, as they are written.
+    MonthName,
+    Day,
+    /// The hour of a whole day.
+    Hour,
+    Minute,
+    Second,
+    /// The hours of an offset, behind a sign.
+    OffsetHour,
+    OffsetMinute,
+}
+
+impl Slot {
+    /// The bytes that it takes.
+    pub(crate) fn width(self) -> usize
+        ensures { result ≡ width self }
+    {
+        match self {
+            Slot::Year => 4,
+            Slot::MonthName | Slot::OffsetHour => 3,
+            _ => 2,
+        }
+    }
+}
+
+fn is_zero(padding: Padding) -> bool
+    ensures { result ≡ true → padding ≡ Padding.Zero }
+{
+    matches!(padding, Padding::Zero)
+}
+
+// A number with zeros and without a sign, unless it has to have one.
+fn is_unsigned(padding: Padding, sign_is_mandatory: bool) -> bool
+    ensures { result ≡ true → (padding ≡ Padding.Zero) × (sign_is_mandatory ≡ false) }
+{
+    is_zero(padding) && !sign_is_mandatory
+}
+
+// A number with zeros that has to have a sign.
+fn is_signed(padding: Padding, sign_is_mandatory: bool) -> bool
+    ensures { result ≡ true → (padding ≡ Padding.Zero) × (sign_is_mandatory ≡ true) }
+{
+    is_zero(padding) && sign_is_mandatory
+}
+
+fn slot_if(holds: bool, slot: Slot) -> Option<Slot>
+    ensures { IfSome result (λ s. (holds ≡ true) × (s ≡ slot)) }
+{
+    if holds { Some(slot) } else { None }
+}
+
+/// The slot that a component is.
+pub(crate) fn slot_of(component: &Component) -> Option<Slot>
+    ensures { IfSome result (IsSlotOf component.now) }
+{
+    match component {
+        Component::CalendarYearFullExtendedRange(m) => slot_if(
+            is_unsigned(m.padding, m.sign_is_mandatory),
+            Slot::Year,
+        ),
+        Component::CalendarYearFullStandardRange(m) => slot_if(
+            is_unsigned(m.padding, m.sign_is_mandatory),
+            Slot::Year,
+        ),
+        Component::MonthNumerical(m) => slot_if(is_zero(m.padding), Slot::Month),
+        Component::MonthShort(m) => slot_if(m.case_sensitive, Slot::MonthName),
+        Component::Day(m) => slot_if(is_zero(m.padding), Slot::Day),
+        Component::Hour24(m) => slot_if(is_zero(m.padding), Slot::Hour),
+        Component::Minute(m) => slot_if(is_zero(m.padding), Slot::Minute),
+        Component::Second(m) => slot_if(is_zero(m.padding), Slot::Second),
+        Component::OffsetHour(m) => slot_if(
+            is_signed(m.padding, m.sign_is_mandatory),
+            Slot::OffsetHour,
+        ),
+        Component::OffsetMinute(m) => slot_if(is_zero(m.padding), Slot::OffsetMinute),
+        _ => None,
+    }
+}
