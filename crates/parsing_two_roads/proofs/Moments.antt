@@ -25,10 +25,11 @@ use Rattle.parsing_iso8601.specs.declared.written.WrittenDate.TheVariants.{OfMon
 use Rattle.parsing_iso8601.specs.declared.written.WrittenTime.{WrittenTime}
 use Rattle.parsing_iso8601.specs.Moment.{IsOfOffset}
 use Rattle.parsing_iso8601.specs.Offsets.{offset, signed_offset}
+use Rattle.parsing_iso8601.specs.Parts.{all_three}
 use Rattle.parsing_iso8601.specs.Reading.{dated, iso8601, whole}
 use Rattle.parsing_iso8601.specs.ReadView.{day_named}
 use Rattle.parsing_iso8601.specs.Times.{time, time_of, subsecond_of}
-use Rattle.parsing_iso8601.proofs.FastMoments.{of_offset, moment_named}
+use Rattle.parsing_iso8601.proofs.FastMoments.{whole_of, moment_named}
 use Rattle.parsing_two_roads.specs.TwoFormats.{separator, last_byte, second_of, fraction_of, rounds_up, fills_second, is_of_both, rounded}
 use Rattle.parsing_two_roads.proofs.Places.{digits_place, byte_place, any_place, further, byte_at, last_of_rest}
 use Rattle.parsing_two_roads.proofs.RfcPieces.{date_pieces, clock_pieces, TextPieces, text_pieces, shown}
@@ -193,7 +194,12 @@ module _ (bytes : List ℕ) (m : Shown) (q : Placed bytes m) where
       all_named o nanosecond x named checked =
           let d = OfMonth (pos q.p.d.0) q.month q.p.d.2 in
           let t = time_of q.p.t.0 q.p.t.1 q.p.t.2 nanos in
-          of_offset bytes q.p.b1 q.p.b4 d Extended Extended t o.read (Some x) q.date time_read o.is (moment_named d t o.read q.p.day nanosecond q.p.seconds q.day named o.value ∙ ap in_range checked)
+          record {
+            written = all_three d t o.read;
+            read = rw (whole_of bytes q.p.b1 q.p.b4 d Extended Extended t o.read q.date time_read o.is) refl;
+            offset = refl;
+            named = moment_named d t o.read q.p.day nanosecond q.p.seconds q.day named o.value ∙ ap in_range checked;
+          }
 
   is_small : fills_second ds ≡ false → nanos < 1_000_000_000
   is_small fits =
