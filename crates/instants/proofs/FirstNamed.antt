@@ -1,14 +1,12 @@
 -- The first source that names a moment.
-use Rattle.std.proofs.Common.{◌≡◌, ℕ, List, ◌∷◌, Option, None, Some, Result, Ok, Err, refl, ap, unwrap_or, ℤ}
-use Rattle.std.specs.Prelude.{IfSome}
-use Rattle.std.specs.Option.{ok_or, option_map}
+use Rattle.std.proofs.Common.{◌≡◌, ◌<◌, ℕ, List, [], ◌∷◌, length, get_or, drop, map, sym, arith, Option, None, Some, Result, Ok, Err, refl, ap, unwrap_or, ℤ}
+use Rattle.std.specs.Option.{ok_or}
 use Rattle.std.specs.Result.{result_ok}
 use Rattle.datetime_wall.specs.Wall.{Shown}
-use Rattle.parsing_fields.specs.Moment.{moment_of}
-use Rattle.parsing_fields.specs.declared.fields.Fields.{Fields}
 use Rattle.parsing_pieces.specs.Fault.{Fault}
-use Rattle.instants_sources.specs.Grammar.{Grammar}
-use Rattle.instants_sources.specs.Named.{named, IsNamedBy}
+use Rattle.instants_sources.specs.Grammar.{Grammar, grammar_of}
+use Rattle.instants_sources.specs.declared.source.Source.{Source}
+use Rattle.instants_sources.specs.Named.{named}
 use Rattle.instants.specs.Place.{Setting, or_named, first_named, place_of, answer_to}
 use Rattle.instants.specs.Refusal.{refusal_of, refusal_text}
 use Rattle.instants.specs.FirstNamed.{IsAnswerOf}
@@ -34,18 +32,6 @@ later (Err f) others e = result_ok-ok_or others f
 pub first_named-later : (assumed : Option ℤ) (grammar : Grammar) (others : List Grammar) (line : List ℕ) → result_ok (named assumed grammar line) ≡ None → result_ok (first_named assumed (grammar ∷ others) line) ≡ result_ok (first_named assumed others line)
 unfolding first_named
 first_named-later assumed grammar others line e = later (named assumed grammar line) (result_ok (first_named assumed others line)) e
-
--- what fields name is what a source names for a line
-pub found_named : (setting : Setting) (found : Option Fields) (grammar : Grammar) (line bytes : List ℕ) → IfSome found (λ f. IsNamedBy grammar line (moment_of f))
-    → IsAnswerOf setting (option_map moment_of found) bytes → IsAnswerOf setting (result_ok (named setting.assumed grammar line)) bytes
-found_named setting None grammar line bytes h a = absurd (let e = a.is in cc)
-found_named setting (Some f) grammar line bytes h a = rw (h setting.assumed) (record {
-  moment = a.moment;
-  is = a.is;
-  text = a.text;
-  room = a.room;
-  never_long = a.never_long;
-})
 
 -- an answer for a moment, wherever it is named
 pub answer_alike : {setting : Setting} {one other : Option Shown} {bytes : List ℕ} (a : IsAnswerOf setting one bytes) → other ≡ Some a.moment → IsAnswerOf setting other bytes
@@ -83,3 +69,7 @@ pub answered_fault : (setting : Setting) (grammar : Grammar) (others : List Gram
     → result_ok (first_named setting.assumed others line) ≡ None → bytes ≡ refusal_text (refusal_of fault) → bytes ≡ answer_to setting line
 unfolding answer_to place_of first_named
 answered_fault setting grammar others line bytes fault e refused none text = rw e (rw (refused, none) text)
+
+pub first_source : (sources : List Source) (first : Source) → 0 < length sources → first ≡ get_or sources 0 first → map grammar_of sources ≡ grammar_of first ∷ map grammar_of (drop 1 sources)
+first_source [] first h e = absurd (omega (arith, h))
+first_source (s ∷ rest) first h e = ap (λ (x : Source). grammar_of x ∷ map grammar_of rest) (sym e)

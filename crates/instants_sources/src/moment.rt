@@ -1,5 +1,5 @@
 //! The moment of a line, by the fast way or the exact one.
-ghost use Rattle.std.specs.Prelude.{◌≡◌, true, IfSome};
+ghost use Rattle.std.specs.Prelude.{◌≡◌, true, Ok, IfSome};
 ghost use Rattle.std.specs.Result.{result_ok};
 ghost use Rattle.parsing_fields.specs.Moment.{moment_of};
 ghost use Rattle.instants_sources.specs.Grammar.{grammar_of};
@@ -93,18 +93,32 @@ impl<'a> Source<'a> {
         }
     }
 
-    /// The fields of the moment of a line, where the fast way finds them, whatever offset is assumed: `None` says nothing of
-    /// the line.
+    /// The fields of the moment of a line, where the plan of a description finds them, with an offset assumed or none: `None`
+    /// says nothing of the line.
     #[inline(always)]
-    pub fn read_fast(&self, line: &[u8]) -> Option<Fields>
+    pub fn read_planned(&self, line: &[u8], assumed: Option<UtcOffset>) -> Option<Fields>
         ensures { IfSome result
-            (λ fields. IsNamedBy (grammar_of self.now) line.now (moment_of fields)) }
+            (λ fields. named assumed (grammar_of self.now) line.now ≡ Ok (moment_of fields)) }
+    {
+        match self {
+            Source::Items(described) => described.read_fast(line, assumed),
+            Source::V3(described) => described.read_fast(line, assumed),
+            _ => None,
+        }
+    }
+
+    /// The fields of the moment of a line, where the fast way finds them, with an offset assumed or none: `None` says nothing
+    /// of the line.
+    #[inline(always)]
+    pub fn read_fast(&self, line: &[u8], assumed: Option<UtcOffset>) -> Option<Fields>
+        ensures { IfSome result
+            (λ fields. named assumed (grammar_of self.now) line.now ≡ Ok (moment_of fields)) }
     {
         match self {
             Source::Rfc2822 => fast_rfc2822(line),
             Source::Rfc3339 => fast_rfc3339(line),
             Source::Iso8601 => fast_iso8601(line),
-            _ => None,
+            Source::Items(_) | Source::V3(_) => self.read_planned(line, assumed),
         }
     }
 
@@ -115,7 +129,7 @@ impl<'a> Source<'a> {
         if self.cannot_match(line) {
             return None;
         }
-        if let Some(fields) = self.read_fast(line) {
+        if let Some(fields) = self.read_fast(line, *assumed) {
             return Some(fields.moment());
         }
         match self.read_exact(line, *assumed) {

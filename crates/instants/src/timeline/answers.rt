@@ -101,6 +101,16 @@ impl Timeline<'_> {
         self.write_found(fast_iso8601(line), storage)
     }
 
+    // The same of a description that has a plan.
+    #[inline(never)]
+    fn write_planned(&self, source: &Source, line: &[u8], storage: &mut Answer) -> bool
+        ensures { result ≡ true → IsAnswerOf (setting_of self.now)
+            (result_ok (named (setting_of self.now).assumed (grammar_of source.now) line.now))
+            storage.new }
+    {
+        self.write_found(source.read_planned(line, self.assumed), storage)
+    }
+
     // Writes the answer to a line by a source's fast way, if that finds one: `false` says nothing of the line.
     #[inline(always)]
     fn write_fast(&self, source: &Source, line: &[u8], storage: &mut Answer) -> bool
@@ -112,7 +122,7 @@ impl Timeline<'_> {
             Source::Rfc2822 => self.write_rfc2822(line, storage),
             Source::Rfc3339 => self.write_rfc3339(line, storage),
             Source::Iso8601 => self.write_iso8601(line, storage),
-            Source::Items(_) | Source::V3(_) => false,
+            Source::Items(_) | Source::V3(_) => self.write_planned(source, line, storage),
         }
     }
 

@@ -95,7 +95,7 @@ impl<'a> Timeline<'a> {
         ensures { IfSome result
             (λ fields. IsFirstNamed (setting_of self.now) line.now (moment_of fields)) }
     {
-        self.sources.as_slice()[0].read_fast(line)
+        self.sources.as_slice()[0].read_fast(line, self.assumed)
     }
 
     /// The line's place: the moment that the first source with one names for the whole line, shown at the target.

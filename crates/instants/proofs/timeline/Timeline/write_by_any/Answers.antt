@@ -3,7 +3,7 @@ use Rattle.std.proofs.lemmas.List.{drop_more, drop_all}
 use Rattle.instants_sources.specs.Grammar.{grammar_of}
 use Rattle.instants.specs.Place.{first_named}
 use Rattle.instants.proofs.FirstNamed.{first_named-here, first_named-later, answer_alike}
-use Rattle.instants.proofs.timeline.answers.Timeline.write_by_any.Goals as goal
+use Rattle.instants.proofs.timeline.Timeline.write_by_any.Goals as goal
 
 pub returns-then-write_by-clause-answer : goal.returns-then-write_by-clause-answer
 returns-then-write_by-clause-answer c = λ e.
