@@ -1,7 +1,7 @@
 pub mod Refusal
 pub mod Refusals
 pub mod Sources
-mod FirstNamed
+pub mod FirstNamed
 pub mod Place
 pub mod Settings
 pub mod Answered

@@ -4,6 +4,7 @@ ghost use Rattle.calendar.specs.UtcOffset.{IsClockOffset};
 ghost use Rattle.instants_sources.specs.Grammar.{grammar_of};
 ghost use Rattle.instants.specs.Tried.{places_of};
 
+mod answers;
 mod calls;
 mod places;
 

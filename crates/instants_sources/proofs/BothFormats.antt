@@ -8,6 +8,8 @@ use Rattle.std.proofs.lemmas.List.Folds.{length-prefix_len}
 use Rattle.std.proofs.lemmas.List.Sums.{prefix_len_passes}
 use Rattle.byte_names.specs.Bytes.{dot}
 use Rattle.datetime_wall.specs.Wall.{Shown}
+use Rattle.parsing_fields.specs.Moment.{moment_of}
+use Rattle.parsing_fields.specs.declared.fields.Fields.{Fields}
 use Rattle.parsing_pieces.specs.Pieces.{byte, digit_count, skip_of}
 use Rattle.parsing_pieces.proofs.Decimal.{digit_count_within}
 use Rattle.parsing_iso8601.proofs.Rounding.{none_left}
@@ -63,9 +65,9 @@ named_alike line m law both whole h assumed =
     let it = law (defaults_of assumed) (assumed_alone assumed) m (h assumed) in
     rw whole at (it.named both)
 
-pub if_named_alike : (line : List ℕ) (o : Option Shown)
+pub if_named_alike : (line : List ℕ) (o : Option Fields)
     → ((defaults : Option Record) → HoldsAtMostAnOffset defaults → (moment : Shown) → by_roads direct reads_rfc3339 defaults line ≡ Ok moment → IsReadAlike defaults line moment)
     → is_of_both line ≡ true → rounds_up (fraction_of line) ≡ false
-    → IfSome o (λ m. (assumed : Option ℤ) → named assumed Rfc3339 line ≡ Ok m) → IfSome o (λ m. (assumed : Option ℤ) → named assumed Iso8601 line ≡ Ok m)
+    → IfSome o (λ f. (assumed : Option ℤ) → named assumed Rfc3339 line ≡ Ok (moment_of f)) → IfSome o (λ f. (assumed : Option ℤ) → named assumed Iso8601 line ≡ Ok (moment_of f))
 if_named_alike line None law both whole h = tt
-if_named_alike line (Some m) law both whole h = named_alike line m law both whole h
+if_named_alike line (Some f) law both whole h = named_alike line (moment_of f) law both whole h

@@ -3,6 +3,8 @@ use Rattle.std.proofs.Common.{◌≡◌, ℕ, List, Option, Some, None, Result, 
 use Rattle.std.specs.Prelude.{IfSome}
 use Rattle.std.specs.Result.{result_ok}
 use Rattle.datetime_wall.specs.Wall.{Shown}
+use Rattle.parsing_fields.specs.Moment.{moment_of}
+use Rattle.parsing_fields.specs.declared.fields.Fields.{Fields}
 use Rattle.parsing_pieces.specs.Fault.{Fault}
 use Rattle.parsing_record.specs.Meaning.{Meaning}
 use Rattle.parsing_record.specs.Record.{Record}
@@ -25,10 +27,10 @@ by_either direct m line moment agree e None = e
 by_either direct m line moment agree e (Some offset) = same_moment (direct line) _ moment (agree _ _) e
 
 -- what is found directly is named by either road
-pub by_either_road : (direct : List ℕ → Result Shown Fault) (m : Meaning) (line : List ℕ) (found : Option Shown) → AgreeOn direct m line → IfSome found (λ moment. direct line ≡ Ok moment)
-    → IfSome found (λ moment. (assumed : Option ℤ) → by_roads direct m (defaults_of assumed) line ≡ Ok moment)
+pub by_either_road : (direct : List ℕ → Result Shown Fault) (m : Meaning) (line : List ℕ) (found : Option Fields) → AgreeOn direct m line → IfSome found (λ f. direct line ≡ Ok (moment_of f))
+    → IfSome found (λ f. (assumed : Option ℤ) → by_roads direct m (defaults_of assumed) line ≡ Ok (moment_of f))
 by_either_road direct m line None agree e = tt
-by_either_road direct m line (Some moment) agree e = by_either direct m line moment agree e
+by_either_road direct m line (Some f) agree e = by_either direct m line (moment_of f) agree e
 
 -- what is named by no road from nothing is named by none with an offset assumed
 pub by_no_road : (direct : List ℕ → Result Shown Fault) (m : Meaning) (line : List ℕ) → AgreeOn direct m line → result_ok (direct line) ≡ None
@@ -41,8 +43,8 @@ assumed_alone None = tt
 assumed_alone (Some offset) = refl
 
 -- what is found with an offset is named from a record
-pub with_offset : (line : List ℕ) (found : Option Shown)
+pub with_offset : (line : List ℕ) (found : Option Fields)
     → ((m : Shown) → IsOfOffset line m → (defaults : Option Record) → HoldsAtMostAnOffset defaults → names moment_named (whole reads_iso8601 defaults line) ≡ Ok m)
-    → IfSome found (IsOfOffset line) → IfSome found (IsNamedBy Iso8601 line)
+    → IfSome found (λ f. IsOfOffset line (moment_of f)) → IfSome found (λ f. IsNamedBy Iso8601 line (moment_of f))
 with_offset line None law h = tt
-with_offset line (Some m) law h = λ assumed. law m h (defaults_of assumed) (assumed_alone assumed)
+with_offset line (Some f) law h = λ assumed. law (moment_of f) h (defaults_of assumed) (assumed_alone assumed)

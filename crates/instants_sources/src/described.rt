@@ -1,32 +1,45 @@
-//! Descriptions, with the bytes that their lines begin with.
-ghost use Rattle.std.specs.Prelude.{◌≡◌, true, None};
+//! Descriptions, with the bytes that their lines begin with, and a plan where all parts have fixed widths.
+ghost use Rattle.std.specs.Prelude.{◌≡◌, true, None, Ok, IfSome};
+ghost use Rattle.std.specs.Option.{ForSome};
 ghost use Rattle.std.specs.Result.{result_ok};
 ghost use Rattle.description_items.specs.Tree.{listed, trees};
 ghost use Rattle.description_tree.specs.Description.{v3_tree};
 ghost use Rattle.parsing_components.specs.Component.{reads_component, reads_component_v3};
+ghost use Rattle.parsing_fields.specs.Moment.{moment_of};
 ghost use Rattle.parsing_first_bytes.specs.FirstBytes.{AreOf};
+ghost use Rattle.parsing_plan.specs.Plan.{IsPlanOf};
 ghost use Rattle.parsing_record.specs.Reads.{reading, reading_of_all};
 ghost use Rattle.parsing_record.specs.Record.{Record};
+ghost use Rattle.parsing_record.specs.Whole.{whole, names, moment_named};
 
+use calendar::UtcOffset;
 use description_items::BorrowedFormatItem;
 use description_tree::FormatDescriptionV3;
+use parsing_fields::Fields;
 use parsing_first_bytes::FirstBytes;
+use parsing_plan::Plan;
 
 /// Items that read a line one after the other.
 #[derive(Drop)]
 pub struct DescribedItems<'a> {
     items: Vec<BorrowedFormatItem<'a>>,
     first_bytes: FirstBytes,
+    plan: Option<Plan>,
     ghost first: { AreOf
         (reading_of_all reads_component (listed (trees items.items))) first_bytes },
+    ghost planned: { ForSome plan
+        (λ p. IsPlanOf (reading_of_all reads_component (listed (trees items.items))) p) },
 }
 
 impl<'a> DescribedItems<'a> {
+    ghost use Rattle.instants_sources.specs.Named.{defaults_of};
+
     pub(crate) fn new(items: Vec<BorrowedFormatItem<'a>>) -> DescribedItems<'a>
         ensures { result.items ≡ items.entry }
     {
         DescribedItems {
             first_bytes: FirstBytes::of_items(&items),
+            plan: Plan::of_items(&items),
             items,
         }
     }
@@ -35,6 +48,20 @@ impl<'a> DescribedItems<'a> {
         ensures { result.now ≡ self.now.items.items }
     {
         &self.items
+    }
+
+    /// The fields of the moment of a line, where the plan finds them, with an offset assumed or none: `None` says nothing of
+    /// the line.
+    #[inline(always)]
+    pub(crate) fn read_fast(&self, line: &[u8], assumed: Option<UtcOffset>) -> Option<Fields>
+        ensures { IfSome result (λ fields. names moment_named
+            (whole (reading_of_all reads_component (listed (trees self.now.items.items)))
+            (defaults_of assumed) line.now) ≡ Ok (moment_of fields)) }
+    {
+        let Some(plan) = &self.plan else {
+            return None;
+        };
+        plan.read(line, assumed)
     }
 
     /// Whether the first bytes of a line show that the items don't read it.
@@ -54,15 +81,21 @@ impl<'a> DescribedItems<'a> {
 pub struct DescribedTree<'a> {
     tree: FormatDescriptionV3<'a>,
     first_bytes: FirstBytes,
+    plan: Option<Plan>,
     ghost first: { AreOf (reading reads_component_v3 (v3_tree tree)) first_bytes },
+    ghost planned: { ForSome plan
+        (λ p. IsPlanOf (reading reads_component_v3 (v3_tree tree)) p) },
 }
 
 impl<'a> DescribedTree<'a> {
+    ghost use Rattle.instants_sources.specs.Named.{defaults_of};
+
     pub(crate) fn new(tree: FormatDescriptionV3<'a>) -> DescribedTree<'a>
         ensures { result.tree ≡ tree.entry }
     {
         DescribedTree {
             first_bytes: FirstBytes::of_description(&tree),
+            plan: Plan::of_description(&tree),
             tree,
         }
     }
@@ -71,6 +104,20 @@ impl<'a> DescribedTree<'a> {
         ensures { result.now ≡ self.now.tree }
     {
         &self.tree
+    }
+
+    /// The fields of the moment of a line, where the plan finds them, with an offset assumed or none: `None` says nothing of
+    /// the line.
+    #[inline(always)]
+    pub(crate) fn read_fast(&self, line: &[u8], assumed: Option<UtcOffset>) -> Option<Fields>
+        ensures { IfSome result (λ fields. names moment_named
+            (whole (reading reads_component_v3 (v3_tree self.now.tree))
+            (defaults_of assumed) line.now) ≡ Ok (moment_of fields)) }
+    {
+        let Some(plan) = &self.plan else {
+            return None;
+        };
+        plan.read(line, assumed)
     }
 
     /// Whether the first bytes of a line show that the tree doesn't read it.

@@ -1,6 +1,7 @@
 //! The moment of a line, by the fast way or the exact one.
-ghost use Rattle.std.specs.Prelude.{◌≡◌, true, IfSome};
+ghost use Rattle.std.specs.Prelude.{◌≡◌, true, Ok, IfSome};
 ghost use Rattle.std.specs.Result.{result_ok};
+ghost use Rattle.parsing_fields.specs.Moment.{moment_of};
 ghost use Rattle.instants_sources.specs.Grammar.{grammar_of};
 ghost use Rattle.instants_sources.specs.Grammar as grammar;
 ghost use Rattle.instants_sources.specs.Named.{named, IsNamedBy, NamesNothing};
@@ -10,33 +11,34 @@ use crate::ruled_out::{begins_no_day, begins_no_part, has_no_hyphen, has_no_spac
 use crate::source::Source;
 use calendar::UtcOffset;
 use datetime_types::OffsetDateTime;
+use parsing_fields::Fields;
 use parsing_two_roads::laws::{
     one_road_of_iso8601, two_formats, two_roads_of_rfc2822, two_roads_of_rfc3339,
 };
 
-/// The moment of a line of RFC 2822, where the fast way finds one, whatever offset is assumed: `None` says nothing
-/// of the line.
+/// The fields of the moment of a line of RFC 2822, where the fast way finds them, whatever offset is assumed: `None` says
+/// nothing of the line.
 #[inline(always)]
-pub fn fast_rfc2822(line: &[u8]) -> Option<OffsetDateTime>
-    ensures { IfSome result (IsNamedBy grammar.Rfc2822 line.now) }
+pub fn fast_rfc2822(line: &[u8]) -> Option<Fields>
+    ensures { IfSome result (λ fields. IsNamedBy grammar.Rfc2822 line.now (moment_of fields)) }
 {
     two_roads_of_rfc2822();
-    parsing_rfc2822::read_fast(line)
+    parsing_rfc2822::read_fields(line)
 }
 
 /// The same of a line of RFC 3339.
 #[inline(always)]
-pub fn fast_rfc3339(line: &[u8]) -> Option<OffsetDateTime>
-    ensures { IfSome result (IsNamedBy grammar.Rfc3339 line.now) }
+pub fn fast_rfc3339(line: &[u8]) -> Option<Fields>
+    ensures { IfSome result (λ fields. IsNamedBy grammar.Rfc3339 line.now (moment_of fields)) }
 {
     two_roads_of_rfc3339();
-    parsing_rfc3339::read_fast(line)
+    parsing_rfc3339::read_fields(line)
 }
 
 // The same of a line of ISO 8601 that RFC 3339 reads alike.
 #[inline(always)]
-fn fast_read_alike(line: &[u8]) -> Option<OffsetDateTime>
-    ensures { IfSome result (IsNamedBy grammar.Iso8601 line.now) }
+fn fast_read_alike(line: &[u8]) -> Option<Fields>
+    ensures { IfSome result (λ fields. IsNamedBy grammar.Iso8601 line.now (moment_of fields)) }
 {
     if !is_read_alike(line) {
         return None;
@@ -47,14 +49,14 @@ fn fast_read_alike(line: &[u8]) -> Option<OffsetDateTime>
 
 /// The same of a line of ISO 8601.
 #[inline(always)]
-pub fn fast_iso8601(line: &[u8]) -> Option<OffsetDateTime>
-    ensures { IfSome result (IsNamedBy grammar.Iso8601 line.now) }
+pub fn fast_iso8601(line: &[u8]) -> Option<Fields>
+    ensures { IfSome result (λ fields. IsNamedBy grammar.Iso8601 line.now (moment_of fields)) }
 {
-    if let Some(moment) = fast_read_alike(line) {
-        return Some(moment);
+    if let Some(fields) = fast_read_alike(line) {
+        return Some(fields);
     }
     one_road_of_iso8601();
-    parsing_iso8601::read_fast(line)
+    parsing_iso8601::read_fields(line)
 }
 
 // Whether the first bytes of a line show that RFC 2822 names no moment for it.
@@ -91,16 +93,32 @@ impl<'a> Source<'a> {
         }
     }
 
-    /// The moment of a line, where the fast way finds one, whatever offset is assumed: `None` says nothing of the line.
+    /// The fields of the moment of a line, where the plan of a description finds them, with an offset assumed or none: `None`
+    /// says nothing of the line.
     #[inline(always)]
-    pub fn read_fast(&self, line: &[u8]) -> Option<OffsetDateTime>
-        ensures { IfSome result (IsNamedBy (grammar_of self.now) line.now) }
+    pub fn read_planned(&self, line: &[u8], assumed: Option<UtcOffset>) -> Option<Fields>
+        ensures { IfSome result
+            (λ fields. named assumed (grammar_of self.now) line.now ≡ Ok (moment_of fields)) }
+    {
+        match self {
+            Source::Items(described) => described.read_fast(line, assumed),
+            Source::V3(described) => described.read_fast(line, assumed),
+            _ => None,
+        }
+    }
+
+    /// The fields of the moment of a line, where the fast way finds them, with an offset assumed or none: `None` says nothing
+    /// of the line.
+    #[inline(always)]
+    pub fn read_fast(&self, line: &[u8], assumed: Option<UtcOffset>) -> Option<Fields>
+        ensures { IfSome result
+            (λ fields. named assumed (grammar_of self.now) line.now ≡ Ok (moment_of fields)) }
     {
         match self {
             Source::Rfc2822 => fast_rfc2822(line),
             Source::Rfc3339 => fast_rfc3339(line),
             Source::Iso8601 => fast_iso8601(line),
-            _ => None,
+            Source::Items(_) | Source::V3(_) => self.read_planned(line, assumed),
         }
     }
 
@@ -111,8 +129,8 @@ impl<'a> Source<'a> {
         if self.cannot_match(line) {
             return None;
         }
-        if let Some(moment) = self.read_fast(line) {
-            return Some(moment);
+        if let Some(fields) = self.read_fast(line, *assumed) {
+            return Some(fields.moment());
         }
         match self.read_exact(line, *assumed) {
             Ok(moment) => Some(moment),

@@ -17,7 +17,7 @@ use description::{
 };
 use description_formats::{Iso8601, Rfc2822, Rfc3339};
 use instants_words::SourceText;
-use parsing_pieces::{Parse, ParseFromDescription};
+use parsing_pieces::Parse;
 use parsing_record::Parsed;
 use parsing_trait::{Items, Parsable};
 use std::alloc::Global;
@@ -90,8 +90,8 @@ impl<'a> Source<'a> {
     }
 }
 
-// The moment of the record that the whole line sets, with an offset assumed or none: `Parsable::read_staged`, but that the
-// record lies here from the start. Handed over with the call it is copied, at some eighty instructions a line.
+// The moment of the record that the whole line sets, with an offset assumed or none. The record lies here from the start:
+// handed over with the call it would be copied, at some eighty instructions a line.
 #[inline(never)]
 #[tactic(auto, unfolding(parsing_record::specs::Whole::whole))]
 fn read_staged<F: Parsable>(
@@ -105,11 +105,7 @@ fn read_staged<F: Parsable>(
     ensures short { IfErr result (λ fault. HasShortName (fault_of fault)) }
 {
     let mut parsed = starting(assumed);
-    let rest = format.parse_into(line, &mut parsed)?;
-    if !rest.is_empty() {
-        return Err(ParseFromDescription::UnexpectedTrailingCharacters.into());
-    }
-    Ok(parsed.offset_date_time()?)
+    format.read_staged_into(line, &mut parsed)
 }
 
 // A description of one of the three versions.

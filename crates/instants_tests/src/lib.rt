@@ -17,6 +17,8 @@ mod lines;
 #[cfg(test)]
 mod memory;
 #[cfg(test)]
+mod moved_lines;
+#[cfg(test)]
 mod ordered_lines;
 #[cfg(test)]
 mod page;

@@ -4,6 +4,7 @@ use calendar::UtcOffset;
 use datetime::OffsetDateTime;
 use instants::SourceText;
 use instants_sources::{Source, fast_iso8601, fast_rfc2822, fast_rfc3339};
+use parsing_fields::Fields;
 use std::test::Fail;
 
 const DAY: SourceText<'static> = SourceText::V2("[year]-[month]-[day] [hour]:[minute]");
@@ -44,6 +45,10 @@ fn second(moment: Option<OffsetDateTime>) -> Option<i64> {
     Some(moment?.unix_timestamp())
 }
 
+fn second_of(fields: Option<Fields>) -> Option<i64> {
+    Some(fields?.moment().unix_timestamp())
+}
+
 // What the source names for the line with an hour assumed, by the exact way and by the fast one, and whether it cannot
 // match the line.
 fn named(source: &Source, line: &[u8]) -> Option<(Option<i64>, Option<i64>, bool)> {
@@ -80,9 +85,32 @@ const ISO8601: [(&[u8], Option<i64>); 6] = [
 #[test]
 fn fast_ways(rt: HostRuntime) {
     for (line, wanted) in ISO8601 {
-        assert!(rt; second(fast_iso8601(line)) == wanted);
+        assert!(rt; second_of(fast_iso8601(line)) == wanted);
     }
     let rfc3339 = fast_rfc3339(b"1970-01-01T00:00:01Z");
     let rfc2822 = fast_rfc2822(b"Thu, 01 Jan 1970 00:00:01 +0000");
-    assert!(rt; (second(rfc3339), second(rfc2822)) == (Some(1), Some(1)));
+    assert!(rt; (second_of(rfc3339), second_of(rfc2822)) == (Some(1), Some(1)));
+}
+
+// A source, a line, and the Unix time that the fast way names with an offset of an hour assumed.
+const FAST: [(SourceText<'static>, &'static [u8], Option<i64>); 5] = [
+    (SourceText::Rfc3339, b"1970-01-01T00:00:01Z", Some(1)),
+    (SourceText::Strftime("%d/%b/%Y:%H:%M:%S %z"), b"01/Jan/1970:01:00:01 +0100", Some(1)),
+    (SourceText::Strftime("%d/%b/%Y:%H:%M:%S"), b"01/Jan/1970:01:00:01", Some(1)),
+    (SourceText::V3("[year]-[month]-[day] [hour]:[minute]:[second]"), b"1970-01-01 01:00:01", Some(1)),
+    (SourceText::Strftime("%d/%b/%Y:%H:%M:%S"), b"32/Jan/1970:01:00:01", None),
+];
+
+#[test]
+fn fast_ways_of_sources(rt: HostRuntime) -> Result<(), Fail> {
+    let Ok(hour) = UtcOffset::from_hms(1, 0, 0) else {
+        return Err(Fail::from("no offset"));
+    };
+    for (text, line, wanted) in FAST {
+        let Ok(source) = Source::new(rt.alloc(), text) else {
+            return Err(Fail::from("a fault"));
+        };
+        assert!(rt; second_of(source.read_fast(line, Some(hour))) == wanted);
+    }
+    Ok(())
 }

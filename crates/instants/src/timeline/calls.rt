@@ -1,18 +1,18 @@
 //! Lines placed on one timeline.
-ghost use Rattle.std.specs.Prelude.{◌≡◌, ◌≢◌, ◌<◌, ◌≤◌, codes, length, map, Ok, IfOk, IfErr, IfSome};
+ghost use Rattle.std.specs.Prelude.{◌≡◌, ◌≢◌, ◌<◌, ◌≤◌, length, map, Ok, IfOk, IfErr, IfSome};
 ghost use Rattle.std.specs.Option.{ok_or};
 ghost use Rattle.std.specs.Result.{result_ok};
 ghost use Rattle.parsing_pieces.specs.FaultOf.{fault_of, Gives};
 ghost use Rattle.parsing_pieces.specs.ShortName.{HasShortName};
 ghost use Rattle.calendar.specs.UtcOffset.{IsClockOffset};
+ghost use Rattle.parsing_fields.specs.Moment.{moment_of};
 ghost use Rattle.instants_answers.specs.Text.{FitsLine};
 ghost use Rattle.instants.specs.Refusal.{IsShort, long, refusal_said, year};
 ghost use Rattle.instants.specs.Sources.{AllMean, IsRefusal};
 ghost use Rattle.instants_words.specs.Sources.{said_by};
 ghost use Rattle.instants_sources.specs.Grammar.{grammar_of};
-ghost use Rattle.instants_sources.specs.Grammar as grammar;
-ghost use Rattle.instants.specs.FirstNamed.{IsFirst, IsFirstNamed};
-ghost use Rattle.instants.specs.Place.{first_named, place_of, place_text, shown_or_refused, answer_to, IsPlace};
+ghost use Rattle.instants.specs.FirstNamed.{IsFirstNamed};
+ghost use Rattle.instants.specs.Place.{first_named, place_of, shown_or_refused, IsPlace};
 ghost use Rattle.instants.specs.Settings.{setting_of};
 
 use crate::line_fault::LineFault;
@@ -20,10 +20,10 @@ use crate::new_fault::NewFault;
 use crate::timeline::Timeline;
 use calendar::UtcOffset;
 use datetime_types::OffsetDateTime;
-use instants_answers::{Answer, has_written_year, write_line};
-use instants_sources::{Source, fast_iso8601, fast_rfc2822, fast_rfc3339};
-use instants_stream::AnswersLines;
+use instants_answers::has_written_year;
+use instants_sources::Source;
 use instants_words::SourceText;
+use parsing_fields::Fields;
 use parsing_pieces::Parse;
 use std::alloc::{AllocError, Global};
 
@@ -89,12 +89,13 @@ impl<'a> Timeline<'a> {
         }
     }
 
-    // The moment that the first source's fast way finds.
+    // The fields that the first source's fast way finds.
     #[tactic(auto, unfolding(crate::specs::Place::first_named))]
-    fn fast_moment(&self, line: &[u8]) -> Option<OffsetDateTime>
-        ensures { IfSome result (IsFirstNamed (setting_of self.now) line.now) }
+    fn fast_fields(&self, line: &[u8]) -> Option<Fields>
+        ensures { IfSome result
+            (λ fields. IsFirstNamed (setting_of self.now) line.now (moment_of fields)) }
     {
-        self.sources.as_slice()[0].read_fast(line)
+        self.sources.as_slice()[0].read_fast(line, self.assumed)
     }
 
     /// The line's place: the moment that the first source with one names for the whole line, shown at the target.
@@ -109,8 +110,8 @@ impl<'a> Timeline<'a> {
         ensures short { IfErr result (λ fault. IsShort (refusal_said fault)) }
         ensures never_long { IfErr result (λ fault. refusal_said fault ≢ long) }
     {
-        let named = match self.fast_moment(line) {
-            Some(named) => named,
+        let named = match self.fast_fields(line) {
+            Some(fields) => fields.moment(),
             None => match self.exact_moment(line) {
                 Ok(named) => named,
                 Err(fault) => return Err(LineFault::from(fault)),
@@ -121,7 +122,7 @@ impl<'a> Timeline<'a> {
 
     // A moment as it is shown at the target, if its year there is written in four digits.
     #[inline(always)]
-    fn shown(&self, named: OffsetDateTime) -> Option<OffsetDateTime>
+    pub(super) fn shown(&self, named: OffsetDateTime) -> Option<OffsetDateTime>
         ensures shown { ok_or result year ≡
             shown_or_refused (setting_of self.now).target (Ok named) }
         ensures fits { IfSome result FitsLine }
@@ -132,82 +133,6 @@ impl<'a> Timeline<'a> {
         } else {
             None
         }
-    }
-
-    // Writes a moment as it is shown at the target, or that its year there is not written.
-    #[inline(always)]
-    fn write_shown(&self, named: OffsetDateTime, storage: &mut Answer)
-        ensures bytes { storage.new ≡
-            place_text (shown_or_refused (setting_of self.now).target (Ok named)) }
-        ensures room { length storage.new ≤ 63 }
-        ensures never_long { storage.new ≢ codes "! long" }
-    {
-        match self.shown(named) {
-            Some(moment) => write_line(moment, storage),
-            None => LineFault::Year.write(storage),
-        }
-    }
-
-    // Writes the answer to a line whose first source names this moment, or to one that it says nothing of.
-    #[inline(always)]
-    #[tactic(auto, unfolding(crate::specs::Place::answer_to, crate::specs::Place::place_of))]
-    fn write_named(&self, named: Option<OffsetDateTime>, line: &[u8], storage: &mut Answer)
-        requires { IfSome named (IsFirstNamed (setting_of self.now) line.now) }
-        ensures bytes { storage.new ≡ answer_to (setting_of self.now) line.now }
-        ensures room { length storage.new ≤ 63 }
-        ensures never_long { storage.new ≢ codes "! long" }
-    {
-        match named {
-            Some(named) => self.write_shown(named, storage),
-            None => self.write_exact_answer(line, storage),
-        }
-    }
-
-    // Writes the answer to a line whose first source is RFC 2822.
-    #[inline(never)]
-    #[tactic(auto, unfolding(crate::specs::Place::first_named))]
-    fn answer_by_rfc2822(&self, line: &[u8], storage: &mut Answer)
-        requires { IsFirst (setting_of self.now) grammar.Rfc2822 line.now }
-        ensures bytes { storage.new ≡ answer_to (setting_of self.now) line.now }
-        ensures room { length storage.new ≤ 63 }
-    {
-        self.write_named(fast_rfc2822(line), line, storage);
-    }
-
-    // Writes the answer to a line whose first source is ISO 8601.
-    #[inline(never)]
-    #[tactic(auto, unfolding(crate::specs::Place::first_named))]
-    fn answer_by_iso8601(&self, line: &[u8], storage: &mut Answer)
-        requires { IsFirst (setting_of self.now) grammar.Iso8601 line.now }
-        ensures bytes { storage.new ≡ answer_to (setting_of self.now) line.now }
-        ensures room { length storage.new ≤ 63 }
-    {
-        self.write_named(fast_iso8601(line), line, storage);
-    }
-
-    // Writes the answer to a line by all sources, the first one read the exact way.
-    #[inline(never)]
-    #[tactic(auto, unfolding(crate::specs::Place::answer_to, crate::specs::Place::place_of))]
-    fn write_exact_answer(&self, line: &[u8], storage: &mut Answer)
-        ensures bytes { storage.new ≡ answer_to (setting_of self.now) line.now }
-        ensures room { length storage.new ≤ 63 }
-        ensures never_long { storage.new ≢ codes "! long" }
-    {
-        match self.exact_moment(line) {
-            Ok(named) => self.write_shown(named, storage),
-            Err(fault) => LineFault::from(fault).write(storage),
-        }
-    }
-
-    /// The answer to a line: its place as a date-time of fixed width, or why it has none. It is never `! long`.
-    pub fn answer_line(&self, line: &[u8]) -> Answer
-        ensures bytes { result ≡ answer_to (setting_of self.now) line.now }
-        ensures room { length result ≤ 63 }
-        ensures never_long { result ≢ codes "! long" }
-    {
-        let mut answer = Answer::new();
-        self.write_named(self.fast_moment(line), line, &mut answer);
-        answer
     }
 }
 
@@ -225,28 +150,4 @@ fn moment_of_any(
         }
     }
     None
-}
-
-impl AnswersLines for Timeline<'_> {
-    ghost use Rattle.instants.specs.Place.{answer_to};
-    ghost use Rattle.instants.specs.Settings.{setting_of};
-
-    ghost answer = { λ timeline. answer_to (setting_of timeline) };
-
-    fn answer_line(&self, line: &[u8]) -> Answer {
-        Timeline::answer_line(self, line)
-    }
-
-    // Each source has a way of its own from the line to the answer, and but one of them by a call: together they would
-    // keep the moment, and what the run holds, in memory.
-    #[inline(always)]
-    #[tactic(auto, unfolding(crate::specs::Place::first_named))]
-    fn write_answer(&self, line: &[u8], storage: &mut Answer) {
-        match &self.sources.as_slice()[0] {
-            Source::Rfc3339 => self.write_named(fast_rfc3339(line), line, storage),
-            Source::Rfc2822 => self.answer_by_rfc2822(line, storage),
-            Source::Iso8601 => self.answer_by_iso8601(line, storage),
-            Source::Items(_) | Source::V3(_) => self.write_exact_answer(line, storage),
-        }
-    }
 }

@@ -4,4 +4,4 @@ use Rattle.instants_sources.proofs.Roads.{by_either_road}
 use Rattle.instants_sources.proofs.moment.fast_rfc3339.Goals as goal
 
 pub returns : goal.returns
-returns c = by_either_road direct reads_rfc3339 c.args.line.now c.read_fast.result (c.two_roads_of_rfc3339.ensures c.args.line.now) c.read_fast.ensures
+returns c = by_either_road direct reads_rfc3339 c.args.line.now c.read_fields.result (c.two_roads_of_rfc3339.ensures c.args.line.now) c.read_fields.ensures

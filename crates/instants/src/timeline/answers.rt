@@ -1,0 +1,288 @@
+//! The answers of a timeline to lines.
+ghost use Rattle.std.specs.Prelude.{◌≡◌, ◌≢◌, ◌≤◌, ◌∷◌, codes, length, map, true, false, None, Ok};
+ghost use Rattle.std.specs.Option.{option_map};
+ghost use Rattle.std.specs.Result.{result_ok};
+ghost use Rattle.parsing_fields.specs.Moment.{moment_of};
+ghost use Rattle.instants_sources.specs.Grammar.{grammar_of};
+ghost use Rattle.instants_sources.specs.Grammar as grammar;
+ghost use Rattle.instants_sources.specs.Named.{named, NamesNothing};
+ghost use Rattle.instants.specs.FirstNamed.{IsAnswerOf};
+ghost use Rattle.instants.specs.Place.{first_named, place_text, shown_or_refused, answer_to};
+ghost use Rattle.instants.specs.Settings.{setting_of};
+
+use crate::line_fault::LineFault;
+use crate::timeline::Timeline;
+use datetime_types::OffsetDateTime;
+use instants_answers::{Answer, write_fields, write_line};
+use instants_sources::{Source, fast_iso8601, fast_rfc2822, fast_rfc3339};
+use instants_stream::AnswersLines;
+use parsing_fields::Fields;
+
+impl Timeline<'_> {
+    // Writes a moment as it is shown at the target, or that its year there is not written.
+    #[inline(always)]
+    fn write_shown(&self, named: OffsetDateTime, storage: &mut Answer)
+        ensures bytes { storage.new ≡
+            place_text (shown_or_refused (setting_of self.now).target (Ok named)) }
+        ensures room { length storage.new ≤ 63 }
+        ensures never_long { storage.new ≢ codes "! long" }
+    {
+        match self.shown(named) {
+            Some(moment) => write_line(moment, storage),
+            None => LineFault::Year.write(storage),
+        }
+    }
+
+    // The same of the moment that fields name, which is counted.
+    #[cold]
+    #[inline(never)]
+    fn write_counted(&self, fields: Fields, storage: &mut Answer)
+        ensures bytes { storage.new ≡
+            place_text (shown_or_refused (setting_of self.now).target (Ok (moment_of fields))) }
+        ensures room { length storage.new ≤ 63 }
+        ensures never_long { storage.new ≢ codes "! long" }
+    {
+        self.write_shown(fields.moment(), storage);
+    }
+
+    // The same of the moment that fields name: nearly all are written with no day counted.
+    #[inline(always)]
+    fn write_moved(&self, fields: Fields, storage: &mut Answer)
+        ensures bytes { storage.new ≡
+            place_text (shown_or_refused (setting_of self.now).target (Ok (moment_of fields))) }
+        ensures room { length storage.new ≤ 63 }
+        ensures never_long { storage.new ≢ codes "! long" }
+    {
+        if !write_fields(&fields, self.target, storage) {
+            self.write_counted(fields, storage);
+        }
+    }
+
+    // The same of the moment that fields name, if they were found. Whether they were.
+    #[inline(always)]
+    fn write_found(&self, found: Option<Fields>, storage: &mut Answer) -> bool
+        ensures { result ≡ true →
+            IsAnswerOf (setting_of self.now) (option_map moment_of found) storage.new }
+    {
+        let Some(fields) = found else {
+            return false;
+        };
+        self.write_moved(fields, storage);
+        true
+    }
+
+    // Writes the answer to a line of RFC 2822, if the fast way finds one: `false` says nothing of the line.
+    #[inline(never)]
+    fn write_rfc2822(&self, line: &[u8], storage: &mut Answer) -> bool
+        ensures { result ≡ true → IsAnswerOf (setting_of self.now)
+            (result_ok (named (setting_of self.now).assumed grammar.Rfc2822 line.now))
+            storage.new }
+    {
+        self.write_found(fast_rfc2822(line), storage)
+    }
+
+    // The same of RFC 3339.
+    #[inline(never)]
+    fn write_rfc3339(&self, line: &[u8], storage: &mut Answer) -> bool
+        ensures { result ≡ true → IsAnswerOf (setting_of self.now)
+            (result_ok (named (setting_of self.now).assumed grammar.Rfc3339 line.now))
+            storage.new }
+    {
+        self.write_found(fast_rfc3339(line), storage)
+    }
+
+    // The same of ISO 8601.
+    #[inline(never)]
+    fn write_iso8601(&self, line: &[u8], storage: &mut Answer) -> bool
+        ensures { result ≡ true → IsAnswerOf (setting_of self.now)
+            (result_ok (named (setting_of self.now).assumed grammar.Iso8601 line.now))
+            storage.new }
+    {
+        self.write_found(fast_iso8601(line), storage)
+    }
+
+    // The same of a description that has a plan.
+    #[inline(never)]
+    fn write_planned(&self, source: &Source, line: &[u8], storage: &mut Answer) -> bool
+        ensures { result ≡ true → IsAnswerOf (setting_of self.now)
+            (result_ok (named (setting_of self.now).assumed (grammar_of source.now) line.now))
+            storage.new }
+    {
+        self.write_found(source.read_planned(line, self.assumed), storage)
+    }
+
+    // Writes the answer to a line by a source's fast way, if that finds one: `false` says nothing of the line.
+    #[inline(always)]
+    fn write_fast(&self, source: &Source, line: &[u8], storage: &mut Answer) -> bool
+        ensures { result ≡ true → IsAnswerOf (setting_of self.now)
+            (result_ok (named (setting_of self.now).assumed (grammar_of source.now) line.now))
+            storage.new }
+    {
+        match source {
+            Source::Rfc2822 => self.write_rfc2822(line, storage),
+            Source::Rfc3339 => self.write_rfc3339(line, storage),
+            Source::Iso8601 => self.write_iso8601(line, storage),
+            Source::Items(_) | Source::V3(_) => self.write_planned(source, line, storage),
+        }
+    }
+
+    // The same of the first source, which most lines are of. But one of the ways is taken without a call: together they
+    // would keep the fields, and what the run holds, in memory.
+    #[inline(always)]
+    fn write_fast_first(&self, first: &Source, line: &[u8], storage: &mut Answer) -> bool
+        ensures { result ≡ true → IsAnswerOf (setting_of self.now)
+            (result_ok (named (setting_of self.now).assumed (grammar_of first.now) line.now))
+            storage.new }
+    {
+        match first {
+            Source::Rfc3339 => self.write_found(fast_rfc3339(line), storage),
+            _ => self.write_fast(first, line, storage),
+        }
+    }
+
+    // Writes the answer to a line for which a source names a moment. Whether it names one.
+    #[inline(always)]
+    fn write_by(&self, source: &Source, line: &[u8], storage: &mut Answer) -> bool
+        ensures answer { result ≡ true → IsAnswerOf (setting_of self.now)
+            (result_ok (named (setting_of self.now).assumed (grammar_of source.now) line.now))
+            storage.new }
+        ensures none { result ≡ false →
+            result_ok (named (setting_of self.now).assumed (grammar_of source.now) line.now)
+            ≡ None }
+    {
+        if self.write_fast(source, line, storage) {
+            return true;
+        }
+        if source.cannot_match(line) {
+            return false;
+        }
+        match source.read_exact(line, self.assumed) {
+            Ok(named) => {
+                self.write_shown(named, storage);
+                true
+            }
+            Err(_) => false,
+        }
+    }
+
+    // Writes the answer to a line by the first of the sources that names a moment. Whether one does.
+    #[inline(never)]
+    fn write_by_any(&self, sources: &[Source], line: &[u8], storage: &mut Answer) -> bool
+        ensures answer { result ≡ true → IsAnswerOf (setting_of self.now)
+            (result_ok
+            (first_named (setting_of self.now).assumed (map grammar_of sources.now) line.now))
+            storage.new }
+        ensures none { result ≡ false → result_ok
+            (first_named (setting_of self.now).assumed (map grammar_of sources.now) line.now)
+            ≡ None }
+    {
+        for source in sources {
+            if self.write_by(source, line, storage) {
+                return true;
+            }
+        }
+        false
+    }
+
+    // Writes the answer to a line by all sources, where the first bytes show that the first one names no moment: it is read
+    // for its fault alone.
+    #[inline(always)]
+    fn write_by_others(
+        &self,
+        first: &Source,
+        others: &[Source],
+        line: &[u8],
+        storage: &mut Answer,
+    )
+        requires sources { (setting_of self.now).sources
+            ≡ grammar_of first.now ∷ map grammar_of others.now }
+        requires none { NamesNothing (grammar_of first.now) line.now }
+        ensures bytes { storage.new ≡ answer_to (setting_of self.now) line.now }
+        ensures room { length storage.new ≤ 63 }
+        ensures never_long { storage.new ≢ codes "! long" }
+    {
+        if self.write_by_any(others, line, storage) {
+            return;
+        }
+        match first.read_exact(line, self.assumed) {
+            Ok(named) => self.write_shown(named, storage),
+            Err(fault) => LineFault::from(fault).write(storage),
+        }
+    }
+
+    // Writes the answer to a line by all sources, the first one read the exact way.
+    #[inline(always)]
+    fn write_by_all(&self, first: &Source, others: &[Source], line: &[u8], storage: &mut Answer)
+        requires { (setting_of self.now).sources
+            ≡ grammar_of first.now ∷ map grammar_of others.now }
+        ensures bytes { storage.new ≡ answer_to (setting_of self.now) line.now }
+        ensures room { length storage.new ≤ 63 }
+        ensures never_long { storage.new ≢ codes "! long" }
+    {
+        match first.read_exact(line, self.assumed) {
+            Ok(named) => self.write_shown(named, storage),
+            Err(fault) => {
+                if !self.write_by_any(others, line, storage) {
+                    LineFault::from(fault).write(storage);
+                }
+            }
+        }
+    }
+
+    // Writes the answer to a line of which the first source's fast way says nothing.
+    #[inline(never)]
+    fn write_exact_answer(&self, line: &[u8], storage: &mut Answer)
+        ensures bytes { storage.new ≡ answer_to (setting_of self.now) line.now }
+        ensures room { length storage.new ≤ 63 }
+        ensures never_long { storage.new ≢ codes "! long" }
+    {
+        let sources = self.sources.as_slice();
+        let (first, others) = (&sources[0], &sources[1..]);
+        // A source alone is read in any case, for its fault.
+        if !others.is_empty() && first.cannot_match(line) {
+            self.write_by_others(first, others, line, storage);
+        } else {
+            self.write_by_all(first, others, line, storage);
+        }
+    }
+
+    // Writes the answer to a line.
+    #[inline(always)]
+    fn write_line_answer(&self, line: &[u8], storage: &mut Answer)
+        ensures bytes { storage.new ≡ answer_to (setting_of self.now) line.now }
+        ensures room { length storage.new ≤ 63 }
+        ensures never_long { storage.new ≢ codes "! long" }
+    {
+        let first = &self.sources.as_slice()[0];
+        if !self.write_fast_first(first, line, storage) {
+            self.write_exact_answer(line, storage);
+        }
+    }
+
+    /// The answer to a line: its place as a date-time of fixed width, or why it has none. It is never `! long`.
+    pub fn answer_line(&self, line: &[u8]) -> Answer
+        ensures bytes { result ≡ answer_to (setting_of self.now) line.now }
+        ensures room { length result ≤ 63 }
+        ensures never_long { result ≢ codes "! long" }
+    {
+        let mut answer = Answer::new();
+        self.write_line_answer(line, &mut answer);
+        answer
+    }
+}
+
+impl AnswersLines for Timeline<'_> {
+    ghost use Rattle.instants.specs.Place.{answer_to};
+    ghost use Rattle.instants.specs.Settings.{setting_of};
+
+    ghost answer = { λ timeline. answer_to (setting_of timeline) };
+
+    fn answer_line(&self, line: &[u8]) -> Answer {
+        Timeline::answer_line(self, line)
+    }
+
+    #[inline(always)]
+    fn write_answer(&self, line: &[u8], storage: &mut Answer) {
+        self.write_line_answer(line, storage);
+    }
+}
