@@ -37,8 +37,8 @@ all_between bytes low high n m l below above k lt =
     (not_below (get_or bytes k 0) (get_or low k 0) (rw (byte, get_or-take 16 low k 0 lt) at lows), not_below (get_or high k 0) (get_or bytes k 0) (rw (byte, get_or-take 16 high k 0 lt) at highs))
 
 -- the first and the last sixteen of at most 32
-pub both_between : (low high line : List ℕ) (last : ℕ) → last + 16 ≡ length line → length line ≤ 32 → ((k : ℕ) → k < 16 → IsBetween low high line k) → ((k : ℕ) → k < 16 → IsBetween (drop last low) (drop last high) (drop last line) k) → (k : ℕ) → k < length line → IsBetween low high line k
-both_between low high line last e le first second k lt = elim (cases_lt k 16) [
+pub both_between : (low high line : List ℕ) (last count : ℕ) → last + 16 ≡ count → count ≤ 32 → ((k : ℕ) → k < 16 → IsBetween low high line k) → ((k : ℕ) → k < 16 → IsBetween (drop last low) (drop last high) (drop last line) k) → (k : ℕ) → k < count → IsBetween low high line k
+both_between low high line last count e le first second k lt = elim (cases_lt k 16) [
   | inl early ↦ first k early
   | inr late ↦
       let j : ℕ = k - last in

@@ -1,5 +1,5 @@
 -- What stands at a place of a line, by what its pieces cut off there.
-use Rattle.std.proofs.Common.{◌≡◌, ◌≤◌, ◌<◌, ◌+◌, ◌-◌, ◌*◌, ◌∙◌, ◌==◌, ◌&&◌, ◌||◌, ℕ, Bool, true, false, List, [], ◌∷◌, take, drop, length, get_or, leb, Option, Some, None, Result, Ok, Err, refl, sym, ap, arith, pos}
+use Rattle.std.proofs.Common.{◌≡◌, ◌≤◌, ◌<◌, ◌+◌, ◌-◌, ◌*◌, ◌∙◌, ◌==◌, ◌&&◌, ◌||◌, ℕ, Bool, true, false, List, [], ◌∷◌, take, drop, length, get_or, min, leb, Option, Some, None, Result, Ok, Err, refl, sym, ap, arith, pos}
 use Rattle.std.specs.Prelude.{nat_le, IfSome, IsSome, option_map, if◌then◌else◌, ℤ, ◌*ℤ◌}
 use Rattle.std.specs.Borrow.{Bor}
 use Rattle.std.specs.Int.{is_in_range}
@@ -12,10 +12,12 @@ use Rattle.calendar_count.specs.Month.{month_number, IsMonthOf}
 use Rattle.calendar_count.specs.declared.component_range.ComponentRange.{ComponentRange}
 use Rattle.std.specs.Result.{result_ok}
 use Rattle.description_date_modifiers.specs.declared.choices.Padding.TheVariants as padding
-use Rattle.parsing_pieces.specs.Pieces.{digit_count, digits, sign, byte_of, cut_view}
+use Rattle.parsing_pieces.proofs.Decimal.{digit_count_within}
+use Rattle.parsing_shapes.proofs.Longest.{taken_digits}
+use Rattle.parsing_pieces.specs.Pieces.{fraction, digit_run, nanoseconds_of, digit_count, digits, sign, byte_of, cut_view}
 use Rattle.parsing_resolution.specs.Resolution.{signed_offset_of}
 use Rattle.parsing_resolution.proofs.lemmas.Ranges.{offset_ranges}
-use Rattle.parsing_shapes.specs.Shape.{taken}
+use Rattle.parsing_shapes.specs.Shape.{taken, fraction_between}
 use Rattle.parsing_shapes.specs.Numbers.{padded, offset_hour}
 use Rattle.parsing_shapes.specs.Names.{named, found, begins, short_months}
 use Rattle.parsing_shapes.proofs.Components.{taken_offset_hour, taken_padded_exactly}
@@ -69,10 +71,10 @@ four_written line place high low first second =
     let behind : place + 2 + 2 ≡ place + 4 = omega arith in
     digits_four (drop place line) ∙ rw (first, second, behind) refl
 
-pub pair_there : (b : Bounds) (line : List ℕ) (n place : ℕ) → length line ≡ n → LiesWithin b line → IsPair b n place → HasPair line place
+pub pair_there : (b : Bounds) (line : List ℕ) (n place : ℕ) → n ≤ length line → LiesWithin b line n → IsPair b n place → HasPair line place
 pair_there b line n place long within p =
-    let first = within place (omega (arith, long, p.room)) in
-    let second = within (place + 1) (omega (arith, long, p.room)) in
+    let first = within place (omega (arith, p.room)) in
+    let second = within (place + 1) (omega (arith, p.room)) in
     record {
       room = omega (arith, long, p.room);
       first_low = omega (arith, first.0, p.first_low);
@@ -81,10 +83,10 @@ pair_there b line n place long within p =
       second_high = omega (arith, second.1, p.second_high);
     }
 
-pub text_there : (b : Bounds) (l : Layout) (line : List ℕ) → length line ≡ l.length → LiesWithin b line → HoldText b l → HasText l line
-text_there b l line long within hold k e =
+pub text_there : (b : Bounds) (l : Layout) (line : List ℕ) → LiesWithin b line l.length → HoldText b l → HasText l line
+text_there b l line within hold k e =
     let text = hold k e in
-    let here = within k (omega (arith, long, text.inside)) in
+    let here = within k text.inside in
     omega (arith, here.0, here.1, text.low_is, text.high_is)
 
 -- ---- slots of numbers in their ranges
@@ -150,3 +152,22 @@ offset_written line hour minute hours minutes is_negative offset lt sign minus i
 pub offsets_written : (line : List ℕ) (hour minute hours minutes : ℕ) (is_negative : Bool) (o : Option ℤ) → hour < length line → ((get_or line hour 0 == 43) || (get_or line hour 0 == 45)) ≡ true → is_negative ≡ (get_or line hour 0 == 45) → WritesAt 2 line (hour + 1) hours → WritesAt 2 line minute minutes → IfSome o (λ offset. signed_offset_of is_negative hours minutes ≡ Ok (pos 60 *ℤ offset)) → IfSome o (WritesOffset line hour minute)
 offsets_written line hour minute hours minutes is_negative None lt sign minus in_hours in_minutes is = tt
 offsets_written line hour minute hours minutes is_negative (Some offset) lt sign minus in_hours in_minutes is = offset_written line hour minute hours minutes is_negative offset lt sign minus in_hours in_minutes is
+
+-- ---- fractions
+
+count_short : (count m : ℕ) → count ≤ m → min count m ≡ count
+count_short count m le = omega (arith, le)
+
+run_taken : (b : Bool) (line rest : List ℕ) (n : ℕ) → (digit_count line == 0) ≡ b → option_map {T = List ℕ × List ℕ} {U = ℕ × List ℕ} (λ p. (nanoseconds_of p.0, p.1)) (if b then None else Some (take (digit_count line) line, drop (digit_count line) line)) ≡ Some (n, rest) → length line ≤ length rest + 9 → taken (fraction_between 1 32) line ≡ Some (n, rest)
+run_taken true line rest n is e few = absurd cc
+run_taken false line rest n is e few =
+    let count : ℕ = digit_count line in
+    let cut : (nanoseconds_of (take count line), drop count line) ≡ (n, rest) = some_same (nanoseconds_of (take count line), drop count line) (n, rest) e in
+    let behind : drop count line ≡ rest = ap (λ (p : ℕ × List ℕ). p.1) cut in
+    let few_digits : count ≤ 32 = omega (arith, few, length-drop count line, ap length behind, digit_count_within line) in
+    let some : nat_le 1 count ≡ true = grind (arith, nat_tests) in
+    taken_digits nanoseconds_of 1 32 line (omega arith) ∙ rw (some, count_short count 32 few_digits) e
+
+pub fraction_taken : (line rest : List ℕ) (n : ℕ) → fraction line ≡ Some (n, rest) → length line ≤ length rest + 9 → taken (fraction_between 1 32) line ≡ Some (n, rest)
+unfolding fraction digit_run
+fraction_taken line rest n e few = run_taken (digit_count line == 0) line rest n refl e few

@@ -12,7 +12,7 @@ use Rattle.parsing_plan.specs.Slot.{Values, slot_piece, value_in, width}
 use Rattle.parsing_plan.specs.Layout.{SaysAt, month_slot, with_values}
 use Rattle.parsing_plan.specs.Bounds.{LiesWithin}
 use Rattle.parsing_plan.specs.Plan.{beginning}
-use Rattle.parsing_plan.specs.declared.plan.Plan.{Plan}
+use Rattle.parsing_plan.specs.declared.bounds.Bounds.{Bounds}
 use Rattle.parsing_plan.specs.declared.layout.Layout.{Layout}
 use Rattle.parsing_plan.specs.declared.slot.Slot.TheVariants as slot
 
@@ -24,10 +24,10 @@ WritesAt n line place number = digits n (drop place line) ≡ Some (number, drop
 abbrev pub IsNameOf : Month → ℕ → ℕ → ℕ → Type 0
 IsNameOf month first second third = (rest : List ℕ) → found true short_months (first ∷ second ∷ third ∷ rest) ≡ Some (month, rest)
 
--- a line has the length of a plan, and its bytes lie within the bounds
-pub record Fits (plan : Plan) (line : List ℕ) : Type 0 where
-  pub long : length line ≡ plan.layout.length
-  pub within : LiesWithin plan.bounds line
+-- a line is not shorter than a layout, and has bytes within its bounds there
+pub record Fits (l : Layout) (b : Bounds) (line : List ℕ) : Type 0 where
+  pub long : l.length ≤ length line
+  pub within : LiesWithin b line l.length
 
 -- a month at a place, by its name or its number
 pub record SaysMonth (is_named : Bool) (line : List ℕ) (place number : ℕ) : Type 0 where

@@ -18,7 +18,7 @@ pub(crate) struct Bounds {
 // The bytes from a place on.
 #[inline(always)]
 #[tactic(auto, using(std::proofs::lemmas::List::take_rest))]
-fn from(bytes: &[u8], place: usize) -> &[u8]
+pub(crate) fn from(bytes: &[u8], place: usize) -> &[u8]
     requires { place ≤ length bytes.now }
     ensures bytes { result.now ≡ drop place bytes.now }
     ensures len { length result.now + place ≡ length bytes.now }
@@ -88,15 +88,32 @@ impl Bounds {
         }
     }
 
-    /// Whether the bytes of a line of 16 to 32 bytes lie within the bounds: `false` says nothing of others.
-    #[inline(always)]
-    pub(crate) fn has(&self, line: &[u8]) -> bool
-        ensures { result ≡ true → LiesWithin self.now line.now }
+    // Whether so many bytes at the front of a line lie within the bounds, one after the other.
+    fn has_few(&self, line: &[u8], count: usize) -> bool
+        requires { count ≤ length line.now }
+        ensures { result ≡ true → LiesWithin self.now line.now count }
     {
-        if line.len() < LANES || line.len() > LENGTH {
+        if count > LENGTH {
             return false;
         }
-        let last = line.len() - LANES;
+        for place in 0..count {
+            if line[place] < self.low[place] || line[place] > self.high[place] {
+                return false;
+            }
+        }
+        true
+    }
+
+    /// Whether so many bytes at the front of a line lie within the bounds: `false` says nothing of more than 32.
+    #[inline(always)]
+    pub(crate) fn has(&self, line: &[u8], count: usize) -> bool
+        requires { count ≤ length line.now }
+        ensures { result ≡ true → LiesWithin self.now line.now count }
+    {
+        if count < LANES || count > LENGTH {
+            return self.has_few(line, count);
+        }
+        let last = count - LANES;
         if !sixteen_between(line, &self.low, &self.high) {
             return false;
         }

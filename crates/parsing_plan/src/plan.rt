@@ -1,14 +1,28 @@
 //! Plans of descriptions.
 ghost use Rattle.std.specs.Prelude.{◌≡◌, ◌+◌, Some};
 ghost use Rattle.std.specs.Option.{ForSome};
-ghost use Rattle.parsing_plan.specs.Bounds.{IsPair, HoldText};
+ghost use Rattle.parsing_plan.specs.Bounds.{IsPair, HoldText, HasNoOffset, HasNoClock};
 
 mod calls;
 
 use crate::bounds::Bounds;
 use crate::layout::Layout;
 
-/// Where each component of a line stands, for a description whose items all have fixed widths.
+/// What follows a fraction of a second: literals, and maybe an offset.
+#[derive(Clone, Copy)]
+pub(crate) struct Back {
+    pub(crate) layout: Layout,
+    pub(crate) bounds: Bounds,
+    ghost text: { HoldText bounds layout },
+    ghost alone: { HasNoClock layout },
+    ghost offset_hour_digits: { ForSome layout.offset_hour
+        (λ place. IsPair bounds layout.length (place + 1)) },
+    ghost offset_minute_digits: { ForSome layout.offset_minute
+        (λ place. IsPair bounds layout.length place) },
+}
+
+/// Where each component of a line stands, for a description whose items all have fixed widths, but for a fraction of a
+/// second.
 #[derive(Clone, Copy)]
 pub struct Plan {
     pub(crate) layout: Layout,
@@ -19,6 +33,8 @@ pub struct Plan {
     pub(crate) hour: usize,
     pub(crate) minute: usize,
     pub(crate) second: usize,
+    /// What follows a fraction of a second behind the layout, where there is one.
+    pub(crate) back: Option<Back>,
     ghost text: { HoldText bounds layout },
     ghost year_is: { layout.year ≡ Some year },
     ghost month_is: { layout.month ≡ Some month },
@@ -36,4 +52,5 @@ pub struct Plan {
         (λ place. IsPair bounds layout.length (place + 1)) },
     ghost offset_minute_digits: { ForSome layout.offset_minute
         (λ place. IsPair bounds layout.length place) },
+    ghost one_offset: { ForSome back (λ _. HasNoOffset layout) },
 }

@@ -1,14 +1,17 @@
 //! The fields of a line, by the places of its parts.
 ghost use Rattle.std.specs.Prelude.{◌≡◌, ◌≤◌, ◌+◌, ◌==◌, ◌||◌, ◌*ℤ◌, pos, Ok, Some, true, false, drop, unsigned_abs, IfSome, Option};
+ghost use Rattle.std.specs.Option.{ForSome};
 ghost use Rattle.parsing_fields.specs.Moment.{moment_of};
 ghost use Rattle.parsing_record.specs.Meaning.{Meaning};
 ghost use Rattle.parsing_record.specs.Record.{Record};
 ghost use Rattle.parsing_record.specs.Whole.{whole, names, moment_named, offset_named, starting};
-ghost use Rattle.parsing_plan.specs.Bounds.{HasPair};
+ghost use Rattle.parsing_plan.specs.Bounds.{HasPair, IsPair, HasNoOffset};
 ghost use Rattle.parsing_plan.specs.Parts.{Fits, IsNameOf, WritesAt, WritesOffset, SaysMonth, SaysDate, SaysClock, SaysOffset};
-ghost use Rattle.parsing_plan.specs.Plan.{IsPlanOf, beginning};
+ghost use Rattle.parsing_plan.specs.Plan.{IsPlanOf, IsSplitOf, beginning};
 
-use crate::plan::Plan;
+use crate::bounds::{Bounds, from};
+use crate::layout::Layout;
+use crate::plan::{Back, Plan};
 use calendar::{Month, UtcOffset};
 use parsing_fields::{Fields, Fraction, minute_of_day, signed_minutes};
 use parsing_pieces::two_digits;
@@ -109,7 +112,7 @@ fn month_at(line: &[u8], place: usize, is_named: bool) -> Option<u8>
 // The year, the month and the day of a line that has the layout of a plan.
 #[inline(always)]
 fn date(plan: &Plan, line: &[u8]) -> Option<(u16, u8, u8)>
-    requires { Fits plan.now line.now }
+    requires { Fits plan.now.layout plan.now.bounds line.now }
     ensures { IfSome result (λ d. SaysDate plan.now.layout line.now d.0 d.1 d.2) }
 {
     let year = four_digits_at(line, plan.year);
@@ -124,7 +127,7 @@ fn date(plan: &Plan, line: &[u8]) -> Option<(u16, u8, u8)>
 // The minute of the day, and the second.
 #[inline(always)]
 fn clock(plan: &Plan, line: &[u8]) -> Option<(u16, u8)>
-    requires { Fits plan.now line.now }
+    requires { Fits plan.now.layout plan.now.bounds line.now }
     ensures { IfSome result (λ t. SaysClock plan.now.layout line.now t.0 t.1) }
 {
     let hour = two_digits_at(line, plan.hour);
@@ -177,16 +180,44 @@ fn assumed_minutes(offset: UtcOffset) -> Option<i16>
 
 // The minutes of the offset, of the line or else of the one that is assumed.
 #[inline(always)]
-fn offset(plan: &Plan, line: &[u8], assumed: Option<UtcOffset>) -> Option<i16>
-    requires { Fits plan.now line.now }
-    ensures says { IfSome result (SaysOffset plan.now.layout line.now assumed) }
+fn offset(layout: &Layout, bounds: &Bounds, line: &[u8], assumed: Option<UtcOffset>) -> Option<i16>
+    requires fits { Fits layout.now bounds.now line.now }
+    requires hour { ForSome layout.now.offset_hour
+        (λ place. IsPair bounds.now layout.now.length (place + 1)) }
+    requires minute { ForSome layout.now.offset_minute
+        (λ place. IsPair bounds.now layout.now.length place) }
+    ensures says { IfSome result (SaysOffset layout.now line.now assumed) }
     ensures bound { IfSome result (λ o. unsigned_abs o ≤ 1559) }
 {
-    match (plan.layout.offset_hour, plan.layout.offset_minute) {
+    match (layout.offset_hour, layout.offset_minute) {
         (Some(hour), Some(minute)) => written_offset(line, hour, minute),
         (None, None) => assumed_minutes(assumed?),
         _ => None,
     }
+}
+
+// The fields of a line that has a fraction of a second.
+fn read_split(plan: &Plan, back: &Back, line: &[u8], assumed: Option<UtcOffset>) -> Option<Fields>
+    requires { HasNoOffset plan.now.layout }
+    ensures { (m : Meaning) (defaults : Option Record)
+        → IsSplitOf m plan.now.layout back.now.layout → starting defaults ≡ beginning assumed
+        → IfSome result (λ f. names moment_named (whole m defaults line.now) ≡ Ok (moment_of f)) }
+{
+    let length = plan.layout.length;
+    if line.len() < length || !plan.bounds.has(line, length) {
+        return None;
+    }
+    let (year, month, day) = date(plan, line)?;
+    let (minute, second) = clock(plan, line)?;
+    let Some(cut) = Fraction::read(from(line, length)) else {
+        return None;
+    };
+    let (fraction, rest) = (cut.0, cut.1);
+    if rest.len() != back.layout.length || !back.bounds.has(rest, back.layout.length) {
+        return None;
+    }
+    let offset = offset(&back.layout, &back.bounds, rest, assumed)?;
+    Fields::new(year, month, day, minute, second, fraction, offset)
 }
 
 impl Plan {
@@ -199,12 +230,15 @@ impl Plan {
             → IfSome result
             (λ f. names moment_named (whole m defaults line.now) ≡ Ok (moment_of f)) }
     {
-        if line.len() != self.layout.length || !self.bounds.has(line) {
+        if let Some(back) = &self.back {
+            return read_split(self, back, line, assumed);
+        }
+        if line.len() != self.layout.length || !self.bounds.has(line, line.len()) {
             return None;
         }
         let (year, month, day) = date(self, line)?;
         let (minute, second) = clock(self, line)?;
-        let offset = offset(self, line, assumed)?;
+        let offset = offset(&self.layout, &self.bounds, line, assumed)?;
         Fields::new(year, month, day, minute, second, Fraction::new(0), offset)
     }
 }

@@ -17,4 +17,5 @@ invariant_of-result c = record {
   second_digits = c.is_pair-else-not-is_pair-5.ensures c.if-not-is_pair-6.false;
   offset_hour_digits = c.is_offset.ensures.hour c.if-not-is_offset.false;
   offset_minute_digits = c.is_offset.ensures.minute c.if-not-is_offset.false;
+  one_offset = λ back is. absurd (cc);
 }
