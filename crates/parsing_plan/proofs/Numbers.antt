@@ -118,11 +118,17 @@ named_there place first second third number line rest month e name is =
     let behind : rest ≡ drop (place + 3) line = sym (ap (drop 3) e) ∙ drop-drop 3 place line in
     record { month = month; number_is = sym is; says = rw (here, behind) refl }
 
-pub month_named : (place number : ℕ) (line front : List ℕ) (month : Month) → front ≡ drop place line → 3 ≤ length front → IsNameOf month (get_or front 0 0) (get_or front 1 0) (get_or front 2 0) → number ≡ month_number month → SaysMonth true line place number
-month_named place number line [] month at long name is = absurd (omega (arith, long))
-month_named place number line (a ∷ []) month at long name is = absurd (omega (arith, long))
-month_named place number line (a ∷ b ∷ []) month at long name is = absurd (omega (arith, long))
-month_named place number line (a ∷ b ∷ c ∷ rest) month at long name is = named_there place a b c number line rest month (sym at) name is
+three_there : (line : List ℕ) (place : ℕ) → place + 3 ≤ length line → drop place line ≡ get_or line place 0 ∷ get_or line (place + 1) 0 ∷ get_or line (place + 2) 0 ∷ drop (place + 3) line
+three_there line place room =
+    let second : place + 1 + 1 ≡ place + 2 = omega arith in
+    let third : place + 2 + 1 ≡ place + 3 = omega arith in
+    drop_more line place 0 (omega (arith, room))
+    ∙ ap (λ (xs : List ℕ). get_or line place 0 ∷ xs) (
+    drop_more line (place + 1) 0 (omega (arith, room))
+    ∙ rw second (ap (λ (xs : List ℕ). get_or line (place + 1) 0 ∷ xs) (drop_more line (place + 2) 0 (omega (arith, room)) ∙ rw third refl)))
+
+pub month_named : (place number : ℕ) (line : List ℕ) (month : Month) → place + 3 ≤ length line → IsNameOf month (get_or line place 0) (get_or line (place + 1) 0) (get_or line (place + 2) 0) → number ≡ month_number month → SaysMonth true line place number
+month_named place number line month room name is = named_there place (get_or line place 0) (get_or line (place + 1) 0) (get_or line (place + 2) 0) number line (drop (place + 3) line) month (three_there line place room) name is
 
 -- ---- offsets
 
