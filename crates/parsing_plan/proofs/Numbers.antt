@@ -1,6 +1,6 @@
 -- What stands at a place of a line, by what its pieces cut off there.
-use Rattle.std.proofs.Common.{◌≡◌, ◌≤◌, ◌<◌, ◌+◌, ◌-◌, ◌*◌, ◌∙◌, ◌==◌, ◌&&◌, ◌||◌, ℕ, Bool, true, false, List, [], ◌∷◌, take, drop, length, get_or, min, leb, Option, Some, None, Result, Ok, Err, refl, sym, ap, arith, pos}
-use Rattle.std.specs.Prelude.{nat_le, IfSome, IsSome, option_map, if◌then◌else◌, ℤ, ◌*ℤ◌}
+use Rattle.std.proofs.Common.{◌≡◌, ◌≤◌, ◌<◌, ◌+◌, ◌-◌, ◌*◌, ◌∙◌, ◌==◌, ◌||◌, ℕ, Bool, true, false, List, ◌∷◌, take, drop, length, get_or, min, leb, Option, Some, None, Result, Ok, Err, refl, sym, ap, arith, pos}
+use Rattle.std.specs.Prelude.{nat_le, IfSome, option_map, if◌then◌else◌, ℤ, ◌*ℤ◌}
 use Rattle.std.specs.Borrow.{Bor}
 use Rattle.std.specs.Int.{is_in_range}
 use Rattle.std.specs.Str.Parse.{digits_value}
@@ -18,15 +18,13 @@ use Rattle.parsing_pieces.specs.Pieces.{fraction, digit_run, nanoseconds_of, dig
 use Rattle.parsing_resolution.specs.Resolution.{signed_offset_of}
 use Rattle.parsing_resolution.proofs.lemmas.Ranges.{offset_ranges}
 use Rattle.parsing_shapes.specs.Shape.{taken, fraction_between}
-use Rattle.parsing_shapes.specs.Numbers.{padded, offset_hour}
+use Rattle.parsing_shapes.specs.Numbers.{offset_hour}
 use Rattle.parsing_shapes.specs.Names.{named, found, begins, short_months}
 use Rattle.parsing_shapes.proofs.Components.{taken_offset_hour, taken_padded_exactly}
 use Rattle.parsing_shapes.proofs.NameLemmas.{apart, taken_named}
-use Rattle.parsing_shapes.proofs.SignLemmas.{by_sign_if, under}
-use Rattle.parsing_components.specs.Ranged.{kept, between, up_to, counted, months}
+use Rattle.parsing_components.specs.Ranged.{kept, between}
 use Rattle.parsing_components.specs.Read as read
 use Rattle.parsing_components.proofs.Entries.{month_entry}
-use Rattle.parsing_plan.specs.declared.slot.Slot.TheVariants as slot
 use Rattle.parsing_plan.specs.Slot.{slot_piece}
 use Rattle.parsing_plan.specs.declared.bounds.Bounds.{Bounds}
 use Rattle.parsing_plan.specs.declared.layout.Layout.{Layout}
