@@ -1,5 +1,5 @@
 -- What items of fixed width read.
-use Rattle.std.proofs.Common.{◌≡◌, ◌∙◌, List, ℕ, length, take, drop, Option, Some, None, Ok, true, refl}
+use Rattle.std.proofs.Common.{◌≡◌, List, ℕ, length, take, drop, Option, Some, None, Ok, true, refl}
 use Rattle.std.specs.Prelude.{IfSome}
 use Rattle.parsing_pieces.specs.Fault.{Fault}
 use Rattle.parsing_pieces.specs.Readings.{piece_or}

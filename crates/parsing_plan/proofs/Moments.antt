@@ -1,8 +1,7 @@
 -- The moment of a line that has the layout of a plan.
-use Rattle.std.proofs.Common.{◌≡◌, ◌≤◌, ◌<◌, ◌+◌, ◌*◌, ◌∙◌, ℕ, false, List, [], length, drop, Option, Some, None, Ok, Err, refl, sym, ap, arith, pos, ℤ}
+use Rattle.std.proofs.Common.{◌≡◌, ◌≤◌, ◌<◌, ◌+◌, ◌*◌, ◌∙◌, ℕ, false, List, [], length, drop, Option, Some, None, Ok, refl, ap, arith, pos, ℤ}
 use Rattle.std.specs.Prelude.{IfSome, IsSome, ◌*ℤ◌}
 use Rattle.std.specs.Option.{unwrap_or}
-use Rattle.std.specs.Result.{result_ok}
 use Rattle.std.specs.Int.{is_in_range}
 use Rattle.std.proofs.lemmas.List.{drop_all}
 use Rattle.calendar_count.specs.Calendar.{is_year}
@@ -22,7 +21,7 @@ use Rattle.parsing_moments.specs.NamedTime.{named_time, hour_of, finer_parts}
 use Rattle.parsing_moments.specs.NamedMoment.{named_wall, dated_moment, named_moment}
 use Rattle.parsing_shapes.specs.Shape.{taken, fraction_between}
 use Rattle.parsing_components.specs.Ranged.{under}
-use Rattle.parsing_record.specs.Meaning.{Meaning, Answer}
+use Rattle.parsing_record.specs.Meaning.{Meaning}
 use Rattle.parsing_record.specs.Record.{Record}
 use Rattle.parsing_record.specs.Whole.{whole, names, moment_named, offset_named, starting}
 use Rattle.parsing_plan.proofs.Walk.{was_read}

@@ -1,6 +1,6 @@
 -- What stands at a place of a line, by what its pieces cut off there.
-use Rattle.std.proofs.Common.{◌≡◌, ◌≤◌, ◌<◌, ◌+◌, ◌-◌, ◌*◌, ◌∙◌, ◌==◌, ◌&&◌, ◌||◌, ℕ, Bool, true, false, List, [], ◌∷◌, take, drop, length, get_or, min, leb, Option, Some, None, Result, Ok, Err, refl, sym, ap, arith, pos}
-use Rattle.std.specs.Prelude.{nat_le, IfSome, IsSome, option_map, if◌then◌else◌, ℤ, ◌*ℤ◌}
+use Rattle.std.proofs.Common.{◌≡◌, ◌≤◌, ◌<◌, ◌+◌, ◌-◌, ◌*◌, ◌∙◌, ◌==◌, ◌||◌, ℕ, Bool, true, false, List, ◌∷◌, take, drop, length, get_or, min, leb, Option, Some, None, Result, Ok, Err, refl, sym, ap, arith, pos}
+use Rattle.std.specs.Prelude.{nat_le, IfSome, option_map, if◌then◌else◌, ℤ, ◌*ℤ◌}
 use Rattle.std.specs.Borrow.{Bor}
 use Rattle.std.specs.Int.{is_in_range}
 use Rattle.std.specs.Str.Parse.{digits_value}
@@ -18,15 +18,13 @@ use Rattle.parsing_pieces.specs.Pieces.{fraction, digit_run, nanoseconds_of, dig
 use Rattle.parsing_resolution.specs.Resolution.{signed_offset_of}
 use Rattle.parsing_resolution.proofs.lemmas.Ranges.{offset_ranges}
 use Rattle.parsing_shapes.specs.Shape.{taken, fraction_between}
-use Rattle.parsing_shapes.specs.Numbers.{padded, offset_hour}
+use Rattle.parsing_shapes.specs.Numbers.{offset_hour}
 use Rattle.parsing_shapes.specs.Names.{named, found, begins, short_months}
 use Rattle.parsing_shapes.proofs.Components.{taken_offset_hour, taken_padded_exactly}
 use Rattle.parsing_shapes.proofs.NameLemmas.{apart, taken_named}
-use Rattle.parsing_shapes.proofs.SignLemmas.{by_sign_if, under}
-use Rattle.parsing_components.specs.Ranged.{kept, between, up_to, counted, months}
+use Rattle.parsing_components.specs.Ranged.{kept, between}
 use Rattle.parsing_components.specs.Read as read
 use Rattle.parsing_components.proofs.Entries.{month_entry}
-use Rattle.parsing_plan.specs.declared.slot.Slot.TheVariants as slot
 use Rattle.parsing_plan.specs.Slot.{slot_piece}
 use Rattle.parsing_plan.specs.declared.bounds.Bounds.{Bounds}
 use Rattle.parsing_plan.specs.declared.layout.Layout.{Layout}
@@ -118,11 +116,17 @@ named_there place first second third number line rest month e name is =
     let behind : rest ≡ drop (place + 3) line = sym (ap (drop 3) e) ∙ drop-drop 3 place line in
     record { month = month; number_is = sym is; says = rw (here, behind) refl }
 
-pub month_named : (place number : ℕ) (line front : List ℕ) (month : Month) → front ≡ drop place line → 3 ≤ length front → IsNameOf month (get_or front 0 0) (get_or front 1 0) (get_or front 2 0) → number ≡ month_number month → SaysMonth true line place number
-month_named place number line [] month at long name is = absurd (omega (arith, long))
-month_named place number line (a ∷ []) month at long name is = absurd (omega (arith, long))
-month_named place number line (a ∷ b ∷ []) month at long name is = absurd (omega (arith, long))
-month_named place number line (a ∷ b ∷ c ∷ rest) month at long name is = named_there place a b c number line rest month (sym at) name is
+three_there : (line : List ℕ) (place : ℕ) → place + 3 ≤ length line → drop place line ≡ get_or line place 0 ∷ get_or line (place + 1) 0 ∷ get_or line (place + 2) 0 ∷ drop (place + 3) line
+three_there line place room =
+    let second : place + 1 + 1 ≡ place + 2 = omega arith in
+    let third : place + 2 + 1 ≡ place + 3 = omega arith in
+    drop_more line place 0 (omega (arith, room))
+    ∙ ap (λ (xs : List ℕ). get_or line place 0 ∷ xs) (
+    drop_more line (place + 1) 0 (omega (arith, room))
+    ∙ rw second (ap (λ (xs : List ℕ). get_or line (place + 1) 0 ∷ xs) (drop_more line (place + 2) 0 (omega (arith, room)) ∙ rw third refl)))
+
+pub month_named : (place number : ℕ) (line : List ℕ) (month : Month) → place + 3 ≤ length line → IsNameOf month (get_or line place 0) (get_or line (place + 1) 0) (get_or line (place + 2) 0) → number ≡ month_number month → SaysMonth true line place number
+month_named place number line month room name is = named_there place (get_or line place 0) (get_or line (place + 1) 0) (get_or line (place + 2) 0) number line (drop (place + 3) line) month (three_there line place room) name is
 
 -- ---- offsets
 

@@ -15,7 +15,6 @@ use Rattle.parsing_record.specs.Parts.{under_sign}
 use Rattle.parsing_record.specs.Whole.{offset_named}
 use Rattle.parsing_plan.specs.declared.layout.Layout.{Layout}
 use Rattle.parsing_plan.specs.Slot.{Values, slot_piece}
-use Rattle.parsing_plan.specs.Layout.{with_values}
 use Rattle.parsing_plan.specs.Parts.{WritesAt, WritesOffset, SaysMonth, SaysDate, SaysClock, SaysOffset}
 use Rattle.parsing_plan.specs.Plan.{beginning}
 use Rattle.parsing_plan.proofs.Numbers.{slot_number}

@@ -1,5 +1,5 @@
 -- What is read in a slot is what its component reads.
-use Rattle.std.proofs.Common.{◌≡◌, ◌≤◌, ◌<◌, ◌&&◌, ◌||◌, ◌==◌, ◌∙◌, ℕ, Bool, true, false, List, [], ◌∷◌, Option, Some, None, Ok, refl, sym, ap, arith, pos}
+use Rattle.std.proofs.Common.{◌≡◌, ◌&&◌, ◌||◌, ◌==◌, ℕ, Bool, true, false, List, [], ◌∷◌, Option, Some, None, Ok, refl, arith, pos}
 use Rattle.std.specs.Prelude.{nat_le, IfSome, option_map, if◌then◌else◌}
 use Rattle.std.specs.Int.{is_in_range}
 use Rattle.std.specs.Char.{is_ascii_digit}
@@ -10,12 +10,12 @@ use Rattle.description_date_modifiers.specs.declared.choices.Padding.TheVariants
 use Rattle.description_items.specs.declared.component.Component.{Component}
 use Rattle.parsing_pieces.specs.Fault.{Fault}
 use Rattle.parsing_pieces.specs.Readings.{piece_or}
-use Rattle.parsing_pieces.specs.Pieces.{digit_count, digits, sign, byte_of}
+use Rattle.parsing_pieces.specs.Pieces.{digits, sign, byte_of}
 use Rattle.parsing_shapes.specs.Shape.{taken}
 use Rattle.parsing_shapes.specs.Names.{named, short_months}
 use Rattle.parsing_shapes.specs.Numbers.{padded, year, offset_hour}
 use Rattle.parsing_shapes.proofs.Components.{taken_padded_exactly, taken_year}
-use Rattle.parsing_shapes.proofs.SignLemmas.{by_sign_if, under}
+use Rattle.parsing_shapes.proofs.SignLemmas.{under}
 use Rattle.parsing_components.specs.Ranged.{kept, between, up_to}
 use Rattle.parsing_components.specs.Read.{Read}
 use Rattle.parsing_components.specs.Read as read

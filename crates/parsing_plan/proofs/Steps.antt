@@ -1,5 +1,5 @@
 -- Layouts that grow by a slot, a byte or a text.
-use Rattle.std.proofs.Common.{◌≡◌, ◌≢◌, ◌≤◌, ◌<◌, ◌+◌, ◌-◌, ◌++◌, ◌∙◌, ℕ, List, [], ◌∷◌, length, get_or, take, drop, Option, Some, None, Ok, refl, sym, ap, arith, inl, inr}
+use Rattle.std.proofs.Common.{◌≡◌, ◌≢◌, ◌≤◌, ◌<◌, ◌+◌, ◌++◌, ◌∙◌, ℕ, List, [], ◌∷◌, length, get_or, take, drop, Option, Some, None, Ok, refl, sym, ap, arith, inl, inr}
 use Rattle.std.specs.Prelude.{IfSome, set}
 use Rattle.std.specs.Borrow.{Bor}
 use Rattle.std.proofs.lemmas.Bool.{cases_eq}
@@ -13,7 +13,7 @@ use Rattle.parsing_plan.specs.declared.slot.Slot.{Slot}
 use Rattle.parsing_plan.specs.declared.slot.Slot.TheVariants as slot
 use Rattle.parsing_plan.specs.Slot.{Values, slot_piece, value_in}
 use Rattle.parsing_plan.specs.Layout.{Says, place_of, with_slot, with_byte, with_values}
-use Rattle.parsing_plan.specs.Steps.{HasTextBetween, IsTextStep, ReadsBetween, IsStep, IsStepOf}
+use Rattle.parsing_plan.specs.Steps.{IsTextStep, IsStep, IsStepOf}
 
 -- ---- a slot
 

@@ -1,5 +1,5 @@
 -- Items one after the other.
-use Rattle.std.proofs.Common.{◌≡◌, ◌≤◌, ◌∙◌, ℕ, List, [], ◌∷◌, length, drop, Option, Some, None, Ok, Err, refl, sym, ap}
+use Rattle.std.proofs.Common.{◌≡◌, ◌∙◌, ℕ, List, [], ◌∷◌, drop, Option, Some, None, Ok, Err, refl, sym, ap}
 use Rattle.std.specs.Prelude.{IfSome}
 use Rattle.std.specs.Result.{result_ok}
 use Rattle.description_items.specs.Tree.{Tree, Compound, listed}
@@ -8,7 +8,7 @@ use Rattle.parsing_record.specs.Reads.{Language, reading, reading_of_all, reads,
 use Rattle.parsing_record.specs.Record.{Record}
 use Rattle.parsing_plan.specs.declared.layout.Layout.{Layout}
 use Rattle.parsing_plan.specs.Slot.{Values}
-use Rattle.parsing_plan.specs.Layout.{Says, with_values}
+use Rattle.parsing_plan.specs.Layout.{with_values}
 use Rattle.parsing_plan.specs.declared.plan.Plan.{Plan}
 use Rattle.parsing_plan.specs.declared.plan.Back.{Back}
 use Rattle.parsing_plan.specs.Plan.{IsLayoutOf, IsSplitOf, IsPlanOf}

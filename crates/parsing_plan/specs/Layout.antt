@@ -1,5 +1,5 @@
 -- Layouts: what stands at each place of a line, and what a line that has it sets in a record.
-use Rattle.std.specs.Prelude.{◌≡◌, ◌≤◌, ℕ, ◌+◌, pos, Bool, true, false, List, drop, length, get_or, Option, Some, None, IfSome, set}
+use Rattle.std.specs.Prelude.{◌≡◌, ℕ, ◌+◌, pos, Bool, true, false, List, drop, get_or, Option, Some, None, IfSome, set}
 use Rattle.parsing_components.specs.Ranged.{under}
 use Rattle.parsing_components.specs.Read.{Read}
 use Rattle.parsing_record.specs.Record.{Record}

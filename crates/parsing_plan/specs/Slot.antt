@@ -1,5 +1,5 @@
 -- The components of fixed width that a layout has places for, and what each of them says.
-use Rattle.std.specs.Prelude.{◌≡◌, ℕ, pos, Bool, true, false, List, Some, Ok, option_map}
+use Rattle.std.specs.Prelude.{◌≡◌, ℕ, pos, Bool, true, List, Some, Ok, option_map}
 use Rattle.calendar_count.specs.declared.month.Month.{Month}
 use Rattle.description_date_modifiers.specs.declared.choices.Padding.TheVariants as padding
 use Rattle.description_items.specs.declared.component.Component.{Component}

@@ -1,5 +1,5 @@
 //! Plans of descriptions.
-ghost use Rattle.std.specs.Prelude.{◌≡◌, ◌+◌, Some};
+ghost use Rattle.std.specs.Prelude.{◌≡◌, ◌≤◌, ◌+◌, Some};
 ghost use Rattle.std.specs.Option.{ForSome};
 ghost use Rattle.parsing_plan.specs.Bounds.{IsPair, HoldText, HasNoOffset, HasNoClock};
 
@@ -42,6 +42,7 @@ pub struct Plan {
     ghost hour_is: { layout.hour ≡ Some hour },
     ghost minute_is: { layout.minute ≡ Some minute },
     ghost second_is: { layout.second ≡ Some second },
+    ghost month_room: { month + 3 ≤ layout.length },
     ghost century: { IsPair bounds layout.length year },
     ghost year_in_century: { IsPair bounds layout.length (year + 2) },
     ghost day_digits: { IsPair bounds layout.length day },

@@ -1,5 +1,5 @@
 //! The fields of a line, by the places of its parts.
-ghost use Rattle.std.specs.Prelude.{◌≡◌, ◌≤◌, ◌+◌, ◌==◌, ◌||◌, ◌*ℤ◌, pos, Ok, Some, true, false, drop, unsigned_abs, IfSome, Option};
+ghost use Rattle.std.specs.Prelude.{◌≡◌, ◌≤◌, ◌+◌, ◌==◌, ◌||◌, ◌*ℤ◌, pos, Ok, Some, true, false, drop, length, unsigned_abs, IfSome, Option};
 ghost use Rattle.std.specs.Option.{ForSome};
 ghost use Rattle.parsing_fields.specs.Moment.{moment_of};
 ghost use Rattle.parsing_record.specs.Meaning.{Meaning};
@@ -78,12 +78,10 @@ fn month_of(first: u8, second: u8, third: u8) -> Option<Month>
 // The number of the month whose name is at a place.
 #[inline(always)]
 fn month_name_at(line: &[u8], place: usize) -> Option<u8>
+    requires { place + 3 ≤ length line.now }
     ensures { IfSome result (SaysMonth true line.now place) }
 {
-    let [first, second, third, ..] = behind(line, place)? else {
-        return None;
-    };
-    let month = month_of(*first, *second, *third)?;
+    let month = month_of(line[place], line[place + 1], line[place + 2])?;
     Some(month.number())
 }
 
@@ -100,6 +98,7 @@ fn month_number_at(line: &[u8], place: usize) -> Option<u8>
 // The number of a month at a place.
 #[inline(always)]
 fn month_at(line: &[u8], place: usize, is_named: bool) -> Option<u8>
+    requires { place + 3 ≤ length line.now }
     ensures { IfSome result (SaysMonth is_named line.now place) }
 {
     if is_named {

@@ -140,6 +140,9 @@ impl Plan {
         if !bounds.hold_text(&layout) || !is_offset(&layout, &bounds) {
             return None;
         }
+        if length < 3 || month > length - 3 {
+            return None;
+        }
         if !bounds.is_pair(length, year) || !bounds.is_pair(length, year + 2) {
             return None;
         }

@@ -1,4 +1,4 @@
-use Rattle.std.proofs.Common.{◌≡◌, ◌+◌, ◌∷◌, [], drop, get_or, map, refl, arith}
+use Rattle.std.proofs.Common.{◌≡◌, ◌+◌, ◌∷◌, drop, get_or, map, refl, arith}
 use Rattle.std.proofs.lemmas.List.{drop_more}
 use Rattle.parsing_plan.proofs.Walk.{leads_from_nothing, leads_on}
 use Rattle.parsing_plan.proofs.items.lead.Goals as goal

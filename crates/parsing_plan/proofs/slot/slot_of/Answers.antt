@@ -1,4 +1,4 @@
-use Rattle.std.proofs.Common.{true, false, Some}
+use Rattle.std.proofs.Common.{true, false}
 use Rattle.std.specs.Prelude.{option_map}
 use Rattle.description_items.specs.declared.component.Component.TheVariants as component
 use Rattle.parsing_components.specs.Component.{reads_component, reads_component_v3, reads_modern, date_piece, year_piece, time_piece, offset_piece}

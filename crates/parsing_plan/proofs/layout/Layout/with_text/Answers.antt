@@ -1,4 +1,4 @@
-use Rattle.std.proofs.Common.{◌≡◌, ◌+◌, ◌++◌, ◌∷◌, [], get_or, take, arith}
+use Rattle.std.proofs.Common.{◌≡◌, ◌+◌, ◌++◌, ◌∷◌, [], get_or, take}
 use Rattle.std.proofs.lemmas.List.{take_more, take_all}
 use Rattle.parsing_plan.proofs.Steps.{no_text, text_step}
 use Rattle.parsing_plan.proofs.layout.Layout.with_text.Goals as goal

@@ -1,3 +1,4 @@
+use Rattle.std.proofs.Common.{arith}
 use Rattle.parsing_plan.proofs.plan.Plan.of_layout.Goals as goal
 
 pub invariant_of-result : goal.invariant_of-result
@@ -9,6 +10,7 @@ invariant_of-result c = record {
   hour_is = c.in_ok-hour.was;
   minute_is = c.in_ok-minute.was;
   second_is = c.in_ok-second.was;
+  month_room = omega (arith, c.if-length-lt3.false, c.if-month-length.false);
   century = c.is_pair.ensures c.if-not-is_pair.false;
   year_in_century = c.is_pair-else-not-is_pair.ensures c.if-not-is_pair-2.false;
   day_digits = c.is_pair-2.ensures c.if-not-is_pair-3.false;
