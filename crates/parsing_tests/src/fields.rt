@@ -3,6 +3,7 @@
 use calendar::UtcOffset;
 use description::{Description, DescriptionVersion, parse_borrowed, parse_strftime_borrowed};
 use parsing_fields::{Fields, Fraction, minute_of_day, signed_minutes};
+use parsing_pieces::digit_chunk;
 use parsing_plan::Plan;
 use std::test::Fail;
 
@@ -43,7 +44,9 @@ fn fractions(rt: HostRuntime) {
     };
     assert!(rt; read(b"5Z") == Some((*b"500000000", 500_000_000, 1)));
     assert!(rt; read(b"123456789+01:00") == Some((*b"123456789", 123_456_789, 6)));
+    assert!(rt; read(b"1234567890") == None);
     assert!(rt; read(b"Z") == None);
+    assert!(rt; digit_chunk(b"123Z") == Some((u64::from_le_bytes(*b"12300000"), 3)));
 }
 
 #[test]
@@ -56,6 +59,7 @@ fn formats(rt: HostRuntime) {
     assert!(rt; instant(rfc2822) == WHOLE);
     assert!(rt; instant(extended) == HALF);
     assert!(rt; instant(basic) == HALF);
+    assert!(rt; instant(parsing_rfc3339::read_fields(b"2016-12-31T23:59:60Z")) == None);
 }
 
 #[test]
