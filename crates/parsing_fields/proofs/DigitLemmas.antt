@@ -1,16 +1,153 @@
--- Nine digits of a number.
-use Rattle.std.proofs.Common.{◌≡◌, ℕ, ◌+◌, ◌-◌, ◌*◌, ◌≤◌, [], ◌∷◌, true, Some, refl, ap, ◌∙◌, arith}
-use Rattle.std.specs.Char.{is_ascii_digit}
+-- Nine digits of a fraction: of a number, and as they are read.
+use Rattle.std.proofs.Common.{◌≡◌, ℕ, zero, suc, ◌+◌, ◌*◌, ◌/◌, ◌%◌, ◌^◌, ◌<◌, ◌≤◌, eqb, leb, List, [], ◌∷◌, ◌++◌, length, get_or, take, drop, Option, true, false, Some, None, w64, refl, sym, ap, ◌∙◌, arith, lit<, take-append-drop, length-drop}
+use Rattle.std.specs.Borrow.{Bor}
+use Rattle.std.specs.Prelude.{is_some}
+use Rattle.std.specs.Int.{from_le_bytes, to_le_bytes}
+use Rattle.std.specs.Char.{is_ascii_digit, digit_value}
+use Rattle.std.specs.Str.Parse.{digits_value}
 use Rattle.std.proofs.lemmas.Bool.Decides.{nat_tests}
-use Rattle.parsing_pieces.specs.Pieces.{digits}
-use Rattle.parsing_pieces.proofs.Fixed.{digits_nine, digits_one_there, joined}
-use Rattle.parsing_pieces.proofs.Fronts.{eight_at}
+use Rattle.std.proofs.lemmas.List.Folds.{prefix_len-append}
+use Rattle.std.proofs.lemmas.List.{append-nil}
+use Rattle.std.proofs.lemmas.Nat.{le_bytes_8}
+use Rattle.parsing_pieces.specs.Pieces.{digits, digit_count, fraction, cut_view}
+use Rattle.parsing_pieces.specs.Chunks.{IsDigitChunk, padded}
+use Rattle.parsing_pieces.proofs.Decimal.{digit_here, value_append, digit_count_within}
+use Rattle.parsing_pieces.proofs.Fixed.{digits_nine, joined}
+use Rattle.parsing_pieces.proofs.FractionDigits.{fraction_of_nine, digits_read}
+use Rattle.parsing_pieces.proofs.Padding.{fraction_of_padded, padded_long, padded_fit, padded_whole, padded_rest, padded_below}
+use Rattle.parsing_pieces.proofs.Lanes.{chunk_eight}
+use Rattle.parsing_fields.specs.Digits.{nine_digits, first_digits, AreNineDigits}
 
-one_at : (a : ℕ) → a ≤ 9 → digits 1 ((a + 48) ∷ []) ≡ Some (a, [])
-one_at a h =
-    let digit : is_ascii_digit (a + 48) ≡ true = grind (arith, nat_tests) in
-    digits_one_there ((a + 48) ∷ []) (omega arith) digit ∙ (let e : (a + 48) - 48 ≡ a = omega arith in rw e refl)
+nine_is : (first last : ℕ) (eight : List ℕ) → to_le_bytes w64 first ≡ eight → nine_digits first last ≡ eight ++ last ∷ []
+unfolding nine_digits
+nine_is first last eight is = ap (λ (bytes : List ℕ). bytes ++ last ∷ []) is
 
-pub nine_at : (a b c d e f g h i : ℕ) → a ≤ 9 → b ≤ 9 → c ≤ 9 → d ≤ 9 → e ≤ 9 → f ≤ 9 → g ≤ 9 → h ≤ 9 → i ≤ 9 → digits 9 ((a + 48) ∷ (b + 48) ∷ (c + 48) ∷ (d + 48) ∷ (e + 48) ∷ (f + 48) ∷ (g + 48) ∷ (h + 48) ∷ (i + 48) ∷ []) ≡ Some ((((a * 10 + b) * 100 + (c * 10 + d)) * 10_000 + ((e * 10 + f) * 100 + (g * 10 + h))) * 10 + i, [])
-nine_at a b c d e f g h i ha hb hc hd he hf hg hh hi =
-    digits_nine _ ∙ ap (joined 10 (digits 1)) (eight_at a b c d e f g h ((i + 48) ∷ []) ha hb hc hd he hf hg hh) ∙ rw (one_at i hi) refl
+-- ---- of a number
+
+eight_fit : (a b c d e f g h : ℕ) → a < 256 → b < 256 → c < 256 → d < 256 → e < 256 → f < 256 → g < 256 → h < 256 → (i : ℕ) → get_or (a ∷ b ∷ c ∷ d ∷ e ∷ f ∷ g ∷ h ∷ []) i 0 < 256
+eight_fit a b c d e f g h ha hb hc hd he hf hg hh zero = ha
+eight_fit a b c d e f g h ha hb hc hd he hf hg hh (suc zero) = hb
+eight_fit a b c d e f g h ha hb hc hd he hf hg hh (suc (suc zero)) = hc
+eight_fit a b c d e f g h ha hb hc hd he hf hg hh (suc (suc (suc zero))) = hd
+eight_fit a b c d e f g h ha hb hc hd he hf hg hh (suc (suc (suc (suc zero)))) = he
+eight_fit a b c d e f g h ha hb hc hd he hf hg hh (suc (suc (suc (suc (suc zero))))) = hf
+eight_fit a b c d e f g h ha hb hc hd he hf hg hh (suc (suc (suc (suc (suc (suc zero)))))) = hg
+eight_fit a b c d e f g h ha hb hc hd he hf hg hh (suc (suc (suc (suc (suc (suc (suc zero))))))) = hh
+eight_fit a b c d e f g h ha hb hc hd he hf hg hh (suc (suc (suc (suc (suc (suc (suc (suc i)))))))) = lit< tt
+
+first_bytes : (n first : ℕ) → n < 1_000_000_000 → first ≡ from_le_bytes w64 (first_digits n) → to_le_bytes w64 first ≡ first_digits n
+first_bytes n first h is = le_bytes_8 (first_digits n) first refl (eight_fit _ _ _ _ _ _ _ _ (omega arith) (omega arith) (omega arith) (omega arith) (omega arith) (omega arith) (omega arith) (omega arith)) is
+
+as_digit : (x : ℕ) → x ≤ 9 → (is_ascii_digit (48 + x) ≡ true) × (digit_value (48 + x) ≡ x)
+as_digit x h =
+    let yes : is_ascii_digit (48 + x) ≡ true = grind (arith, nat_tests) in
+    (yes, let d = digit_here (48 + x) yes in omega (arith, d))
+
+nine_there : (a b c d e f g h i : ℕ) → a ≤ 9 → b ≤ 9 → c ≤ 9 → d ≤ 9 → e ≤ 9 → f ≤ 9 → g ≤ 9 → h ≤ 9 → i ≤ 9
+    → (digit_count ((48 + a) ∷ (48 + b) ∷ (48 + c) ∷ (48 + d) ∷ (48 + e) ∷ (48 + f) ∷ (48 + g) ∷ (48 + h) ∷ (48 + i) ∷ []) ≡ 9)
+    × (digits_value 10 ((48 + a) ∷ (48 + b) ∷ (48 + c) ∷ (48 + d) ∷ (48 + e) ∷ (48 + f) ∷ (48 + g) ∷ (48 + h) ∷ (48 + i) ∷ []) ≡ ((((((((a * 10 + b) * 10 + c) * 10 + d) * 10 + e) * 10 + f) * 10 + g) * 10 + h) * 10 + i))
+nine_there a b c d e f g h i ha hb hc hd he hf hg hh hi =
+    let da = as_digit a ha in
+    let db = as_digit b hb in
+    let dc = as_digit c hc in
+    let dd = as_digit d hd in
+    let de = as_digit e he in
+    let df = as_digit f hf in
+    let dg = as_digit g hg in
+    let dh = as_digit h hh in
+    let di = as_digit i hi in
+    (rw (da.0, db.0, dc.0, dd.0, de.0, df.0, dg.0, dh.0, di.0) refl, rw (da.1, db.1, dc.1, dd.1, de.1, df.1, dg.1, dh.1, di.1) (omega arith))
+
+-- the nine digits of a number write it
+pub of_number : (n first last : ℕ) → n < 1_000_000_000 → first < 2 ^ 64 → first ≡ from_le_bytes w64 (first_digits n) → last ≡ 48 + n % 10 → AreNineDigits first last × (digits_value 10 (nine_digits first last) ≡ n)
+of_number n first last h fits is end =
+    let nine = nine_there (n / 100_000_000) (n / 10_000_000 % 10) (n / 1_000_000 % 10) (n / 100_000 % 10) (n / 10_000 % 10) (n / 1000 % 10) (n / 100 % 10) (n / 10 % 10) (n % 10) (omega arith) (omega arith) (omega arith) (omega arith) (omega arith) (omega arith) (omega arith) (omega arith) (omega arith) in
+    let all = nine_is first last (first_digits n) (first_bytes n first h is) in
+    ((fits, rw (all, end) nine.0), rw (all, end) (nine.1 ∙ omega arith))
+
+-- nine digits are read as their number
+pub all_nine : (first last : ℕ) → AreNineDigits first last → digits 9 (nine_digits first last) ≡ Some (digits_value 10 (nine_digits first last), [])
+unfolding digits nine_digits
+all_nine first last are = rw are.1 refl
+
+-- ---- as they are read
+
+module _ (bytes : List ℕ) (first count : ℕ) (c : IsDigitChunk bytes first count) (fit : (k : ℕ) → get_or bytes k 0 < 256) where
+  long : length (padded count bytes) ≡ 8
+  long = padded_long bytes count c.few c.within fit
+
+  counted : digit_count (padded count bytes) ≡ 8
+  counted = omega (arith, c.digits_are, long, digit_count_within (padded count bytes))
+
+  whole : take 8 (padded count bytes) ≡ padded count bytes
+  whole = padded_whole bytes count c.few c.within fit
+
+  below : first < 2 ^ 64
+  below = rw c.number_is (padded_below bytes count c.few c.within fit).fits
+
+  number : first ≡ from_le_bytes w64 (padded count bytes)
+  number = omega (arith, c.number_is, rw whole at (chunk_eight (padded count bytes) (omega (arith, long))))
+
+  chunk_bytes : to_le_bytes w64 first ≡ padded count bytes
+  chunk_bytes = le_bytes_8 (padded count bytes) first long (padded_fit bytes count c.few c.within fit) number
+
+  chunk_digits : digits 8 (padded count bytes) ≡ Some (digits_value 10 (padded count bytes), [])
+  unfolding digits
+  chunk_digits =
+      let enough : leb 8 (digit_count (padded count bytes)) ≡ true = let e = c.digits_are in grind (arith, nat_tests) in
+      rw (enough, whole, padded_rest bytes count c.few c.within fit) refl
+
+pub record Nine (first last : ℕ) (bytes rest : List ℕ) : Type 0 where
+  pub are : AreNineDigits first last
+  pub reads : fraction bytes ≡ Some (digits_value 10 (nine_digits first last), rest)
+  pub at_most_nine : length bytes ≤ length rest + 9
+
+record WithLast (first last : ℕ) (eight : List ℕ) : Type 0 where
+  are : AreNineDigits first last
+  value : digits_value 10 (nine_digits first last) ≡ digits_value 10 eight * 10 + digit_value last
+
+with_last : (first last : ℕ) (eight : List ℕ) → to_le_bytes w64 first ≡ eight → digit_count eight ≡ 8 → length eight ≡ 8 → is_ascii_digit last ≡ true → first < 2 ^ 64 → WithLast first last eight
+with_last first last eight is all eight_long digit fits =
+    let nine = nine_is first last eight is in
+    let one : digit_count (last ∷ []) ≡ 1 = rw digit refl in
+    let same : eqb (digit_count eight) (length eight) ≡ true = grind (arith, nat_tests) in
+    let count : digit_count (eight ++ last ∷ []) ≡ 9 = prefix_len-append is_ascii_digit eight (last ∷ []) ∙ rw same (omega (arith, one)) in
+    record { are = (fits, rw nine count); value = rw nine (value_append 0 eight (last ∷ [])) }
+
+-- at most eight digits
+pub short_read : (bytes : List ℕ) (first count : ℕ) → IsDigitChunk bytes first count → ((k : ℕ) → get_or bytes k 0 < 256) → digits 1 (drop count bytes) ≡ None → Nine first 48 bytes (drop count bytes)
+short_read bytes first count c fit none =
+    let eight = padded count bytes in
+    let nine = with_last first 48 eight (chunk_bytes bytes first count c fit) (counted bytes first count c fit) (long bytes first count c fit) refl (below bytes first count c fit) in
+    let read = fraction_of_padded bytes count (digits_value 10 eight) c.some c.few c.within (chunk_digits bytes first count c fit) none in
+    let value : digits_value 10 (nine_digits first 48) ≡ digits_value 10 eight * 10 = omega (arith, nine.value) in
+    record { are = nine.are; reads = rw value read; at_most_nine = omega (arith, c.few, length-drop count bytes) }
+
+-- nine digits
+pub nine_read : (bytes : List ℕ) (first value : ℕ) (rest : List ℕ) → IsDigitChunk bytes first 8 → ((k : ℕ) → get_or bytes k 0 < 256) → digits 1 (drop 8 bytes) ≡ Some (value, rest) → value < 10 → digits 1 rest ≡ None → Nine first (48 + value) bytes rest
+unfolding digits
+nine_read bytes first value rest c fit one small none =
+    let front : padded 8 bytes ≡ take 8 bytes = append-nil (take 8 bytes) in
+    let is : to_le_bytes w64 first ≡ take 8 bytes = chunk_bytes bytes first 8 c fit ∙ front in
+    let all : digit_count (take 8 bytes) ≡ 8 = ap digit_count (sym front) ∙ counted bytes first 8 c fit in
+    let eight_long : length (take 8 bytes) ≡ 8 = ap length (sym front) ∙ long bytes first 8 c fit in
+    let same : eqb (digit_count (take 8 bytes)) (length (take 8 bytes)) ≡ true = grind (arith, nat_tests) in
+    let count : digit_count bytes ≡ 8 + digit_count (drop 8 bytes) =
+    ap digit_count (sym (take-append-drop 8 bytes)) ∙ prefix_len-append is_ascii_digit (take 8 bytes) (drop 8 bytes) ∙ rw same (omega (arith, eight_long)) in
+    let enough : leb 8 (digit_count bytes) ≡ true = grind (arith, nat_tests) in
+    let eight : digits 8 bytes ≡ Some (digits_value 10 (take 8 bytes), drop 8 bytes) = rw enough refl in
+    let read : digits 9 bytes ≡ Some (digits_value 10 (take 8 bytes) * 10 + value, rest) = digits_nine bytes ∙ ap (joined 10 (digits 1)) eight ∙ rw one refl in
+    let digit = as_digit value (omega arith) in
+    let nine = with_last first (48 + value) (take 8 bytes) is all eight_long digit.0 (below bytes first 8 c fit) in
+    let same_value : digits_value 10 (nine_digits first (48 + value)) ≡ digits_value 10 (take 8 bytes) * 10 + value = omega (arith, nine.value, digit.1) in
+    let behind : length rest ≡ length (drop 1 (drop 8 bytes)) = ap length (sym (digits_read 1 (drop 8 bytes) value rest one).after) in
+    record { are = nine.are; at_most_nine = omega (arith, behind, length-drop 1 (drop 8 bytes), length-drop 8 bytes); reads = rw same_value (fraction_of_nine bytes (digits_value 10 (take 8 bytes) * 10 + value) rest read none) }
+
+pub none_of_nothing : digits 1 [] ≡ None
+unfolding digits
+none_of_nothing = refl
+
+-- what a function returns that finds no digit
+pub no_digit : (result : Option (ℕ × Bor (List ℕ))) (bytes : List ℕ) → cut_view result ≡ digits 1 bytes → is_some result ≡ false → digits 1 bytes ≡ None
+no_digit None bytes cut absent = sym cut
+no_digit (Some x) bytes cut absent = absurd (cc)

@@ -1,2 +1,4 @@
+pub mod Digits
+pub mod DigitsBack
 pub mod Moment
 pub mod Numbers

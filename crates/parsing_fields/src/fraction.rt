@@ -1,30 +1,69 @@
 //! Fractions of a second.
-ghost use Rattle.std.specs.Prelude.{◌≡◌, ◌+◌, ◌<◌, ◌≤◌, [], length, Some, IfSome};
+ghost use Rattle.std.specs.Prelude.{◌≡◌, ◌+◌, ◌<◌, ◌≤◌, [], length, None, Some, IfSome};
+ghost use Rattle.byte_names.specs.Bytes.{digit_zero};
 ghost use Rattle.parsing_pieces.specs.Pieces as Pieces;
 
-use parsing_pieces::fraction;
+use parsing_pieces::{digit_chunk, fraction, one_digit};
 use std::marker::Model;
 
 /// A fraction of a second, in whole nanoseconds.
+///
+/// It is kept as its nine digits, so that a fraction that is read and written is never a number.
 #[derive(Clone, Copy)]
 pub struct Fraction {
-    nanosecond: u32,
+    // The first eight digits in ASCII, the first one in the lowest byte.
+    first: u64,
+    // The ninth.
+    last: u8,
 }
 
 // Clauses see the nanoseconds.
 impl Model for Fraction {
-    ghost use Rattle.std.specs.Prelude.{ℕ, ◌<◌};
-    ghost use Rattle.std.proofs.Common.{refl};
+    ghost use Rattle.std.specs.Prelude.{ℕ, ◌+◌, ◌%◌};
+    ghost use Rattle.std.specs.Int.{w64, from_le_bytes};
+    ghost use Rattle.std.specs.Str.Parse.{digits_value};
+    ghost use Rattle.byte_names.specs.Bytes.{digit_zero};
+    ghost use Rattle.parsing_fields.specs.Digits.{nine_digits, first_digits, AreNineDigits};
+    ghost use Rattle.parsing_fields.specs.DigitsBack.{first_back, last_back};
 
     ghost Value = { ℕ };
 
-    ghost view = { λ f. f.nanosecond };
+    ghost view = { λ f. digits_value 10 (nine_digits f.first f.last) };
 
-    ghost invariant = { λ f. f.nanosecond < 1_000_000_000 };
+    ghost invariant = { λ f. AreNineDigits f.first f.last };
 
-    ghost inverse = { λ n. record { nanosecond = n } };
+    ghost inverse = { λ n. record {
+      first = from_le_bytes w64 (first_digits n);
+      last = digit_zero + n % 10;
+    } };
 
-    ghost inverse_ok = { λ f h. refl };
+    ghost inverse_ok = { λ f h. Prim.rw (
+      first_back f.first f.last h,
+      last_back f.first f.last h,
+    ) };
+}
+
+// A digit in ASCII.
+#[inline(always)]
+fn digit(value: u32) -> u8
+    requires { value < 10 }
+    ensures { result ≡ digit_zero + value }
+{
+    b'0' + value as u8
+}
+
+// A digit behind so many: where they are fewer than eight, they are all that are there.
+#[inline(always)]
+fn ninth_digit(count: usize, rest: &[u8]) -> Option<(u8, &[u8])>
+    requires { count < 8 → Pieces.digits 1 rest.now ≡ None }
+    ensures cut { Pieces.cut_view result ≡ Pieces.digits 1 rest.now }
+    ensures bound { IfSome result (λ x. x.0 < 10) }
+    ensures eight { IfSome result (λ x. 8 ≤ count) }
+{
+    if count < 8 {
+        return None;
+    }
+    one_digit(rest)
 }
 
 impl Fraction {
@@ -34,7 +73,20 @@ impl Fraction {
         requires { nanosecond < 1_000_000_000 }
         ensures { result ≡ nanosecond }
     {
-        Fraction { nanosecond }
+        let first = [
+            digit(nanosecond / 100_000_000),
+            digit(nanosecond / 10_000_000 % 10),
+            digit(nanosecond / 1_000_000 % 10),
+            digit(nanosecond / 100_000 % 10),
+            digit(nanosecond / 10_000 % 10),
+            digit(nanosecond / 1000 % 10),
+            digit(nanosecond / 100 % 10),
+            digit(nanosecond / 10 % 10),
+        ];
+        Fraction {
+            first: u64::from_le_bytes(first),
+            last: digit(nanosecond % 10),
+        }
     }
 
     /// Its nanoseconds.
@@ -43,22 +95,29 @@ impl Fraction {
         ensures value { result ≡ self }
         ensures bound { result < 1_000_000_000 }
     {
-        self.nanosecond
+        match fraction(&self.digits()) {
+            Some((nanosecond, _)) => nanosecond,
+            None => unreachable!(),
+        }
     }
 
-    /// The fraction of the digits at the front, all that are there, and what follows them: `None` where they are more than
-    /// nine, or none, but maybe of others too.
+    /// The fraction of the digits at the front, where they are at most nine, and what follows them: `None` says nothing.
     #[inline(always)]
     pub fn read(bytes: &[u8]) -> Option<(Fraction, &[u8])>
         ensures fraction { IfSome result (λ x. Pieces.fraction bytes.now ≡ Some (x.0, x.1.now)) }
         ensures bound { IfSome result (λ x. x.0 < 1_000_000_000) }
         ensures at_most_nine { IfSome result (λ x. length bytes.now ≤ length x.1.now + 9) }
     {
-        let (nanosecond, rest) = fraction(bytes)?;
-        if bytes.len() > rest.len() + 9 {
+        let (first, count) = digit_chunk(bytes)?;
+        let rest = &bytes[count..];
+        let Some((last, behind)) = ninth_digit(count, rest) else {
+            return Some((Fraction { first, last: b'0' }, rest));
+        };
+        if one_digit(behind).is_some() {
             return None;
         }
-        Some((Fraction { nanosecond }, rest))
+        let last = b'0' + last;
+        Some((Fraction { first, last }, behind))
     }
 
     /// The nine digits of its nanoseconds, in ASCII.
@@ -67,17 +126,7 @@ impl Fraction {
         ensures digits { Pieces.digits 9 result ≡ Some (self, []) }
         ensures bound { self < 1_000_000_000 }
     {
-        let n = self.nanosecond;
-        [
-            (n / 100_000_000) as u8 + b'0',
-            (n / 10_000_000 % 10) as u8 + b'0',
-            (n / 1_000_000 % 10) as u8 + b'0',
-            (n / 100_000 % 10) as u8 + b'0',
-            (n / 10_000 % 10) as u8 + b'0',
-            (n / 1000 % 10) as u8 + b'0',
-            (n / 100 % 10) as u8 + b'0',
-            (n / 10 % 10) as u8 + b'0',
-            (n % 10) as u8 + b'0',
-        ]
+        let [a, b, c, d, e, f, g, h] = self.first.to_le_bytes();
+        [a, b, c, d, e, f, g, h, self.last]
     }
 }

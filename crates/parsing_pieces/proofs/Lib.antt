@@ -2,6 +2,7 @@ pub mod lemmas
 pub mod ClockChunks
 pub mod Decimal
 pub mod DigitChunks
+pub mod DigitLanes
 pub mod Fixed
 pub mod FractionDigits
 pub mod Fronts

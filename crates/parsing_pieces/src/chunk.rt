@@ -121,15 +121,15 @@ fn short_chunk(bytes: &[u8]) -> Chunk
     chunk
 }
 
-// How many of the eight bytes come before the first that is no digit. Nothing rests on it but speed.
+// How many of the eight bytes come before the first that has not the high half of a digit.
 #[inline(always)]
-#[tactic(auto, using(std::proofs::lemmas::Nat::trailing_le))]
+#[tactic(auto, using(std::proofs::lemmas::Nat::trailing_le), unfolding(crate::specs::Chunks::likely_digits))]
 fn likely_digits(chunk: Chunk) -> usize
-    ensures { result ≤ 8 }
+    ensures value { result ≡ Chunks.likely_digits chunk }
+    ensures few { result ≤ 8 }
 {
-    let above = chunk.wrapping_add(0x4646_4646_4646_4646);
-    let below = chunk.wrapping_sub(0x3030_3030_3030_3030);
-    ((above | below) & 0x8080_8080_8080_8080).trailing_zeros() as usize / 8
+    let others = (chunk & 0xf0f0_f0f0_f0f0_f0f0) ^ 0x3030_3030_3030_3030;
+    others.trailing_zeros() as usize / 8
 }
 
 // Ones in the first bytes, for each number of them.
@@ -204,6 +204,26 @@ fn padded_digits(bytes: &[u8], chunk: Chunk, count: usize) -> Option<u32>
     let high = pairs % 256 * 100 + pairs / 0x1_0000 % 256;
     let low = pairs / 0x1_0000_0000 % 256 * 100 + pairs / 0x1_0000_0000_0000 % 256;
     Some((high * 10_000 + low) as u32)
+}
+
+/// At most eight digits at the front, in one number with the digit zero behind them, the first one lowest, and how many
+/// they are: all that are there, where they are fewer than eight.
+#[inline(always)]
+pub fn digit_chunk(bytes: &[u8]) -> Option<(u64, usize)>
+    ensures { IfSome result (λ x. Chunks.IsDigitChunk bytes.now x.0 x.1) }
+{
+    let chunk = chunk_of(bytes);
+    let count = likely_digits(chunk);
+    if count == 0 {
+        return None;
+    }
+    // Each byte has the high half of a digit.
+    let digits = padded_chunk(bytes, chunk, count);
+    let sum = digits.wrapping_add(0x0606_0606_0606_0606);
+    if sum & 0xf0f0_f0f0_f0f0_f0f0 != 0x3030_3030_3030_3030 {
+        return None;
+    }
+    Some((digits, count))
 }
 
 // The nanoseconds of a fraction of at most eight digits, where they are all that are there.

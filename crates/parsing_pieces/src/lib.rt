@@ -8,7 +8,7 @@ mod fractions;
 mod strict;
 mod zone;
 
-pub use chunk::{clock, nine_digits, year_month};
+pub use chunk::{clock, digit_chunk, nine_digits, year_month};
 pub use cut::{
     any_byte, byte, digit_run, four_digits, one_digit, sign, six_digits, three_digits, two_digits,
 };

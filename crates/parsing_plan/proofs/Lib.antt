@@ -1,5 +1,6 @@
 mod Slots
 mod ItemReads
+mod Lanes
 mod Steps
 mod Walk
 mod Numbers

@@ -1,6 +1,7 @@
 -- The moment of a line that has the layout of a plan.
-use Rattle.std.proofs.Common.{◌≡◌, ◌≤◌, ◌+◌, ◌*◌, ◌∙◌, ℕ, false, List, [], length, drop, Option, Some, None, Ok, Err, refl, sym, ap, arith, pos, ℤ}
+use Rattle.std.proofs.Common.{◌≡◌, ◌≤◌, ◌<◌, ◌+◌, ◌*◌, ◌∙◌, ℕ, false, List, [], length, drop, Option, Some, None, Ok, Err, refl, sym, ap, arith, pos, ℤ}
 use Rattle.std.specs.Prelude.{IfSome, IsSome, ◌*ℤ◌}
+use Rattle.std.specs.Option.{unwrap_or}
 use Rattle.std.specs.Result.{result_ok}
 use Rattle.std.specs.Int.{is_in_range}
 use Rattle.std.proofs.lemmas.List.{drop_all}
@@ -19,15 +20,18 @@ use Rattle.parsing_dates.specs.NamedDate.{named_date, by_ordinal, by_day, year_o
 use Rattle.parsing_dates.specs.NamedDay.{calendar_date_of}
 use Rattle.parsing_moments.specs.NamedTime.{named_time, hour_of, finer_parts}
 use Rattle.parsing_moments.specs.NamedMoment.{named_wall, dated_moment, named_moment}
+use Rattle.parsing_shapes.specs.Shape.{taken, fraction_between}
 use Rattle.parsing_components.specs.Ranged.{under}
 use Rattle.parsing_record.specs.Meaning.{Meaning, Answer}
 use Rattle.parsing_record.specs.Record.{Record}
 use Rattle.parsing_record.specs.Whole.{whole, names, moment_named, offset_named, starting}
+use Rattle.parsing_plan.proofs.Walk.{was_read}
 use Rattle.parsing_plan.specs.declared.layout.Layout.{Layout}
 use Rattle.parsing_plan.specs.Slot.{Values}
 use Rattle.parsing_plan.specs.Layout.{HasText, Says, read_or, with_values}
 use Rattle.parsing_plan.specs.Parts.{SaysDate, SaysClock, SaysOffset}
-use Rattle.parsing_plan.specs.Plan.{IsLayoutOf, beginning}
+use Rattle.parsing_plan.specs.Bounds.{HasNoOffset, HasNoClock}
+use Rattle.parsing_plan.specs.Plan.{IsLayoutOf, IsSplitOf, beginning}
 
 -- ---- the record
 
@@ -56,16 +60,23 @@ calendar_date y m d day e =
 record IsBare (r : Record) : Type 0 where
   ordinal : r.ordinal ≡ None
   unix : r.unix_timestamp_nanos ≡ None
-  subsecond : r.subsecond ≡ None
   leap : r.leap_second_is_permitted ≡ false
 
 bare_beginning : (assumed : Option ℤ) → IsBare (beginning assumed)
-bare_beginning None = record { ordinal = refl; unix = refl; subsecond = refl; leap = refl }
-bare_beginning (Some offset) = record { ordinal = refl; unix = refl; subsecond = refl; leap = refl }
+bare_beginning None = record { ordinal = refl; unix = refl; leap = refl }
+bare_beginning (Some offset) = record { ordinal = refl; unix = refl; leap = refl }
 
-dated : (l : Layout) (v : Values) (r : Record) (day time : ℕ) (offset : ℤ) → IsBare r → calendar_date_of (pos v.year) (month_number v.month) v.day ≡ Ok day → time_of v.hour v.minute v.second 0 ≡ Ok time → offset_named (filled l v r) ≡ Ok offset → moment_named (filled l v r) ≡ Ok (record { wall = wall_clock day time; offset = offset })
+no_fraction : (assumed : Option ℤ) → unwrap_or (beginning assumed).subsecond 0 ≡ 0
+no_fraction None = refl
+no_fraction (Some offset) = refl
+
+bare_fraction : (assumed : Option ℤ) (n : ℕ) → IsBare (record (beginning assumed) { subsecond = Some n })
+bare_fraction None n = record { ordinal = refl; unix = refl; leap = refl }
+bare_fraction (Some offset) n = record { ordinal = refl; unix = refl; leap = refl }
+
+dated : (l : Layout) (v : Values) (r : Record) (day time fraction : ℕ) (offset : ℤ) → IsBare r → unwrap_or r.subsecond 0 ≡ fraction → calendar_date_of (pos v.year) (month_number v.month) v.day ≡ Ok day → time_of v.hour v.minute v.second fraction ≡ Ok time → offset_named (filled l v r) ≡ Ok offset → moment_named (filled l v r) ≡ Ok (record { wall = wall_clock day time; offset = offset })
 unfolding named_moment dated_moment named_wall named_date by_ordinal by_day year_of named_time hour_of finer_parts permitted_time_of leap_checked
-dated l v r day time offset bare in_day in_time in_offset = rw (bare.unix, bare.ordinal, bare.leap, bare.subsecond, in_day, in_time, in_offset) refl
+dated l v r day time fraction offset bare is in_day in_time in_offset = rw (bare.unix, bare.ordinal, bare.leap, is, in_day, in_time, in_offset) refl
 
 -- ---- the line
 
@@ -87,15 +98,11 @@ moment_there l line assumed year month day minute second offset d t o f n =
     let numbers : HaveNumbers f year month day (t.hour * 60 + t.minute) second 0 offset = rw t.minute_is at n in
     let in_time : time_of t.hour t.minute second 0 ≡ Ok (time_of_fields f) = fields_time f year month day t.hour t.minute second 0 offset numbers t.within_a_day t.within_an_hour (omega arith) in
     let in_offset : offset_named (filled l v r) ≡ Ok (pos 60 *ℤ f.offset) = rw n.same_offset o.offset_is in
-    ap (λ (x : Record). moment_named x) same ∙ dated l v r (day_of_fields f) (time_of_fields f) (pos 60 *ℤ f.offset) (bare_beginning assumed) in_day in_time in_offset ∙ ap (λ (x : Shown). Ok x) (moment_is f)
+    ap (λ (x : Record). moment_named x) same ∙ dated l v r (day_of_fields f) (time_of_fields f) 0 (pos 60 *ℤ f.offset) (bare_beginning assumed) (no_fraction assumed) in_day in_time in_offset ∙ ap (λ (x : Shown). Ok x) (moment_is f)
 
 whole_is : (m : Meaning) (defaults : Option Record) (line : List ℕ) (r : Record) → m (starting defaults) line ≡ Ok (r, []) → whole m defaults line ≡ Ok r
 unfolding whole
 whole_is m defaults line r e = rw e refl
-
-was_read : (x : Answer) (y : Record × List ℕ) → result_ok x ≡ Some y → x ≡ Ok y
-was_read (Ok x) y e = ap (λ (z : Record × List ℕ). Ok z) (let same : x ≡ y = cc in same)
-was_read (Err f) y e = absurd cc
 
 line_read : (l : Layout) (line : List ℕ) (assumed : Option ℤ) (year month day minute second : ℕ) (offset : ℤ) → HasText l line → length line ≡ l.length → SaysDate l line year month day → SaysClock l line minute second → SaysOffset l line assumed offset
     → (f : Fields) → HaveNumbers f year month day minute second 0 offset → (m : Meaning) (defaults : Option Record) → IsLayoutOf m l → starting defaults ≡ beginning assumed → names moment_named (whole m defaults line) ≡ Ok (moment_of f)
@@ -110,3 +117,48 @@ pub lines_read : (l : Layout) (line : List ℕ) (assumed : Option ℤ) (year mon
     → (o : Option Fields) → IfSome o (λ f. HaveNumbers f year month day minute second 0 offset) → (m : Meaning) (defaults : Option Record) → IsLayoutOf m l → starting defaults ≡ beginning assumed → IfSome o (λ f. names moment_named (whole m defaults line) ≡ Ok (moment_of f))
 lines_read l line assumed year month day minute second offset text long d t o None n m defaults plan start = tt
 lines_read l line assumed year month day minute second offset text long d t o (Some f) n m defaults plan start = line_read l line assumed year month day minute second offset text long d t o f n m defaults plan start
+
+-- ---- the line with a fraction
+
+-- the places of a date and a time of day are in front, those of an offset behind
+both_filled : (front back : Layout) (v : Values) (r : Record) (n : ℕ) → HasNoOffset front → HasNoClock back → IsSome front.year → IsSome front.month → IsSome front.day → IsSome front.hour → IsSome front.minute → IsSome front.second → with_values back v (record (with_values front v r) { subsecond = Some n }) ≡ filled back v (record r { subsecond = Some n })
+both_filled front back v r n none clock a b c d e f =
+    rw (none.no_hour, none.no_minute, clock.no_year, clock.no_month, clock.no_day, clock.no_hour, clock.no_minute, clock.no_second, read_here front.year (Some (pos v.year)) r.year a, read_here front.month (Some v.month) r.month b, read_here front.day (Some v.day) r.day c, read_here front.hour (Some v.hour) r.hour_24 d, read_here front.minute (Some v.minute) r.minute e, read_here front.second (Some v.second) r.second f) refl
+
+split_values : (front back : Layout) (line rest : List ℕ) (assumed : Option ℤ) (year month day minute second : ℕ) (offset : ℤ) → SaysDate front line year month day → SaysClock front line minute second → SaysOffset back rest assumed offset → Values
+split_values front back line rest assumed year month day minute second offset d t o = record { year = year; month = d.name; day = day; hour = t.hour; minute = t.minute; second = second; is_negative = o.values.is_negative; offset_hour = o.values.offset_hour; offset_minute = o.values.offset_minute }
+
+front_says : (front : Layout) (line rest : List ℕ) (assumed : Option ℤ) (back : Layout) (year month day minute second : ℕ) (offset : ℤ) (d : SaysDate front line year month day) (t : SaysClock front line minute second) (o : SaysOffset back rest assumed offset) → HasNoOffset front → HasText front line → Says front line (split_values front back line rest assumed year month day minute second offset d t o)
+unfolding split_values
+front_says front line rest assumed back year month day minute second offset d t o none text = record { text = text; year = d.year_says; month = d.month_says; day = d.day_says; hour = t.hour_says; minute = t.minute_says; second = t.second_says; offset_hour = rw none.no_hour tt; offset_minute = rw none.no_minute tt }
+
+back_says : (front : Layout) (line rest : List ℕ) (assumed : Option ℤ) (back : Layout) (year month day minute second : ℕ) (offset : ℤ) (d : SaysDate front line year month day) (t : SaysClock front line minute second) (o : SaysOffset back rest assumed offset) → HasNoClock back → HasText back rest → Says back rest (split_values front back line rest assumed year month day minute second offset d t o)
+unfolding split_values
+back_says front line rest assumed back year month day minute second offset d t o none text = record { text = text; year = rw none.no_year tt; month = rw none.no_month tt; day = rw none.no_day tt; hour = rw none.no_hour tt; minute = rw none.no_minute tt; second = rw none.no_second tt; offset_hour = o.hour_says; offset_minute = o.minute_says }
+
+split_moment : (front : Layout) (line rest : List ℕ) (assumed : Option ℤ) (back : Layout) (year month day minute second nanosecond : ℕ) (offset : ℤ) (d : SaysDate front line year month day) (t : SaysClock front line minute second) (o : SaysOffset back rest assumed offset) (f : Fields) → HasNoOffset front → HasNoClock back → nanosecond < 1_000_000_000 → HaveNumbers f year month day minute second nanosecond offset
+    → moment_named (with_values back (split_values front back line rest assumed year month day minute second offset d t o) (record (with_values front (split_values front back line rest assumed year month day minute second offset d t o) (beginning assumed)) { subsecond = Some nanosecond })) ≡ Ok (moment_of f)
+unfolding split_values
+split_moment front line rest assumed back year month day minute second nanosecond offset d t o f none clock bound n =
+    let v : Values = split_values front back line rest assumed year month day minute second offset d t o in
+    let r : Record = record (beginning assumed) { subsecond = Some nanosecond } in
+    let same = both_filled front back v (beginning assumed) nanosecond none clock d.year_there d.month_there d.day_there t.hour_there t.minute_there t.second_there in
+    let in_day : calendar_date_of (pos year) (month_number d.name) day ≡ Ok (day_of_fields f) = rw d.number_is (calendar_date (pos year) month day (day_of_fields f) (fields_date f year month day minute second nanosecond offset n)) in
+    let numbers : HaveNumbers f year month day (t.hour * 60 + t.minute) second nanosecond offset = rw t.minute_is at n in
+    let in_time : time_of t.hour t.minute second nanosecond ≡ Ok (time_of_fields f) = fields_time f year month day t.hour t.minute second nanosecond offset numbers t.within_a_day t.within_an_hour bound in
+    let in_offset : offset_named (filled back v r) ≡ Ok (pos 60 *ℤ f.offset) = rw n.same_offset o.offset_is in
+    ap (λ (x : Record). moment_named x) same ∙ dated back v r (day_of_fields f) (time_of_fields f) nanosecond (pos 60 *ℤ f.offset) (bare_fraction assumed nanosecond) refl in_day in_time in_offset ∙ ap (λ (x : Shown). Ok x) (moment_is f)
+
+split_read : (front back : Layout) (line rest : List ℕ) (assumed : Option ℤ) (year month day minute second nanosecond : ℕ) (offset : ℤ) → HasNoOffset front → HasNoClock back → front.length ≤ length line → HasText front line → taken (fraction_between 1 32) (drop front.length line) ≡ Some (nanosecond, rest) → nanosecond < 1_000_000_000 → length rest ≡ back.length → HasText back rest → SaysDate front line year month day → SaysClock front line minute second → SaysOffset back rest assumed offset
+    → (f : Fields) → HaveNumbers f year month day minute second nanosecond offset → (m : Meaning) (defaults : Option Record) → IsSplitOf m front back → starting defaults ≡ beginning assumed → names moment_named (whole m defaults line) ≡ Ok (moment_of f)
+split_read front back line rest assumed year month day minute second nanosecond offset none clock fits text fraction bound long back_text d t o f n m defaults plan start =
+    let v : Values = split_values front back line rest assumed year month day minute second offset d t o in
+    let nothing : drop back.length rest ≡ [] = drop_all back.length rest (omega (arith, long)) in
+    let read = was_read (m (starting defaults) line) _ (plan line v nanosecond rest fits (front_says front line rest assumed back year month day minute second offset d t o none text) fraction (omega (arith, long)) (back_says front line rest assumed back year month day minute second offset d t o clock back_text) (starting defaults)) in
+    let all : m (starting defaults) line ≡ Ok (with_values back v (record (with_values front v (beginning assumed)) { subsecond = Some nanosecond }), []) = rw (← start, ← nothing) read in
+    rw (whole_is m defaults line (with_values back v (record (with_values front v (beginning assumed)) { subsecond = Some nanosecond })) all) (split_moment front line rest assumed back year month day minute second nanosecond offset d t o f none clock bound n)
+
+pub splits_read : (front back : Layout) (line rest : List ℕ) (assumed : Option ℤ) (year month day minute second nanosecond : ℕ) (offset : ℤ) → HasNoOffset front → HasNoClock back → front.length ≤ length line → HasText front line → taken (fraction_between 1 32) (drop front.length line) ≡ Some (nanosecond, rest) → nanosecond < 1_000_000_000 → length rest ≡ back.length → HasText back rest → SaysDate front line year month day → SaysClock front line minute second → SaysOffset back rest assumed offset
+    → (o : Option Fields) → IfSome o (λ f. HaveNumbers f year month day minute second nanosecond offset) → (m : Meaning) (defaults : Option Record) → IsSplitOf m front back → starting defaults ≡ beginning assumed → IfSome o (λ f. names moment_named (whole m defaults line) ≡ Ok (moment_of f))
+splits_read front back line rest assumed year month day minute second nanosecond offset none clock fits text fraction bound long back_text d t o None n m defaults plan start = tt
+splits_read front back line rest assumed year month day minute second nanosecond offset none clock fits text fraction bound long back_text d t o (Some f) n m defaults plan start = split_read front back line rest assumed year month day minute second nanosecond offset none clock fits text fraction bound long back_text d t o f n m defaults plan start

@@ -1,20 +1,23 @@
 -- What stands at a place of a line, by what its pieces cut off there.
-use Rattle.std.proofs.Common.{◌≡◌, ◌≤◌, ◌<◌, ◌+◌, ◌*◌, ◌∙◌, ◌==◌, ◌&&◌, ◌||◌, ℕ, Bool, true, false, List, [], ◌∷◌, take, drop, length, Option, Some, None, Result, Ok, Err, refl, sym, ap, arith, pos}
+use Rattle.std.proofs.Common.{◌≡◌, ◌≤◌, ◌<◌, ◌+◌, ◌-◌, ◌*◌, ◌∙◌, ◌==◌, ◌&&◌, ◌||◌, ℕ, Bool, true, false, List, [], ◌∷◌, take, drop, length, get_or, min, leb, Option, Some, None, Result, Ok, Err, refl, sym, ap, arith, pos}
 use Rattle.std.specs.Prelude.{nat_le, IfSome, IsSome, option_map, if◌then◌else◌, ℤ, ◌*ℤ◌}
 use Rattle.std.specs.Borrow.{Bor}
 use Rattle.std.specs.Int.{is_in_range}
 use Rattle.std.specs.Str.Parse.{digits_value}
 use Rattle.std.proofs.lemmas.Bool.Decides.{nat_tests}
-use Rattle.std.proofs.lemmas.List.{drop-drop}
+use Rattle.std.proofs.lemmas.List.{drop-drop, drop_more, get_or-drop, length-drop}
+use Rattle.std.specs.Char.{is_ascii_digit}
 use Rattle.calendar_count.specs.declared.month.Month.{Month}
 use Rattle.calendar_count.specs.Month.{month_number, IsMonthOf}
 use Rattle.calendar_count.specs.declared.component_range.ComponentRange.{ComponentRange}
 use Rattle.std.specs.Result.{result_ok}
 use Rattle.description_date_modifiers.specs.declared.choices.Padding.TheVariants as padding
-use Rattle.parsing_pieces.specs.Pieces.{digit_count, digits, sign, byte_of, cut_view}
+use Rattle.parsing_pieces.proofs.Decimal.{digit_count_within}
+use Rattle.parsing_shapes.proofs.Longest.{taken_digits}
+use Rattle.parsing_pieces.specs.Pieces.{fraction, digit_run, nanoseconds_of, digit_count, digits, sign, byte_of, cut_view}
 use Rattle.parsing_resolution.specs.Resolution.{signed_offset_of}
 use Rattle.parsing_resolution.proofs.lemmas.Ranges.{offset_ranges}
-use Rattle.parsing_shapes.specs.Shape.{taken}
+use Rattle.parsing_shapes.specs.Shape.{taken, fraction_between}
 use Rattle.parsing_shapes.specs.Numbers.{padded, offset_hour}
 use Rattle.parsing_shapes.specs.Names.{named, found, begins, short_months}
 use Rattle.parsing_shapes.proofs.Components.{taken_offset_hour, taken_padded_exactly}
@@ -25,7 +28,12 @@ use Rattle.parsing_components.specs.Read as read
 use Rattle.parsing_components.proofs.Entries.{month_entry}
 use Rattle.parsing_plan.specs.declared.slot.Slot.TheVariants as slot
 use Rattle.parsing_plan.specs.Slot.{slot_piece}
-use Rattle.parsing_plan.specs.Parts.{WritesAt, WritesOffset, SaysMonth}
+use Rattle.parsing_plan.specs.declared.bounds.Bounds.{Bounds}
+use Rattle.parsing_plan.specs.declared.layout.Layout.{Layout}
+use Rattle.parsing_plan.specs.Bounds.{LiesWithin, IsPair, HasPair, HoldText}
+use Rattle.parsing_plan.specs.Layout.{HasText}
+use Rattle.parsing_plan.specs.Parts.{WritesAt, WritesOffset, SaysMonth, IsNameOf}
+use Rattle.parsing_pieces.proofs.Fixed.{digits_two, digits_four}
 
 -- ---- numbers
 
@@ -42,6 +50,44 @@ writes n place line rest x e = cut_behind (nat_le n (digit_count (drop place lin
 
 pub writes_cut : (n place : ℕ) (line front : List ℕ) (cut : ℕ × Bor (List ℕ)) → front ≡ drop place line → cut_view (Some cut) ≡ digits n front → WritesAt n line place cut.0
 writes_cut n place line front cut at e = writes n place line cut.1.now cut.0 (rw at at (sym e))
+
+is_digit : (c : ℕ) → 48 ≤ c → c ≤ 57 → is_ascii_digit c ≡ true
+is_digit c low high = grind (arith, nat_tests)
+
+at_least : (n m : ℕ) → n ≤ m → leb n m ≡ true
+at_least n m le = grind (arith, nat_tests)
+
+-- two digits that stand there
+pub two_written : (line : List ℕ) (place : ℕ) → HasPair line place → WritesAt 2 line place ((get_or line place 0 - 48) * 10 + (get_or line (place + 1) 0 - 48))
+two_written line place h =
+    let here : place + 0 ≡ place = omega arith in
+    let first : get_or (drop place line) 0 0 ≡ get_or line place 0 = rw here at (get_or-drop place line 0 0) in
+    let second : get_or (drop place line) 1 0 ≡ get_or line (place + 1) 0 = get_or-drop place line 1 0 in
+    let long : leb 2 (length (drop place line)) ≡ true = at_least 2 (length (drop place line)) (omega (arith, length-drop place line, h.room)) in
+    digits_two (drop place line) ∙ rw (long, first, second, is_digit (get_or line place 0) h.first_low h.first_high, is_digit (get_or line (place + 1) 0) h.second_low h.second_high, drop-drop 2 place line) refl
+
+pub four_written : (line : List ℕ) (place high low : ℕ) → WritesAt 2 line place high → WritesAt 2 line (place + 2) low → WritesAt 4 line place (high * 100 + low)
+four_written line place high low first second =
+    let behind : place + 2 + 2 ≡ place + 4 = omega arith in
+    digits_four (drop place line) ∙ rw (first, second, behind) refl
+
+pub pair_there : (b : Bounds) (line : List ℕ) (n place : ℕ) → n ≤ length line → LiesWithin b line n → IsPair b n place → HasPair line place
+pair_there b line n place long within p =
+    let first = within place (omega (arith, p.room)) in
+    let second = within (place + 1) (omega (arith, p.room)) in
+    record {
+      room = omega (arith, long, p.room);
+      first_low = omega (arith, first.0, p.first_low);
+      first_high = omega (arith, first.1, p.first_high);
+      second_low = omega (arith, second.0, p.second_low);
+      second_high = omega (arith, second.1, p.second_high);
+    }
+
+pub text_there : (b : Bounds) (l : Layout) (line : List ℕ) → LiesWithin b line l.length → HoldText b l → HasText l line
+text_there b l line within hold k e =
+    let text = hold k e in
+    let here = within k text.inside in
+    omega (arith, here.0, here.1, text.low_is, text.high_is)
 
 -- ---- slots of numbers in their ranges
 
@@ -61,90 +107,67 @@ pub month_at : (month : Month) (n place : ℕ) (line : List ℕ) → month_numbe
 unfolding slot_piece
 month_at month n place line is e = record { month = month; number_is = is; says = rw (e, month_entry month n is) refl }
 
-name_begins : (b : Bool) (cut said : Month × List ℕ) (others : Option (Month × List ℕ)) → (others ≡ Some said → said.1 ≡ cut.1) → (if b then Some cut else others) ≡ Some said → said.1 ≡ cut.1
-name_begins true cut said others h e = sym (ap (λ (p : Month × List ℕ). p.1) (some_same cut said e))
-name_begins false cut said others h e = h e
-
--- the names have three letters
-all_three : List (List ℕ × Month) → Bool
-all_three [] = true
-all_three (entry ∷ entries) = (length entry.0 == 3) && all_three entries
-
-three_left : (a b : Bool) → (a && b) ≡ true → a ≡ true
-three_left true b e = refl
-three_left false b e = absurd cc
-
-three_right : (a b : Bool) → (a && b) ≡ true → b ≡ true
-three_right true b e = e
-three_right false b e = absurd cc
-
-equal : (a b : ℕ) → (a == b) ≡ true → a ≡ b
-equal a b e = grind (arith, nat_tests)
-
-behind_name : (entries : List (List ℕ × Month)) (bytes rest : List ℕ) (m : Month) → all_three entries ≡ true → found true entries bytes ≡ Some (m, rest) → rest ≡ drop 3 bytes
-unfolding found all_three
-behind_name [] bytes rest m three e = absurd cc
-behind_name (entry ∷ entries) bytes rest m three e =
-    let three_here : length entry.0 ≡ 3 = equal (length entry.0) 3 (three_left (length entry.0 == 3) (all_three entries) three) in
-    name_begins (begins true entry.0 bytes) (entry.1, drop 3 bytes) (m, rest) (found true entries bytes)
-    (λ h. behind_name entries bytes rest m (three_right (length entry.0 == 3) (all_three entries) three) h) (rw three_here at e)
-
 apart_months : apart true short_months ≡ true
 unfolding begins
 apart_months = refl
 
-three_letters : all_three short_months ≡ true
-unfolding all_three
-three_letters = refl
-
-pub month_named : (place : ℕ) (line front : List ℕ) (cut : Month × Bor (List ℕ)) (number : ℕ) → front ≡ drop place line → cut_view (Some cut) ≡ taken (named true short_months) front → number ≡ month_number cut.0 → SaysMonth true line place number
+named_there : (place first second third number : ℕ) (line rest : List ℕ) (month : Month) → drop place line ≡ first ∷ second ∷ third ∷ rest → IsNameOf month first second third → number ≡ month_number month → SaysMonth true line place number
 unfolding slot_piece
-month_named place line front cut number at e is =
-    let here : taken (named true short_months) (drop place line) ≡ Some (cut.0, cut.1.now) = rw at at (sym e) in
-    let behind = behind_name short_months (drop place line) cut.1.now cut.0 three_letters (sym (taken_named true short_months (drop place line) apart_months) ∙ here) in
-    record { month = cut.0; number_is = sym is; says = rw (here, behind, drop-drop 3 place line) refl }
+named_there place first second third number line rest month e name is =
+    let here : taken (named true short_months) (drop place line) ≡ Some (month, rest) = taken_named true short_months (drop place line) apart_months ∙ ap (found true short_months) e ∙ name rest in
+    let behind : rest ≡ drop (place + 3) line = sym (ap (drop 3) e) ∙ drop-drop 3 place line in
+    record { month = month; number_is = sym is; says = rw (here, behind) refl }
+
+pub month_named : (place number : ℕ) (line front : List ℕ) (month : Month) → front ≡ drop place line → 3 ≤ length front → IsNameOf month (get_or front 0 0) (get_or front 1 0) (get_or front 2 0) → number ≡ month_number month → SaysMonth true line place number
+month_named place number line [] month at long name is = absurd (omega (arith, long))
+month_named place number line (a ∷ []) month at long name is = absurd (omega (arith, long))
+month_named place number line (a ∷ b ∷ []) month at long name is = absurd (omega (arith, long))
+month_named place number line (a ∷ b ∷ c ∷ rest) month at long name is = named_there place a b c number line rest month (sym at) name is
 
 -- ---- offsets
 
 small : (n high : ℕ) → n ≤ high → nat_le n high ≡ true
 small n high le = grind (arith, nat_tests)
 
-behind_cut : (b : Bool) (cut said : ℕ × List ℕ) → (if b then Some cut else None) ≡ Some said → said.1 ≡ cut.1
-behind_cut true cut said e = sym (ap (λ (p : ℕ × List ℕ). p.1) (some_same cut said e))
-behind_cut false cut said e = absurd cc
-
-two_behind : (line rest : List ℕ) (x : ℕ) → digits 2 line ≡ Some (x, rest) → rest ≡ drop 2 line
-unfolding digits
-two_behind line rest x e = behind_cut (nat_le 2 (digit_count line)) (digits_value 10 (take 2 line), drop 2 line) (x, rest) e
-
-under_behind : (o : Option (ℕ × List ℕ)) (b : Bool) (behind rest : List ℕ) (x : Bool × ℕ) → ((n : ℕ) (r : List ℕ) → o ≡ Some (n, r) → r ≡ behind) → under b o ≡ Some (x, rest) → rest ≡ behind
-under_behind None b behind rest x h e = absurd cc
-under_behind (Some y) b behind rest x h e = sym (ap (λ (p : (Bool × ℕ) × List ℕ). p.1) (some_same ((b, y.0), y.1) (x, rest) e)) ∙ h y.0 y.1 refl
-
-signed_behind : (b : Bool) (c : ℕ) (cs rest : List ℕ) (x : Bool × ℕ) → by_sign_if (if b then Some (c, cs) else None) true (taken (padded padding.Zero 2 2)) (taken (padded padding.Zero 2 2)) (c ∷ cs) ≡ Some (x, rest) → rest ≡ drop 2 cs
-signed_behind true c cs rest x e = under_behind (digits 2 cs) (c == 45) (drop 2 cs) rest x (λ n r h. two_behind cs r n h) (rw (taken_padded_exactly padding.Zero 2 cs) at e)
-signed_behind false c cs rest x e = absurd cc
-
-hour_behind : (line rest : List ℕ) (x : Bool × ℕ) → taken (offset_hour padding.Zero true) line ≡ Some (x, rest) → rest ≡ drop 3 line
+signed_hours : (c hours place : ℕ) (cs rest line : List ℕ) → ((c == 43) || (c == 45)) ≡ true → digits 2 cs ≡ Some (hours, rest) → taken (offset_hour padding.Zero true) (c ∷ cs) ≡ Some ((c == 45, hours), rest)
 unfolding byte_of
-hour_behind [] rest x e = absurd (let never : None ≡ Some (x, rest) = sym (taken_offset_hour padding.Zero true []) ∙ e in cc)
-hour_behind (c ∷ cs) rest x e = signed_behind ((c == 43) || (c == 45)) c cs rest x (sym (taken_offset_hour padding.Zero true (c ∷ cs)) ∙ e)
+signed_hours c hours place cs rest line sign e = taken_offset_hour padding.Zero true (c ∷ cs) ∙ rw (sign, taken_padded_exactly padding.Zero 2 cs, e) refl
 
-pub offset_written : (line front : List ℕ) (hour minute : ℕ) (cut : (Bool × ℕ) × Bor (List ℕ)) (minutes : ℕ) (offset : ℤ) → front ≡ drop hour line → cut_view (Some cut) ≡ taken (offset_hour padding.Zero true) front → WritesAt 2 line minute minutes → signed_offset_of cut.0.0 cut.0.1 minutes ≡ Ok (pos 60 *ℤ offset) → WritesOffset line hour minute offset
+pub offset_written : (line : List ℕ) (hour minute hours minutes : ℕ) (is_negative : Bool) (offset : ℤ) → hour < length line → ((get_or line hour 0 == 43) || (get_or line hour 0 == 45)) ≡ true → is_negative ≡ (get_or line hour 0 == 45) → WritesAt 2 line (hour + 1) hours → WritesAt 2 line minute minutes → signed_offset_of is_negative hours minutes ≡ Ok (pos 60 *ℤ offset) → WritesOffset line hour minute offset
 unfolding slot_piece
-offset_written line front hour minute cut minutes offset at e written is =
-    let here : taken (offset_hour padding.Zero true) (drop hour line) ≡ Some (cut.0, cut.1.now) = rw at at (sym e) in
-    let behind = hour_behind (drop hour line) cut.1.now cut.0 here in
-    let ranges = offset_ranges cut.0.0 cut.0.1 minutes (pos 60 *ℤ offset) is in
+offset_written line hour minute hours minutes is_negative offset lt sign minus in_hours in_minutes is =
+    let c : ℕ = get_or line hour 0 in
+    let behind : hour + 1 + 2 ≡ hour + 3 = omega arith in
+    let here : taken (offset_hour padding.Zero true) (drop hour line) ≡ Some ((is_negative, hours), drop (hour + 3) line) = rw (drop_more line hour 0 lt, minus, ← behind) (signed_hours c hours hour (drop (hour + 1) line) (drop (hour + 1 + 2) line) line sign in_hours) in
+    let ranges = offset_ranges is_negative hours minutes (pos 60 *ℤ offset) is in
     record {
-      is_negative = cut.0.0;
-      hours = cut.0.1;
+      is_negative = is_negative;
+      hours = hours;
       minutes = minutes;
-      hour_says = rw (here, small cut.0.1 25 ranges.hours, behind, drop-drop 3 hour line) refl;
-      minute_says = slot_number 0 59 minutes read.OffsetMinute (digits 2 (drop minute line)) (drop (minute + 2) line) written (omega arith) ranges.minutes;
+      hour_says = rw (here, small hours 25 ranges.hours) refl;
+      minute_says = slot_number 0 59 minutes read.OffsetMinute (digits 2 (drop minute line)) (drop (minute + 2) line) in_minutes (omega arith) ranges.minutes;
       offset_is = is;
     }
 
-pub offsets_written : (line front : List ℕ) (hour minute : ℕ) (cut : (Bool × ℕ) × Bor (List ℕ)) (minutes : ℕ) (o : Option ℤ) → front ≡ drop hour line → cut_view (Some cut) ≡ taken (offset_hour padding.Zero true) front → WritesAt 2 line minute minutes → IfSome o (λ offset. signed_offset_of cut.0.0 cut.0.1 minutes ≡ Ok (pos 60 *ℤ offset)) → IfSome o (WritesOffset line hour minute)
-offsets_written line front hour minute cut minutes None at e written is = tt
-offsets_written line front hour minute cut minutes (Some offset) at e written is = offset_written line front hour minute cut minutes offset at e written is
+pub offsets_written : (line : List ℕ) (hour minute hours minutes : ℕ) (is_negative : Bool) (o : Option ℤ) → hour < length line → ((get_or line hour 0 == 43) || (get_or line hour 0 == 45)) ≡ true → is_negative ≡ (get_or line hour 0 == 45) → WritesAt 2 line (hour + 1) hours → WritesAt 2 line minute minutes → IfSome o (λ offset. signed_offset_of is_negative hours minutes ≡ Ok (pos 60 *ℤ offset)) → IfSome o (WritesOffset line hour minute)
+offsets_written line hour minute hours minutes is_negative None lt sign minus in_hours in_minutes is = tt
+offsets_written line hour minute hours minutes is_negative (Some offset) lt sign minus in_hours in_minutes is = offset_written line hour minute hours minutes is_negative offset lt sign minus in_hours in_minutes is
+
+-- ---- fractions
+
+count_short : (count m : ℕ) → count ≤ m → min count m ≡ count
+count_short count m le = omega (arith, le)
+
+run_taken : (b : Bool) (line rest : List ℕ) (n : ℕ) → (digit_count line == 0) ≡ b → option_map {T = List ℕ × List ℕ} {U = ℕ × List ℕ} (λ p. (nanoseconds_of p.0, p.1)) (if b then None else Some (take (digit_count line) line, drop (digit_count line) line)) ≡ Some (n, rest) → length line ≤ length rest + 9 → taken (fraction_between 1 32) line ≡ Some (n, rest)
+run_taken true line rest n is e few = absurd cc
+run_taken false line rest n is e few =
+    let count : ℕ = digit_count line in
+    let cut : (nanoseconds_of (take count line), drop count line) ≡ (n, rest) = some_same (nanoseconds_of (take count line), drop count line) (n, rest) e in
+    let behind : drop count line ≡ rest = ap (λ (p : ℕ × List ℕ). p.1) cut in
+    let few_digits : count ≤ 32 = omega (arith, few, length-drop count line, ap length behind, digit_count_within line) in
+    let some : nat_le 1 count ≡ true = grind (arith, nat_tests) in
+    taken_digits nanoseconds_of 1 32 line (omega arith) ∙ rw (some, count_short count 32 few_digits) e
+
+pub fraction_taken : (line rest : List ℕ) (n : ℕ) → fraction line ≡ Some (n, rest) → length line ≤ length rest + 9 → taken (fraction_between 1 32) line ≡ Some (n, rest)
+unfolding fraction digit_run
+fraction_taken line rest n e few = run_taken (digit_count line == 0) line rest n refl e few

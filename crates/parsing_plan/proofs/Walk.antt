@@ -1,5 +1,6 @@
 -- Items one after the other.
-use Rattle.std.proofs.Common.{◌≡◌, ◌≤◌, ◌∙◌, ℕ, List, [], ◌∷◌, length, drop, Ok, refl, ap}
+use Rattle.std.proofs.Common.{◌≡◌, ◌≤◌, ◌∙◌, ℕ, List, [], ◌∷◌, length, drop, Option, Some, None, Ok, Err, refl, sym, ap}
+use Rattle.std.specs.Prelude.{IfSome}
 use Rattle.std.specs.Result.{result_ok}
 use Rattle.description_items.specs.Tree.{Tree, Compound, listed}
 use Rattle.parsing_record.specs.Meaning.{Answer, Counted, then_counted, all_of}
@@ -8,12 +9,10 @@ use Rattle.parsing_record.specs.Record.{Record}
 use Rattle.parsing_plan.specs.declared.layout.Layout.{Layout}
 use Rattle.parsing_plan.specs.Slot.{Values}
 use Rattle.parsing_plan.specs.Layout.{Says, with_values}
-use Rattle.parsing_plan.specs.Plan.{IsLayoutOf}
-use Rattle.parsing_plan.specs.Steps.{IsStep}
-
--- behind a line's front that has the layout, the items that are left go on reading
-abbrev pub LeadsTo : Language → List Tree → List Tree → Layout → Type 0
-LeadsTo language all left l = (line : List ℕ) (v : Values) → l.length ≤ length line → Says l line v → (r : Record) → reading_of_all language (listed all) r line ≡ reading_of_all language (listed left) (with_values l v r) (drop l.length line)
+use Rattle.parsing_plan.specs.declared.plan.Plan.{Plan}
+use Rattle.parsing_plan.specs.declared.plan.Back.{Back}
+use Rattle.parsing_plan.specs.Plan.{IsLayoutOf, IsSplitOf, IsPlanOf}
+use Rattle.parsing_plan.specs.Steps.{IsStep, IsFractionOf, LeadsTo}
 
 pub leads_from_nothing : (language : Language) (all : List Tree) (l : Layout) → l.length ≡ 0 → ((v : Values) (r : Record) → with_values l v r ≡ r) → LeadsTo language all all l
 leads_from_nothing language all l none same line v fits says r = rw (none, same v r) refl
@@ -42,7 +41,38 @@ leads_to_end language all left l leads end line v fits says r = ap result_ok (
     ∙ ap (λ (xs : List Tree). reading_of_all language (listed xs) (with_values l v r) (drop l.length line)) end
     ∙ nothing_left language (with_values l v r) (drop l.length line))
 
+pub was_read : (x : Answer) (y : Record × List ℕ) → result_ok x ≡ Some y → x ≡ Ok y
+was_read (Ok x) y e = ap (λ (z : Record × List ℕ). Ok z) (let same : x ≡ y = cc in same)
+was_read (Err f) y e = absurd cc
+
+-- a fraction between two layouts
+pub leads_to_split : (language : Language) (all left ts : List Tree) (t : Tree) (front back : Layout) → LeadsTo language all left front → left ≡ t ∷ ts → IsFractionOf (reading language t) → IsLayoutOf (reading_of_all language (listed ts)) back → IsSplitOf (reading_of_all language (listed all)) front back
+leads_to_split language all left ts t front back leads cut fraction others line v nanosecond rest fits says read long says_back r = ap result_ok (
+    leads line v fits says r
+    ∙ ap (λ (xs : List Tree). reading_of_all language (listed xs) (with_values front v r) (drop front.length line)) cut
+    ∙ first_read language t ts (with_values front v r) (record (with_values front v r) { subsecond = Some nanosecond }) (drop front.length line) rest (fraction (with_values front v r) (drop front.length line) nanosecond rest read)
+    ∙ was_read (reading_of_all language (listed ts) (record (with_values front v r) { subsecond = Some nanosecond }) rest) _ (others rest v long says_back (record (with_values front v r) { subsecond = Some nanosecond })))
+
+-- a plan of a layout, and a plan of two with a fraction between them
+pub whole_plans : (language : Language) (all left : List Tree) (front : Layout) (o : Option Plan) → LeadsTo language all left front → left ≡ [] → IfSome o (λ plan. plan.layout ≡ front) → IfSome o (λ plan. plan.back ≡ None) → IfSome o (IsPlanOf (reading_of_all language (listed all)))
+whole_plans language all left front None leads end is none = tt
+whole_plans language all left front (Some plan) leads end is none = (λ e. rw is (leads_to_end language all left front leads end), λ back e. absurd (let never : None ≡ Some back = sym none ∙ e in cc))
+
+pub split_plans : (language : Language) (all left ts others : List Tree) (t : Tree) (front behind : Layout) (first : Plan) (back : Back) (o : Option Plan) → LeadsTo language all left front → left ≡ t ∷ ts → IsFractionOf (reading language t) → LeadsTo language ts others behind → others ≡ [] → first.layout ≡ front → back.layout ≡ behind → IfSome o (λ plan. plan.layout ≡ first.layout) → IfSome o (λ plan. plan.back ≡ Some back) → IfSome o (IsPlanOf (reading_of_all language (listed all)))
+split_plans language all left ts others t front behind first back None leads cut fraction more end in_front in_back is some = tt
+split_plans language all left ts others t front behind first back (Some plan) leads cut fraction more end in_front in_back is some = (
+  (λ e. absurd (let never : None ≡ Some back = sym e ∙ some in cc)),
+  (λ x e.
+      let same : x.layout ≡ behind = ap (λ (b : Back). b.layout) (let e2 : Some x ≡ Some back = sym e ∙ some in let e3 : x ≡ back = cc in e3) ∙ in_back in
+      let ahead : plan.layout ≡ front = is ∙ in_front in
+      rw (ahead, same) (leads_to_split language all left ts t front behind leads cut fraction (leads_to_end language ts others behind more end))),
+)
+
 -- an item that holds others reads what they read, one after the other
-pub compound_layout : (language : Language) (ts : List Tree) (l : Layout) → IsLayoutOf (reading_of_all language (listed ts)) l → IsLayoutOf (reading language (Compound (listed ts))) l
+compound_plan : (language : Language) (ts : List Tree) (plan : Plan) → IsPlanOf (reading_of_all language (listed ts)) plan → IsPlanOf (reading language (Compound (listed ts))) plan
 unfolding reads each_reads
-compound_layout language ts l h = h
+compound_plan language ts plan h = h
+
+pub compound_plans : (language : Language) (ts : List Tree) (o : Option Plan) → IfSome o (IsPlanOf (reading_of_all language (listed ts))) → IfSome o (IsPlanOf (reading language (Compound (listed ts))))
+compound_plans language ts None h = tt
+compound_plans language ts (Some plan) h = compound_plan language ts plan h

@@ -1,5 +1,6 @@
 pub mod Slot
 pub mod Layout
+pub mod Bounds
 pub mod Steps
 pub mod Parts
 pub mod Plan

@@ -1,21 +1,33 @@
 -- What the slots of a line say of a date, a time of day and an offset.
-use Rattle.std.specs.Prelude.{◌≡◌, ◌≤◌, ℕ, ◌+◌, ◌*◌, Bool, List, drop, Option, Some, Ok, IsSome, ℤ, pos, ◌*ℤ◌}
+use Rattle.std.specs.Prelude.{◌≡◌, ◌≤◌, ℕ, ◌+◌, ◌*◌, Bool, true, List, ◌∷◌, length, drop, Option, Some, Ok, IsSome, ℤ, pos, ◌*ℤ◌}
 use Rattle.calendar_count.specs.declared.month.Month.{Month}
 use Rattle.calendar_count.specs.Month.{month_number}
 use Rattle.parsing_pieces.specs.Pieces.{digits}
 use Rattle.parsing_resolution.specs.Resolution.{signed_offset_of}
+use Rattle.parsing_shapes.specs.Names.{found, short_months}
 use Rattle.parsing_components.specs.Ranged.{under}
 use Rattle.parsing_components.specs.Read as read
 use Rattle.parsing_record.specs.Whole.{offset_named}
 use Rattle.parsing_plan.specs.Slot.{Values, slot_piece, value_in, width}
 use Rattle.parsing_plan.specs.Layout.{SaysAt, month_slot, with_values}
+use Rattle.parsing_plan.specs.Bounds.{LiesWithin}
 use Rattle.parsing_plan.specs.Plan.{beginning}
+use Rattle.parsing_plan.specs.declared.bounds.Bounds.{Bounds}
 use Rattle.parsing_plan.specs.declared.layout.Layout.{Layout}
 use Rattle.parsing_plan.specs.declared.slot.Slot.TheVariants as slot
 
 -- so many digits at a place write a number
 abbrev pub WritesAt : ℕ → List ℕ → ℕ → ℕ → Type 0
 WritesAt n line place number = digits n (drop place line) ≡ Some (number, drop (place + n) line)
+
+-- the short name of a month has these letters
+abbrev pub IsNameOf : Month → ℕ → ℕ → ℕ → Type 0
+IsNameOf month first second third = (rest : List ℕ) → found true short_months (first ∷ second ∷ third ∷ rest) ≡ Some (month, rest)
+
+-- a line is not shorter than a layout, and has bytes within its bounds there
+pub record Fits (l : Layout) (b : Bounds) (line : List ℕ) : Type 0 where
+  pub long : l.length ≤ length line
+  pub within : LiesWithin b line l.length
 
 -- a month at a place, by its name or its number
 pub record SaysMonth (is_named : Bool) (line : List ℕ) (place number : ℕ) : Type 0 where

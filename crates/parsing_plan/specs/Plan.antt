@@ -1,6 +1,8 @@
 -- Plans, and the items that they stand for.
 use Rattle.std.specs.Prelude.{◌≡◌, ◌≤◌, ℕ, List, drop, length, Option, Some, None, ℤ, pos, int_div, int_rem}
 use Rattle.std.specs.Result.{result_ok}
+use Rattle.std.specs.Option.{ForSome, ForNone}
+use Rattle.parsing_shapes.specs.Shape.{taken, fraction_between}
 use Rattle.parsing_record.specs.Meaning.{Meaning}
 use Rattle.parsing_record.specs.Record.{Record, empty}
 use Rattle.parsing_plan.specs.Slot.{Values}
@@ -12,8 +14,14 @@ use Rattle.parsing_plan.specs.declared.plan.Plan.{Plan}
 abbrev pub IsLayoutOf : Meaning → Layout → Type 0
 IsLayoutOf m l = (line : List ℕ) (v : Values) → l.length ≤ length line → Says l line v → (r : Record) → result_ok (m r line) ≡ Some (with_values l v r, drop l.length line)
 
+-- the same of a layout, then the digits of a fraction, then another layout
+abbrev pub IsSplitOf : Meaning → Layout → Layout → Type 0
+IsSplitOf m front back = (line : List ℕ) (v : Values) (nanosecond : ℕ) (rest : List ℕ) → front.length ≤ length line → Says front line v → taken (fraction_between 1 32) (drop front.length line) ≡ Some (nanosecond, rest) → back.length ≤ length rest → Says back rest v
+    → (r : Record) → result_ok (m r line) ≡ Some (with_values back v (record (with_values front v r) { subsecond = Some nanosecond }), drop back.length rest)
+
+-- the items read as the plan says
 abbrev pub IsPlanOf : Meaning → Plan → Type 0
-IsPlanOf m plan = IsLayoutOf m plan.layout
+IsPlanOf m plan = ForNone plan.back (IsLayoutOf m plan.layout) × ForSome plan.back (λ back. IsSplitOf m plan.layout back.layout)
 
 -- the record that a reading begins with where an offset is assumed: its hour and its minute
 abbrev pub beginning : Option ℤ → Record

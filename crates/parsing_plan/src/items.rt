@@ -1,14 +1,14 @@
 //! The layout of items that are read one after the other.
-ghost use Rattle.std.specs.Prelude.{IfSome, map};
-ghost use Rattle.description_items.specs.Tree.{Tree, listed};
+ghost use Rattle.std.specs.Prelude.{◌≡◌, ◌≤◌, true, drop, length, IfSome, map};
+ghost use Rattle.description_items.specs.Tree.{Tree};
 ghost use Rattle.parsing_record.specs.Meaning.{Meaning};
-ghost use Rattle.parsing_record.specs.Reads.{Language, reading, reading_of_all};
-ghost use Rattle.parsing_plan.specs.Plan.{IsLayoutOf};
-ghost use Rattle.parsing_plan.specs.Steps.{IsStep, IsStepOf};
+ghost use Rattle.parsing_record.specs.Reads.{Language, reading};
+ghost use Rattle.parsing_plan.specs.Steps.{IsStep, IsStepOf, IsStepOfPart, IsFractionOf, LeadsTo};
 
 use crate::layout::Layout;
 use crate::slot::{Slot, slot_of};
-use description_items::BorrowedFormatItem;
+use description_items::modifier::SubsecondDigits;
+use description_items::{BorrowedFormatItem, Component};
 use description_tree::FormatDescriptionV3Inner as Inner;
 
 /// What an item of fixed width reads.
@@ -18,6 +18,22 @@ pub(crate) enum Step<'a> {
     Text(&'a [u8]),
     /// A component.
     Part(Slot),
+    /// One digit or more of a fraction of a second.
+    Fraction,
+}
+
+// What a component reads.
+fn step_of(component: &Component) -> Option<Step<'static>>
+    ensures { IfSome result (IsStepOfPart component.now) }
+{
+    if let Component::Subsecond(m) = component {
+        if let SubsecondDigits::OneOrMore = m.digits {
+            return Some(Step::Fraction);
+        }
+        return None;
+    }
+    let slot = slot_of(component)?;
+    Some(Step::Part(slot))
 }
 
 /// An item that may have a fixed width.
@@ -43,10 +59,7 @@ impl HasStep for BorrowedFormatItem<'_> {
         match self {
             BorrowedFormatItem::Literal(text) => Some(Step::Text(text)),
             BorrowedFormatItem::StringLiteral(text) => Some(Step::Text(text.as_bytes())),
-            BorrowedFormatItem::Component(component) => {
-                let slot = slot_of(component)?;
-                Some(Step::Part(slot))
-            }
+            BorrowedFormatItem::Component(component) => step_of(component),
             _ => None,
         }
     }
@@ -62,8 +75,7 @@ impl HasStep for Inner<'_> {
 
     fn step(&self) -> Option<Step<'_>> {
         if let Some(component) = self.component() {
-            let slot = slot_of(&component)?;
-            return Some(Step::Part(slot));
+            return step_of(&component);
         }
         match self {
             Inner::BorrowedLiteral(text) => Some(Step::Text(text.as_bytes())),
@@ -80,18 +92,42 @@ fn with_step(layout: Layout, step: Step<'_>) -> Option<Layout>
     match step {
         Step::Text(text) => layout.with_text(text),
         Step::Part(slot) => layout.with_slot(slot),
+        Step::Fraction => None,
     }
 }
 
-/// The layout of the items, one after the other.
-pub(crate) fn layout_of<I: HasStep>(items: &[I]) -> Option<Layout>
-    ensures { IfSome result
-        (IsLayoutOf (reading_of_all I.language (listed (map I.tree items.now)))) }
+// The layout with an item behind it.
+fn with_item<I: HasStep>(layout: Layout, item: &I) -> Option<Layout>
+    ensures { IfSome result (IsStep (reading I.language (I.tree item.now)) layout) }
+{
+    let step = item.step()?;
+    with_step(layout, step)
+}
+
+/// The layout of as many items at the front as have one, and how many they are.
+pub(crate) fn lead<I: HasStep>(items: &[I]) -> (Layout, usize)
+    ensures leads { LeadsTo I.language (map I.tree items.now)
+        (map I.tree (drop result.1 items.now)) result.0 }
+    ensures within { result.1 ≤ length items.now }
 {
     let mut layout = Layout::new();
+    let mut count = 0;
     for item in items {
-        let step = item.step()?;
-        layout = with_step(layout, step)?;
+        let Some(longer) = with_item(layout, item) else {
+            return (layout, count);
+        };
+        layout = longer;
+        count += 1;
     }
-    Some(layout)
+    (layout, count)
+}
+
+/// Whether an item reads a fraction of a second of one digit or more.
+pub(crate) fn is_fraction<I: HasStep>(item: &I) -> bool
+    ensures { result ≡ true → IsFractionOf (reading I.language (I.tree item.now)) }
+{
+    match item.step() {
+        Some(Step::Fraction) => true,
+        _ => false,
+    }
 }

@@ -1,7 +1,7 @@
 //! What stands at each place of a line.
-ghost use Rattle.std.specs.Prelude.{◌≡◌, ◌≢◌, ◌<◌, ◌≤◌, true, None, length, get_or, IfSome};
+ghost use Rattle.std.specs.Prelude.{◌≡◌, ◌≢◌, ◌<◌, ◌≤◌, None, length, get_or, IfSome};
 ghost use Rattle.parsing_record.specs.Record.{Record};
-ghost use Rattle.parsing_plan.specs.Layout.{HasText, place_of, with_byte, with_slot, with_values};
+ghost use Rattle.parsing_plan.specs.Layout.{place_of, with_byte, with_slot, with_values};
 ghost use Rattle.parsing_plan.specs.Slot.{Values};
 ghost use Rattle.parsing_plan.specs.Steps.{IsTextStep};
 
@@ -148,19 +148,5 @@ impl Layout {
             layout = layout.with_byte(*byte)?;
         }
         Some(layout)
-    }
-
-    /// Whether the bytes of the literals stand where they have to.
-    pub(crate) fn has_text(&self, line: &[u8]) -> bool
-        ensures { result ≡ true → HasText self.now line.now }
-    {
-        for place in 0..LENGTH {
-            if self.mask[place] == 255
-                && line.get(place).copied().unwrap_or(0) != self.text[place]
-            {
-                return false;
-            }
-        }
-        true
     }
 }

@@ -1,41 +1,56 @@
 //! Plans of descriptions.
-ghost use Rattle.std.specs.Prelude.{IfSome};
-ghost use Rattle.description_items.specs.Tree.{trees, listed};
-ghost use Rattle.description_tree.specs.Description.{v3_tree};
-ghost use Rattle.parsing_components.specs.Component.{reads_component, reads_component_v3};
-ghost use Rattle.parsing_record.specs.Reads.{reading, reading_of_all};
-ghost use Rattle.parsing_plan.specs.Plan.{IsPlanOf};
+ghost use Rattle.std.specs.Prelude.{◌≡◌, ◌+◌, Some};
+ghost use Rattle.std.specs.Option.{ForSome};
+ghost use Rattle.parsing_plan.specs.Bounds.{IsPair, HoldText, HasNoOffset, HasNoClock};
 
-use crate::items::layout_of;
+mod calls;
+
+use crate::bounds::Bounds;
 use crate::layout::Layout;
-use description_items::BorrowedFormatItem;
-use description_tree::{FormatDescriptionV3, FormatDescriptionV3Inner as Inner};
 
-/// Where each component of a line stands, for a description whose items all have fixed widths.
+/// What follows a fraction of a second: literals, and maybe an offset.
+#[derive(Clone, Copy)]
+pub(crate) struct Back {
+    pub(crate) layout: Layout,
+    pub(crate) bounds: Bounds,
+    ghost text: { HoldText bounds layout },
+    ghost alone: { HasNoClock layout },
+    ghost offset_hour_digits: { ForSome layout.offset_hour
+        (λ place. IsPair bounds layout.length (place + 1)) },
+    ghost offset_minute_digits: { ForSome layout.offset_minute
+        (λ place. IsPair bounds layout.length place) },
+}
+
+/// Where each component of a line stands, for a description whose items all have fixed widths, but for a fraction of a
+/// second.
 #[derive(Clone, Copy)]
 pub struct Plan {
     pub(crate) layout: Layout,
-}
-
-impl Plan {
-    /// The plan of items that are read one after the other, as in versions 1 and 2 and in strftime.
-    pub fn of_items(items: &[BorrowedFormatItem<'_>]) -> Option<Plan>
-        ensures { IfSome result
-            (IsPlanOf (reading_of_all reads_component (listed (trees items.now)))) }
-    {
-        let layout = layout_of(items)?;
-        Some(Plan { layout })
-    }
-
-    /// The plan of a description of version 3.
-    pub fn of_description(description: &FormatDescriptionV3<'_>) -> Option<Plan>
-        ensures { IfSome result (IsPlanOf (reading reads_component_v3 (v3_tree description.now))) }
-    {
-        let layout = match description.inner() {
-            Inner::BorrowedCompound(lent) => layout_of(lent.items)?,
-            Inner::OwnedCompound(nodes) => layout_of(nodes)?,
-            _ => return None,
-        };
-        Some(Plan { layout })
-    }
+    pub(crate) bounds: Bounds,
+    pub(crate) year: usize,
+    pub(crate) month: usize,
+    pub(crate) day: usize,
+    pub(crate) hour: usize,
+    pub(crate) minute: usize,
+    pub(crate) second: usize,
+    /// What follows a fraction of a second behind the layout, where there is one.
+    pub(crate) back: Option<Back>,
+    ghost text: { HoldText bounds layout },
+    ghost year_is: { layout.year ≡ Some year },
+    ghost month_is: { layout.month ≡ Some month },
+    ghost day_is: { layout.day ≡ Some day },
+    ghost hour_is: { layout.hour ≡ Some hour },
+    ghost minute_is: { layout.minute ≡ Some minute },
+    ghost second_is: { layout.second ≡ Some second },
+    ghost century: { IsPair bounds layout.length year },
+    ghost year_in_century: { IsPair bounds layout.length (year + 2) },
+    ghost day_digits: { IsPair bounds layout.length day },
+    ghost hour_digits: { IsPair bounds layout.length hour },
+    ghost minute_digits: { IsPair bounds layout.length minute },
+    ghost second_digits: { IsPair bounds layout.length second },
+    ghost offset_hour_digits: { ForSome layout.offset_hour
+        (λ place. IsPair bounds layout.length (place + 1)) },
+    ghost offset_minute_digits: { ForSome layout.offset_minute
+        (λ place. IsPair bounds layout.length place) },
+    ghost one_offset: { ForSome back (λ _. HasNoOffset layout) },
 }

@@ -11,6 +11,8 @@ mod dates;
 #[cfg(test)]
 mod errors;
 #[cfg(test)]
+mod fields;
+#[cfg(test)]
 mod laws;
 #[cfg(test)]
 mod moments;

@@ -1,19 +1,14 @@
 -- A strict reading against one that is not: the same where all numbers are in range.
-use Rattle.std.proofs.Common.{◌≡◌, ℕ, ◌+◌, ◌-◌, ◌*◌, ◌≤◌, ◌&&◌, Bool, true, false, List, get_or, Option, Some, None, Result, Ok, Err, refl, sym, subst, ◌∙◌, arith}
+use Rattle.std.proofs.Common.{◌≡◌, ℕ, Bool, true, false, List, Option, Some, None, Result, Ok, Err, refl, sym, subst, ◌∙◌, arith}
 use Rattle.std.specs.Borrow.{Bor}
-use Rattle.std.specs.Prelude.{◌↔◌, IfOk, IfSome, option_map}
+use Rattle.std.specs.Prelude.{◌↔◌, IfOk}
 use Rattle.std.specs.Int.{IsInRange}
-use Rattle.std.specs.Char.{is_ascii_digit}
 use Rattle.std.proofs.lemmas.Bool.{and_parts, leb-true}
 use Rattle.std.proofs.lemmas.Bool.Decides.{nat_tests}
 use Rattle.parsing_pieces.specs.Fault.{Fault}
 use Rattle.parsing_pieces.specs.FaultOf.{Gives, reading_fault}
-use Rattle.parsing_pieces.specs.Pieces.{digits}
-use Rattle.parsing_pieces.specs.Readings.{Reading, piece_or, then_read, require, entered, within}
+use Rattle.parsing_pieces.specs.Readings.{Reading, then_read, require, entered, within}
 use Rattle.parsing_pieces.specs.declared.fault.ParseFromDescription.{ParseFromDescription}
-use Rattle.parsing_pieces.proofs.Decimal.{digit_here}
-use Rattle.parsing_pieces.proofs.Fixed.{some_if, digits_two, digits_four}
-use Rattle.parsing_pieces.proofs.Fixed as fixed
 
 -- a strict result is the other one where that passes, and a fault where it does not
 abbrev pub narrow : {A : Type 0} → (A → Type 0) → Result (A × List ℕ) Fault → Result (A × List ℕ) Fault → Type 0

@@ -2,4 +2,6 @@ use Rattle.parsing_plan.proofs.Parts.{date_says}
 use Rattle.parsing_plan.proofs.read.date.Goals as goal
 
 pub returns : goal.returns
-returns c = date_says c.args.layout.now c.args.line.now c.in_ok-layout.field-0 c.in_ok-layout-2.field-0 c.in_ok-layout-3.field-0 c.in_ok-year.year c.in_ok-month.month c.in_ok-day.day c.in_ok-layout.was c.in_ok-layout-2.was c.in_ok-layout-3.was c.in_ok-year.ensures.writes c.in_ok-year.ensures.bound c.in_ok-month.ensures c.in_ok-day.ensures c.if-day-lt1.false c.if-day-gt31.false
+returns c =
+    let plan = c.args.plan.now in
+    date_says plan.layout c.args.line.now plan.year plan.month plan.day c.four_digits_at-year.result c.in_ok-month.month c.two_digits_at-day.result plan.year_is plan.month_is plan.day_is c.four_digits_at-year.ensures.writes c.four_digits_at-year.ensures.bound c.in_ok-month.ensures c.two_digits_at-day.ensures.writes c.if-day-lt1.false c.if-day-gt31.false

@@ -1,5 +1,5 @@
-use Rattle.parsing_plan.proofs.Numbers.{writes_cut}
+use Rattle.parsing_plan.proofs.Numbers.{four_written}
 use Rattle.parsing_plan.proofs.read.four_digits_at.Goals as goal
 
 pub returns-clause-writes : goal.returns-clause-writes
-returns-clause-writes c = writes_cut 4 c.args.place c.args.line.now c.in_ok-behind.field-0.now (c.in_ok-number.number, c.in_ok-number.field-0-1) c.in_ok-behind.ensures c.in_ok-number.ensures.cut
+returns-clause-writes c = rw (c.from.ensures, c.from-2.ensures) (four_written c.args.line.now c.args.place c.two_digits_at.result c.two_digits_at-2.result c.two_digits_at.ensures.writes c.two_digits_at-2.ensures.writes)

@@ -1,10 +1,21 @@
-use Rattle.std.proofs.Common.{◌≡◌, ℕ, ◌+◌, ◌*◌, ◌/◌, ◌%◌, List, [], Some, ap, ◌∙◌, arith}
-use Rattle.parsing_fields.proofs.DigitLemmas.{nine_at}
+use Rattle.std.proofs.Common.{◌≡◌}
+use Rattle.std.specs.Str.Parse.{digits_value}
+use Rattle.parsing_fields.specs.Digits.{nine_digits}
+use Rattle.parsing_fields.specs.DigitsBack.{digits_below}
+use Rattle.parsing_fields.proofs.DigitLemmas.{all_nine}
 use Rattle.parsing_fields.proofs.fraction.Fraction.digits.Goals as goal
 
 pub returns-clause-digits : goal.returns-clause-digits
+unfolding nine_digits
 returns-clause-digits c =
-    let n = c.self.inside.nanosecond in
-    let none : List ℕ = [] in
-    let value : (((n / 100_000_000 * 10 + n / 10_000_000 % 10) * 100 + (n / 1_000_000 % 10 * 10 + n / 100_000 % 10)) * 10_000 + ((n / 10_000 % 10 * 10 + n / 1000 % 10) * 100 + (n / 100 % 10 * 10 + n / 10 % 10))) * 10 + n % 10 ≡ c.args.self = omega (arith, c.self.view_is) in
-    nine_at (n / 100_000_000) (n / 10_000_000 % 10) (n / 1_000_000 % 10) (n / 100_000 % 10) (n / 10_000 % 10) (n / 1000 % 10) (n / 100 % 10) (n / 10 % 10) (n % 10) (omega arith) (omega arith) (omega arith) (omega arith) (omega arith) (omega arith) (omega arith) (omega arith) (omega arith) ∙ ap (λ (k : ℕ). Some (k, none)) value
+    let first = c.self.inside.first in
+    let last = c.self.inside.last in
+    let seen : digits_value 10 (nine_digits first last) ≡ c.args.self = cc in
+    rw (c.to_le_bytes.ensures, ← seen) (all_nine first last c.self.invariant)
+
+pub returns-clause-bound : goal.returns-clause-bound
+returns-clause-bound c =
+    let first = c.self.inside.first in
+    let last = c.self.inside.last in
+    let seen : digits_value 10 (nine_digits first last) ≡ c.args.self = cc in
+    rw (← seen) (digits_below first last c.self.invariant)

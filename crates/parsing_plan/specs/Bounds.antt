@@ -1,0 +1,51 @@
+-- The bytes that can stand at each place of a line.
+use Rattle.std.specs.Prelude.{◌≡◌, ◌≤◌, ◌<◌, ◌+◌, ℕ, List, length, get_or, None}
+use Rattle.parsing_plan.specs.declared.bounds.Bounds.{Bounds}
+use Rattle.parsing_plan.specs.declared.layout.Layout.{Layout}
+
+abbrev pub IsBetween : List ℕ → List ℕ → List ℕ → ℕ → Type 0
+IsBetween low high bytes k = (get_or low k 0 ≤ get_or bytes k 0) × (get_or bytes k 0 ≤ get_or high k 0)
+
+-- each of the first n bytes of the line lies between the lowest and the highest for its place
+abbrev pub LiesWithin : Bounds → List ℕ → ℕ → Type 0
+LiesWithin b line n = (k : ℕ) → k < n → IsBetween b.low b.high line k
+
+-- the bounds let two digits alone stand at a place and the next one, both below a length
+pub record IsPair (b : Bounds) (length place : ℕ) : Type 0 where
+  pub room : place + 2 ≤ length
+  pub first_low : 48 ≤ get_or b.low place 0
+  pub first_high : get_or b.high place 0 ≤ 57
+  pub second_low : 48 ≤ get_or b.low (place + 1) 0
+  pub second_high : get_or b.high (place + 1) 0 ≤ 57
+
+-- two digits stand at a place and the next one
+pub record HasPair (line : List ℕ) (place : ℕ) : Type 0 where
+  pub room : place + 2 ≤ length line
+  pub first_low : 48 ≤ get_or line place 0
+  pub first_high : get_or line place 0 ≤ 57
+  pub second_low : 48 ≤ get_or line (place + 1) 0
+  pub second_high : get_or line (place + 1) 0 ≤ 57
+
+-- the bounds let a byte of a layout alone stand at a place of it
+pub record HoldByte (b : Bounds) (l : Layout) (place : ℕ) : Type 0 where
+  pub inside : place < l.length
+  pub low_is : get_or b.low place 0 ≡ get_or l.text place 0
+  pub high_is : get_or b.high place 0 ≡ get_or l.text place 0
+
+-- the bounds let the literals of a layout alone stand where they have to
+abbrev pub HoldText : Bounds → Layout → Type 0
+HoldText b l = (k : ℕ) → get_or l.mask k 0 ≡ 255 → HoldByte b l k
+
+-- a layout has no place for an offset
+pub record HasNoOffset (l : Layout) : Type 0 where
+  pub no_hour : l.offset_hour ≡ None
+  pub no_minute : l.offset_minute ≡ None
+
+-- a layout has no place for a date and a time of day
+pub record HasNoClock (l : Layout) : Type 0 where
+  pub no_year : l.year ≡ None
+  pub no_month : l.month ≡ None
+  pub no_day : l.day ≡ None
+  pub no_hour : l.hour ≡ None
+  pub no_minute : l.minute ≡ None
+  pub no_second : l.second ≡ None
