@@ -187,13 +187,7 @@ impl Timeline<'_> {
     // Writes the answer to a line by all sources, where the first bytes show that the first one names no moment: it is read
     // for its fault alone.
     #[inline(always)]
-    fn write_by_others(
-        &self,
-        first: &Source,
-        others: &[Source],
-        line: &[u8],
-        storage: &mut Answer,
-    )
+    fn write_by_others(&self, first: &Source, others: &[Source], line: &[u8], storage: &mut Answer)
         requires sources { (setting_of self.now).sources
             ≡ grammar_of first.now ∷ map grammar_of others.now }
         requires none { NamesNothing (grammar_of first.now) line.now }
