@@ -1,8 +1,6 @@
 -- What is found of a line before all of its answer is known.
 use Rattle.std.specs.Prelude.{◌≡◌, ◌≢◌, ◌≤◌, ℕ, List, codes, length, Option, Some, Ok}
 use Rattle.datetime_wall.specs.Wall.{Shown}
-use Rattle.instants_sources.specs.Grammar.{Grammar}
-use Rattle.instants_sources.specs.Named.{named}
 use Rattle.instants.specs.Place.{Setting, first_named, place_text, shown_or_refused}
 
 -- the first source that names a moment names this one

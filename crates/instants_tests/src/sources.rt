@@ -95,10 +95,26 @@ fn fast_ways(rt: HostRuntime) {
 // A source, a line, and the Unix time that the fast way names with an offset of an hour assumed.
 const FAST: [(SourceText<'static>, &'static [u8], Option<i64>); 5] = [
     (SourceText::Rfc3339, b"1970-01-01T00:00:01Z", Some(1)),
-    (SourceText::Strftime("%d/%b/%Y:%H:%M:%S %z"), b"01/Jan/1970:01:00:01 +0100", Some(1)),
-    (SourceText::Strftime("%d/%b/%Y:%H:%M:%S"), b"01/Jan/1970:01:00:01", Some(1)),
-    (SourceText::V3("[year]-[month]-[day] [hour]:[minute]:[second]"), b"1970-01-01 01:00:01", Some(1)),
-    (SourceText::Strftime("%d/%b/%Y:%H:%M:%S"), b"32/Jan/1970:01:00:01", None),
+    (
+        SourceText::Strftime("%d/%b/%Y:%H:%M:%S %z"),
+        b"01/Jan/1970:01:00:01 +0100",
+        Some(1),
+    ),
+    (
+        SourceText::Strftime("%d/%b/%Y:%H:%M:%S"),
+        b"01/Jan/1970:01:00:01",
+        Some(1),
+    ),
+    (
+        SourceText::V3("[year]-[month]-[day] [hour]:[minute]:[second]"),
+        b"1970-01-01 01:00:01",
+        Some(1),
+    ),
+    (
+        SourceText::Strftime("%d/%b/%Y:%H:%M:%S"),
+        b"32/Jan/1970:01:00:01",
+        None,
+    ),
 ];
 
 #[test]

@@ -150,11 +150,11 @@ impl Timeline<'_> {
             result_ok (named (setting_of self.now).assumed (grammar_of source.now) line.now)
             ≡ None }
     {
-        if self.write_fast(source, line, storage) {
-            return true;
-        }
         if source.cannot_match(line) {
             return false;
+        }
+        if self.write_fast(source, line, storage) {
+            return true;
         }
         match source.read_exact(line, self.assumed) {
             Ok(named) => {
@@ -187,13 +187,7 @@ impl Timeline<'_> {
     // Writes the answer to a line by all sources, where the first bytes show that the first one names no moment: it is read
     // for its fault alone.
     #[inline(always)]
-    fn write_by_others(
-        &self,
-        first: &Source,
-        others: &[Source],
-        line: &[u8],
-        storage: &mut Answer,
-    )
+    fn write_by_others(&self, first: &Source, others: &[Source], line: &[u8], storage: &mut Answer)
         requires sources { (setting_of self.now).sources
             ≡ grammar_of first.now ∷ map grammar_of others.now }
         requires none { NamesNothing (grammar_of first.now) line.now }
@@ -246,7 +240,20 @@ impl Timeline<'_> {
         }
     }
 
-    // Writes the answer to a line.
+    // Writes the answer to a line, each way taken by a call.
+    #[inline(never)]
+    fn write_last_answer(&self, line: &[u8], storage: &mut Answer)
+        ensures bytes { storage.new ≡ answer_to (setting_of self.now) line.now }
+        ensures room { length storage.new ≤ 63 }
+        ensures never_long { storage.new ≢ codes "! long" }
+    {
+        let first = &self.sources.as_slice()[0];
+        if !self.write_fast(first, line, storage) {
+            self.write_exact_answer(line, storage);
+        }
+    }
+
+    // The same of one of many lines.
     #[inline(always)]
     fn write_line_answer(&self, line: &[u8], storage: &mut Answer)
         ensures bytes { storage.new ≡ answer_to (setting_of self.now) line.now }
@@ -266,7 +273,7 @@ impl Timeline<'_> {
         ensures never_long { result ≢ codes "! long" }
     {
         let mut answer = Answer::new();
-        self.write_line_answer(line, &mut answer);
+        self.write_last_answer(line, &mut answer);
         answer
     }
 }

@@ -1,4 +1,4 @@
-use Rattle.std.proofs.Common.{◌≡◌, ◌+◌, [], ◌∷◌, ◌∙◌, refl, sym, drop, get_or, map, arith}
+use Rattle.std.proofs.Common.{◌≡◌, ◌+◌, [], ◌∷◌, refl, sym, drop, get_or, map, arith}
 use Rattle.std.proofs.lemmas.List.{drop_more, drop_all}
 use Rattle.instants_sources.specs.Grammar.{grammar_of}
 use Rattle.instants.specs.Place.{first_named}
