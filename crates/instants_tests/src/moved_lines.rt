@@ -1,7 +1,7 @@
 //! Lines of fields, shown at another offset.
 
 use calendar::UtcOffset;
-use instants_answers::{Answer, write_fields};
+use instants_answers::{Answer, is_target, write_fields};
 use parsing_fields::{Fields, Fraction};
 use std::test::Fail;
 
@@ -56,6 +56,9 @@ fn lines(rt: HostRuntime) -> Result<(), Fail> {
         let Ok(target) = UtcOffset::from_whole_seconds(target) else {
             return Err(Fail::from("no offset"));
         };
+        if !is_target(target) {
+            return Err(Fail::from("no target"));
+        }
         let mut answer = Answer::new();
         let is_written = write_fields(&fields, target, &mut answer);
         assert!(rt; is_written == !line.is_empty());
