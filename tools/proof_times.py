@@ -1,7 +1,8 @@
 #!/usr/bin/env python3
 """Says which functions of a crate take longest to prove, from nothing, at one job.
 
-    tools/proof_times.py CRATE [COUNT]
+    tools/proof_times.py CRATE [COUNT]            of the crate itself
+    tools/proof_times.py --test CRATE [COUNT]     of its tests
 
 The check saves each module as it is done with it, and a file's time less that of the one before it is what the module took.
 A function's modules are added up: `Lts` is the borrow checker's part, which grows with the steps of the body; `Proof` and
@@ -33,8 +34,8 @@ def below(crate, used):
     return list(dict.fromkeys(found))
 
 
-def command(crate, kept):
-    """Returns the check of a crate over the libraries that are built, with what it keeps in a folder."""
+def command(crate, kept, of_tests):
+    """Returns the check of a crate, or of its tests, over the libraries that are built, with what it keeps in a folder."""
     kit = pathlib.Path(subprocess.run(["rt", "doc"], capture_output=True, text=True, check=True).stdout.strip()).parent
     used, folder = uses(), ROOT / "crates" / crate
     root = "src/lib.rt" if (folder / "src" / "lib.rt").exists() else "src/main.rt"
@@ -44,7 +45,8 @@ def command(crate, kept):
         words += ["--extern", f"{it}={rlib(it)}/{it}.rlib"]
     for it in below(crate, used):
         words += ["-L", f"dependency={rlib(it)}"]
-    return [*words, "--antt-project", f"{kit}/rattle/logic/antt-project.json", "--logic-built", f"{kit}/logic_built", "--jobs", "1", "--incremental", kept]
+    words += ["--antt-project", f"{kit}/rattle/logic/antt-project.json", "--logic-built", f"{kit}/logic_built"]
+    return [*words, *["--test"] * of_tests, "--jobs", "1", "--incremental", kept]
 
 
 def module_times(kept, began):
@@ -60,11 +62,11 @@ def function_of(module, crate):
     return re.sub(rf"\.(?:{'|'.join(PARTS)})(?:-[\w-]+)?(?:\..*)?$", "", own)
 
 
-def main(crate, count=30):
+def main(crate, count=30, of_tests=False):
     with tempfile.TemporaryDirectory() as kept:
         began = time.time()
         how = {"cwd": ROOT / "crates" / crate, "stdout": subprocess.PIPE, "stderr": subprocess.STDOUT, "text": True}
-        ran = subprocess.run(command(crate, kept), errors="replace", **how)
+        ran = subprocess.run(command(crate, kept, of_tests), errors="replace", **how)
         times = module_times(kept, began)
     functions, kinds = collections.Counter(), collections.Counter()
     for seconds, module in times:
@@ -77,4 +79,5 @@ def main(crate, count=30):
 
 
 if __name__ == "__main__":
-    sys.exit(main(*sys.argv[1:]) if 2 <= len(sys.argv) <= 3 else __doc__)
+    words = [it for it in sys.argv[1:] if it != "--test"]
+    sys.exit(main(*words, of_tests="--test" in sys.argv) if 1 <= len(words) <= 2 else __doc__)
