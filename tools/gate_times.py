@@ -1,7 +1,7 @@
 #!/usr/bin/env python3
 """Runs the gate and says where its time goes: processor seconds for each crate, of its proof, its tests and its edits.
 
-    tools/gate_times.py             runs `rt ci`, passes on what it prints, and then prints the table
+    tools/gate_times.py             runs `rt ci`, passes on what it prints, then prints the table, and the gate's last line again
     tools/gate_times.py --write     also writes the table to docs/GATE.md, where the gate passed
 
 What a process takes is read from /proc while it runs, so it works on Linux; what is over between two looks is counted
@@ -21,6 +21,10 @@ import subprocess
 import sys
 import threading
 import time
+
+sys.dont_write_bytecode = True
+
+from ended_with_caller import ended_with_caller
 
 ROOT = pathlib.Path(__file__).resolve().parent.parent
 TABLE = ROOT / "docs" / "GATE.md"
@@ -65,7 +69,8 @@ def look(session, seen):
 def run_gate(command):
     """Runs the command and returns its status, its last line, its processor and wall seconds, and the seconds of each part."""
     seen, began = {}, time.monotonic()
-    child = subprocess.Popen(command, cwd=ROOT, stdout=subprocess.PIPE, text=True, errors="replace", start_new_session=True)
+    how = {"cwd": ROOT, "stdout": subprocess.PIPE, "text": True, "errors": "replace"}
+    child = subprocess.Popen(command, start_new_session=True, preexec_fn=ended_with_caller(), **how)
     is_over = threading.Event()
 
     def watch():
@@ -172,7 +177,7 @@ def main():
     before = TABLE.read_text() if TABLE.exists() else ""
     bounds = bounds_told(parts, total, pace_of(before, parts))
     text = text_of(table_of(parts, total), bounds, last, total, wall)
-    print(text)
+    print(f"{text}\n{last}")
     if given.write and status == 0 and re.fullmatch(r"\d+ passed, 0 failed", last):
         TABLE.write_text(text)
     return status
