@@ -6,10 +6,11 @@ pub use Rattle.calendar_count.specs.Month
 pub use Rattle.calendar_count.specs.Weekday
 pub use Rattle.calendar_count.specs.Walks
 pub use Rattle.calendar_count.specs.ComponentRange
+pub use Rattle.calendar_count.specs.Digits
 pub use Rattle.calendar_spans.specs.Duration
 pub use Rattle.calendar_spans.specs.DurationSum
 pub use Rattle.calendar_spans.specs.DurationText
-pub use Rattle.calendar_clock.specs.Digits
+pub use Rattle.calendar_count.specs.Digits
 pub use Rattle.calendar_clock.specs.Time
 pub use Rattle.calendar_clock.specs.DateAdjustment
 pub use Rattle.calendar_clock.specs.UtcOffset

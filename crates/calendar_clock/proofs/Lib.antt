@@ -1,2 +1,1 @@
 pub mod ClockLemmas
-pub mod DigitLemmas

@@ -1,5 +1,4 @@
 pub mod DateAdjustment
-pub mod Digits
 pub mod Time
 pub mod TimeParts
 pub mod UtcOffset

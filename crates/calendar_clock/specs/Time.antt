@@ -6,7 +6,7 @@ use Rattle.byte_names.specs.Bytes.{dot, colon}
 use Rattle.calendar_count.specs.declared.component_range.ComponentName.TheVariants.{Hour, Minute, Second, Millisecond, Microsecond, Nanosecond}
 use Rattle.calendar_count.specs.declared.component_range.ComponentRange.{ComponentRange}
 use Rattle.calendar_count.specs.ComponentRange.{out_of_range}
-use Rattle.calendar_clock.specs.Digits.{two_digits, nine_digits, without_zeros}
+use Rattle.calendar_count.specs.Digits.{two_digits, nine_digits, without_zeros}
 -- the nanoseconds of each unit
 pub use Rattle.calendar_spans.specs.Duration.{micro_nanos, milli_nanos, second_nanos, minute_nanos, hour_nanos, day_nanos}
 

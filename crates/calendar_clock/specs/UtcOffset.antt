@@ -4,7 +4,7 @@ use Rattle.byte_names.specs.Bytes.{plus, hyphen, colon}
 use Rattle.calendar_count.specs.declared.component_range.ComponentName.TheVariants.{Hours, Minutes, Seconds}
 use Rattle.calendar_count.specs.declared.component_range.ComponentRange.{ComponentRange}
 use Rattle.calendar_count.specs.ComponentRange.{out_of_range}
-use Rattle.calendar_clock.specs.Digits.{two_digits}
+use Rattle.calendar_count.specs.Digits.{two_digits}
 
 -- 25:59:59
 abbrev pub greatest_offset : ℕ

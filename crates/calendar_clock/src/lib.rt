@@ -3,7 +3,6 @@
 
 mod comparing;
 mod date_adjustment;
-pub mod digits;
 pub mod laws;
 mod offset_text;
 mod time;

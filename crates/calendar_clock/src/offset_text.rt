@@ -3,8 +3,8 @@ ghost use Rattle.std.specs.Prelude.{Some};
 ghost use Rattle.std.specs.Fmt.{styled_text};
 ghost use Rattle.calendar_clock.specs.UtcOffset.{offset_text};
 
-use crate::{UtcOffset, digits};
-use calendar_count::padding;
+use crate::UtcOffset;
+use calendar_count::{digits, padding};
 use std::fmt;
 
 // An offset's text, whatever the width.

@@ -3,8 +3,8 @@ ghost use Rattle.std.specs.Prelude.{Some};
 ghost use Rattle.std.specs.Fmt.{styled_text};
 ghost use Rattle.calendar_clock.specs.Time.{time_text};
 
-use crate::{Time, digits};
-use calendar_count::padding;
+use crate::Time;
+use calendar_count::{digits, padding};
 use std::fmt;
 
 // A time's text, whatever the width.

@@ -5,3 +5,4 @@ mod MarchLemmas
 mod ThursdayLemmas
 mod FourDigits
 mod PaddingLemmas
+mod DigitLemmas

@@ -9,3 +9,4 @@ pub mod Weekday
 pub mod Walks
 pub mod March
 pub mod ComponentRange
+pub mod Digits

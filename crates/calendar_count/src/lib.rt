@@ -5,6 +5,7 @@
 pub mod closed;
 mod component_range;
 mod conversion_range;
+pub mod digits;
 mod invalid_variant;
 pub mod march;
 mod month;

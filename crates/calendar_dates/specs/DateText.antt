@@ -3,7 +3,7 @@ use Rattle.std.specs.Prelude.{ℕ, suc, ◌/◌, ◌%◌, nat_lt, if◌then◌el
 use Rattle.std.specs.Fmt.{decimal}
 use Rattle.byte_names.specs.Bytes.{plus, hyphen}
 use Rattle.calendar_count.specs.Calendar.{YearMonthDay, day_at}
-use Rattle.calendar_clock.specs.Digits.{two_digits}
+use Rattle.calendar_count.specs.Digits.{two_digits}
 
 -- the digits of a number below ten thousand
 abbrev pub four_digits : ℕ → List ℕ

@@ -5,8 +5,7 @@ ghost use Rattle.calendar_count.specs.Range.{greatest_year, IsYear};
 ghost use Rattle.calendar_dates.specs.DateText.{date_text, year_digits, year_text};
 
 use crate::Date;
-use calendar_clock::digits;
-use calendar_count::padding;
+use calendar_count::{digits, padding};
 use std::fmt;
 
 // The least year of five digits.

@@ -8,7 +8,7 @@ use Rattle.std.proofs.lemmas.Fmt.{decimal_by_steps, decimal_digit, decimal_injec
 use Rattle.std.proofs.lemmas.Int.{ints}
 use Rattle.std.proofs.lemmas.List.{append_cancel_left}
 use Rattle.calendar_count.proofs.lemmas.Signed.{signed, one_sided}
-use Rattle.calendar_clock.specs.Digits.{three_digits, nine_digits, without_zeros}
+use Rattle.calendar_count.specs.Digits.{three_digits, nine_digits, without_zeros}
 use Rattle.datetime_wall.specs.Wall.{second_nanos, IsWallClock}
 use Rattle.datetime_types.specs.Texts.{fraction_text, seconds_text}
 

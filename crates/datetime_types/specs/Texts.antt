@@ -2,7 +2,7 @@
 use Rattle.std.specs.Prelude.{ℕ, ◌/◌, ◌%◌, ◌==◌, if◌then◌else◌, List, [], ◌∷◌, ◌++◌, codes, ℤ, pos, unsigned_abs, int_lt}
 use Rattle.std.specs.Fmt.{decimal}
 use Rattle.byte_names.specs.Bytes.{space, dot}
-use Rattle.calendar_clock.specs.Digits.{nine_digits, without_zeros}
+use Rattle.calendar_count.specs.Digits.{nine_digits, without_zeros}
 use Rattle.calendar.specs.DateText.{date_text}
 use Rattle.calendar.specs.Time.{time_text}
 use Rattle.calendar.specs.UtcOffset.{offset_text}

@@ -4,9 +4,9 @@ use Rattle.std.specs.Int.{int_div_euclid, int_rem_euclid}
 use Rattle.calendar_count.specs.declared.component_range.ComponentRange.{ComponentRange}
 use Rattle.calendar_count.specs.Range.{last_count, unix_epoch}
 use Rattle.datetime_products.specs.Seconds.{day_seconds}
-use Rattle.calendar.specs.UtcOffset.{greatest_offset}
+use Rattle.calendar_clock.specs.UtcOffset.{greatest_offset}
 -- the nanoseconds of a second and of a day
-pub use Rattle.calendar.specs.Time.{second_nanos, day_nanos}
+pub use Rattle.calendar_clock.specs.Time.{second_nanos, day_nanos}
 
 -- what a clock shows on a day, by its count, at a nanosecond of the day: the nanoseconds since 1970 began on that clock
 unfoldable pub wall_clock : ℕ → ℕ → ℤ

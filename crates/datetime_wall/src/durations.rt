@@ -1,9 +1,10 @@
 //! Durations with a sign, and those of std without one.
 ghost use Rattle.std.specs.Prelude.{◌≡◌, ◌↔◌, pos, ◌≤ℤ◌, IsOk, IfOk};
 ghost use Rattle.std.specs.Duration.{as_nanos};
-ghost use Rattle.calendar.specs.Duration.{IsDuration, nearest_duration};
+ghost use Rattle.calendar_spans.specs.Duration.{IsDuration, nearest_duration};
 
-use calendar::{ConversionRange, SignedDuration};
+use calendar_count::ConversionRange;
+use calendar_spans::SignedDuration;
 use std::time::Duration;
 
 /// The same length forward, refused where its whole seconds do not fit 63 bits.

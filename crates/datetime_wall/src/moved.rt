@@ -1,11 +1,13 @@
 //! Wall clocks moved by durations.
 ghost use Rattle.std.specs.Prelude.{◌≡◌, ◌↔◌, ◌≤◌, ◌<◌, ◌^◌, pos, ◌+ℤ◌, ◌-ℤ◌, ◌≤ℤ◌, IsSome, IfSome, unsigned_abs};
-ghost use Rattle.calendar.specs.Range.{last_count, IsCount};
-ghost use Rattle.calendar.specs.DateAdjustment.{carry};
+ghost use Rattle.calendar_count.specs.Range.{last_count, IsCount};
+ghost use Rattle.calendar_clock.specs.DateAdjustment.{carry};
 ghost use Rattle.datetime_wall.specs.Wall.{day_nanos, wall_clock, IsWallClock};
 
-use calendar::{Date, DateAdjustment, SignedDuration, Time};
+use calendar_clock::{DateAdjustment, Time};
 use calendar_count::range::LAST_COUNT;
+use calendar_dates::Date;
+use calendar_spans::SignedDuration;
 
 // The days that an adjustment stands for.
 #[inline(always)]

@@ -2,11 +2,12 @@
 ghost use Rattle.std.specs.Prelude.{◌≡◌, ◌↔◌, ◌≤◌, ◌<◌, pos, ◌+◌, ◌*◌, ◌/◌, ◌+ℤ◌, ◌*ℤ◌, IsSome, IfSome, unsigned_abs};
 ghost use Rattle.std.specs.Int.{int_div_euclid};
 ghost use Rattle.datetime_products.specs.Seconds.{IsUnixSecond};
-ghost use Rattle.calendar.specs.Range.{unix_epoch, IsCount};
+ghost use Rattle.calendar_count.specs.Range.{unix_epoch, IsCount};
 ghost use Rattle.datetime_wall.specs.Wall.{second_nanos, day_nanos, wall_clock, instant, IsWallClock};
 
-use calendar::{Date, Time, UtcOffset};
+use calendar_clock::{Time, UtcOffset};
 use calendar_count::range::{LAST_COUNT, UNIX_EPOCH};
+use calendar_dates::Date;
 
 const DAY_SECONDS: u32 = 86_400;
 

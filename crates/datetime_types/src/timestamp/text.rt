@@ -5,8 +5,7 @@ ghost use Rattle.datetime_types.specs.Texts.{fraction_text};
 ghost use Rattle.datetime_wall.specs.Wall.{second_nanos};
 
 use crate::Timestamp;
-use calendar_clock::digits;
-use calendar_count::padding;
+use calendar_count::{digits, padding};
 use std::fmt;
 
 // Writes a minus where there is one.

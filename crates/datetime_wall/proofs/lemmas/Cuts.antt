@@ -1,6 +1,6 @@
 -- Wall clocks cut to whole units: each unit divides a day.
 use Rattle.std.proofs.Common.{◌≡◌, ◌*◌, ◌/◌, ℤ, arith}
-use Rattle.calendar.specs.Time.{micro_nanos, milli_nanos, minute_nanos, hour_nanos}
+use Rattle.calendar_clock.specs.Time.{micro_nanos, milli_nanos, minute_nanos, hour_nanos}
 use Rattle.calendar_count.proofs.lemmas.Signed.{signed}
 use Rattle.datetime_wall.specs.Wall.{second_nanos, day_nanos, wall_clock, day_of, nanosecond_of, IsWallClock, cut_to}
 

@@ -3,7 +3,7 @@ use Rattle.std.proofs.Common.{arith, ◌≡◌, refl, ◌⊎◌, inl, inr, ℕ, 
 use Rattle.std.specs.Prelude.{IsSome, IfSome, ◌↔◌}
 use Rattle.std.proofs.lemmas.Int.{ints, by_lt_z}
 use Rattle.calendar_count.proofs.lemmas.Signed.{signed}
-use Rattle.calendar.specs.Duration.{greatest_duration, nearest_duration}
+use Rattle.calendar_spans.specs.Duration.{greatest_duration, nearest_duration}
 use Rattle.datetime_wall.specs.Wall.{IsWallClock}
 
 -- a length forward is a duration, or longer than all

@@ -1,7 +1,7 @@
 use Rattle.std.proofs.Common.{arith, refl, ◌≡◌, ◌+ℤ◌, ◌-ℤ◌, neg_ℤ, ℤ, pos}
 use Rattle.std.specs.Prelude.{int_div}
 use Rattle.calendar_count.proofs.lemmas.Signed.{signed}
-use Rattle.calendar.specs.DateAdjustment.{carry}
+use Rattle.calendar_clock.specs.DateAdjustment.{carry}
 use Rattle.datetime_wall.specs.Wall.{day_nanos}
 use Rattle.datetime_wall.proofs.lemmas.WallClocks.{IsWallClock-wall_clock}
 use Rattle.datetime_wall.proofs.DurationLemmas.{moved_wall_clock, moved_day_within}

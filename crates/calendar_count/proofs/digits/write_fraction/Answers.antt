@@ -1,7 +1,7 @@
 use Rattle.std.proofs.Common.{arith}
 use Rattle.std.proofs.lemmas.Grind.{common_steps}
-use Rattle.calendar_clock.proofs.DigitLemmas.{fraction_nanos, fraction_micros, fraction_millis}
-use Rattle.calendar_clock.proofs.digits.write_fraction.Goals as goal
+use Rattle.calendar_count.proofs.DigitLemmas.{fraction_nanos, fraction_micros, fraction_millis}
+use Rattle.calendar_count.proofs.digits.write_fraction.Goals as goal
 
 pub returns-in_ok-write_three-2 : goal.returns-in_ok-write_three-2
 returns-in_ok-write_three-2 g c = rw (← fraction_nanos c.args.nanoseconds c.if-nanos-gt0.true) (grind (arith, common_steps))

@@ -1,7 +1,7 @@
 //! Numbers written with a fixed number of digits.
 ghost use Rattle.std.specs.Prelude.{◌<◌, Some};
 ghost use Rattle.std.specs.Fmt.{DisplaysOnOk};
-ghost use Rattle.calendar_clock.specs.Digits.{two_digits, three_digits, nine_digits, without_zeros};
+ghost use Rattle.calendar_count.specs.Digits.{two_digits, three_digits, nine_digits, without_zeros};
 
 use std::fmt;
 

@@ -5,7 +5,7 @@ use Rattle.std.proofs.lemmas.List.Folds.{list_all-append}
 use Rattle.std.specs.List.{list_all}
 use Rattle.std.specs.Fmt.{decimal}
 use Rattle.std.proofs.lemmas.Fmt.{decimal_digit}
-use Rattle.calendar_clock.specs.Digits.{two_digits, three_digits, nine_digits, without_zeros}
+use Rattle.calendar_count.specs.Digits.{two_digits, three_digits, nine_digits, without_zeros}
 
 pub decimal_two : (n : ℕ) → n < 100 → decimal (n / 10) ++ decimal (n % 10) ≡ two_digits n
 decimal_two n h = rw (decimal_digit (n / 10) (omega arith), decimal_digit (n % 10) (omega arith))

@@ -1,6 +1,6 @@
 use Rattle.std.proofs.Common.{arith}
-use Rattle.calendar_clock.proofs.DigitLemmas.{last_ones, last_tens, last_hundreds}
-use Rattle.calendar_clock.proofs.digits.write_last.Goals as goal
+use Rattle.calendar_count.proofs.DigitLemmas.{last_ones, last_tens, last_hundreds}
+use Rattle.calendar_count.proofs.digits.write_last.Goals as goal
 
 pub returns-then-ones-gt0 : goal.returns-then-ones-gt0
 returns-then-ones-gt0 g c = rw (last_ones c.args.n c.requires c.if-ones-gt0.true) at c.write.ensures.writes

@@ -1,5 +1,0 @@
-use Rattle.calendar_clock.proofs.DigitLemmas.{decimal_two}
-use Rattle.calendar_clock.proofs.digits.write_two.Goals as goal
-
-pub returns : goal.returns
-returns g c = rw (decimal_two c.args.n c.requires) at c.write.ensures.writes
