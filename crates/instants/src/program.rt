@@ -13,9 +13,10 @@ ghost use Rattle.instants.specs.Sources.{IsRefusal};
 ghost use Rattle.instants.specs.declared.new_fault.NewFault.{NewFault};
 
 use crate::program_fault::ProgramFault;
+use crate::runs::answer_lines;
 use crate::timeline::Timeline;
 use instants_devices::{ByteReader, ByteWriter};
-use instants_stream::{RunFault, run_lines};
+use instants_stream::RunFault;
 use instants_words::read_words;
 use std::alloc::Global;
 
@@ -118,7 +119,7 @@ fn run_and_flush<R: ByteReader, W: ByteWriter>(
     ensures write_failed { result ≡ Err RunFault.Write → W.failed writer.new ≡ true }
     ensures works { OnOk result (W.failed writer.new ≡ false) }
 {
-    let answered = run_lines(timeline, limit, buffer, reader, writer);
+    let answered = answer_lines(timeline, limit, buffer, reader, writer);
     if answered == Err(RunFault::Read) && !writer.has_failed() {
         // The read stays the fault.
         let _ = writer.flush();

@@ -1,13 +1,14 @@
 //! One answer for each line of a stream.
-ghost use Rattle.std.specs.Prelude.{◌≡◌, ◌-◌, ◌≤◌, ◌↔◌, ℕ, true, false, List, [], length, Some, Err, IsTrue, IfSome, OnOk};
+ghost use Rattle.std.specs.Prelude.{◌≡◌, ◌-◌, ◌<◌, ◌≤◌, ◌↔◌, ℕ, true, false, List, [], length, Some, Err, IsTrue, IfSome, OnOk};
 ghost use Rattle.std.specs.Io.KnownBytes.{Consumes, Appends};
 ghost use Rattle.instants_devices.specs.Told.{ConsumesOrUntold, AppendsFront};
 ghost use Rattle.instants_stream.specs.Answers.{output, owed, due};
 ghost use Rattle.instants.specs.Place.{answer_to};
 ghost use Rattle.instants.specs.Settings.{setting_of};
 
-use crate::timeline::Timeline;
+use crate::timeline::{Iso8601Way, Led, PlannedWay, Rfc2822Way, Rfc3339Way, Timeline};
 use instants_devices::{ByteReader, ByteWriter};
+use instants_sources::Source;
 use instants_stream::{RunFault, run_lines};
 
 /// Writes the answer to each line that the reader gives, each followed by a line feed. The answers are handed on before
@@ -45,5 +46,65 @@ pub fn run<R: ByteReader, W: ByteWriter>(
     ensures read_failed { IsTrue (R.failed reader.new) ↔ (result ≡ Err RunFault.Read) }
     ensures write_failed { IsTrue (W.failed writer.new) ↔ (result ≡ Err RunFault.Write) }
 {
-    run_lines(timeline, buffer.len() - 1, buffer, reader, writer)
+    answer_lines(timeline, buffer.len() - 1, buffer, reader, writer)
+}
+
+// Writes the answer to each line, by the run for the kind of the first source.
+pub(crate) fn answer_lines<R: ByteReader, W: ByteWriter>(
+    timeline: &Timeline,
+    limit: usize,
+    buffer: &mut [u8],
+    reader: &mut R,
+    writer: &mut W,
+) -> Result<(), RunFault>
+    requires room { limit < length buffer.old }
+    requires reader { R.failed reader.old ≡ false }
+    requires writer { W.failed writer.old ≡ false }
+    ensures ok { OnOk result (IfSome (R.left reader.old) (λ stream. (R.left reader.new ≡ Some [])
+        × Appends (W.held writer.old) (W.held writer.new)
+        (output (answer_to (setting_of timeline.now)) limit stream))) }
+    ensures flushed { OnOk result (W.flushed writer.new ≡ true) }
+    ensures read { result ≡ Err RunFault.Read → (read : List ℕ)
+        × ConsumesOrUntold (R.left reader.old) (R.left reader.new) read
+        × Appends (W.held writer.old) (W.held writer.new)
+        (owed (answer_to (setting_of timeline.now)) limit read) }
+    ensures write { result ≡ Err RunFault.Write → (read : List ℕ)
+        × Consumes (R.left reader.old) (R.left reader.new) read
+        × AppendsFront (W.held writer.old) (W.held writer.new)
+        (due (answer_to (setting_of timeline.now)) limit read (R.left reader.new)) }
+    ensures read_failed { IsTrue (R.failed reader.new) ↔ (result ≡ Err RunFault.Read) }
+    ensures write_failed { IsTrue (W.failed writer.new) ↔ (result ≡ Err RunFault.Write) }
+{
+    match timeline.first() {
+        Source::Rfc3339 => run_lines(
+            &Led::new(timeline, Rfc3339Way),
+            limit,
+            buffer,
+            reader,
+            writer,
+        ),
+        Source::Rfc2822 => run_lines(
+            &Led::new(timeline, Rfc2822Way),
+            limit,
+            buffer,
+            reader,
+            writer,
+        ),
+        Source::Iso8601 => run_lines(
+            &Led::new(timeline, Iso8601Way),
+            limit,
+            buffer,
+            reader,
+            writer,
+        ),
+        Source::Items(_) | Source::V3(_) => {
+            run_lines(
+                &Led::new(timeline, PlannedWay),
+                limit,
+                buffer,
+                reader,
+                writer,
+            )
+        }
+    }
 }

@@ -6,9 +6,11 @@ ghost use Rattle.instants.specs.Tried.{places_of};
 
 mod answers;
 mod calls;
+mod fast_ways;
 mod places;
 
 use calendar::UtcOffset;
+pub(crate) use fast_ways::{Iso8601Way, Led, PlannedWay, Rfc2822Way, Rfc3339Way};
 use instants_sources::Source;
 
 /// Sources in order, the offset in which moments are shown, and the one that is assumed for lines without one.

@@ -35,7 +35,7 @@ fn write_parts(fields: &Fields, day: u8, minute: u32, offset: i32, answer: &mut 
         u32::from(day),
     );
     answer.push(b'T');
-    push_clock(answer, minute, u32::from(fields.second), fields.fraction);
+    push_clock(answer, minute, fields.second as u32, fields.fraction);
     push_offset(answer, offset);
 }
 

@@ -19,12 +19,12 @@ pub struct Fields {
     pub day: u8,
     /// Of the day, from 0 on.
     pub minute: u16,
-    /// Of the minute, 0 to 59.
-    pub second: u8,
-    /// Of the second.
-    pub fraction: Fraction,
     /// In minutes, above 0 where local time is ahead of UTC.
     pub offset: i16,
+    /// Of the minute, 0 to 59. (Eight bytes, so that there is no padding, which each move would copy.)
+    pub second: u64,
+    /// Of the second.
+    pub fraction: Fraction,
     ghost day_is_there: { IsDay (pos year) month day },
     ghost four_digits: { year ≤ 9999 },
     ghost within_a_day: { minute < 1440 },
@@ -62,9 +62,9 @@ impl Fields {
             month,
             day,
             minute,
-            second,
-            fraction,
             offset,
+            second: u64::from(second),
+            fraction,
         })
     }
 
@@ -74,7 +74,7 @@ impl Fields {
         ensures { result ≡ moment_of self }
     {
         let count = march::count_of_day(i32::from(self.year), self.month, self.day);
-        let second_of_day = u32::from(self.minute) * 60 + u32::from(self.second);
+        let second_of_day = u32::from(self.minute) * 60 + self.second as u32;
         let time = Time::from_seconds_nanoseconds(second_of_day, self.fraction.nanosecond());
         let offset = match UtcOffset::from_whole_seconds(i32::from(self.offset) * 60) {
             Ok(offset) => offset,

@@ -13,8 +13,8 @@ use std::marker::Model;
 pub struct Fraction {
     // The first eight digits in ASCII, the first one in the lowest byte.
     first: u64,
-    // The ninth.
-    last: u8,
+    // The ninth, in eight bytes too: a move copies padding as well, so there is none.
+    last: u64,
 }
 
 // Clauses see the nanoseconds.
@@ -85,7 +85,7 @@ impl Fraction {
         ];
         Fraction {
             first: u64::from_le_bytes(first),
-            last: digit(nanosecond % 10),
+            last: u64::from(digit(nanosecond % 10)),
         }
     }
 
@@ -111,12 +111,13 @@ impl Fraction {
         let (first, count) = digit_chunk(bytes)?;
         let rest = &bytes[count..];
         let Some((last, behind)) = ninth_digit(count, rest) else {
-            return Some((Fraction { first, last: b'0' }, rest));
+            let last = u64::from(b'0');
+            return Some((Fraction { first, last }, rest));
         };
         if one_digit(behind).is_some() {
             return None;
         }
-        let last = b'0' + last;
+        let last = u64::from(b'0' + last);
         Some((Fraction { first, last }, behind))
     }
 
@@ -127,6 +128,6 @@ impl Fraction {
         ensures bound { self < 1_000_000_000 }
     {
         let [a, b, c, d, e, f, g, h] = self.first.to_le_bytes();
-        [a, b, c, d, e, f, g, h, self.last]
+        [a, b, c, d, e, f, g, h, self.last as u8]
     }
 }

@@ -12,10 +12,10 @@ ghost use Rattle.instants.specs.Settings.{setting_of};
 
 use crate::line_fault::LineFault;
 use crate::timeline::Timeline;
+use crate::timeline::fast_ways::{AnyWay, FastWay};
 use datetime_types::OffsetDateTime;
 use instants_answers::{Answer, write_fields, write_line};
 use instants_sources::{Source, fast_iso8601, fast_rfc2822, fast_rfc3339};
-use instants_stream::AnswersLines;
 use parsing_fields::Fields;
 
 impl Timeline<'_> {
@@ -126,18 +126,20 @@ impl Timeline<'_> {
         }
     }
 
-    // The same of the first source, which most lines are of. But one of the ways is taken without a call: together they
-    // would keep the fields, and what the run holds, in memory.
+    // The same of the first source, which most lines are of, by the fast way of its kind.
     #[inline(always)]
-    fn write_fast_first(&self, first: &Source, line: &[u8], storage: &mut Answer) -> bool
+    fn write_fast_first<F: FastWay>(
+        &self,
+        way: &F,
+        first: &Source,
+        line: &[u8],
+        storage: &mut Answer,
+    ) -> bool
         ensures { result ≡ true → IsAnswerOf (setting_of self.now)
             (result_ok (named (setting_of self.now).assumed (grammar_of first.now) line.now))
             storage.new }
     {
-        match first {
-            Source::Rfc3339 => self.write_found(fast_rfc3339(line), storage),
-            _ => self.write_fast(first, line, storage),
-        }
+        self.write_found(way.find(first, line, self.assumed), storage)
     }
 
     // Writes the answer to a line for which a source names a moment. Whether it names one.
@@ -240,28 +242,15 @@ impl Timeline<'_> {
         }
     }
 
-    // Writes the answer to a line, each way taken by a call.
-    #[inline(never)]
-    fn write_last_answer(&self, line: &[u8], storage: &mut Answer)
-        ensures bytes { storage.new ≡ answer_to (setting_of self.now) line.now }
-        ensures room { length storage.new ≤ 63 }
-        ensures never_long { storage.new ≢ codes "! long" }
-    {
-        let first = &self.sources.as_slice()[0];
-        if !self.write_fast(first, line, storage) {
-            self.write_exact_answer(line, storage);
-        }
-    }
-
-    // The same of one of many lines.
+    // Writes the answer to a line: of most, by the fast way of the first source.
     #[inline(always)]
-    fn write_line_answer(&self, line: &[u8], storage: &mut Answer)
+    pub(crate) fn write_line_answer<F: FastWay>(&self, way: &F, line: &[u8], storage: &mut Answer)
         ensures bytes { storage.new ≡ answer_to (setting_of self.now) line.now }
         ensures room { length storage.new ≤ 63 }
         ensures never_long { storage.new ≢ codes "! long" }
     {
         let first = &self.sources.as_slice()[0];
-        if !self.write_fast_first(first, line, storage) {
+        if !self.write_fast_first(way, first, line, storage) {
             self.write_exact_answer(line, storage);
         }
     }
@@ -273,23 +262,7 @@ impl Timeline<'_> {
         ensures never_long { result ≢ codes "! long" }
     {
         let mut answer = Answer::new();
-        self.write_last_answer(line, &mut answer);
+        self.write_line_answer(&AnyWay, line, &mut answer);
         answer
-    }
-}
-
-impl AnswersLines for Timeline<'_> {
-    ghost use Rattle.instants.specs.Place.{answer_to};
-    ghost use Rattle.instants.specs.Settings.{setting_of};
-
-    ghost answer = { λ timeline. answer_to (setting_of timeline) };
-
-    fn answer_line(&self, line: &[u8]) -> Answer {
-        Timeline::answer_line(self, line)
-    }
-
-    #[inline(always)]
-    fn write_answer(&self, line: &[u8], storage: &mut Answer) {
-        self.write_line_answer(line, storage);
     }
 }

@@ -61,6 +61,11 @@ impl<'a> Timeline<'a> {
         })
     }
 
+    // The source that is tried first.
+    pub(crate) fn first(&self) -> &Source<'a> {
+        &self.sources.as_slice()[0]
+    }
+
     // What the first source that names a moment names, and else the first source's fault; the first source is read the
     // exact way.
     #[inline(always)]

@@ -5,7 +5,7 @@ use Rattle.instants.proofs.FirstNamed.{first_source, answered_first}
 use Rattle.instants.proofs.timeline.Timeline.write_line_answer.Goals as goal
 
 pub returns-else-not-write_fast_first-clause-bytes : goal.returns-else-not-write_fast_first-clause-bytes
-returns-else-not-write_fast_first-clause-bytes c =
+returns-else-not-write_fast_first-clause-bytes g c =
     let sources = c.args.self.now.sources.items in
     let first = c.index-as_slice-0.result in
     let is : first ≡ get_or sources 0 first = rw c.as_slice.ensures.value at c.index-as_slice-0.is in

@@ -16,5 +16,5 @@ returns c =
     let offset : c.in-Ok.offset ≡ pos 60 *ℤ c.args.self.offset = cc in
     let year : to_z w32 (of_z w32 c.from.result) ≡ pos c.args.self.year = omega (arith, ints) in
     let day : day_at c.from_count.result ≡ ymd (pos c.args.self.year) c.args.self.month c.args.self.day = rw (c.from_count.ensures.value, ← year) c.count_of_day-count.ensures.value in
-    let time : c.from_seconds_nanoseconds-time.result ≡ time_of_fields c.args.self = omega (arith, c.from_seconds_nanoseconds-time.ensures.value, c.nanosecond.ensures.value, c.from-2.ensures, c.from-3.ensures) in
+    let time : c.from_seconds_nanoseconds-time.result ≡ time_of_fields c.args.self = omega (arith, c.from_seconds_nanoseconds-time.ensures.value, c.nanosecond.ensures.value, c.from-2.ensures) in
     c.new_in_offset.ensures.value ∙ moment_of_parts c.args.self c.from_count.result c.from_seconds_nanoseconds-time.result c.in-Ok.offset c.from_count.ensures.bound day time offset

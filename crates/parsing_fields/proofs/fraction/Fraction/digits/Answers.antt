@@ -1,9 +1,12 @@
-use Rattle.std.proofs.Common.{◌≡◌}
+use Rattle.std.proofs.Common.{◌≡◌, arith}
 use Rattle.std.specs.Str.Parse.{digits_value}
 use Rattle.parsing_fields.specs.Digits.{nine_digits}
-use Rattle.parsing_fields.specs.DigitsBack.{digits_below}
+use Rattle.parsing_fields.specs.DigitsBack.{digits_below, last_back}
 use Rattle.parsing_fields.proofs.DigitLemmas.{all_nine}
 use Rattle.parsing_fields.proofs.fraction.Fraction.digits.Goals as goal
+
+pub overflow_cast-result : goal.overflow_cast-result
+overflow_cast-result c = omega (arith, last_back c.self.inside.first c.self.inside.last c.self.invariant)
 
 pub returns-clause-digits : goal.returns-clause-digits
 unfolding nine_digits
