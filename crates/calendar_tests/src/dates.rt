@@ -1,7 +1,7 @@
 //! Days by their views, moved, and as keys.
 use calendar::{ComponentRange, Date, Month, SignedDuration, Weekday};
+use std::alloc::{AllocError, Global};
 use std::collections::{BTreeMap, HashMap};
-use std::test::Fail;
 
 // The day with this year, month and day of the month, which it has.
 pub fn date_of(year: i32, month: Month, day: u8) -> Date {
@@ -51,7 +51,7 @@ const DAYS: [Views; 8] = [
 ];
 
 // The day that the Julian day, the year and the place in it, and the day's own count name.
-fn found(date: Date, julian_day: i32, year: i32, ordinal: u16) -> [Date; 3] {
+fn found(date: Date, julian_day: i32, (year, ordinal): (i32, u16)) -> [Date; 3] {
     [
         answered(Date::from_julian_day(julian_day)),
         answered(Date::from_ordinal_date(year, ordinal)),
@@ -59,13 +59,22 @@ fn found(date: Date, julian_day: i32, year: i32, ordinal: u16) -> [Date; 3] {
     ]
 }
 
+// Whether these are the day's views, and the day is found by them.
+fn is_named(day: Views) -> bool {
+    let ((year, month, day_of_month), julian_day, _, place) = day;
+    let date = date_of(year, month, day_of_month);
+    let told = (year, month, day_of_month, place.1);
+    (
+        views(date),
+        one_by_one(date),
+        found(date, julian_day, place),
+    ) == (day, told, [date; 3])
+}
+
 #[test]
 fn names_days(rt: HostRuntime) {
     for day in DAYS {
-        let ((year, month, day_of_month), julian_day, _, (_, ordinal)) = day;
-        let date = date_of(year, month, day_of_month);
-        assert!(rt; views(date) == day && found(date, julian_day, year, ordinal) == [date; 3]);
-        assert!(rt; one_by_one(date) == (year, month, day_of_month, ordinal));
+        assert!(rt; is_named(day));
     }
 }
 
@@ -82,7 +91,9 @@ fn has_constants(rt: HostRuntime) {
 }
 
 // The week of ISO 8601, alone and with its year and day, and the Sundays and Mondays so far.
-fn weeks(date: Date) -> (u8, (i32, u8, Weekday), u8, u8) {
+type Weeks = (u8, (i32, u8, Weekday), u8, u8);
+
+fn weeks(date: Date) -> Weeks {
     (
         date.iso_week(),
         date.to_iso_week_date(),
@@ -91,25 +102,33 @@ fn weeks(date: Date) -> (u8, (i32, u8, Weekday), u8, u8) {
     )
 }
 
+const WEEKS: [((i32, Month, u8), Weeks); 3] = [
+    (
+        (2021, Month::January, 1),
+        (53, (2020, 53, Weekday::Friday), 0, 0),
+    ),
+    (
+        (2018, Month::January, 1),
+        (1, (2018, 1, Weekday::Monday), 0, 1),
+    ),
+    (
+        (9999, Month::December, 31),
+        (52, (9999, 52, Weekday::Friday), 52, 52),
+    ),
+];
+
+// Whether these are the day's weeks, and the day is found by its week of ISO 8601.
+fn has_weeks((year, month, day): (i32, Month, u8), expected: Weeks) -> bool {
+    let date = date_of(year, month, day);
+    let (year, week, weekday) = expected.1;
+    let found = Date::from_iso_week_date(year, week, weekday);
+    (weeks(date), answered(found)) == (expected, date)
+}
+
 #[test]
 fn counts_weeks(rt: HostRuntime) {
-    for (given, expected) in [
-        (
-            date_of(2021, Month::January, 1),
-            (53, (2020, 53, Weekday::Friday), 0, 0),
-        ),
-        (
-            date_of(2018, Month::January, 1),
-            (1, (2018, 1, Weekday::Monday), 0, 1),
-        ),
-        (
-            date_of(9999, Month::December, 31),
-            (52, (9999, 52, Weekday::Friday), 52, 52),
-        ),
-    ] {
-        assert!(rt; weeks(given) == expected);
-        let (year, week, weekday) = given.to_iso_week_date();
-        assert!(rt; Date::from_iso_week_date(year, week, weekday) == Ok(given));
+    for (day, expected) in WEEKS {
+        assert!(rt; has_weeks(day, expected));
     }
 }
 
@@ -153,32 +172,20 @@ fn orders_days(rt: HostRuntime) {
     assert!(rt; before < leap && leap < after && Date::MIN < Date::MAX);
 }
 
-// The day so much later, and so much earlier, by each call.
-fn moved(day: Date, duration: SignedDuration) -> ([Option<Date>; 3], [Option<Date>; 3]) {
-    let (later, earlier) = (day.checked_add(duration), day.checked_sub(duration));
-    let (mut sum, mut difference) = (None, None);
-    if later.is_some() {
-        let mut moved = day;
-        moved += duration;
-        sum = if moved == day + duration {
-            Some(moved)
-        } else {
-            None
-        };
-    }
-    if earlier.is_some() {
-        let mut moved = day;
-        moved -= duration;
-        difference = if moved == day - duration {
-            Some(moved)
-        } else {
-            None
-        };
-    }
-    (
-        [later, Some(day.saturating_add(duration)), sum],
-        [earlier, Some(day.saturating_sub(duration)), difference],
-    )
+// The day so much later by each call, where the calendar has it.
+fn later(day: Date, duration: SignedDuration) -> Option<[Date; 4]> {
+    let later = day.checked_add(duration)?;
+    let mut moved = day;
+    moved += duration;
+    Some([later, day.saturating_add(duration), moved, day + duration])
+}
+
+// Likewise earlier.
+fn earlier(day: Date, duration: SignedDuration) -> Option<[Date; 4]> {
+    let earlier = day.checked_sub(duration)?;
+    let mut moved = day;
+    moved -= duration;
+    Some([earlier, day.saturating_sub(duration), moved, day - duration])
 }
 
 #[test]
@@ -195,38 +202,38 @@ fn moves_by_durations(rt: HostRuntime) {
             date_of(2020, Month::January, 2),
         ),
     ] {
-        let given = moved(day, SignedDuration::seconds(seconds));
-        assert!(rt; given == ([Some(sum); 3], [Some(difference); 3]));
+        let duration = SignedDuration::seconds(seconds);
+        let given = (later(day, duration), earlier(day, duration));
+        assert!(rt; given == (Some([sum; 4]), Some([difference; 4])));
     }
     assert!(rt; (day - before, (before - day).whole_seconds()) == (SignedDuration::DAY, -86_400));
 }
 
-#[test]
-fn keys_hash_maps(rt: HostRuntime) -> Result<(), Fail> {
-    let mut months = HashMap::new(rt.alloc());
+// What a map says of a day under its Julian day, and of one that it does not have.
+fn found_by_hash(alloc: Global) -> Result<[Option<Month>; 2], AllocError> {
+    let mut months = HashMap::new(alloc);
     months.insert(date_of(2024, Month::February, 29), Month::February)?;
     months.insert(Date::MAX, Month::December)?;
     let same = answered(Date::from_julian_day(2_460_370));
-    assert!(rt;
-        (months.get(&same).copied(), months.get(&Date::MIN).copied())
-            == (Some(Month::February), None)
-    );
-    Ok(())
+    Ok([months.get(&same).copied(), months.get(&Date::MIN).copied()])
 }
 
-#[test]
-fn keys_maps_by_order(rt: HostRuntime) -> Result<(), Fail> {
-    let mut lengths = BTreeMap::new(rt.alloc());
+fn found_by_order(alloc: Global) -> Result<Option<u8>, AllocError> {
+    let mut lengths = BTreeMap::new(alloc);
     lengths.insert(Month::March, 31u8)?;
     lengths.insert(Month::February, 29)?;
-    assert!(rt; lengths.get(&Month::March).copied() == Some(31));
-    Ok(())
+    Ok(lengths.get(&Month::March).copied())
+}
+
+fn found_by_weekday(alloc: Global) -> Result<Option<u8>, AllocError> {
+    let mut numbers = HashMap::new(alloc);
+    numbers.insert(Weekday::Monday, 1u8)?;
+    Ok(numbers.get(&Weekday::Sunday).copied())
 }
 
 #[test]
-fn keys_hash_maps_by_weekdays(rt: HostRuntime) -> Result<(), Fail> {
-    let mut numbers = HashMap::new(rt.alloc());
-    numbers.insert(Weekday::Monday, 1u8)?;
-    assert!(rt; numbers.get(&Weekday::Sunday).copied() == None);
-    Ok(())
+fn keys_maps(rt: HostRuntime) {
+    assert!(rt; found_by_hash(rt.alloc()) == Ok([Some(Month::February), None]));
+    assert!(rt; found_by_order(rt.alloc()) == Ok(Some(31)));
+    assert!(rt; found_by_weekday(rt.alloc()) == Ok(None));
 }

@@ -12,31 +12,29 @@ pub fn sample() -> SignedDuration {
 #[test]
 fn counts_units(rt: HostRuntime) {
     let day = SignedDuration::DAY;
-    for (given, expected) in [
-        (SignedDuration::weeks(1), SignedDuration::WEEK),
-        (SignedDuration::days(1), day),
-        (SignedDuration::hours(24), day),
-        (SignedDuration::minutes(1440), day),
-        (SignedDuration::seconds(86_400), day),
-    ] {
-        assert!(rt; given == expected);
-    }
+    let given = [
+        SignedDuration::weeks(1),
+        SignedDuration::days(1),
+        SignedDuration::hours(24),
+        SignedDuration::minutes(1440),
+        SignedDuration::seconds(86_400),
+    ];
+    assert!(rt; given == [SignedDuration::WEEK, day, day, day, day]);
 }
 
 #[test]
 fn counts_fine_units(rt: HostRuntime) {
     let day = SignedDuration::DAY;
-    for (given, expected) in [
-        (SignedDuration::milliseconds(86_400_000), day),
-        (SignedDuration::microseconds(86_400_000_000), day),
-        (SignedDuration::nanoseconds(86_400_000_000_000), day),
-        (SignedDuration::nanoseconds_i128(86_400_000_000_000), day),
-        (SignedDuration::new(86_401, -1_000_000_000), day),
-        (SignedDuration::new(-93_784, -5_000_001), sample()),
-        (SignedDuration::default(), SignedDuration::ZERO),
-    ] {
-        assert!(rt; given == expected);
-    }
+    let given = [
+        SignedDuration::milliseconds(86_400_000),
+        SignedDuration::microseconds(86_400_000_000),
+        SignedDuration::nanoseconds(86_400_000_000_000),
+        SignedDuration::nanoseconds_i128(86_400_000_000_000),
+        SignedDuration::new(86_401, -1_000_000_000),
+        SignedDuration::new(-93_784, -5_000_001),
+        SignedDuration::default(),
+    ];
+    assert!(rt; given == [day, day, day, day, day, sample(), SignedDuration::ZERO]);
 }
 
 // The whole weeks, days, hours, minutes and seconds.
@@ -78,79 +76,77 @@ fn cuts_toward_zero(rt: HostRuntime) {
     );
 }
 
-// Whether it leads back, forward or nowhere, and its length.
-fn signs(duration: SignedDuration) -> (bool, bool, bool, SignedDuration, Duration) {
+// Whether it leads back, forward or nowhere.
+fn signs(duration: SignedDuration) -> (bool, bool, bool) {
     (
         duration.is_negative(),
         duration.is_positive(),
         duration.is_zero(),
-        duration.abs(),
-        duration.unsigned_abs(),
     )
 }
 
+const BACK: (bool, bool, bool) = (true, false, false);
+
 #[test]
 fn tells_signs(rt: HostRuntime) {
-    for (given, expected) in [
-        (
-            sample(),
-            (
-                true,
-                false,
-                false,
+    let (least, none, greatest) = (
+        SignedDuration::MIN,
+        SignedDuration::ZERO,
+        SignedDuration::MAX,
+    );
+    let given = [signs(sample()), signs(none), signs(greatest), signs(least)];
+    assert!(rt; given == [BACK, (false, false, true), (false, true, false), BACK]);
+    assert!(rt; least < sample() && sample() < none);
+}
+
+#[test]
+fn tells_lengths(rt: HostRuntime) {
+    let (least, none, greatest) = (
+        SignedDuration::MIN,
+        SignedDuration::ZERO,
+        SignedDuration::MAX,
+    );
+    let lengths = [sample().abs(), none.abs(), greatest.abs(), least.abs()];
+    assert!(rt;
+        lengths
+            == [
                 SignedDuration::new(93_784, 5_000_001),
-                Duration::new(93_784, 5_000_001),
-            ),
-        ),
-        (
-            SignedDuration::ZERO,
-            (
-                false,
-                false,
-                true,
-                SignedDuration::ZERO,
-                Duration::new(0, 0),
-            ),
-        ),
-        (
-            SignedDuration::MAX,
-            (
-                false,
-                true,
-                false,
-                SignedDuration::MAX,
-                Duration::new(9_223_372_036_854_775_807, 999_999_999),
-            ),
-        ),
-        (
-            SignedDuration::MIN,
-            (
-                true,
-                false,
-                false,
-                SignedDuration::MAX,
-                Duration::new(9_223_372_036_854_775_808, 999_999_999),
-            ),
-        ),
-    ] {
-        assert!(rt; signs(given) == expected);
-    }
-    assert!(rt; SignedDuration::MIN < sample() && sample() < SignedDuration::ZERO);
+                none,
+                greatest,
+                greatest
+            ]
+    );
+}
+
+#[test]
+fn tells_lengths_without_sign(rt: HostRuntime) {
+    let lengths = [
+        sample().unsigned_abs(),
+        SignedDuration::ZERO.unsigned_abs(),
+        SignedDuration::MAX.unsigned_abs(),
+        SignedDuration::MIN.unsigned_abs(),
+    ];
+    let expected = [
+        Duration::new(93_784, 5_000_001),
+        Duration::new(0, 0),
+        Duration::new(9_223_372_036_854_775_807, 999_999_999),
+        Duration::new(9_223_372_036_854_775_808, 999_999_999),
+    ];
+    assert!(rt; lengths == expected);
 }
 
 #[test]
 fn refuses_what_is_no_duration(rt: HostRuntime) {
     let (least, greatest) = (SignedDuration::MIN, SignedDuration::MAX);
-    for (given, expected) in [
-        (greatest.checked_add(NANOSECOND), None),
-        (least.checked_sub(NANOSECOND), None),
-        (least.checked_neg(), None),
-        (greatest.checked_mul(2), None),
-        (least.checked_div(-1), None),
-        (greatest.checked_div(0), None),
-    ] {
-        assert!(rt; given == expected);
-    }
+    let given = [
+        greatest.checked_add(NANOSECOND),
+        least.checked_sub(NANOSECOND),
+        least.checked_neg(),
+        greatest.checked_mul(2),
+        least.checked_div(-1),
+        greatest.checked_div(0),
+    ];
+    assert!(rt; given == [None; 6]);
 }
 
 // The seconds of some overflow, and the whole does not.
@@ -158,46 +154,33 @@ fn refuses_what_is_no_duration(rt: HostRuntime) {
 fn refuses_by_the_whole(rt: HostRuntime) {
     let (least, greatest) = (SignedDuration::MIN, SignedDuration::MAX);
     let back = SignedDuration::nanoseconds(-1);
-    for (given, expected) in [
-        (
-            SignedDuration::try_sum([greatest, NANOSECOND, least].iter().copied()),
-            None,
-        ),
-        (
-            SignedDuration::try_sum([greatest, least, NANOSECOND].iter().copied()),
-            Some(SignedDuration::new(-1, 1)),
-        ),
-        (
-            back.checked_sub(SignedDuration::seconds(i64::MIN)),
-            Some(greatest),
-        ),
-        (
-            least.checked_add(greatest),
-            Some(SignedDuration::seconds(-1)),
-        ),
-        (
-            greatest.checked_neg(),
-            Some(SignedDuration::new(-9_223_372_036_854_775_807, -999_999_999)),
-        ),
-    ] {
-        assert!(rt; given == expected);
-    }
+    let given = [
+        SignedDuration::try_sum([greatest, NANOSECOND, least].iter().copied()),
+        SignedDuration::try_sum([greatest, least, NANOSECOND].iter().copied()),
+        back.checked_sub(SignedDuration::seconds(i64::MIN)),
+        least.checked_add(greatest),
+        greatest.checked_neg(),
+    ];
+    let expected = [
+        None,
+        Some(SignedDuration::new(-1, 1)),
+        Some(greatest),
+        Some(SignedDuration::seconds(-1)),
+        Some(SignedDuration::new(-9_223_372_036_854_775_807, -999_999_999)),
+    ];
+    assert!(rt; given == expected);
 }
 
 #[test]
 fn ends_at_the_ends(rt: HostRuntime) {
     let (least, greatest) = (SignedDuration::MIN, SignedDuration::MAX);
-    for (given, expected) in [
-        (greatest.saturating_add(NANOSECOND), greatest),
-        (least.saturating_sub(NANOSECOND), least),
-        (greatest.saturating_mul(-2), least),
-        (
-            SignedDuration::nanoseconds(-1).saturating_sub(least),
-            greatest,
-        ),
-    ] {
-        assert!(rt; given == expected);
-    }
+    let given = [
+        greatest.saturating_add(NANOSECOND),
+        least.saturating_sub(NANOSECOND),
+        greatest.saturating_mul(-2),
+        SignedDuration::nanoseconds(-1).saturating_sub(least),
+    ];
+    assert!(rt; given == [greatest, least, least, greatest]);
 }
 
 #[test]
@@ -209,13 +192,10 @@ fn adds_and_subtracts(rt: HostRuntime) {
     let (mut sum, mut difference) = (second, second);
     sum += sample;
     difference -= sample;
-    for (given, milliseconds) in [
-        (second + sample, -500),
-        (second - sample, 2500),
-        (-sample, 1500),
-        (sum, -500),
-        (difference, 2500),
-    ] {
-        assert!(rt; given == SignedDuration::milliseconds(milliseconds));
-    }
+    let (less, more) = (
+        SignedDuration::milliseconds(-500),
+        SignedDuration::milliseconds(2500),
+    );
+    assert!(rt; [second + sample, second - sample, sum, difference] == [less, more, less, more]);
+    assert!(rt; -sample == SignedDuration::milliseconds(1500));
 }

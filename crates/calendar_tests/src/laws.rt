@@ -6,49 +6,58 @@ use std::cmp::Ordering;
 
 #[test]
 fn laws_of_dates(rt: HostRuntime) {
-    laws::views();
-    laws::both_ends();
-    laws::order_of_days();
     let leap = dates::date_of(2024, Month::February, 29);
-    for (given, expected) in [
-        (laws::day_of_calendar_date(leap), Ok(leap)),
-        (laws::day_of_ordinal_date(leap), Ok(leap)),
-        (laws::day_of_iso_week_date(leap), Ok(leap)),
-        (laws::day_of_julian_day(leap), Ok(leap)),
-    ] {
-        assert!(rt; given == expected);
-    }
-    assert!(rt; laws::day_and_back(leap, SignedDuration::WEEK) == Some(leap));
-    assert!(rt; laws::day_at_difference(leap, Date::MIN) == Some(Date::MIN));
-    assert!(rt; laws::julian_day_of_day(2_451_545) == Some(2_451_545));
-    assert!(rt; laws::ends_of_calendar() == [Date::MIN, Date::MAX]);
-    assert!(rt; Ok(laws::day_of_unix_epoch()) == Date::from_calendar_date(1970, Month::January, 1));
-    assert!(rt;
-        laws::iso_week_date_of_day(2024, 9, Weekday::Thursday) == Some((2024, 9, Weekday::Thursday))
-    );
+    let found = [
+        laws::day_of_calendar_date(leap),
+        laws::day_of_ordinal_date(leap),
+        laws::day_of_iso_week_date(leap),
+        laws::day_of_julian_day(leap),
+    ];
+    assert!(rt; found == [Ok(leap), Ok(leap), Ok(leap), Ok(leap)]);
+    let led = [
+        laws::day_and_back(leap, SignedDuration::WEEK),
+        laws::day_at_difference(leap, Date::MIN),
+    ];
+    assert!(rt; led == [Some(leap), Some(Date::MIN)]);
 }
 
 #[test]
-fn laws_of_months_and_times(rt: HostRuntime) {
+fn laws_of_views(rt: HostRuntime) {
+    laws::views();
+    laws::both_ends();
+    laws::order_of_days();
+    let week_date = (2024, 9, Weekday::Thursday);
+    assert!(rt; laws::iso_week_date_of_day(2024, 9, Weekday::Thursday) == Some(week_date));
+    assert!(rt; laws::julian_day_of_day(2_451_545) == Some(2_451_545));
+    assert!(rt; laws::ends_of_calendar() == [Date::MIN, Date::MAX]);
+    assert!(rt; Ok(laws::day_of_unix_epoch()) == Date::from_calendar_date(1970, Month::January, 1));
+}
+
+#[test]
+fn laws_of_months_and_offsets(rt: HostRuntime) {
     assert!(rt; laws::order_of_months(Month::May, Month::June) == Ordering::Less);
-    assert!(rt;
-        (
-            laws::month_and_back(Month::May, 200),
-            laws::weekday_and_back(Weekday::Sunday, 200)
-        ) == (Month::May, Weekday::Sunday)
+    let back = (
+        laws::month_and_back(Month::May, 200),
+        laws::weekday_and_back(Weekday::Sunday, 200),
     );
+    assert!(rt; back == (Month::May, Weekday::Sunday));
     let offset = UtcOffset::from_hms(-3, 30, 0).unwrap_or(UtcOffset::UTC);
     assert!(rt; laws::offset_of_whole_seconds(offset) == Ok(offset));
     assert!(rt; [times::offset_of_utc(), times::turned_twice(offset)] == [UtcOffset::UTC, offset]);
+}
+
+#[test]
+fn laws_of_times(rt: HostRuntime) {
     let sample = Time::from_seconds_nanoseconds(84_050, 123_456_789);
     let later = Time::from_seconds_nanoseconds(1250, 0);
-    assert!(rt; times::ends_of_day() == [Time::MIDNIGHT, Time::MAX]);
-    assert!(rt;
-        [
-            times::led_by_duration_until(sample, later),
-            times::moved_and_back(sample, SignedDuration::MIN)
-        ] == [later, sample]
-    );
+    let [first, last] = times::ends_of_day();
+    let led = [
+        first,
+        last,
+        times::led_by_duration_until(sample, later),
+        times::moved_and_back(sample, SignedDuration::MIN),
+    ];
+    assert!(rt; led == [Time::MIDNIGHT, Time::MAX, later, sample]);
 }
 
 #[test]

@@ -6,22 +6,22 @@ use calendar::{
 
 #[test]
 fn months(rt: HostRuntime) {
-    for (given, expected) in [
-        (
-            Month::try_from(2).unwrap_or(Month::January),
-            Month::February,
-        ),
-        (Month::December.next(), Month::January),
-        (Month::January.previous(), Month::December),
-        (Month::March.nth_next(255), Month::June),
-        (Month::June.nth_prev(255), Month::March),
-    ] {
-        assert!(rt; given == expected);
-    }
-    assert!(rt; Month::try_from(13) == Err(ComponentRange::unconditional(ComponentName::Month)));
-    assert!(rt; Month::try_from(0).is_err());
+    let given = [
+        Month::December.next(),
+        Month::January.previous(),
+        Month::March.nth_next(255),
+        Month::June.nth_prev(255),
+    ];
+    assert!(rt; given == [Month::January, Month::December, Month::June, Month::March]);
     assert!(rt; (u8::from(Month::September), Month::February.length(2024)) == (9, 29));
     assert!(rt; Month::April < Month::August && Month::October > Month::August);
+}
+
+#[test]
+fn months_by_number(rt: HostRuntime) {
+    assert!(rt; Month::try_from(2) == Ok(Month::February));
+    assert!(rt; Month::try_from(13) == Err(ComponentRange::unconditional(ComponentName::Month)));
+    assert!(rt; Month::try_from(0).is_err());
 }
 
 fn numbers(weekday: Weekday) -> (u8, u8, u8, u8) {
@@ -35,106 +35,123 @@ fn numbers(weekday: Weekday) -> (u8, u8, u8, u8) {
 
 #[test]
 fn weekdays(rt: HostRuntime) {
-    for (given, expected) in [
-        (Weekday::from_number(2), Weekday::Wednesday),
-        (Weekday::Sunday.next(), Weekday::Monday),
-        (Weekday::Monday.previous(), Weekday::Sunday),
-        (Weekday::Tuesday.nth_next(255), Weekday::Friday),
-        (Weekday::Friday.nth_prev(255), Weekday::Tuesday),
-    ] {
-        assert!(rt; given == expected);
-    }
-    for (weekday, expected) in [
-        (Weekday::Monday, (1, 0, 2, 1)),
-        (Weekday::Saturday, (6, 5, 7, 6)),
-        (Weekday::Sunday, (7, 6, 1, 0)),
-    ] {
+    let given = [
+        Weekday::from_number(2),
+        Weekday::Sunday.next(),
+        Weekday::Monday.previous(),
+        Weekday::Tuesday.nth_next(255),
+        Weekday::Friday.nth_prev(255),
+    ];
+    assert!(rt;
+        given
+            == [
+                Weekday::Wednesday,
+                Weekday::Monday,
+                Weekday::Sunday,
+                Weekday::Friday,
+                Weekday::Tuesday
+            ]
+    );
+}
+
+const NUMBERS: [(Weekday, (u8, u8, u8, u8)); 3] = [
+    (Weekday::Monday, (1, 0, 2, 1)),
+    (Weekday::Saturday, (6, 5, 7, 6)),
+    (Weekday::Sunday, (7, 6, 1, 0)),
+];
+
+#[test]
+fn numbers_weekdays(rt: HostRuntime) {
+    for (weekday, expected) in NUMBERS {
         assert!(rt; numbers(weekday) == expected);
     }
 }
 
-// The month and the day of the week that a text names.
-fn named(
-    text: &str,
-) -> (
+type Named = (
     Result<Month, InvalidVariant>,
     Result<Weekday, InvalidVariant>,
-) {
+);
+
+// The month and the day of the week that a text names.
+fn named(text: &str) -> Named {
     (text.parse::<Month>(), text.parse::<Weekday>())
 }
 
-const MONTHS: [(&str, Month); 4] = [
-    ("January", Month::January),
-    ("May", Month::May),
-    ("September", Month::September),
-    ("December", Month::December),
+const NEITHER: Named = (Err(InvalidVariant), Err(InvalidVariant));
+
+const NAMES: [(&str, Named); 14] = [
+    ("January", (Ok(Month::January), Err(InvalidVariant))),
+    ("May", (Ok(Month::May), Err(InvalidVariant))),
+    ("September", (Ok(Month::September), Err(InvalidVariant))),
+    ("December", (Ok(Month::December), Err(InvalidVariant))),
+    ("Monday", (Err(InvalidVariant), Ok(Weekday::Monday))),
+    ("Wednesday", (Err(InvalidVariant), Ok(Weekday::Wednesday))),
+    ("Sunday", (Err(InvalidVariant), Ok(Weekday::Sunday))),
+    ("", NEITHER),
+    ("may", NEITHER),
+    ("May ", NEITHER),
+    ("Jan", NEITHER),
+    ("Monda", NEITHER),
+    ("monday", NEITHER),
+    ("Mondays", NEITHER),
 ];
 
-const WEEKDAYS: [(&str, Weekday); 3] = [
-    ("Monday", Weekday::Monday),
-    ("Wednesday", Weekday::Wednesday),
-    ("Sunday", Weekday::Sunday),
-];
-
 #[test]
-fn names_months(rt: HostRuntime) {
-    for (text, month) in MONTHS {
-        assert!(rt; named(text) == (Ok(month), Err(InvalidVariant)));
-    }
-}
-
-#[test]
-fn names_weekdays(rt: HostRuntime) {
-    for (text, weekday) in WEEKDAYS {
-        assert!(rt; named(text) == (Err(InvalidVariant), Ok(weekday)));
-    }
-}
-
-#[test]
-fn names_nothing_else(rt: HostRuntime) {
-    for text in ["", "may", "May ", "Jan", "Monda", "monday", "Mondays"] {
-        assert!(rt; named(text) == (Err(InvalidVariant), Err(InvalidVariant)));
+fn names(rt: HostRuntime) {
+    for (text, expected) in NAMES {
+        assert!(rt; named(text) == expected);
     }
 }
 
 #[test]
 fn walks_months(rt: HostRuntime) {
-    let (mut months, mut turned) = (
-        Month::iter_from(Month::November),
-        RevMonthIter::new(Month::April),
-    );
-    for (given, expected) in [
-        (months.next(), Month::November),
-        (months.next(), Month::December),
-        (months.nth(25), Month::February),
-        (months.next(), Month::March),
-        (months.rev().next(), Month::April),
-        (turned.next(), Month::April),
-        (turned.nth(3), Month::December),
-        (turned.rev().next(), Month::November),
-        (RevMonthIter::new(Month::June).nth(1), Month::May),
-    ] {
-        assert!(rt; given == Some(expected));
-    }
+    let mut months = Month::iter_from(Month::November);
+    let given = [
+        months.next(),
+        months.next(),
+        months.nth(25),
+        months.next(),
+        months.rev().next(),
+    ];
+    let expected = [
+        Month::November,
+        Month::December,
+        Month::February,
+        Month::March,
+        Month::April,
+    ];
+    assert!(rt; given == expected.map(Some));
+}
+
+#[test]
+fn walks_months_back(rt: HostRuntime) {
+    let mut turned = RevMonthIter::new(Month::April);
+    let given = [
+        turned.next(),
+        turned.nth(3),
+        turned.rev().next(),
+        RevMonthIter::new(Month::June).nth(1),
+    ];
+    let expected = [Month::April, Month::December, Month::November, Month::May];
+    assert!(rt; given == expected.map(Some));
 }
 
 #[test]
 fn tells_of_all_months(rt: HostRuntime) {
     let (first, last) = (Some(Month::January), Some(Month::December));
-    assert!(rt;
-        (
-            MonthIter::new(Month::June).min(),
-            RevMonthIter::new(Month::June).min()
-        ) == (first, first)
+    let (months, turned) = (MonthIter::new(Month::June), RevMonthIter::new(Month::June));
+    assert!(rt; [months.min(), turned.min()] == [first; 2]);
+    let (months, turned) = (MonthIter::new(Month::June), RevMonthIter::new(Month::June));
+    assert!(rt; [months.max(), turned.max()] == [last; 2]);
+    let (months, turned) = (
+        MonthIter::new(Month::January),
+        RevMonthIter::new(Month::December),
     );
-    assert!(rt;
-        (
-            MonthIter::new(Month::June).max(),
-            RevMonthIter::new(Month::June).max()
-        ) == (last, last)
-    );
-    assert!(rt; !MonthIter::new(Month::January).is_sorted());
-    assert!(rt; !RevMonthIter::new(Month::December).is_sorted());
+    assert!(rt; [months.is_sorted(), turned.is_sorted()] == [false; 2]);
+}
+
+#[test]
+fn goes_round_the_year(rt: HostRuntime) {
     let junes = MonthIter::new(Month::June)
         .take(13)
         .filter(|month| *month == Month::June);
@@ -143,20 +160,36 @@ fn tells_of_all_months(rt: HostRuntime) {
 
 #[test]
 fn walks_weekdays(rt: HostRuntime) {
-    let (mut weekdays, mut turned) = (
-        Weekday::iter_from(Weekday::Saturday),
-        RevWeekdayIter::new(Weekday::Tuesday),
-    );
-    for (given, expected) in [
-        (weekdays.next(), Weekday::Saturday),
-        (weekdays.nth(8), Weekday::Monday),
-        (weekdays.rev().next(), Weekday::Tuesday),
-        (turned.next(), Weekday::Tuesday),
-        (turned.nth(1), Weekday::Sunday),
-        (turned.rev().next(), Weekday::Saturday),
-        (WeekdayIter::new(Weekday::Monday).nth(6), Weekday::Sunday),
-        (RevWeekdayIter::new(Weekday::Monday).nth(1), Weekday::Sunday),
-    ] {
-        assert!(rt; given == Some(expected));
-    }
+    let mut weekdays = Weekday::iter_from(Weekday::Saturday);
+    let given = [
+        weekdays.next(),
+        weekdays.nth(8),
+        weekdays.rev().next(),
+        WeekdayIter::new(Weekday::Monday).nth(6),
+    ];
+    let expected = [
+        Weekday::Saturday,
+        Weekday::Monday,
+        Weekday::Tuesday,
+        Weekday::Sunday,
+    ];
+    assert!(rt; given == expected.map(Some));
+}
+
+#[test]
+fn walks_weekdays_back(rt: HostRuntime) {
+    let mut turned = RevWeekdayIter::new(Weekday::Tuesday);
+    let given = [
+        turned.next(),
+        turned.nth(1),
+        turned.rev().next(),
+        RevWeekdayIter::new(Weekday::Monday).nth(1),
+    ];
+    let expected = [
+        Weekday::Tuesday,
+        Weekday::Sunday,
+        Weekday::Saturday,
+        Weekday::Sunday,
+    ];
+    assert!(rt; given == expected.map(Some));
 }

@@ -4,50 +4,37 @@ use calendar::SignedDuration;
 #[test]
 fn multiplies(rt: HostRuntime) {
     let half = SignedDuration::milliseconds(1500);
-    for (given, milliseconds) in [
-        (half * -3i8, -4500),
-        (half * -3i16, -4500),
-        (half * -3i32, -4500),
-        (half * 3u8, 4500),
-        (half * 3u16, 4500),
-        (half * 3u32, 4500),
-        (half.checked_mul(-3).unwrap_or(half), -4500),
-    ] {
-        assert!(rt; given == SignedDuration::milliseconds(milliseconds));
-    }
+    let (forward, back) = (
+        SignedDuration::milliseconds(4500),
+        SignedDuration::milliseconds(-4500),
+    );
+    assert!(rt; [half * -3i8, half * -3i16, half * -3i32] == [back; 3]);
+    assert!(rt; [half * 3u8, half * 3u16, half * 3u32] == [forward; 3]);
+    assert!(rt; (half.checked_mul(-3), half.saturating_mul(-3)) == (Some(back), back));
 }
 
 #[test]
 fn multiplies_numbers(rt: HostRuntime) {
     let half = SignedDuration::milliseconds(1500);
-    for (given, milliseconds) in [
-        (-3i8 * half, -4500),
-        (-3i16 * half, -4500),
-        (-3i32 * half, -4500),
-        (3u8 * half, 4500),
-        (3u16 * half, 4500),
-        (3u32 * half, 4500),
-        (half.saturating_mul(-3), -4500),
-    ] {
-        assert!(rt; given == SignedDuration::milliseconds(milliseconds));
-    }
+    let (forward, back) = (
+        SignedDuration::milliseconds(4500),
+        SignedDuration::milliseconds(-4500),
+    );
+    assert!(rt; [-3i8 * half, -3i16 * half, -3i32 * half] == [back; 3]);
+    assert!(rt; [3u8 * half, 3u16 * half, 3u32 * half] == [forward; 3]);
 }
 
 #[test]
 fn divides(rt: HostRuntime) {
     let whole = SignedDuration::nanoseconds(-2_000_000_001);
-    for (given, nanoseconds) in [
-        (whole / -3i8, 666_666_667),
-        (whole / -3i16, 666_666_667),
-        (whole / -3i32, 666_666_667),
-        (whole / 3u8, -666_666_667),
-        (whole / 3u16, -666_666_667),
-        (whole / 3u32, -666_666_667),
-        (whole.checked_div(-3).unwrap_or(whole), 666_666_667),
-        (SignedDuration::seconds(7) / 2i32, 3_500_000_000),
-    ] {
-        assert!(rt; given == SignedDuration::nanoseconds(nanoseconds));
-    }
+    let (forward, back) = (
+        SignedDuration::nanoseconds(666_666_667),
+        SignedDuration::nanoseconds(-666_666_667),
+    );
+    assert!(rt; [whole / -3i8, whole / -3i16, whole / -3i32] == [forward; 3]);
+    assert!(rt; [whole / 3u8, whole / 3u16, whole / 3u32] == [back; 3]);
+    assert!(rt; whole.checked_div(-3) == Some(forward));
+    assert!(rt; SignedDuration::seconds(7) / 2i32 == SignedDuration::nanoseconds(3_500_000_000));
 }
 
 #[test]

@@ -22,50 +22,89 @@ fn shown<T: fmt::Display + fmt::Debug + Drop>(
     format!(in alloc; "{value} {value:?}")
 }
 
+// Whether each value has its text, with the one for debugging behind it.
+fn all_print<T: fmt::Display + fmt::Debug + Copy + Drop>(
+    alloc: Global,
+    rows: &[(T, &str)],
+) -> bool {
+    for (value, text) in rows {
+        if !is_text(shown(alloc, *value), text) {
+            return false;
+        }
+    }
+    true
+}
+
 #[test]
 fn prints_dates(rt: HostRuntime) {
-    for (year, month, day, text) in [
-        (2024, Month::June, 9, "2024-06-09 2024-06-09"),
-        (0, Month::December, 31, "0000-12-31 0000-12-31"),
-        (-1, Month::January, 1, "-0001-01-01 -0001-01-01"),
-        (10_000, Month::January, 1, "+10000-01-01 +10000-01-01"),
-        (-999_999, Month::January, 1, "-999999-01-01 -999999-01-01"),
-    ] {
-        let answer = shown(rt.alloc(), dates::date_of(year, month, day));
-        assert!(rt; is_text(answer, text));
-    }
+    let rows = [
+        (
+            dates::date_of(2024, Month::June, 9),
+            "2024-06-09 2024-06-09",
+        ),
+        (
+            dates::date_of(0, Month::December, 31),
+            "0000-12-31 0000-12-31",
+        ),
+        (
+            dates::date_of(-1, Month::January, 1),
+            "-0001-01-01 -0001-01-01",
+        ),
+        (
+            dates::date_of(10_000, Month::January, 1),
+            "+10000-01-01 +10000-01-01",
+        ),
+        (
+            dates::date_of(-999_999, Month::January, 1),
+            "-999999-01-01 -999999-01-01",
+        ),
+    ];
+    assert!(rt; all_print(rt.alloc(), &rows));
+}
+
+#[test]
+fn prints_days_of_weeks(rt: HostRuntime) {
     let saturday = dates::answered(Date::from_iso_week_date(9999, 52, Weekday::Saturday));
     assert!(rt; is_text(saturday.to_string(rt.alloc()), "+10000-01-01"));
 }
 
 #[test]
 fn prints_times(rt: HostRuntime) {
-    for (second, nanosecond, text) in [
-        (0, 0, "0:00:00.0 0:00:00.0"),
-        (25_509, 1000, "7:05:09.000001 7:05:09.000001"),
-        (84_050, 520_000_000, "23:20:50.52 23:20:50.52"),
-        (86_399, 999_999_999, "23:59:59.999999999 23:59:59.999999999"),
-    ] {
-        let time = Time::from_seconds_nanoseconds(second, nanosecond);
-        assert!(rt; is_text(shown(rt.alloc(), time), text));
-    }
+    let rows = [
+        (Time::from_seconds_nanoseconds(0, 0), "0:00:00.0 0:00:00.0"),
+        (
+            Time::from_seconds_nanoseconds(25_509, 1000),
+            "7:05:09.000001 7:05:09.000001",
+        ),
+        (
+            Time::from_seconds_nanoseconds(84_050, 520_000_000),
+            "23:20:50.52 23:20:50.52",
+        ),
+        (
+            Time::from_seconds_nanoseconds(86_399, 999_999_999),
+            "23:59:59.999999999 23:59:59.999999999",
+        ),
+    ];
+    assert!(rt; all_print(rt.alloc(), &rows));
+}
+
+fn offset_of(seconds: i32) -> UtcOffset {
+    UtcOffset::from_whole_seconds(seconds).unwrap_or(UtcOffset::UTC)
 }
 
 #[test]
 fn prints_offsets(rt: HostRuntime) {
-    for (seconds, text) in [
-        (0, "+00:00:00 +00:00:00"),
-        (-1805, "-00:30:05 -00:30:05"),
-        (93_599, "+25:59:59 +25:59:59"),
-    ] {
-        let offset = UtcOffset::from_whole_seconds(seconds).unwrap_or(UtcOffset::UTC);
-        assert!(rt; is_text(shown(rt.alloc(), offset), text));
-    }
+    let rows = [
+        (offset_of(0), "+00:00:00 +00:00:00"),
+        (offset_of(-1805), "-00:30:05 -00:30:05"),
+        (offset_of(93_599), "+25:59:59 +25:59:59"),
+    ];
+    assert!(rt; all_print(rt.alloc(), &rows));
 }
 
 #[test]
 fn prints_durations(rt: HostRuntime) {
-    for (duration, text) in [
+    let rows = [
         (durations::sample(), "-1d2h3m4s5ms1ns -1d2h3m4s5ms1ns"),
         (SignedDuration::ZERO, "0s 0s"),
         (SignedDuration::WEEK, "7d 7d"),
@@ -77,32 +116,27 @@ fn prints_durations(rt: HostRuntime) {
             SignedDuration::MAX,
             "106751991167300d15h30m7s999ms999µs999ns 106751991167300d15h30m7s999ms999µs999ns",
         ),
-    ] {
-        assert!(rt; is_text(shown(rt.alloc(), duration), text));
-    }
+    ];
+    assert!(rt; all_print(rt.alloc(), &rows));
 }
 
-#[test]
-fn prints_months(rt: HostRuntime) {
-    for (month, text) in [
-        (Month::January, "January January"),
-        (Month::May, "May May"),
-        (Month::September, "September September"),
-        (Month::December, "December December"),
-    ] {
-        assert!(rt; is_text(shown(rt.alloc(), month), text));
-    }
-}
+const MONTHS: [(Month, &str); 4] = [
+    (Month::January, "January January"),
+    (Month::May, "May May"),
+    (Month::September, "September September"),
+    (Month::December, "December December"),
+];
+
+const WEEKDAYS: [(Weekday, &str); 3] = [
+    (Weekday::Monday, "Monday Monday"),
+    (Weekday::Wednesday, "Wednesday Wednesday"),
+    (Weekday::Sunday, "Sunday Sunday"),
+];
 
 #[test]
-fn prints_weekdays(rt: HostRuntime) {
-    for (weekday, text) in [
-        (Weekday::Monday, "Monday Monday"),
-        (Weekday::Wednesday, "Wednesday Wednesday"),
-        (Weekday::Sunday, "Sunday Sunday"),
-    ] {
-        assert!(rt; is_text(shown(rt.alloc(), weekday), text));
-    }
+fn prints_months_and_weekdays(rt: HostRuntime) {
+    assert!(rt; all_print(rt.alloc(), &MONTHS));
+    assert!(rt; all_print(rt.alloc(), &WEEKDAYS));
 }
 
 fn displays<T: fmt::Display + Drop>(alloc: Global, value: T, text: &str) -> bool {
@@ -133,13 +167,12 @@ fn prints_refusals(rt: HostRuntime) {
 #[test]
 fn prints_a_date_under_widths(rt: HostRuntime) {
     let day = dates::date_of(-44, Month::March, 15);
-    let alloc = rt.alloc();
+    let answer = format!(in rt.alloc(); "[{day:13}|{day:<12}|{day:>12}|{day:*^14}|{day:3}]");
     assert!(rt;
-        is_text(format!(in alloc; "{day:13}"), "-0044-03-15  ")
-            && is_text(format!(in alloc; "{day:<12}"), "-0044-03-15 ")
-            && is_text(format!(in alloc; "{day:>12}"), " -0044-03-15")
-            && is_text(format!(in alloc; "{day:*^14}"), "*-0044-03-15**")
-            && is_text(format!(in alloc; "{day:3}"), "-0044-03-15")
+        is_text(
+            answer,
+            "[-0044-03-15  |-0044-03-15 | -0044-03-15|*-0044-03-15**|-0044-03-15]"
+        )
     );
 }
 
@@ -160,38 +193,27 @@ fn prints_dates_under_a_width(rt: HostRuntime) {
 #[test]
 fn prints_a_time_under_widths(rt: HostRuntime) {
     let time = Time::from_seconds_nanoseconds(25_500, 250_000_000);
-    let alloc = rt.alloc();
+    let answer = format!(in rt.alloc(); "[{time:12}|{time:>12}|{time:*^13}|{time:3}]");
     assert!(rt;
-        is_text(format!(in alloc; "{time:12}"), "7:05:00.25  ")
-            && is_text(format!(in alloc; "{time:>12}"), "  7:05:00.25")
-            && is_text(format!(in alloc; "{time:*^13}"), "*7:05:00.25**")
-            && is_text(format!(in alloc; "{time:3}"), "7:05:00.25")
+        is_text(
+            answer,
+            "[7:05:00.25  |  7:05:00.25|*7:05:00.25**|7:05:00.25]"
+        )
     );
 }
 
 #[test]
 fn prints_an_offset_under_widths(rt: HostRuntime) {
     let offset = UtcOffset::from_hms(-5, -30, 0).unwrap_or(UtcOffset::UTC);
-    let alloc = rt.alloc();
-    assert!(rt;
-        is_text(format!(in alloc; "{offset:11}"), "-05:30:00  ")
-            && is_text(format!(in alloc; "{offset:>11}"), "  -05:30:00")
-            && is_text(format!(in alloc; "{offset:=^12}"), "=-05:30:00==")
-            && is_text(format!(in alloc; "{offset:9}"), "-05:30:00")
-    );
+    let answer = format!(in rt.alloc(); "[{offset:11}|{offset:>11}|{offset:=^12}|{offset:9}]");
+    assert!(rt; is_text(answer, "[-05:30:00  |  -05:30:00|=-05:30:00==|-05:30:00]"));
 }
 
 #[test]
 fn prints_durations_under_widths(rt: HostRuntime) {
     let (short, none) = (SignedDuration::milliseconds(-1500), SignedDuration::ZERO);
-    let alloc = rt.alloc();
-    assert!(rt;
-        is_text(format!(in alloc; "{short:9}"), "-1s500ms ")
-            && is_text(format!(in alloc; "{short:>10}"), "  -1s500ms")
-            && is_text(format!(in alloc; "{short:.^11}"), ".-1s500ms..")
-            && is_text(format!(in alloc; "{none:>4}"), "  0s")
-            && is_text(format!(in alloc; "{none:2}"), "0s")
-    );
+    let answer = format!(in rt.alloc(); "[{short:9}|{short:>10}|{short:.^11}|{none:>4}|{none:2}]");
+    assert!(rt; is_text(answer, "[-1s500ms |  -1s500ms|.-1s500ms..|  0s|0s]"));
 }
 
 // A width counts characters, of which `µ` is one.

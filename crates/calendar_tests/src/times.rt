@@ -39,42 +39,41 @@ fn one_by_one(time: Time) -> (u8, u8, u8, u16, u32, u32, u32, u64) {
 
 #[test]
 fn tells_parts(rt: HostRuntime) {
-    assert!(rt;
-        together(sample())
-            == (
-                (23, 20, 50),
-                (23, 20, 50, 123),
-                (23, 20, 50, 123_456),
-                (23, 20, 50, 123_456_789),
-            )
+    let expected = (
+        (23, 20, 50),
+        (23, 20, 50, 123),
+        (23, 20, 50, 123_456),
+        (23, 20, 50, 123_456_789),
     );
-    assert!(rt;
-        one_by_one(sample())
-            == (
-                23,
-                20,
-                50,
-                123,
-                123_456,
-                123_456_789,
-                84_050,
-                84_050_123_456_789
-            )
-    );
+    assert!(rt; together(sample()) == expected);
+}
+
+#[test]
+fn tells_parts_one_by_one(rt: HostRuntime) {
     let other = Time::from_seconds_nanoseconds(84_050, 520_000_000);
-    assert!(rt;
-        one_by_one(other)
-            == (
-                23,
-                20,
-                50,
-                520,
-                520_000,
-                520_000_000,
-                84_050,
-                84_050_520_000_000
-            )
-    );
+    let expected = [
+        (
+            23,
+            20,
+            50,
+            123,
+            123_456,
+            123_456_789,
+            84_050,
+            84_050_123_456_789,
+        ),
+        (
+            23,
+            20,
+            50,
+            520,
+            520_000,
+            520_000_000,
+            84_050,
+            84_050_520_000_000,
+        ),
+    ];
+    assert!(rt; [one_by_one(sample()), one_by_one(other)] == expected);
 }
 
 // The second of the day and the nanosecond past it.
@@ -132,15 +131,21 @@ fn replaces_parts(rt: HostRuntime) {
 #[test]
 fn cuts_times(rt: HostRuntime) {
     let sample = sample();
-    for (given, expected) in [
-        (sample.truncate_to_hour(), (82_800, 0)),
-        (sample.truncate_to_minute(), (84_000, 0)),
-        (sample.truncate_to_second(), (84_050, 0)),
-        (sample.truncate_to_millisecond(), (84_050, 123_000_000)),
-        (sample.truncate_to_microsecond(), (84_050, 123_456_000)),
-    ] {
-        assert!(rt; place(given) == expected);
-    }
+    let given = [
+        place(sample.truncate_to_hour()),
+        place(sample.truncate_to_minute()),
+        place(sample.truncate_to_second()),
+        place(sample.truncate_to_millisecond()),
+        place(sample.truncate_to_microsecond()),
+    ];
+    let expected = [
+        (82_800, 0),
+        (84_000, 0),
+        (84_050, 0),
+        (84_050, 123_000_000),
+        (84_050, 123_456_000),
+    ];
+    assert!(rt; given == expected);
     assert!(rt; Time::MIDNIGHT < sample && sample < Time::MAX);
 }
 
@@ -152,39 +157,50 @@ fn moves_round_the_clock(rt: HostRuntime) {
     moved += hour;
     let mut back = later;
     back -= hour;
-    for (given, expected) in [
-        (sample + hour, later),
-        (later - hour, sample),
-        (sample + SignedDuration::DAY, sample),
-        (moved, later),
-        (back, sample),
-    ] {
-        assert!(rt; given == expected);
-    }
-    for (given, seconds) in [
-        (sample.duration_until(later), 3600),
-        (later.duration_since(sample), 3600),
-        (later.duration_until(sample), 82_800),
-        (later - sample, -82_800),
-    ] {
-        assert!(rt; given == SignedDuration::seconds(seconds));
-    }
+    let given = [
+        sample + hour,
+        moved,
+        later - hour,
+        back,
+        sample + SignedDuration::DAY,
+    ];
+    assert!(rt; given == [later, later, sample, sample, sample]);
+}
+
+#[test]
+fn counts_round_the_clock(rt: HostRuntime) {
+    let later = Time::from_seconds_nanoseconds(1250, 123_456_789);
+    let given = [
+        sample().duration_until(later),
+        later.duration_since(sample()),
+        later.duration_until(sample()),
+        later - sample(),
+    ];
+    let hour = SignedDuration::seconds(3600);
+    let (on, over) = (
+        SignedDuration::seconds(82_800),
+        SignedDuration::seconds(-82_800),
+    );
+    assert!(rt; given == [hour, hour, on, over]);
 }
 
 #[test]
 fn moves_over_midnight(rt: HostRuntime) {
     let (first, last) = (Time::MIDNIGHT, Time::MAX);
     let (on, back) = (SignedDuration::NANOSECOND, SignedDuration::nanoseconds(-1));
-    for (given, expected) in [
-        (last.adjusting_add(on), (DateAdjustment::Next, first)),
-        (first.adjusting_sub(on), (DateAdjustment::Previous, last)),
-        (first.adjusting_add(back), (DateAdjustment::Previous, last)),
-        (last.adjusting_sub(back), (DateAdjustment::Next, first)),
-        (
-            first.adjusting_add(SignedDuration::WEEK),
-            (DateAdjustment::None, first),
-        ),
-    ] {
-        assert!(rt; given == expected);
-    }
+    let given = [
+        last.adjusting_add(on),
+        last.adjusting_sub(back),
+        first.adjusting_sub(on),
+        first.adjusting_add(back),
+        first.adjusting_add(SignedDuration::WEEK),
+    ];
+    let expected = [
+        (DateAdjustment::Next, first),
+        (DateAdjustment::Next, first),
+        (DateAdjustment::Previous, last),
+        (DateAdjustment::Previous, last),
+        (DateAdjustment::None, first),
+    ];
+    assert!(rt; given == expected);
 }

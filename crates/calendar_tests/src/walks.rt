@@ -8,52 +8,65 @@ fn walks_days_from_both_ends(rt: HostRuntime) {
     let before = date_of(2024, Month::February, 28);
     let leap = date_of(2024, Month::February, 29);
     let after = date_of(2024, Month::March, 1);
-    let (mut days, mut back) = (before.iter_to(after), before.iter_to(after));
-    assert!(rt; (days.len(), back.size_hint()) == (3, (3, Some(3))));
-    for (given, expected) in [
-        (days.nth(1), Some(leap)),
-        (days.next(), Some(after)),
-        (days.next(), None),
-        (days.next_back(), None),
-        (back.next_back(), Some(after)),
-        (back.nth_back(1), Some(before)),
-        (back.nth_back(0), None),
-    ] {
-        assert!(rt; given == expected);
-    }
+    let mut days = before.iter_to(after);
+    assert!(rt; days.len() == 3);
+    let given = [days.nth(1), days.next(), days.next(), days.next_back()];
+    assert!(rt; given == [Some(leap), Some(after), None, None]);
+}
+
+#[test]
+fn walks_days_back(rt: HostRuntime) {
+    let before = date_of(2024, Month::February, 28);
+    let after = date_of(2024, Month::March, 1);
+    let mut back = before.iter_to(after);
+    assert!(rt; back.size_hint() == (3, Some(3)));
+    let given = [back.next_back(), back.nth_back(1), back.nth_back(0)];
+    assert!(rt; given == [Some(after), Some(before), None]);
 }
 
 #[test]
 fn walks_days_to_an_end(rt: HostRuntime) {
     let before = date_of(2024, Month::February, 28);
     let after = date_of(2024, Month::March, 1);
-    for (given, expected) in [
-        (before.iter_to(before).last(), Some(before)),
-        (before.iter_to(after).last(), Some(after)),
-        (before.iter_to(after).min(), Some(before)),
-        (before.iter_to(after).max(), Some(after)),
-        (after.iter_to(before).min(), None),
-        (before.iter_to(after).nth(usize::MAX), None),
-    ] {
-        assert!(rt; given == expected);
-    }
+    let given = [
+        before.iter_to(before).last(),
+        before.iter_to(after).min(),
+        before.iter_to(after).last(),
+        before.iter_to(after).max(),
+        after.iter_to(before).min(),
+        before.iter_to(after).nth(usize::MAX),
+    ];
+    let expected = [
+        Some(before),
+        Some(before),
+        Some(after),
+        Some(after),
+        None,
+        None,
+    ];
+    assert!(rt; given == expected);
 }
 
 #[test]
 fn tells_of_days_left(rt: HostRuntime) {
     let before = date_of(2024, Month::February, 28);
+    let after = date_of(2024, Month::March, 1);
+    let given = [
+        before.iter_to(after).count(),
+        after.iter_to(before).count(),
+        Date::MIN.iter_to(Date::MAX).len(),
+    ];
+    assert!(rt; given == [3, 0, 730_484_634]);
+    assert!(rt; before.iter_to(after).is_sorted());
+}
+
+#[test]
+fn passes_each_day_once(rt: HostRuntime) {
+    let before = date_of(2024, Month::February, 28);
     let leap = date_of(2024, Month::February, 29);
     let after = date_of(2024, Month::March, 1);
     let leaps = before.iter_to(after).rev().filter(|day| *day == leap);
-    for (given, expected) in [
-        (before.iter_to(after).count(), 3),
-        (after.iter_to(before).count(), 0),
-        (Date::MIN.iter_to(Date::MAX).len(), 730_484_634),
-        (leaps.count(), 1),
-    ] {
-        assert!(rt; given == expected);
-    }
-    assert!(rt; before.iter_to(after).is_sorted());
+    assert!(rt; leaps.count() == 1);
 }
 
 // The `n`th such weekday later and earlier, where it is in range, as both calls say.

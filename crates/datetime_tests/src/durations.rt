@@ -1,15 +1,17 @@
 //! Durations with a sign, and those of std.
 use calendar::SignedDuration;
 use datetime::{signed_from_std, std_from_signed};
-use std::test::Fail;
 use std::time::Duration;
 
 #[test]
-fn converts(rt: HostRuntime) -> Result<(), Fail> {
+fn converts(rt: HostRuntime) {
     let (one, other) = (Duration::new(1, 500), SignedDuration::new(1, 500));
-    assert!(rt; signed_from_std(one)? == other && std_from_signed(other)? == one);
-    assert!(rt; std_from_signed(SignedDuration::ZERO)? == Duration::ZERO);
-    Ok(())
+    assert!(rt; signed_from_std(one) == Ok(other));
+    let given = [
+        std_from_signed(other),
+        std_from_signed(SignedDuration::ZERO),
+    ];
+    assert!(rt; given == [Ok(one), Ok(Duration::ZERO)]);
 }
 
 #[test]

@@ -9,7 +9,6 @@ use calendar::{Month, SignedDuration, Time};
 use datetime::{OffsetDateTime, PlainDateTime, Timestamp, UtcDateTime, laws};
 use std::cmp::Ordering;
 use std::hash::Hash;
-use std::process::Abort;
 use std::time::Duration;
 
 // The leap day's evening, of each type.
@@ -25,45 +24,28 @@ fn evenings() -> Evenings {
     )
 }
 
-fn check_views<T: DateTime>(rt: &impl Abort, value: T) {
-    assert!(rt; value.parts() == (LEAP_DAY, EVENING));
-    assert!(rt; value.day_views() == DAY_VIEWS);
-    assert!(rt; value.time_views() == TIME_VIEWS);
+fn has_views<T: DateTime>(value: T) -> bool {
+    value.parts() == (LEAP_DAY, EVENING)
+        && (value.day_views(), value.time_views()) == (DAY_VIEWS, TIME_VIEWS)
 }
 
-#[test]
-fn shows_its_parts(rt: HostRuntime) {
-    let (plain, utc, timestamp, shown) = evenings();
-    check_views(&rt, plain);
-    check_views(&rt, utc);
-    check_views(&rt, timestamp);
-    check_views(&rt, shown);
-}
-
-fn check_replaced<T: DateTime>(rt: &impl Abort, value: T) {
-    for (part, wanted) in REPLACED {
-        let replaced = value.replaced(part).ok().map(T::shown);
-        assert!(rt; replaced == Some((wanted, value.own_offset())));
+fn is_replaced<T: DateTime>(value: T, rows: &[(Part, Parts)]) -> bool {
+    for (part, wanted) in rows {
+        let replaced = value.replaced(*part).ok().map(T::shown);
+        if replaced != Some((*wanted, value.own_offset())) {
+            return false;
+        }
     }
+    true
 }
 
-fn check_refused<T: DateTime>(rt: &impl Abort, value: T) {
-    for (part, wanted) in REFUSED {
-        assert!(rt; refused(value.replaced(part)) == wanted);
+fn is_refused<T: DateTime>(value: T, rows: &[(Part, (&'static str, bool))]) -> bool {
+    for (part, wanted) in rows {
+        if refused(value.replaced(*part)) != *wanted {
+            return false;
+        }
     }
-}
-
-#[test]
-fn replaces_parts(rt: HostRuntime) {
-    let (plain, utc, timestamp, shown) = evenings();
-    check_replaced(&rt, plain);
-    check_replaced(&rt, utc);
-    check_replaced(&rt, timestamp);
-    check_replaced(&rt, shown);
-    check_refused(&rt, plain);
-    check_refused(&rt, utc);
-    check_refused(&rt, timestamp);
-    check_refused(&rt, shown);
+    true
 }
 
 // No April 31.
@@ -74,92 +56,130 @@ fn is_april_31_refused<T: DateTime>(value: T) -> bool {
     }
 }
 
+fn replaces<T: DateTime>(value: T) -> [bool; 3] {
+    [
+        is_replaced(value, &REPLACED),
+        is_refused(value, &REFUSED),
+        is_april_31_refused(value),
+    ]
+}
+
 #[test]
-fn refuses_days_of_other_months(rt: HostRuntime) {
+fn shows_its_parts(rt: HostRuntime) {
     let (plain, utc, timestamp, shown) = evenings();
-    assert!(rt; is_april_31_refused(plain) && is_april_31_refused(utc));
-    assert!(rt; is_april_31_refused(timestamp) && is_april_31_refused(shown));
+    let views = [
+        has_views(plain),
+        has_views(utc),
+        has_views(timestamp),
+        has_views(shown),
+    ];
+    assert!(rt; views == [true; 4]);
 }
 
-fn check_moved<T: DateTime>(rt: &impl Abort, value: T) {
+#[test]
+fn replaces_parts(rt: HostRuntime) {
+    let (plain, utc, timestamp, shown) = evenings();
+    let replaced = [
+        replaces(plain),
+        replaces(utc),
+        replaces(timestamp),
+        replaces(shown),
+    ];
+    assert!(rt; replaced == [[true; 3]; 4]);
+}
+
+fn is_moved<T: DateTime>(value: T) -> bool {
     for (step, wanted) in moved() {
-        assert!(rt; value.moved(step).map(T::parts) == Some(wanted));
+        if value.moved(step).map(T::parts) != Some(wanted) {
+            return false;
+        }
     }
+    true
 }
 
-fn check_sums<T: DateTime>(rt: &impl Abort, value: T) {
+fn moves<T: DateTime>(value: T) -> [bool; 3] {
     let (day, std_day) = (SignedDuration::DAY, Duration::from_secs(86_400));
-    assert!(rt; value.sums(day, std_day) == Some([NEXT_DAY; 4]));
-    assert!(rt; value.differences(day, std_day) == Some([DAY_BEFORE; 4]));
-}
-
-fn check_since<T: DateTime>(rt: &impl Abort, value: T) {
-    let next = value.moved(Step::Add(SignedDuration::DAY)).unwrap_or(value);
-    assert!(rt; next.since(value) == SignedDuration::DAY);
-    assert!(rt; value.since(next) == SignedDuration::days(-1));
+    [
+        is_moved(value),
+        value.sums(day, std_day) == Some([NEXT_DAY; 4]),
+        value.differences(day, std_day) == Some([DAY_BEFORE; 4]),
+    ]
 }
 
 #[test]
 fn moves_by_durations(rt: HostRuntime) {
     let (plain, utc, timestamp, shown) = evenings();
-    check_moved(&rt, plain);
-    check_moved(&rt, utc);
-    check_moved(&rt, timestamp);
-    check_moved(&rt, shown);
+    let moved = [moves(plain), moves(utc), moves(timestamp), moves(shown)];
+    assert!(rt; moved == [[true; 3]; 4]);
+}
+
+// From a value to the one a day later, and back.
+fn apart<T: DateTime>(value: T) -> (SignedDuration, SignedDuration) {
+    let next = value.moved(Step::Add(SignedDuration::DAY)).unwrap_or(value);
+    (next.since(value), value.since(next))
 }
 
 #[test]
-fn adds_and_subtracts(rt: HostRuntime) {
+fn tells_how_far_apart(rt: HostRuntime) {
     let (plain, utc, timestamp, shown) = evenings();
-    check_sums(&rt, plain);
-    check_sums(&rt, utc);
-    check_sums(&rt, timestamp);
-    check_sums(&rt, shown);
-    check_since(&rt, plain);
-    check_since(&rt, utc);
-    check_since(&rt, timestamp);
-    check_since(&rt, shown);
+    let days = [apart(plain), apart(utc), apart(timestamp), apart(shown)];
+    assert!(rt; days == [(SignedDuration::DAY, SignedDuration::days(-1)); 4]);
 }
 
-fn check_end<T: DateTime>(rt: &impl Abort, end: T, steps: [(Step, Option<Parts>); 4]) {
+fn ends_so<T: DateTime>(end: T, steps: [(Step, Option<Parts>); 4]) -> bool {
     for (step, wanted) in steps {
         let moved = end.moved(step);
-        assert!(rt; moved.map(T::parts) == wanted);
-        assert!(rt; moved.unwrap_or(end).own_offset() == end.own_offset());
+        if moved.map(T::parts) != wanted || moved.unwrap_or(end).own_offset() != end.own_offset() {
+            return false;
+        }
     }
+    true
 }
 
-fn check_ends<T: DateTime>(rt: &impl Abort, first: T, last: T) {
-    assert!(rt; first.parts() == FIRST && last.parts() == LAST);
-    check_end(rt, first, before_the_first());
-    check_end(rt, last, after_the_last());
+fn has_ends<T: DateTime>(first: T, last: T) -> bool {
+    (first.parts(), last.parts()) == (FIRST, LAST)
+        && ends_so(first, before_the_first())
+        && ends_so(last, after_the_last())
 }
 
 #[test]
 fn ends_with_the_calendar(rt: HostRuntime) {
     let [first, last] = laws::ends_of_wall_clocks();
-    check_ends(&rt, first, last);
-    check_ends(&rt, first.as_utc(), last.as_utc());
-    check_ends(&rt, first.assume_offset(east()), last.assume_offset(east()));
-    check_ends(&rt, Timestamp::MIN, Timestamp::MAX);
+    let ends = [
+        has_ends(first, last),
+        has_ends(first.as_utc(), last.as_utc()),
+        has_ends(Timestamp::MIN, Timestamp::MAX),
+        has_ends(first.assume_offset(east()), last.assume_offset(east())),
+    ];
+    assert!(rt; ends == [true; 4]);
 }
 
-fn check_order<T: DateTime + Ord + Hash + Drop>(rt: &impl Abort, value: T, later: T) {
+fn is_itself<T: Ord + Hash + Copy + Drop>(value: T) -> bool {
     let same = value;
-    assert!(rt; value == same && value != later && value < later);
-    assert!(rt; value.cmp(&later) == Ordering::Less);
-    assert!(rt; later.partial_cmp(&value) == Some(Ordering::Greater));
-    assert!(rt; value.max(later) == later && hash_of(value) == hash_of(same));
+    value == same && hash_of(value) == hash_of(same)
+}
+
+fn is_less<T: Ord + Copy + Drop>(value: T, later: T) -> bool {
+    value != later && value < later && value.max(later) == later
+}
+
+// Whether the first comes before the other by each call, and is equal to itself alone.
+fn is_before<T: Ord + Hash + Copy + Drop>(value: T, later: T) -> bool {
+    let order = (value.cmp(&later), later.partial_cmp(&value));
+    order == (Ordering::Less, Some(Ordering::Greater)) && is_less(value, later) && is_itself(value)
 }
 
 #[test]
 fn compares(rt: HostRuntime) {
     let (plain, utc, timestamp, shown) = evenings();
     let later = Time::from_hms_nano(23, 59, 58, 123_456_790).unwrap_or(Time::MIDNIGHT);
-    check_order(&rt, plain, plain.replace_time(later));
-    check_order(&rt, utc, utc.replace_time(later));
-    check_order(&rt, timestamp, timestamp.replace_time(later));
-    check_order(&rt, shown, shown.replace_time(later));
+    let ordered = [
+        is_before(plain, plain.replace_time(later)),
+        is_before(utc, utc.replace_time(later)),
+        is_before(timestamp, timestamp.replace_time(later)),
+        is_before(shown, shown.replace_time(later)),
+    ];
+    assert!(rt; ordered == [true; 4]);
 }
 
 fn cut_plain(value: PlainDateTime) -> [PlainDateTime; 6] {

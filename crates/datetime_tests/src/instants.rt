@@ -19,12 +19,18 @@ fn leap_evening() -> Instants {
 
 #[test]
 fn converts(rt: HostRuntime) {
+    let (timestamp, utc, _) = leap_evening();
+    let converted = (Timestamp::from(utc), UtcDateTime::from(timestamp));
+    assert!(rt; converted == (timestamp, utc));
+}
+
+#[test]
+fn converts_to_offset_zero(rt: HostRuntime) {
     let (timestamp, utc, shown) = leap_evening();
-    assert!(rt; Timestamp::from(utc) == timestamp && UtcDateTime::from(timestamp) == utc);
-    for at_zero in [OffsetDateTime::from(utc), OffsetDateTime::from(timestamp)] {
-        assert!(rt; at_zero == shown);
-        assert!(rt; (at_zero.parts(), at_zero.offset()) == ((LEAP_DAY, EVENING), UtcOffset::UTC));
-    }
+    let at_zero = [OffsetDateTime::from(utc), OffsetDateTime::from(timestamp)];
+    assert!(rt; at_zero == [shown; 2]);
+    let wanted = ((LEAP_DAY, EVENING), Some(UtcOffset::UTC));
+    assert!(rt; [at_zero[0].shown(), at_zero[1].shown()] == [wanted; 2]);
 }
 
 // The first by each other type: equality both ways, and the order both ways.
@@ -165,18 +171,26 @@ fn refuses_what_is_out_of_range(rt: HostRuntime) {
 #[test]
 fn counts_from_1970_in_utc(rt: HostRuntime) {
     let value = UtcDateTime::new(leap_day(), evening());
-    let second = UtcDateTime::from_unix_timestamp(1_709_251_198);
-    assert!(rt; second == value.replace_nanosecond(0));
-    let nanosecond = UtcDateTime::from_unix_timestamp_nanos(1_709_251_198_123_456_789);
-    assert!(rt; nanosecond == Ok(value));
-    let before = UtcDateTime::from_unix_timestamp_nanos(-1).unwrap_or(value);
+    let given = [
+        UtcDateTime::from_unix_timestamp(1_709_251_198),
+        UtcDateTime::from_unix_timestamp_nanos(1_709_251_198_123_456_789),
+    ];
+    assert!(rt; given == [value.replace_nanosecond(0), Ok(value)]);
+}
+
+#[test]
+fn counts_before_1970_in_utc(rt: HostRuntime) {
+    let before = UtcDateTime::from_unix_timestamp_nanos(-1).unwrap_or(Timestamp::MAX.to_utc());
     assert!(rt; (before.unix_timestamp(), before.year()) == (-1, 1969));
-    for refusal in [
-        UtcDateTime::from_unix_timestamp(31_494_784_780_800),
-        UtcDateTime::from_unix_timestamp_nanos(-31_619_087_596_800_000_000_001),
-    ] {
-        assert!(rt; refused(refusal) == ("timestamp", false));
-    }
+}
+
+#[test]
+fn refuses_what_is_out_of_range_in_utc(rt: HostRuntime) {
+    let refusals = [
+        refused(UtcDateTime::from_unix_timestamp(31_494_784_780_800)),
+        refused(UtcDateTime::from_unix_timestamp_nanos(-31_619_087_596_800_000_000_001)),
+    ];
+    assert!(rt; refusals == [("timestamp", false); 2]);
 }
 
 // At half past five on the next day, where the offset is 5:30.
@@ -221,7 +235,7 @@ fn takes_an_offset(rt: HostRuntime) {
     let value = PlainDateTime::new(leap_day(), evening());
     let east = east();
     let shown = value.assume_offset(east);
-    assert!(rt; (shown.parts(), shown.offset()) == ((LEAP_DAY, EVENING), east));
+    assert!(rt; shown.shown() == ((LEAP_DAY, EVENING), Some(east)));
     let utc = value.assume_utc();
     assert!(rt; (utc.date(), utc.offset()) == (leap_day(), UtcOffset::UTC));
     assert!(rt;

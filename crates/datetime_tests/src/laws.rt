@@ -4,9 +4,8 @@ use calendar::{Date, SignedDuration, Time, UtcOffset, Weekday};
 use datetime::{
     MomentCall, MomentReply, OffsetDateTime, PlainDateTime, Timestamp, UtcDateTime, laws,
 };
+use std::alloc::Global;
 use std::cmp::Ordering;
-use std::process::Abort;
-use std::test::Fail;
 
 #[test]
 fn pins_the_constants(rt: HostRuntime) {
@@ -16,7 +15,12 @@ fn pins_the_constants(rt: HostRuntime) {
     let epoch = UtcDateTime::from_unix_timestamp(0).unwrap_or(last.as_utc());
     let ends = [first.as_utc(), epoch, last.as_utc()];
     assert!(rt; laws::constants_of_utc() == ends);
-    assert!(rt; laws::constants_of_timestamps() == ends.map(Timestamp::from));
+    let timestamps = [
+        Timestamp::from(first.as_utc()),
+        Timestamp::from(epoch),
+        Timestamp::from(last.as_utc()),
+    ];
+    assert!(rt; laws::constants_of_timestamps() == timestamps);
     assert!(rt; laws::epoch_at_offset_zero() == OffsetDateTime::from(epoch));
 }
 
@@ -46,35 +50,55 @@ fn moments() -> Moments {
     (wall, utc, utc.into(), wall.assume_offset(east()))
 }
 
-fn day_and_back((wall, utc, timestamp, moment): Moments) -> Option<Moments> {
-    Some((
-        laws::wall_clock_moved_and_back(wall, SignedDuration::DAY)?,
-        laws::utc_moved_and_back(utc, SignedDuration::DAY)?,
-        laws::timestamp_moved_and_back(timestamp, SignedDuration::DAY)?,
-        laws::moment_moved_and_back(moment, SignedDuration::DAY)?,
-    ))
+type Moved = (
+    Option<PlainDateTime>,
+    Option<UtcDateTime>,
+    Option<Timestamp>,
+    Option<OffsetDateTime>,
+);
+
+fn day_and_back((wall, utc, timestamp, moment): Moments) -> Moved {
+    (
+        laws::wall_clock_moved_and_back(wall, SignedDuration::DAY),
+        laws::utc_moved_and_back(utc, SignedDuration::DAY),
+        laws::timestamp_moved_and_back(timestamp, SignedDuration::DAY),
+        laws::moment_moved_and_back(moment, SignedDuration::DAY),
+    )
 }
 
 #[test]
 fn leads_back(rt: HostRuntime) {
     let utc = UtcDateTime::new(leap_day(), evening());
     assert!(rt; other_and_back(utc) == (utc, utc.into()));
-    assert!(rt; day_and_back(moments()) == Some(moments()));
-    let milliseconds = [-1, i64::MAX].map(laws::milliseconds_and_back);
+    let milliseconds = [
+        laws::milliseconds_and_back(-1),
+        laws::milliseconds_and_back(i64::MAX),
+    ];
     assert!(rt; milliseconds == [Some(-1), None]);
+}
+
+#[test]
+fn leads_a_day_and_back(rt: HostRuntime) {
+    let (wall, utc, timestamp, moment) = moments();
+    let wanted = (Some(wall), Some(utc), Some(timestamp), Some(moment));
+    assert!(rt; day_and_back(moments()) == wanted);
 }
 
 // From the one to the other, by their difference.
 fn led(
     one: PlainDateTime,
     other: PlainDateTime,
-) -> Option<(PlainDateTime, UtcDateTime, Timestamp)> {
+) -> (
+    Option<PlainDateTime>,
+    Option<UtcDateTime>,
+    Option<Timestamp>,
+) {
     let (utc, other_utc) = (one.as_utc(), other.as_utc());
-    Some((
-        laws::wall_clock_at_difference(one, other)?,
-        laws::utc_at_difference(utc, other_utc)?,
-        laws::timestamp_at_difference(utc.into(), other_utc.into())?,
-    ))
+    (
+        laws::wall_clock_at_difference(one, other),
+        laws::utc_at_difference(utc, other_utc),
+        laws::timestamp_at_difference(utc.into(), other_utc.into()),
+    )
 }
 
 #[test]
@@ -83,39 +107,56 @@ fn leads_by_differences(rt: HostRuntime) {
     let [first, last] = laws::ends_of_wall_clocks();
     for (one, other) in [(first, last), (last, wall), (last, first)] {
         let utc = other.as_utc();
-        assert!(rt; led(one, other) == Some((other, utc, utc.into())));
+        assert!(rt; led(one, other) == (Some(other), Some(utc), Some(utc.into())));
     }
-}
-
-fn check_moments(rt: &impl Abort, moment: OffsetDateTime, utc: OffsetDateTime) {
-    let epoch = laws::epoch_at_offset_zero();
-    assert!(rt; laws::moment_at_difference(moment, epoch) == Some(epoch));
-    let last = laws::ends_of_wall_clocks()[1].assume_utc();
-    assert!(rt; laws::moment_at_difference(moment, last) == None);
-    assert!(rt; laws::shown_at_own_offset(moment) == Some(moment));
-    assert!(rt; laws::equal_as_instants(moment, moment) && !laws::equal_as_instants(moment, utc));
-    assert!(rt; laws::order_of_instants(moment, utc) == Ordering::Less);
-    let shown = laws::shown_by_way_of(moment, UtcOffset::UTC, moment.offset());
-    assert!(rt; shown == Some(Some(moment)));
 }
 
 #[test]
 fn leads_moments(rt: HostRuntime) {
     let wall = PlainDateTime::new(leap_day(), evening());
-    let east = east();
-    check_moments(&rt, wall.assume_offset(east), wall.assume_utc());
+    let moment = wall.assume_offset(east());
+    let epoch = laws::epoch_at_offset_zero();
+    let last = laws::ends_of_wall_clocks()[1].assume_utc();
+    let led = [
+        laws::moment_at_difference(moment, epoch),
+        laws::moment_at_difference(moment, last),
+        laws::shown_at_own_offset(moment),
+    ];
+    assert!(rt; led == [Some(epoch), None, Some(moment)]);
+    let shown = laws::shown_by_way_of(moment, UtcOffset::UTC, moment.offset());
+    assert!(rt; shown == Some(Some(moment)));
 }
 
 #[test]
-fn answers_alike(rt: HostRuntime) -> Result<(), Fail> {
-    let start = timestamp_of(1_709_251_198, 0);
-    let calls = [MomentCall::Weekday, MomentCall::InstantNanos];
-    let wanted = [
-        MomentReply::Weekday(Weekday::Thursday),
-        MomentReply::InstantNanos(1_709_251_198_000_000_000),
-    ];
-    let (one, other) = laws::replies_alike(rt.alloc(), start, &calls)?;
-    assert!(rt; one.as_slice() == wanted.as_slice());
-    assert!(rt; other.as_slice() == wanted.as_slice());
-    Ok(())
+fn orders_moments(rt: HostRuntime) {
+    let wall = PlainDateTime::new(leap_day(), evening());
+    let (moment, utc) = (wall.assume_offset(east()), wall.assume_utc());
+    let compared = (
+        laws::equal_as_instants(moment, moment),
+        laws::equal_as_instants(moment, utc),
+        laws::order_of_instants(moment, utc),
+    );
+    assert!(rt; compared == (true, false, Ordering::Less));
+}
+
+const CALLS: [MomentCall; 2] = [MomentCall::Weekday, MomentCall::InstantNanos];
+
+const REPLIES: [MomentReply; 2] = [
+    MomentReply::Weekday(Weekday::Thursday),
+    MomentReply::InstantNanos(1_709_251_198_000_000_000),
+];
+
+// Whether both answer so. That memory runs out fails the test.
+fn both_reply(alloc: Global, start: Timestamp) -> bool {
+    match laws::replies_alike(alloc, start, &CALLS) {
+        Ok((one, other)) => {
+            one.as_slice() == REPLIES.as_slice() && other.as_slice() == REPLIES.as_slice()
+        }
+        Err(_) => false,
+    }
+}
+
+#[test]
+fn answers_alike(rt: HostRuntime) {
+    assert!(rt; both_reply(rt.alloc(), timestamp_of(1_709_251_198, 0)));
 }

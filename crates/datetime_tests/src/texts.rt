@@ -5,7 +5,6 @@ use datetime::{OffsetDateTime, PlainDateTime, Timestamp, UtcDateTime};
 use std::alloc::{AllocError, Global};
 use std::fmt;
 use std::string::String;
-use std::test::Fail;
 
 fn is_text(answer: Result<String, AllocError>, wanted: &str) -> bool {
     match answer {
@@ -66,13 +65,12 @@ fn padded(alloc: Global, plain: PlainDateTime) -> Result<String, AllocError> {
 }
 
 #[test]
-fn prints_under_a_width(rt: HostRuntime) -> Result<(), Fail> {
+fn prints_under_a_width(rt: HostRuntime) {
     let (date, time) = summer_morning();
-    let printed = padded(rt.alloc(), PlainDateTime::new(date, time))?;
+    let answer = padded(rt.alloc(), PlainDateTime::new(date, time));
     let wanted =
         "[2024-06-19 7:05:00.25  |  2024-06-19 7:05:00.25|_2024-06-19 7:05:00.25__|2024-06-19 7:05:00.25]";
-    assert!(rt; printed.as_str() == wanted);
-    Ok(())
+    assert!(rt; is_text(answer, wanted));
 }
 
 fn others_padded(
@@ -85,25 +83,19 @@ fn others_padded(
 }
 
 #[test]
-fn prints_other_types_under_a_width(rt: HostRuntime) -> Result<(), Fail> {
+fn prints_other_types_under_a_width(rt: HostRuntime) {
     let (date, time) = summer_morning();
     let moment = OffsetDateTime::new_in_offset(date, time, east());
     let utc = UtcDateTime::new(date, time);
-    let printed = others_padded(
-        rt.alloc(),
-        utc,
-        moment,
-        Timestamp::from_milliseconds(-1500).unwrap_or(Timestamp::MIN),
-    )?;
+    let timestamp = Timestamp::from_milliseconds(-1500).unwrap_or(Timestamp::MIN);
+    let answer = others_padded(rt.alloc(), utc, moment, timestamp);
     let wanted = "  2024-06-19 7:05:00.25 +00[2024-06-19 7:05:00.25 +05:30:00  ][  -1.5]";
-    assert!(rt; printed.as_str() == wanted);
-    Ok(())
+    assert!(rt; is_text(answer, wanted));
 }
 
 #[test]
-fn prints_the_longest_date_times(rt: HostRuntime) -> Result<(), Fail> {
+fn prints_the_longest_date_times(rt: HostRuntime) {
     let moment = OffsetDateTime::new_in_offset(Date::MIN, Time::MAX, offset_of(-25, -59, -59));
-    let printed = format!(in rt.alloc(); "{moment:>43}")?;
-    assert!(rt; printed.as_str() == " -999999-01-01 23:59:59.999999999 -25:59:59");
-    Ok(())
+    let answer = format!(in rt.alloc(); "{moment:>43}");
+    assert!(rt; is_text(answer, " -999999-01-01 23:59:59.999999999 -25:59:59"));
 }
