@@ -1,9 +1,9 @@
 //! The calls that take memory, each alone. With memory each gives its answer; `rt try --test
 //! --fail-alloc N` refuses the growths in turn, and then a call may say nothing but that memory ran out.
 
-use crate::support::{ONE, THREE, TWO, failure, given, shown};
+use crate::support::{ONE, TWO};
 use crate::trees::push_told;
-use description::{parse, parse_strftime_borrowed};
+use description::{DescriptionFault, parse, parse_strftime_borrowed};
 use description_items::modifier::{
     CalendarYearFullExtendedRange, Day, MonthNumerical, OffsetHour, OffsetMinute, Padding,
 };
@@ -11,6 +11,7 @@ use description_items::{BorrowedFormatItem, Component};
 use description_reading::{items_of, tree_of};
 use description_words::{Modifier, modifiers_of, whole_of};
 use std::alloc::{AllocError, Global};
+use std::process::Abort;
 use std::test::Fail;
 
 const DAY: BorrowedFormatItem<'static> = BorrowedFormatItem::Component(Component::Day(Day {
@@ -71,9 +72,6 @@ const LONG: &str = "[day]x[day padding:zero]x[day]x[day]x[day]x";
 
 const LONG_ITEMS: [BorrowedFormatItem<'static>; 10] = [DAY, X, DAY, X, DAY, X, DAY, X, DAY, X];
 
-const LONG_SHOWN: &str =
-    r#"Items([Component(Day(Day { padding: Zero })), StringLiteral("x"), Component(Day(Day { padding: Zero })), StringLiteral("x"), Component(Day(Day { padding: Zero })), StringLiteral("x"), Component(Day(Day { padding: Zero })), StringLiteral("x"), Component(Day(Day { padding: Zero })), StringLiteral("x")])"#;
-
 // The keys and the values, one after the other.
 fn words(alloc: Global, all: &[Modifier<'_>]) -> Result<String, AllocError> {
     let mut words = String::new(alloc);
@@ -86,62 +84,49 @@ fn words(alloc: Global, all: &[Modifier<'_>]) -> Result<String, AllocError> {
 #[test]
 fn modifiers(rt: HostRuntime) -> Result<(), Fail> {
     let text = whole_of(" a:1 b:2 c:3 d:4 e:5 f:6");
-    match modifiers_of(rt.alloc(), text) {
-        Ok((all, _)) => {
-            let words = words(rt.alloc(), all.as_slice())?;
-            assert!(rt; words.as_str() == "a1b2c3d4e5f6");
-            Ok(())
-        }
-        Err(fault) => Err(failure(fault)),
-    }
-}
-
-fn has_letters(alloc: Global, text: &str, wanted: &[BorrowedFormatItem<'_>]) -> Result<bool, Fail> {
-    let items = given(parse_strftime_borrowed(alloc, text))?;
-    Ok(items.as_slice() == wanted)
-}
-
-#[test]
-fn items_of_letters(rt: HostRuntime) -> Result<(), Fail> {
-    assert!(rt; has_letters(rt.alloc(), "%dx%zx%d%z%dx", &LETTERS)?);
-    assert!(rt; has_letters(rt.alloc(), "%F%F%F", &DATES)?);
+    let (all, _) = modifiers_of(rt.alloc(), text).expect(&rt, "modifiers");
+    let words = words(rt.alloc(), all.as_slice())?;
+    assert!(rt; words.as_str() == "a1b2c3d4e5f6");
     Ok(())
 }
 
+// Whether a call gave these items.
+fn has_items(
+    rt: &impl Abort,
+    answer: Result<Vec<BorrowedFormatItem<'_>>, DescriptionFault<'_>>,
+    wanted: &[BorrowedFormatItem<'_>],
+) -> bool {
+    answer.expect(rt, "items").as_slice() == wanted
+}
+
 #[test]
-fn items_of_versions_1_and_2(rt: HostRuntime) -> Result<(), Fail> {
-    let items = given(parse(rt.alloc(), LONG))?;
-    assert!(rt; items.as_slice() == LONG_ITEMS.as_slice());
-    for version in [ONE, TWO] {
-        let items = given(items_of(rt.alloc(), version, LONG))?;
-        assert!(rt; items.as_slice() == LONG_ITEMS.as_slice());
-        assert!(rt; shown(rt.alloc(), version, LONG)?.as_str() == LONG_SHOWN);
-    }
-    Ok(())
+fn items_of_letters(rt: HostRuntime) {
+    let letters = parse_strftime_borrowed(rt.alloc(), "%dx%zx%d%z%dx");
+    assert!(rt; has_items(&rt, letters, &LETTERS));
+    let dates = parse_strftime_borrowed(rt.alloc(), "%F%F%F");
+    assert!(rt; has_items(&rt, dates, &DATES));
+}
+
+#[test]
+fn items_of_versions_1_and_2(rt: HostRuntime) {
+    let wanted = LONG_ITEMS;
+    assert!(rt; has_items(&rt, parse(rt.alloc(), LONG), &wanted));
+    assert!(rt; has_items(&rt, items_of(rt.alloc(), ONE, LONG), &wanted));
+    assert!(rt; has_items(&rt, items_of(rt.alloc(), TWO, LONG), &wanted));
 }
 
 // Text, an optional item, alternatives, and more nodes than a list begins with.
 const TREE: &str = "x[day][optional [y[day]]][first [z] [[day]]][day]x";
-
-// Literals are borrowed, all else is owned.
-const READ: &str =
-    r#"V3(FormatDescriptionV3 { inner: OwnedCompound([BorrowedLiteral("x"), Day(Day { padding: Zero }), OwnedOptional { format: true, item: OwnedCompound([BorrowedLiteral("y"), Day(Day { padding: Zero })]) }, OwnedFirst([OwnedCompound([BorrowedLiteral("z")]), OwnedCompound([Day(Day { padding: Zero })])]), Day(Day { padding: Zero }), BorrowedLiteral("x")]), max_bytes_needed: 11 })"#;
 
 // Nothing of the copy is borrowed.
 const COPIED: &str = r#"
 FormatDescriptionV3 { inner: OwnedCompound([BorrowedLiteral("x"), Day(Day { padding: Zero }), OwnedOptional { format: true, item: OwnedCompound([BorrowedLiteral("y"), Day(Day { padding: Zero })]) }, OwnedFirst([OwnedCompound([BorrowedLiteral("z")]), OwnedCompound([Day(Day { padding: Zero })])]), Day(Day { padding: Zero }), BorrowedLiteral("x")]), max_bytes_needed: 11 }, OwnedCompound([OwnedLiteral("x"), Day(Day { padding: Zero }), OwnedOptional { format: true, item: OwnedCompound([OwnedLiteral("y"), Day(Day { padding: Zero })]) }, OwnedFirst([OwnedCompound([OwnedLiteral("z")]), OwnedCompound([Day(Day { padding: Zero })])]), Day(Day { padding: Zero }), OwnedLiteral("x")]), 11"#;
 
 #[test]
-fn descriptions_of_version_3(rt: HostRuntime) -> Result<(), Fail> {
-    let shown = shown(rt.alloc(), THREE, TREE)?;
-    assert!(rt; shown.as_str() == READ);
-    Ok(())
-}
-
-#[test]
 fn copies_of_trees(rt: HostRuntime) -> Result<(), Fail> {
     let mut told = String::new(rt.alloc());
-    push_told(rt.alloc(), given(tree_of(rt.alloc(), TREE))?, &mut told)?;
+    let tree = tree_of(rt.alloc(), TREE).expect(&rt, "a tree");
+    push_told(&rt, rt.alloc(), tree, &mut told)?;
     assert!(rt; told.as_str() == COPIED);
     Ok(())
 }

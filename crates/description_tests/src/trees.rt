@@ -2,13 +2,14 @@
 
 use description_items::Component;
 use description_items::modifier::*;
-use description_tree::{FormatDescriptionV3Inner, Lent};
+use description_tree::{FormatDescriptionV3Inner as Inner, Lent};
 use std::alloc::{AllocError, Global};
+use std::process::Abort;
 use std::test::Fail;
 
 // Writes the node of a component, as it is shown, and the component of that node.
 fn push_both(component: Component, told: &mut String) -> Result<(), AllocError> {
-    let node = FormatDescriptionV3Inner::from(component);
+    let node = Inner::from(component);
     let back = node.component();
     write!(told, "\n{node:?} {back:?}")
 }
@@ -26,7 +27,7 @@ fn components_become_nodes_and_back(rt: HostRuntime) -> Result<(), Fail> {
         push_both(component, &mut told)?;
     }
     assert!(rt; told.as_str() == NODES);
-    assert!(rt; FormatDescriptionV3Inner::BorrowedLiteral("x").component() == None);
+    assert!(rt; Inner::BorrowedLiteral("x").component() == None);
     Ok(())
 }
 
@@ -39,25 +40,22 @@ End(End { trailing_input: Prohibit }) Some(End(End { trailing_input: Prohibit })
 
 /// Writes the description of a node as it is shown, and its copy: the tree, and the bytes that it reserves.
 pub fn push_told(
+    rt: &impl Abort,
     alloc: Global,
-    node: FormatDescriptionV3Inner<'_>,
+    node: Inner<'_>,
     told: &mut String,
-) -> Result<(), Fail> {
-    let Ok(description) = node.into_opaque() else {
-        return Err(Fail::from("too many bytes"));
-    };
-    let copy = description.to_owned(alloc)?;
+) -> Result<(), AllocError> {
+    let description = node.into_opaque().expect(rt, "the bytes fit");
+    let copy = description.to_owned(alloc).expect(rt, "a copy");
     let (tree, bytes) = (copy.inner(), copy.max_bytes_needed());
-    write!(told, "\n{description:?}, {tree:?}, {bytes}")?;
-    Ok(())
+    write!(told, "\n{description:?}, {tree:?}, {bytes}")
 }
 
 // The bytes that a component reserves.
-fn bytes(component: Component) -> Option<usize> {
-    let Ok(description) = FormatDescriptionV3Inner::from(component).into_opaque() else {
-        return None;
-    };
-    Some(description.max_bytes_needed())
+fn bytes(rt: &impl Abort, component: Component) -> usize {
+    let node = Inner::from(component);
+    let description = node.into_opaque().expect(rt, "the bytes fit");
+    description.max_bytes_needed()
 }
 
 #[test]
@@ -88,7 +86,7 @@ fn components_reserve_their_longest_value(rt: HostRuntime) {
         (unix(UnixTimestampPrecision::Nanosecond), 24),
         (Component::End(End::default()), 0),
     ] {
-        assert!(rt; bytes(component) == Some(wanted));
+        assert!(rt; bytes(&rt, component) == wanted);
     }
 }
 
@@ -96,14 +94,14 @@ fn components_reserve_their_longest_value(rt: HostRuntime) {
 fn lent_trees(rt: HostRuntime) -> Result<(), Fail> {
     let none = Lent { items: &[] };
     let mut told = format!(in rt.alloc(); "\n{none:?}")?;
-    for node in [
-        FormatDescriptionV3Inner::BorrowedLiteral("four"),
-        FormatDescriptionV3Inner::BorrowedLiteral("x\n"),
-        FormatDescriptionV3Inner::BorrowedCompound(none),
-        FormatDescriptionV3Inner::BorrowedFirst(none),
-    ] {
-        push_told(rt.alloc(), node, &mut told)?;
-    }
+    let (four, two) = (
+        Inner::BorrowedLiteral("four"),
+        Inner::BorrowedLiteral("x\n"),
+    );
+    push_told(&rt, rt.alloc(), four, &mut told)?;
+    push_told(&rt, rt.alloc(), two, &mut told)?;
+    push_told(&rt, rt.alloc(), Inner::BorrowedCompound(none), &mut told)?;
+    push_told(&rt, rt.alloc(), Inner::BorrowedFirst(none), &mut told)?;
     assert!(rt; told.as_str() == LENT);
     Ok(())
 }
@@ -116,25 +114,27 @@ FormatDescriptionV3 { inner: BorrowedCompound([]), max_bytes_needed: 0 }, OwnedC
 FormatDescriptionV3 { inner: BorrowedFirst([]), max_bytes_needed: 0 }, OwnedFirst([]), 0"#;
 
 // An ordinal, a literal of four bytes, and an optional day.
-fn nodes(alloc: Global) -> Result<Vec<FormatDescriptionV3Inner<'static>>, Fail> {
-    let day = FormatDescriptionV3Inner::Day(Day::default());
-    Ok(vec![in alloc;
-        FormatDescriptionV3Inner::Ordinal(Ordinal::default()),
-        FormatDescriptionV3Inner::OwnedLiteral(String::from_str(alloc, "four")?),
-        FormatDescriptionV3Inner::OwnedOptional {
+fn nodes(rt: &impl Abort, alloc: Global) -> Vec<Inner<'static>> {
+    let four = String::from_str(alloc, "four").expect(rt, "a text");
+    let day = Box::new(alloc, Inner::Day(Day::default())).expect(rt, "a box");
+    let nodes = [
+        Inner::Ordinal(Ordinal::default()),
+        Inner::OwnedLiteral(four),
+        Inner::OwnedOptional {
             format: true,
-            item: Box::new(alloc, day)?,
+            item: day,
         },
-    ]?)
+    ];
+    Vec::from_array(alloc, nodes).expect(rt, "nodes")
 }
 
 #[test]
 fn owned_trees(rt: HostRuntime) -> Result<(), Fail> {
-    let in_turn = FormatDescriptionV3Inner::OwnedCompound(nodes(rt.alloc())?);
-    let first = FormatDescriptionV3Inner::OwnedFirst(nodes(rt.alloc())?);
     let mut told = String::new(rt.alloc());
-    push_told(rt.alloc(), in_turn, &mut told)?;
-    push_told(rt.alloc(), first, &mut told)?;
+    let in_turn = Inner::OwnedCompound(nodes(&rt, rt.alloc()));
+    push_told(&rt, rt.alloc(), in_turn, &mut told)?;
+    let first = Inner::OwnedFirst(nodes(&rt, rt.alloc()));
+    push_told(&rt, rt.alloc(), first, &mut told)?;
     assert!(rt; told.as_str() == OWNED);
     Ok(())
 }

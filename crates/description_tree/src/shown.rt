@@ -38,19 +38,26 @@ fn write_node<W: fmt::Write>(node: &Inner<'_>, f: &mut fmt::Formatter<W>) -> fmt
         Inner::BorrowedCompound(lent) => write_list("BorrowedCompound", lent.items, f),
         Inner::OwnedCompound(items) => write_list("OwnedCompound", items, f),
         Inner::BorrowedOptional { format, item } => {
-            write!(f, "BorrowedOptional {{ format: {format}, item: ")?;
-            write_node(item, f)?;
-            f.write_str(" }")
+            write_optional("BorrowedOptional", *format, item, f)
         }
-        Inner::OwnedOptional { format, item } => {
-            write!(f, "OwnedOptional {{ format: {format}, item: ")?;
-            write_node(item, f)?;
-            f.write_str(" }")
-        }
+        Inner::OwnedOptional { format, item } => write_optional("OwnedOptional", *format, item, f),
         Inner::BorrowedFirst(lent) => write_list("BorrowedFirst", lent.items, f),
         Inner::OwnedFirst(items) => write_list("OwnedFirst", items, f),
         _ => unreachable!(),
     }
+}
+
+// A node that may be missing, by its name.
+#[cycle(shown)]
+fn write_optional<W: fmt::Write>(
+    name: &str,
+    format: bool,
+    node: &Inner<'_>,
+    f: &mut fmt::Formatter<W>,
+) -> fmt::Result {
+    write!(f, "{name} {{ format: {format}, item: ")?;
+    write_node(node, f)?;
+    f.write_str(" }")
 }
 
 // A node that has a list, by its name.
