@@ -99,7 +99,7 @@ def calls_in(file):
         found += operator_in(block)
         if of is None and not head.startswith("pub fn "):
             continue
-        for begun in re.finditer(r"^ *(?:pub )?fn " if head.startswith("pub trait ") else r"^ *pub fn ", block, re.M):
+        for begun in re.finditer(r"^ *(?:pub |final )?fn " if head.startswith("pub trait ") else r"^ *pub fn ", block, re.M):
             at = closing(block, block.index("(", begun.end()))
             gives = re.compile(r"\s*->(?:\[[^\]\n]*\]|[^{;\n\[])*").match(block, at)
             end = gives.end() if gives else at

@@ -54,42 +54,62 @@ fn is_answer<P: Parsable>(item: &P, input: &[u8], record: &Parsed, wanted: Count
         && is_read_alike(item, &item, input)
 }
 
+const LITERAL: ParseFromDescription = ParseFromDescription::InvalidLiteral;
+
+// Bytes, text and nothing.
 #[test]
-fn items(rt: HostRuntime) -> Result<(), Fail> {
-    let literal = Err(ParseFromDescription::InvalidLiteral.into());
-    let hour = Err(ParseFromDescription::InvalidComponent("hour").into());
+fn literals(rt: HostRuntime) {
     let none = Parsed::new();
-    let day = none.with_day(5).ok_or("a day")?;
+    let byte = BorrowedFormatItem::Literal(b"\x80");
+    let letter = BorrowedFormatItem::StringLiteral("x");
+    let nothing = BorrowedFormatItem::Compound(&[]);
+    let answers = [
+        is_answer(&byte, b"\x80\xff", &none, (Ok(1), 1)),
+        is_answer(&byte, b"\x81", &none, (Err(LITERAL.into()), 1)),
+        is_answer(&letter, b"x", &none, (Ok(0), 1)),
+        is_answer(&nothing, b"x", &none, (Ok(1), 1)),
+    ];
+    assert!(rt; answers == [true; 4]);
+}
+
+#[test]
+fn items_in_turn(rt: HostRuntime) -> Result<(), Fail> {
+    let none = Parsed::new();
     let read = none.with_hour_24(23).ok_or("an hour")?;
     let time = read.with_minute(20).ok_or("a minute")?;
     let clock = [HOUR, COLON, MINUTE];
     let in_turn = BorrowedFormatItem::Compound(&clock);
-    let either = [in_turn, DAY];
+    let may_be_clock = BorrowedFormatItem::Optional(&in_turn);
+    let answers = [
+        is_answer(&in_turn, b"23:20", &time, (Ok(0), 4)),
+        is_answer(&in_turn, b"23-20", &none, (Err(LITERAL.into()), 3)),
+        is_answer(&Items(&clock), b"23:20", &time, (Ok(0), 3)),
+        is_answer(&may_be_clock, b"23-20", &none, (Ok(5), 4)),
+    ];
+    assert!(rt; answers == [true; 4]);
+    Ok(())
+}
+
+#[test]
+fn alternatives(rt: HostRuntime) -> Result<(), Fail> {
+    let hour = Err(ParseFromDescription::InvalidComponent("hour").into());
+    let none = Parsed::new();
+    let day = none.with_day(5).ok_or("a day")?;
+    let clock = [HOUR, COLON, MINUTE];
+    let either = [BorrowedFormatItem::Compound(&clock), DAY];
     let first = BorrowedFormatItem::First(&either);
     let day_alone = DAY;
     let may_be_day = BorrowedFormatItem::Optional(&day_alone);
-    let may_be_clock = BorrowedFormatItem::Optional(&in_turn);
-    let byte = BorrowedFormatItem::Literal(b"\x80");
-    let letter = BorrowedFormatItem::StringLiteral("x");
-    let nothing = BorrowedFormatItem::Compound(&[]);
     let none_of = BorrowedFormatItem::First(&[]);
     let answers = [
-        is_answer(&byte, b"\x80\xff", &none, (Ok(1), 1)),
-        is_answer(&byte, b"\x81", &none, (literal, 1)),
-        is_answer(&letter, b"x", &none, (Ok(0), 1)),
         is_answer(&DAY, b"05x", &day, (Ok(1), 1)),
-        is_answer(&in_turn, b"23:20", &time, (Ok(0), 4)),
-        is_answer(&in_turn, b"23-20", &none, (literal, 3)),
-        is_answer(&Items(&clock), b"23:20", &time, (Ok(0), 3)),
-        is_answer(&nothing, b"x", &none, (Ok(1), 1)),
         is_answer(&may_be_day, b"05", &day, (Ok(0), 2)),
         is_answer(&may_be_day, b"x", &none, (Ok(1), 2)),
-        is_answer(&may_be_clock, b"23-20", &none, (Ok(5), 4)),
         is_answer(&first, b"05-", &day, (Ok(1), 5)),
         is_answer(&first, b"x", &none, (hour, 4)),
         is_answer(&none_of, b"x", &none, (Ok(1), 1)),
     ];
-    assert!(rt; answers == [true; 14]);
+    assert!(rt; answers == [true; 6]);
     assert!(rt; places_of_items(&[first, may_be_day]) == 8);
     Ok(())
 }

@@ -63,13 +63,28 @@ fn refusals_come_back(rt: HostRuntime) {
 #[test]
 fn refusals_of_readings_come_back(rt: HostRuntime) {
     let (bytes, record) = (Parse::from(UNREAD), Parse::from(unresolved()));
-    assert!(rt; ParseFromDescription::try_from(bytes) == Ok(UNREAD));
-    assert!(rt; ParseFromDescription::try_from(record) == Err(DifferentVariant));
-    assert!(rt; TryFromParsed::try_from(record) == Ok(unresolved()));
-    assert!(rt; TryFromParsed::try_from(bytes) == Err(DifferentVariant));
-    assert!(rt; ComponentRange::try_from(unresolved()) == Ok(range()));
     let little = TryFromParsed::InsufficientInformation;
-    assert!(rt; ComponentRange::try_from(little) == Err(DifferentVariant));
+    let are_told = [
+        ParseFromDescription::try_from(bytes) == Ok(UNREAD),
+        ParseFromDescription::try_from(record) == Err(DifferentVariant),
+        TryFromParsed::try_from(record) == Ok(unresolved()),
+        TryFromParsed::try_from(bytes) == Err(DifferentVariant),
+        ComponentRange::try_from(unresolved()) == Ok(range()),
+        ComponentRange::try_from(little) == Err(DifferentVariant),
+    ];
+    assert!(rt; are_told == [true; 6]);
+}
+
+// Refusals of readings, and of what they say.
+fn readings() -> [Parse; 6] {
+    [
+        Parse::from(ParseFromDescription::InvalidLiteral),
+        Parse::from(UNREAD),
+        Parse::from(ParseFromDescription::UnexpectedTrailingCharacters),
+        Parse::from(TryFromParsed::InsufficientInformation),
+        Parse::from(unresolved()),
+        Parse::from(ComponentRange::unconditional(ComponentName::Minutes)),
+    ]
 }
 
 #[test]
@@ -78,14 +93,7 @@ fn texts(rt: HostRuntime) -> Result<(), Fail> {
     for error in all() {
         write!(told, "\n{error}")?;
     }
-    for fault in [
-        Parse::from(ParseFromDescription::InvalidLiteral),
-        Parse::from(UNREAD),
-        Parse::from(ParseFromDescription::UnexpectedTrailingCharacters),
-        Parse::from(TryFromParsed::InsufficientInformation),
-        Parse::from(unresolved()),
-        Parse::from(ComponentRange::unconditional(ComponentName::Minutes)),
-    ] {
+    for fault in readings() {
         write!(told, "\n{fault}")?;
     }
     assert_eq!(rt; told.as_str(), TEXTS);

@@ -22,18 +22,20 @@ const WHOLE: Option<(i64, u32)> = Some((1_609_553_045, 0));
 fn moments(rt: HostRuntime) {
     let half = Fraction::new(500_000_000);
     let none = Fraction::new(0);
-    assert!(rt; instant(Fields::new(2021, 1, 2, 184, 5, half, 60)) == HALF);
-    assert!(rt; instant(Fields::new(2000, 2, 29, 0, 0, none, 0)) == Some((951_782_400, 0)));
-    assert!(rt; instant(Fields::new(2021, 2, 29, 0, 0, none, 0)) == None);
-    assert!(rt; instant(Fields::new(2021, 1, 2, 184, 60, none, 0)) == None);
+    let instants = [
+        instant(Fields::new(2021, 1, 2, 184, 5, half, 60)),
+        instant(Fields::new(2000, 2, 29, 0, 0, none, 0)),
+        instant(Fields::new(2021, 2, 29, 0, 0, none, 0)),
+        instant(Fields::new(2021, 1, 2, 184, 60, none, 0)),
+    ];
+    assert!(rt; instants == [HALF, Some((951_782_400, 0)), None, None]);
 }
 
 #[test]
 fn minutes(rt: HostRuntime) {
-    assert!(rt; minute_of_day(23, 59) == Some(1439));
-    assert!(rt; minute_of_day(24, 0) == None);
-    assert!(rt; signed_minutes(true, 5, 30) == Some(-330));
-    assert!(rt; signed_minutes(false, 26, 0) == None);
+    assert!(rt; [minute_of_day(23, 59), minute_of_day(24, 0)] == [Some(1439), None]);
+    let minutes = [signed_minutes(true, 5, 30), signed_minutes(false, 26, 0)];
+    assert!(rt; minutes == [Some(-330), None]);
 }
 
 #[test]
@@ -51,15 +53,14 @@ fn fractions(rt: HostRuntime) {
 
 #[test]
 fn formats(rt: HostRuntime) {
-    let rfc3339 = parsing_rfc3339::read_fields(b"2021-01-02T03:04:05.5+01:00");
-    let rfc2822 = parsing_rfc2822::read_fields(b"Sat, 02 Jan 2021 03:04:05 +0100");
-    let extended = parsing_iso8601::read_fields(b"2021-01-02T03:04:05.5+01:00");
-    let basic = parsing_iso8601::read_fields(b"20210102T030405.5+0100");
-    assert!(rt; instant(rfc3339) == HALF);
-    assert!(rt; instant(rfc2822) == WHOLE);
-    assert!(rt; instant(extended) == HALF);
-    assert!(rt; instant(basic) == HALF);
-    assert!(rt; instant(parsing_rfc3339::read_fields(b"2016-12-31T23:59:60Z")) == None);
+    let instants = [
+        instant(parsing_rfc3339::read_fields(b"2021-01-02T03:04:05.5+01:00")),
+        instant(parsing_rfc2822::read_fields(b"Sat, 02 Jan 2021 03:04:05 +0100")),
+        instant(parsing_iso8601::read_fields(b"2021-01-02T03:04:05.5+01:00")),
+        instant(parsing_iso8601::read_fields(b"20210102T030405.5+0100")),
+        instant(parsing_rfc3339::read_fields(b"2016-12-31T23:59:60Z")),
+    ];
+    assert!(rt; instants == [HALF, WHOLE, HALF, HALF, None]);
 }
 
 #[test]

@@ -18,6 +18,24 @@ fn set_years(parsed: &mut Parsed, year: i32, century: i16, last_two: u8) -> [Opt
     ]
 }
 
+// The fields of a date that `set_years` leaves, with the signs of its two centuries.
+fn year_fields(
+    year: i32,
+    century: i16,
+    last_two: u8,
+    signs: (Option<i32>, Option<i32>),
+) -> [Option<i32>; 15] {
+    let (year, century, last_two) = (
+        Some(year),
+        Some(i32::from(century)),
+        Some(i32::from(last_two)),
+    );
+    [
+        year, century, signs.0, last_two, year, century, signs.1, last_two, None, None, None, None,
+        None, None, None,
+    ]
+}
+
 // A century's sign is its number's, and that of 0 as it is said.
 #[test]
 fn years(rt: HostRuntime) {
@@ -30,15 +48,7 @@ fn years(rt: HostRuntime) {
         let set = set_years(&mut parsed, year, century, last_two);
         let low = set_years(&mut parsed, -1_000_000, -10_000, 100);
         let high = set_years(&mut parsed, 1_000_000, 10_000, 100);
-        let mut wanted = [None; 15];
-        wanted[0] = Some(year);
-        wanted[1] = Some(i32::from(century));
-        wanted[2] = signs.0;
-        wanted[3] = Some(i32::from(last_two));
-        wanted[4] = Some(year);
-        wanted[5] = Some(i32::from(century));
-        wanted[6] = signs.1;
-        wanted[7] = Some(i32::from(last_two));
+        let wanted = year_fields(year, century, last_two, signs);
         let got = (set, low, high, date_fields(&parsed));
         assert!(rt;
             got == ([Some(()); 6], [None; 6], [None; 6], wanted),
@@ -83,8 +93,8 @@ fn days(rt: HostRuntime) {
         assert!(rt;
             (set, names, low, high) == ([Some(()); 5], (Some(()), Some(())), [None; 5], [None; 5])
         );
-        assert!(rt; weeks == (Some(week), Some(week), Some(iso_week)));
-        assert!(rt; got == (Some(month), Some(weekday), Some(ordinal), Some(day)));
+        let wanted = (Some(month), Some(weekday), Some(ordinal), Some(day));
+        assert!(rt; (weeks, got) == ((Some(week), Some(week), Some(iso_week)), wanted));
     }
 }
 
@@ -121,8 +131,8 @@ fn clocks(rt: HostRuntime) {
         let hours = (parsed.hour_24(), parsed.hour_12(), parsed.hour_12_is_pm());
         let got = (parsed.minute(), parsed.second(), parsed.subsecond());
         assert!(rt; (set, is_pm, low, high) == ([Some(()); 5], Some(()), [None; 5], [None; 5]));
-        assert!(rt; hours == (Some(hour), Some(half), Some(true)));
-        assert!(rt; got == (Some(minute), Some(second), Some(subsecond)));
+        let wanted = (Some(minute), Some(second), Some(subsecond));
+        assert!(rt; (hours, got) == ((Some(hour), Some(half), Some(true)), wanted));
     }
 }
 

@@ -77,7 +77,7 @@ pub trait Parsable {
     }
 
     /// Reads all of the bytes into a record, without defaults.
-    fn parse(&self, input: &[u8]) -> Result<Parsed, Parse>
+    final fn parse(&self, input: &[u8]) -> Result<Parsed, Parse>
         ensures record { Gives (λ r. r) fault_of result
             (whole (meaning (reading self.now)) None input.now) }
         ensures short_name { IfErr result (λ e. HasShortName (fault_of e)) }
@@ -87,7 +87,7 @@ pub trait Parsable {
 
     /// The date that all of the bytes name. A year and the day in it count first, then a year, a month and a day,
     /// then the weeks: of ISO 8601, from Sunday, from Monday.
-    fn parse_date(&self, input: &[u8], defaults: Option<Parsed>) -> Result<Date, Parse>
+    final fn parse_date(&self, input: &[u8], defaults: Option<Parsed>) -> Result<Date, Parse>
         ensures value { Gives (λ value. value) fault_of result
             (names date_named (whole (meaning (reading self.now)) defaults input.now)) }
         ensures short_name { IfErr result (λ e. HasShortName (fault_of e)) }
@@ -100,7 +100,7 @@ pub trait Parsable {
 
     /// The time of day that all of the bytes name: its hour has to be said, and what is finer than the last part said
     /// is 0. Second 60 is out of range.
-    fn parse_time(&self, input: &[u8], defaults: Option<Parsed>) -> Result<Time, Parse>
+    final fn parse_time(&self, input: &[u8], defaults: Option<Parsed>) -> Result<Time, Parse>
         ensures value { Gives (λ value. value) fault_of result
             (names time_named (whole (meaning (reading self.now)) defaults input.now)) }
         ensures short_name { IfErr result (λ e. HasShortName (fault_of e)) }
@@ -112,7 +112,7 @@ pub trait Parsable {
     }
 
     /// The offset that all of the bytes name: its hour has to be said, minutes and seconds that are not are 0.
-    fn parse_offset(&self, input: &[u8], defaults: Option<Parsed>) -> Result<UtcOffset, Parse>
+    final fn parse_offset(&self, input: &[u8], defaults: Option<Parsed>) -> Result<UtcOffset, Parse>
         ensures value { Gives (λ value. value) fault_of result
             (names offset_named (whole (meaning (reading self.now)) defaults input.now)) }
         ensures short_name { IfErr result (λ e. HasShortName (fault_of e)) }
@@ -125,7 +125,7 @@ pub trait Parsable {
 
     /// The date and the time of day that all of the bytes name, whatever they say of an offset. Second 60 is out of
     /// range.
-    fn parse_plain_date_time(
+    final fn parse_plain_date_time(
         &self,
         input: &[u8],
         defaults: Option<Parsed>,
@@ -142,7 +142,7 @@ pub trait Parsable {
 
     /// The moment in UTC that all of the bytes name. One without the hour of an offset is in UTC. Its day in UTC has
     /// to be one of the calendar, or the year is out of range.
-    fn parse_utc_date_time(
+    final fn parse_utc_date_time(
         &self,
         input: &[u8],
         defaults: Option<Parsed>,
@@ -159,7 +159,11 @@ pub trait Parsable {
 
     /// The instant that all of the bytes name: of Unix time, or of a date, a time of day and an offset. Where it is
     /// of these, any refusal but one of reading is `InsufficientInformation`.
-    fn parse_timestamp(&self, input: &[u8], defaults: Option<Parsed>) -> Result<Timestamp, Parse>
+    final fn parse_timestamp(
+        &self,
+        input: &[u8],
+        defaults: Option<Parsed>,
+    ) -> Result<Timestamp, Parse>
         ensures value { Gives (λ value. value) fault_of result
             (names timestamp_named (whole (meaning (reading self.now)) defaults input.now)) }
         ensures short_name { IfErr result (λ e. HasShortName (fault_of e)) }
