@@ -1,6 +1,6 @@
 //! Texts with escapes.
 
-use std::alloc::{AllocError, Global};
+use crate::telling::Told;
 
 // What an escape's letter stands for. A backslash stands for itself.
 fn meant(letter: char) -> char {
@@ -12,34 +12,34 @@ fn meant(letter: char) -> char {
     }
 }
 
-/// The text that is meant.
-pub fn unescaped(alloc: Global, text: &str) -> Result<String, AllocError> {
-    let mut plain = String::new(alloc);
+/// Adds the text that is meant.
+pub fn unescape(text: &str, plain: &mut String) -> Told {
     let mut is_escape = false;
     for letter in text.chars() {
-        if is_escape {
-            plain.push(meant(letter))?;
-            is_escape = false;
-        } else if letter == '\\' {
+        if letter == '\\' && !is_escape {
             is_escape = true;
         } else {
-            plain.push(letter)?;
+            plain.push(if is_escape { meant(letter) } else { letter })?;
+            is_escape = false;
         }
     }
-    Ok(plain)
+    Ok(())
 }
 
-/// The same, written with escapes.
-pub fn escaped(alloc: Global, plain: &str) -> Result<String, AllocError> {
-    let mut text = String::new(alloc);
+/// Adds a text with its escapes.
+pub fn escape(plain: &str, text: &mut String) -> Told {
     for letter in plain.chars() {
-        match letter {
-            '\n' => text.push_str("\\n")?,
-            '\r' => text.push_str("\\r")?,
-            '\t' => text.push_str("\\t")?,
-            '\\' => text.push_str("\\\\")?,
-            _ => text.push(letter)?,
-        }
+        escape_letter(letter, text)?;
     }
-    Ok(text)
+    Ok(())
+}
+
+fn escape_letter(letter: char, text: &mut String) -> Told {
+    match letter {
+        '\n' => text.push_str("\\n"),
+        '\r' => text.push_str("\\r"),
+        '\t' => text.push_str("\\t"),
+        '\\' => text.push_str("\\\\"),
+        _ => text.push(letter),
+    }
 }

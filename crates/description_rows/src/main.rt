@@ -15,17 +15,18 @@
 //! A text stands as it is. Behind a `\` before the call, `\t`, `\r` and `\n` in the text and in what is told are a
 //! tab, a carriage return and a line feed, and `\\` is a backslash. Where versions differ, the row shows the first that
 //! differs from the one before, with ` (in N)` behind it. Blank lines, and lines that begin with `#`, stay as they are,
-//! and a line that is no row is written behind a `?`.
+//! a line that has no ` => ` is written behind a `?`, and a row that names no such call is answered by a `?`.
 #![tactic(auto)]
 
 mod escapes;
 mod rows;
-mod told;
+mod telling;
 mod words;
 
 use std::alloc::{AllocError, Global};
 use std::io;
 use std::process::ExitCode;
+use telling::Told;
 
 fn main(rt: HostRuntime) -> ExitCode {
     let Ok(text) = io::read_to_string(rt.alloc(), rt.stdin()) else {
@@ -47,12 +48,14 @@ fn main(rt: HostRuntime) -> ExitCode {
 fn answered(alloc: Global, text: &str) -> Result<String, AllocError> {
     let mut all = String::new(alloc);
     for line in text.lines() {
-        if line.is_empty() || line.starts_with('#') {
-            all.push_str(line)?;
-        } else {
-            rows::push_answered(alloc, line, &mut all)?;
-        }
-        all.push('\n')?;
+        add_line(alloc, &mut all, line)?;
     }
     Ok(all)
+}
+
+fn add_line(alloc: Global, all: &mut String, line: &str) -> Told {
+    if line.is_empty() || line.starts_with('#') {
+        return writeln!(all, "{line}");
+    }
+    rows::add_answered(alloc, all, line)
 }

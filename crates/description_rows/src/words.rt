@@ -1,9 +1,11 @@
 //! What is told of the words of a description.
 
-use description_faults::DescriptionFault;
+use crate::telling::{Told, tell_fault, tell_no_call};
+use description::{Component, DescriptionFault};
 use description_tables::component_of;
 use description_words::{
-    DescriptionVersion, begins, escape, is_named, literal, modifiers_of, name_of, whole_of,
+    DescriptionVersion, Modifier, Rest, begins, escape, is_named, literal, modifiers_of, name_of,
+    whole_of,
 };
 use std::alloc::Global;
 
@@ -12,63 +14,56 @@ pub fn component<'a>(
     alloc: Global,
     version: DescriptionVersion,
     text: &'a str,
-) -> Result<Option<String>, DescriptionFault<'a>> {
+) -> Result<Component, DescriptionFault<'a>> {
     let (name, rest) = name_of(0, whole_of(text))?;
     let (all, _) = modifiers_of(alloc, rest)?;
-    let component = component_of(version, name, all.as_slice())?;
-    Ok(Some(format!(in alloc; "{component:?}")?))
+    Ok(component_of(version, name, all.as_slice())?)
 }
 
 /// Whether a word is a name, where both are there.
-pub fn named<'a>(
-    alloc: Global,
-    version: DescriptionVersion,
-    text: &'a str,
-) -> Result<Option<String>, DescriptionFault<'a>> {
-    let Some((word, name)) = text.split_once(' ') else {
-        return Ok(None);
-    };
-    let is_named = is_named(version, word, name);
-    Ok(Some(format!(in alloc; "{is_named}")?))
+pub fn tell_named(told: &mut String, version: DescriptionVersion, text: &str) -> Told {
+    match text.split_once(' ') {
+        Some((word, name)) => write!(told, "{}", is_named(version, word, name)),
+        None => tell_no_call(told),
+    }
 }
 
 /// The text that stands for itself, and the byte index behind it. A text that is empty has none.
-pub fn front<'a>(
-    alloc: Global,
-    version: DescriptionVersion,
-    text: &'a str,
-) -> Result<Option<String>, DescriptionFault<'a>> {
+pub fn tell_literal(told: &mut String, version: DescriptionVersion, text: &str) -> Told {
     if text.is_empty() {
-        return Ok(None);
+        return tell_no_call(told);
     }
     let (front, rest) = literal(version, whole_of(text));
-    let end = rest.index;
-    Ok(Some(format!(in alloc; "{front} up to {end}")?))
+    write!(told, "{front} up to {}", rest.index)
 }
 
 /// What the escape in front stands for, and what follows it. A text that begins otherwise has none.
-pub fn escaped<'a>(alloc: Global, text: &'a str) -> Result<Option<String>, DescriptionFault<'a>> {
+pub fn tell_escape(told: &mut String, text: &str) -> Told {
     if !begins(text, b'\\') {
-        return Ok(None);
+        return tell_no_call(told);
     }
-    let (front, rest) = escape(whole_of(text))?;
-    let rest = rest.text;
-    Ok(Some(format!(in alloc; "{front} then {rest}")?))
+    match escape(whole_of(text)) {
+        Ok((front, rest)) => write!(told, "{front} then {}", rest.text),
+        Err(fault) => write!(told, "{fault}"),
+    }
 }
 
 /// Each key and value behind its byte index, and what follows them.
-pub fn modifiers<'a>(alloc: Global, text: &'a str) -> Result<Option<String>, DescriptionFault<'a>> {
-    let (all, rest) = modifiers_of(alloc, whole_of(text))?;
-    let mut told = String::new(alloc);
-    for modifier in &all {
-        let (key, value) = (modifier.key, modifier.value);
-        write!(
-            told,
-            "{} {}, {} {}, ",
-            key.index, key.text, value.index, value.text
-        )?;
+pub fn tell_modifiers(alloc: Global, told: &mut String, text: &str) -> Told {
+    match modifiers_of(alloc, whole_of(text)) {
+        Ok((all, rest)) => tell_all(told, all.as_slice(), rest.text),
+        Err(fault) => tell_fault(told, fault),
     }
-    told.push_str("then ")?;
-    told.push_str(rest.text)?;
-    Ok(Some(told))
+}
+
+fn tell_all(told: &mut String, all: &[Modifier<'_>], rest: &str) -> Told {
+    for modifier in all {
+        tell_part(told, modifier.key)?;
+        tell_part(told, modifier.value)?;
+    }
+    write!(told, "then {rest}")
+}
+
+fn tell_part(told: &mut String, part: Rest<'_>) -> Told {
+    write!(told, "{} {}, ", part.index, part.text)
 }

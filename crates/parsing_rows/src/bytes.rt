@@ -1,23 +1,20 @@
 //! Bytes as text: `\n`, `\r`, `\t`, `\\` and `\xHH` are one byte each.
 
-use crate::row_fault::{RowFault, Told};
-use std::alloc::{AllocError, Global};
+use crate::telling::Told;
 
-/// The bytes that a text stands for.
-pub fn unescaped(alloc: Global, text: &str) -> Result<Vec<u8>, RowFault> {
-    let mut bytes = Vec::new(alloc);
+/// Adds the bytes that a text stands for. A backslash that begins no escape stands for itself.
+pub fn unescape(text: &str, bytes: &mut Vec<u8>) -> Told {
     let mut rest = text;
     for _ in 0..text.len() {
         let Some((plain, escape)) = rest.split_once('\\') else {
             break;
         };
         bytes.extend_from_slice(plain.as_bytes())?;
-        let (byte, after) = escaped(escape).ok_or(RowFault::NoRow)?;
-        bytes.push(byte).map_err(AllocError::from)?;
+        let (byte, after) = escaped(escape).unwrap_or((b'\\', escape));
+        bytes.push(byte)?;
         rest = after;
     }
-    bytes.extend_from_slice(rest.as_bytes())?;
-    Ok(bytes)
+    bytes.extend_from_slice(rest.as_bytes())
 }
 
 // The byte that stands behind a backslash, and what follows.
@@ -39,18 +36,22 @@ fn escaped(text: &str) -> Option<(u8, &str)> {
 /// The rest that a reading leaves, in quotes, or `none` where it fails.
 pub fn tell_rest(told: &mut String, rest: Option<&[u8]>) -> Told {
     let Some(rest) = rest else {
-        return Ok(told.push_str("none")?);
+        return told.push_str("none");
     };
     told.push_str("\"")?;
     for byte in rest {
-        match byte {
-            b'\n' => told.push_str("\\n")?,
-            b'\r' => told.push_str("\\r")?,
-            b'\t' => told.push_str("\\t")?,
-            b'\\' => told.push_str("\\\\")?,
-            b' '..=b'~' => told.push(char::from(*byte))?,
-            _ => write!(told, "\\x{byte:02x}")?,
-        }
+        tell_byte(told, *byte)?;
     }
-    Ok(told.push_str("\"")?)
+    told.push_str("\"")
+}
+
+fn tell_byte(told: &mut String, byte: u8) -> Told {
+    match byte {
+        b'\n' => told.push_str("\\n"),
+        b'\r' => told.push_str("\\r"),
+        b'\t' => told.push_str("\\t"),
+        b'\\' => told.push_str("\\\\"),
+        b' '..=b'~' => told.push(char::from(byte)),
+        _ => write!(told, "\\x{byte:02x}"),
+    }
 }

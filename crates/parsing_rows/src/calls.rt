@@ -1,7 +1,7 @@
 //! The calls of `Parsable`, told in words.
 
 use crate::records::{record_of, tell, tell_fields};
-use crate::row_fault::{RowFault, Told};
+use crate::telling::{Told, tell_no_call};
 use parsing::{Parsable, Parse, ParseFromDescription, Parsed, TryFromParsed};
 use std::fmt::Display;
 
@@ -48,23 +48,46 @@ fn tell_front(told: &mut String, parsed: &Parsed, answer: Result<&[u8], Parse>) 
     }
 }
 
+// What the reading of a front answers, from a record.
+fn tell_into<P: Parsable>(told: &mut String, reader: &P, input: &[u8], mut parsed: Parsed) -> Told {
+    let answer = reader.parse_into(input, &mut parsed);
+    tell_front(told, &parsed, answer)
+}
+
+// The same, behind how many items were tried.
+fn tell_counted<P: Parsable>(
+    told: &mut String,
+    reader: &P,
+    input: &[u8],
+    mut parsed: Parsed,
+) -> Told {
+    let (answer, count) = reader.parse_into_counted(input, &mut parsed);
+    tell(told, format_args!("{count} tried"))?;
+    tell_front(told, &parsed, answer)
+}
+
 /// What a call answers: a value, a record's fields, or a fault. Behind a `+` stands what the reading begins with.
 pub fn tell_call<P: Parsable>(told: &mut String, reader: &P, call: &str, input: &[u8]) -> Told {
-    let (call, defaults) = match call.split_once('+') {
-        Some((call, words)) => (call, Some(record_of(words).ok_or(RowFault::NoRow)?)),
-        None => (call, None),
+    let Some((call, words)) = call.split_once('+') else {
+        return tell_answer(told, reader, call, input, None);
     };
-    let mut parsed = defaults.unwrap_or(Parsed::new());
+    match record_of(words) {
+        None => tell_no_call(told),
+        defaults => tell_answer(told, reader, call, input, defaults),
+    }
+}
+
+// The same, with what the reading begins with.
+fn tell_answer<P: Parsable>(
+    told: &mut String,
+    reader: &P,
+    call: &str,
+    input: &[u8],
+    defaults: Option<Parsed>,
+) -> Told {
     match call {
-        "into" => {
-            let answer = reader.parse_into(input, &mut parsed);
-            tell_front(told, &parsed, answer)
-        }
-        "counted" => {
-            let (answer, count) = reader.parse_into_counted(input, &mut parsed);
-            tell(told, format_args!("{count} tried"))?;
-            tell_front(told, &parsed, answer)
-        }
+        "into" => tell_into(told, reader, input, defaults.unwrap_or(Parsed::new())),
+        "counted" => tell_counted(told, reader, input, defaults.unwrap_or(Parsed::new())),
         "parse" => tell_record(told, &reader.parse(input)),
         "internal" => tell_record(told, &reader.parse_internal(input, defaults)),
         _ => tell_value_of(told, reader, call, input, defaults),
@@ -87,6 +110,6 @@ fn tell_value_of<P: Parsable>(
         "utc" => tell_value(told, &reader.parse_utc_date_time(input, defaults)),
         "moment" => tell_value(told, &reader.parse_offset_date_time(input, defaults)),
         "timestamp" => tell_value(told, &reader.parse_timestamp(input, defaults)),
-        _ => Err(RowFault::NoRow),
+        _ => tell_no_call(told),
     }
 }

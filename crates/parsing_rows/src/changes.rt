@@ -1,7 +1,7 @@
 //! Rows of texts that are cut or changed: `changes rfc2822 | 1 Jul 03 (x) 10:52 (y) EST (zz) => 601`.
 ghost use Rattle.std.specs.Prelude.{◌<◌, length};
 
-use crate::row_fault::{RowFault, Told};
+use crate::telling::{Told, tell_no_call};
 use datetime_types::OffsetDateTime;
 use parsing::{Iso8601, Parsable, Parse, Parsed, Rfc2822, Rfc3339, TwoRoads};
 
@@ -31,12 +31,12 @@ fn is_read_alike<F: TwoRoads>(format: &F, input: &[u8]) -> bool {
 }
 
 // Whether a text is read by RFC 2822 or ISO 8601, or the ways to read it differ.
-fn holds(call: &str, input: &[u8]) -> Result<bool, RowFault> {
+fn holds(call: &str, input: &[u8]) -> Option<bool> {
     match call {
-        "rfc2822" => Ok(Rfc2822.read_direct(input).is_ok()),
-        "iso8601" => Ok(Iso8601.parse_offset_date_time(input, None).is_ok()),
-        "differ" => Ok(!is_all_alike(input)),
-        _ => Err(RowFault::NoRow),
+        "rfc2822" => Some(Rfc2822.read_direct(input).is_ok()),
+        "iso8601" => Some(Iso8601.parse_offset_date_time(input, None).is_ok()),
+        "differ" => Some(!is_all_alike(input)),
+        _ => None,
     }
 }
 
@@ -51,26 +51,34 @@ fn is_all_alike(input: &[u8]) -> bool {
         && is_found(parsing_iso8601::read_fast(input), &iso8601)
 }
 
+/// Tells how many they are.
+pub fn tell_count(told: &mut String, count: Option<u64>) -> Told {
+    match count {
+        Some(count) => write!(told, "{count}"),
+        None => tell_no_call(told),
+    }
+}
+
 /// Of how many fronts of the text, without itself, this holds.
-pub fn tell_fronts(told: &mut String, call: &str, input: &[u8]) -> Told {
+pub fn count_fronts(call: &str, input: &[u8]) -> Option<u64> {
     let mut count = 0u64;
     for end in 0..input.len() {
         count = count.wrapping_add(u64::from(holds(call, &input[..end])?));
     }
-    Ok(write!(told, "{count}")?)
+    Some(count)
 }
 
 /// Of how many texts this holds that have one of these bytes in one place.
-pub fn tell_changes(told: &mut String, call: &str, input: &mut [u8], bytes: (u8, u8)) -> Told {
+pub fn count_changes(call: &str, input: &mut [u8], bytes: (u8, u8)) -> Option<u64> {
     let mut count = 0u64;
     for place in 0..input.len() {
         count = count.wrapping_add(count_at(call, input, place, bytes)?);
     }
-    Ok(write!(told, "{count}")?)
+    Some(count)
 }
 
 // The same for one place.
-fn count_at(call: &str, input: &mut [u8], place: usize, bytes: (u8, u8)) -> Result<u64, RowFault>
+fn count_at(call: &str, input: &mut [u8], place: usize, bytes: (u8, u8)) -> Option<u64>
     requires { place < length input.old }
 {
     let mut count = 0u64;
@@ -80,5 +88,5 @@ fn count_at(call: &str, input: &mut [u8], place: usize, bytes: (u8, u8)) -> Resu
         count = count.wrapping_add(u64::from(holds(call, input)?));
     }
     input[place] = before;
-    Ok(count)
+    Some(count)
 }

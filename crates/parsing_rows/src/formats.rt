@@ -2,23 +2,23 @@
 //! is the reading without a record, whose fault is told as it is printed, and `fast` its fast way.
 
 use crate::calls::tell_call;
-use crate::row_fault::Told;
+use crate::telling::Told;
 use parsing::{Iso8601, Parsable, Rfc2822, Rfc3339, TwoRoads, is_valid_leap_second_stand_in};
 use std::fmt::{Debug, Display};
 
 // A value or a fault, as it is printed.
 fn tell_printed<T: Display, E: Display>(told: &mut String, answer: &Result<T, E>) -> Told {
     match answer {
-        Ok(value) => Ok(write!(told, "{value}")?),
-        Err(fault) => Ok(write!(told, "{fault}")?),
+        Ok(value) => write!(told, "{value}"),
+        Err(fault) => write!(told, "{fault}"),
     }
 }
 
 // What a front says and how many bytes are left, or why there is none.
 fn tell_parts<T: Debug, E: Display>(told: &mut String, answer: &Result<(T, &[u8]), E>) -> Told {
     match answer {
-        Ok((parts, rest)) => Ok(write!(told, "{parts:?}, {} left", rest.len())?),
-        Err(fault) => Ok(write!(told, "{fault}")?),
+        Ok((parts, rest)) => write!(told, "{parts:?}, {} left", rest.len()),
+        Err(fault) => write!(told, "{fault}"),
     }
 }
 
@@ -27,8 +27,8 @@ pub fn tell_rfc3339(told: &mut String, call: &str, input: &[u8]) -> Told {
     match call {
         "read" => tell_printed(told, &Rfc3339.read_direct(input)),
         "stand_in" => match Rfc3339.read_direct(input) {
-            Ok(moment) => Ok(write!(told, "{}", is_valid_leap_second_stand_in(moment))?),
-            Err(fault) => Ok(write!(told, "{fault}")?),
+            Ok(moment) => write!(told, "{}", is_valid_leap_second_stand_in(moment)),
+            Err(fault) => write!(told, "{fault}"),
         },
         _ => tell_call(told, &Rfc3339, call, input),
     }

@@ -1,7 +1,7 @@
 //! `parsing_rows`: reads rows from standard input, and writes each with what is answered behind its last ` => `.
 //!
-//! A blank line and one that begins with `#` are written as they are, and a line that is no row as `? LINE`. Of a row
-//! `WORD CALL ARGUMENTS | INPUT => ANSWER` the first word says what is called:
+//! A blank line and one that begins with `#` are written as they are, and a line that has no ` => ` as `? LINE`. Of a
+//! row `WORD CALL ARGUMENTS | INPUT => ANSWER` the first word says what is called. Where that can't be, `?` is answered.
 //!
 //! - `23`, `s`: a description, in each of these versions or by the letters of `strftime` (`descriptions`);
 //! - `rfc3339`, `rfc2822`, `iso8601`: a format (`formats`);
@@ -19,74 +19,90 @@ mod descriptions;
 mod formats;
 mod pieces;
 mod records;
-mod row_fault;
+mod telling;
 
-use row_fault::{RowFault, Told};
+use changes::{count_changes, count_fronts, tell_count};
 use std::alloc::{AllocError, Global};
 use std::io;
 use std::process::ExitCode;
+use telling::{Told, tell_no_call};
 
 fn main(rt: HostRuntime) -> ExitCode {
-    match run(&rt) {
-        Ok(()) => ExitCode::SUCCESS,
-        Err(fault) => {
-            let _ = eprintln!(rt; "parsing_rows: {fault}");
-            ExitCode::FAILURE
-        }
+    let Ok(text) = io::read_to_string(rt.alloc(), rt.stdin()) else {
+        let _ = eprintln!(rt; "parsing_rows: the input can't be read");
+        return ExitCode::FAILURE;
+    };
+    let Ok(answers) = answers(rt.alloc(), text.as_str()) else {
+        let _ = eprintln!(rt; "parsing_rows: out of memory");
+        return ExitCode::FAILURE;
+    };
+    if rt.print(answers.as_str()).is_err() {
+        let _ = eprintln!(rt; "parsing_rows: writing failed");
+        return ExitCode::FAILURE;
     }
-}
-
-// Answers standard input on standard output, or says why not.
-fn run(rt: &HostRuntime) -> Result<(), &'static str> {
-    let text = io::read_to_string(rt.alloc(), rt.stdin()).map_err(|_| "the input can't be read")?;
-    let answers = answers(rt.alloc(), text.as_str()).map_err(|_| "out of memory")?;
-    rt.print(answers.as_str()).map_err(|_| "writing failed")
+    ExitCode::SUCCESS
 }
 
 // Each line with its answer.
 fn answers(alloc: Global, text: &str) -> Result<String, AllocError> {
     let mut answers = String::new(alloc);
     for line in text.lines() {
-        let row = line.rsplit_once(" => ");
-        match row {
-            _ if line.is_empty() || line.starts_with('#') => writeln!(answers, "{line}")?,
-            None => writeln!(answers, "? {line}")?,
-            Some((row, _)) => match answer(alloc, row) {
-                Ok(answer) => writeln!(answers, "{row} => {answer}")?,
-                Err(RowFault::NoRow) => writeln!(answers, "? {line}")?,
-                Err(RowFault::Memory) => return Err(AllocError),
-            },
-        }
+        add_answered(alloc, &mut answers, line)?;
     }
     Ok(answers)
 }
 
+// Adds a line with its answer.
+fn add_answered(alloc: Global, answers: &mut String, line: &str) -> Told {
+    if line.is_empty() || line.starts_with('#') {
+        return writeln!(answers, "{line}");
+    }
+    let Some((row, _)) = line.rsplit_once(" => ") else {
+        return writeln!(answers, "? {line}");
+    };
+    let mut answer = String::new(alloc);
+    tell_row(alloc, &mut answer, row)?;
+    writeln!(answers, "{row} => {answer}")
+}
+
 // What is answered to a row.
-fn answer(alloc: Global, row: &str) -> Result<String, RowFault> {
-    let (word, row) = row.split_once(' ').ok_or(RowFault::NoRow)?;
-    let (call, input) = row.split_once(" | ").ok_or(RowFault::NoRow)?;
-    match word {
-        "rfc3339" | "rfc2822" | "iso8601" | "white" | "piece" | "fronts" | "changes" | "crossed" =>
-            {
-                let mut input = bytes::unescaped(alloc, input)?;
-                let mut told = String::new(alloc);
-                answer_bytes(&mut told, word, call, input.as_mut_slice())?;
-                Ok(told)
-            }
-        _ => descriptions::answer(alloc, word, call, input),
+fn tell_row(alloc: Global, told: &mut String, row: &str) -> Told {
+    let Some((word, call, input)) = parts_of(row) else {
+        return tell_no_call(told);
+    };
+    match word.as_bytes() {
+        [b's' | b'1'..=b'3', ..] => {
+            descriptions::tell_each(alloc, told, word, call, input.as_bytes())
+        }
+        _ => tell_unescaped(alloc, told, word, call, input),
     }
 }
 
-// The same for a row whose input is bytes.
-fn answer_bytes(told: &mut String, word: &str, call: &str, input: &mut [u8]) -> Told {
+// The word, the call and the input of a row.
+fn parts_of(row: &str) -> Option<(&str, &str, &str)> {
+    let (word, row) = row.split_once(' ')?;
+    let (call, input) = row.split_once(" | ")?;
+    Some((word, call, input))
+}
+
+// What is answered to a row whose input is bytes.
+fn tell_unescaped(alloc: Global, told: &mut String, word: &str, call: &str, input: &str) -> Told {
+    let mut bytes = Vec::new(alloc);
+    bytes::unescape(input, &mut bytes)?;
+    tell_bytes(told, word, call, bytes.as_mut_slice())
+}
+
+// The same for these bytes.
+fn tell_bytes(told: &mut String, word: &str, call: &str, input: &mut [u8]) -> Told {
     match word {
         "rfc3339" => formats::tell_rfc3339(told, call, input),
         "rfc2822" => formats::tell_rfc2822(told, call, input),
         "iso8601" => formats::tell_iso8601(told, call, input),
         "white" => pieces::tell_white_space(told, call, input),
         "piece" => pieces::tell_piece(told, call, input),
-        "fronts" => changes::tell_fronts(told, call, input),
-        "changes" => changes::tell_changes(told, call, input, (0, 255)),
-        _ => changes::tell_changes(told, call, input, (b'x', b'x')),
+        "fronts" => tell_count(told, count_fronts(call, input)),
+        "changes" => tell_count(told, count_changes(call, input, (0, 255))),
+        "crossed" => tell_count(told, count_changes(call, input, (b'x', b'x'))),
+        _ => tell_no_call(told),
     }
 }

@@ -2,7 +2,7 @@
 //! `none`.
 
 use crate::bytes::tell_rest;
-use crate::row_fault::{RowFault, Told};
+use crate::telling::{Told, tell_no_call};
 use parsing_pieces::{
     any_byte, byte, clock, digit_run, four_digits, fraction, nine_digits, one_digit, sign,
     six_digits, three_digits, two_digits, year_month,
@@ -16,8 +16,8 @@ pub fn tell_white_space(told: &mut String, call: &str, input: &[u8]) -> Told {
         "folding" => tell_rest(told, folding_white_space(input)),
         "comments" => tell_rest(told, comments_and_white_space(input)),
         "one_space" => tell_rest(told, one_space(input)),
-        "may_begin" => Ok(write!(told, "{}", may_begin(input))?),
-        _ => Err(RowFault::NoRow),
+        "may_begin" => write!(told, "{}", may_begin(input)),
+        _ => tell_no_call(told),
     }
 }
 
@@ -59,6 +59,6 @@ pub fn tell_piece(told: &mut String, call: &str, input: &[u8]) -> Told {
         "digit_run" => tell_run(told, digit_run(input)),
         "hyphen" => tell_rest(told, byte(b'-', input)),
         "any_byte" => tell_rest(told, any_byte(input)),
-        _ => Err(RowFault::NoRow),
+        _ => tell_no_call(told),
     }
 }

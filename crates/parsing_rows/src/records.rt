@@ -1,6 +1,6 @@
 //! Records in words, as they are told and as a reading begins with one.
 
-use crate::row_fault::Told;
+use crate::telling::Told;
 use parsing::Parsed;
 use std::fmt::Display;
 
@@ -59,7 +59,7 @@ fn time_fields(parsed: &Parsed) -> [(&'static str, Option<i128>); 12] {
 /// Tells one thing more, behind a comma where others stand.
 pub fn tell(told: &mut String, more: impl Display + Drop) -> Told {
     let comma = if told.is_empty() { "" } else { ", " };
-    Ok(write!(told, "{comma}{more}")?)
+    write!(told, "{comma}{more}")
 }
 
 /// Tells the fields that are there.
