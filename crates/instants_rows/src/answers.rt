@@ -11,8 +11,8 @@ const MOST_WRITTEN: usize = 1000;
 
 /// What is answered to these words and this stream, by whatever reads and writes.
 pub fn answer(alloc: Global, words: &[&str], stream: &[u8]) -> Result<String, AllocError> {
-    let answer = answer_by(alloc, words, stream, 1)?;
-    for most in [5, 26, 1000] {
+    let answer = answer_by(alloc, words, stream, MOST_WRITTEN)?;
+    for most in 1..27 {
         let other = answer_by(alloc, words, stream, most)?;
         if other != answer {
             return format!(in alloc; "{other} (by {most})");

@@ -7,9 +7,9 @@
 //!   written; where `\c` ends the row's stream it has none.
 //! - The answer is written so too. Where the program ends early, its sentence and its status stand behind what it wrote.
 //!
-//! Each row is written again with what is answered now. It is answered with reads and writes of at most 1, 5, 26 and
-//! 1000 bytes: an answer that differs from the one before is written with its size. A line that is no row is written
-//! behind a question mark; blank lines and comments, which begin with `#`, are written as they are.
+//! Each row is written again with what is answered now. It is answered with reads and writes of at most 1000 bytes, and
+//! of at most 1 to 26: an answer that differs then is written with its size. A line that is no row is written behind a
+//! question mark; blank lines and comments, which begin with `#`, are written as they are.
 #![tactic(auto)]
 
 mod answers;

@@ -1,21 +1,18 @@
 //! Readers and writers that fail, under the program's own lines.
 
-use crate::support::{Counting, End, Full, OUTPUT, STREAM, end_of, wanted_end, written_before};
-use calendar::UtcOffset;
-use instants::{ByteWriter, CutReader, CutWriter, RunFault, SourceText, StdWriter, Timeline, run};
+use crate::support::{
+    Counting, End, Full, OUTPUT, STREAM, end_of, timeline, wanted_end, written_before,
+};
+use instants::{ByteWriter, CutReader, CutWriter, RunFault, StdWriter, Timeline, run};
 use std::alloc::Global;
-use std::test::Fail;
+use std::process::Abort;
 
 const SIZES: [usize; 6] = [1, 2, 3, 5, 7, 26];
 
 // One source, and three in order: the first source names the stream's moment, and its fault is told.
-const LISTS: [&[SourceText<'static>]; 2] = [
-    &[SourceText::Rfc3339],
-    &[
-        SourceText::Rfc3339,
-        SourceText::Rfc2822,
-        SourceText::Strftime("%d/%b/%Y:%H:%M:%S %z"),
-    ],
+const LISTS: [&str; 2] = [
+    "+00:00|-|100|rfc3339",
+    "+00:00|-|100|rfc3339|rfc2822|strftime|%d/%b/%Y:%H:%M:%S %z",
 ];
 
 // How devices fail, if they do, after how many bytes.
@@ -38,24 +35,24 @@ fn ended(timeline: &Timeline, limit: usize, most: usize, failing: Failing, outpu
 
 // Whether runs with each list of sources, and reads and writes of each size, end so.
 fn end_so(
-    alloc: Global,
+    timelines: &[Timeline<'static>; 2],
     limit: usize,
     failing: Failing,
     answer: Result<(), RunFault>,
     output: &[u8],
-) -> Result<bool, Fail> {
-    for sources in LISTS {
-        if sources.is_empty() {
-            return Ok(false);
-        }
-        let timeline = Timeline::new(alloc, sources, UtcOffset::UTC, None)?;
+) -> bool {
+    for timeline in timelines {
         for most in SIZES {
-            if ended(&timeline, limit, most, failing, output) != wanted_end(answer) {
-                return Ok(false);
+            if ended(timeline, limit, most, failing, output) != wanted_end(answer) {
+                return false;
             }
         }
     }
-    Ok(true)
+    true
+}
+
+fn timelines(rt: &impl Abort, alloc: Global) -> [Timeline<'static>; 2] {
+    [timeline(rt, alloc, LISTS[0]), timeline(rt, alloc, LISTS[1])]
 }
 
 const NO_READ: Result<(), RunFault> = Err(RunFault::Read);
@@ -77,39 +74,37 @@ fn write_fails(after: usize) -> Failing {
 }
 
 #[test]
-fn reads_that_fail(rt: HostRuntime) -> Result<(), Fail> {
+fn reads_that_fail(rt: HostRuntime) {
+    let timelines = timelines(&rt, rt.alloc());
     for after in 0..27 {
         let output = written_before(after);
-        assert!(rt; end_so(rt.alloc(), 100, read_fails(after), NO_READ, output)?);
-    }
-    // a line that is longer than the limit
-    for (after, output) in [(23, b"".as_slice()), (24, b"! long\n".as_slice())] {
-        assert!(rt; end_so(rt.alloc(), 22, read_fails(after), NO_READ, output)?);
+        assert!(rt; end_so(&timelines, 100, read_fails(after), NO_READ, output));
     }
     let both = Failing {
         write: Some(0),
         ..read_fails(0)
     };
-    assert!(rt; end_so(rt.alloc(), 100, both, NO_READ, b"")?);
-    Ok(())
+    // a line that is longer than the limit, and devices that both fail
+    let ends = [
+        end_so(&timelines, 22, read_fails(23), NO_READ, b""),
+        end_so(&timelines, 22, read_fails(24), NO_READ, b"! long\n"),
+        end_so(&timelines, 100, both, NO_READ, b""),
+    ];
+    assert!(rt; ends == [true; 3]);
 }
 
 #[test]
-fn writes_that_fail(rt: HostRuntime) -> Result<(), Fail> {
+fn writes_that_fail(rt: HostRuntime) {
+    let timelines = timelines(&rt, rt.alloc());
     for after in 0..49 {
         let output = &OUTPUT[..after];
-        assert!(rt; end_so(rt.alloc(), 100, write_fails(after), NO_WRITE, output)?);
+        assert!(rt; end_so(&timelines, 100, write_fails(after), NO_WRITE, output));
     }
     let none = Failing {
         read: None,
         write: None,
     };
-    assert!(rt; end_so(rt.alloc(), 100, none, Ok(()), OUTPUT)?);
-    Ok(())
-}
-
-fn make_timeline(alloc: Global) -> Result<Timeline<'static>, Fail> {
-    Ok(Timeline::new(alloc, &[SourceText::Rfc3339], UtcOffset::UTC, None)?)
+    assert!(rt; end_so(&timelines, 100, none, Ok(()), OUTPUT));
 }
 
 // What a run answers whose writer takes so many bytes and then none, and whether that failed.
@@ -122,20 +117,19 @@ fn full(timeline: &Timeline, most: usize, room: usize) -> (Result<(), RunFault>,
 }
 
 #[test]
-fn writers_that_take_no_byte(rt: HostRuntime) -> Result<(), Fail> {
-    let timeline = make_timeline(rt.alloc())?;
+fn writers_that_take_no_byte(rt: HostRuntime) {
+    let timeline = timeline(&rt, rt.alloc(), LISTS[0]);
     for most in [1, 5, 26] {
         for room in 0..48 {
             assert!(rt; full(&timeline, most, room) == (NO_WRITE, true));
         }
         assert!(rt; full(&timeline, most, 48) == (Ok(()), false));
     }
-    Ok(())
 }
 
 #[test]
-fn one_line_is_two_reads(rt: HostRuntime) -> Result<(), Fail> {
-    let timeline = make_timeline(rt.alloc())?;
+fn one_line_is_two_reads(rt: HostRuntime) {
+    let timeline = timeline(&rt, rt.alloc(), LISTS[0]);
     let mut buffer = [0; 101];
     let mut space = [0; 100];
     let mut reader = Counting {
@@ -146,5 +140,4 @@ fn one_line_is_two_reads(rt: HostRuntime) -> Result<(), Fail> {
     let answer = run(&timeline, &mut buffer, &mut reader, &mut writer);
     let line = b"1985-04-12T23:20:50.520000000Z\n".as_slice();
     assert!(rt; (answer, reader.reads) == (Ok(()), 2) && writer.written() == line);
-    Ok(())
 }

@@ -3,72 +3,67 @@
 use description::{Description, DescriptionVersion, parse_borrowed, parse_strftime_borrowed};
 use parsing_first_bytes::FirstBytes;
 use std::alloc::Global;
-use std::test::Fail;
 
-// A language (`None` is strftime), a description in it, and lines: those whose first bytes it can't read, and others.
-type Case = (
-    Option<DescriptionVersion>,
-    &'static str,
-    &'static [&'static [u8]],
-    &'static [&'static [u8]],
-);
-
-const V1: Option<DescriptionVersion> = Some(DescriptionVersion::One);
-
-const V2: Option<DescriptionVersion> = Some(DescriptionVersion::Two);
-
-const V3: Option<DescriptionVersion> = Some(DescriptionVersion::Three);
-
-const CASES: [Case; 18] = [
+// Letters of strftime, lines whose first bytes they can't read, and others.
+const LETTERS: [(&str, &str, &str); 9] = [
+    ("%d/%b", "2021-01-01\n1/Jan\n\nGET /", "01/Jan\n99/Oct"),
     (
-        None,
-        "%d/%b",
-        &[b"2021-01-01", b"1/Jan", b"", b"GET /"],
-        &[b"01/Jan", b"99/Oct"],
-    ),
-    (
-        None,
         "%b %e",
-        &[b"GET / HTTP", b"Jun-01", b"1 Jun", b"Ju"],
-        &[b"Jun  1", b"dec 31", b"Dxx 31"],
+        "GET / HTTP\nJun-01\n1 Jun\nJu",
+        "Jun  1\ndec 31\nDxx 31",
     ),
-    (None, "%A", &[b"July", b"1"], &[b"Tuesday", b"wednesday"]),
-    (None, "%e.", &[b"/1.", b"1/.", b"1"], &[b" 1.", b"31."]),
-    (None, "%-d.%m", &[b".1", b"x"], &[b"1.01", b"31.01", b"1"]),
-    (
-        None,
-        "%s",
-        &[b"x", b"", b".5"],
-        &[b"-1", b"+1", b"1700000000"],
-    ),
-    (None, "", &[], &[b"x", b""]),
-    (V1, "[[[day]", &[b"01", b"]01"], &[b"[01", b"[31"]),
+    ("%A", "July\n1", "Tuesday\nwednesday"),
+    ("%e.", "/1.\n1/.\n1", " 1.\n31."),
+    ("%-d.%m", ".1\nx", "1.01\n31.01\n1"),
+    ("%s", "x\n\n.5", "-1\n+1\n1700000000"),
+    ("", "", "x\n\n"),
+    ("%C", "x\n ", "20\n-1"),
+    ("%u", "x\n 1", "1\n7"),
+];
+
+const V1: DescriptionVersion = DescriptionVersion::One;
+
+const V2: DescriptionVersion = DescriptionVersion::Two;
+
+const V3: DescriptionVersion = DescriptionVersion::Three;
+
+// The same of a version.
+const DESCRIPTIONS: [(DescriptionVersion, &str, &str, &str); 9] = [
+    (V1, "[[[day]", "01\n]01", "[01\n[31"),
     (
         V2,
         "[year]-[month]",
-        &[b"01/01/2021", b"202", b"202x-01", b"-20x-01"],
-        &[b"2021-01", b"-0001-01", b"+12345-01"],
+        "01/01/2021\n202\n202x-01\n-20x-01",
+        "2021-01\n-0001-01\n+12345-01",
     ),
-    (V2, "at [hour]", &[b"am 12", b"At 12", b"at"], &[b"at 12"]),
-    (V2, "[period]", &[b"xm", b"A1", b"p"], &[b"AM", b"pm 1"]),
-    (V2, "[ignore count:2]x", &[], &[b"abc", b""]),
-    (
-        V3,
-        "[offset_hour sign:mandatory]",
-        &[b"x1", b"+x"],
-        &[b"+01", b"-12"],
-    ),
-    (None, "%C", &[b"x", b" "], &[b"20", b"-1"]),
-    (None, "%u", &[b"x", b" 1"], &[b"1", b"7"]),
-    (V3, "[unix_timestamp]", &[b"abc", b" 1"], &[b"12", b"-12"]),
-    (V3, "[hour]:[minute]", &[b"1:00", b"abc"], &[b"01:00"]),
-    (V3, "[optional [x]]y", &[], &[b"y", b"z"]),
+    (V2, "at [hour]", "am 12\nAt 12\nat", "at 12"),
+    (V2, "[period]", "xm\nA1\np", "AM\npm 1"),
+    (V2, "[ignore count:2]x", "", "abc\n\n"),
+    (V3, "[offset_hour sign:mandatory]", "x1\n+x", "+01\n-12"),
+    (V3, "[unix_timestamp]", "abc\n 1", "12\n-12"),
+    (V3, "[hour]:[minute]", "1:00\nabc", "01:00"),
+    (V3, "[optional [x]]y", "", "y\nz"),
 ];
 
-fn of_strftime(alloc: Global, text: &'static str) -> Option<FirstBytes> {
-    match parse_strftime_borrowed(alloc, text) {
-        Ok(items) => Some(FirstBytes::of_items(&items)),
-        Err(_) => None,
+// Whether all of the lines are ruled out, or none is, as is wanted.
+fn are_ruled_out(first_bytes: &FirstBytes, lines: &str, wanted: bool) -> bool {
+    for line in lines.lines() {
+        if first_bytes.rule_out(line.as_bytes()) != wanted {
+            return false;
+        }
+    }
+    true
+}
+
+fn are_told_apart(first_bytes: &FirstBytes, ruled_out: &str, others: &str) -> bool {
+    are_ruled_out(first_bytes, ruled_out, true) && are_ruled_out(first_bytes, others, false)
+}
+
+#[test]
+fn letters(rt: HostRuntime) {
+    for (text, ruled_out, others) in LETTERS {
+        let items = parse_strftime_borrowed(rt.alloc(), text).expect(&rt, "a description");
+        assert!(rt; are_told_apart(&FirstBytes::of_items(&items), ruled_out, others));
     }
 }
 
@@ -84,28 +79,10 @@ fn of_version(
     }
 }
 
-fn are_told_apart(first_bytes: &FirstBytes, case: &Case) -> bool {
-    for line in case.2 {
-        if !first_bytes.rule_out(line) {
-            return false;
-        }
-    }
-    for line in case.3 {
-        if first_bytes.rule_out(line) {
-            return false;
-        }
-    }
-    true
-}
-
 #[test]
-fn descriptions(rt: HostRuntime) -> Result<(), Fail> {
-    for case in &CASES {
-        let first_bytes = match case.0 {
-            Some(version) => of_version(rt.alloc(), version, case.1),
-            None => of_strftime(rt.alloc(), case.1),
-        };
-        assert!(rt; are_told_apart(&first_bytes.ok_or("no description")?, case));
+fn descriptions(rt: HostRuntime) {
+    for (version, text, ruled_out, others) in DESCRIPTIONS {
+        let first_bytes = of_version(rt.alloc(), version, text).expect(&rt, "a description");
+        assert!(rt; are_told_apart(&first_bytes, ruled_out, others));
     }
-    Ok(())
 }

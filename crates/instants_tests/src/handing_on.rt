@@ -1,13 +1,15 @@
 //! What the writer below has once it was handed on, device by device and before each read of a run.
 
-use crate::support::{OUTPUT, STREAM, written_before};
-use calendar::UtcOffset;
+ghost use Rattle.std.specs.Prelude.{◌<◌, vec_len};
+
+use crate::support::{OUTPUT, STREAM, timeline, written_before};
 use instants::{
-    BlockWriter, ByteWriter, CutReader, CutWriter, DeviceFailed, RunFault, SourceText, StdWriter,
-    Timeline, run,
+    BlockWriter, ByteWriter, CutReader, CutWriter, DeviceFailed, RunFault, StdWriter, Timeline, run,
 };
-use std::alloc::{AllocError, Global};
-use std::test::Fail;
+use std::alloc::Global;
+use std::process::Abort;
+
+const WORDS: &str = "+00:00|-|100|rfc3339";
 
 // Devices that hold nothing back.
 #[test]
@@ -27,42 +29,41 @@ fn nothing_held_back(rt: HostRuntime) {
 // How handing on six bytes ends where the writer below fails after so many: its answer, whether the writer has failed, and
 // what the writer below has.
 fn handed_on(
+    rt: &impl Abort,
     alloc: Global,
     fail_after: Option<usize>,
-) -> Result<(Result<(), DeviceFailed>, bool, [u8; 6]), AllocError> {
+) -> (Result<(), DeviceFailed>, bool, [u8; 6]) {
     let mut space = [0; 6];
     let end;
     {
-        let inner = BlockWriter::new(
-            vec![in alloc; 0; 8]?,
-            CutWriter::new(&mut space, 4, fail_after),
-        );
-        let mut writer = BlockWriter::new(vec![in alloc; 0; 100]?, inner);
+        let block = vec![in alloc; 0; 8].expect(rt, "memory");
+        let inner = BlockWriter::new(block, CutWriter::new(&mut space, 4, fail_after));
+        let block = vec![in alloc; 0; 100].expect(rt, "memory");
+        let mut writer = BlockWriter::new(block, inner);
         let answer = match writer.write_all(b"abcdef") {
             Ok(()) => writer.hand_on(),
             Err(fault) => Err(fault),
         };
         end = (answer, writer.has_failed());
     }
-    Ok((end.0, end.1, space))
+    (end.0, end.1, space)
 }
 
 // Both blocks are handed on.
 #[test]
-fn blocks(rt: HostRuntime) -> Result<(), Fail> {
-    assert!(rt; handed_on(rt.alloc(), None)? == (Ok(()), false, *b"abcdef"));
+fn blocks(rt: HostRuntime) {
+    assert!(rt; handed_on(&rt, rt.alloc(), None) == (Ok(()), false, *b"abcdef"));
     for (fail_after, space) in [(0, *b"\0\0\0\0\0\0"), (4, *b"abcd\0\0"), (5, *b"abcde\0")] {
         let end = (Err(DeviceFailed), true, space);
-        assert!(rt; handed_on(rt.alloc(), Some(fail_after))? == end);
+        assert!(rt; handed_on(&rt, rt.alloc(), Some(fail_after)) == end);
     }
-    Ok(())
 }
 
 // How a block writer is flushed before and after it is handed on.
-fn flushed(alloc: Global, is_written: bool) -> Result<(bool, bool, bool), AllocError> {
+fn flushed(rt: &impl Abort, alloc: Global, is_written: bool) -> (bool, bool, bool) {
     let mut space = [0; 6];
-    let below = CutWriter::new(&mut space, 4, None);
-    let mut writer = BlockWriter::new(vec![in alloc; 0; 8]?, below);
+    let block = vec![in alloc; 0; 8].expect(rt, "memory");
+    let mut writer = BlockWriter::new(block, CutWriter::new(&mut space, 4, None));
     let mut works = writer.flush().is_ok();
     if works && is_written {
         works = writer.write(b"a") == Ok(1);
@@ -71,35 +72,37 @@ fn flushed(alloc: Global, is_written: bool) -> Result<(bool, bool, bool), AllocE
     if works {
         works = writer.hand_on().is_ok();
     }
-    Ok((works, before, writer.is_flushed()))
+    (works, before, writer.is_flushed())
 }
 
 #[test]
-fn no_flush(rt: HostRuntime) -> Result<(), Fail> {
-    assert!(rt; flushed(rt.alloc(), false)? == (true, true, true));
-    assert!(rt; flushed(rt.alloc(), true)? == (true, false, false));
-    Ok(())
+fn no_flush(rt: HostRuntime) {
+    let alloc = rt.alloc();
+    let ends = [flushed(&rt, alloc, false), flushed(&rt, alloc, true)];
+    assert!(rt; ends == [(true, true, true), (true, false, false)]);
 }
 
 // How a run ends whose reads give at most so many bytes and fail after so many, and what the writer below its block has,
 // which fails after so many: nothing is flushed.
 fn ended(
-    alloc: Global,
+    timeline: &Timeline,
+    block: Vec<u8>,
     most: usize,
     read_fails: usize,
     write_fails: Option<usize>,
-) -> Result<(Result<(), RunFault>, [u8; 48]), Fail> {
-    let timeline = Timeline::new(alloc, &[SourceText::Rfc3339], UtcOffset::UTC, None)?;
+) -> (Result<(), RunFault>, [u8; 48])
+    requires { 0 < vec_len block }
+{
     let mut buffer = [0; 101];
     let mut space = [0; 48];
     let answer;
     {
         let mut reader = CutReader::new(STREAM, most.max(1), Some(read_fails));
         let below = CutWriter::new(&mut space, 48, write_fails);
-        let mut writer = BlockWriter::new(vec![in alloc; 0; 100]?, below);
-        answer = run(&timeline, &mut buffer, &mut reader, &mut writer);
+        let mut writer = BlockWriter::new(block, below);
+        answer = run(timeline, &mut buffer, &mut reader, &mut writer);
     }
-    Ok((answer, space))
+    (answer, space)
 }
 
 // Whether the first bytes are these, and the others zero.
@@ -110,26 +113,28 @@ fn holds(space: &[u8; 48], bytes: &[u8]) -> bool {
 
 // Before each read all answers are below, so that they are there when it fails.
 #[test]
-fn before_each_read(rt: HostRuntime) -> Result<(), Fail> {
+fn before_each_read(rt: HostRuntime) {
+    let timeline = timeline(&rt, rt.alloc(), WORDS);
     for most in [1, 2, 5, 24, 26] {
         for read_fails in 0..27 {
-            let (answer, space) = ended(rt.alloc(), most, read_fails, None)?;
-            assert!(rt; answer == Err(RunFault::Read));
-            assert!(rt; holds(&space, written_before(read_fails)));
+            let block = vec![in rt.alloc(); 0; 100].expect(&rt, "memory");
+            let (answer, space) = ended(&timeline, block, most, read_fails, None);
+            let holds = holds(&space, written_before(read_fails));
+            assert!(rt; answer == Err(RunFault::Read) && holds);
         }
     }
-    Ok(())
 }
 
 // What fails to be handed on is a failed write, and nothing is read behind it.
 #[test]
-fn fails_before_a_read(rt: HostRuntime) -> Result<(), Fail> {
+fn fails_before_a_read(rt: HostRuntime) {
+    let timeline = timeline(&rt, rt.alloc(), WORDS);
     for write_fails in 0..31 {
-        let (answer, space) = ended(rt.alloc(), 5, 24, Some(write_fails))?;
-        assert!(rt; answer == Err(RunFault::Write) && write_fails <= OUTPUT.len());
-        assert!(rt; holds(&space, &OUTPUT[..write_fails]));
+        let block = vec![in rt.alloc(); 0; 100].expect(&rt, "memory");
+        let (answer, space) = ended(&timeline, block, 5, 24, Some(write_fails));
+        let holds = holds(&space, &OUTPUT[..write_fails]);
+        assert!(rt; answer == Err(RunFault::Write) && holds);
     }
-    Ok(())
 }
 
 // A writer of those methods alone that each has to have. It takes a byte at a time, while there is room.
@@ -179,8 +184,8 @@ impl ByteWriter for Plain {
 }
 
 #[test]
-fn plain_writer(rt: HostRuntime) -> Result<(), Fail> {
-    let timeline = Timeline::new(rt.alloc(), &[SourceText::Rfc3339], UtcOffset::UTC, None)?;
+fn plain_writer(rt: HostRuntime) {
+    let timeline = timeline(&rt, rt.alloc(), WORDS);
     let mut buffer = [0; 101];
     let mut reader = CutReader::new(STREAM, 26, None);
     let mut writer = Plain {
@@ -191,5 +196,4 @@ fn plain_writer(rt: HostRuntime) -> Result<(), Fail> {
     };
     assert!(rt; run(&timeline, &mut buffer, &mut reader, &mut writer) == Ok(()));
     assert!(rt; writer.bytes.starts_with(OUTPUT) && (writer.len, writer.is_flushed) == (48, true));
-    Ok(())
 }

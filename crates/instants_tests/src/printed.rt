@@ -1,10 +1,10 @@
-//! How faults are printed, by `{:?}` and under a width, which sentences ignore.
+//! How faults are printed, by `{:?}` and under a width, which sentences ignore, and the statuses of the program.
 
 use description::InvalidFormatDescription;
 use instants::{LineFault, NewFault, ProgramFault, RunFault, WordsFault};
 use std::test::Fail;
 
-const PROGRAM_FAULTS: [ProgramFault; 6] = [
+const PROGRAM_FAULTS: [ProgramFault; 7] = [
     ProgramFault::Words(WordsFault::Limit),
     ProgramFault::Words(WordsFault::Source(2)),
     ProgramFault::New(NewFault::Source {
@@ -13,26 +13,28 @@ const PROGRAM_FAULTS: [ProgramFault; 6] = [
     }),
     ProgramFault::New(NewFault::Memory),
     ProgramFault::Run(RunFault::Read),
+    ProgramFault::Run(RunFault::Write),
     ProgramFault::Memory,
 ];
 
 #[test]
-fn faults_of_the_program(rt: HostRuntime) -> Result<(), Fail> {
+fn faults_of_the_program(rt: HostRuntime) {
     let mut told = String::new(rt.alloc());
     for fault in PROGRAM_FAULTS {
-        write!(told, "\n{fault:?}: {fault:>99}")?;
+        let status = fault.status();
+        write!(told, "\n{fault:?}: {fault:>99} ({status})").expect(&rt, "memory");
     }
     assert!(rt; told.as_str() == PRINTED);
-    Ok(())
 }
 
 const PRINTED: &str = r#"
-Words(Limit): instants: the limit must be a number from 1 to 1048576
-Words(Source(2)): instants: source 2 is not a known source with its description
-New(Source { place: 3, fault: MissingComponentName { index: 4 } }): instants: source 3: missing component name at byte index 4
-New(Memory): instants: out of memory
-Run(Read): instants: reading failed
-Memory: instants: out of memory"#;
+Words(Limit): instants: the limit must be a number from 1 to 1048576 (2)
+Words(Source(2)): instants: source 2 is not a known source with its description (2)
+New(Source { place: 3, fault: MissingComponentName { index: 4 } }): instants: source 3: missing component name at byte index 4 (2)
+New(Memory): instants: out of memory (1)
+Run(Read): instants: reading failed (1)
+Run(Write): instants: writing failed (1)
+Memory: instants: out of memory (1)"#;
 
 #[test]
 fn faults_of_lines(rt: HostRuntime) -> Result<(), Fail> {

@@ -2,7 +2,10 @@
 
 use calendar::{Date, Month, Time, UtcOffset};
 use datetime::OffsetDateTime;
-use instants::{ByteReader, ByteWriter, CutReader, CutWriter, DeviceFailed, RunFault};
+use instants::{
+    ByteReader, ByteWriter, CutReader, CutWriter, DeviceFailed, RunFault, Timeline, read_words,
+};
+use std::alloc::Global;
 use std::io::{Result as IoResult, Write};
 use std::process::Abort;
 
@@ -63,6 +66,15 @@ pub fn moment(
     let time = Time::from_hms_nano(time.0, time.1, time.2, time.3).expect(rt, "a time");
     let offset = UtcOffset::from_whole_seconds(offset).expect(rt, "an offset");
     OffsetDateTime::new_in_offset(date, time, offset)
+}
+
+/// The timeline that words ask for, which are parted by bars.
+pub fn timeline<'a>(rt: &impl Abort, alloc: Global, words: &'a str) -> Timeline<'a> {
+    let mut parts = Vec::new(alloc);
+    parts.extend(words.split('|')).expect(rt, "memory");
+    let said = read_words(alloc, parts.as_slice()).expect(rt, "words");
+    let sources = said.sources.as_slice();
+    Timeline::new(alloc, sources, said.target, said.assumed).expect(rt, "a timeline")
 }
 
 /// A writer of std that takes so many bytes, one at a time, and then none.
