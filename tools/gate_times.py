@@ -174,9 +174,14 @@ def main():
     words.add_argument("command", nargs="*", default=["rt", "ci"], help="what to time in place of rt ci")
     given = words.parse_args()
     status, last, total, wall, parts = run_gate(given.command)
-    before = TABLE.read_text() if TABLE.exists() else ""
-    bounds = bounds_told(parts, total, pace_of(before, parts))
-    text = text_of(table_of(parts, total), bounds, last, total, wall)
+    try:
+        before = TABLE.read_text() if TABLE.exists() else ""
+        bounds = bounds_told(parts, total, pace_of(before, parts))
+        text = text_of(table_of(parts, total), bounds, last, total, wall)
+    except (OSError, ValueError, subprocess.SubprocessError) as fault:
+        # What the gate says counts also where its times can't be told.
+        print(f"gate_times.py: {fault}\n{last}")
+        return status
     print(f"{text}\n{last}")
     if given.write and status == 0 and re.fullmatch(r"\d+ passed, 0 failed", last):
         TABLE.write_text(text)
