@@ -1,5 +1,6 @@
 -- The first source that names a moment.
-use Rattle.std.proofs.Common.{◌≡◌, ◌<◌, ℕ, List, [], ◌∷◌, length, get_or, drop, map, sym, arith, Option, None, Some, Result, Ok, Err, refl, ap, unwrap_or, ℤ}
+use Rattle.std.proofs.Common.{◌≡◌, ◌<◌, ◌≤◌, ◌+◌, ℕ, List, [], ◌∷◌, length, get_or, drop, map, sym, ◌∙◌, Option, None, Some, Result, Ok, Err, refl, ap, unwrap_or, ℤ}
+use Rattle.std.proofs.lemmas.List.{drop_more, drop_all, drop-map}
 use Rattle.std.specs.Option.{ok_or}
 use Rattle.std.specs.Result.{result_ok}
 use Rattle.datetime_wall.specs.Wall.{Shown}
@@ -9,7 +10,7 @@ use Rattle.instants_sources.specs.declared.source.Source.{Source}
 use Rattle.instants_sources.specs.Named.{named}
 use Rattle.instants.specs.Place.{Setting, or_named, first_named, place_of, answer_to}
 use Rattle.instants.specs.Refusal.{refusal_of, refusal_text}
-use Rattle.instants.specs.FirstNamed.{IsAnswerOf}
+use Rattle.instants.specs.FirstNamed.{IsAnswerOf, NamesFrom}
 
 here : (o : Result Shown Fault) (others : Option Shown) (moment : Shown) → result_ok o ≡ Some moment → result_ok (or_named o others) ≡ Some moment
 here (Ok m) others moment e = e
@@ -47,29 +48,68 @@ ok_of : (r : Result Shown Fault) (m : Shown) → result_ok r ≡ Some m → r �
 ok_of (Ok x) m e = ap (λ (o : Option Shown). Ok (unwrap_or o x)) e
 ok_of (Err f) m e = absurd cc
 
-through : (r : Result Shown Fault) (o : Option Shown) (m : Shown) → result_ok r ≡ None → o ≡ Some m → or_named r o ≡ Ok m
-through (Ok x) o m none e = absurd cc
-through (Err f) o m none e = rw e refl
+-- an answer for the moment that is named first
+answered : (setting : Setting) (line bytes : List ℕ) → IsAnswerOf setting (result_ok (first_named setting.assumed setting.sources line)) bytes → bytes ≡ answer_to setting line
+unfolding answer_to place_of
+answered setting line bytes a = rw (ok_of (first_named setting.assumed setting.sources line) a.moment a.is) a.text
 
--- the first source answers a line for which it names a moment
-pub answered_first : (setting : Setting) (grammar : Grammar) (others : List Grammar) (line bytes : List ℕ) → setting.sources ≡ grammar ∷ others
+-- a place's source answers a line for which it names a moment, and those before it none
+pub answered_at : (setting : Setting) (line bytes : List ℕ) (place : ℕ) (grammar : Grammar) (others : List Grammar) → NamesFrom setting line place → drop place setting.sources ≡ grammar ∷ others
     → IsAnswerOf setting (result_ok (named setting.assumed grammar line)) bytes → bytes ≡ answer_to setting line
-unfolding answer_to place_of first_named
-answered_first setting grammar others line bytes e a = rw (e, ok_of (named setting.assumed grammar line) a.moment a.is) a.text
+answered_at setting line bytes place grammar others from cut a =
+    let there : result_ok (first_named setting.assumed (drop place setting.sources) line) ≡ Some a.moment = rw cut (first_named-here setting.assumed grammar others line a.moment a.is) in
+    answered setting line bytes (answer_alike a (sym from ∙ there))
 
--- and else another one that does
-pub answered_other : (setting : Setting) (grammar : Grammar) (others : List Grammar) (line bytes : List ℕ) → setting.sources ≡ grammar ∷ others → result_ok (named setting.assumed grammar line) ≡ None
-    → IsAnswerOf setting (result_ok (first_named setting.assumed others line)) bytes → bytes ≡ answer_to setting line
-unfolding answer_to place_of first_named
-answered_other setting grammar others line bytes e none a =
-    rw e (rw (through (named setting.assumed grammar line) (result_ok (first_named setting.assumed others line)) a.moment none a.is) a.text)
+behind : (setting : Setting) (line : List ℕ) (place : ℕ) (grammar : Grammar) (others : List Grammar) → NamesFrom setting line place → drop place setting.sources ≡ grammar ∷ others
+    → result_ok (named setting.assumed grammar line) ≡ None → result_ok (first_named setting.assumed setting.sources line) ≡ result_ok (first_named setting.assumed others line)
+behind setting line place grammar others from cut none =
+    let there : result_ok (first_named setting.assumed (drop place setting.sources) line) ≡ result_ok (first_named setting.assumed others line) = rw cut (first_named-later setting.assumed grammar others line none) in
+    sym from ∙ there
 
--- and where none does the answer is the first one's fault
-pub answered_fault : (setting : Setting) (grammar : Grammar) (others : List Grammar) (line bytes : List ℕ) (fault : Fault) → setting.sources ≡ grammar ∷ others → named setting.assumed grammar line ≡ Err fault
-    → result_ok (first_named setting.assumed others line) ≡ None → bytes ≡ refusal_text (refusal_of fault) → bytes ≡ answer_to setting line
-unfolding answer_to place_of first_named
-answered_fault setting grammar others line bytes fault e refused none text = rw e (rw (refused, none) text)
+-- and else one of those behind it that does
+pub answered_behind : (setting : Setting) (line bytes : List ℕ) (place : ℕ) (grammar : Grammar) (others : List Grammar) → NamesFrom setting line place → drop place setting.sources ≡ grammar ∷ others
+    → result_ok (named setting.assumed grammar line) ≡ None → IsAnswerOf setting (result_ok (first_named setting.assumed others line)) bytes → bytes ≡ answer_to setting line
+answered_behind setting line bytes place grammar others from cut none a =
+    answered setting line bytes (answer_alike a (behind setting line place grammar others from cut none ∙ a.is))
 
-pub first_source : (sources : List Source) (first : Source) → 0 < length sources → first ≡ get_or sources 0 first → map grammar_of sources ≡ grammar_of first ∷ map grammar_of (drop 1 sources)
-first_source [] first h e = absurd (omega (arith, h))
-first_source (s ∷ rest) first h e = ap (λ (x : Source). grammar_of x ∷ map grammar_of rest) (sym e)
+-- and else none does
+pub none_named : (setting : Setting) (line : List ℕ) (place : ℕ) (grammar : Grammar) (others : List Grammar) → NamesFrom setting line place → drop place setting.sources ≡ grammar ∷ others
+    → result_ok (named setting.assumed grammar line) ≡ None → result_ok (first_named setting.assumed others line) ≡ None → result_ok (first_named setting.assumed setting.sources line) ≡ None
+none_named setting line place grammar others from cut none rest = behind setting line place grammar others from cut none ∙ rest
+
+-- a place whose source names none names what the next one does
+pub names_from_next : (setting : Setting) (line : List ℕ) (place : ℕ) (grammar : Grammar) → NamesFrom setting line place → drop place setting.sources ≡ grammar ∷ drop (place + 1) setting.sources
+    → result_ok (named setting.assumed grammar line) ≡ None → NamesFrom setting line (place + 1)
+names_from_next setting line place grammar from cut none = sym (behind setting line place grammar (drop (place + 1) setting.sources) from cut none)
+
+fault_of_first : (r : Result Shown Fault) (o : Option Shown) (fault : Fault) → result_ok (or_named r o) ≡ None → r ≡ Err fault → or_named r o ≡ Err fault
+fault_of_first r None fault none e = rw e refl
+fault_of_first r (Some m) fault none e = absurd (let found : Some m ≡ None = ap result_ok (ap (λ (x : Result Shown Fault). or_named x (Some m)) (sym e)) ∙ none in cc)
+
+-- where none does the answer is the first one's fault
+pub answered_fault : (setting : Setting) (line bytes : List ℕ) (grammar : Grammar) (others : List Grammar) (fault : Fault) → setting.sources ≡ grammar ∷ others
+    → result_ok (first_named setting.assumed setting.sources line) ≡ None → named setting.assumed grammar line ≡ Err fault → bytes ≡ refusal_text (refusal_of fault) → bytes ≡ answer_to setting line
+unfolding answer_to place_of first_named
+answered_fault setting line bytes grammar others fault e none refused text =
+    let first : first_named setting.assumed setting.sources line ≡ Err fault = rw e (fault_of_first (named setting.assumed grammar line) (result_ok (first_named setting.assumed others line)) fault (rw e at none) refused) in
+    rw first text
+
+-- the source at a place, before those behind it
+pub source_before : (sources : List Source) (place : ℕ) (source : Source) → place < length sources → source ≡ get_or sources place source
+    → drop place (map grammar_of sources) ≡ grammar_of source ∷ map grammar_of (drop (place + 1) sources)
+source_before sources place source within is =
+    let there : drop place sources ≡ get_or sources place source ∷ drop (place + 1) sources = drop_more sources place source within in
+    let cut : drop place sources ≡ source ∷ drop (place + 1) sources = rw (← is) at there in
+    drop-map grammar_of place sources ∙ ap (map grammar_of) cut
+
+pub source_at : (sources : List Source) (place : ℕ) (source : Source) → place < length sources → source ≡ get_or sources place source
+    → drop place (map grammar_of sources) ≡ grammar_of source ∷ drop (place + 1) (map grammar_of sources)
+source_at sources place source within is =
+    source_before sources place source within is ∙ ap (λ (rest : List Grammar). grammar_of source ∷ rest) (sym (drop-map grammar_of (place + 1) sources))
+
+-- behind all places there is none
+pub none_at_end : (setting : Setting) (line : List ℕ) (place : ℕ) → length setting.sources ≤ place → NamesFrom setting line place → result_ok (first_named setting.assumed setting.sources line) ≡ None
+unfolding first_named
+none_at_end setting line place end from =
+    let over : drop place setting.sources ≡ [] = drop_all place setting.sources end in
+    sym (rw over at from)

@@ -1,11 +1,17 @@
 -- What is found of a line before all of its answer is known.
-use Rattle.std.specs.Prelude.{◌≡◌, ◌≢◌, ◌≤◌, ℕ, List, codes, length, Option, Some, Ok}
+use Rattle.std.specs.Prelude.{◌≡◌, ◌≢◌, ◌≤◌, ℕ, List, codes, drop, length, Option, Some, Ok}
+use Rattle.std.specs.Result.{result_ok}
 use Rattle.datetime_wall.specs.Wall.{Shown}
 use Rattle.instants.specs.Place.{Setting, first_named, place_text, shown_or_refused}
 
 -- the first source that names a moment names this one
 abbrev pub IsFirstNamed : Setting → List ℕ → Shown → Type 0
 IsFirstNamed setting line m = first_named setting.assumed setting.sources line ≡ Ok m
+
+-- what the sources from a place on name is what all of them name
+abbrev pub NamesFrom : Setting → List ℕ → ℕ → Type 0
+NamesFrom setting line place =
+    result_ok (first_named setting.assumed (drop place setting.sources) line) ≡ result_ok (first_named setting.assumed setting.sources line)
 
 -- a moment is named, and these bytes are the answer for it
 pub record IsAnswerOf (setting : Setting) (named : Option Shown) (bytes : List ℕ) : Type 0 where

@@ -10,7 +10,7 @@ mod fast_ways;
 mod places;
 
 use calendar::UtcOffset;
-pub(crate) use fast_ways::{Iso8601Way, Led, PlannedWay, Rfc2822Way, Rfc3339Way};
+pub(crate) use fast_ways::{Iso8601Way, Led, LikelyWay, PlannedWay, Rfc2822Way, Rfc3339Way};
 use instants_sources::Source;
 
 /// Sources in order, the offset in which moments are shown, and the one that is assumed for lines without one.

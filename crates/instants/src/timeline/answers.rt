@@ -1,18 +1,18 @@
 //! The answers of a timeline to lines.
-ghost use Rattle.std.specs.Prelude.{◌≡◌, ◌≢◌, ◌≤◌, ◌∷◌, codes, length, map, true, false, None, Ok};
+ghost use Rattle.std.specs.Prelude.{◌≡◌, ◌≢◌, ◌<◌, ◌≤◌, ◌+◌, codes, drop, length, map, true, false, None, Ok};
 ghost use Rattle.std.specs.Option.{option_map};
 ghost use Rattle.std.specs.Result.{result_ok};
 ghost use Rattle.parsing_fields.specs.Moment.{moment_of};
 ghost use Rattle.instants_sources.specs.Grammar.{grammar_of};
 ghost use Rattle.instants_sources.specs.Grammar as grammar;
-ghost use Rattle.instants_sources.specs.Named.{named, NamesNothing};
-ghost use Rattle.instants.specs.FirstNamed.{IsAnswerOf};
+ghost use Rattle.instants_sources.specs.Named.{named};
+ghost use Rattle.instants.specs.FirstNamed.{IsAnswerOf, NamesFrom};
 ghost use Rattle.instants.specs.Place.{first_named, place_text, shown_or_refused, answer_to};
 ghost use Rattle.instants.specs.Settings.{setting_of};
 
 use crate::line_fault::LineFault;
 use crate::timeline::Timeline;
-use crate::timeline::fast_ways::{AnyWay, FastWay};
+use crate::timeline::fast_ways::{AnswerWay, LikelyWay};
 use datetime_types::OffsetDateTime;
 use instants_answers::{Answer, write_fields, write_line};
 use instants_sources::{Source, fast_iso8601, fast_rfc2822, fast_rfc3339};
@@ -33,16 +33,16 @@ impl Timeline<'_> {
         }
     }
 
-    // The same of the moment that fields name, which is counted.
+    // The same, of the few moments that have to be counted.
     #[cold]
     #[inline(never)]
-    fn write_counted(&self, fields: Fields, storage: &mut Answer)
+    fn write_counted(&self, named: OffsetDateTime, storage: &mut Answer)
         ensures bytes { storage.new ≡
-            place_text (shown_or_refused (setting_of self.now).target (Ok (moment_of fields))) }
+            place_text (shown_or_refused (setting_of self.now).target (Ok named)) }
         ensures room { length storage.new ≤ 63 }
         ensures never_long { storage.new ≢ codes "! long" }
     {
-        self.write_shown(fields.moment(), storage);
+        self.write_shown(named, storage);
     }
 
     // The same of the moment that fields name: nearly all are written with no day counted.
@@ -54,7 +54,7 @@ impl Timeline<'_> {
         ensures never_long { storage.new ≢ codes "! long" }
     {
         if !write_fields(&fields, self.target, storage) {
-            self.write_counted(fields, storage);
+            self.write_counted(fields.moment(), storage);
         }
     }
 
@@ -72,8 +72,8 @@ impl Timeline<'_> {
     }
 
     // Writes the answer to a line of RFC 2822, if the fast way finds one: `false` says nothing of the line.
-    #[inline(never)]
-    fn write_rfc2822(&self, line: &[u8], storage: &mut Answer) -> bool
+    #[inline(always)]
+    pub(super) fn write_rfc2822(&self, line: &[u8], storage: &mut Answer) -> bool
         ensures { result ≡ true → IsAnswerOf (setting_of self.now)
             (result_ok (named (setting_of self.now).assumed grammar.Rfc2822 line.now))
             storage.new }
@@ -82,8 +82,8 @@ impl Timeline<'_> {
     }
 
     // The same of RFC 3339.
-    #[inline(never)]
-    fn write_rfc3339(&self, line: &[u8], storage: &mut Answer) -> bool
+    #[inline(always)]
+    pub(super) fn write_rfc3339(&self, line: &[u8], storage: &mut Answer) -> bool
         ensures { result ≡ true → IsAnswerOf (setting_of self.now)
             (result_ok (named (setting_of self.now).assumed grammar.Rfc3339 line.now))
             storage.new }
@@ -92,8 +92,8 @@ impl Timeline<'_> {
     }
 
     // The same of ISO 8601.
-    #[inline(never)]
-    fn write_iso8601(&self, line: &[u8], storage: &mut Answer) -> bool
+    #[inline(always)]
+    pub(super) fn write_iso8601(&self, line: &[u8], storage: &mut Answer) -> bool
         ensures { result ≡ true → IsAnswerOf (setting_of self.now)
             (result_ok (named (setting_of self.now).assumed grammar.Iso8601 line.now))
             storage.new }
@@ -102,8 +102,8 @@ impl Timeline<'_> {
     }
 
     // The same of a description that has a plan.
-    #[inline(never)]
-    fn write_planned(&self, source: &Source, line: &[u8], storage: &mut Answer) -> bool
+    #[inline(always)]
+    pub(super) fn write_planned(&self, source: &Source, line: &[u8], storage: &mut Answer) -> bool
         ensures { result ≡ true → IsAnswerOf (setting_of self.now)
             (result_ok (named (setting_of self.now).assumed (grammar_of source.now) line.now))
             storage.new }
@@ -113,7 +113,7 @@ impl Timeline<'_> {
 
     // Writes the answer to a line by a source's fast way, if that finds one: `false` says nothing of the line.
     #[inline(always)]
-    fn write_fast(&self, source: &Source, line: &[u8], storage: &mut Answer) -> bool
+    pub(super) fn write_fast(&self, source: &Source, line: &[u8], storage: &mut Answer) -> bool
         ensures { result ≡ true → IsAnswerOf (setting_of self.now)
             (result_ok (named (setting_of self.now).assumed (grammar_of source.now) line.now))
             storage.new }
@@ -126,20 +126,14 @@ impl Timeline<'_> {
         }
     }
 
-    // The same of the first source, which most lines are of, by the fast way of its kind.
-    #[inline(always)]
-    fn write_fast_first<F: FastWay>(
-        &self,
-        way: &F,
-        first: &Source,
-        line: &[u8],
-        storage: &mut Answer,
-    ) -> bool
+    // The same, apart from the loops over lines.
+    #[inline(never)]
+    fn write_fast_later(&self, source: &Source, line: &[u8], storage: &mut Answer) -> bool
         ensures { result ≡ true → IsAnswerOf (setting_of self.now)
-            (result_ok (named (setting_of self.now).assumed (grammar_of first.now) line.now))
+            (result_ok (named (setting_of self.now).assumed (grammar_of source.now) line.now))
             storage.new }
     {
-        self.write_found(way.find(first, line, self.assumed), storage)
+        self.write_fast(source, line, storage)
     }
 
     // Writes the answer to a line for which a source names a moment. Whether it names one.
@@ -155,7 +149,7 @@ impl Timeline<'_> {
         if source.cannot_match(line) {
             return false;
         }
-        if self.write_fast(source, line, storage) {
+        if self.write_fast_later(source, line, storage) {
             return true;
         }
         match source.read_exact(line, self.assumed) {
@@ -186,72 +180,44 @@ impl Timeline<'_> {
         false
     }
 
-    // Writes the answer to a line by all sources, where the first bytes show that the first one names no moment: it is read
-    // for its fault alone.
-    #[inline(always)]
-    fn write_by_others(&self, first: &Source, others: &[Source], line: &[u8], storage: &mut Answer)
-        requires sources { (setting_of self.now).sources
-            ≡ grammar_of first.now ∷ map grammar_of others.now }
-        requires none { NamesNothing (grammar_of first.now) line.now }
+    // Writes the answer to a line for which no source names a moment: the first one's fault.
+    #[inline(never)]
+    pub(super) fn write_first_fault(&self, line: &[u8], storage: &mut Answer)
+        requires { result_ok (first_named (setting_of self.now).assumed
+            (setting_of self.now).sources line.now) ≡ None }
         ensures bytes { storage.new ≡ answer_to (setting_of self.now) line.now }
         ensures room { length storage.new ≤ 63 }
         ensures never_long { storage.new ≢ codes "! long" }
     {
-        if self.write_by_any(others, line, storage) {
-            return;
-        }
-        match first.read_exact(line, self.assumed) {
+        match self.first().read_exact(line, self.assumed) {
             Ok(named) => self.write_shown(named, storage),
             Err(fault) => LineFault::from(fault).write(storage),
         }
     }
 
-    // Writes the answer to a line by all sources, the first one read the exact way.
-    #[inline(always)]
-    fn write_by_all(&self, first: &Source, others: &[Source], line: &[u8], storage: &mut Answer)
-        requires { (setting_of self.now).sources
-            ≡ grammar_of first.now ∷ map grammar_of others.now }
-        ensures bytes { storage.new ≡ answer_to (setting_of self.now) line.now }
-        ensures room { length storage.new ≤ 63 }
-        ensures never_long { storage.new ≢ codes "! long" }
-    {
-        match first.read_exact(line, self.assumed) {
-            Ok(named) => self.write_shown(named, storage),
-            Err(fault) => {
-                if !self.write_by_any(others, line, storage) {
-                    LineFault::from(fault).write(storage);
-                }
-            }
-        }
-    }
-
-    // Writes the answer to a line of which the first source's fast way says nothing.
+    // Writes the answer to a line for which the sources before a place name no moment, and of which the fast way of the one
+    // there says nothing.
     #[inline(never)]
-    fn write_exact_answer(&self, line: &[u8], storage: &mut Answer)
+    pub(super) fn write_exact(&self, place: usize, line: &[u8], storage: &mut Answer)
+        requires place { place < length (setting_of self.now).sources }
+        requires from { NamesFrom (setting_of self.now) line.now place }
         ensures bytes { storage.new ≡ answer_to (setting_of self.now) line.now }
         ensures room { length storage.new ≤ 63 }
         ensures never_long { storage.new ≢ codes "! long" }
     {
         let sources = self.sources.as_slice();
-        let (first, others) = (&sources[0], &sources[1..]);
-        // A source alone is read in any case, for its fault.
-        if !others.is_empty() && first.cannot_match(line) {
-            self.write_by_others(first, others, line, storage);
-        } else {
-            self.write_by_all(first, others, line, storage);
-        }
-    }
-
-    // Writes the answer to a line: of most, by the fast way of the first source.
-    #[inline(always)]
-    pub(crate) fn write_line_answer<F: FastWay>(&self, way: &F, line: &[u8], storage: &mut Answer)
-        ensures bytes { storage.new ≡ answer_to (setting_of self.now) line.now }
-        ensures room { length storage.new ≤ 63 }
-        ensures never_long { storage.new ≢ codes "! long" }
-    {
-        let first = &self.sources.as_slice()[0];
-        if !self.write_fast_first(way, first, line, storage) {
-            self.write_exact_answer(line, storage);
+        match sources[place].read_exact(line, self.assumed) {
+            Ok(named) => self.write_shown(named, storage),
+            Err(fault) => {
+                if self.write_by_any(behind(sources, place), line, storage) {
+                    return;
+                }
+                if place == 0 {
+                    LineFault::from(fault).write(storage);
+                } else {
+                    self.write_first_fault(line, storage);
+                }
+            }
         }
     }
 
@@ -262,7 +228,17 @@ impl Timeline<'_> {
         ensures never_long { result ≢ codes "! long" }
     {
         let mut answer = Answer::new();
-        self.write_line_answer(&AnyWay, line, &mut answer);
+        LikelyWay.write_answer(self, line, &mut answer);
         answer
     }
+}
+
+// The sources behind a place.
+#[inline(always)]
+#[tactic(auto, using(std::proofs::lemmas::List::take_rest))]
+fn behind<'a, 'b>(sources: &'a [Source<'b>], place: usize) -> &'a [Source<'b>]
+    requires { place < length sources.now }
+    ensures { result.now ≡ drop (place + 1) sources.now }
+{
+    &sources[place + 1..]
 }

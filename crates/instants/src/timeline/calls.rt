@@ -1,5 +1,5 @@
 //! Lines placed on one timeline.
-ghost use Rattle.std.specs.Prelude.{◌≡◌, ◌≢◌, ◌<◌, ◌≤◌, length, map, Ok, IfOk, IfErr, IfSome};
+ghost use Rattle.std.specs.Prelude.{◌≡◌, ◌≢◌, ◌<◌, ◌≤◌, ◌+◌, ◌∷◌, drop, length, map, None, Ok, IfOk, IfErr, IfSome, IfNone};
 ghost use Rattle.std.specs.Option.{ok_or};
 ghost use Rattle.std.specs.Result.{result_ok};
 ghost use Rattle.parsing_pieces.specs.FaultOf.{fault_of, Gives};
@@ -11,7 +11,7 @@ ghost use Rattle.instants.specs.Refusal.{IsShort, long, refusal_said, year};
 ghost use Rattle.instants.specs.Sources.{AllMean, IsRefusal};
 ghost use Rattle.instants_words.specs.Sources.{said_by};
 ghost use Rattle.instants_sources.specs.Grammar.{grammar_of};
-ghost use Rattle.instants.specs.FirstNamed.{IsFirstNamed};
+ghost use Rattle.instants.specs.FirstNamed.{IsFirstNamed, NamesFrom};
 ghost use Rattle.instants.specs.Place.{first_named, place_of, shown_or_refused, IsPlace};
 ghost use Rattle.instants.specs.Settings.{setting_of};
 
@@ -62,8 +62,35 @@ impl<'a> Timeline<'a> {
     }
 
     // The source that is tried first.
-    pub(crate) fn first(&self) -> &Source<'a> {
+    #[inline(always)]
+    pub(crate) fn first(&self) -> &Source<'a>
+        ensures { (setting_of self.now).sources
+            ≡ grammar_of result.now ∷ drop 1 (setting_of self.now).sources }
+    {
         &self.sources.as_slice()[0]
+    }
+
+    // Whether there are sources behind the first one.
+    pub(crate) fn has_others(&self) -> bool {
+        self.sources.len() > 1
+    }
+
+    // The first source that the first bytes of a line do not rule out, and its place.
+    #[inline(always)]
+    pub(super) fn likely(&self, line: &[u8]) -> Option<(usize, &Source<'a>)>
+        ensures within { IfSome result (λ x. x.0 < length (setting_of self.now).sources) }
+        ensures from { IfSome result (λ x. NamesFrom (setting_of self.now) line.now x.0) }
+        ensures source { IfSome result (λ x. drop x.0 (setting_of self.now).sources
+            ≡ grammar_of x.1.now ∷ drop (x.0 + 1) (setting_of self.now).sources) }
+        ensures none { IfNone result (result_ok (first_named (setting_of self.now).assumed
+            (setting_of self.now).sources line.now) ≡ None) }
+    {
+        for (place, source) in self.sources.iter().enumerate() {
+            if !source.cannot_match(line) {
+                return Some((place, source));
+            }
+        }
+        None
     }
 
     // What the first source that names a moment names, and else the first source's fault; the first source is read the

@@ -1,102 +1,117 @@
-//! A timeline with the fast way of the source that it tries first, to which most lines go.
-ghost use Rattle.std.specs.Prelude.{◌≡◌, Ok, IfSome};
-ghost use Rattle.parsing_fields.specs.Moment.{moment_of};
-ghost use Rattle.instants_sources.specs.Grammar.{grammar_of};
-ghost use Rattle.instants_sources.specs.Named.{named};
+//! The ways in which the lines of a timeline are answered, each by fast ways first.
+ghost use Rattle.std.specs.Prelude.{◌≡◌, ◌≢◌, ◌≤◌, codes, length};
+ghost use Rattle.instants.specs.Place.{answer_to};
+ghost use Rattle.instants.specs.Settings.{setting_of};
 
 use crate::timeline::Timeline;
-use calendar::UtcOffset;
 use instants_answers::Answer;
-use instants_sources::{Source, fast_iso8601, fast_rfc2822, fast_rfc3339};
+use instants_sources::Source;
 use instants_stream::AnswersLines;
-use parsing_fields::Fields;
 
-/// The fast way of one kind of source. A run over a stream is compiled once for each kind, so that what it holds and the
-/// fields of a line stay in registers.
-pub(crate) trait FastWay {
-    /// The fields of the moment of a line, where the source is of the kind and its fast way finds them: `None` says
-    /// nothing of the line.
-    fn find(&self, source: &Source, line: &[u8], assumed: Option<UtcOffset>) -> Option<Fields>
-        ensures { IfSome result
-            (λ fields. named assumed (grammar_of source.now) line.now ≡ Ok (moment_of fields)) };
+/// A way to answer the lines of a timeline. All answer alike: a run over a stream is compiled once for each, so that what it
+/// holds and the fields of a line stay in registers.
+pub(crate) trait AnswerWay {
+    /// Writes the answer to a line.
+    fn write_answer(&self, timeline: &Timeline, line: &[u8], storage: &mut Answer)
+        ensures bytes { storage.new ≡ answer_to (setting_of timeline.now) line.now }
+        ensures room { length storage.new ≤ 63 }
+        ensures never_long { storage.new ≢ codes "! long" };
 }
 
+/// For RFC 3339 alone.
 #[derive(Drop)]
 pub(crate) struct Rfc3339Way;
 
-impl FastWay for Rfc3339Way {
+impl AnswerWay for Rfc3339Way {
     #[inline(always)]
-    fn find(&self, source: &Source, line: &[u8], _assumed: Option<UtcOffset>) -> Option<Fields> {
-        match source {
-            Source::Rfc3339 => fast_rfc3339(line),
-            _ => None,
+    fn write_answer(&self, timeline: &Timeline, line: &[u8], storage: &mut Answer) {
+        if let Source::Rfc3339 = timeline.first() {
+            if timeline.write_rfc3339(line, storage) {
+                return;
+            }
         }
+        timeline.write_exact(0, line, storage);
     }
 }
 
+/// For RFC 2822 alone.
 #[derive(Drop)]
 pub(crate) struct Rfc2822Way;
 
-impl FastWay for Rfc2822Way {
+impl AnswerWay for Rfc2822Way {
     #[inline(always)]
-    fn find(&self, source: &Source, line: &[u8], _assumed: Option<UtcOffset>) -> Option<Fields> {
-        match source {
-            Source::Rfc2822 => fast_rfc2822(line),
-            _ => None,
+    fn write_answer(&self, timeline: &Timeline, line: &[u8], storage: &mut Answer) {
+        if let Source::Rfc2822 = timeline.first() {
+            if timeline.write_rfc2822(line, storage) {
+                return;
+            }
         }
+        timeline.write_exact(0, line, storage);
     }
 }
 
+/// For ISO 8601 alone.
 #[derive(Drop)]
 pub(crate) struct Iso8601Way;
 
-impl FastWay for Iso8601Way {
+impl AnswerWay for Iso8601Way {
     #[inline(always)]
-    fn find(&self, source: &Source, line: &[u8], _assumed: Option<UtcOffset>) -> Option<Fields> {
-        match source {
-            Source::Iso8601 => fast_iso8601(line),
-            _ => None,
+    fn write_answer(&self, timeline: &Timeline, line: &[u8], storage: &mut Answer) {
+        if let Source::Iso8601 = timeline.first() {
+            if timeline.write_iso8601(line, storage) {
+                return;
+            }
+        }
+        timeline.write_exact(0, line, storage);
+    }
+}
+
+/// For a description alone.
+#[derive(Drop)]
+pub(crate) struct PlannedWay;
+
+impl AnswerWay for PlannedWay {
+    #[inline(always)]
+    fn write_answer(&self, timeline: &Timeline, line: &[u8], storage: &mut Answer) {
+        if !timeline.write_planned(timeline.first(), line, storage) {
+            timeline.write_exact(0, line, storage);
         }
     }
 }
 
-// The fast way of whatever the source is.
+/// For several sources: the first that the first bytes of a line do not rule out is the likely one.
 #[derive(Drop)]
-pub(crate) struct AnyWay;
+pub(crate) struct LikelyWay;
 
-impl FastWay for AnyWay {
+impl AnswerWay for LikelyWay {
     #[inline(always)]
-    fn find(&self, source: &Source, line: &[u8], assumed: Option<UtcOffset>) -> Option<Fields> {
-        source.read_fast(line, assumed)
+    fn write_answer(&self, timeline: &Timeline, line: &[u8], storage: &mut Answer) {
+        let Some((place, source)) = timeline.likely(line) else {
+            timeline.write_first_fault(line, storage);
+            return;
+        };
+        if !timeline.write_fast(source, line, storage) {
+            timeline.write_exact(place, line, storage);
+        }
     }
 }
 
+/// A timeline whose lines are answered in one way.
 #[derive(Drop)]
-pub(crate) struct PlannedWay;
-
-impl FastWay for PlannedWay {
-    #[inline(always)]
-    fn find(&self, source: &Source, line: &[u8], assumed: Option<UtcOffset>) -> Option<Fields> {
-        source.read_planned(line, assumed)
-    }
-}
-
-/// A timeline whose first source is likely to be of the kind.
-#[derive(Drop)]
-pub(crate) struct Led<'a, 'b, F> {
+pub(crate) struct Led<'a, 'b, W> {
     timeline: &'a Timeline<'b>,
-    way: F,
+    way: W,
 }
 
-impl<'a, 'b, F: FastWay> Led<'a, 'b, F> {
-    pub(crate) fn new(timeline: &'a Timeline<'b>, way: F) -> Led<'a, 'b, F>
+impl<'a, 'b, W: AnswerWay> Led<'a, 'b, W> {
+    pub(crate) fn new(timeline: &'a Timeline<'b>, way: W) -> Led<'a, 'b, W>
         ensures { result.timeline.now ≡ timeline.now }
     {
         Led { timeline, way }
     }
 }
 
-impl<F: FastWay> AnswersLines for Led<'_, '_, F> {
+impl<W: AnswerWay> AnswersLines for Led<'_, '_, W> {
     ghost use Rattle.instants.specs.Place.{answer_to};
     ghost use Rattle.instants.specs.Settings.{setting_of};
 
@@ -108,6 +123,6 @@ impl<F: FastWay> AnswersLines for Led<'_, '_, F> {
 
     #[inline(always)]
     fn write_answer(&self, line: &[u8], storage: &mut Answer) {
-        self.timeline.write_line_answer(&self.way, line, storage);
+        self.way.write_answer(self.timeline, line, storage);
     }
 }

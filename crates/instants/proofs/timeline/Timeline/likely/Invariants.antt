@@ -1,0 +1,7 @@
+use Rattle.instants.specs.FirstNamed.{NamesFrom}
+use Rattle.instants.specs.Settings.{setting_of}
+use Rattle.instants.proofs.timeline.Timeline.likely.Given as goal
+
+-- the sources so far named none
+abbrev pub invariant-loop-place : goal.invariant-loop-place
+invariant-loop-place l = NamesFrom (setting_of l.self) l.line l.place
