@@ -1,9 +1,11 @@
 -- The first source that names a moment.
-use Rattle.std.proofs.Common.{◌≡◌, ◌<◌, ◌≤◌, ◌+◌, ℕ, List, [], ◌∷◌, length, get_or, drop, map, sym, ◌∙◌, Option, None, Some, Result, Ok, Err, refl, ap, unwrap_or, ℤ}
+use Rattle.std.proofs.Common.{◌≡◌, ◌<◌, ◌≤◌, ◌+◌, ℕ, List, [], ◌∷◌, length, get_or, drop, map, sym, ◌∙◌, Option, None, Some, Result, Ok, Err, refl, ap, unwrap_or, IfSome, ℤ}
 use Rattle.std.proofs.lemmas.List.{drop_more, drop_all, drop-map}
-use Rattle.std.specs.Option.{ok_or}
+use Rattle.std.specs.Option.{ok_or, option_map}
 use Rattle.std.specs.Result.{result_ok}
 use Rattle.datetime_wall.specs.Wall.{Shown}
+use Rattle.parsing_fields.specs.Moment.{moment_of}
+use Rattle.parsing_fields.specs.declared.fields.Fields.{Fields}
 use Rattle.parsing_pieces.specs.Fault.{Fault}
 use Rattle.instants_sources.specs.Grammar.{Grammar, grammar_of}
 use Rattle.instants_sources.specs.declared.source.Source.{Source}
@@ -43,6 +45,12 @@ answer_alike a e = record {
   room = a.room;
   never_long = a.never_long;
 }
+
+-- an answer for the moment that fields name
+pub answer_found : (setting : Setting) (found : Option Fields) (grammar : Grammar) (line bytes : List ℕ) → IfSome found (λ fields. named setting.assumed grammar line ≡ Ok (moment_of fields))
+    → IsAnswerOf setting (option_map moment_of found) bytes → IsAnswerOf setting (result_ok (named setting.assumed grammar line)) bytes
+answer_found setting None grammar line bytes h a = absurd (let no : None ≡ Some a.moment = a.is in cc)
+answer_found setting (Some fields) grammar line bytes h a = answer_alike a (ap result_ok h ∙ a.is)
 
 ok_of : (r : Result Shown Fault) (m : Shown) → result_ok r ≡ Some m → r ≡ Ok m
 ok_of (Ok x) m e = ap (λ (o : Option Shown). Ok (unwrap_or o x)) e

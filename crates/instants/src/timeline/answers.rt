@@ -36,13 +36,13 @@ impl Timeline<'_> {
     // The same, of the few moments that have to be counted.
     #[cold]
     #[inline(never)]
-    fn write_counted(&self, named: OffsetDateTime, storage: &mut Answer)
+    fn write_counted(&self, fields: Fields, storage: &mut Answer)
         ensures bytes { storage.new ≡
-            place_text (shown_or_refused (setting_of self.now).target (Ok named)) }
+            place_text (shown_or_refused (setting_of self.now).target (Ok (moment_of fields))) }
         ensures room { length storage.new ≤ 63 }
         ensures never_long { storage.new ≢ codes "! long" }
     {
-        self.write_shown(named, storage);
+        self.write_shown(fields.moment(), storage);
     }
 
     // The same of the moment that fields name: nearly all are written with no day counted.
@@ -54,13 +54,13 @@ impl Timeline<'_> {
         ensures never_long { storage.new ≢ codes "! long" }
     {
         if !write_fields(&fields, self.target, storage) {
-            self.write_counted(fields.moment(), storage);
+            self.write_counted(fields, storage);
         }
     }
 
     // The same of the moment that fields name, if they were found. Whether they were.
     #[inline(always)]
-    fn write_found(&self, found: Option<Fields>, storage: &mut Answer) -> bool
+    pub(super) fn write_found(&self, found: Option<Fields>, storage: &mut Answer) -> bool
         ensures { result ≡ true →
             IsAnswerOf (setting_of self.now) (option_map moment_of found) storage.new }
     {
@@ -72,8 +72,8 @@ impl Timeline<'_> {
     }
 
     // Writes the answer to a line of RFC 2822, if the fast way finds one: `false` says nothing of the line.
-    #[inline(always)]
-    pub(super) fn write_rfc2822(&self, line: &[u8], storage: &mut Answer) -> bool
+    #[inline(never)]
+    fn write_rfc2822(&self, line: &[u8], storage: &mut Answer) -> bool
         ensures { result ≡ true → IsAnswerOf (setting_of self.now)
             (result_ok (named (setting_of self.now).assumed grammar.Rfc2822 line.now))
             storage.new }
@@ -82,8 +82,8 @@ impl Timeline<'_> {
     }
 
     // The same of RFC 3339.
-    #[inline(always)]
-    pub(super) fn write_rfc3339(&self, line: &[u8], storage: &mut Answer) -> bool
+    #[inline(never)]
+    fn write_rfc3339(&self, line: &[u8], storage: &mut Answer) -> bool
         ensures { result ≡ true → IsAnswerOf (setting_of self.now)
             (result_ok (named (setting_of self.now).assumed grammar.Rfc3339 line.now))
             storage.new }
@@ -92,8 +92,8 @@ impl Timeline<'_> {
     }
 
     // The same of ISO 8601.
-    #[inline(always)]
-    pub(super) fn write_iso8601(&self, line: &[u8], storage: &mut Answer) -> bool
+    #[inline(never)]
+    fn write_iso8601(&self, line: &[u8], storage: &mut Answer) -> bool
         ensures { result ≡ true → IsAnswerOf (setting_of self.now)
             (result_ok (named (setting_of self.now).assumed grammar.Iso8601 line.now))
             storage.new }
@@ -102,8 +102,8 @@ impl Timeline<'_> {
     }
 
     // The same of a description that has a plan.
-    #[inline(always)]
-    pub(super) fn write_planned(&self, source: &Source, line: &[u8], storage: &mut Answer) -> bool
+    #[inline(never)]
+    fn write_planned(&self, source: &Source, line: &[u8], storage: &mut Answer) -> bool
         ensures { result ≡ true → IsAnswerOf (setting_of self.now)
             (result_ok (named (setting_of self.now).assumed (grammar_of source.now) line.now))
             storage.new }
@@ -113,7 +113,7 @@ impl Timeline<'_> {
 
     // Writes the answer to a line by a source's fast way, if that finds one: `false` says nothing of the line.
     #[inline(always)]
-    pub(super) fn write_fast(&self, source: &Source, line: &[u8], storage: &mut Answer) -> bool
+    fn write_fast(&self, source: &Source, line: &[u8], storage: &mut Answer) -> bool
         ensures { result ≡ true → IsAnswerOf (setting_of self.now)
             (result_ok (named (setting_of self.now).assumed (grammar_of source.now) line.now))
             storage.new }
@@ -126,14 +126,21 @@ impl Timeline<'_> {
         }
     }
 
-    // The same, apart from the loops over lines.
-    #[inline(never)]
-    fn write_fast_later(&self, source: &Source, line: &[u8], storage: &mut Answer) -> bool
+    // The same within the loop over lines, where no way is a call of its own.
+    #[inline(always)]
+    pub(super) fn write_likely(&self, source: &Source, line: &[u8], storage: &mut Answer) -> bool
         ensures { result ≡ true → IsAnswerOf (setting_of self.now)
             (result_ok (named (setting_of self.now).assumed (grammar_of source.now) line.now))
             storage.new }
     {
-        self.write_fast(source, line, storage)
+        match source {
+            Source::Rfc2822 => self.write_found(fast_rfc2822(line), storage),
+            Source::Rfc3339 => self.write_found(fast_rfc3339(line), storage),
+            Source::Iso8601 => self.write_found(fast_iso8601(line), storage),
+            Source::Items(_) | Source::V3(_) => {
+                self.write_found(source.read_planned(line, self.assumed), storage)
+            }
+        }
     }
 
     // Writes the answer to a line for which a source names a moment. Whether it names one.
@@ -149,7 +156,7 @@ impl Timeline<'_> {
         if source.cannot_match(line) {
             return false;
         }
-        if self.write_fast_later(source, line, storage) {
+        if self.write_fast(source, line, storage) {
             return true;
         }
         match source.read_exact(line, self.assumed) {

@@ -5,7 +5,7 @@ ghost use Rattle.instants.specs.Settings.{setting_of};
 
 use crate::timeline::Timeline;
 use instants_answers::Answer;
-use instants_sources::Source;
+use instants_sources::{Source, fast_iso8601, fast_rfc2822, fast_rfc3339};
 use instants_stream::AnswersLines;
 
 /// A way to answer the lines of a timeline. All answer alike: a run over a stream is compiled once for each, so that what it
@@ -26,7 +26,7 @@ impl AnswerWay for Rfc3339Way {
     #[inline(always)]
     fn write_answer(&self, timeline: &Timeline, line: &[u8], storage: &mut Answer) {
         if let Source::Rfc3339 = timeline.first() {
-            if timeline.write_rfc3339(line, storage) {
+            if timeline.write_found(fast_rfc3339(line), storage) {
                 return;
             }
         }
@@ -42,7 +42,7 @@ impl AnswerWay for Rfc2822Way {
     #[inline(always)]
     fn write_answer(&self, timeline: &Timeline, line: &[u8], storage: &mut Answer) {
         if let Source::Rfc2822 = timeline.first() {
-            if timeline.write_rfc2822(line, storage) {
+            if timeline.write_found(fast_rfc2822(line), storage) {
                 return;
             }
         }
@@ -58,7 +58,7 @@ impl AnswerWay for Iso8601Way {
     #[inline(always)]
     fn write_answer(&self, timeline: &Timeline, line: &[u8], storage: &mut Answer) {
         if let Source::Iso8601 = timeline.first() {
-            if timeline.write_iso8601(line, storage) {
+            if timeline.write_found(fast_iso8601(line), storage) {
                 return;
             }
         }
@@ -73,7 +73,8 @@ pub(crate) struct PlannedWay;
 impl AnswerWay for PlannedWay {
     #[inline(always)]
     fn write_answer(&self, timeline: &Timeline, line: &[u8], storage: &mut Answer) {
-        if !timeline.write_planned(timeline.first(), line, storage) {
+        let planned = timeline.first().read_planned(line, timeline.assumed);
+        if !timeline.write_found(planned, storage) {
             timeline.write_exact(0, line, storage);
         }
     }
@@ -84,13 +85,13 @@ impl AnswerWay for PlannedWay {
 pub(crate) struct LikelyWay;
 
 impl AnswerWay for LikelyWay {
-    #[inline(always)]
+    #[inline(never)]
     fn write_answer(&self, timeline: &Timeline, line: &[u8], storage: &mut Answer) {
         let Some((place, source)) = timeline.likely(line) else {
             timeline.write_first_fault(line, storage);
             return;
         };
-        if !timeline.write_fast(source, line, storage) {
+        if !timeline.write_likely(source, line, storage) {
             timeline.write_exact(place, line, storage);
         }
     }

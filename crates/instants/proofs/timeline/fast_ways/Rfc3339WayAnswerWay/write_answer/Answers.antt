@@ -1,11 +1,12 @@
-use Rattle.std.proofs.Common.{◌≡◌, ◌∷◌, refl, drop}
+use Rattle.std.proofs.Common.{◌≡◌, ◌∷◌, rules, refl, drop}
 use Rattle.instants_sources.specs.Grammar as grammar
 use Rattle.instants.specs.Settings.{setting_of}
-use Rattle.instants.proofs.FirstNamed.{answered_at}
+use Rattle.instants.proofs.FirstNamed.{answered_at, answer_found}
 use Rattle.instants.proofs.timeline.fast_ways.Rfc3339WayAnswerWay.write_answer.Goals as goal
 
-pub returns-then-write_rfc3339-clause-bytes : goal.returns-then-write_rfc3339-clause-bytes
-returns-then-write_rfc3339-clause-bytes c =
+pub returns-then-write_found-clause-bytes : goal.returns-then-write_found-clause-bytes
+returns-then-write_found-clause-bytes c =
     let setting = setting_of c.args.timeline.now in
     let first : setting.sources ≡ grammar.Rfc3339 ∷ drop 1 setting.sources = rw c.in-Rfc3339.is at c.first.ensures in
-    answered_at setting c.args.line.now _ 0 grammar.Rfc3339 (drop 1 setting.sources) refl first (c.write_rfc3339.ensures c.if-write_rfc3339.true)
+    let found = answer_found setting c.fast_rfc3339.result grammar.Rfc3339 c.args.line.now _ (search rules) (c.write_found.ensures c.if-write_found.true) in
+    answered_at setting c.args.line.now _ 0 grammar.Rfc3339 (drop 1 setting.sources) refl first found
