@@ -20,26 +20,9 @@ fn from(bytes: &[u8], place: usize) -> &[u8]
     &bytes[place..]
 }
 
-/// Whether each of the first 8 bytes lies between the lowest and the highest for its place.
+/// Whether each of the first 16 bytes lies between the lowest and the highest for its place.
 #[inline(always)]
-pub fn are_eight_between(bytes: &[u8], low: &[u8], high: &[u8]) -> bool
-    requires bytes { 8 ≤ length bytes.now }
-    requires low { 8 ≤ length low.now }
-    requires high { 8 ≤ length high.now }
-    ensures { result ≡ true → (k : ℕ) → k < 8 → IsBetween low.now high.now bytes.now k }
-{
-    let bytes = u8x8::from_slice(bytes);
-    let below = bytes.simd_lt(u8x8::from_slice(low)).to_bitmask();
-    let above = bytes.simd_gt(u8x8::from_slice(high)).to_bitmask();
-    if below != 0 || above != 0 {
-        return false;
-    }
-    true
-}
-
-// Whether each of the first 16 bytes lies between two others.
-#[inline(always)]
-fn sixteen_between(bytes: &[u8], low: &[u8], high: &[u8]) -> bool
+pub fn are_sixteen_between(bytes: &[u8], low: &[u8], high: &[u8]) -> bool
     requires bytes { LANES ≤ length bytes.now }
     requires low { LANES ≤ length low.now }
     requires high { LANES ≤ length high.now }
@@ -63,9 +46,9 @@ pub fn are_between(bytes: &[u8], low: &[u8], high: &[u8]) -> bool
     requires high { length high.now ≡ length bytes.now }
     ensures { result ≡ true → LieBetween low.now high.now bytes.now }
 {
-    if !sixteen_between(bytes, low, high) {
+    if !are_sixteen_between(bytes, low, high) {
         return false;
     }
     let last = bytes.len() - LANES;
-    sixteen_between(from(bytes, last), from(low, last), from(high, last))
+    are_sixteen_between(from(bytes, last), from(low, last), from(high, last))
 }

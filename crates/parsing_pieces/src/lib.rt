@@ -10,7 +10,7 @@ mod places;
 mod strict;
 mod zone;
 
-pub use between::{are_between, are_eight_between};
+pub use between::{are_between, are_sixteen_between};
 pub use chunk::{clock, digit_chunk, nine_digits, year_month};
 pub use cut::{
     any_byte, byte, digit_run, four_digits, one_digit, sign, six_digits, three_digits, two_digits,
