@@ -29,17 +29,17 @@ use Rattle.parsing_iso8601.proofs.Entries.{month_entry}
 use Rattle.parsing_iso8601.proofs.Pieces.{no_sign}
 
 -- four digits are a year
-year_of : (bytes : List ℕ) (n : ℕ) (rest : List ℕ) → digits 4 bytes ≡ Some (n, rest) → year bytes ≡ Some (pos n, rest)
+pub year_of : (bytes : List ℕ) (n : ℕ) (rest : List ℕ) → digits 4 bytes ≡ Some (n, rest) → year bytes ≡ Some (pos n, rest)
 unfolding year plain_year
 year_of bytes n rest e = rw (no_sign 4 bytes (n, rest) (lit< tt) e) (rw e refl)
 
 -- two digits number a month
-month_of : (bytes : List ℕ) (m : Month) (n : ℕ) (rest : List ℕ) → digits 2 bytes ≡ Some (n, rest) → month_number m ≡ n → numbered 2 months bytes ≡ Some (m, rest)
+pub month_of : (bytes : List ℕ) (m : Month) (n : ℕ) (rest : List ℕ) → digits 2 bytes ≡ Some (n, rest) → month_number m ≡ n → numbered 2 months bytes ≡ Some (m, rest)
 unfolding numbered
 month_of bytes m n rest e is = rw e (rw (month_entry m n is) refl)
 
 -- two digits in a range
-within : (n low high : ℕ) (bytes : List ℕ) (v : ℕ) (rest : List ℕ) → digits n bytes ≡ Some (v, rest) → low ≤ v → v ≤ high → digits_within n low high bytes ≡ Some (v, rest)
+pub within : (n low high : ℕ) (bytes : List ℕ) (v : ℕ) (rest : List ℕ) → digits n bytes ≡ Some (v, rest) → low ≤ v → v ≤ high → digits_within n low high bytes ≡ Some (v, rest)
 unfolding digits_within
 within n low high bytes v rest e above below =
     let t : is_in_range low high v ≡ true = grind (arith, nat_tests) in
@@ -66,7 +66,7 @@ date_of_chunk bytes y n behind m d rest c is two some most =
 -- ---- the days that dates name
 
 -- a month has its number
-named_month : (n : ℕ) → 1 ≤ n → n ≤ 12 → (m : Month) × (month_number m ≡ n)
+pub named_month : (n : ℕ) → 1 ≤ n → n ≤ 12 → (m : Month) × (month_number m ≡ n)
 named_month zero low high = absurd (omega arith)
 named_month (suc zero) low high = (January, refl)
 named_month (suc (suc zero)) low high = (February, refl)

@@ -1,9 +1,12 @@
 pub mod Carrying
+pub mod DayLemmas
 pub mod Entries
 pub mod Pieces
+pub mod PlaceLemmas
 pub mod FastDates
 pub mod FastMoments
 pub mod FastOffsets
 pub mod FastTimes
 pub mod Rounding
+pub mod ShapeLemmas
 pub mod TameLemmas

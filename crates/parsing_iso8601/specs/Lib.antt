@@ -1,5 +1,6 @@
 pub mod AllOrNothing
 pub mod Dates
+pub mod Days
 pub mod Designators
 pub mod Fast
 pub mod Fractions
@@ -8,6 +9,7 @@ pub mod Moment
 pub mod Numbers
 pub mod Offsets
 pub mod Parts
+pub mod Places
 pub mod Ranges
 pub mod ReadView
 pub mod Reading

@@ -1,6 +1,7 @@
 //! The reading of ISO 8601.
 #![tactic(auto)]
 
+mod calendar_days;
 mod date;
 mod fast;
 mod fraction;
@@ -8,6 +9,7 @@ mod kind;
 mod moment;
 mod number;
 mod offset;
+mod places;
 mod reading;
 mod time;
 mod written;

@@ -1,4 +1,5 @@
 pub mod lemmas
+pub mod AtPlaces
 pub mod ClockChunks
 pub mod Decimal
 pub mod DigitChunks
@@ -8,5 +9,6 @@ pub mod FractionDigits
 pub mod Fronts
 pub mod Lanes
 pub mod Numbers
+pub mod ManyBetween
 pub mod Padding
 pub mod YearMonthChunks

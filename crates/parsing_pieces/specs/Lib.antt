@@ -6,3 +6,4 @@ pub mod Readings
 pub mod ShortName
 pub mod Tame
 pub mod Chunks
+pub mod Places

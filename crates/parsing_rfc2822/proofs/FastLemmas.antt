@@ -64,7 +64,7 @@ colon_here bytes rest after n e f =
     rw (colon_parts bytes rest e, none_at colon rest (omega arith)) (ap (λ o. Some (rest_or o rest)) (digit_begins rest after n f))
 
 -- a time of day without white space is read at once
-clock_at_once : (bytes rest : List ℕ) (h m s : ℕ) → IsClock bytes h m s rest → clock false bytes ≡ Ok ((h, m, Some s), rest)
+pub clock_at_once : (bytes rest : List ℕ) (h m s : ℕ) → IsClock bytes h m s rest → clock false bytes ≡ Ok ((h, m, Some s), rest)
 unfolding clock hour_and_minute second due_second
 clock_at_once bytes rest h m s i =
     rw (i.hour_digits, colon_here _ _ _ _ i.first_colon i.minute_digits, i.minute_digits, colon_here _ _ _ _ i.second_colon i.second_digits, i.second_digits, i.rest_is) refl

@@ -13,10 +13,10 @@ use Rattle.calendar_count.specs.declared.weekday.Weekday.TheVariants.{Monday, Tu
 use Rattle.parsing_rfc2822.specs.Names.{weekday_of, month_of, zone_of}
 use Rattle.parsing_rfc2822.specs.Words.{small, word_of}
 
-small_is : (c : ℕ) → c < 256 → small c ≡ c / 64 * 64 + 32 + c % 32
+pub small_is : (c : ℕ) → c < 256 → small c ≡ c / 64 * 64 + 32 + c % 32
 small_is c lt = eqb-true _ _ (agree_below_at (λ n. eqb (bit_or n 32) (n / 64 * 64 + 32 + n % 32)) (λ n. true) 256 c refl lt)
 
-small_fits : (c : ℕ) → c < 256 → small c < 256
+pub small_fits : (c : ℕ) → c < 256 → small c < 256
 small_fits c lt = omega (arith, small_is c lt)
 
 big_letter : (c : ℕ) → 65 ≤ c → c ≤ 90 → to_ascii_lowercase c ≡ small c

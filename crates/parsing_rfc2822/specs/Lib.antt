@@ -4,3 +4,4 @@ pub mod Names
 pub mod Range
 pub mod Reading
 pub mod Words
+pub mod Places

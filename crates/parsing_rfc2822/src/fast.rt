@@ -8,6 +8,7 @@ ghost use Rattle.parsing_rfc2822.specs.Fast.{IsAllZone};
 ghost use Rattle.parsing_rfc2822.specs.Reading as Reading;
 
 use crate::names::{month, weekday, zone_name};
+use crate::places::read_by_places;
 use crate::reading::one_or_two_digits;
 use calendar_count::{Month, Weekday};
 use parsing_fields::{Fields, Fraction, minute_of_day, signed_minutes};
@@ -115,12 +116,9 @@ fn fast_zone(bytes: &[u8]) -> Option<i16>
 // The bytes of ` Jul 2003 10:52:37 GMT`: behind its day no text of this shape has fewer.
 const SHORTEST: usize = 22;
 
-/// The fields of a text, where the fast way finds them: `None` says nothing of the text.
-///
-/// It finds those of most texts: single spaces between their parts, all numbers of the clock, no leap second and no
-/// comment.
+// The fields of a text, by its parts one after another.
 #[inline(always)]
-pub fn read_fields(input: &[u8]) -> Option<Fields>
+fn read_by_parts(input: &[u8]) -> Option<Fields>
     ensures { IfSome result (λ fields. direct input.now ≡ Ok (moment_of fields)) }
 {
     let ((_, day), rest) = fast_day(input)?;
@@ -134,4 +132,19 @@ pub fn read_fields(input: &[u8]) -> Option<Fields>
     let month = month.number();
     let fraction = Fraction::new(0);
     Fields::new(year, month, day, minute_of_day, second, fraction, offset)
+}
+
+/// The fields of a text, where the fast way finds them: `None` says nothing of the text.
+///
+/// It finds those of most texts: single spaces between their parts, all numbers of the clock, no leap second and no
+/// comment.
+#[inline(always)]
+pub fn read_fields(input: &[u8]) -> Option<Fields>
+    ensures { IfSome result (λ fields. direct input.now ≡ Ok (moment_of fields)) }
+{
+    // The lengths of texts with a weekday and an offset in digits.
+    if input.len() == 30 || input.len() == 31 {
+        return read_by_places(input);
+    }
+    read_by_parts(input)
 }

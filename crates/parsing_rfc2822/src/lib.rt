@@ -4,8 +4,10 @@
 mod direct;
 mod fast;
 pub mod laws;
+mod letters;
 mod names;
 mod parts;
+mod places;
 mod reading;
 mod spacing;
 

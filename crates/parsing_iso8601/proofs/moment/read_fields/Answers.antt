@@ -10,8 +10,8 @@ use Rattle.parsing_iso8601.proofs.moment.read_fields.Goals as goal
 
 pub returns : goal.returns
 returns c =
-    let d = c.in_ok-year in
-    let t = c.in_ok-hour in
+    let d = c.in_ok-front.front in
+    let reads = c.in_ok-front.ensures in
     let n = c.in-Some in
     let fraction = n.read.0 in
     let behind = n.read.1.now in
@@ -19,5 +19,5 @@ returns c =
     let m = c.in_ok-minute_of_day in
     let range = m.ensures.some.0 (search rules) in
     let same : to_z w16 (of_z w16 o.offset) ≡ o.offset = omega (arith, ints) in
-    of_fields (λ (f : Fields). HaveNumbers f d.year d.month d.day m.minute_of_day t.second fraction o.offset) (λ (f : Fields). IsOfOffset c.args.input.now (Moment.moment_of f)) c.new.result (rw same at c.new.ensures.numbers)
-    (λ f h. fields_named f c.args.input.now d.rest.now t.rest.now behind d.kind d.year d.month d.day t.hour t.minute t.second fraction o.offset d.ensures t.ensures n.ensures.reads n.ensures.bound o.ensures (rw m.ensures.value at h) range.0 range.1)
+    of_fields (λ (f : Fields). HaveNumbers f d.year d.month d.day m.minute_of_day d.second fraction o.offset) (λ (f : Fields). IsOfOffset c.args.input.now (Moment.moment_of f)) c.new.result (rw same at c.new.ensures.numbers)
+    (λ f h. fields_named f c.args.input.now reads.behind d.rest.now behind d.kind d.year d.month d.day d.hour d.minute d.second fraction o.offset reads.in_day reads.in_clock n.ensures.reads n.ensures.bound o.ensures (rw m.ensures.value at h) range.0 range.1)

@@ -6,7 +6,7 @@ use Rattle.parsing_fields.specs.Numbers.{HaveNumbers}
 use Rattle.parsing_fields.proofs.lemmas.Moments.{of_fields}
 use Rattle.parsing_rfc2822.specs.Direct.{direct}
 use Rattle.parsing_rfc2822.proofs.FastLemmas.{fields_read}
-use Rattle.parsing_rfc2822.proofs.fast.read_fields.Goals as goal
+use Rattle.parsing_rfc2822.proofs.fast.read_by_parts.Goals as goal
 
 pub returns : goal.returns
 returns c =

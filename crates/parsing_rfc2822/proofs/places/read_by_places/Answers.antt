@@ -1,0 +1,8 @@
+use Rattle.parsing_fields.proofs.lemmas.Moments.{of_fields}
+use Rattle.parsing_rfc2822.proofs.places.read_by_places.Goals as goal
+
+pub returns : goal.returns
+returns c =
+    let front = c.in_ok-tens.ensures in
+    let shape = c.has_shape.ensures c.if-not-has_shape.false in
+    of_fields _ _ c.fields_behind.result c.fields_behind.ensures (λ f read. read c.args.input.now front.weekday_is (front.reads shape.last_of_day shape.before_month))

@@ -1,0 +1,58 @@
+-- The places of a text such as `Tue, 01 Jul 2003 10:52:37 +0200`.
+use Rattle.std.specs.Prelude.{◌≡◌, ◌≤◌, ◌+◌, ◌-◌, ◌*◌, ℕ, false, List, length, drop, get_or, slice_index, Option, Some, Ok}
+use Rattle.byte_names.specs.Bytes.{space, plus, hyphen}
+use Rattle.calendar_count.specs.Month.{month_number}
+use Rattle.calendar_count.specs.declared.month.Month.{Month}
+use Rattle.calendar_count.specs.declared.weekday.Weekday.{Weekday}
+use Rattle.parsing_pieces.specs.Places.{HasDigit, HasPair, HasClock}
+use Rattle.parsing_rfc2822.specs.Names.{weekday, month}
+use Rattle.parsing_rfc2822.specs.Reading.{comma, day, month_and_year}
+
+-- the first four bytes as one number, the first one lowest
+abbrev pub number_of_four : List ℕ → ℕ
+number_of_four text =
+    slice_index text 0 + slice_index text 1 * 256 + slice_index text 2 * 65_536 + slice_index text 3 * 16_777_216
+
+-- a weekday's name, a comma and a space stand at the front
+pub record HasWeekday (text : List ℕ) : Type 0 where
+  pub weekday_is : Weekday
+  pub named : weekday text ≡ Some (weekday_is, drop 3 text)
+  pub letter : 41 ≤ get_or text 0 0
+  pub comma_there : get_or text 3 0 ≡ comma
+  pub space_there : get_or text 4 0 ≡ space
+
+-- the name of the month with a number stands behind one byte
+pub record HasMonth (text : List ℕ) (number : ℕ) : Type 0 where
+  pub month_is : Month
+  pub named : month (drop 1 text) ≡ Some (month_is, drop 4 text)
+  pub number_is : month_number month_is ≡ number
+
+-- from the last digit of the day on: `1 Jul 2003 10:52:37 +0200`, where what may be letters and a sign is not known
+pub record HasShape (text : List ℕ) : Type 0 where
+  pub long : length text ≡ 25
+  pub last_of_day : HasDigit text 0
+  pub before_month : get_or text 1 0 ≡ space
+  pub letter : 41 ≤ get_or text 2 0
+  pub before_year : get_or text 5 0 ≡ space
+  pub century : HasPair text 6
+  pub last_two : HasPair text 8
+  pub before_clock : get_or text 10 0 ≡ space
+  pub clock : HasClock text 11
+  pub before_zone : get_or text 19 0 ≡ space
+  pub lowest_sign : plus ≤ get_or text 20 0
+  pub highest_sign : get_or text 20 0 ≤ hyphen
+  pub zone_hours : HasPair text 21
+  pub zone_minutes : HasPair text 23
+
+-- with what stands before it, the text has a day, of which these are the tens
+pub record IsFront (input : List ℕ) (tens : ℕ) (text : List ℕ) : Type 0 where
+  pub long : length text ≡ 25
+  pub few : tens ≤ 9
+  pub weekday_is : Option Weekday
+  pub reads : HasDigit text 0 → get_or text 1 0 ≡ space → day false input ≡ Ok ((weekday_is, tens * 10 + (get_or text 0 0 - 48)), drop 1 text)
+
+-- behind the day the month with a number is read, and this year
+pub record ReadsMonth (text : List ℕ) (year number : ℕ) : Type 0 where
+  pub month_is : Month
+  pub reads : month_and_year (drop 1 text) ≡ Ok ((month_is, year), drop 11 text)
+  pub number_is : month_number month_is ≡ number

@@ -1,0 +1,101 @@
+//! The fast way of most texts, such as `Tue, 01 Jul 2003 10:52:37 +0200`, by the places of their parts.
+//!
+//! Such a text has a weekday and an offset in digits, and ends with 25 bytes from the last digit of its day on.
+ghost use Rattle.std.specs.Prelude.{◌≡◌, ◌≤◌, ◌+◌, ◌*◌, IfSome, Ok, Some, true, false, drop, length, List, ℕ, Option};
+ghost use Rattle.calendar_count.specs.declared.weekday.Weekday.{Weekday};
+ghost use Rattle.parsing_fields.specs.Moment.{moment_of};
+ghost use Rattle.parsing_rfc2822.specs.Direct.{direct};
+ghost use Rattle.parsing_rfc2822.specs.Fast.{IsAllZone};
+ghost use Rattle.parsing_rfc2822.specs.Places.{HasShape, IsFront, ReadsMonth};
+ghost use Rattle.parsing_rfc2822.specs.Reading as Reading;
+
+use crate::letters::{has_weekday, month_number};
+use parsing_fields::{Fields, Fraction, minute_of_day, signed_minutes};
+use parsing_pieces::{are_between, clock_at, four_digits_at, two_pairs_at};
+
+// The lowest and the highest byte at each place from the last digit of the day on. What lies between the letters or the
+// signs is refused later, and so are most numbers out of range.
+static LOWEST: [u8; 25] = *b"0 AAA 1000 00:00:00 +0000";
+
+static HIGHEST: [u8; 25] = *b"9 zzz 9999 29:59:59 -2959";
+
+// Whether bytes can be those from the last digit of a day on: `1 Jul 2003 10:52:37 +0200`.
+#[inline(always)]
+fn has_shape(text: &[u8]) -> bool
+    requires { length text.now ≡ 25 }
+    ensures { result ≡ true → HasShape text.now }
+{
+    are_between(text, &LOWEST, &HIGHEST)
+}
+
+// The tens of the day, none where it has one digit, and what stands behind them.
+#[inline(always)]
+fn tens_of_day(input: &[u8]) -> Option<(u8, &[u8])>
+    ensures { IfSome result (λ x. IsFront input.now x.0 x.1.now) }
+{
+    if input.len() < 30 || input.len() > 31 || !has_weekday(input) {
+        return None;
+    }
+    if input.len() == 30 {
+        return Some((0, &input[5..]));
+    }
+    if !input[5].is_ascii_digit() {
+        return None;
+    }
+    Some((input[5] - b'0', &input[6..]))
+}
+
+// The minutes of the offset.
+#[inline(always)]
+fn offset(text: &[u8]) -> Option<i16>
+    requires { HasShape text.now }
+    ensures { IfSome result (IsAllZone (Reading.spaced_zone false (drop 19 text.now))) }
+{
+    let sign = text[20];
+    if sign == b',' {
+        return None;
+    }
+    let (hours, minutes) = two_pairs_at(text, 21);
+    signed_minutes(sign == b'-', hours, minutes)
+}
+
+// The year and the number of the month.
+#[inline(always)]
+fn year_and_month(text: &[u8]) -> Option<(u16, u8)>
+    requires { HasShape text.now }
+    ensures { IfSome result (λ x. ReadsMonth text.now x.0 x.1) }
+{
+    let month = month_number(&text[1..])?;
+    let year = four_digits_at(text, 6);
+    if year < 1900 {
+        return None;
+    }
+    Some((year, month))
+}
+
+// The fields of a text, where its day was read.
+#[inline(always)]
+fn fields_behind(day: u8, text: &[u8]) -> Option<Fields>
+    requires { HasShape text.now }
+    ensures { IfSome result (λ fields. (input : List ℕ) (weekday : Option Weekday)
+        → Reading.day false input ≡ Ok ((weekday, day), drop 1 text.now)
+        → direct input ≡ Ok (moment_of fields)) }
+{
+    let (year, month) = year_and_month(text)?;
+    let (hour, minute, second) = clock_at(text, 11);
+    let minute = minute_of_day(hour, minute)?;
+    let offset = offset(text)?;
+    Fields::new(year, month, day, minute, second, Fraction::new(0), offset)
+}
+
+/// The fields of a text, where it has such places: `None` says nothing of the text.
+#[inline(always)]
+pub(crate) fn read_by_places(input: &[u8]) -> Option<Fields>
+    ensures { IfSome result (λ fields. direct input.now ≡ Ok (moment_of fields)) }
+{
+    let (tens, text) = tens_of_day(input)?;
+    if !has_shape(text) {
+        return None;
+    }
+    fields_behind(tens * 10 + (text[0] - b'0'), text)
+}
