@@ -57,7 +57,24 @@ impl Fields {
         if year > 9999 || minute >= 1440 || second >= 60 || offset.unsigned_abs() > 1559 {
             return None;
         }
-        Some(Fields {
+        Some(Fields::of_numbers(year, month, day, minute, second, fraction, offset))
+    }
+
+    /// The fields with these numbers, which name fields: `new` is the test.
+    #[inline(always)]
+    pub fn of_numbers(
+        year: u16,
+        month: u8,
+        day: u8,
+        minute: u16,
+        second: u8,
+        fraction: Fraction,
+        offset: i16,
+    ) -> Fields
+        requires { NameFields year month day minute second offset }
+        ensures { HaveNumbers result year month day minute second fraction offset }
+    {
+        Fields {
             year,
             month,
             day,
@@ -65,7 +82,7 @@ impl Fields {
             offset,
             second: u64::from(second),
             fraction,
-        })
+        }
     }
 
     /// The moment that they name.

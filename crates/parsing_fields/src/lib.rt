@@ -1,6 +1,7 @@
 //! The fields of a date-time in a year of four digits, before any day is counted.
 #![tactic(auto)]
 
+mod before;
 mod fields;
 mod fraction;
 mod minutes;

@@ -1,6 +1,6 @@
 -- The moment of a line that has the layout of a plan.
 use Rattle.std.proofs.Common.{◌≡◌, ◌≤◌, ◌<◌, ◌+◌, ◌*◌, ◌∙◌, ℕ, false, List, [], length, drop, Option, Some, None, Ok, refl, ap, arith, pos, ℤ}
-use Rattle.std.specs.Prelude.{IfSome, IsSome, ◌*ℤ◌}
+use Rattle.std.specs.Prelude.{IsSome, ◌*ℤ◌}
 use Rattle.std.specs.Option.{unwrap_or}
 use Rattle.std.specs.Int.{is_in_range}
 use Rattle.std.proofs.lemmas.List.{drop_all}
@@ -103,7 +103,7 @@ whole_is : (m : Meaning) (defaults : Option Record) (line : List ℕ) (r : Recor
 unfolding whole
 whole_is m defaults line r e = rw e refl
 
-line_read : (l : Layout) (line : List ℕ) (assumed : Option ℤ) (year month day minute second : ℕ) (offset : ℤ) → HasText l line → length line ≡ l.length → SaysDate l line year month day → SaysClock l line minute second → SaysOffset l line assumed offset
+pub line_read : (l : Layout) (line : List ℕ) (assumed : Option ℤ) (year month day minute second : ℕ) (offset : ℤ) → HasText l line → length line ≡ l.length → SaysDate l line year month day → SaysClock l line minute second → SaysOffset l line assumed offset
     → (f : Fields) → HaveNumbers f year month day minute second 0 offset → (m : Meaning) (defaults : Option Record) → IsLayoutOf m l → starting defaults ≡ beginning assumed → names moment_named (whole m defaults line) ≡ Ok (moment_of f)
 line_read l line assumed year month day minute second offset text long d t o f n m defaults plan start =
     let v : Values = values_of l line assumed year month day minute second offset d t o in
@@ -111,11 +111,6 @@ line_read l line assumed year month day minute second offset text long d t o f n
     let read = was_read (m (starting defaults) line) _ (plan line v (omega (arith, long)) (all_says l line assumed year month day minute second offset d t o text) (starting defaults)) in
     let all : m (starting defaults) line ≡ Ok (with_values l v (beginning assumed), []) = rw (← start, ← nothing) read in
     rw (whole_is m defaults line (with_values l v (beginning assumed)) all) (moment_there l line assumed year month day minute second offset d t o f n)
-
-pub lines_read : (l : Layout) (line : List ℕ) (assumed : Option ℤ) (year month day minute second : ℕ) (offset : ℤ) → HasText l line → length line ≡ l.length → SaysDate l line year month day → SaysClock l line minute second → SaysOffset l line assumed offset
-    → (o : Option Fields) → IfSome o (λ f. HaveNumbers f year month day minute second 0 offset) → (m : Meaning) (defaults : Option Record) → IsLayoutOf m l → starting defaults ≡ beginning assumed → IfSome o (λ f. names moment_named (whole m defaults line) ≡ Ok (moment_of f))
-lines_read l line assumed year month day minute second offset text long d t o None n m defaults plan start = tt
-lines_read l line assumed year month day minute second offset text long d t o (Some f) n m defaults plan start = line_read l line assumed year month day minute second offset text long d t o f n m defaults plan start
 
 -- ---- the line with a fraction
 
@@ -148,7 +143,7 @@ split_moment front line rest assumed back year month day minute second nanosecon
     let in_offset : offset_named (filled back v r) ≡ Ok (pos 60 *ℤ f.offset) = rw n.same_offset o.offset_is in
     ap (λ (x : Record). moment_named x) same ∙ dated back v r (day_of_fields f) (time_of_fields f) nanosecond (pos 60 *ℤ f.offset) (bare_fraction assumed nanosecond) refl in_day in_time in_offset ∙ ap (λ (x : Shown). Ok x) (moment_is f)
 
-split_read : (front back : Layout) (line rest : List ℕ) (assumed : Option ℤ) (year month day minute second nanosecond : ℕ) (offset : ℤ) → HasNoOffset front → HasNoClock back → front.length ≤ length line → HasText front line → taken (fraction_between 1 32) (drop front.length line) ≡ Some (nanosecond, rest) → nanosecond < 1_000_000_000 → length rest ≡ back.length → HasText back rest → SaysDate front line year month day → SaysClock front line minute second → SaysOffset back rest assumed offset
+pub split_read : (front back : Layout) (line rest : List ℕ) (assumed : Option ℤ) (year month day minute second nanosecond : ℕ) (offset : ℤ) → HasNoOffset front → HasNoClock back → front.length ≤ length line → HasText front line → taken (fraction_between 1 32) (drop front.length line) ≡ Some (nanosecond, rest) → nanosecond < 1_000_000_000 → length rest ≡ back.length → HasText back rest → SaysDate front line year month day → SaysClock front line minute second → SaysOffset back rest assumed offset
     → (f : Fields) → HaveNumbers f year month day minute second nanosecond offset → (m : Meaning) (defaults : Option Record) → IsSplitOf m front back → starting defaults ≡ beginning assumed → names moment_named (whole m defaults line) ≡ Ok (moment_of f)
 split_read front back line rest assumed year month day minute second nanosecond offset none clock fits text fraction bound long back_text d t o f n m defaults plan start =
     let v : Values = split_values front back line rest assumed year month day minute second offset d t o in
@@ -156,8 +151,3 @@ split_read front back line rest assumed year month day minute second nanosecond 
     let read = was_read (m (starting defaults) line) _ (plan line v nanosecond rest fits (front_says front line rest assumed back year month day minute second offset d t o none text) fraction (omega (arith, long)) (back_says front line rest assumed back year month day minute second offset d t o clock back_text) (starting defaults)) in
     let all : m (starting defaults) line ≡ Ok (with_values back v (record (with_values front v (beginning assumed)) { subsecond = Some nanosecond }), []) = rw (← start, ← nothing) read in
     rw (whole_is m defaults line (with_values back v (record (with_values front v (beginning assumed)) { subsecond = Some nanosecond })) all) (split_moment front line rest assumed back year month day minute second nanosecond offset d t o f none clock bound n)
-
-pub splits_read : (front back : Layout) (line rest : List ℕ) (assumed : Option ℤ) (year month day minute second nanosecond : ℕ) (offset : ℤ) → HasNoOffset front → HasNoClock back → front.length ≤ length line → HasText front line → taken (fraction_between 1 32) (drop front.length line) ≡ Some (nanosecond, rest) → nanosecond < 1_000_000_000 → length rest ≡ back.length → HasText back rest → SaysDate front line year month day → SaysClock front line minute second → SaysOffset back rest assumed offset
-    → (o : Option Fields) → IfSome o (λ f. HaveNumbers f year month day minute second nanosecond offset) → (m : Meaning) (defaults : Option Record) → IsSplitOf m front back → starting defaults ≡ beginning assumed → IfSome o (λ f. names moment_named (whole m defaults line) ≡ Ok (moment_of f))
-splits_read front back line rest assumed year month day minute second nanosecond offset none clock fits text fraction bound long back_text d t o None n m defaults plan start = tt
-splits_read front back line rest assumed year month day minute second nanosecond offset none clock fits text fraction bound long back_text d t o (Some f) n m defaults plan start = split_read front back line rest assumed year month day minute second nanosecond offset none clock fits text fraction bound long back_text d t o f n m defaults plan start

@@ -1,10 +1,11 @@
 -- What the parts of a line say of a date, a time of day and an offset.
-use Rattle.std.proofs.Common.{◌≡◌, ◌≤◌, ◌+◌, ◌*◌, ◌∙◌, ℕ, Bool, true, false, List, drop, Option, Some, None, Result, Ok, Err, refl, sym, ap, arith, pos, ℤ}
-use Rattle.std.specs.Prelude.{IfSome, ◌*ℤ◌, int_div, int_rem}
-use Rattle.std.specs.Result.{result_ok}
+use Rattle.std.proofs.Common.{◌≡◌, ◌≤◌, ◌+◌, ◌*◌, ℕ, zero, suc, Bool, true, false, List, drop, Option, Some, None, Ok, refl, arith, pos, ℤ}
+use Rattle.std.specs.Prelude.{IfSome, ◌*ℤ◌, ◌+ℤ◌, ◌<ℤ◌, ◌≤ℤ◌, negsuc, nat_lt, unsigned_abs, int_div, int_rem}
+use Rattle.std.proofs.lemmas.Bool.Decides.{nat_tests}
 use Rattle.std.proofs.lemmas.Int.{ints}
-use Rattle.calendar_clock.specs.UtcOffset.{offset_of}
-use Rattle.calendar_count.specs.declared.component_range.ComponentRange.{ComponentRange}
+use Rattle.calendar_count.proofs.lemmas.Signed.{signed, one_sided}
+use Rattle.calendar_count.specs.Calendar.{days_in_month}
+use Rattle.calendar_clock.specs.UtcOffset.{offset_of, with_sign_of}
 use Rattle.calendar_count.specs.declared.month.Month.TheVariants as month
 use Rattle.parsing_pieces.specs.Pieces.{digits}
 use Rattle.parsing_resolution.specs.Resolution.{signed_offset_of}
@@ -18,6 +19,10 @@ use Rattle.parsing_plan.specs.Slot.{Values, slot_piece}
 use Rattle.parsing_plan.specs.Parts.{WritesAt, WritesOffset, SaysMonth, SaysDate, SaysClock, SaysOffset}
 use Rattle.parsing_plan.specs.Plan.{beginning}
 use Rattle.parsing_plan.proofs.Numbers.{slot_number}
+
+-- a day of a month is at most the 31st
+pub short_months : (y : ℤ) (m d : ℕ) → d ≤ days_in_month y m → d ≤ 31
+short_months y m d le = grind (arith, nat_tests)
 
 pub date_says : (l : Layout) (line : List ℕ) (at_year at_month at_day year month day : ℕ) → l.year ≡ Some at_year → l.month ≡ Some at_month → l.day ≡ Some at_day → WritesAt 4 line at_year year → year ≤ 9999 → SaysMonth l.month_is_named line at_month month → WritesAt 2 line at_day day → 1 ≤ day → day ≤ 31 → SaysDate l line year month day
 unfolding slot_piece
@@ -72,25 +77,59 @@ written_says l line assumed at_hour at_minute (Some offset) h m w = record {
   offset_is = rw (h, m) (sign_named w.is_negative w.hours w.minutes (beginning assumed).offset_second (pos 60 *ℤ offset) (no_second assumed) w.offset_is);
 }
 
-pub assumed_says : (l : Layout) (line : List ℕ) (assumed : Option ℤ) (offset : ℤ) (o : Option ℤ) → l.offset_hour ≡ None → l.offset_minute ≡ None → assumed ≡ Some offset → IfSome o (λ minutes. offset_named (beginning (Some offset)) ≡ Ok (pos 60 *ℤ minutes)) → IfSome o (SaysOffset l line assumed)
+pub assumed_says : (l : Layout) (line : List ℕ) (assumed : Option ℤ) (offset minutes : ℤ) → l.offset_hour ≡ None → l.offset_minute ≡ None → assumed ≡ Some offset → offset_named (beginning (Some offset)) ≡ Ok (pos 60 *ℤ minutes) → SaysOffset l line assumed minutes
 unfolding written_values
-assumed_says l line assumed offset None h m is w = tt
-assumed_says l line assumed offset (Some minutes) h m is w = record {
+assumed_says l line assumed offset minutes h m is w = record {
   values = written_values false 0 0;
   hour_says = rw h tt;
   minute_says = rw m tt;
   offset_is = rw (h, m, is) w;
 }
 
-exactly : (counted minutes : ℤ) → minutes ≡ int_div counted (pos 60) → int_rem counted (pos 60) ≡ pos 0 → counted ≡ pos 60 *ℤ minutes
-exactly counted minutes e none = omega (arith, ints)
+no_sign : (z : ℤ) → with_sign_of z (pos 0) ≡ pos 0
+no_sign (pos zero) = refl
+no_sign (pos (suc n)) = refl
+no_sign (negsuc n) = refl
 
-pub was_ok : (r : Result ℤ ComponentRange) (x : ℤ) {given : Result ℤ ComponentRange} → r ≡ given → Some x ≡ result_ok r → given ≡ Ok x
-was_ok (Ok y) x is e = sym is ∙ ap (λ (z : ℤ). Ok z) (let same : y ≡ x = cc in same)
-was_ok (Err f) x is e = absurd cc
+same_sign : (h m : ℤ) → (pos 0 <ℤ h → pos 0 ≤ℤ m) → (h <ℤ pos 0 → m ≤ℤ pos 0) → with_sign_of h m ≡ m
+same_sign (pos zero) m above below = refl
+same_sign (pos (suc n)) m above below = let high : pos 0 ≤ℤ m = above (omega (arith, ints)) in omega (arith, ints)
+same_sign (negsuc n) m above below = let low : m ≤ℤ pos 0 = below (omega (arith, ints)) in omega (arith, ints)
 
-pub assumed_is : (offset hours minutes counted whole : ℤ) {past : ℤ} → hours ≡ int_div offset (pos 3600) → minutes ≡ int_rem (int_div offset (pos 60)) (pos 60) → offset_of hours minutes (pos 0) ≡ Ok counted → int_rem counted (pos 60) ≡ past → past ≡ pos 0 → whole ≡ int_div counted (pos 60) → offset_named (beginning (Some offset)) ≡ Ok (pos 60 *ℤ whole)
+few_hours : (hours : ℤ) → unsigned_abs hours ≤ 25 → nat_lt 25 (unsigned_abs hours) ≡ false
+few_hours hours few = grind (arith, nat_tests)
+
+few_minutes : (minutes : ℤ) → unsigned_abs minutes ≤ 59 → nat_lt 59 (unsigned_abs minutes) ≡ false
+few_minutes minutes few = grind (arith, nat_tests)
+
+nested : (offset : ℤ) → int_div offset (pos 3600) ≡ int_div (int_div offset (pos 60)) (pos 60)
+nested offset = omega (arith, signed, one_sided offset)
+
+hours_few : (whole : ℤ) → unsigned_abs whole ≤ 1559 → unsigned_abs (int_div whole (pos 60)) ≤ 25
+hours_few whole few = omega (arith, signed, one_sided whole)
+
+minutes_few : (whole : ℤ) → unsigned_abs (int_rem whole (pos 60)) ≤ 59
+minutes_few whole = omega (arith, signed, one_sided whole)
+
+sum_whole : (whole : ℤ) → int_div whole (pos 60) *ℤ pos 3600 +ℤ int_rem whole (pos 60) *ℤ pos 60 +ℤ pos 0 ≡ pos 60 *ℤ whole
+sum_whole whole = omega (arith, signed, one_sided whole)
+
+not_below : (whole : ℤ) → pos 0 <ℤ int_div whole (pos 60) → pos 0 ≤ℤ int_rem whole (pos 60)
+not_below whole high = omega (arith, signed, one_sided whole)
+
+not_above : (whole : ℤ) → int_div whole (pos 60) <ℤ pos 0 → int_rem whole (pos 60) ≤ℤ pos 0
+not_above whole low = omega (arith, signed, one_sided whole)
+
+-- whole hours and the minutes past them are the whole minutes
+whole_named : (whole : ℤ) → unsigned_abs whole ≤ 1559 → offset_of (int_div whole (pos 60)) (int_rem whole (pos 60)) (pos 0) ≡ Ok (pos 60 *ℤ whole)
+unfolding offset_of
+whole_named whole few =
+    let hours : ℤ = int_div whole (pos 60) in
+    let minutes : ℤ = int_rem whole (pos 60) in
+    rw (few_hours hours (hours_few whole few), few_minutes minutes (minutes_few whole), no_sign minutes, no_sign hours, same_sign hours minutes (not_below whole) (not_above whole), sum_whole whole) refl
+
+pub assumed_is : (offset whole : ℤ) → whole ≡ int_div offset (pos 60) → unsigned_abs whole ≤ 1559 → offset_named (beginning (Some offset)) ≡ Ok (pos 60 *ℤ whole)
 unfolding named_offset seconds_behind
-assumed_is offset hours minutes counted whole h m e rest none w =
-    let is = exactly counted whole w (rest ∙ none) in
-    rw (← h, ← m, e, is) refl
+assumed_is offset whole w few =
+    let there : offset_of (int_div (int_div offset (pos 60)) (pos 60)) (int_rem (int_div offset (pos 60)) (pos 60)) (pos 0) ≡ Ok (pos 60 *ℤ whole) = rw (← w) (whole_named whole few) in
+    rw (nested offset, there) refl

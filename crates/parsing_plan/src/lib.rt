@@ -7,5 +7,6 @@ mod layout;
 mod plan;
 mod read;
 mod slot;
+mod tail;
 
 pub use plan::Plan;

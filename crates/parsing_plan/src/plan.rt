@@ -1,24 +1,35 @@
 //! Plans of descriptions.
-ghost use Rattle.std.specs.Prelude.{◌≡◌, ◌≤◌, ◌+◌, Some};
-ghost use Rattle.std.specs.Option.{ForSome};
-ghost use Rattle.parsing_plan.specs.Bounds.{IsPair, HoldText, HasNoOffset, HasNoClock};
+ghost use Rattle.std.specs.Prelude.{◌≡◌, ◌≤◌, ◌+◌, true, false, Some};
+ghost use Rattle.std.specs.Option.{ForSome, ForNone};
+ghost use Rattle.parsing_plan.specs.Bounds.{IsPair, IsSixty, HoldText, HasNoOffset, HasNoClock, HasOffset, BeginsApart, IsTail};
 
 mod calls;
 
 use crate::bounds::Bounds;
 use crate::layout::Layout;
+use crate::tail::Tail;
+
+/// The places of an offset's hours, behind which its sign stands, and of its minutes.
+#[derive(Clone, Copy)]
+pub(crate) struct OffsetPlaces {
+    pub(crate) hour: usize,
+    pub(crate) minute: usize,
+}
 
 /// What follows a fraction of a second: literals, and maybe an offset.
 #[derive(Clone, Copy)]
 pub(crate) struct Back {
     pub(crate) layout: Layout,
     pub(crate) bounds: Bounds,
+    pub(crate) offset: Option<OffsetPlaces>,
+    /// The bounds at the end of a line, where they are few.
+    pub(crate) tail: Option<Tail>,
     ghost text: { HoldText bounds layout },
     ghost alone: { HasNoClock layout },
-    ghost offset_hour_digits: { ForSome layout.offset_hour
-        (λ place. IsPair bounds layout.length (place + 1)) },
-    ghost offset_minute_digits: { ForSome layout.offset_minute
-        (λ place. IsPair bounds layout.length place) },
+    ghost apart: { BeginsApart bounds layout },
+    ghost no_offset: { ForNone offset (HasNoOffset layout) },
+    ghost offset_is: { ForSome offset (λ places. HasOffset layout bounds places.hour places.minute) },
+    ghost tail_is: { ForSome tail (λ t. IsTail t.low t.high bounds layout.length) },
 }
 
 /// Where each component of a line stands, for a description whose items all have fixed widths, but for a fraction of a
@@ -33,8 +44,10 @@ pub struct Plan {
     pub(crate) hour: usize,
     pub(crate) minute: usize,
     pub(crate) second: usize,
+    pub(crate) offset: Option<OffsetPlaces>,
     /// What follows a fraction of a second behind the layout, where there is one.
     pub(crate) back: Option<Back>,
+    ghost long: { 8 ≤ layout.length },
     ghost text: { HoldText bounds layout },
     ghost year_is: { layout.year ≡ Some year },
     ghost month_is: { layout.month ≡ Some month },
@@ -42,16 +55,15 @@ pub struct Plan {
     ghost hour_is: { layout.hour ≡ Some hour },
     ghost minute_is: { layout.minute ≡ Some minute },
     ghost second_is: { layout.second ≡ Some second },
-    ghost month_room: { month + 3 ≤ layout.length },
+    ghost month_room: { layout.month_is_named ≡ true → month + 3 ≤ layout.length },
+    ghost month_digits: { layout.month_is_named ≡ false → IsPair bounds layout.length month },
     ghost century: { IsPair bounds layout.length year },
     ghost year_in_century: { IsPair bounds layout.length (year + 2) },
     ghost day_digits: { IsPair bounds layout.length day },
     ghost hour_digits: { IsPair bounds layout.length hour },
-    ghost minute_digits: { IsPair bounds layout.length minute },
-    ghost second_digits: { IsPair bounds layout.length second },
-    ghost offset_hour_digits: { ForSome layout.offset_hour
-        (λ place. IsPair bounds layout.length (place + 1)) },
-    ghost offset_minute_digits: { ForSome layout.offset_minute
-        (λ place. IsPair bounds layout.length place) },
+    ghost minute_digits: { IsSixty bounds layout.length minute },
+    ghost second_digits: { IsSixty bounds layout.length second },
+    ghost no_offset: { ForNone offset (HasNoOffset layout) },
+    ghost offset_is: { ForSome offset (λ places. HasOffset layout bounds places.hour places.minute) },
     ghost one_offset: { ForSome back (λ _. HasNoOffset layout) },
 }

@@ -1,36 +1,93 @@
 //! The plans of descriptions.
-ghost use Rattle.std.specs.Prelude.{◌≡◌, ◌+◌, true, Some, None, map, IfSome};
-ghost use Rattle.std.specs.Option.{ForSome};
+ghost use Rattle.std.specs.Prelude.{◌≡◌, ◌+◌, ◌≤◌, true, false, Some, None, map, IfSome};
+ghost use Rattle.std.specs.Option.{ForSome, ForNone};
 ghost use Rattle.description_items.specs.Tree.{trees, listed};
 ghost use Rattle.description_tree.specs.Description.{v3_tree};
 ghost use Rattle.parsing_components.specs.Component.{reads_component, reads_component_v3};
 ghost use Rattle.parsing_record.specs.Reads.{reading, reading_of_all};
-ghost use Rattle.parsing_plan.specs.Bounds.{IsPair, HasNoOffset, HasNoClock};
+ghost use Rattle.parsing_plan.specs.Bounds.{IsPair, IsSixty, HasNoOffset, HasNoClock, HasOffset, BeginsApart, IsTail};
 ghost use Rattle.parsing_plan.specs.Plan.{IsPlanOf};
 
 use crate::bounds::Bounds;
 use crate::items::{HasStep, is_fraction, lead};
 use crate::layout::{LENGTH, Layout};
-use crate::plan::{Back, Plan};
+use crate::plan::{Back, OffsetPlaces, Plan};
+use crate::tail::Tail;
 use description_items::BorrowedFormatItem;
 use description_tree::{FormatDescriptionV3, FormatDescriptionV3Inner as Inner};
 
-// Whether the bounds let digits alone stand for the offset, if the layout has one.
-fn is_offset(layout: &Layout, bounds: &Bounds) -> bool
-    ensures hour { result ≡ true → ForSome layout.now.offset_hour
-        (λ place. IsPair bounds.now layout.now.length (place + 1)) }
-    ensures minute { result ≡ true → ForSome layout.now.offset_minute
-        (λ place. IsPair bounds.now layout.now.length place) }
+// The places of an offset, or that there is none: `None` where it has hours or minutes alone, or other bytes than digits
+// can stand for it.
+fn offset_of(layout: &Layout, bounds: &Bounds) -> Option<Option<OffsetPlaces>>
+    ensures none { IfSome result (λ places. ForNone places (HasNoOffset layout.now)) }
+    ensures some { IfSome result (λ places. ForSome places
+        (λ p. HasOffset layout.now bounds.now p.hour p.minute)) }
 {
-    if let Some(place) = layout.offset_hour {
-        if place >= LENGTH || !bounds.is_pair(layout.length, place + 1) {
-            return false;
+    match (layout.offset_hour, layout.offset_minute) {
+        (None, None) => Some(None),
+        (Some(hour), Some(minute)) => {
+            if hour >= LENGTH || !bounds.is_pair(layout.length, hour + 1) {
+                return None;
+            }
+            if !bounds.is_sixty(layout.length, minute) {
+                return None;
+            }
+            Some(Some(OffsetPlaces { hour, minute }))
         }
+        _ => None,
     }
-    match layout.offset_minute {
-        Some(place) => bounds.is_pair(layout.length, place),
-        None => true,
+}
+
+// Whether there is room for a month's name, or the bounds let digits alone stand for its number.
+fn is_month(layout: &Layout, bounds: &Bounds, place: usize) -> bool
+    ensures room { result ≡ true
+        → layout.now.month_is_named ≡ true → place + 3 ≤ layout.now.length }
+    ensures digits { result ≡ true
+        → layout.now.month_is_named ≡ false → IsPair bounds.now layout.now.length place }
+{
+    let length = layout.length;
+    if layout.month_is_named {
+        return length >= 3 && place <= length - 3;
     }
+    bounds.is_pair(length, place)
+}
+
+// Whether the bounds let digits alone stand for a year and a day.
+fn is_date(bounds: &Bounds, length: usize, year: usize, day: usize) -> bool
+    ensures century { result ≡ true → IsPair bounds.now length year }
+    ensures year { result ≡ true → IsPair bounds.now length (year + 2) }
+    ensures day { result ≡ true → IsPair bounds.now length day }
+{
+    bounds.is_pair(length, year) && bounds.is_pair(length, year + 2) && bounds.is_pair(length, day)
+}
+
+// The same for a time of day, whose minute and second are below 60.
+fn is_clock(bounds: &Bounds, length: usize, hour: usize, minute: usize, second: usize) -> bool
+    ensures hour { result ≡ true → IsPair bounds.now length hour }
+    ensures minute { result ≡ true → IsSixty bounds.now length minute }
+    ensures second { result ≡ true → IsSixty bounds.now length second }
+{
+    bounds.is_pair(length, hour)
+        && bounds.is_sixty(length, minute)
+        && bounds.is_sixty(length, second)
+}
+
+// Whether no digit can stand behind a fraction.
+fn begins_apart(layout: &Layout, bounds: &Bounds) -> bool
+    ensures { result ≡ true → BeginsApart bounds.now layout.now }
+{
+    layout.length == 0 || bounds.high[0] < b'0' || bounds.low[0] > b'9'
+}
+
+// The bounds at the end of a line, where they are few.
+fn tail_of(bounds: &Bounds, count: usize) -> Option<Tail>
+    ensures { ForSome result (λ t. IsTail t.low t.high bounds.now count) }
+{
+    let tail = Tail::of(bounds, count);
+    if !tail.is_of(bounds, count) {
+        return None;
+    }
+    Some(tail)
 }
 
 // Whether a layout has no place for an offset.
@@ -58,13 +115,17 @@ fn back_of(layout: Layout) -> Option<Back>
     if !bounds.hold_text(&layout) {
         return None;
     }
-    if !has_no_clock(&layout) {
+    if !has_no_clock(&layout) || !begins_apart(&layout, &bounds) {
         return None;
     }
-    if !is_offset(&layout, &bounds) {
-        return None;
-    }
-    Some(Back { layout, bounds })
+    let offset = offset_of(&layout, &bounds)?;
+    let tail = tail_of(&bounds, layout.length);
+    Some(Back {
+        layout,
+        bounds,
+        offset,
+        tail,
+    })
 }
 
 // The plan of items that are read one after the other.
@@ -124,6 +185,7 @@ impl Plan {
             hour: self.hour,
             minute: self.minute,
             second: self.second,
+            offset: self.offset,
             back: Some(back),
         })
     }
@@ -137,21 +199,16 @@ impl Plan {
         let (hour, minute, second) = (layout.hour?, layout.minute?, layout.second?);
         let bounds = Bounds::of(&layout);
         let length = layout.length;
-        if !bounds.hold_text(&layout) || !is_offset(&layout, &bounds) {
+        if length < 8 || !bounds.hold_text(&layout) {
             return None;
         }
-        if length < 3 || month > length - 3 {
+        if !is_month(&layout, &bounds, month) || !is_date(&bounds, length, year, day) {
             return None;
         }
-        if !bounds.is_pair(length, year) || !bounds.is_pair(length, year + 2) {
+        if !is_clock(&bounds, length, hour, minute, second) {
             return None;
         }
-        if !bounds.is_pair(length, day) || !bounds.is_pair(length, hour) {
-            return None;
-        }
-        if !bounds.is_pair(length, minute) || !bounds.is_pair(length, second) {
-            return None;
-        }
+        let offset = offset_of(&layout, &bounds)?;
         Some(Plan {
             layout,
             bounds,
@@ -161,6 +218,7 @@ impl Plan {
             hour,
             minute,
             second,
+            offset,
             back: None,
         })
     }

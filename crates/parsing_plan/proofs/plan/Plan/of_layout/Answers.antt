@@ -1,8 +1,8 @@
-use Rattle.std.proofs.Common.{arith}
 use Rattle.parsing_plan.proofs.plan.Plan.of_layout.Goals as goal
 
 pub invariant_of-result : goal.invariant_of-result
 invariant_of-result c = record {
+  long = c.if-length-lt8.false;
   text = c.hold_text.ensures c.if-not-hold_text.false;
   year_is = c.in_ok-year.was;
   month_is = c.in_ok-month.was;
@@ -10,14 +10,15 @@ invariant_of-result c = record {
   hour_is = c.in_ok-hour.was;
   minute_is = c.in_ok-minute.was;
   second_is = c.in_ok-second.was;
-  month_room = omega (arith, c.if-length-lt3.false, c.if-month-length.false);
-  century = c.is_pair.ensures c.if-not-is_pair.false;
-  year_in_century = c.is_pair-else-not-is_pair.ensures c.if-not-is_pair-2.false;
-  day_digits = c.is_pair-2.ensures c.if-not-is_pair-3.false;
-  hour_digits = c.is_pair-else-not-is_pair-3.ensures c.if-not-is_pair-4.false;
-  minute_digits = c.is_pair-3.ensures c.if-not-is_pair-5.false;
-  second_digits = c.is_pair-else-not-is_pair-5.ensures c.if-not-is_pair-6.false;
-  offset_hour_digits = c.is_offset.ensures.hour c.if-not-is_offset.false;
-  offset_minute_digits = c.is_offset.ensures.minute c.if-not-is_offset.false;
+  month_room = c.is_month.ensures.room c.if-not-is_month.false;
+  month_digits = c.is_month.ensures.digits c.if-not-is_month.false;
+  century = c.is_date.ensures.century c.if-not-is_date.false;
+  year_in_century = c.is_date.ensures.year c.if-not-is_date.false;
+  day_digits = c.is_date.ensures.day c.if-not-is_date.false;
+  hour_digits = c.is_clock.ensures.hour c.if-not-is_clock.false;
+  minute_digits = c.is_clock.ensures.minute c.if-not-is_clock.false;
+  second_digits = c.is_clock.ensures.second c.if-not-is_clock.false;
+  no_offset = c.in_ok-offset.ensures.none;
+  offset_is = c.in_ok-offset.ensures.some;
   one_offset = λ back is. absurd (cc);
 }
