@@ -1,21 +1,25 @@
 -- What stands at a place of a line, by what its pieces cut off there.
-use Rattle.std.proofs.Common.{◌≡◌, ◌≤◌, ◌<◌, ◌+◌, ◌-◌, ◌*◌, ◌∙◌, ◌==◌, ◌||◌, ◌&&◌, inl, inr, ℕ, Bool, true, false, List, [], ◌∷◌, take, drop, length, get_or, min, leb, Option, Some, None, Ok, refl, sym, ap, arith, pos}
-use Rattle.std.specs.Prelude.{nat_le, nat_lt, IsTrue, IfSome, option_map, if◌then◌else◌, ℤ, ◌*ℤ◌}
+use Rattle.std.proofs.Common.{bit_and, ◌≡◌, ◌≤◌, ◌<◌, ◌+◌, ◌-◌, ◌*◌, ◌%◌, ◌∙◌, ◌==◌, ◌||◌, ◌&&◌, inl, inr, ℕ, Bool, true, false, List, [], ◌∷◌, take, drop, length, get_or, min, leb, Option, Some, None, Ok, refl, sym, ap, arith, pos}
+use Rattle.std.specs.Prelude.{nat_le, ◌⊎◌, nat_lt, IsTrue, IfSome, option_map, if◌then◌else◌, ℤ, ◌*ℤ◌}
 use Rattle.std.specs.Int.{is_in_range}
+use Rattle.std.proofs.lemmas.Nat.{and_mask}
 use Rattle.std.proofs.lemmas.Bool.Decides.{nat_tests}
 use Rattle.std.proofs.lemmas.List.{drop-drop, drop_more, get_or-drop, length-drop}
 use Rattle.std.specs.Char.{is_ascii_digit}
 use Rattle.calendar_count.specs.declared.month.Month.{Month}
+use Rattle.calendar_count.specs.declared.weekday.Weekday.{Weekday}
+use Rattle.calendar_count.specs.declared.weekday.Weekday.TheVariants as weekdays
 use Rattle.calendar_count.specs.Month.{month_number}
 use Rattle.description_date_modifiers.specs.declared.choices.Padding.TheVariants as padding
 use Rattle.parsing_pieces.proofs.Decimal.{digit_count_within}
-use Rattle.parsing_shapes.proofs.Longest.{taken_digits}
+use Rattle.parsing_shapes.proofs.Longest.{taken_digits, taken_exactly}
+use Rattle.parsing_shapes.proofs.SpaceLemmas.{taken_spaced}
 use Rattle.parsing_pieces.specs.Pieces.{fraction, digit_run, nanoseconds_of, digit_count, digits, sign, byte_of}
 use Rattle.parsing_resolution.specs.Resolution.{signed_offset_of}
 use Rattle.parsing_resolution.proofs.lemmas.Ranges.{offset_ranges}
-use Rattle.parsing_shapes.specs.Shape.{taken, fraction_between}
+use Rattle.parsing_shapes.specs.Shape.{taken, fraction_between, spaced_between, is_space}
 use Rattle.parsing_shapes.specs.Numbers.{offset_hour}
-use Rattle.parsing_shapes.specs.Names.{named, found, begins, short_months}
+use Rattle.parsing_shapes.specs.Names.{named, found, begins, short_months, short_weekdays}
 use Rattle.parsing_shapes.proofs.Components.{taken_offset_hour, taken_padded_exactly}
 use Rattle.parsing_shapes.proofs.NameLemmas.{apart, taken_named}
 use Rattle.parsing_components.specs.Ranged.{kept, between}
@@ -29,9 +33,9 @@ use Rattle.std.proofs.lemmas.Bool.{cases_lt}
 use Rattle.parsing_plan.specs.Slot.{slot_piece}
 use Rattle.parsing_plan.specs.declared.bounds.Bounds.{Bounds}
 use Rattle.parsing_plan.specs.declared.layout.Layout.{Layout}
-use Rattle.parsing_plan.specs.Bounds.{LiesWithin, IsPair, IsSixty, HasPair, HasSixty, HoldText, BeginsApart}
+use Rattle.parsing_plan.specs.Bounds.{LiesWithin, IsPair, IsSixty, HasPair, HasSixty, IsSpaced, HasSpaced, HoldText, BeginsApart}
 use Rattle.parsing_plan.specs.Layout.{HasText}
-use Rattle.parsing_plan.specs.Parts.{WritesAt, WritesOffset, SaysMonth, IsNameOf}
+use Rattle.parsing_plan.specs.Parts.{WritesAt, WritesDay, WritesOffset, SaysMonth, SaysWeekday, IsNameOf, IsWeekdayNameOf}
 use Rattle.parsing_pieces.proofs.Fixed.{digits_two, digits_four}
 
 -- ---- numbers
@@ -83,6 +87,67 @@ text_there b l line within hold k e =
     let here = within k text.inside in
     omega (arith, here.0, here.1, text.low_is, text.high_is)
 
+-- ---- two bytes of which the first may be a space
+
+spaced_one : (c d : ℕ) (rest : List ℕ) → c ≡ 32 → 48 ≤ d → d ≤ 57 → taken (spaced_between 2 2) (c ∷ d ∷ rest) ≡ Some (d - 48, rest)
+spaced_one c d rest is low high =
+    let space : is_space c ≡ true = grind (arith, nat_tests) in
+    let other : is_space d ≡ false = grind (arith, nat_tests) in
+    let more : leb 1 (length (d ∷ rest)) ≡ true = at_least 1 (length (d ∷ rest)) (omega arith) in
+    let one : digits 1 (d ∷ rest) ≡ Some (d - 48, rest) = digits_one (d ∷ rest) ∙ rw (more, is_digit d low high) refl in
+    taken_spaced 2 2 (c ∷ d ∷ rest) (omega arith) ∙ rw (space, other) (taken_exactly 1 (d ∷ rest) ∙ one)
+
+spaced_two : (c d : ℕ) (rest : List ℕ) → 48 ≤ c → c ≤ 57 → 48 ≤ d → d ≤ 57 → taken (spaced_between 2 2) (c ∷ d ∷ rest) ≡ Some ((c - 48) * 10 + (d - 48), rest)
+spaced_two c d rest low high second_low second_high =
+    let other : is_space c ≡ false = grind (arith, nat_tests) in
+    let more : leb 2 (length (c ∷ d ∷ rest)) ≡ true = at_least 2 (length (c ∷ d ∷ rest)) (omega arith) in
+    let two : digits 2 (c ∷ d ∷ rest) ≡ Some ((c - 48) * 10 + (d - 48), rest) = digits_two (c ∷ d ∷ rest) ∙ rw (more, is_digit c low high, is_digit d second_low second_high) refl in
+    taken_spaced 2 2 (c ∷ d ∷ rest) (omega arith) ∙ rw other (taken_exactly 2 (c ∷ d ∷ rest) ∙ two)
+
+two_there : (line : List ℕ) (place : ℕ) → place + 2 ≤ length line → drop place line ≡ get_or line place 0 ∷ get_or line (place + 1) 0 ∷ drop (place + 2) line
+two_there line place room =
+    let second : place + 1 + 1 ≡ place + 2 = omega arith in
+    drop_more line place 0 (omega (arith, room)) ∙ ap (λ (xs : List ℕ). get_or line place 0 ∷ xs) (drop_more line (place + 1) 0 (omega (arith, room)) ∙ rw second refl)
+
+-- the low half of a byte
+low_half : (c : ℕ) → bit_and c 15 ≡ c % 16
+low_half c = and_mask c 4
+
+pub day_spaced : (line : List ℕ) (place : ℕ) → HasSpaced line place → (48 ≤ get_or line place 0) ⊎ (get_or line place 0 ≡ 32) → WritesDay true line place (bit_and (get_or line place 0) 15 * 10 + (get_or line (place + 1) 0 - 48))
+day_spaced line place h (inl low) =
+    let c : ℕ = get_or line place 0 in
+    let tens : bit_and c 15 ≡ c - 48 = omega (arith, low_half c, low, h.first_high) in
+    rw tens (ap (taken (spaced_between 2 2)) (two_there line place h.room) ∙ spaced_two c (get_or line (place + 1) 0) (drop (place + 2) line) low h.first_high h.second_low h.second_high)
+day_spaced line place h (inr is) =
+    let c : ℕ = get_or line place 0 in
+    let d : ℕ = get_or line (place + 1) 0 in
+    let tens : bit_and c 15 * 10 + (d - 48) ≡ d - 48 = omega (arith, low_half c, is) in
+    rw tens (ap (taken (spaced_between 2 2)) (two_there line place h.room) ∙ spaced_one c d (drop (place + 2) line) is h.second_low h.second_high)
+
+pub day_of_digits : (line : List ℕ) (place : ℕ) → HasSpaced line place → 48 ≤ get_or line place 0 → WritesDay false line place (bit_and (get_or line place 0) 15 * 10 + (get_or line (place + 1) 0 - 48))
+day_of_digits line place h low =
+    let c : ℕ = get_or line place 0 in
+    let tens : bit_and c 15 ≡ c - 48 = omega (arith, low_half c, low, h.first_high) in
+    rw tens (two_written line place (record { room = h.room; first_low = low; first_high = h.first_high; second_low = h.second_low; second_high = h.second_high }))
+
+pub day_either : (b : Bool) (line : List ℕ) (place day : ℕ) → WritesDay true line place day → (48 ≤ get_or line place 0 → WritesDay false line place day) → (b ≡ false → 48 ≤ get_or line place 0) → WritesDay b line place day
+day_either true line place day spaced digit low = spaced
+day_either false line place day spaced digit low = digit (low refl)
+
+pub tens_there : (b : Bounds) (line : List ℕ) (n place : ℕ) → LiesWithin b line n → IsSpaced b n place → 48 ≤ get_or b.low place 0 → 48 ≤ get_or line place 0
+tens_there b line n place within p low = omega (arith, (within place (omega (arith, p.room))).0, low)
+
+pub spaced_there : (b : Bounds) (line : List ℕ) (n place : ℕ) → n ≤ length line → LiesWithin b line n → IsSpaced b n place → HasSpaced line place
+spaced_there b line n place long within p =
+    let first = within place (omega (arith, p.room)) in
+    let second = within (place + 1) (omega (arith, p.room)) in
+    record {
+      room = omega (arith, long, p.room);
+      first_high = omega (arith, first.1, p.first_high);
+      second_low = omega (arith, second.0, p.second_low);
+      second_high = omega (arith, second.1, p.second_high);
+    }
+
 -- ---- slots of numbers in their ranges
 
 pub in_range : (low high n : ℕ) → low ≤ n → n ≤ high → is_in_range low high n ≡ true
@@ -119,6 +184,25 @@ three_there line place room =
 
 pub month_named : (place number : ℕ) (line : List ℕ) (month : Month) → place + 3 ≤ length line → IsNameOf month (get_or line place 0) (get_or line (place + 1) 0) (get_or line (place + 2) 0) → number ≡ month_number month → SaysMonth true line place number
 month_named place number line month room name is = named_there place (get_or line place 0) (get_or line (place + 1) 0) (get_or line (place + 2) 0) number line (drop (place + 3) line) month (three_there line place room) name is
+
+apart_weekdays : apart true short_weekdays ≡ true
+unfolding begins
+apart_weekdays = refl
+
+-- ---- weekdays
+
+weekday_there : (place first second third : ℕ) (line rest : List ℕ) (weekday : Weekday) → drop place line ≡ first ∷ second ∷ third ∷ rest → IsWeekdayNameOf weekday first second third → SaysWeekday (Some place) line
+unfolding slot_piece
+weekday_there place first second third line rest weekday e name =
+    let here : taken (named true short_weekdays) (drop place line) ≡ Some (weekday, rest) = taken_named true short_weekdays (drop place line) apart_weekdays ∙ ap (found true short_weekdays) e ∙ name rest in
+    let behind : rest ≡ drop (place + 3) line = sym (ap (drop 3) e) ∙ drop-drop 3 place line in
+    record { weekday = weekday; says = rw (here, behind) refl }
+
+pub weekday_named : (place : ℕ) (line : List ℕ) (weekday : Weekday) → place + 3 ≤ length line → IsWeekdayNameOf weekday (get_or line place 0) (get_or line (place + 1) 0) (get_or line (place + 2) 0) → SaysWeekday (Some place) line
+weekday_named place line weekday room name = weekday_there place (get_or line place 0) (get_or line (place + 1) 0) (get_or line (place + 2) 0) line (drop (place + 3) line) weekday (three_there line place room) name
+
+pub no_weekday : (line : List ℕ) → SaysWeekday None line
+no_weekday line = record { weekday = weekdays.Monday; says = tt }
 
 -- ---- offsets
 

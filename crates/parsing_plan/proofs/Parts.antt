@@ -7,6 +7,7 @@ use Rattle.calendar_count.proofs.lemmas.Signed.{signed, one_sided}
 use Rattle.calendar_count.specs.Calendar.{days_in_month}
 use Rattle.calendar_clock.specs.UtcOffset.{offset_of, with_sign_of}
 use Rattle.calendar_count.specs.declared.month.Month.TheVariants as month
+use Rattle.calendar_count.specs.declared.weekday.Weekday.TheVariants as weekday
 use Rattle.parsing_pieces.specs.Pieces.{digits}
 use Rattle.parsing_resolution.specs.Resolution.{signed_offset_of}
 use Rattle.parsing_moments.specs.NamedTime.{named_offset, seconds_behind}
@@ -15,8 +16,10 @@ use Rattle.parsing_components.specs.Read as read
 use Rattle.parsing_record.specs.Parts.{under_sign}
 use Rattle.parsing_record.specs.Whole.{offset_named}
 use Rattle.parsing_plan.specs.declared.layout.Layout.{Layout}
-use Rattle.parsing_plan.specs.Slot.{Values, slot_piece}
-use Rattle.parsing_plan.specs.Parts.{WritesAt, WritesOffset, SaysMonth, SaysDate, SaysClock, SaysOffset}
+use Rattle.parsing_plan.specs.Slot.{Values, slot_piece, width}
+use Rattle.parsing_plan.specs.Layout.{day_slot}
+use Rattle.parsing_shapes.specs.Shape.{taken, spaced_between}
+use Rattle.parsing_plan.specs.Parts.{WritesAt, WritesDay, WritesOffset, SaysMonth, SaysWeekday, SaysDate, SaysClock, SaysOffset}
 use Rattle.parsing_plan.specs.Plan.{beginning}
 use Rattle.parsing_plan.proofs.Numbers.{slot_number}
 
@@ -24,9 +27,14 @@ use Rattle.parsing_plan.proofs.Numbers.{slot_number}
 pub short_months : (y : ℤ) (m d : ℕ) → d ≤ days_in_month y m → d ≤ 31
 short_months y m d le = grind (arith, nat_tests)
 
-pub date_says : (l : Layout) (line : List ℕ) (at_year at_month at_day year month day : ℕ) → l.year ≡ Some at_year → l.month ≡ Some at_month → l.day ≡ Some at_day → WritesAt 4 line at_year year → year ≤ 9999 → SaysMonth l.month_is_named line at_month month → WritesAt 2 line at_day day → 1 ≤ day → day ≤ 31 → SaysDate l line year month day
+day_said : (b : Bool) (line : List ℕ) (at day : ℕ) → WritesDay b line at day → 1 ≤ day → day ≤ 31 → slot_piece (day_slot b) (drop at line) ≡ Some (read.Day day, drop (at + width (day_slot b)) line)
 unfolding slot_piece
-date_says l line at_year at_month at_day year month day y m d in_year four named in_day low high = record {
+day_said true line at day w low high = slot_number 1 31 day read.Day (taken (spaced_between 2 2) (drop at line)) (drop (at + 2) line) w low high
+day_said false line at day w low high = slot_number 1 31 day read.Day (digits 2 (drop at line)) (drop (at + 2) line) w low high
+
+pub date_says : (l : Layout) (line : List ℕ) (at_year at_month at_day year month day : ℕ) → l.year ≡ Some at_year → l.month ≡ Some at_month → l.day ≡ Some at_day → WritesAt 4 line at_year year → year ≤ 9999 → SaysMonth l.month_is_named line at_month month → SaysWeekday l.weekday line → WritesDay l.day_is_spaced line at_day day → 1 ≤ day → day ≤ 31 → SaysDate l line year month day
+unfolding slot_piece
+date_says l line at_year at_month at_day year month day y m d in_year four named week in_day low high = record {
   year_there = rw y refl;
   month_there = rw m refl;
   day_there = rw d refl;
@@ -34,7 +42,9 @@ date_says l line at_year at_month at_day year month day y m d in_year four named
   name = named.month;
   number_is = named.number_is;
   month_says = rw m named.says;
-  day_says = rw d (slot_number 1 31 day read.Day (digits 2 (drop at_day line)) (drop (at_day + 2) line) in_day low high);
+  weekday = week.weekday;
+  weekday_says = week.says;
+  day_says = rw d (day_said l.day_is_spaced line at_day day in_day low high);
 }
 
 pub clock_says : (l : Layout) (line : List ℕ) (at_hour at_minute at_second hour minute second minute_of_day : ℕ) → l.hour ≡ Some at_hour → l.minute ≡ Some at_minute → l.second ≡ Some at_second → WritesAt 2 line at_hour hour → WritesAt 2 line at_minute minute → WritesAt 2 line at_second second → (hour ≤ 23) × (minute ≤ 59) → second ≤ 59 → minute_of_day ≡ hour * 60 + minute → SaysClock l line minute_of_day second
@@ -65,7 +75,7 @@ no_second None = refl
 no_second (Some offset) = refl
 
 written_values : Bool → ℕ → ℕ → Values
-written_values is_negative hours minutes = record { year = 0; month = month.January; day = 0; hour = 0; minute = 0; second = 0; is_negative = is_negative; offset_hour = hours; offset_minute = minutes }
+written_values is_negative hours minutes = record { year = 0; month = month.January; weekday = weekday.Monday; day = 0; hour = 0; minute = 0; second = 0; is_negative = is_negative; offset_hour = hours; offset_minute = minutes }
 
 pub written_says : (l : Layout) (line : List ℕ) (assumed : Option ℤ) (at_hour at_minute : ℕ) (o : Option ℤ) → l.offset_hour ≡ Some at_hour → l.offset_minute ≡ Some at_minute → IfSome o (WritesOffset line at_hour at_minute) → IfSome o (SaysOffset l line assumed)
 unfolding written_values

@@ -23,6 +23,13 @@ pub record IsSixty (b : Bounds) (length place : ℕ) : Type 0 where
   pub pair : IsPair b length place
   pub tens : get_or b.high place 0 ≤ 53
 
+-- the same of a digit with another byte in front, which is at most a digit
+pub record IsSpaced (b : Bounds) (length place : ℕ) : Type 0 where
+  pub room : place + 2 ≤ length
+  pub first_high : get_or b.high place 0 ≤ 57
+  pub second_low : 48 ≤ get_or b.low (place + 1) 0
+  pub second_high : get_or b.high (place + 1) 0 ≤ 57
+
 -- two digits stand at a place and the next one
 pub record HasPair (line : List ℕ) (place : ℕ) : Type 0 where
   pub room : place + 2 ≤ length line
@@ -35,6 +42,13 @@ pub record HasPair (line : List ℕ) (place : ℕ) : Type 0 where
 pub record HasSixty (line : List ℕ) (place : ℕ) : Type 0 where
   pub pair : HasPair line place
   pub tens : get_or line place 0 ≤ 53
+
+-- the same of a digit with another byte in front, which is at most a digit
+pub record HasSpaced (line : List ℕ) (place : ℕ) : Type 0 where
+  pub room : place + 2 ≤ length line
+  pub first_high : get_or line place 0 ≤ 57
+  pub second_low : 48 ≤ get_or line (place + 1) 0
+  pub second_high : get_or line (place + 1) 0 ≤ 57
 
 -- the bounds let a byte of a layout alone stand at a place of it
 pub record HoldByte (b : Bounds) (l : Layout) (place : ℕ) : Type 0 where
@@ -55,6 +69,7 @@ pub record HasNoOffset (l : Layout) : Type 0 where
 pub record HasNoClock (l : Layout) : Type 0 where
   pub no_year : l.year ≡ None
   pub no_month : l.month ≡ None
+  pub no_weekday : l.weekday ≡ None
   pub no_day : l.day ≡ None
   pub no_hour : l.hour ≡ None
   pub no_minute : l.minute ≡ None

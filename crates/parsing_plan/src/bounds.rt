@@ -1,6 +1,6 @@
 //! The bytes that can stand at each place of a line.
 ghost use Rattle.std.specs.Prelude.{◌≡◌, ◌+◌, ◌<◌, ◌≤◌, ℕ, true, drop, length};
-ghost use Rattle.parsing_plan.specs.Bounds.{IsBetween, LiesWithin, IsPair, IsSixty, HoldByte, HoldText};
+ghost use Rattle.parsing_plan.specs.Bounds.{IsBetween, LiesWithin, IsPair, IsSixty, IsSpaced, HoldByte, HoldText};
 
 use crate::layout::{LENGTH, Layout};
 use std::simd::prelude::*;
@@ -70,6 +70,9 @@ impl Bounds {
         bounds.let_range(layout.offset_hour, b'+', b'-');
         for place in [layout.minute, layout.second, layout.offset_minute] {
             bounds.let_range(place, b'0', b'5');
+        }
+        if layout.day_is_spaced {
+            bounds.let_range(layout.day, b' ', b'3');
         }
         bounds
     }
@@ -154,6 +157,17 @@ impl Bounds {
         ensures { result ≡ true → IsSixty self.now length place }
     {
         self.is_pair(length, place) && self.high[place] <= b'5'
+    }
+
+    /// Whether they let a digit alone stand behind a place, and at most a digit at it, both below a length.
+    pub(crate) fn is_spaced(&self, length: usize, place: usize) -> bool
+        ensures { result ≡ true → IsSpaced self.now length place }
+    {
+        if length > LENGTH || length < 2 || place > length - 2 {
+            return false;
+        }
+        let next = place + 1;
+        self.high[place] <= b'9' && self.low[next] >= b'0' && self.high[next] <= b'9'
     }
 
     /// Whether they let the literals of a layout alone stand where they have to.

@@ -1,7 +1,7 @@
 //! Plans of descriptions.
-ghost use Rattle.std.specs.Prelude.{◌≡◌, ◌≤◌, ◌+◌, true, false, Some};
+ghost use Rattle.std.specs.Prelude.{◌≡◌, ◌≤◌, ◌+◌, true, false, get_or, Some};
 ghost use Rattle.std.specs.Option.{ForSome, ForNone};
-ghost use Rattle.parsing_plan.specs.Bounds.{IsPair, IsSixty, HoldText, HasNoOffset, HasNoClock, HasOffset, BeginsApart, IsTail};
+ghost use Rattle.parsing_plan.specs.Bounds.{IsPair, IsSixty, IsSpaced, HoldText, HasNoOffset, HasNoClock, HasOffset, BeginsApart, IsTail};
 
 mod calls;
 
@@ -59,7 +59,9 @@ pub struct Plan {
     ghost month_digits: { layout.month_is_named ≡ false → IsPair bounds layout.length month },
     ghost century: { IsPair bounds layout.length year },
     ghost year_in_century: { IsPair bounds layout.length (year + 2) },
-    ghost day_digits: { IsPair bounds layout.length day },
+    ghost weekday_room: { ForSome layout.weekday (λ place. place + 3 ≤ layout.length) },
+    ghost day_digits: { IsSpaced bounds layout.length day },
+    ghost day_tens: { layout.day_is_spaced ≡ false → 48 ≤ get_or bounds.low day 0 },
     ghost hour_digits: { IsPair bounds layout.length hour },
     ghost minute_digits: { IsSixty bounds layout.length minute },
     ghost second_digits: { IsSixty bounds layout.length second },

@@ -8,14 +8,14 @@ ghost use Rattle.parsing_fields.specs.Moment.{moment_of};
 ghost use Rattle.parsing_record.specs.Meaning.{Meaning};
 ghost use Rattle.parsing_record.specs.Record.{Record};
 ghost use Rattle.parsing_record.specs.Whole.{whole, names, moment_named, offset_named, starting};
-ghost use Rattle.parsing_plan.specs.Bounds.{HasPair, HasSixty, HasNoOffset, HasOffset};
-ghost use Rattle.parsing_plan.specs.Parts.{Fits, IsNameOf, WritesAt, WritesOffset, SaysMonth, SaysDate, SaysClock, SaysOffset};
+ghost use Rattle.parsing_plan.specs.Bounds.{HasPair, HasSixty, HasSpaced, HasNoOffset, HasOffset};
+ghost use Rattle.parsing_plan.specs.Parts.{Fits, IsNameOf, IsWeekdayNameOf, WritesAt, WritesDay, WritesOffset, SaysMonth, SaysWeekday, SaysDate, SaysClock, SaysOffset};
 ghost use Rattle.parsing_plan.specs.Plan.{IsPlanOf, IsSplitOf, beginning};
 
 use crate::bounds::{Bounds, LANES, from};
 use crate::layout::Layout;
 use crate::plan::{Back, OffsetPlaces, Plan};
-use calendar::{Month, UtcOffset};
+use calendar::{Month, UtcOffset, Weekday};
 use calendar_count::closed;
 use parsing_fields::{Fields, Fraction, signed_minutes};
 
@@ -120,6 +120,54 @@ fn month_at(line: &[u8], place: usize, is_named: bool) -> Option<u8>
     }
 }
 
+// The number of a day at a place, which may have a space in front. Of a space the low half is 0, and of a digit its number.
+#[inline(always)]
+fn day_at(line: &[u8], place: usize) -> Option<u8>
+    requires { HasSpaced line.now place }
+    ensures spaced { IfSome result (WritesDay true line.now place) }
+    ensures digits { IfSome result
+        (λ d. 48 ≤ get_or line.now place 0 → WritesDay false line.now place d) }
+{
+    let first = line[place];
+    if first < b'0' && first != b' ' {
+        return None;
+    }
+    Some((first & 15) * 10 + (line[place + 1] - b'0'))
+}
+
+// The weekday that has these letters.
+#[inline(always)]
+#[tactic(auto, unfolding(parsing_shapes::specs::Names::found, parsing_shapes::specs::Names::begins))]
+fn weekday_of(first: u8, second: u8, third: u8) -> Option<Weekday>
+    ensures { IfSome result (λ weekday. IsWeekdayNameOf weekday first second third) }
+{
+    match first {
+        b'M' if second == b'o' && third == b'n' => Some(Weekday::Monday),
+        b'T' if second == b'u' && third == b'e' => Some(Weekday::Tuesday),
+        b'W' if second == b'e' && third == b'd' => Some(Weekday::Wednesday),
+        b'T' if second == b'h' && third == b'u' => Some(Weekday::Thursday),
+        b'F' if second == b'r' && third == b'i' => Some(Weekday::Friday),
+        b'S' if second == b'a' && third == b't' => Some(Weekday::Saturday),
+        b'S' if second == b'u' && third == b'n' => Some(Weekday::Sunday),
+        _ => None,
+    }
+}
+
+// Whether a weekday stands where one has to.
+#[inline(always)]
+fn has_weekday(place: Option<usize>, line: &[u8]) -> bool
+    requires { ForSome place (λ p. p + 3 ≤ length line.now) }
+    ensures { result ≡ true → SaysWeekday place line.now }
+{
+    let Some(at) = place else {
+        return true;
+    };
+    let Some(_weekday) = weekday_of(line[at], line[at + 1], line[at + 2]) else {
+        return false;
+    };
+    true
+}
+
 // Whether a year of four digits has the day.
 #[inline(always)]
 #[tactic(auto, using(crate::proofs::Parts::short_months))]
@@ -140,9 +188,12 @@ fn date(plan: &Plan, line: &[u8]) -> Option<(u16, u8, u8)>
     ensures day { IfSome result (λ d. IsDay (pos d.0) d.1 d.2) }
     ensures year { IfSome result (λ d. d.0 ≤ 9999) }
 {
-    let year = four_digits_at(line, plan.year);
+    if !has_weekday(plan.layout.weekday, line) {
+        return None;
+    }
     let month = month_at(line, plan.month, plan.layout.month_is_named)?;
-    let day = two_digits_at(line, plan.day);
+    let day = day_at(line, plan.day)?;
+    let year = four_digits_at(line, plan.year);
     if !has_day(year, month, day) {
         return None;
     }

@@ -1,11 +1,11 @@
 //! The plans of descriptions.
-ghost use Rattle.std.specs.Prelude.{◌≡◌, ◌+◌, ◌≤◌, true, false, Some, None, map, IfSome};
+ghost use Rattle.std.specs.Prelude.{◌≡◌, ◌+◌, ◌≤◌, true, false, get_or, Some, None, map, IfSome};
 ghost use Rattle.std.specs.Option.{ForSome, ForNone};
 ghost use Rattle.description_items.specs.Tree.{trees, listed};
 ghost use Rattle.description_tree.specs.Description.{v3_tree};
 ghost use Rattle.parsing_components.specs.Component.{reads_component, reads_component_v3};
 ghost use Rattle.parsing_record.specs.Reads.{reading, reading_of_all};
-ghost use Rattle.parsing_plan.specs.Bounds.{IsPair, IsSixty, HasNoOffset, HasNoClock, HasOffset, BeginsApart, IsTail};
+ghost use Rattle.parsing_plan.specs.Bounds.{IsPair, IsSixty, IsSpaced, HasNoOffset, HasNoClock, HasOffset, BeginsApart, IsTail};
 ghost use Rattle.parsing_plan.specs.Plan.{IsPlanOf};
 
 use crate::bounds::Bounds;
@@ -52,13 +52,35 @@ fn is_month(layout: &Layout, bounds: &Bounds, place: usize) -> bool
     bounds.is_pair(length, place)
 }
 
-// Whether the bounds let digits alone stand for a year and a day.
-fn is_date(bounds: &Bounds, length: usize, year: usize, day: usize) -> bool
-    ensures century { result ≡ true → IsPair bounds.now length year }
-    ensures year { result ≡ true → IsPair bounds.now length (year + 2) }
-    ensures day { result ≡ true → IsPair bounds.now length day }
+// Whether there is room for a weekday's name, if the layout has one.
+fn has_weekday_room(layout: &Layout) -> bool
+    ensures { result ≡ true
+        → ForSome layout.now.weekday (λ place. place + 3 ≤ layout.now.length) }
 {
-    bounds.is_pair(length, year) && bounds.is_pair(length, year + 2) && bounds.is_pair(length, day)
+    match layout.weekday {
+        Some(place) => layout.length >= 3 && place <= layout.length - 3,
+        None => true,
+    }
+}
+
+// Whether the bounds let digits alone stand for a day, or for its ones, where it may have a space in front.
+fn is_day(layout: &Layout, bounds: &Bounds, place: usize) -> bool
+    ensures digits { result ≡ true → IsSpaced bounds.now layout.now.length place }
+    ensures tens { result ≡ true
+        → layout.now.day_is_spaced ≡ false → 48 ≤ get_or bounds.now.low place 0 }
+{
+    if place >= LENGTH || !bounds.is_spaced(layout.length, place) {
+        return false;
+    }
+    layout.day_is_spaced || bounds.low[place] >= b'0'
+}
+
+// Whether the bounds let digits alone stand for a year.
+fn is_year(bounds: &Bounds, length: usize, place: usize) -> bool
+    ensures century { result ≡ true → IsPair bounds.now length place }
+    ensures year { result ≡ true → IsPair bounds.now length (place + 2) }
+{
+    bounds.is_pair(length, place) && bounds.is_pair(length, place + 2)
 }
 
 // The same for a time of day, whose minute and second are below 60.
@@ -101,7 +123,10 @@ fn has_no_offset(layout: &Layout) -> bool
 fn has_no_clock(layout: &Layout) -> bool
     ensures { result ≡ true → HasNoClock layout.now }
 {
-    if layout.year.is_some() || layout.month.is_some() || layout.day.is_some() {
+    if layout.year.is_some() || layout.month.is_some() {
+        return false;
+    }
+    if layout.weekday.is_some() || layout.day.is_some() {
         return false;
     }
     layout.hour.is_none() && layout.minute.is_none() && layout.second.is_none()
@@ -202,7 +227,10 @@ impl Plan {
         if length < 8 || !bounds.hold_text(&layout) {
             return None;
         }
-        if !is_month(&layout, &bounds, month) || !is_date(&bounds, length, year, day) {
+        if !is_year(&bounds, length, year) || !is_month(&layout, &bounds, month) {
+            return None;
+        }
+        if !is_day(&layout, &bounds, day) || !has_weekday_room(&layout) {
             return None;
         }
         if !is_clock(&bounds, length, hour, minute, second) {
