@@ -126,7 +126,7 @@ impl Fraction {
     /// The fraction that so many digits write, at most eight, which end at a place of a line: `None` where one of them is no
     /// digit.
     #[inline(always)]
-    pub fn before(line: &[u8], end: usize, count: usize) -> Option<Fraction>
+    pub fn of_digits(line: &[u8], end: usize, count: usize) -> Option<Fraction>
         requires room { 8 ≤ end }
         requires within { end ≤ length line.now }
         requires some { 0 < count }

@@ -101,7 +101,7 @@ moment_there l line assumed year month day minute second offset d t o f n =
     let in_offset : offset_named (filled l v w r) ≡ Ok (pos 60 *ℤ f.offset) = rw n.same_offset o.offset_is in
     ap (λ (x : Record). moment_named x) same ∙ dated l v w r (day_of_fields f) (time_of_fields f) 0 (pos 60 *ℤ f.offset) (bare_beginning assumed) (no_fraction assumed) in_day in_time in_offset ∙ ap (λ (x : Shown). Ok x) (moment_is f)
 
-whole_is : (m : Meaning) (defaults : Option Record) (line : List ℕ) (r : Record) → m (starting defaults) line ≡ Ok (r, []) → whole m defaults line ≡ Ok r
+pub whole_is : (m : Meaning) (defaults : Option Record) (line : List ℕ) (r : Record) → m (starting defaults) line ≡ Ok (r, []) → whole m defaults line ≡ Ok r
 unfolding whole
 whole_is m defaults line r e = rw e refl
 

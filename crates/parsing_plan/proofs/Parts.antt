@@ -20,7 +20,7 @@ use Rattle.parsing_plan.specs.Slot.{Values, slot_piece, width}
 use Rattle.parsing_plan.specs.Layout.{day_slot}
 use Rattle.parsing_shapes.specs.Shape.{taken, spaced_between}
 use Rattle.parsing_plan.specs.Parts.{WritesAt, WritesDay, WritesOffset, SaysMonth, SaysWeekday, SaysDate, SaysClock, SaysOffset}
-use Rattle.parsing_plan.specs.Plan.{beginning}
+use Rattle.parsing_plan.specs.Beginning.{beginning}
 use Rattle.parsing_plan.proofs.Numbers.{slot_number}
 
 -- a day of a month is at most the 31st

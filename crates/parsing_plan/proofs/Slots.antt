@@ -41,7 +41,7 @@ zeros p n line e = rw e (taken_padded_exactly padding.Zero n line)
 
 -- ---- four digits begin with no sign
 
-digit_no_sign : (c : ℕ) → is_ascii_digit c ≡ true → ((c == 43) || (c == 45)) ≡ false
+pub digit_no_sign : (c : ℕ) → is_ascii_digit c ≡ true → ((c == 43) || (c == 45)) ≡ false
 digit_no_sign c e = grind (arith, nat_tests)
 
 first_digit : (b : Bool) (c : ℕ) (cs rest : List ℕ) (x : ℕ) → is_ascii_digit c ≡ b → digits 4 (c ∷ cs) ≡ Some (x, rest) → b ≡ true

@@ -13,7 +13,7 @@ use Rattle.parsing_record.specs.Whole.{offset_named}
 use Rattle.parsing_plan.specs.Slot.{Values, slot_piece, value_in, width}
 use Rattle.parsing_plan.specs.Layout.{SaysAt, month_slot, day_slot, with_values}
 use Rattle.parsing_plan.specs.Bounds.{LiesWithin}
-use Rattle.parsing_plan.specs.Plan.{beginning}
+use Rattle.parsing_plan.specs.Beginning.{beginning}
 use Rattle.parsing_plan.specs.declared.bounds.Bounds.{Bounds}
 use Rattle.parsing_plan.specs.declared.layout.Layout.{Layout}
 use Rattle.parsing_plan.specs.declared.slot.Slot.TheVariants as slot

@@ -8,5 +8,6 @@ mod plan;
 mod read;
 mod slot;
 mod tail;
+mod unix;
 
 pub use plan::Plan;

@@ -8,6 +8,7 @@ mod calls;
 use crate::bounds::Bounds;
 use crate::layout::Layout;
 use crate::tail::Tail;
+use crate::unix::UnixTime;
 
 /// The places of an offset's hours, behind which its sign stands, and of its minutes.
 #[derive(Clone, Copy)]
@@ -35,7 +36,7 @@ pub(crate) struct Back {
 /// Where each component of a line stands, for a description whose items all have fixed widths, but for a fraction of a
 /// second.
 #[derive(Clone, Copy)]
-pub struct Plan {
+pub(crate) struct Places {
     pub(crate) layout: Layout,
     pub(crate) bounds: Bounds,
     pub(crate) year: usize,
@@ -68,4 +69,11 @@ pub struct Plan {
     ghost no_offset: { ForNone offset (HasNoOffset layout) },
     ghost offset_is: { ForSome offset (λ places. HasOffset layout bounds places.hour places.minute) },
     ghost one_offset: { ForSome back (λ _. HasNoOffset layout) },
+}
+
+/// How lines of a description are read by places: each component where it stands, or Unix time alone.
+#[derive(Clone, Copy)]
+pub struct Plan {
+    pub(crate) places: Option<Places>,
+    pub(crate) unix: Option<UnixTime>,
 }

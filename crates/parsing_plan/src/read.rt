@@ -10,11 +10,12 @@ ghost use Rattle.parsing_record.specs.Record.{Record};
 ghost use Rattle.parsing_record.specs.Whole.{whole, names, moment_named, offset_named, starting};
 ghost use Rattle.parsing_plan.specs.Bounds.{HasPair, HasSixty, HasSpaced, HasNoOffset, HasOffset};
 ghost use Rattle.parsing_plan.specs.Parts.{Fits, IsNameOf, IsWeekdayNameOf, WritesAt, WritesDay, WritesOffset, SaysMonth, SaysWeekday, SaysDate, SaysClock, SaysOffset};
-ghost use Rattle.parsing_plan.specs.Plan.{IsPlanOf, IsSplitOf, beginning};
+ghost use Rattle.parsing_plan.specs.Beginning.{beginning};
+ghost use Rattle.parsing_plan.specs.Plan.{ArePlacesOf, IsPlanOf, IsSplitOf};
 
 use crate::bounds::{Bounds, LANES, from};
 use crate::layout::Layout;
-use crate::plan::{Back, OffsetPlaces, Plan};
+use crate::plan::{Back, OffsetPlaces, Places, Plan};
 use calendar::{Month, UtcOffset, Weekday};
 use calendar_count::closed;
 use parsing_fields::{Fields, Fraction, signed_minutes};
@@ -182,7 +183,7 @@ fn has_day(year: u16, month: u8, day: u8) -> bool
 
 // The year, the month and the day of a line that has the layout of a plan.
 #[inline(always)]
-fn date(plan: &Plan, line: &[u8]) -> Option<(u16, u8, u8)>
+fn date(plan: &Places, line: &[u8]) -> Option<(u16, u8, u8)>
     requires { Fits plan.now.layout plan.now.bounds line.now }
     ensures says { IfSome result (λ d. SaysDate plan.now.layout line.now d.0 d.1 d.2) }
     ensures day { IfSome result (λ d. IsDay (pos d.0) d.1 d.2) }
@@ -202,7 +203,7 @@ fn date(plan: &Plan, line: &[u8]) -> Option<(u16, u8, u8)>
 
 // The minute of the day, and the second.
 #[inline(always)]
-fn clock(plan: &Plan, line: &[u8]) -> Option<(u16, u8)>
+fn clock(plan: &Places, line: &[u8]) -> Option<(u16, u8)>
     requires { Fits plan.now.layout plan.now.bounds line.now }
     ensures says { IfSome result (λ t. SaysClock plan.now.layout line.now t.0 t.1) }
     ensures minute { IfSome result (λ t. t.0 < 1440) }
@@ -289,7 +290,7 @@ fn fraction_at(line: &[u8], place: usize, count: usize) -> Option<Fraction>
     ensures bound { IfSome result (λ f. f < 1_000_000_000) }
 {
     if count <= 8 {
-        return Fraction::before(line, place + count, count);
+        return Fraction::of_digits(line, place + count, count);
     }
     let Some(cut) = Fraction::read(from(line, place)) else {
         return None;
@@ -315,7 +316,7 @@ fn has_back(back: &Back, line: &[u8], place: usize) -> bool
 
 // The fields of a line that has a fraction of a second: its digits are all that the rest of its length leaves.
 #[inline(always)]
-fn read_split(plan: &Plan, back: &Back, line: &[u8], assumed: Option<UtcOffset>) -> Option<Fields>
+fn read_split(plan: &Places, back: &Back, line: &[u8], assumed: Option<UtcOffset>) -> Option<Fields>
     requires { HasNoOffset plan.now.layout }
     ensures { (m : Meaning) (defaults : Option Record)
         → IsSplitOf m plan.now.layout back.now.layout → starting defaults ≡ beginning assumed
@@ -337,12 +338,11 @@ fn read_split(plan: &Plan, back: &Back, line: &[u8], assumed: Option<UtcOffset>)
     Some(Fields::of_numbers(year, month, day, minute, second, fraction, offset))
 }
 
-impl Plan {
-    /// The fields of a line that the plan finds, with an offset assumed or none, which counts only where the line has
-    /// none: what the items of the plan read of the whole line names their moment. `None` says nothing of the line.
+impl Places {
+    // The fields of a line, with an offset assumed or none.
     #[inline(always)]
-    pub fn read(&self, line: &[u8], assumed: Option<UtcOffset>) -> Option<Fields>
-        ensures { (m : Meaning) (defaults : Option Record) → IsPlanOf m self.now
+    fn read(&self, line: &[u8], assumed: Option<UtcOffset>) -> Option<Fields>
+        ensures { (m : Meaning) (defaults : Option Record) → ArePlacesOf m self.now
             → starting defaults ≡ beginning assumed
             → IfSome result
             (λ f. names moment_named (whole m defaults line.now) ≡ Ok (moment_of f)) }
@@ -357,5 +357,25 @@ impl Plan {
         let (minute, second) = clock(self, line)?;
         let offset = offset(&self.layout, &self.bounds, self.offset, line, assumed)?;
         Some(Fields::of_numbers(year, month, day, minute, second, Fraction::new(0), offset))
+    }
+}
+
+impl Plan {
+    /// The fields of a line that the plan finds, with an offset assumed or none, which counts only where the line has
+    /// none: what the items of the plan read of the whole line names their moment. `None` says nothing of the line.
+    #[inline(always)]
+    pub fn read(&self, line: &[u8], assumed: Option<UtcOffset>) -> Option<Fields>
+        ensures { (m : Meaning) (defaults : Option Record) → IsPlanOf m self.now
+            → starting defaults ≡ beginning assumed
+            → IfSome result
+            (λ f. names moment_named (whole m defaults line.now) ≡ Ok (moment_of f)) }
+    {
+        if let Some(places) = &self.places {
+            return places.read(line, assumed);
+        }
+        if let Some(unix) = &self.unix {
+            return unix.read(line);
+        }
+        None
     }
 }

@@ -6,12 +6,12 @@ ghost use Rattle.description_tree.specs.Description.{v3_tree};
 ghost use Rattle.parsing_components.specs.Component.{reads_component, reads_component_v3};
 ghost use Rattle.parsing_record.specs.Reads.{reading, reading_of_all};
 ghost use Rattle.parsing_plan.specs.Bounds.{IsPair, IsSixty, IsSpaced, HasNoOffset, HasNoClock, HasOffset, BeginsApart, IsTail};
-ghost use Rattle.parsing_plan.specs.Plan.{IsPlanOf};
+ghost use Rattle.parsing_plan.specs.Plan.{ArePlacesOf, IsPlanOf};
 
 use crate::bounds::Bounds;
-use crate::items::{HasStep, is_fraction, lead};
+use crate::items::{HasStep, is_fraction, lead, unix_of};
 use crate::layout::{LENGTH, Layout};
-use crate::plan::{Back, OffsetPlaces, Plan};
+use crate::plan::{Back, OffsetPlaces, Places, Plan};
 use crate::tail::Tail;
 use description_items::BorrowedFormatItem;
 use description_tree::{FormatDescriptionV3, FormatDescriptionV3Inner as Inner};
@@ -153,14 +153,14 @@ fn back_of(layout: Layout) -> Option<Back>
     })
 }
 
-// The plan of items that are read one after the other.
-fn plan_of<I: HasStep>(items: &[I]) -> Option<Plan>
+// The places of items that are read one after the other.
+fn places_of<I: HasStep>(items: &[I]) -> Option<Places>
     ensures { IfSome result
-        (IsPlanOf (reading_of_all I.language (listed (map I.tree items.now)))) }
+        (ArePlacesOf (reading_of_all I.language (listed (map I.tree items.now)))) }
 {
     let (front, count) = lead(items);
     if count == items.len() {
-        return Plan::of_layout(front);
+        return Places::of_layout(front);
     }
     if !is_fraction(&items[count]) {
         return None;
@@ -170,7 +170,28 @@ fn plan_of<I: HasStep>(items: &[I]) -> Option<Plan>
     if others < rest.len() {
         return None;
     }
-    Plan::of_layout(front)?.with_back(back_of(behind)?)
+    Places::of_layout(front)?.with_back(back_of(behind)?)
+}
+
+// The plan of items that are read one after the other.
+fn plan_of<I: HasStep>(items: &[I]) -> Option<Plan>
+    ensures { IfSome result
+        (IsPlanOf (reading_of_all I.language (listed (map I.tree items.now)))) }
+{
+    if let Some(places) = places_of(items) {
+        return Some(Plan {
+            places: Some(places),
+            unix: None,
+        });
+    }
+    if items.len() != 1 {
+        return None;
+    }
+    let unix = unix_of(&items[0])?;
+    Some(Plan {
+        places: None,
+        unix: Some(unix),
+    })
 }
 
 impl Plan {
@@ -192,16 +213,18 @@ impl Plan {
             _ => None,
         }
     }
+}
 
-    // The plan with a layout behind a fraction, where there is but one offset.
-    fn with_back(self, back: Back) -> Option<Plan>
-        ensures front { IfSome result (λ plan. plan.layout ≡ self.layout) }
-        ensures back { IfSome result (λ plan. plan.back ≡ Some back) }
+impl Places {
+    // The places with a layout behind a fraction, where there is but one offset.
+    fn with_back(self, back: Back) -> Option<Places>
+        ensures front { IfSome result (λ places. places.layout ≡ self.layout) }
+        ensures back { IfSome result (λ places. places.back ≡ Some back) }
     {
         if !has_no_offset(&self.layout) {
             return None;
         }
-        Some(Plan {
+        Some(Places {
             layout: self.layout,
             bounds: self.bounds,
             year: self.year,
@@ -215,10 +238,10 @@ impl Plan {
         })
     }
 
-    // The plan of a layout that has places for all of a date and a time of day.
-    fn of_layout(layout: Layout) -> Option<Plan>
-        ensures front { IfSome result (λ plan. plan.layout ≡ layout) }
-        ensures back { IfSome result (λ plan. plan.back ≡ None) }
+    // The places of a layout that has places for all of a date and a time of day.
+    fn of_layout(layout: Layout) -> Option<Places>
+        ensures front { IfSome result (λ places. places.layout ≡ layout) }
+        ensures back { IfSome result (λ places. places.back ≡ None) }
     {
         let (year, month, day) = (layout.year?, layout.month?, layout.day?);
         let (hour, minute, second) = (layout.hour?, layout.minute?, layout.second?);
@@ -237,7 +260,7 @@ impl Plan {
             return None;
         }
         let offset = offset_of(&layout, &bounds)?;
-        Some(Plan {
+        Some(Places {
             layout,
             bounds,
             year,

@@ -3,7 +3,7 @@ use Rattle.parsing_plan.proofs.Numbers.{digits_ended, fraction_ended}
 use Rattle.parsing_plan.proofs.read.fraction_at.Goals as goal
 
 pub returns-then-count-le8-clause-taken : goal.returns-then-count-le8-clause-taken
-returns-then-count-le8-clause-taken c = digits_ended c.args.line.now c.args.place c.args.count c.before-then-count-le8.result c.requires.some (omega arith) c.requires.ends c.before-then-count-le8.ensures.writes
+returns-then-count-le8-clause-taken c = digits_ended c.args.line.now c.args.place c.args.count c.of_digits.result c.requires.some (omega arith) c.requires.ends c.of_digits.ensures.writes
 
 pub returns-clause-taken : goal.returns-clause-taken
 returns-clause-taken c =

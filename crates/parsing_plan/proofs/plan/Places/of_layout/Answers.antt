@@ -1,4 +1,4 @@
-use Rattle.parsing_plan.proofs.plan.Plan.of_layout.Goals as goal
+use Rattle.parsing_plan.proofs.plan.Places.of_layout.Goals as goal
 
 pub invariant_of-result : goal.invariant_of-result
 invariant_of-result c = record {

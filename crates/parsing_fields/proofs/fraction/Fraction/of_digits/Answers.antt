@@ -5,7 +5,7 @@ use Rattle.parsing_fields.specs.Digits.{nine_digits, AreNineDigits}
 use Rattle.parsing_fields.specs.DigitsBack.{digits_below}
 use Rattle.parsing_fields.specs.Written.{WriteFraction}
 use Rattle.parsing_fields.proofs.DigitsBefore.{drop_fit, fraction_before, are_nine}
-use Rattle.parsing_fields.proofs.fraction.Fraction.before.Goals as goal
+use Rattle.parsing_fields.proofs.fraction.Fraction.of_digits.Goals as goal
 
 -- the ninth digit in a wider number
 are_along : (first : ℕ) {last wide : ℕ} → wide ≡ last → AreNineDigits first last → AreNineDigits first wide
