@@ -8,4 +8,4 @@ mod minutes;
 
 pub use fields::Fields;
 pub use fraction::Fraction;
-pub use minutes::{minute_of_day, signed_minutes};
+pub use minutes::{minute_of_day, offset_minutes, signed_minutes};

@@ -143,6 +143,7 @@ spaced_there b line n place long within p =
     let second = within (place + 1) (omega (arith, p.room)) in
     record {
       room = omega (arith, long, p.room);
+      first_low = omega (arith, first.0, p.first_low);
       first_high = omega (arith, first.1, p.first_high);
       second_low = omega (arith, second.0, p.second_low);
       second_high = omega (arith, second.1, p.second_high);
@@ -228,10 +229,6 @@ offset_written line hour minute hours minutes is_negative offset lt sign minus i
       minute_says = slot_number 0 59 minutes read.OffsetMinute (digits 2 (drop minute line)) (drop (minute + 2) line) in_minutes (omega arith) ranges.minutes;
       offset_is = is;
     }
-
-pub offsets_written : (line : List ℕ) (hour minute hours minutes : ℕ) (is_negative : Bool) (o : Option ℤ) → hour < length line → ((get_or line hour 0 == 43) || (get_or line hour 0 == 45)) ≡ true → is_negative ≡ (get_or line hour 0 == 45) → WritesAt 2 line (hour + 1) hours → WritesAt 2 line minute minutes → IfSome o (λ offset. signed_offset_of is_negative hours minutes ≡ Ok (pos 60 *ℤ offset)) → IfSome o (WritesOffset line hour minute)
-offsets_written line hour minute hours minutes is_negative None lt sign minus in_hours in_minutes is = tt
-offsets_written line hour minute hours minutes is_negative (Some offset) lt sign minus in_hours in_minutes is = offset_written line hour minute hours minutes is_negative offset lt sign minus in_hours in_minutes is
 
 -- ---- fractions
 

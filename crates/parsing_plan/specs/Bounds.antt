@@ -23,9 +23,10 @@ pub record IsSixty (b : Bounds) (length place : ℕ) : Type 0 where
   pub pair : IsPair b length place
   pub tens : get_or b.high place 0 ≤ 53
 
--- the same of a digit with another byte in front, which is at most a digit
+-- the same of a digit with another byte in front, from a space to a digit
 pub record IsSpaced (b : Bounds) (length place : ℕ) : Type 0 where
   pub room : place + 2 ≤ length
+  pub first_low : 32 ≤ get_or b.low place 0
   pub first_high : get_or b.high place 0 ≤ 57
   pub second_low : 48 ≤ get_or b.low (place + 1) 0
   pub second_high : get_or b.high (place + 1) 0 ≤ 57
@@ -43,9 +44,10 @@ pub record HasSixty (line : List ℕ) (place : ℕ) : Type 0 where
   pub pair : HasPair line place
   pub tens : get_or line place 0 ≤ 53
 
--- the same of a digit with another byte in front, which is at most a digit
+-- the same of a digit with another byte in front, from a space to a digit
 pub record HasSpaced (line : List ℕ) (place : ℕ) : Type 0 where
   pub room : place + 2 ≤ length line
+  pub first_low : 32 ≤ get_or line place 0
   pub first_high : get_or line place 0 ≤ 57
   pub second_low : 48 ≤ get_or line (place + 1) 0
   pub second_high : get_or line (place + 1) 0 ≤ 57

@@ -167,7 +167,10 @@ impl Bounds {
             return false;
         }
         let next = place + 1;
-        self.high[place] <= b'9' && self.low[next] >= b'0' && self.high[next] <= b'9'
+        self.low[place] >= b' '
+            && self.high[place] <= b'9'
+            && self.low[next] >= b'0'
+            && self.high[next] <= b'9'
     }
 
     /// Whether they let the literals of a layout alone stand where they have to.

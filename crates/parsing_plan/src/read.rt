@@ -18,7 +18,7 @@ use crate::layout::Layout;
 use crate::plan::{Back, OffsetPlaces, Places, Plan};
 use calendar::{Month, UtcOffset, Weekday};
 use calendar_count::closed;
-use parsing_fields::{Fields, Fraction, signed_minutes};
+use parsing_fields::{Fields, Fraction, offset_minutes};
 
 // The number of the two digits at a place.
 #[inline(always)]
@@ -130,7 +130,7 @@ fn day_at(line: &[u8], place: usize) -> Option<u8>
         (λ d. 48 ≤ get_or line.now place 0 → WritesDay false line.now place d) }
 {
     let first = line[place];
-    if first < b'0' && first != b' ' {
+    if first > b' ' && first < b'0' {
         return None;
     }
     Some((first & 15) * 10 + (line[place + 1] - b'0'))
@@ -241,8 +241,11 @@ fn written_offset(line: &[u8], hour: usize, minute: usize) -> Option<i16>
 {
     let is_negative = is_minus(line[hour])?;
     let hours = two_digits_at(line, hour + 1);
+    if hours > 25 {
+        return None;
+    }
     let minutes = sixty_at(line, minute);
-    signed_minutes(is_negative, hours, minutes)
+    Some(offset_minutes(is_negative, hours, minutes))
 }
 
 // The minutes of an assumed offset, of which the seconds don't count.
