@@ -1,2 +1,4 @@
 pub mod lemmas
 mod DigitLemmas
+mod DigitsBefore
+mod UnixTime

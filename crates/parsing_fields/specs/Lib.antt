@@ -2,3 +2,4 @@ pub mod Digits
 pub mod DigitsBack
 pub mod Moment
 pub mod Numbers
+pub mod Written

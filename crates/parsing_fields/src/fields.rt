@@ -1,10 +1,12 @@
 //! The fields of a date-time.
-ghost use Rattle.std.specs.Prelude.{◌≡◌, ◌<◌, ◌≤◌, ◌↔◌, pos, unsigned_abs, IsSome, IfSome};
+ghost use Rattle.std.specs.Prelude.{◌≡◌, ◌+◌, ◌*◌, ◌<◌, ◌≤◌, ◌↔◌, pos, unsigned_abs, IsSome, IfSome};
 ghost use Rattle.calendar_count.specs.Calendar.{IsDay};
+ghost use Rattle.datetime_wall.specs.Wall.{second_nanos};
 
 use crate::fraction::Fraction;
 use calendar::{Date, Time, UtcOffset};
 use calendar_count::{closed, march};
+use datetime_products::{count_of_seconds, day_of_count, second_of_day};
 use datetime_types::OffsetDateTime;
 
 /// The fields of a date-time in a year of four digits: a day of the calendar, a time of day, and an offset of whole minutes,
@@ -57,7 +59,24 @@ impl Fields {
         if year > 9999 || minute >= 1440 || second >= 60 || offset.unsigned_abs() > 1559 {
             return None;
         }
-        Some(Fields {
+        Some(Fields::of_numbers(year, month, day, minute, second, fraction, offset))
+    }
+
+    /// The fields with these numbers, which name fields: `new` is the test.
+    #[inline(always)]
+    pub fn of_numbers(
+        year: u16,
+        month: u8,
+        day: u8,
+        minute: u16,
+        second: u8,
+        fraction: Fraction,
+        offset: i16,
+    ) -> Fields
+        requires { NameFields year month day minute second offset }
+        ensures { HaveNumbers result year month day minute second fraction offset }
+    {
+        Fields {
             year,
             month,
             day,
@@ -65,7 +84,33 @@ impl Fields {
             offset,
             second: u64::from(second),
             fraction,
-        })
+        }
+    }
+
+    /// The fields in UTC of a second of Unix time, from 1970 on, and a fraction of it: `None` where its year has not four
+    /// digits.
+    #[inline(always)]
+    pub fn of_unix(second: u64, fraction: Fraction) -> Option<Fields>
+        requires { second < 10_000_000_000 }
+        ensures { IfSome result (λ f. moment_of f
+            ≡ record { wall = pos (second * second_nanos + fraction); offset = pos 0 }) }
+    {
+        let instant = second as i64;
+        let (year, month, day) = day_of_count(count_of_seconds(instant));
+        if year < 0 || year > 9999 {
+            return None;
+        }
+        let second = second_of_day(instant);
+        let minute = second / 60;
+        Some(Fields::of_numbers(
+            year as u16,
+            month,
+            day,
+            minute as u16,
+            (second - 60 * minute) as u8,
+            fraction,
+            0,
+        ))
     }
 
     /// The moment that they name.

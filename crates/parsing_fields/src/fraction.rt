@@ -1,8 +1,10 @@
 //! Fractions of a second.
-ghost use Rattle.std.specs.Prelude.{◌≡◌, ◌+◌, ◌<◌, ◌≤◌, [], length, None, Some, IfSome};
+ghost use Rattle.std.specs.Prelude.{◌≡◌, ◌+◌, ◌-◌, ◌<◌, ◌≤◌, [], drop, length, None, Some, IfSome};
 ghost use Rattle.byte_names.specs.Bytes.{digit_zero};
 ghost use Rattle.parsing_pieces.specs.Pieces as Pieces;
+ghost use Rattle.parsing_fields.specs.Written.{WriteFraction};
 
+use crate::before::digits_before;
 use parsing_pieces::{digit_chunk, fraction, one_digit};
 use std::marker::Model;
 
@@ -119,6 +121,22 @@ impl Fraction {
         }
         let last = u64::from(b'0' + last);
         Some((Fraction { first, last }, behind))
+    }
+
+    /// The fraction that so many digits write, at most eight, which end at a place of a line: `None` where one of them is no
+    /// digit.
+    #[inline(always)]
+    pub fn of_digits(line: &[u8], end: usize, count: usize) -> Option<Fraction>
+        requires room { 8 ≤ end }
+        requires within { end ≤ length line.now }
+        requires some { 0 < count }
+        requires few { count ≤ 8 }
+        ensures writes { IfSome result (WriteFraction (drop (end - count) line.now) count) }
+        ensures bound { IfSome result (λ f. f < 1_000_000_000) }
+    {
+        let first = digits_before(line, end, count)?;
+        let last = u64::from(b'0');
+        Some(Fraction { first, last })
     }
 
     /// The nine digits of its nanoseconds, in ASCII.

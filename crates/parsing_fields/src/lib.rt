@@ -1,10 +1,11 @@
 //! The fields of a date-time in a year of four digits, before any day is counted.
 #![tactic(auto)]
 
+mod before;
 mod fields;
 mod fraction;
 mod minutes;
 
 pub use fields::Fields;
 pub use fraction::Fraction;
-pub use minutes::{minute_of_day, signed_minutes};
+pub use minutes::{minute_of_day, offset_minutes, signed_minutes};

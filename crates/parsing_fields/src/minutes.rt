@@ -26,6 +26,18 @@ pub fn signed_minutes(is_negative: bool, hours: u8, minutes: u8) -> Option<i16>
     if hours > 25 || minutes > 59 {
         return None;
     }
+    Some(offset_minutes(is_negative, hours, minutes))
+}
+
+/// The minutes of such an offset: `signed_minutes` is the test.
+#[tactic(auto, unfolding(parsing_resolution::specs::Resolution::signed_offset_of, calendar_clock::specs::UtcOffset::offset_of))]
+#[inline(always)]
+pub fn offset_minutes(is_negative: bool, hours: u8, minutes: u8) -> i16
+    requires hours { hours ≤ 25 }
+    requires minutes { minutes ≤ 59 }
+    ensures value { signed_offset_of is_negative hours minutes ≡ Ok (pos 60 *ℤ result) }
+    ensures bound { unsigned_abs result ≤ 1559 }
+{
     let length = i16::from(hours) * 60 + i16::from(minutes);
-    Some(if is_negative { -length } else { length })
+    if is_negative { -length } else { length }
 }

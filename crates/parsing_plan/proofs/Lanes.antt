@@ -1,11 +1,14 @@
 -- Sixteen bytes between bounds.
-use Rattle.std.proofs.Common.{◌≡◌, ◌≤◌, ◌<◌, ◌+◌, ◌-◌, ◌^◌, ◌%◌, ◌∙◌, inl, inr, ℕ, zero, suc, Bool, true, false, cond, List, [], ◌∷◌, length, get_or, take, drop, map, refl, sym, arith, w8}
+use Rattle.std.proofs.Common.{◌≡◌, ◌≤◌, ◌<◌, ◌+◌, ◌-◌, ◌^◌, ◌%◌, ◌∙◌, inl, inr, ℕ, zero, suc, Bool, true, false, cond, List, [], ◌∷◌, length, get_or, take, drop, map, refl, sym, ap, arith, w8}
 use Rattle.std.specs.Prelude.{nat_lt}
 use Rattle.std.proofs.lemmas.Bool.{cases_lt}
 use Rattle.std.proofs.lemmas.Bool.Decides.{nat_tests}
 use Rattle.std.proofs.lemmas.List.{get_or-drop, get_or-take, length-take-le}
+use Rattle.std.specs.Int.Bits.{bit_or}
+use Rattle.std.proofs.lemmas.Nat.{le_or_l, le_or_r}
 use Rattle.std.proofs.lemmas.Simd.{tops_compared, mask_l-mod, get_or-zip2, length-zip2}
-use Rattle.parsing_plan.specs.Bounds.{IsBetween}
+use Rattle.parsing_plan.specs.Bounds.{IsBetween, LiesWithin, IsTail}
+use Rattle.parsing_plan.specs.declared.bounds.Bounds.{Bounds}
 use lib.Lanes.{zip2, mask_l, top}
 use mir.Val.{bits, hbits}
 
@@ -36,6 +39,10 @@ all_between bytes low high n m l below above k lt =
     let byte = get_or-take 16 bytes k 0 lt in
     (not_below (get_or bytes k 0) (get_or low k 0) (rw (byte, get_or-take 16 low k 0 lt) at lows), not_below (get_or high k 0) (get_or bytes k 0) (rw (byte, get_or-take 16 high k 0 lt) at highs))
 
+-- no bit of two numbers is set
+pub neither : (a b : ℕ) → bit_or a b ≡ 0 → (a ≡ 0) × (b ≡ 0)
+neither a b e = (omega (arith, le_or_l a b), omega (arith, le_or_r a b))
+
 -- the first and the last sixteen of at most 32
 pub both_between : (low high line : List ℕ) (last count : ℕ) → last + 16 ≡ count → count ≤ 32 → ((k : ℕ) → k < 16 → IsBetween low high line k) → ((k : ℕ) → k < 16 → IsBetween (drop last low) (drop last high) (drop last line) k) → (k : ℕ) → k < count → IsBetween low high line k
 both_between low high line last count e le first second k lt = elim (cases_lt k 16) [
@@ -45,3 +52,13 @@ both_between low high line last count e le first second k lt = elim (cases_lt k 
       let at : last + j ≡ k = omega (arith, late, e, le) in
       rw (get_or-drop last low j 0, get_or-drop last high j 0, get_or-drop last line j 0, at) at (second j (omega (arith, lt, late, e, le)))
 ]
+
+-- the last sixteen of a line, of which the last few count
+pub end_within : (low high line : List ℕ) (b : Bounds) (count place : ℕ) → IsTail low high b count → place + count ≡ length line → 16 ≤ length line → ((k : ℕ) → k < 16 → IsBetween low high (drop (length line - 16) line) k) → LiesWithin b (drop place line) count
+end_within low high line b count place tail long room between k lt =
+    let at : ℕ = 16 - count + k in
+    let there = between at (omega (arith, tail.few, lt)) in
+    let byte : get_or (drop (length line - 16) line) at 0 ≡ get_or line (place + k) 0 =
+    get_or-drop (length line - 16) line at 0 ∙ ap (λ (j : ℕ). get_or line j 0) (let same : length line - 16 + at ≡ place + k = omega (arith, tail.few, long, room, lt) in same) in
+    let here : get_or (drop place line) k 0 ≡ get_or line (place + k) 0 = get_or-drop place line k 0 in
+    (omega (arith, here, byte, there.0, tail.low_is k lt), omega (arith, here, byte, there.1, tail.high_is k lt))

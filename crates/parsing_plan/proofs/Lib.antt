@@ -6,3 +6,4 @@ mod Walk
 mod Numbers
 mod Parts
 mod Moments
+mod Timestamps

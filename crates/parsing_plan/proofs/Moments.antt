@@ -1,11 +1,12 @@
 -- The moment of a line that has the layout of a plan.
 use Rattle.std.proofs.Common.{◌≡◌, ◌≤◌, ◌<◌, ◌+◌, ◌*◌, ◌∙◌, ℕ, false, List, [], length, drop, Option, Some, None, Ok, refl, ap, arith, pos, ℤ}
-use Rattle.std.specs.Prelude.{IfSome, IsSome, ◌*ℤ◌}
+use Rattle.std.specs.Prelude.{IsSome, ◌*ℤ◌}
 use Rattle.std.specs.Option.{unwrap_or}
 use Rattle.std.specs.Int.{is_in_range}
 use Rattle.std.proofs.lemmas.List.{drop_all}
 use Rattle.calendar_count.specs.Calendar.{is_year}
 use Rattle.calendar_count.specs.Month.{month_number}
+use Rattle.calendar_count.specs.declared.weekday.Weekday.{Weekday}
 use Rattle.calendar_clock.specs.Time.{time_of}
 use Rattle.datetime_wall.specs.Wall.{Shown, wall_clock}
 use Rattle.parsing_resolution.specs.Resolution.{date_of, permitted_time_of}
@@ -35,14 +36,14 @@ use Rattle.parsing_plan.specs.Plan.{IsLayoutOf, IsSplitOf, beginning}
 -- ---- the record
 
 -- where there are places for all of a date and a time of day
-abbrev filled : Layout → Values → Record → Record
-filled l v r = record r { year = Some (pos v.year); month = Some v.month; day = Some v.day; hour_24 = Some v.hour; minute = Some v.minute; second = Some v.second; offset_hour = read_or l.offset_hour (Some (under v.is_negative v.offset_hour)) r.offset_hour; offset_is_negative = read_or l.offset_hour v.is_negative r.offset_is_negative; offset_minute = read_or l.offset_minute (Some (pos v.offset_minute)) r.offset_minute }
+abbrev filled : Layout → Values → Option Weekday → Record → Record
+filled l v weekday r = record r { year = Some (pos v.year); month = Some v.month; weekday = weekday; day = Some v.day; hour_24 = Some v.hour; minute = Some v.minute; second = Some v.second; offset_hour = read_or l.offset_hour (Some (under v.is_negative v.offset_hour)) r.offset_hour; offset_is_negative = read_or l.offset_hour v.is_negative r.offset_is_negative; offset_minute = read_or l.offset_minute (Some (pos v.offset_minute)) r.offset_minute }
 
 read_here : {A : Type 0} (o : Option ℕ) (new old : A) → IsSome o → read_or o new old ≡ new
 read_here None new old h = absurd (cc)
 read_here (Some place) new old h = refl
 
-filled_is : (l : Layout) (v : Values) (r : Record) → IsSome l.year → IsSome l.month → IsSome l.day → IsSome l.hour → IsSome l.minute → IsSome l.second → with_values l v r ≡ filled l v r
+filled_is : (l : Layout) (v : Values) (r : Record) → IsSome l.year → IsSome l.month → IsSome l.day → IsSome l.hour → IsSome l.minute → IsSome l.second → with_values l v r ≡ filled l v (read_or l.weekday (Some v.weekday) r.weekday) r
 filled_is l v r a b c d e f =
     rw (read_here l.year (Some (pos v.year)) r.year a, read_here l.month (Some v.month) r.month b, read_here l.day (Some v.day) r.day c, read_here l.hour (Some v.hour) r.hour_24 d, read_here l.minute (Some v.minute) r.minute e, read_here l.second (Some v.second) r.second f) refl
 
@@ -73,18 +74,18 @@ bare_fraction : (assumed : Option ℤ) (n : ℕ) → IsBare (record (beginning a
 bare_fraction None n = record { ordinal = refl; unix = refl; leap = refl }
 bare_fraction (Some offset) n = record { ordinal = refl; unix = refl; leap = refl }
 
-dated : (l : Layout) (v : Values) (r : Record) (day time fraction : ℕ) (offset : ℤ) → IsBare r → unwrap_or r.subsecond 0 ≡ fraction → calendar_date_of (pos v.year) (month_number v.month) v.day ≡ Ok day → time_of v.hour v.minute v.second fraction ≡ Ok time → offset_named (filled l v r) ≡ Ok offset → moment_named (filled l v r) ≡ Ok (record { wall = wall_clock day time; offset = offset })
+dated : (l : Layout) (v : Values) (w : Option Weekday) (r : Record) (day time fraction : ℕ) (offset : ℤ) → IsBare r → unwrap_or r.subsecond 0 ≡ fraction → calendar_date_of (pos v.year) (month_number v.month) v.day ≡ Ok day → time_of v.hour v.minute v.second fraction ≡ Ok time → offset_named (filled l v w r) ≡ Ok offset → moment_named (filled l v w r) ≡ Ok (record { wall = wall_clock day time; offset = offset })
 unfolding named_moment dated_moment named_wall named_date by_ordinal by_day year_of named_time hour_of finer_parts permitted_time_of leap_checked
-dated l v r day time fraction offset bare is in_day in_time in_offset = rw (bare.unix, bare.ordinal, bare.leap, is, in_day, in_time, in_offset) refl
+dated l v w r day time fraction offset bare is in_day in_time in_offset = rw (bare.unix, bare.ordinal, bare.leap, is, in_day, in_time, in_offset) refl
 
 -- ---- the line
 
 values_of : (l : Layout) (line : List ℕ) (assumed : Option ℤ) (year month day minute second : ℕ) (offset : ℤ) → SaysDate l line year month day → SaysClock l line minute second → SaysOffset l line assumed offset → Values
-values_of l line assumed year month day minute second offset d t o = record { year = year; month = d.name; day = day; hour = t.hour; minute = t.minute; second = second; is_negative = o.values.is_negative; offset_hour = o.values.offset_hour; offset_minute = o.values.offset_minute }
+values_of l line assumed year month day minute second offset d t o = record { year = year; month = d.name; weekday = d.weekday; day = day; hour = t.hour; minute = t.minute; second = second; is_negative = o.values.is_negative; offset_hour = o.values.offset_hour; offset_minute = o.values.offset_minute }
 
 all_says : (l : Layout) (line : List ℕ) (assumed : Option ℤ) (year month day minute second : ℕ) (offset : ℤ) (d : SaysDate l line year month day) (t : SaysClock l line minute second) (o : SaysOffset l line assumed offset) → HasText l line → Says l line (values_of l line assumed year month day minute second offset d t o)
 unfolding values_of
-all_says l line assumed year month day minute second offset d t o text = record { text = text; year = d.year_says; month = d.month_says; day = d.day_says; hour = t.hour_says; minute = t.minute_says; second = t.second_says; offset_hour = o.hour_says; offset_minute = o.minute_says }
+all_says l line assumed year month day minute second offset d t o text = record { text = text; year = d.year_says; month = d.month_says; weekday = d.weekday_says; day = d.day_says; hour = t.hour_says; minute = t.minute_says; second = t.second_says; offset_hour = o.hour_says; offset_minute = o.minute_says }
 
 moment_there : (l : Layout) (line : List ℕ) (assumed : Option ℤ) (year month day minute second : ℕ) (offset : ℤ) (d : SaysDate l line year month day) (t : SaysClock l line minute second) (o : SaysOffset l line assumed offset) (f : Fields) → HaveNumbers f year month day minute second 0 offset
     → moment_named (with_values l (values_of l line assumed year month day minute second offset d t o) (beginning assumed)) ≡ Ok (moment_of f)
@@ -92,18 +93,19 @@ unfolding values_of
 moment_there l line assumed year month day minute second offset d t o f n =
     let v : Values = values_of l line assumed year month day minute second offset d t o in
     let r : Record = beginning assumed in
-    let same : with_values l v r ≡ filled l v r = filled_is l v r d.year_there d.month_there d.day_there t.hour_there t.minute_there t.second_there in
+    let w : Option Weekday = read_or l.weekday (Some v.weekday) r.weekday in
+    let same : with_values l v r ≡ filled l v w r = filled_is l v r d.year_there d.month_there d.day_there t.hour_there t.minute_there t.second_there in
     let in_day : calendar_date_of (pos year) (month_number d.name) day ≡ Ok (day_of_fields f) = rw d.number_is (calendar_date (pos year) month day (day_of_fields f) (fields_date f year month day minute second 0 offset n)) in
     let numbers : HaveNumbers f year month day (t.hour * 60 + t.minute) second 0 offset = rw t.minute_is at n in
     let in_time : time_of t.hour t.minute second 0 ≡ Ok (time_of_fields f) = fields_time f year month day t.hour t.minute second 0 offset numbers t.within_a_day t.within_an_hour (omega arith) in
-    let in_offset : offset_named (filled l v r) ≡ Ok (pos 60 *ℤ f.offset) = rw n.same_offset o.offset_is in
-    ap (λ (x : Record). moment_named x) same ∙ dated l v r (day_of_fields f) (time_of_fields f) 0 (pos 60 *ℤ f.offset) (bare_beginning assumed) (no_fraction assumed) in_day in_time in_offset ∙ ap (λ (x : Shown). Ok x) (moment_is f)
+    let in_offset : offset_named (filled l v w r) ≡ Ok (pos 60 *ℤ f.offset) = rw n.same_offset o.offset_is in
+    ap (λ (x : Record). moment_named x) same ∙ dated l v w r (day_of_fields f) (time_of_fields f) 0 (pos 60 *ℤ f.offset) (bare_beginning assumed) (no_fraction assumed) in_day in_time in_offset ∙ ap (λ (x : Shown). Ok x) (moment_is f)
 
-whole_is : (m : Meaning) (defaults : Option Record) (line : List ℕ) (r : Record) → m (starting defaults) line ≡ Ok (r, []) → whole m defaults line ≡ Ok r
+pub whole_is : (m : Meaning) (defaults : Option Record) (line : List ℕ) (r : Record) → m (starting defaults) line ≡ Ok (r, []) → whole m defaults line ≡ Ok r
 unfolding whole
 whole_is m defaults line r e = rw e refl
 
-line_read : (l : Layout) (line : List ℕ) (assumed : Option ℤ) (year month day minute second : ℕ) (offset : ℤ) → HasText l line → length line ≡ l.length → SaysDate l line year month day → SaysClock l line minute second → SaysOffset l line assumed offset
+pub line_read : (l : Layout) (line : List ℕ) (assumed : Option ℤ) (year month day minute second : ℕ) (offset : ℤ) → HasText l line → length line ≡ l.length → SaysDate l line year month day → SaysClock l line minute second → SaysOffset l line assumed offset
     → (f : Fields) → HaveNumbers f year month day minute second 0 offset → (m : Meaning) (defaults : Option Record) → IsLayoutOf m l → starting defaults ≡ beginning assumed → names moment_named (whole m defaults line) ≡ Ok (moment_of f)
 line_read l line assumed year month day minute second offset text long d t o f n m defaults plan start =
     let v : Values = values_of l line assumed year month day minute second offset d t o in
@@ -112,28 +114,23 @@ line_read l line assumed year month day minute second offset text long d t o f n
     let all : m (starting defaults) line ≡ Ok (with_values l v (beginning assumed), []) = rw (← start, ← nothing) read in
     rw (whole_is m defaults line (with_values l v (beginning assumed)) all) (moment_there l line assumed year month day minute second offset d t o f n)
 
-pub lines_read : (l : Layout) (line : List ℕ) (assumed : Option ℤ) (year month day minute second : ℕ) (offset : ℤ) → HasText l line → length line ≡ l.length → SaysDate l line year month day → SaysClock l line minute second → SaysOffset l line assumed offset
-    → (o : Option Fields) → IfSome o (λ f. HaveNumbers f year month day minute second 0 offset) → (m : Meaning) (defaults : Option Record) → IsLayoutOf m l → starting defaults ≡ beginning assumed → IfSome o (λ f. names moment_named (whole m defaults line) ≡ Ok (moment_of f))
-lines_read l line assumed year month day minute second offset text long d t o None n m defaults plan start = tt
-lines_read l line assumed year month day minute second offset text long d t o (Some f) n m defaults plan start = line_read l line assumed year month day minute second offset text long d t o f n m defaults plan start
-
 -- ---- the line with a fraction
 
 -- the places of a date and a time of day are in front, those of an offset behind
-both_filled : (front back : Layout) (v : Values) (r : Record) (n : ℕ) → HasNoOffset front → HasNoClock back → IsSome front.year → IsSome front.month → IsSome front.day → IsSome front.hour → IsSome front.minute → IsSome front.second → with_values back v (record (with_values front v r) { subsecond = Some n }) ≡ filled back v (record r { subsecond = Some n })
+both_filled : (front back : Layout) (v : Values) (r : Record) (n : ℕ) → HasNoOffset front → HasNoClock back → IsSome front.year → IsSome front.month → IsSome front.day → IsSome front.hour → IsSome front.minute → IsSome front.second → with_values back v (record (with_values front v r) { subsecond = Some n }) ≡ filled back v (read_or front.weekday (Some v.weekday) r.weekday) (record r { subsecond = Some n })
 both_filled front back v r n none clock a b c d e f =
-    rw (none.no_hour, none.no_minute, clock.no_year, clock.no_month, clock.no_day, clock.no_hour, clock.no_minute, clock.no_second, read_here front.year (Some (pos v.year)) r.year a, read_here front.month (Some v.month) r.month b, read_here front.day (Some v.day) r.day c, read_here front.hour (Some v.hour) r.hour_24 d, read_here front.minute (Some v.minute) r.minute e, read_here front.second (Some v.second) r.second f) refl
+    rw (none.no_hour, none.no_minute, clock.no_year, clock.no_month, clock.no_weekday, clock.no_day, clock.no_hour, clock.no_minute, clock.no_second, read_here front.year (Some (pos v.year)) r.year a, read_here front.month (Some v.month) r.month b, read_here front.day (Some v.day) r.day c, read_here front.hour (Some v.hour) r.hour_24 d, read_here front.minute (Some v.minute) r.minute e, read_here front.second (Some v.second) r.second f) refl
 
 split_values : (front back : Layout) (line rest : List ℕ) (assumed : Option ℤ) (year month day minute second : ℕ) (offset : ℤ) → SaysDate front line year month day → SaysClock front line minute second → SaysOffset back rest assumed offset → Values
-split_values front back line rest assumed year month day minute second offset d t o = record { year = year; month = d.name; day = day; hour = t.hour; minute = t.minute; second = second; is_negative = o.values.is_negative; offset_hour = o.values.offset_hour; offset_minute = o.values.offset_minute }
+split_values front back line rest assumed year month day minute second offset d t o = record { year = year; month = d.name; weekday = d.weekday; day = day; hour = t.hour; minute = t.minute; second = second; is_negative = o.values.is_negative; offset_hour = o.values.offset_hour; offset_minute = o.values.offset_minute }
 
 front_says : (front : Layout) (line rest : List ℕ) (assumed : Option ℤ) (back : Layout) (year month day minute second : ℕ) (offset : ℤ) (d : SaysDate front line year month day) (t : SaysClock front line minute second) (o : SaysOffset back rest assumed offset) → HasNoOffset front → HasText front line → Says front line (split_values front back line rest assumed year month day minute second offset d t o)
 unfolding split_values
-front_says front line rest assumed back year month day minute second offset d t o none text = record { text = text; year = d.year_says; month = d.month_says; day = d.day_says; hour = t.hour_says; minute = t.minute_says; second = t.second_says; offset_hour = rw none.no_hour tt; offset_minute = rw none.no_minute tt }
+front_says front line rest assumed back year month day minute second offset d t o none text = record { text = text; year = d.year_says; month = d.month_says; weekday = d.weekday_says; day = d.day_says; hour = t.hour_says; minute = t.minute_says; second = t.second_says; offset_hour = rw none.no_hour tt; offset_minute = rw none.no_minute tt }
 
 back_says : (front : Layout) (line rest : List ℕ) (assumed : Option ℤ) (back : Layout) (year month day minute second : ℕ) (offset : ℤ) (d : SaysDate front line year month day) (t : SaysClock front line minute second) (o : SaysOffset back rest assumed offset) → HasNoClock back → HasText back rest → Says back rest (split_values front back line rest assumed year month day minute second offset d t o)
 unfolding split_values
-back_says front line rest assumed back year month day minute second offset d t o none text = record { text = text; year = rw none.no_year tt; month = rw none.no_month tt; day = rw none.no_day tt; hour = rw none.no_hour tt; minute = rw none.no_minute tt; second = rw none.no_second tt; offset_hour = o.hour_says; offset_minute = o.minute_says }
+back_says front line rest assumed back year month day minute second offset d t o none text = record { text = text; year = rw none.no_year tt; month = rw none.no_month tt; weekday = rw none.no_weekday tt; day = rw none.no_day tt; hour = rw none.no_hour tt; minute = rw none.no_minute tt; second = rw none.no_second tt; offset_hour = o.hour_says; offset_minute = o.minute_says }
 
 split_moment : (front : Layout) (line rest : List ℕ) (assumed : Option ℤ) (back : Layout) (year month day minute second nanosecond : ℕ) (offset : ℤ) (d : SaysDate front line year month day) (t : SaysClock front line minute second) (o : SaysOffset back rest assumed offset) (f : Fields) → HasNoOffset front → HasNoClock back → nanosecond < 1_000_000_000 → HaveNumbers f year month day minute second nanosecond offset
     → moment_named (with_values back (split_values front back line rest assumed year month day minute second offset d t o) (record (with_values front (split_values front back line rest assumed year month day minute second offset d t o) (beginning assumed)) { subsecond = Some nanosecond })) ≡ Ok (moment_of f)
@@ -141,14 +138,15 @@ unfolding split_values
 split_moment front line rest assumed back year month day minute second nanosecond offset d t o f none clock bound n =
     let v : Values = split_values front back line rest assumed year month day minute second offset d t o in
     let r : Record = record (beginning assumed) { subsecond = Some nanosecond } in
+    let w : Option Weekday = read_or front.weekday (Some v.weekday) (beginning assumed).weekday in
     let same = both_filled front back v (beginning assumed) nanosecond none clock d.year_there d.month_there d.day_there t.hour_there t.minute_there t.second_there in
     let in_day : calendar_date_of (pos year) (month_number d.name) day ≡ Ok (day_of_fields f) = rw d.number_is (calendar_date (pos year) month day (day_of_fields f) (fields_date f year month day minute second nanosecond offset n)) in
     let numbers : HaveNumbers f year month day (t.hour * 60 + t.minute) second nanosecond offset = rw t.minute_is at n in
     let in_time : time_of t.hour t.minute second nanosecond ≡ Ok (time_of_fields f) = fields_time f year month day t.hour t.minute second nanosecond offset numbers t.within_a_day t.within_an_hour bound in
-    let in_offset : offset_named (filled back v r) ≡ Ok (pos 60 *ℤ f.offset) = rw n.same_offset o.offset_is in
-    ap (λ (x : Record). moment_named x) same ∙ dated back v r (day_of_fields f) (time_of_fields f) nanosecond (pos 60 *ℤ f.offset) (bare_fraction assumed nanosecond) refl in_day in_time in_offset ∙ ap (λ (x : Shown). Ok x) (moment_is f)
+    let in_offset : offset_named (filled back v w r) ≡ Ok (pos 60 *ℤ f.offset) = rw n.same_offset o.offset_is in
+    ap (λ (x : Record). moment_named x) same ∙ dated back v w r (day_of_fields f) (time_of_fields f) nanosecond (pos 60 *ℤ f.offset) (bare_fraction assumed nanosecond) refl in_day in_time in_offset ∙ ap (λ (x : Shown). Ok x) (moment_is f)
 
-split_read : (front back : Layout) (line rest : List ℕ) (assumed : Option ℤ) (year month day minute second nanosecond : ℕ) (offset : ℤ) → HasNoOffset front → HasNoClock back → front.length ≤ length line → HasText front line → taken (fraction_between 1 32) (drop front.length line) ≡ Some (nanosecond, rest) → nanosecond < 1_000_000_000 → length rest ≡ back.length → HasText back rest → SaysDate front line year month day → SaysClock front line minute second → SaysOffset back rest assumed offset
+pub split_read : (front back : Layout) (line rest : List ℕ) (assumed : Option ℤ) (year month day minute second nanosecond : ℕ) (offset : ℤ) → HasNoOffset front → HasNoClock back → front.length ≤ length line → HasText front line → taken (fraction_between 1 32) (drop front.length line) ≡ Some (nanosecond, rest) → nanosecond < 1_000_000_000 → length rest ≡ back.length → HasText back rest → SaysDate front line year month day → SaysClock front line minute second → SaysOffset back rest assumed offset
     → (f : Fields) → HaveNumbers f year month day minute second nanosecond offset → (m : Meaning) (defaults : Option Record) → IsSplitOf m front back → starting defaults ≡ beginning assumed → names moment_named (whole m defaults line) ≡ Ok (moment_of f)
 split_read front back line rest assumed year month day minute second nanosecond offset none clock fits text fraction bound long back_text d t o f n m defaults plan start =
     let v : Values = split_values front back line rest assumed year month day minute second offset d t o in
@@ -156,8 +154,3 @@ split_read front back line rest assumed year month day minute second nanosecond 
     let read = was_read (m (starting defaults) line) _ (plan line v nanosecond rest fits (front_says front line rest assumed back year month day minute second offset d t o none text) fraction (omega (arith, long)) (back_says front line rest assumed back year month day minute second offset d t o clock back_text) (starting defaults)) in
     let all : m (starting defaults) line ≡ Ok (with_values back v (record (with_values front v (beginning assumed)) { subsecond = Some nanosecond }), []) = rw (← start, ← nothing) read in
     rw (whole_is m defaults line (with_values back v (record (with_values front v (beginning assumed)) { subsecond = Some nanosecond })) all) (split_moment front line rest assumed back year month day minute second nanosecond offset d t o f none clock bound n)
-
-pub splits_read : (front back : Layout) (line rest : List ℕ) (assumed : Option ℤ) (year month day minute second nanosecond : ℕ) (offset : ℤ) → HasNoOffset front → HasNoClock back → front.length ≤ length line → HasText front line → taken (fraction_between 1 32) (drop front.length line) ≡ Some (nanosecond, rest) → nanosecond < 1_000_000_000 → length rest ≡ back.length → HasText back rest → SaysDate front line year month day → SaysClock front line minute second → SaysOffset back rest assumed offset
-    → (o : Option Fields) → IfSome o (λ f. HaveNumbers f year month day minute second nanosecond offset) → (m : Meaning) (defaults : Option Record) → IsSplitOf m front back → starting defaults ≡ beginning assumed → IfSome o (λ f. names moment_named (whole m defaults line) ≡ Ok (moment_of f))
-splits_read front back line rest assumed year month day minute second nanosecond offset none clock fits text fraction bound long back_text d t o None n m defaults plan start = tt
-splits_read front back line rest assumed year month day minute second nanosecond offset none clock fits text fraction bound long back_text d t o (Some f) n m defaults plan start = split_read front back line rest assumed year month day minute second nanosecond offset none clock fits text fraction bound long back_text d t o f n m defaults plan start

@@ -1,53 +1,47 @@
 -- What stands at a place of a line, by what its pieces cut off there.
-use Rattle.std.proofs.Common.{◌≡◌, ◌≤◌, ◌<◌, ◌+◌, ◌-◌, ◌*◌, ◌∙◌, ◌==◌, ◌||◌, ℕ, Bool, true, false, List, ◌∷◌, take, drop, length, get_or, min, leb, Option, Some, None, Result, Ok, Err, refl, sym, ap, arith, pos}
-use Rattle.std.specs.Prelude.{nat_le, IfSome, option_map, if◌then◌else◌, ℤ, ◌*ℤ◌}
-use Rattle.std.specs.Borrow.{Bor}
+use Rattle.std.proofs.Common.{bit_and, ◌≡◌, ◌≤◌, ◌<◌, ◌+◌, ◌-◌, ◌*◌, ◌%◌, ◌∙◌, ◌==◌, ◌||◌, ◌&&◌, inl, inr, ℕ, Bool, true, false, List, [], ◌∷◌, take, drop, length, get_or, min, leb, Option, Some, None, Ok, refl, sym, ap, arith, pos}
+use Rattle.std.specs.Prelude.{nat_le, ◌⊎◌, nat_lt, IsTrue, IfSome, option_map, if◌then◌else◌, ℤ, ◌*ℤ◌}
 use Rattle.std.specs.Int.{is_in_range}
-use Rattle.std.specs.Str.Parse.{digits_value}
+use Rattle.std.proofs.lemmas.Nat.{and_mask}
 use Rattle.std.proofs.lemmas.Bool.Decides.{nat_tests}
 use Rattle.std.proofs.lemmas.List.{drop-drop, drop_more, get_or-drop, length-drop}
 use Rattle.std.specs.Char.{is_ascii_digit}
 use Rattle.calendar_count.specs.declared.month.Month.{Month}
-use Rattle.calendar_count.specs.Month.{month_number, IsMonthOf}
-use Rattle.calendar_count.specs.declared.component_range.ComponentRange.{ComponentRange}
-use Rattle.std.specs.Result.{result_ok}
+use Rattle.calendar_count.specs.declared.weekday.Weekday.{Weekday}
+use Rattle.calendar_count.specs.declared.weekday.Weekday.TheVariants as weekdays
+use Rattle.calendar_count.specs.Month.{month_number}
 use Rattle.description_date_modifiers.specs.declared.choices.Padding.TheVariants as padding
 use Rattle.parsing_pieces.proofs.Decimal.{digit_count_within}
-use Rattle.parsing_shapes.proofs.Longest.{taken_digits}
-use Rattle.parsing_pieces.specs.Pieces.{fraction, digit_run, nanoseconds_of, digit_count, digits, sign, byte_of, cut_view}
+use Rattle.parsing_shapes.proofs.Longest.{taken_digits, taken_exactly}
+use Rattle.parsing_shapes.proofs.SpaceLemmas.{taken_spaced}
+use Rattle.parsing_pieces.specs.Pieces.{fraction, digit_run, nanoseconds_of, digit_count, digits, sign, byte_of}
 use Rattle.parsing_resolution.specs.Resolution.{signed_offset_of}
 use Rattle.parsing_resolution.proofs.lemmas.Ranges.{offset_ranges}
-use Rattle.parsing_shapes.specs.Shape.{taken, fraction_between}
+use Rattle.parsing_shapes.specs.Shape.{taken, fraction_between, spaced_between, is_space}
 use Rattle.parsing_shapes.specs.Numbers.{offset_hour}
-use Rattle.parsing_shapes.specs.Names.{named, found, begins, short_months}
+use Rattle.parsing_shapes.specs.Names.{named, found, begins, short_months, short_weekdays}
 use Rattle.parsing_shapes.proofs.Components.{taken_offset_hour, taken_padded_exactly}
 use Rattle.parsing_shapes.proofs.NameLemmas.{apart, taken_named}
 use Rattle.parsing_components.specs.Ranged.{kept, between}
 use Rattle.parsing_components.specs.Read as read
 use Rattle.parsing_components.proofs.Entries.{month_entry}
+use Rattle.parsing_pieces.proofs.Decimal.{count_drop}
+use Rattle.parsing_pieces.proofs.Fixed.{some_if, digits_one}
+use Rattle.parsing_pieces.proofs.FractionDigits.{none_there}
+use Rattle.parsing_fields.specs.Written.{WriteFraction}
+use Rattle.std.proofs.lemmas.Bool.{cases_lt}
 use Rattle.parsing_plan.specs.Slot.{slot_piece}
 use Rattle.parsing_plan.specs.declared.bounds.Bounds.{Bounds}
 use Rattle.parsing_plan.specs.declared.layout.Layout.{Layout}
-use Rattle.parsing_plan.specs.Bounds.{LiesWithin, IsPair, HasPair, HoldText}
+use Rattle.parsing_plan.specs.Bounds.{LiesWithin, IsPair, IsSixty, HasPair, HasSixty, IsSpaced, HasSpaced, HoldText, BeginsApart}
 use Rattle.parsing_plan.specs.Layout.{HasText}
-use Rattle.parsing_plan.specs.Parts.{WritesAt, WritesOffset, SaysMonth, IsNameOf}
+use Rattle.parsing_plan.specs.Parts.{WritesAt, WritesDay, WritesOffset, SaysMonth, SaysWeekday, IsNameOf, IsWeekdayNameOf}
 use Rattle.parsing_pieces.proofs.Fixed.{digits_two, digits_four}
 
 -- ---- numbers
 
 some_same : {A : Type 0} (x y : A) → Some x ≡ Some y → x ≡ y
 some_same x y e = let same : x ≡ y = cc in same
-
-cut_behind : (b : Bool) (cut said : ℕ × List ℕ) → (if b then Some cut else None) ≡ Some said → (if b then Some cut else None) ≡ Some (said.0, cut.1)
-cut_behind true cut said e = ap (λ (p : ℕ × List ℕ). Some (p.0, cut.1)) (some_same cut said e)
-cut_behind false cut said e = absurd cc
-
-writes : (n place : ℕ) (line rest : List ℕ) (x : ℕ) → digits n (drop place line) ≡ Some (x, rest) → WritesAt n line place x
-unfolding digits
-writes n place line rest x e = cut_behind (nat_le n (digit_count (drop place line))) (digits_value 10 (take n (drop place line)), drop n (drop place line)) (x, rest) e ∙ ap (λ (b : List ℕ). Some (x, b)) (drop-drop n place line)
-
-pub writes_cut : (n place : ℕ) (line front : List ℕ) (cut : ℕ × Bor (List ℕ)) → front ≡ drop place line → cut_view (Some cut) ≡ digits n front → WritesAt n line place cut.0
-writes_cut n place line front cut at e = writes n place line cut.1.now cut.0 (rw at at (sym e))
 
 is_digit : (c : ℕ) → 48 ≤ c → c ≤ 57 → is_ascii_digit c ≡ true
 is_digit c low high = grind (arith, nat_tests)
@@ -81,11 +75,79 @@ pair_there b line n place long within p =
       second_high = omega (arith, second.1, p.second_high);
     }
 
+pub sixty_there : (b : Bounds) (line : List ℕ) (n place : ℕ) → n ≤ length line → LiesWithin b line n → IsSixty b n place → HasSixty line place
+sixty_there b line n place long within p = record {
+  pair = pair_there b line n place long within p.pair;
+  tens = omega (arith, (within place (omega (arith, p.pair.room))).1, p.tens);
+}
+
 pub text_there : (b : Bounds) (l : Layout) (line : List ℕ) → LiesWithin b line l.length → HoldText b l → HasText l line
 text_there b l line within hold k e =
     let text = hold k e in
     let here = within k text.inside in
     omega (arith, here.0, here.1, text.low_is, text.high_is)
+
+-- ---- two bytes of which the first may be a space
+
+spaced_one : (c d : ℕ) (rest : List ℕ) → c ≡ 32 → 48 ≤ d → d ≤ 57 → taken (spaced_between 2 2) (c ∷ d ∷ rest) ≡ Some (d - 48, rest)
+spaced_one c d rest is low high =
+    let space : is_space c ≡ true = grind (arith, nat_tests) in
+    let other : is_space d ≡ false = grind (arith, nat_tests) in
+    let more : leb 1 (length (d ∷ rest)) ≡ true = at_least 1 (length (d ∷ rest)) (omega arith) in
+    let one : digits 1 (d ∷ rest) ≡ Some (d - 48, rest) = digits_one (d ∷ rest) ∙ rw (more, is_digit d low high) refl in
+    taken_spaced 2 2 (c ∷ d ∷ rest) (omega arith) ∙ rw (space, other) (taken_exactly 1 (d ∷ rest) ∙ one)
+
+spaced_two : (c d : ℕ) (rest : List ℕ) → 48 ≤ c → c ≤ 57 → 48 ≤ d → d ≤ 57 → taken (spaced_between 2 2) (c ∷ d ∷ rest) ≡ Some ((c - 48) * 10 + (d - 48), rest)
+spaced_two c d rest low high second_low second_high =
+    let other : is_space c ≡ false = grind (arith, nat_tests) in
+    let more : leb 2 (length (c ∷ d ∷ rest)) ≡ true = at_least 2 (length (c ∷ d ∷ rest)) (omega arith) in
+    let two : digits 2 (c ∷ d ∷ rest) ≡ Some ((c - 48) * 10 + (d - 48), rest) = digits_two (c ∷ d ∷ rest) ∙ rw (more, is_digit c low high, is_digit d second_low second_high) refl in
+    taken_spaced 2 2 (c ∷ d ∷ rest) (omega arith) ∙ rw other (taken_exactly 2 (c ∷ d ∷ rest) ∙ two)
+
+two_there : (line : List ℕ) (place : ℕ) → place + 2 ≤ length line → drop place line ≡ get_or line place 0 ∷ get_or line (place + 1) 0 ∷ drop (place + 2) line
+two_there line place room =
+    let second : place + 1 + 1 ≡ place + 2 = omega arith in
+    drop_more line place 0 (omega (arith, room)) ∙ ap (λ (xs : List ℕ). get_or line place 0 ∷ xs) (drop_more line (place + 1) 0 (omega (arith, room)) ∙ rw second refl)
+
+-- the low half of a byte
+low_half : (c : ℕ) → bit_and c 15 ≡ c % 16
+low_half c = and_mask c 4
+
+pub day_spaced : (line : List ℕ) (place : ℕ) → HasSpaced line place → (48 ≤ get_or line place 0) ⊎ (get_or line place 0 ≡ 32) → WritesDay true line place (bit_and (get_or line place 0) 15 * 10 + (get_or line (place + 1) 0 - 48))
+day_spaced line place h (inl low) =
+    let c : ℕ = get_or line place 0 in
+    let tens : bit_and c 15 ≡ c - 48 = omega (arith, low_half c, low, h.first_high) in
+    rw tens (ap (taken (spaced_between 2 2)) (two_there line place h.room) ∙ spaced_two c (get_or line (place + 1) 0) (drop (place + 2) line) low h.first_high h.second_low h.second_high)
+day_spaced line place h (inr is) =
+    let c : ℕ = get_or line place 0 in
+    let d : ℕ = get_or line (place + 1) 0 in
+    let tens : bit_and c 15 * 10 + (d - 48) ≡ d - 48 = omega (arith, low_half c, is) in
+    rw tens (ap (taken (spaced_between 2 2)) (two_there line place h.room) ∙ spaced_one c d (drop (place + 2) line) is h.second_low h.second_high)
+
+pub day_of_digits : (line : List ℕ) (place : ℕ) → HasSpaced line place → 48 ≤ get_or line place 0 → WritesDay false line place (bit_and (get_or line place 0) 15 * 10 + (get_or line (place + 1) 0 - 48))
+day_of_digits line place h low =
+    let c : ℕ = get_or line place 0 in
+    let tens : bit_and c 15 ≡ c - 48 = omega (arith, low_half c, low, h.first_high) in
+    rw tens (two_written line place (record { room = h.room; first_low = low; first_high = h.first_high; second_low = h.second_low; second_high = h.second_high }))
+
+pub day_either : (b : Bool) (line : List ℕ) (place day : ℕ) → WritesDay true line place day → (48 ≤ get_or line place 0 → WritesDay false line place day) → (b ≡ false → 48 ≤ get_or line place 0) → WritesDay b line place day
+day_either true line place day spaced digit low = spaced
+day_either false line place day spaced digit low = digit (low refl)
+
+pub tens_there : (b : Bounds) (line : List ℕ) (n place : ℕ) → LiesWithin b line n → IsSpaced b n place → 48 ≤ get_or b.low place 0 → 48 ≤ get_or line place 0
+tens_there b line n place within p low = omega (arith, (within place (omega (arith, p.room))).0, low)
+
+pub spaced_there : (b : Bounds) (line : List ℕ) (n place : ℕ) → n ≤ length line → LiesWithin b line n → IsSpaced b n place → HasSpaced line place
+spaced_there b line n place long within p =
+    let first = within place (omega (arith, p.room)) in
+    let second = within (place + 1) (omega (arith, p.room)) in
+    record {
+      room = omega (arith, long, p.room);
+      first_low = omega (arith, first.0, p.first_low);
+      first_high = omega (arith, first.1, p.first_high);
+      second_low = omega (arith, second.0, p.second_low);
+      second_high = omega (arith, second.1, p.second_high);
+    }
 
 -- ---- slots of numbers in their ranges
 
@@ -96,10 +158,6 @@ pub slot_number : {A : Type 0} (low high n : ℕ) (make : ℕ → A) (o : Option
 slot_number low high n make o rest e a b = rw (e, in_range low high n a b) refl
 
 -- ---- months
-
-pub month_tried : (r : Result Month ComponentRange) (month : Month) (n : ℕ) → IsMonthOf n r → result_ok r ≡ Some month → month_number month ≡ n
-month_tried (Ok x) month n is e = ap month_number (sym (some_same x month e)) ∙ is
-month_tried (Err f) month n is e = absurd cc
 
 pub month_at : (month : Month) (n place : ℕ) (line : List ℕ) → month_number month ≡ n → WritesAt 2 line place n → SaysMonth false line place n
 unfolding slot_piece
@@ -128,6 +186,25 @@ three_there line place room =
 pub month_named : (place number : ℕ) (line : List ℕ) (month : Month) → place + 3 ≤ length line → IsNameOf month (get_or line place 0) (get_or line (place + 1) 0) (get_or line (place + 2) 0) → number ≡ month_number month → SaysMonth true line place number
 month_named place number line month room name is = named_there place (get_or line place 0) (get_or line (place + 1) 0) (get_or line (place + 2) 0) number line (drop (place + 3) line) month (three_there line place room) name is
 
+apart_weekdays : apart true short_weekdays ≡ true
+unfolding begins
+apart_weekdays = refl
+
+-- ---- weekdays
+
+weekday_there : (place first second third : ℕ) (line rest : List ℕ) (weekday : Weekday) → drop place line ≡ first ∷ second ∷ third ∷ rest → IsWeekdayNameOf weekday first second third → SaysWeekday (Some place) line
+unfolding slot_piece
+weekday_there place first second third line rest weekday e name =
+    let here : taken (named true short_weekdays) (drop place line) ≡ Some (weekday, rest) = taken_named true short_weekdays (drop place line) apart_weekdays ∙ ap (found true short_weekdays) e ∙ name rest in
+    let behind : rest ≡ drop (place + 3) line = sym (ap (drop 3) e) ∙ drop-drop 3 place line in
+    record { weekday = weekday; says = rw (here, behind) refl }
+
+pub weekday_named : (place : ℕ) (line : List ℕ) (weekday : Weekday) → place + 3 ≤ length line → IsWeekdayNameOf weekday (get_or line place 0) (get_or line (place + 1) 0) (get_or line (place + 2) 0) → SaysWeekday (Some place) line
+weekday_named place line weekday room name = weekday_there place (get_or line place 0) (get_or line (place + 1) 0) (get_or line (place + 2) 0) line (drop (place + 3) line) weekday (three_there line place room) name
+
+pub no_weekday : (line : List ℕ) → SaysWeekday None line
+no_weekday line = record { weekday = weekdays.Monday; says = tt }
+
 -- ---- offsets
 
 small : (n high : ℕ) → n ≤ high → nat_le n high ≡ true
@@ -153,10 +230,6 @@ offset_written line hour minute hours minutes is_negative offset lt sign minus i
       offset_is = is;
     }
 
-pub offsets_written : (line : List ℕ) (hour minute hours minutes : ℕ) (is_negative : Bool) (o : Option ℤ) → hour < length line → ((get_or line hour 0 == 43) || (get_or line hour 0 == 45)) ≡ true → is_negative ≡ (get_or line hour 0 == 45) → WritesAt 2 line (hour + 1) hours → WritesAt 2 line minute minutes → IfSome o (λ offset. signed_offset_of is_negative hours minutes ≡ Ok (pos 60 *ℤ offset)) → IfSome o (WritesOffset line hour minute)
-offsets_written line hour minute hours minutes is_negative None lt sign minus in_hours in_minutes is = tt
-offsets_written line hour minute hours minutes is_negative (Some offset) lt sign minus in_hours in_minutes is = offset_written line hour minute hours minutes is_negative offset lt sign minus in_hours in_minutes is
-
 -- ---- fractions
 
 count_short : (count m : ℕ) → count ≤ m → min count m ≡ count
@@ -175,3 +248,61 @@ run_taken false line rest n is e few =
 pub fraction_taken : (line rest : List ℕ) (n : ℕ) → fraction line ≡ Some (n, rest) → length line ≤ length rest + 9 → taken (fraction_between 1 32) line ≡ Some (n, rest)
 unfolding fraction digit_run
 fraction_taken line rest n e few = run_taken (digit_count line == 0) line rest n refl e few
+
+-- so many digits, behind which there is none
+digits_end : (line : List ℕ) (place count nanosecond : ℕ) → 0 < count → count ≤ 32 → digits 1 (drop (place + count) line) ≡ None → WriteFraction (drop (place + count - count) line) count nanosecond → taken (fraction_between 1 32) (drop place line) ≡ Some (nanosecond, drop (place + count) line)
+digits_end line place count nanosecond some few ends w =
+    let at : place + count - count ≡ place = omega arith in
+    let enough : count ≤ digit_count (drop place line) = rw at at w.enough in
+    let value : nanosecond ≡ nanoseconds_of (take count (drop place line)) = rw at at w.value in
+    let left : digit_count (drop count (drop place line)) ≡ 0 = rw (drop-drop count place line) (none_there (drop (place + count) line) ends) in
+    let is : digit_count (drop place line) ≡ count = omega (arith, count_drop count (drop place line) enough, left) in
+    let there : nat_le 1 count ≡ true = grind (arith, nat_tests) in
+    taken_digits nanoseconds_of 1 32 (drop place line) (omega arith) ∙ rw (is, there, count_short count 32 few, value, drop-drop count place line) refl
+
+pub digits_ended : (line : List ℕ) (place count : ℕ) (o : Option ℕ) → 0 < count → count ≤ 32 → digits 1 (drop (place + count) line) ≡ None → IfSome o (WriteFraction (drop (place + count - count) line) count) → IfSome o (λ n. taken (fraction_between 1 32) (drop place line) ≡ Some (n, drop (place + count) line))
+digits_ended line place count None some few ends w = tt
+digits_ended line place count (Some n) some few ends w = digits_end line place count n some few ends w
+
+run_rest : (b : Bool) (line rest : List ℕ) (n : ℕ) → (digit_count line == 0) ≡ b → option_map {T = List ℕ × List ℕ} {U = ℕ × List ℕ} (λ p. (nanoseconds_of p.0, p.1)) (if b then None else Some (take (digit_count line) line, drop (digit_count line) line)) ≡ Some (n, rest) → rest ≡ drop (length line - length rest) line
+run_rest true line rest n is e = absurd cc
+run_rest false line rest n is e =
+    let count : ℕ = digit_count line in
+    let cut : (nanoseconds_of (take count line), drop count line) ≡ (n, rest) = some_same (nanoseconds_of (take count line), drop count line) (n, rest) e in
+    let behind : drop count line ≡ rest = ap (λ (p : ℕ × List ℕ). p.1) cut in
+    let same : length line - length rest ≡ count = omega (arith, length-drop count line, ap length behind, digit_count_within line) in
+    rw same (sym behind)
+
+-- what is left behind a fraction is the end of the bytes
+fraction_rest : (line rest : List ℕ) (n : ℕ) → fraction line ≡ Some (n, rest) → rest ≡ drop (length line - length rest) line
+unfolding fraction digit_run
+fraction_rest line rest n e = run_rest (digit_count line == 0) line rest n refl e
+
+pub fraction_ended : (line rest : List ℕ) (place count n : ℕ) → fraction (drop place line) ≡ Some (n, rest) → length (drop place line) ≤ length rest + 9 → length rest + place + count ≡ length line → taken (fraction_between 1 32) (drop place line) ≡ Some (n, drop (place + count) line)
+fraction_ended line rest place count n e few long =
+    let left : length (drop place line) - length rest ≡ count = omega (arith, length-drop place line) in
+    let is : rest ≡ drop (place + count) line = fraction_rest (drop place line) rest n e ∙ ap (λ (k : ℕ). drop k (drop place line)) left ∙ drop-drop count place line in
+    fraction_taken (drop place line) rest n e few ∙ ap (λ (xs : List ℕ). Some (n, xs)) is
+
+-- ---- what stands behind a fraction
+
+apart_byte : (c low high : ℕ) → IsTrue (nat_lt high 48 || nat_lt 57 low) → low ≤ c → c ≤ high → is_ascii_digit c ≡ false
+apart_byte c low high apart a b = grind (arith, nat_tests)
+
+no_digit : (q p : Bool) (v : ℕ) (rest : List ℕ) → p ≡ false → some_if (q && p) v rest ≡ None
+no_digit true p v rest e = rw e refl
+no_digit false p v rest e = refl
+
+nothing_there : (rest : List ℕ) → length rest ≡ 0 → digits 1 rest ≡ None
+unfolding digits
+nothing_there [] e = refl
+nothing_there (x ∷ xs) e = absurd (omega arith)
+
+pub no_digit_there : (b : Bounds) (l : Layout) (rest : List ℕ) → BeginsApart b l → length rest ≡ l.length → LiesWithin b rest l.length → digits 1 rest ≡ None
+no_digit_there b l rest apart long within = elim (cases_lt 0 l.length) [
+  | inl some ↦
+      let here = within 0 some in
+      let other : is_ascii_digit (get_or rest 0 0) ≡ false = apart_byte (get_or rest 0 0) (get_or b.low 0 0) (get_or b.high 0 0) (apart some) here.0 here.1 in
+      digits_one rest ∙ no_digit _ _ _ _ other
+  | inr none ↦ nothing_there rest (omega arith)
+]

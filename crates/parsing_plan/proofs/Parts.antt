@@ -1,11 +1,13 @@
 -- What the parts of a line say of a date, a time of day and an offset.
-use Rattle.std.proofs.Common.{◌≡◌, ◌≤◌, ◌+◌, ◌*◌, ◌∙◌, ℕ, Bool, true, false, List, drop, Option, Some, None, Result, Ok, Err, refl, sym, ap, arith, pos, ℤ}
-use Rattle.std.specs.Prelude.{IfSome, ◌*ℤ◌, int_div, int_rem}
-use Rattle.std.specs.Result.{result_ok}
+use Rattle.std.proofs.Common.{◌≡◌, ◌≤◌, ◌+◌, ◌*◌, ℕ, zero, suc, Bool, true, false, List, drop, Option, Some, None, Ok, refl, arith, pos, ℤ}
+use Rattle.std.specs.Prelude.{IfSome, ◌*ℤ◌, ◌+ℤ◌, ◌<ℤ◌, ◌≤ℤ◌, negsuc, nat_lt, unsigned_abs, int_div, int_rem}
+use Rattle.std.proofs.lemmas.Bool.Decides.{nat_tests}
 use Rattle.std.proofs.lemmas.Int.{ints}
-use Rattle.calendar_clock.specs.UtcOffset.{offset_of}
-use Rattle.calendar_count.specs.declared.component_range.ComponentRange.{ComponentRange}
+use Rattle.calendar_count.proofs.lemmas.Signed.{signed, one_sided}
+use Rattle.calendar_count.specs.Calendar.{days_in_month}
+use Rattle.calendar_clock.specs.UtcOffset.{offset_of, with_sign_of}
 use Rattle.calendar_count.specs.declared.month.Month.TheVariants as month
+use Rattle.calendar_count.specs.declared.weekday.Weekday.TheVariants as weekday
 use Rattle.parsing_pieces.specs.Pieces.{digits}
 use Rattle.parsing_resolution.specs.Resolution.{signed_offset_of}
 use Rattle.parsing_moments.specs.NamedTime.{named_offset, seconds_behind}
@@ -14,14 +16,25 @@ use Rattle.parsing_components.specs.Read as read
 use Rattle.parsing_record.specs.Parts.{under_sign}
 use Rattle.parsing_record.specs.Whole.{offset_named}
 use Rattle.parsing_plan.specs.declared.layout.Layout.{Layout}
-use Rattle.parsing_plan.specs.Slot.{Values, slot_piece}
-use Rattle.parsing_plan.specs.Parts.{WritesAt, WritesOffset, SaysMonth, SaysDate, SaysClock, SaysOffset}
-use Rattle.parsing_plan.specs.Plan.{beginning}
+use Rattle.parsing_plan.specs.Slot.{Values, slot_piece, width}
+use Rattle.parsing_plan.specs.Layout.{day_slot}
+use Rattle.parsing_shapes.specs.Shape.{taken, spaced_between}
+use Rattle.parsing_plan.specs.Parts.{WritesAt, WritesDay, WritesOffset, SaysMonth, SaysWeekday, SaysDate, SaysClock, SaysOffset}
+use Rattle.parsing_plan.specs.Beginning.{beginning}
 use Rattle.parsing_plan.proofs.Numbers.{slot_number}
 
-pub date_says : (l : Layout) (line : List ℕ) (at_year at_month at_day year month day : ℕ) → l.year ≡ Some at_year → l.month ≡ Some at_month → l.day ≡ Some at_day → WritesAt 4 line at_year year → year ≤ 9999 → SaysMonth l.month_is_named line at_month month → WritesAt 2 line at_day day → 1 ≤ day → day ≤ 31 → SaysDate l line year month day
+-- a day of a month is at most the 31st
+pub short_months : (y : ℤ) (m d : ℕ) → d ≤ days_in_month y m → d ≤ 31
+short_months y m d le = grind (arith, nat_tests)
+
+day_said : (b : Bool) (line : List ℕ) (at day : ℕ) → WritesDay b line at day → 1 ≤ day → day ≤ 31 → slot_piece (day_slot b) (drop at line) ≡ Some (read.Day day, drop (at + width (day_slot b)) line)
 unfolding slot_piece
-date_says l line at_year at_month at_day year month day y m d in_year four named in_day low high = record {
+day_said true line at day w low high = slot_number 1 31 day read.Day (taken (spaced_between 2 2) (drop at line)) (drop (at + 2) line) w low high
+day_said false line at day w low high = slot_number 1 31 day read.Day (digits 2 (drop at line)) (drop (at + 2) line) w low high
+
+pub date_says : (l : Layout) (line : List ℕ) (at_year at_month at_day year month day : ℕ) → l.year ≡ Some at_year → l.month ≡ Some at_month → l.day ≡ Some at_day → WritesAt 4 line at_year year → year ≤ 9999 → SaysMonth l.month_is_named line at_month month → SaysWeekday l.weekday line → WritesDay l.day_is_spaced line at_day day → 1 ≤ day → day ≤ 31 → SaysDate l line year month day
+unfolding slot_piece
+date_says l line at_year at_month at_day year month day y m d in_year four named week in_day low high = record {
   year_there = rw y refl;
   month_there = rw m refl;
   day_there = rw d refl;
@@ -29,7 +42,9 @@ date_says l line at_year at_month at_day year month day y m d in_year four named
   name = named.month;
   number_is = named.number_is;
   month_says = rw m named.says;
-  day_says = rw d (slot_number 1 31 day read.Day (digits 2 (drop at_day line)) (drop (at_day + 2) line) in_day low high);
+  weekday = week.weekday;
+  weekday_says = week.says;
+  day_says = rw d (day_said l.day_is_spaced line at_day day in_day low high);
 }
 
 pub clock_says : (l : Layout) (line : List ℕ) (at_hour at_minute at_second hour minute second minute_of_day : ℕ) → l.hour ≡ Some at_hour → l.minute ≡ Some at_minute → l.second ≡ Some at_second → WritesAt 2 line at_hour hour → WritesAt 2 line at_minute minute → WritesAt 2 line at_second second → (hour ≤ 23) × (minute ≤ 59) → second ≤ 59 → minute_of_day ≡ hour * 60 + minute → SaysClock l line minute_of_day second
@@ -60,7 +75,7 @@ no_second None = refl
 no_second (Some offset) = refl
 
 written_values : Bool → ℕ → ℕ → Values
-written_values is_negative hours minutes = record { year = 0; month = month.January; day = 0; hour = 0; minute = 0; second = 0; is_negative = is_negative; offset_hour = hours; offset_minute = minutes }
+written_values is_negative hours minutes = record { year = 0; month = month.January; weekday = weekday.Monday; day = 0; hour = 0; minute = 0; second = 0; is_negative = is_negative; offset_hour = hours; offset_minute = minutes }
 
 pub written_says : (l : Layout) (line : List ℕ) (assumed : Option ℤ) (at_hour at_minute : ℕ) (o : Option ℤ) → l.offset_hour ≡ Some at_hour → l.offset_minute ≡ Some at_minute → IfSome o (WritesOffset line at_hour at_minute) → IfSome o (SaysOffset l line assumed)
 unfolding written_values
@@ -72,25 +87,59 @@ written_says l line assumed at_hour at_minute (Some offset) h m w = record {
   offset_is = rw (h, m) (sign_named w.is_negative w.hours w.minutes (beginning assumed).offset_second (pos 60 *ℤ offset) (no_second assumed) w.offset_is);
 }
 
-pub assumed_says : (l : Layout) (line : List ℕ) (assumed : Option ℤ) (offset : ℤ) (o : Option ℤ) → l.offset_hour ≡ None → l.offset_minute ≡ None → assumed ≡ Some offset → IfSome o (λ minutes. offset_named (beginning (Some offset)) ≡ Ok (pos 60 *ℤ minutes)) → IfSome o (SaysOffset l line assumed)
+pub assumed_says : (l : Layout) (line : List ℕ) (assumed : Option ℤ) (offset minutes : ℤ) → l.offset_hour ≡ None → l.offset_minute ≡ None → assumed ≡ Some offset → offset_named (beginning (Some offset)) ≡ Ok (pos 60 *ℤ minutes) → SaysOffset l line assumed minutes
 unfolding written_values
-assumed_says l line assumed offset None h m is w = tt
-assumed_says l line assumed offset (Some minutes) h m is w = record {
+assumed_says l line assumed offset minutes h m is w = record {
   values = written_values false 0 0;
   hour_says = rw h tt;
   minute_says = rw m tt;
   offset_is = rw (h, m, is) w;
 }
 
-exactly : (counted minutes : ℤ) → minutes ≡ int_div counted (pos 60) → int_rem counted (pos 60) ≡ pos 0 → counted ≡ pos 60 *ℤ minutes
-exactly counted minutes e none = omega (arith, ints)
+no_sign : (z : ℤ) → with_sign_of z (pos 0) ≡ pos 0
+no_sign (pos zero) = refl
+no_sign (pos (suc n)) = refl
+no_sign (negsuc n) = refl
 
-pub was_ok : (r : Result ℤ ComponentRange) (x : ℤ) {given : Result ℤ ComponentRange} → r ≡ given → Some x ≡ result_ok r → given ≡ Ok x
-was_ok (Ok y) x is e = sym is ∙ ap (λ (z : ℤ). Ok z) (let same : y ≡ x = cc in same)
-was_ok (Err f) x is e = absurd cc
+same_sign : (h m : ℤ) → (pos 0 <ℤ h → pos 0 ≤ℤ m) → (h <ℤ pos 0 → m ≤ℤ pos 0) → with_sign_of h m ≡ m
+same_sign (pos zero) m above below = refl
+same_sign (pos (suc n)) m above below = let high : pos 0 ≤ℤ m = above (omega (arith, ints)) in omega (arith, ints)
+same_sign (negsuc n) m above below = let low : m ≤ℤ pos 0 = below (omega (arith, ints)) in omega (arith, ints)
 
-pub assumed_is : (offset hours minutes counted whole : ℤ) {past : ℤ} → hours ≡ int_div offset (pos 3600) → minutes ≡ int_rem (int_div offset (pos 60)) (pos 60) → offset_of hours minutes (pos 0) ≡ Ok counted → int_rem counted (pos 60) ≡ past → past ≡ pos 0 → whole ≡ int_div counted (pos 60) → offset_named (beginning (Some offset)) ≡ Ok (pos 60 *ℤ whole)
+few_hours : (hours : ℤ) → unsigned_abs hours ≤ 25 → nat_lt 25 (unsigned_abs hours) ≡ false
+few_hours hours few = grind (arith, nat_tests)
+
+few_minutes : (minutes : ℤ) → unsigned_abs minutes ≤ 59 → nat_lt 59 (unsigned_abs minutes) ≡ false
+few_minutes minutes few = grind (arith, nat_tests)
+
+nested : (offset : ℤ) → int_div offset (pos 3600) ≡ int_div (int_div offset (pos 60)) (pos 60)
+nested offset = omega (arith, signed, one_sided offset)
+
+hours_few : (whole : ℤ) → unsigned_abs whole ≤ 1559 → unsigned_abs (int_div whole (pos 60)) ≤ 25
+hours_few whole few = omega (arith, signed, one_sided whole)
+
+minutes_few : (whole : ℤ) → unsigned_abs (int_rem whole (pos 60)) ≤ 59
+minutes_few whole = omega (arith, signed, one_sided whole)
+
+sum_whole : (whole : ℤ) → int_div whole (pos 60) *ℤ pos 3600 +ℤ int_rem whole (pos 60) *ℤ pos 60 +ℤ pos 0 ≡ pos 60 *ℤ whole
+sum_whole whole = omega (arith, signed, one_sided whole)
+
+not_below : (whole : ℤ) → pos 0 <ℤ int_div whole (pos 60) → pos 0 ≤ℤ int_rem whole (pos 60)
+not_below whole high = omega (arith, signed, one_sided whole)
+
+not_above : (whole : ℤ) → int_div whole (pos 60) <ℤ pos 0 → int_rem whole (pos 60) ≤ℤ pos 0
+not_above whole low = omega (arith, signed, one_sided whole)
+
+-- whole hours and the minutes past them are the whole minutes
+whole_named : (whole : ℤ) → unsigned_abs whole ≤ 1559 → offset_of (int_div whole (pos 60)) (int_rem whole (pos 60)) (pos 0) ≡ Ok (pos 60 *ℤ whole)
+unfolding offset_of
+whole_named whole few =
+    let hours : ℤ = int_div whole (pos 60) in
+    let minutes : ℤ = int_rem whole (pos 60) in
+    rw (few_hours hours (hours_few whole few), few_minutes minutes (minutes_few whole), no_sign minutes, no_sign hours, same_sign hours minutes (not_below whole) (not_above whole), sum_whole whole) refl
+
+pub assumed_is : (offset whole : ℤ) → whole ≡ int_div offset (pos 60) → unsigned_abs whole ≤ 1559 → offset_named (beginning (Some offset)) ≡ Ok (pos 60 *ℤ whole)
 unfolding named_offset seconds_behind
-assumed_is offset hours minutes counted whole h m e rest none w =
-    let is = exactly counted whole w (rest ∙ none) in
-    rw (← h, ← m, e, is) refl
+assumed_is offset whole w few =
+    let there : offset_of (int_div (int_div offset (pos 60)) (pos 60)) (int_rem (int_div offset (pos 60)) (pos 60)) (pos 0) ≡ Ok (pos 60 *ℤ whole) = rw (← w) (whole_named whole few) in
+    rw (nested offset, there) refl

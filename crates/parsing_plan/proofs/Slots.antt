@@ -11,8 +11,8 @@ use Rattle.description_items.specs.declared.component.Component.{Component}
 use Rattle.parsing_pieces.specs.Fault.{Fault}
 use Rattle.parsing_pieces.specs.Readings.{piece_or}
 use Rattle.parsing_pieces.specs.Pieces.{digits, sign, byte_of}
-use Rattle.parsing_shapes.specs.Shape.{taken}
-use Rattle.parsing_shapes.specs.Names.{named, short_months}
+use Rattle.parsing_shapes.specs.Shape.{taken, spaced_between}
+use Rattle.parsing_shapes.specs.Names.{named, short_months, short_weekdays}
 use Rattle.parsing_shapes.specs.Numbers.{padded, year, offset_hour}
 use Rattle.parsing_shapes.proofs.Components.{taken_padded_exactly, taken_year}
 use Rattle.parsing_shapes.proofs.SignLemmas.{under}
@@ -20,7 +20,7 @@ use Rattle.parsing_components.specs.Ranged.{kept, between, up_to}
 use Rattle.parsing_components.specs.Read.{Read}
 use Rattle.parsing_components.specs.Read as read
 use Rattle.parsing_plan.specs.declared.slot.Slot.{Slot}
-use Rattle.parsing_plan.specs.Slot.{IsSlotOf}
+use Rattle.parsing_plan.specs.Slot.{IsSlotOf, slot_piece, slot_of_day}
 
 -- a choice under a condition
 pub chosen : (c : Component) (slot : Slot) (holds : Bool) (o : Option Slot) → (holds ≡ true → IsSlotOf c slot) → IfSome o (λ s. (holds ≡ true) × (s ≡ slot)) → IfSome o (IsSlotOf c)
@@ -41,7 +41,7 @@ zeros p n line e = rw e (taken_padded_exactly padding.Zero n line)
 
 -- ---- four digits begin with no sign
 
-digit_no_sign : (c : ℕ) → is_ascii_digit c ≡ true → ((c == 43) || (c == 45)) ≡ false
+pub digit_no_sign : (c : ℕ) → is_ascii_digit c ≡ true → ((c == 43) || (c == 45)) ≡ false
 digit_no_sign c e = grind (arith, nat_tests)
 
 first_digit : (b : Bool) (c : ℕ) (cs rest : List ℕ) (x : ℕ) → is_ascii_digit c ≡ b → digits 4 (c ∷ cs) ≡ Some (x, rest) → b ≡ true
@@ -88,3 +88,21 @@ four_read fault p mandatory extended line rest said bare e = rw (year_read p man
 
 pub hour_read : (fault : Fault) (says : Bool × ℕ → Option Read) (p : Padding) (mandatory : Bool) (line rest : List ℕ) (said : Read) → (p ≡ padding.Zero) × (mandatory ≡ true) → kept says (taken (offset_hour padding.Zero true) line) ≡ Some (said, rest) → piece_or fault (kept says (taken (offset_hour p mandatory) line)) ≡ Ok (said, rest)
 hour_read fault says p mandatory line rest said due e = rw (due.0, due.1, e) refl
+
+-- two bytes that may begin with a space
+spaced_read : (fault : Fault) (says : ℕ → Option Read) (line rest : List ℕ) (said : Read) → kept says (taken (spaced_between 2 2) line) ≡ Some (said, rest) → piece_or fault (kept says (taken (padded padding.Space 2 2) line)) ≡ Ok (said, rest)
+spaced_read fault says line rest said e = rw (taken_padded_exactly padding.Space 2 line, e) refl
+
+pub day_read : (p : Padding) (fault : Fault) (o : Option Slot) → o ≡ slot_of_day p → IfSome o (λ s. (line : List ℕ) (said : Read) (rest : List ℕ) → slot_piece s line ≡ Some (said, rest) → piece_or fault (kept (between 1 31 read.Day) (taken (padded p 2 2) line)) ≡ Ok (said, rest))
+unfolding slot_piece
+day_read padding.Zero fault o is = rw is (λ line said rest e. two_read fault (between 1 31 read.Day) padding.Zero line rest said refl e)
+day_read padding.Space fault o is = rw is (λ line said rest e. spaced_read fault (between 1 31 read.Day) line rest said e)
+day_read padding.None fault o is = rw is tt
+
+-- in both kinds of languages
+pub both_slots : (P Q : Slot → Type 0) (o : Option Slot) → IfSome o P → IfSome o Q → IfSome o (λ s. P s × Q s)
+both_slots P Q None p q = tt
+both_slots P Q (Some s) p q = (p, q)
+
+pub weekday_read : (fault : Fault) (case_sensitive : Bool) (line rest : List ℕ) (said : Read) → case_sensitive ≡ true → kept (λ w. Some (read.Weekday w)) (taken (named true short_weekdays) line) ≡ Some (said, rest) → piece_or fault (kept (λ w. Some (read.Weekday w)) (taken (named case_sensitive short_weekdays) line)) ≡ Ok (said, rest)
+weekday_read fault case_sensitive line rest said exact e = rw (exact, e) refl

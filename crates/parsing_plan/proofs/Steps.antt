@@ -21,7 +21,9 @@ put_value : (s : Slot) (l : Layout) (v : Values) (r : Record) → put (value_in 
 put_value slot.Year l v r = refl
 put_value slot.Month l v r = refl
 put_value slot.MonthName l v r = refl
+put_value slot.WeekdayName l v r = refl
 put_value slot.Day l v r = refl
+put_value slot.SpacedDay l v r = refl
 put_value slot.Hour l v r = refl
 put_value slot.Minute l v r = refl
 put_value slot.Second l v r = refl
@@ -29,21 +31,25 @@ put_value slot.OffsetHour l v r = refl
 put_value slot.OffsetMinute l v r = refl
 
 shorter : (s : Slot) (l : Layout) (line : List ℕ) (v : Values) → place_of l s ≡ None → Says (with_slot l s) line v → Says l line v
-shorter slot.Year l line v free h = record { text = h.text; year = rw free tt; month = h.month; day = h.day; hour = h.hour; minute = h.minute; second = h.second; offset_hour = h.offset_hour; offset_minute = h.offset_minute }
-shorter slot.Month l line v free h = record { text = h.text; year = h.year; month = rw free tt; day = h.day; hour = h.hour; minute = h.minute; second = h.second; offset_hour = h.offset_hour; offset_minute = h.offset_minute }
-shorter slot.MonthName l line v free h = record { text = h.text; year = h.year; month = rw free tt; day = h.day; hour = h.hour; minute = h.minute; second = h.second; offset_hour = h.offset_hour; offset_minute = h.offset_minute }
-shorter slot.Day l line v free h = record { text = h.text; year = h.year; month = h.month; day = rw free tt; hour = h.hour; minute = h.minute; second = h.second; offset_hour = h.offset_hour; offset_minute = h.offset_minute }
-shorter slot.Hour l line v free h = record { text = h.text; year = h.year; month = h.month; day = h.day; hour = rw free tt; minute = h.minute; second = h.second; offset_hour = h.offset_hour; offset_minute = h.offset_minute }
-shorter slot.Minute l line v free h = record { text = h.text; year = h.year; month = h.month; day = h.day; hour = h.hour; minute = rw free tt; second = h.second; offset_hour = h.offset_hour; offset_minute = h.offset_minute }
-shorter slot.Second l line v free h = record { text = h.text; year = h.year; month = h.month; day = h.day; hour = h.hour; minute = h.minute; second = rw free tt; offset_hour = h.offset_hour; offset_minute = h.offset_minute }
-shorter slot.OffsetHour l line v free h = record { text = h.text; year = h.year; month = h.month; day = h.day; hour = h.hour; minute = h.minute; second = h.second; offset_hour = rw free tt; offset_minute = h.offset_minute }
-shorter slot.OffsetMinute l line v free h = record { text = h.text; year = h.year; month = h.month; day = h.day; hour = h.hour; minute = h.minute; second = h.second; offset_hour = h.offset_hour; offset_minute = rw free tt }
+shorter slot.Year l line v free h = record { text = h.text; year = rw free tt; month = h.month; weekday = h.weekday; day = h.day; hour = h.hour; minute = h.minute; second = h.second; offset_hour = h.offset_hour; offset_minute = h.offset_minute }
+shorter slot.Month l line v free h = record { text = h.text; year = h.year; month = rw free tt; weekday = h.weekday; day = h.day; hour = h.hour; minute = h.minute; second = h.second; offset_hour = h.offset_hour; offset_minute = h.offset_minute }
+shorter slot.MonthName l line v free h = record { text = h.text; year = h.year; month = rw free tt; weekday = h.weekday; day = h.day; hour = h.hour; minute = h.minute; second = h.second; offset_hour = h.offset_hour; offset_minute = h.offset_minute }
+shorter slot.WeekdayName l line v free h = record { text = h.text; year = h.year; month = h.month; weekday = rw free tt; day = h.day; hour = h.hour; minute = h.minute; second = h.second; offset_hour = h.offset_hour; offset_minute = h.offset_minute }
+shorter slot.Day l line v free h = record { text = h.text; year = h.year; month = h.month; weekday = h.weekday; day = rw free tt; hour = h.hour; minute = h.minute; second = h.second; offset_hour = h.offset_hour; offset_minute = h.offset_minute }
+shorter slot.SpacedDay l line v free h = record { text = h.text; year = h.year; month = h.month; weekday = h.weekday; day = rw free tt; hour = h.hour; minute = h.minute; second = h.second; offset_hour = h.offset_hour; offset_minute = h.offset_minute }
+shorter slot.Hour l line v free h = record { text = h.text; year = h.year; month = h.month; weekday = h.weekday; day = h.day; hour = rw free tt; minute = h.minute; second = h.second; offset_hour = h.offset_hour; offset_minute = h.offset_minute }
+shorter slot.Minute l line v free h = record { text = h.text; year = h.year; month = h.month; weekday = h.weekday; day = h.day; hour = h.hour; minute = rw free tt; second = h.second; offset_hour = h.offset_hour; offset_minute = h.offset_minute }
+shorter slot.Second l line v free h = record { text = h.text; year = h.year; month = h.month; weekday = h.weekday; day = h.day; hour = h.hour; minute = h.minute; second = rw free tt; offset_hour = h.offset_hour; offset_minute = h.offset_minute }
+shorter slot.OffsetHour l line v free h = record { text = h.text; year = h.year; month = h.month; weekday = h.weekday; day = h.day; hour = h.hour; minute = h.minute; second = h.second; offset_hour = rw free tt; offset_minute = h.offset_minute }
+shorter slot.OffsetMinute l line v free h = record { text = h.text; year = h.year; month = h.month; weekday = h.weekday; day = h.day; hour = h.hour; minute = h.minute; second = h.second; offset_hour = h.offset_hour; offset_minute = rw free tt }
 
 read_there : (s : Slot) (l : Layout) (line : List ℕ) (v : Values) → Says (with_slot l s) line v → slot_piece s (drop l.length line) ≡ Some (value_in s v, drop (with_slot l s).length line)
 read_there slot.Year l line v h = h.year
 read_there slot.Month l line v h = h.month
 read_there slot.MonthName l line v h = h.month
+read_there slot.WeekdayName l line v h = h.weekday
 read_there slot.Day l line v h = h.day
+read_there slot.SpacedDay l line v h = h.day
 read_there slot.Hour l line v h = h.hour
 read_there slot.Minute l line v h = h.minute
 read_there slot.Second l line v h = h.second
@@ -54,7 +60,9 @@ longer : (s : Slot) (l : Layout) → l.length ≤ (with_slot l s).length
 longer slot.Year l = omega arith
 longer slot.Month l = omega arith
 longer slot.MonthName l = omega arith
+longer slot.WeekdayName l = omega arith
 longer slot.Day l = omega arith
+longer slot.SpacedDay l = omega arith
 longer slot.Hour l = omega arith
 longer slot.Minute l = omega arith
 longer slot.Second l = omega arith
@@ -84,6 +92,7 @@ shorter_byte l b line v free h = record {
   ];
   year = h.year;
   month = h.month;
+  weekday = h.weekday;
   day = h.day;
   hour = h.hour;
   minute = h.minute;

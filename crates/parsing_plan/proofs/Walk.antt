@@ -3,15 +3,18 @@ use Rattle.std.proofs.Common.{◌≡◌, ◌∙◌, ℕ, List, [], ◌∷◌, dr
 use Rattle.std.specs.Prelude.{IfSome}
 use Rattle.std.specs.Result.{result_ok}
 use Rattle.description_items.specs.Tree.{Tree, Compound, listed}
-use Rattle.parsing_record.specs.Meaning.{Answer, Counted, then_counted, all_of}
+use Rattle.parsing_record.specs.Meaning.{Meaning, Answer, Counted, then_counted, all_of}
 use Rattle.parsing_record.specs.Reads.{Language, reading, reading_of_all, reads, each_reads}
 use Rattle.parsing_record.specs.Record.{Record}
 use Rattle.parsing_plan.specs.declared.layout.Layout.{Layout}
 use Rattle.parsing_plan.specs.Slot.{Values}
 use Rattle.parsing_plan.specs.Layout.{with_values}
+use Rattle.parsing_plan.specs.declared.plan.Places.{Places}
 use Rattle.parsing_plan.specs.declared.plan.Plan.{Plan}
 use Rattle.parsing_plan.specs.declared.plan.Back.{Back}
-use Rattle.parsing_plan.specs.Plan.{IsLayoutOf, IsSplitOf, IsPlanOf}
+use Rattle.parsing_plan.specs.Plan.{IsLayoutOf, IsSplitOf, ArePlacesOf, IsPlanOf}
+use Rattle.parsing_plan.specs.UnixTime.{IsUnixOf}
+use Rattle.parsing_plan.specs.declared.unix.UnixTime.{UnixTime}
 use Rattle.parsing_plan.specs.Steps.{IsStep, IsFractionOf, LeadsTo}
 
 pub leads_from_nothing : (language : Language) (all : List Tree) (l : Layout) → l.length ≡ 0 → ((v : Values) (r : Record) → with_values l v r ≡ r) → LeadsTo language all all l
@@ -53,20 +56,31 @@ leads_to_split language all left ts t front back leads cut fraction others line 
     ∙ first_read language t ts (with_values front v r) (record (with_values front v r) { subsecond = Some nanosecond }) (drop front.length line) rest (fraction (with_values front v r) (drop front.length line) nanosecond rest read)
     ∙ was_read (reading_of_all language (listed ts) (record (with_values front v r) { subsecond = Some nanosecond }) rest) _ (others rest v long says_back (record (with_values front v r) { subsecond = Some nanosecond })))
 
--- a plan of a layout, and a plan of two with a fraction between them
-pub whole_plans : (language : Language) (all left : List Tree) (front : Layout) (o : Option Plan) → LeadsTo language all left front → left ≡ [] → IfSome o (λ plan. plan.layout ≡ front) → IfSome o (λ plan. plan.back ≡ None) → IfSome o (IsPlanOf (reading_of_all language (listed all)))
-whole_plans language all left front None leads end is none = tt
-whole_plans language all left front (Some plan) leads end is none = (λ e. rw is (leads_to_end language all left front leads end), λ back e. absurd (let never : None ≡ Some back = sym none ∙ e in cc))
+same_inside : {A : Type 0} (x y : A) → Some x ≡ Some y → x ≡ y
+same_inside x y e = let same : x ≡ y = cc in same
 
-pub split_plans : (language : Language) (all left ts others : List Tree) (t : Tree) (front behind : Layout) (first : Plan) (back : Back) (o : Option Plan) → LeadsTo language all left front → left ≡ t ∷ ts → IsFractionOf (reading language t) → LeadsTo language ts others behind → others ≡ [] → first.layout ≡ front → back.layout ≡ behind → IfSome o (λ plan. plan.layout ≡ first.layout) → IfSome o (λ plan. plan.back ≡ Some back) → IfSome o (IsPlanOf (reading_of_all language (listed all)))
-split_plans language all left ts others t front behind first back None leads cut fraction more end in_front in_back is some = tt
-split_plans language all left ts others t front behind first back (Some plan) leads cut fraction more end in_front in_back is some = (
-  (λ e. absurd (let never : None ≡ Some back = sym e ∙ some in cc)),
+none_and_some : {A : Type 0} (o : Option A) (x : A) → o ≡ Some x → o ≡ None → ⊥
+none_and_some None x e none = cc
+none_and_some (Some y) x e none = cc
+
+-- a plan of a layout, and a plan of two with a fraction between them
+pub whole_plans : (language : Language) (all left : List Tree) (front : Layout) (o : Option Places) → LeadsTo language all left front → left ≡ [] → IfSome o (λ plan. plan.layout ≡ front) → IfSome o (λ plan. plan.back ≡ None) → IfSome o (ArePlacesOf (reading_of_all language (listed all)))
+whole_plans language all left front None leads end is none = tt
+whole_plans language all left front (Some plan) leads end is none = (λ e. rw is (leads_to_end language all left front leads end), λ back e. absurd (none_and_some plan.back back e none))
+
+-- a plan with a back
+split_plan : (m : Meaning) (plan : Places) (back : Back) (front behind : Layout) → plan.layout ≡ front → plan.back ≡ Some back → back.layout ≡ behind → IsSplitOf m front behind → ArePlacesOf m plan
+split_plan m plan back front behind ahead some after split = (
+  (λ e. absurd (none_and_some plan.back back some e)),
   (λ x e.
-      let same : x.layout ≡ behind = ap (λ (b : Back). b.layout) (let e2 : Some x ≡ Some back = sym e ∙ some in let e3 : x ≡ back = cc in e3) ∙ in_back in
-      let ahead : plan.layout ≡ front = is ∙ in_front in
-      rw (ahead, same) (leads_to_split language all left ts t front behind leads cut fraction (leads_to_end language ts others behind more end))),
+      let same : x.layout ≡ behind = ap (λ (b : Back). b.layout) (same_inside x back (sym e ∙ some)) ∙ after in
+      rw (ahead, same) split),
 )
+
+pub split_plans : (language : Language) (all left ts others : List Tree) (t : Tree) (front behind : Layout) (first : Places) (back : Back) (o : Option Places) → LeadsTo language all left front → left ≡ t ∷ ts → IsFractionOf (reading language t) → LeadsTo language ts others behind → others ≡ [] → first.layout ≡ front → back.layout ≡ behind → IfSome o (λ plan. plan.layout ≡ first.layout) → IfSome o (λ plan. plan.back ≡ Some back) → IfSome o (ArePlacesOf (reading_of_all language (listed all)))
+split_plans language all left ts others t front behind first back None leads cut fraction more end in_front in_back is some = tt
+split_plans language all left ts others t front behind first back (Some plan) leads cut fraction more end in_front in_back is some =
+    split_plan (reading_of_all language (listed all)) plan back front behind (is ∙ in_front) some in_back (leads_to_split language all left ts t front behind leads cut fraction (leads_to_end language ts others behind more end))
 
 -- an item that holds others reads what they read, one after the other
 compound_plan : (language : Language) (ts : List Tree) (plan : Plan) → IsPlanOf (reading_of_all language (listed ts)) plan → IsPlanOf (reading language (Compound (listed ts))) plan
@@ -76,3 +90,19 @@ compound_plan language ts plan h = h
 pub compound_plans : (language : Language) (ts : List Tree) (o : Option Plan) → IfSome o (IsPlanOf (reading_of_all language (listed ts))) → IfSome o (IsPlanOf (reading language (Compound (listed ts))))
 compound_plans language ts None h = tt
 compound_plans language ts (Some plan) h = compound_plan language ts plan h
+
+-- ---- plans of places, and of Unix time
+
+pub of_places : (m : Meaning) (plan : Plan) (places : Places) → plan.places ≡ Some places → plan.unix ≡ None → ArePlacesOf m places → IsPlanOf m plan
+of_places m plan places some none are = (
+  (λ x e. let same : x ≡ places = same_inside x places (sym e ∙ some) in rw same are),
+  (λ u e. absurd (none_and_some plan.unix u e none)),
+)
+
+pub of_unix : (language : Language) (t : Tree) (plan : Plan) (u : UnixTime) → plan.places ≡ None → plan.unix ≡ Some u → IsUnixOf (reading language t) u.finer → IsPlanOf (reading_of_all language (listed (t ∷ []))) plan
+of_unix language t plan u none some reads_it = (
+  (λ x e. absurd (none_and_some plan.places x e none)),
+  (λ x e.
+      let same : x ≡ u = same_inside x u (sym e ∙ some) in
+      rw same (λ line number is few r. ap result_ok (first_read language t [] r _ line [] (was_read (reading language t r line) _ (reads_it line number is few r)) ∙ nothing_left language _ []))),
+)

@@ -1,5 +1,5 @@
 -- The bytes that can stand at each place of a line.
-use Rattle.std.specs.Prelude.{◌≡◌, ◌≤◌, ◌<◌, ◌+◌, ℕ, List, length, get_or, None}
+use Rattle.std.specs.Prelude.{◌≡◌, ◌≤◌, ◌<◌, ◌+◌, ◌-◌, ◌||◌, ℕ, List, length, get_or, None, Some, IsTrue, nat_lt}
 use Rattle.parsing_plan.specs.declared.bounds.Bounds.{Bounds}
 use Rattle.parsing_plan.specs.declared.layout.Layout.{Layout}
 
@@ -18,10 +18,36 @@ pub record IsPair (b : Bounds) (length place : ℕ) : Type 0 where
   pub second_low : 48 ≤ get_or b.low (place + 1) 0
   pub second_high : get_or b.high (place + 1) 0 ≤ 57
 
+-- the same of a number below 60
+pub record IsSixty (b : Bounds) (length place : ℕ) : Type 0 where
+  pub pair : IsPair b length place
+  pub tens : get_or b.high place 0 ≤ 53
+
+-- the same of a digit with another byte in front, from a space to a digit
+pub record IsSpaced (b : Bounds) (length place : ℕ) : Type 0 where
+  pub room : place + 2 ≤ length
+  pub first_low : 32 ≤ get_or b.low place 0
+  pub first_high : get_or b.high place 0 ≤ 57
+  pub second_low : 48 ≤ get_or b.low (place + 1) 0
+  pub second_high : get_or b.high (place + 1) 0 ≤ 57
+
 -- two digits stand at a place and the next one
 pub record HasPair (line : List ℕ) (place : ℕ) : Type 0 where
   pub room : place + 2 ≤ length line
   pub first_low : 48 ≤ get_or line place 0
+  pub first_high : get_or line place 0 ≤ 57
+  pub second_low : 48 ≤ get_or line (place + 1) 0
+  pub second_high : get_or line (place + 1) 0 ≤ 57
+
+-- the same of a number below 60
+pub record HasSixty (line : List ℕ) (place : ℕ) : Type 0 where
+  pub pair : HasPair line place
+  pub tens : get_or line place 0 ≤ 53
+
+-- the same of a digit with another byte in front, from a space to a digit
+pub record HasSpaced (line : List ℕ) (place : ℕ) : Type 0 where
+  pub room : place + 2 ≤ length line
+  pub first_low : 32 ≤ get_or line place 0
   pub first_high : get_or line place 0 ≤ 57
   pub second_low : 48 ≤ get_or line (place + 1) 0
   pub second_high : get_or line (place + 1) 0 ≤ 57
@@ -45,7 +71,25 @@ pub record HasNoOffset (l : Layout) : Type 0 where
 pub record HasNoClock (l : Layout) : Type 0 where
   pub no_year : l.year ≡ None
   pub no_month : l.month ≡ None
+  pub no_weekday : l.weekday ≡ None
   pub no_day : l.day ≡ None
   pub no_hour : l.hour ≡ None
   pub no_minute : l.minute ≡ None
   pub no_second : l.second ≡ None
+
+-- it has places for an offset, whose digits alone the bounds let stand there
+pub record HasOffset (l : Layout) (b : Bounds) (hour minute : ℕ) : Type 0 where
+  pub hour_is : l.offset_hour ≡ Some hour
+  pub minute_is : l.offset_minute ≡ Some minute
+  pub hour_digits : IsPair b l.length (hour + 1)
+  pub minute_digits : IsSixty b l.length minute
+
+-- no digit can stand behind a fraction
+abbrev pub BeginsApart : Bounds → Layout → Type 0
+BeginsApart b l = 0 < l.length → IsTrue (nat_lt (get_or b.high 0 0) 48 || nat_lt 57 (get_or b.low 0 0))
+
+-- the bounds of the last 16 bytes of a line let there what others let at the end of it
+pub record IsTail (low high : List ℕ) (b : Bounds) (count : ℕ) : Type 0 where
+  pub few : count ≤ 16
+  pub low_is : (k : ℕ) → k < count → get_or b.low k 0 ≤ get_or low (16 - count + k) 0
+  pub high_is : (k : ℕ) → k < count → get_or high (16 - count + k) 0 ≤ get_or b.high k 0

@@ -12,24 +12,32 @@ abbrev pub place_of : Layout → Slot → Option ℕ
 place_of l slot.Year = l.year
 place_of l slot.Month = l.month
 place_of l slot.MonthName = l.month
+place_of l slot.WeekdayName = l.weekday
 place_of l slot.Day = l.day
+place_of l slot.SpacedDay = l.day
 place_of l slot.Hour = l.hour
 place_of l slot.Minute = l.minute
 place_of l slot.Second = l.second
 place_of l slot.OffsetHour = l.offset_hour
 place_of l slot.OffsetMinute = l.offset_minute
 
+-- with a place for a slot
+abbrev pub with_place : Slot → Option ℕ → Layout → Layout
+with_place slot.Year place l = record l { year = place }
+with_place slot.Month place l = record l { month = place; month_is_named = false }
+with_place slot.MonthName place l = record l { month = place; month_is_named = true }
+with_place slot.WeekdayName place l = record l { weekday = place }
+with_place slot.Day place l = record l { day = place; day_is_spaced = false }
+with_place slot.SpacedDay place l = record l { day = place; day_is_spaced = true }
+with_place slot.Hour place l = record l { hour = place }
+with_place slot.Minute place l = record l { minute = place }
+with_place slot.Second place l = record l { second = place }
+with_place slot.OffsetHour place l = record l { offset_hour = place }
+with_place slot.OffsetMinute place l = record l { offset_minute = place }
+
 -- with a slot more, or a byte more
 abbrev pub with_slot : Layout → Slot → Layout
-with_slot l slot.Year = record l { year = Some l.length; length = l.length + 4 }
-with_slot l slot.Month = record l { month = Some l.length; month_is_named = false; length = l.length + 2 }
-with_slot l slot.MonthName = record l { month = Some l.length; month_is_named = true; length = l.length + 3 }
-with_slot l slot.Day = record l { day = Some l.length; length = l.length + 2 }
-with_slot l slot.Hour = record l { hour = Some l.length; length = l.length + 2 }
-with_slot l slot.Minute = record l { minute = Some l.length; length = l.length + 2 }
-with_slot l slot.Second = record l { second = Some l.length; length = l.length + 2 }
-with_slot l slot.OffsetHour = record l { offset_hour = Some l.length; length = l.length + 3 }
-with_slot l slot.OffsetMinute = record l { offset_minute = Some l.length; length = l.length + 2 }
+with_slot l s = with_place s (Some l.length) (record l { length = l.length + width s })
 
 abbrev pub with_byte : Layout → ℕ → Layout
 with_byte l b = record l { text = set l.text l.length b; mask = set l.mask l.length 255; length = l.length + 1 }
@@ -46,12 +54,17 @@ abbrev pub month_slot : Bool → Slot
 month_slot true = slot.MonthName
 month_slot false = slot.Month
 
+abbrev pub day_slot : Bool → Slot
+day_slot true = slot.SpacedDay
+day_slot false = slot.Day
+
 -- the line has the layout, with these values
 pub record Says (l : Layout) (line : List ℕ) (v : Values) : Type 0 where
   pub text : HasText l line
   pub year : SaysAt slot.Year l.year line (value_in slot.Year v)
   pub month : SaysAt (month_slot l.month_is_named) l.month line (value_in slot.Month v)
-  pub day : SaysAt slot.Day l.day line (value_in slot.Day v)
+  pub weekday : SaysAt slot.WeekdayName l.weekday line (value_in slot.WeekdayName v)
+  pub day : SaysAt (day_slot l.day_is_spaced) l.day line (value_in slot.Day v)
   pub hour : SaysAt slot.Hour l.hour line (value_in slot.Hour v)
   pub minute : SaysAt slot.Minute l.minute line (value_in slot.Minute v)
   pub second : SaysAt slot.Second l.second line (value_in slot.Second v)
@@ -65,4 +78,4 @@ read_or (Some place) new old = new
 
 -- the record with the values of the slots that have places
 abbrev pub with_values : Layout → Values → Record → Record
-with_values l v r = record r { year = read_or l.year (Some (pos v.year)) r.year; month = read_or l.month (Some v.month) r.month; day = read_or l.day (Some v.day) r.day; hour_24 = read_or l.hour (Some v.hour) r.hour_24; minute = read_or l.minute (Some v.minute) r.minute; second = read_or l.second (Some v.second) r.second; offset_hour = read_or l.offset_hour (Some (under v.is_negative v.offset_hour)) r.offset_hour; offset_is_negative = read_or l.offset_hour v.is_negative r.offset_is_negative; offset_minute = read_or l.offset_minute (Some (pos v.offset_minute)) r.offset_minute }
+with_values l v r = record r { year = read_or l.year (Some (pos v.year)) r.year; month = read_or l.month (Some v.month) r.month; weekday = read_or l.weekday (Some v.weekday) r.weekday; day = read_or l.day (Some v.day) r.day; hour_24 = read_or l.hour (Some v.hour) r.hour_24; minute = read_or l.minute (Some v.minute) r.minute; second = read_or l.second (Some v.second) r.second; offset_hour = read_or l.offset_hour (Some (under v.is_negative v.offset_hour)) r.offset_hour; offset_is_negative = read_or l.offset_hour v.is_negative r.offset_is_negative; offset_minute = read_or l.offset_minute (Some (pos v.offset_minute)) r.offset_minute }

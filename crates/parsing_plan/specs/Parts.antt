@@ -1,17 +1,19 @@
 -- What the slots of a line say of a date, a time of day and an offset.
-use Rattle.std.specs.Prelude.{◌≡◌, ◌≤◌, ℕ, ◌+◌, ◌*◌, Bool, true, List, ◌∷◌, length, drop, Option, Some, Ok, IsSome, ℤ, pos, ◌*ℤ◌}
+use Rattle.std.specs.Prelude.{◌≡◌, ◌≤◌, ℕ, ◌+◌, ◌*◌, Bool, true, List, ◌∷◌, length, drop, Option, Some, Ok, IsSome, ℤ, pos, ◌*ℤ◌, false}
 use Rattle.calendar_count.specs.declared.month.Month.{Month}
 use Rattle.calendar_count.specs.Month.{month_number}
+use Rattle.calendar_count.specs.declared.weekday.Weekday.{Weekday}
 use Rattle.parsing_pieces.specs.Pieces.{digits}
 use Rattle.parsing_resolution.specs.Resolution.{signed_offset_of}
-use Rattle.parsing_shapes.specs.Names.{found, short_months}
+use Rattle.parsing_shapes.specs.Names.{found, short_months, short_weekdays}
+use Rattle.parsing_shapes.specs.Shape.{taken, spaced_between}
 use Rattle.parsing_components.specs.Ranged.{under}
 use Rattle.parsing_components.specs.Read as read
 use Rattle.parsing_record.specs.Whole.{offset_named}
 use Rattle.parsing_plan.specs.Slot.{Values, slot_piece, value_in, width}
-use Rattle.parsing_plan.specs.Layout.{SaysAt, month_slot, with_values}
+use Rattle.parsing_plan.specs.Layout.{SaysAt, month_slot, day_slot, with_values}
 use Rattle.parsing_plan.specs.Bounds.{LiesWithin}
-use Rattle.parsing_plan.specs.Plan.{beginning}
+use Rattle.parsing_plan.specs.Beginning.{beginning}
 use Rattle.parsing_plan.specs.declared.bounds.Bounds.{Bounds}
 use Rattle.parsing_plan.specs.declared.layout.Layout.{Layout}
 use Rattle.parsing_plan.specs.declared.slot.Slot.TheVariants as slot
@@ -20,9 +22,18 @@ use Rattle.parsing_plan.specs.declared.slot.Slot.TheVariants as slot
 abbrev pub WritesAt : ℕ → List ℕ → ℕ → ℕ → Type 0
 WritesAt n line place number = digits n (drop place line) ≡ Some (number, drop (place + n) line)
 
+-- so do two bytes, of which the first may be a space
+abbrev pub WritesDay : Bool → List ℕ → ℕ → ℕ → Type 0
+WritesDay true line place number = taken (spaced_between 2 2) (drop place line) ≡ Some (number, drop (place + 2) line)
+WritesDay false line place number = WritesAt 2 line place number
+
 -- the short name of a month has these letters
 abbrev pub IsNameOf : Month → ℕ → ℕ → ℕ → Type 0
 IsNameOf month first second third = (rest : List ℕ) → found true short_months (first ∷ second ∷ third ∷ rest) ≡ Some (month, rest)
+
+-- so has that of a weekday
+abbrev pub IsWeekdayNameOf : Weekday → ℕ → ℕ → ℕ → Type 0
+IsWeekdayNameOf weekday first second third = (rest : List ℕ) → found true short_weekdays (first ∷ second ∷ third ∷ rest) ≡ Some (weekday, rest)
 
 -- a line is not shorter than a layout, and has bytes within its bounds there
 pub record Fits (l : Layout) (b : Bounds) (line : List ℕ) : Type 0 where
@@ -35,6 +46,11 @@ pub record SaysMonth (is_named : Bool) (line : List ℕ) (place number : ℕ) : 
   pub number_is : month_number month ≡ number
   pub says : slot_piece (month_slot is_named) (drop place line) ≡ Some (read.Month month, drop (place + width (month_slot is_named)) line)
 
+-- a weekday by its name, where there is a place for it
+pub record SaysWeekday (place : Option ℕ) (line : List ℕ) : Type 0 where
+  pub weekday : Weekday
+  pub says : SaysAt slot.WeekdayName place line (read.Weekday weekday)
+
 pub record SaysDate (l : Layout) (line : List ℕ) (year month day : ℕ) : Type 0 where
   pub year_there : IsSome l.year
   pub month_there : IsSome l.month
@@ -43,7 +59,9 @@ pub record SaysDate (l : Layout) (line : List ℕ) (year month day : ℕ) : Type
   pub name : Month
   pub number_is : month_number name ≡ month
   pub month_says : SaysAt (month_slot l.month_is_named) l.month line (read.Month name)
-  pub day_says : SaysAt slot.Day l.day line (read.Day day)
+  pub weekday : Weekday
+  pub weekday_says : SaysAt slot.WeekdayName l.weekday line (read.Weekday weekday)
+  pub day_says : SaysAt (day_slot l.day_is_spaced) l.day line (read.Day day)
 
 pub record SaysClock (l : Layout) (line : List ℕ) (minute_of_day second : ℕ) : Type 0 where
   pub hour : ℕ

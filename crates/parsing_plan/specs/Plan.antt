@@ -1,14 +1,17 @@
 -- Plans, and the items that they stand for.
-use Rattle.std.specs.Prelude.{◌≡◌, ◌≤◌, ℕ, List, drop, length, Option, Some, None, ℤ, pos, int_div, int_rem}
+use Rattle.std.specs.Prelude.{◌≡◌, ◌≤◌, ℕ, List, drop, length, Some}
 use Rattle.std.specs.Result.{result_ok}
 use Rattle.std.specs.Option.{ForSome, ForNone}
 use Rattle.parsing_shapes.specs.Shape.{taken, fraction_between}
 use Rattle.parsing_record.specs.Meaning.{Meaning}
-use Rattle.parsing_record.specs.Record.{Record, empty}
+use Rattle.parsing_record.specs.Record.{Record}
 use Rattle.parsing_plan.specs.Slot.{Values}
 use Rattle.parsing_plan.specs.Layout.{Says, with_values}
 use Rattle.parsing_plan.specs.declared.layout.Layout.{Layout}
+use Rattle.parsing_plan.specs.UnixTime.{IsUnixOf}
+use Rattle.parsing_plan.specs.declared.plan.Places.{Places}
 use Rattle.parsing_plan.specs.declared.plan.Plan.{Plan}
+pub use Rattle.parsing_plan.specs.Beginning.{beginning}
 
 -- a line that has the layout at its front is read by these items, which set the values of the slots
 abbrev pub IsLayoutOf : Meaning → Layout → Type 0
@@ -19,11 +22,10 @@ abbrev pub IsSplitOf : Meaning → Layout → Layout → Type 0
 IsSplitOf m front back = (line : List ℕ) (v : Values) (nanosecond : ℕ) (rest : List ℕ) → front.length ≤ length line → Says front line v → taken (fraction_between 1 32) (drop front.length line) ≡ Some (nanosecond, rest) → back.length ≤ length rest → Says back rest v
     → (r : Record) → result_ok (m r line) ≡ Some (with_values back v (record (with_values front v r) { subsecond = Some nanosecond }), drop back.length rest)
 
+-- the items read as the places say
+abbrev pub ArePlacesOf : Meaning → Places → Type 0
+ArePlacesOf m places = ForNone places.back (IsLayoutOf m places.layout) × ForSome places.back (λ back. IsSplitOf m places.layout back.layout)
+
 -- the items read as the plan says
 abbrev pub IsPlanOf : Meaning → Plan → Type 0
-IsPlanOf m plan = ForNone plan.back (IsLayoutOf m plan.layout) × ForSome plan.back (λ back. IsSplitOf m plan.layout back.layout)
-
--- the record that a reading begins with where an offset is assumed: its hour and its minute
-abbrev pub beginning : Option ℤ → Record
-beginning None = empty
-beginning (Some offset) = record empty { offset_hour = Some (int_div offset (pos 3600)); offset_minute = Some (int_rem (int_div offset (pos 60)) (pos 60)) }
+IsPlanOf m plan = ForSome plan.places (ArePlacesOf m) × ForSome plan.unix (λ unix. IsUnixOf m unix.finer)

@@ -1,13 +1,15 @@
 -- The components of fixed width that a layout has places for, and what each of them says.
-use Rattle.std.specs.Prelude.{◌≡◌, ℕ, pos, Bool, true, List, Some, Ok, option_map}
+use Rattle.std.specs.Prelude.{◌≡◌, ℕ, pos, Bool, true, List, Option, Some, None, Ok, option_map}
 use Rattle.calendar_count.specs.declared.month.Month.{Month}
+use Rattle.calendar_count.specs.declared.weekday.Weekday.{Weekday}
+use Rattle.description_date_modifiers.specs.declared.choices.Padding.{Padding}
 use Rattle.description_date_modifiers.specs.declared.choices.Padding.TheVariants as padding
 use Rattle.description_items.specs.declared.component.Component.{Component}
 use Rattle.parsing_pieces.specs.Pieces.{Piece, digits}
 use Rattle.parsing_pieces.specs.Readings.{Reading}
-use Rattle.parsing_shapes.specs.Shape.{taken}
+use Rattle.parsing_shapes.specs.Shape.{taken, spaced_between}
 use Rattle.parsing_shapes.specs.Numbers.{offset_hour}
-use Rattle.parsing_shapes.specs.Names.{named, short_months}
+use Rattle.parsing_shapes.specs.Names.{named, short_months, short_weekdays}
 use Rattle.parsing_components.specs.Component.{reads_component, reads_component_v3}
 use Rattle.parsing_components.specs.Ranged.{says, between, up_to, under, counted, months}
 use Rattle.parsing_components.specs.Read.{Read}
@@ -15,12 +17,14 @@ use Rattle.parsing_components.specs.Read as read
 use Rattle.parsing_plan.specs.declared.slot.Slot.{Slot}
 use Rattle.parsing_plan.specs.declared.slot.Slot.TheVariants as slot
 
--- what is read: four digits of a year, two digits of each other number, the hours of an offset behind their sign
+-- what is read: four digits of a year, two digits of each other number, of a day also one behind a space, the hours of an offset behind their sign
 unfoldable pub slot_piece : Slot → Piece Read
 slot_piece slot.Year = says (between 0 9999 (λ y. read.Year (pos y))) (digits 4)
 slot_piece slot.Month = says (λ n. option_map read.Month (counted true months n)) (digits 2)
 slot_piece slot.MonthName = says (λ m. Some (read.Month m)) (taken (named true short_months))
+slot_piece slot.WeekdayName = says (λ w. Some (read.Weekday w)) (taken (named true short_weekdays))
 slot_piece slot.Day = says (between 1 31 read.Day) (digits 2)
+slot_piece slot.SpacedDay = says (between 1 31 read.Day) (taken (spaced_between 2 2))
 slot_piece slot.Hour = says (between 0 23 read.Hour24) (digits 2)
 slot_piece slot.Minute = says (between 0 59 read.Minute) (digits 2)
 slot_piece slot.Second = says (between 0 60 read.Second) (digits 2)
@@ -31,17 +35,26 @@ abbrev pub width : Slot → ℕ
 width slot.Year = 4
 width slot.Month = 2
 width slot.MonthName = 3
+width slot.WeekdayName = 3
 width slot.Day = 2
+width slot.SpacedDay = 2
 width slot.Hour = 2
 width slot.Minute = 2
 width slot.Second = 2
 width slot.OffsetHour = 3
 width slot.OffsetMinute = 2
 
+-- the slot of a day under a padding
+abbrev pub slot_of_day : Padding → Option Slot
+slot_of_day padding.Zero = Some slot.Day
+slot_of_day padding.Space = Some slot.SpacedDay
+slot_of_day padding.None = None
+
 -- what the slots of a line say
 pub record Values : Type 0 where
   pub year : ℕ
   pub month : Month
+  pub weekday : Weekday
   pub day : ℕ
   pub hour : ℕ
   pub minute : ℕ
@@ -54,7 +67,9 @@ abbrev pub value_in : Slot → Values → Read
 value_in slot.Year v = read.Year (pos v.year)
 value_in slot.Month v = read.Month v.month
 value_in slot.MonthName v = read.Month v.month
+value_in slot.WeekdayName v = read.Weekday v.weekday
 value_in slot.Day v = read.Day v.day
+value_in slot.SpacedDay v = read.Day v.day
 value_in slot.Hour v = read.Hour24 v.hour
 value_in slot.Minute v = read.Minute v.minute
 value_in slot.Second v = read.Second v.second

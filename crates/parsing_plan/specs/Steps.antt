@@ -10,6 +10,7 @@ use Rattle.parsing_record.specs.Meaning.{Meaning}
 use Rattle.parsing_record.specs.Reads.{Language, reading, reading_of_all}
 use Rattle.parsing_record.specs.Record.{Record}
 use Rattle.parsing_plan.specs.Slot.{Values, slot_piece}
+use Rattle.parsing_plan.specs.UnixTime.{IsUnixOf}
 use Rattle.parsing_plan.specs.Layout.{Says, with_values}
 use Rattle.parsing_plan.specs.declared.layout.Layout.{Layout}
 use Rattle.parsing_plan.specs.declared.items.Step.{Step}
@@ -19,10 +20,11 @@ use Rattle.parsing_plan.specs.declared.items.Step.TheVariants as step
 abbrev pub IsFractionOf : Meaning → Type 0
 IsFractionOf m = (r : Record) (line : List ℕ) (nanosecond : ℕ) (rest : List ℕ) → taken (fraction_between 1 32) line ≡ Some (nanosecond, rest) → m r line ≡ Ok (record r { subsecond = Some nanosecond }, rest)
 
--- an item reads this text, or this slot, or a fraction
+-- an item reads this text, or this slot, or a fraction, or Unix time
 abbrev pub IsStepOf : Meaning → Step → Type 0
 IsStepOf m (step.Text text) = (r : Record) (line : List ℕ) → take (length text.now) line ≡ text.now → m r line ≡ Ok (r, drop (length text.now) line)
 IsStepOf m step.Fraction = IsFractionOf m
+IsStepOf m (step.Unix finer) = (finer ≤ 6) × IsUnixOf m finer
 IsStepOf m (step.Part s) = (r : Record) (line : List ℕ) (said : Read) (rest : List ℕ) → slot_piece s line ≡ Some (said, rest) → m r line ≡ Ok (put said r, rest)
 
 -- in version 3 and in the languages before it

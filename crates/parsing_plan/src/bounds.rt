@@ -1,12 +1,12 @@
 //! The bytes that can stand at each place of a line.
 ghost use Rattle.std.specs.Prelude.{◌≡◌, ◌+◌, ◌<◌, ◌≤◌, ℕ, true, drop, length};
-ghost use Rattle.parsing_plan.specs.Bounds.{IsBetween, LiesWithin, IsPair, HoldByte, HoldText};
+ghost use Rattle.parsing_plan.specs.Bounds.{IsBetween, LiesWithin, IsPair, IsSixty, IsSpaced, HoldByte, HoldText};
 
 use crate::layout::{LENGTH, Layout};
 use std::simd::prelude::*;
 
-// How many bytes are compared at once.
-const LANES: usize = 16;
+/// How many bytes are compared at once.
+pub(crate) const LANES: usize = 16;
 
 /// The lowest and the highest byte that can stand at each place of a line.
 #[derive(Clone, Copy)]
@@ -26,21 +26,18 @@ pub(crate) fn from(bytes: &[u8], place: usize) -> &[u8]
     &bytes[place..]
 }
 
-// Whether each of the first 16 bytes lies between two others.
+// A bit for each of the first 16 bytes that does not lie between two others.
 #[inline(always)]
-fn sixteen_between(bytes: &[u8], low: &[u8], high: &[u8]) -> bool
+pub(crate) fn outside(bytes: &[u8], low: &[u8], high: &[u8]) -> u64
     requires bytes { LANES ≤ length bytes.now }
     requires low { LANES ≤ length low.now }
     requires high { LANES ≤ length high.now }
-    ensures { result ≡ true → (k : ℕ) → k < LANES → IsBetween low.now high.now bytes.now k }
+    ensures { result ≡ 0 → (k : ℕ) → k < LANES → IsBetween low.now high.now bytes.now k }
 {
     let bytes = u8x16::from_slice(bytes);
     let below = bytes.simd_lt(u8x16::from_slice(low)).to_bitmask();
     let above = bytes.simd_gt(u8x16::from_slice(high)).to_bitmask();
-    if below != 0 || above != 0 {
-        return false;
-    }
-    true
+    below | above
 }
 
 impl Bounds {
@@ -70,7 +67,25 @@ impl Bounds {
             bounds.let_digits(place, 0, 2);
         }
         bounds.let_digits(layout.offset_hour, 1, 2);
+        bounds.let_range(layout.offset_hour, b'+', b'-');
+        for place in [layout.minute, layout.second, layout.offset_minute] {
+            bounds.let_range(place, b'0', b'5');
+        }
+        if layout.day_is_spaced {
+            bounds.let_range(layout.day, b' ', b'3');
+        }
         bounds
+    }
+
+    // Lets bytes from one to another alone stand at a place.
+    fn let_range(&mut self, place: Option<usize>, low: u8, high: u8) {
+        let Some(place) = place else {
+            return;
+        };
+        if place < LENGTH {
+            self.low[place] = low;
+            self.high[place] = high;
+        }
     }
 
     // Lets digits alone stand so many places behind one.
@@ -114,14 +129,13 @@ impl Bounds {
             return self.has_few(line, count);
         }
         let last = count - LANES;
-        if !sixteen_between(line, &self.low, &self.high) {
-            return false;
-        }
-        sixteen_between(
+        let first = outside(line, &self.low, &self.high);
+        let second = outside(
             from(line, last),
             from(&self.low, last),
             from(&self.high, last),
-        )
+        );
+        first | second == 0
     }
 
     /// Whether they let two digits alone stand at a place and the next one, both below a length.
@@ -133,6 +147,27 @@ impl Bounds {
         }
         let next = place + 1;
         self.low[place] >= b'0'
+            && self.high[place] <= b'9'
+            && self.low[next] >= b'0'
+            && self.high[next] <= b'9'
+    }
+
+    /// Whether they let a number below 60 alone stand at a place and the next one, both below a length.
+    pub(crate) fn is_sixty(&self, length: usize, place: usize) -> bool
+        ensures { result ≡ true → IsSixty self.now length place }
+    {
+        self.is_pair(length, place) && self.high[place] <= b'5'
+    }
+
+    /// Whether they let a digit alone stand behind a place, and at most a digit at it, both below a length.
+    pub(crate) fn is_spaced(&self, length: usize, place: usize) -> bool
+        ensures { result ≡ true → IsSpaced self.now length place }
+    {
+        if length > LENGTH || length < 2 || place > length - 2 {
+            return false;
+        }
+        let next = place + 1;
+        self.low[place] >= b' '
             && self.high[place] <= b'9'
             && self.low[next] >= b'0'
             && self.high[next] <= b'9'

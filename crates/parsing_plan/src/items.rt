@@ -4,9 +4,11 @@ ghost use Rattle.description_items.specs.Tree.{Tree};
 ghost use Rattle.parsing_record.specs.Meaning.{Meaning};
 ghost use Rattle.parsing_record.specs.Reads.{Language, reading};
 ghost use Rattle.parsing_plan.specs.Steps.{IsStep, IsStepOf, IsStepOfPart, IsFractionOf, LeadsTo};
+ghost use Rattle.parsing_plan.specs.UnixTime.{IsUnixOf};
 
 use crate::layout::Layout;
 use crate::slot::{Slot, slot_of};
+use crate::unix::{UnixTime, finer_digits};
 use description_items::modifier::SubsecondDigits;
 use description_items::{BorrowedFormatItem, Component};
 use description_tree::FormatDescriptionV3Inner as Inner;
@@ -20,6 +22,8 @@ pub(crate) enum Step<'a> {
     Part(Slot),
     /// One digit or more of a fraction of a second.
     Fraction,
+    /// Unix time with so many digits of a fraction behind the ten of its seconds.
+    Unix(usize),
 }
 
 // What a component reads.
@@ -31,6 +35,9 @@ fn step_of(component: &Component) -> Option<Step<'static>>
             return Some(Step::Fraction);
         }
         return None;
+    }
+    if let Some(finer) = finer_digits(component) {
+        return Some(Step::Unix(finer));
     }
     let slot = slot_of(component)?;
     Some(Step::Part(slot))
@@ -92,7 +99,7 @@ fn with_step(layout: Layout, step: Step<'_>) -> Option<Layout>
     match step {
         Step::Text(text) => layout.with_text(text),
         Step::Part(slot) => layout.with_slot(slot),
-        Step::Fraction => None,
+        Step::Fraction | Step::Unix(_) => None,
     }
 }
 
@@ -129,5 +136,15 @@ pub(crate) fn is_fraction<I: HasStep>(item: &I) -> bool
     match item.step() {
         Some(Step::Fraction) => true,
         _ => false,
+    }
+}
+
+/// Unix time, where an item reads it.
+pub(crate) fn unix_of<I: HasStep>(item: &I) -> Option<UnixTime>
+    ensures { IfSome result (λ u. IsUnixOf (reading I.language (I.tree item.now)) u.finer) }
+{
+    match item.step() {
+        Some(Step::Unix(finer)) => Some(UnixTime { finer }),
+        _ => None,
     }
 }

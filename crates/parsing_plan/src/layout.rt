@@ -1,7 +1,7 @@
 //! What stands at each place of a line.
 ghost use Rattle.std.specs.Prelude.{◌≡◌, ◌≢◌, ◌<◌, ◌≤◌, None, length, get_or, IfSome};
 ghost use Rattle.parsing_record.specs.Record.{Record};
-ghost use Rattle.parsing_plan.specs.Layout.{place_of, with_byte, with_slot, with_values};
+ghost use Rattle.parsing_plan.specs.Layout.{place_of, with_byte, with_place, with_slot, with_values};
 ghost use Rattle.parsing_plan.specs.Slot.{Values};
 ghost use Rattle.parsing_plan.specs.Steps.{IsTextStep};
 
@@ -19,7 +19,10 @@ pub(crate) struct Layout {
     pub(crate) month: Option<usize>,
     /// Whether the month is written by its name.
     pub(crate) month_is_named: bool,
+    pub(crate) weekday: Option<usize>,
     pub(crate) day: Option<usize>,
+    /// Whether the day may have a space in the place of a zero.
+    pub(crate) day_is_spaced: bool,
     pub(crate) hour: Option<usize>,
     pub(crate) minute: Option<usize>,
     pub(crate) second: Option<usize>,
@@ -42,7 +45,9 @@ impl Layout {
             year: None,
             month: None,
             month_is_named: false,
+            weekday: None,
             day: None,
+            day_is_spaced: false,
             hour: None,
             minute: None,
             second: None,
@@ -59,13 +64,80 @@ impl Layout {
         match slot {
             Slot::Year => self.year,
             Slot::Month | Slot::MonthName => self.month,
-            Slot::Day => self.day,
+            Slot::WeekdayName => self.weekday,
+            Slot::Day | Slot::SpacedDay => self.day,
             Slot::Hour => self.hour,
             Slot::Minute => self.minute,
             Slot::Second => self.second,
             Slot::OffsetHour => self.offset_hour,
             Slot::OffsetMinute => self.offset_minute,
         }
+    }
+
+    // The layout with a place for a slot of a date: `None` where the slot is no such one.
+    fn with_date(self, slot: Slot, place: Option<usize>) -> Option<Layout>
+        ensures { IfSome result (λ l. l ≡ with_place slot place self) }
+    {
+        Some(match slot {
+            Slot::Year => Layout {
+                year: place,
+                ..self
+            },
+            Slot::Month => Layout {
+                month: place,
+                month_is_named: false,
+                ..self
+            },
+            Slot::MonthName => Layout {
+                month: place,
+                month_is_named: true,
+                ..self
+            },
+            Slot::WeekdayName => Layout {
+                weekday: place,
+                ..self
+            },
+            Slot::Day => Layout {
+                day: place,
+                day_is_spaced: false,
+                ..self
+            },
+            Slot::SpacedDay => Layout {
+                day: place,
+                day_is_spaced: true,
+                ..self
+            },
+            _ => return None,
+        })
+    }
+
+    // The same of a time of day and an offset.
+    fn with_clock(self, slot: Slot, place: Option<usize>) -> Option<Layout>
+        ensures { IfSome result (λ l. l ≡ with_place slot place self) }
+    {
+        Some(match slot {
+            Slot::Hour => Layout {
+                hour: place,
+                ..self
+            },
+            Slot::Minute => Layout {
+                minute: place,
+                ..self
+            },
+            Slot::Second => Layout {
+                second: place,
+                ..self
+            },
+            Slot::OffsetHour => Layout {
+                offset_hour: place,
+                ..self
+            },
+            Slot::OffsetMinute => Layout {
+                offset_minute: place,
+                ..self
+            },
+            _ => return None,
+        })
     }
 
     /// The layout with a slot behind it: `None` where it has that slot, or is too long.
@@ -79,46 +151,10 @@ impl Layout {
         let place = Some(self.length);
         let length = self.length + slot.width();
         let longer = Layout { length, ..self };
-        Some(match slot {
-            Slot::Year => Layout {
-                year: place,
-                ..longer
-            },
-            Slot::Month => Layout {
-                month: place,
-                month_is_named: false,
-                ..longer
-            },
-            Slot::MonthName => Layout {
-                month: place,
-                month_is_named: true,
-                ..longer
-            },
-            Slot::Day => Layout {
-                day: place,
-                ..longer
-            },
-            Slot::Hour => Layout {
-                hour: place,
-                ..longer
-            },
-            Slot::Minute => Layout {
-                minute: place,
-                ..longer
-            },
-            Slot::Second => Layout {
-                second: place,
-                ..longer
-            },
-            Slot::OffsetHour => Layout {
-                offset_hour: place,
-                ..longer
-            },
-            Slot::OffsetMinute => Layout {
-                offset_minute: place,
-                ..longer
-            },
-        })
+        match longer.with_date(slot, place) {
+            Some(layout) => Some(layout),
+            None => longer.with_clock(slot, place),
+        }
     }
 
     // The layout with a byte of a literal behind it.

@@ -7,5 +7,7 @@ mod layout;
 mod plan;
 mod read;
 mod slot;
+mod tail;
+mod unix;
 
 pub use plan::Plan;

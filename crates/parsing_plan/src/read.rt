@@ -1,41 +1,45 @@
 //! The fields of a line, by the places of its parts.
-ghost use Rattle.std.specs.Prelude.{◌≡◌, ◌≤◌, ◌+◌, ◌==◌, ◌||◌, ◌*ℤ◌, pos, Ok, Some, true, false, drop, length, unsigned_abs, IfSome, Option};
-ghost use Rattle.std.specs.Option.{ForSome};
+ghost use Rattle.std.specs.Prelude.{◌≡◌, ◌<◌, ◌≤◌, ◌+◌, ◌-◌, ◌*◌, ◌==◌, ◌||◌, ◌*ℤ◌, pos, Ok, Some, None, true, false, drop, get_or, length, unsigned_abs, IfSome, Option};
+ghost use Rattle.std.specs.Option.{ForSome, ForNone};
+ghost use Rattle.calendar_count.specs.Calendar.{IsDay};
+ghost use Rattle.parsing_pieces.specs.Pieces.{digits};
+ghost use Rattle.parsing_shapes.specs.Shape.{taken, fraction_between};
 ghost use Rattle.parsing_fields.specs.Moment.{moment_of};
 ghost use Rattle.parsing_record.specs.Meaning.{Meaning};
 ghost use Rattle.parsing_record.specs.Record.{Record};
 ghost use Rattle.parsing_record.specs.Whole.{whole, names, moment_named, offset_named, starting};
-ghost use Rattle.parsing_plan.specs.Bounds.{HasPair, IsPair, HasNoOffset};
-ghost use Rattle.parsing_plan.specs.Parts.{Fits, IsNameOf, WritesAt, WritesOffset, SaysMonth, SaysDate, SaysClock, SaysOffset};
-ghost use Rattle.parsing_plan.specs.Plan.{IsPlanOf, IsSplitOf, beginning};
+ghost use Rattle.parsing_plan.specs.Bounds.{HasPair, HasSixty, HasSpaced, HasNoOffset, HasOffset};
+ghost use Rattle.parsing_plan.specs.Parts.{Fits, IsNameOf, IsWeekdayNameOf, WritesAt, WritesDay, WritesOffset, SaysMonth, SaysWeekday, SaysDate, SaysClock, SaysOffset};
+ghost use Rattle.parsing_plan.specs.Beginning.{beginning};
+ghost use Rattle.parsing_plan.specs.Plan.{ArePlacesOf, IsPlanOf, IsSplitOf};
 
-use crate::bounds::{Bounds, from};
+use crate::bounds::{Bounds, LANES, from};
 use crate::layout::Layout;
-use crate::plan::{Back, Plan};
-use calendar::{Month, UtcOffset};
-use parsing_fields::{Fields, Fraction, minute_of_day, signed_minutes};
-use parsing_pieces::two_digits;
-
-// What stands behind a place.
-#[inline(always)]
-#[tactic(auto, using(std::proofs::lemmas::List::take_rest))]
-fn behind(line: &[u8], place: usize) -> Option<&[u8]>
-    ensures { IfSome result (λ rest. rest.now ≡ drop place line.now) }
-{
-    if place > line.len() {
-        return None;
-    }
-    Some(&line[place..])
-}
+use crate::plan::{Back, OffsetPlaces, Places, Plan};
+use calendar::{Month, UtcOffset, Weekday};
+use calendar_count::closed;
+use parsing_fields::{Fields, Fraction, offset_minutes};
 
 // The number of the two digits at a place.
 #[inline(always)]
 fn two_digits_at(line: &[u8], place: usize) -> u8
     requires { HasPair line.now place }
     ensures writes { WritesAt 2 line.now place result }
+    ensures value { result
+        ≡ (get_or line.now place 0 - 48) * 10 + (get_or line.now (place + 1) 0 - 48) }
     ensures bound { result ≤ 99 }
 {
     (line[place] - b'0') * 10 + (line[place + 1] - b'0')
+}
+
+// The number below 60 at a place.
+#[inline(always)]
+fn sixty_at(line: &[u8], place: usize) -> u8
+    requires { HasSixty line.now place }
+    ensures writes { WritesAt 2 line.now place result }
+    ensures bound { result ≤ 59 }
+{
+    two_digits_at(line, place)
 }
 
 // The number of the four digits at a place.
@@ -79,7 +83,8 @@ fn month_of(first: u8, second: u8, third: u8) -> Option<Month>
 #[inline(always)]
 fn month_name_at(line: &[u8], place: usize) -> Option<u8>
     requires { place + 3 ≤ length line.now }
-    ensures { IfSome result (SaysMonth true line.now place) }
+    ensures says { IfSome result (SaysMonth true line.now place) }
+    ensures bound { IfSome result (λ n. (1 ≤ n) × (n ≤ 12)) }
 {
     let month = month_of(line[place], line[place + 1], line[place + 2])?;
     Some(month.number())
@@ -88,18 +93,26 @@ fn month_name_at(line: &[u8], place: usize) -> Option<u8>
 // The number of the month whose number is at a place.
 #[inline(always)]
 fn month_number_at(line: &[u8], place: usize) -> Option<u8>
-    ensures { IfSome result (SaysMonth false line.now place) }
+    requires { HasPair line.now place }
+    ensures says { IfSome result (SaysMonth false line.now place) }
+    ensures bound { IfSome result (λ n. (1 ≤ n) × (n ≤ 12)) }
 {
-    let (number, _) = two_digits(behind(line, place)?)?;
-    let _month = Month::try_from(number).ok()?;
+    let number = two_digits_at(line, place);
+    if number < 1 || number > 12 {
+        return None;
+    }
+    // It is that of a month.
+    let _month = Month::from_number(number);
     Some(number)
 }
 
 // The number of a month at a place.
 #[inline(always)]
 fn month_at(line: &[u8], place: usize, is_named: bool) -> Option<u8>
-    requires { place + 3 ≤ length line.now }
-    ensures { IfSome result (SaysMonth is_named line.now place) }
+    requires room { is_named ≡ true → place + 3 ≤ length line.now }
+    requires digits { is_named ≡ false → HasPair line.now place }
+    ensures says { IfSome result (SaysMonth is_named line.now place) }
+    ensures bound { IfSome result (λ n. (1 ≤ n) × (n ≤ 12)) }
 {
     if is_named {
         month_name_at(line, place)
@@ -108,16 +121,81 @@ fn month_at(line: &[u8], place: usize, is_named: bool) -> Option<u8>
     }
 }
 
+// The number of a day at a place, which may have a space in front. Of a space the low half is 0, and of a digit its number.
+#[inline(always)]
+fn day_at(line: &[u8], place: usize) -> Option<u8>
+    requires { HasSpaced line.now place }
+    ensures spaced { IfSome result (WritesDay true line.now place) }
+    ensures digits { IfSome result
+        (λ d. 48 ≤ get_or line.now place 0 → WritesDay false line.now place d) }
+{
+    let first = line[place];
+    if first > b' ' && first < b'0' {
+        return None;
+    }
+    Some((first & 15) * 10 + (line[place + 1] - b'0'))
+}
+
+// The weekday that has these letters.
+#[inline(always)]
+#[tactic(auto, unfolding(parsing_shapes::specs::Names::found, parsing_shapes::specs::Names::begins))]
+fn weekday_of(first: u8, second: u8, third: u8) -> Option<Weekday>
+    ensures { IfSome result (λ weekday. IsWeekdayNameOf weekday first second third) }
+{
+    match first {
+        b'M' if second == b'o' && third == b'n' => Some(Weekday::Monday),
+        b'T' if second == b'u' && third == b'e' => Some(Weekday::Tuesday),
+        b'W' if second == b'e' && third == b'd' => Some(Weekday::Wednesday),
+        b'T' if second == b'h' && third == b'u' => Some(Weekday::Thursday),
+        b'F' if second == b'r' && third == b'i' => Some(Weekday::Friday),
+        b'S' if second == b'a' && third == b't' => Some(Weekday::Saturday),
+        b'S' if second == b'u' && third == b'n' => Some(Weekday::Sunday),
+        _ => None,
+    }
+}
+
+// Whether a weekday stands where one has to.
+#[inline(always)]
+fn has_weekday(place: Option<usize>, line: &[u8]) -> bool
+    requires { ForSome place (λ p. p + 3 ≤ length line.now) }
+    ensures { result ≡ true → SaysWeekday place line.now }
+{
+    let Some(at) = place else {
+        return true;
+    };
+    let Some(_weekday) = weekday_of(line[at], line[at + 1], line[at + 2]) else {
+        return false;
+    };
+    true
+}
+
+// Whether a year of four digits has the day.
+#[inline(always)]
+#[tactic(auto, using(crate::proofs::Parts::short_months))]
+fn has_day(year: u16, month: u8, day: u8) -> bool
+    requires year { year ≤ 9999 }
+    requires month { (1 ≤ month) × (month ≤ 12) }
+    ensures day { result ≡ true → IsDay (pos year) month day }
+    ensures bound { result ≡ true → (1 ≤ day) × (day ≤ 31) }
+{
+    closed::has_day(i32::from(year), month, day)
+}
+
 // The year, the month and the day of a line that has the layout of a plan.
 #[inline(always)]
-fn date(plan: &Plan, line: &[u8]) -> Option<(u16, u8, u8)>
+fn date(plan: &Places, line: &[u8]) -> Option<(u16, u8, u8)>
     requires { Fits plan.now.layout plan.now.bounds line.now }
-    ensures { IfSome result (λ d. SaysDate plan.now.layout line.now d.0 d.1 d.2) }
+    ensures says { IfSome result (λ d. SaysDate plan.now.layout line.now d.0 d.1 d.2) }
+    ensures day { IfSome result (λ d. IsDay (pos d.0) d.1 d.2) }
+    ensures year { IfSome result (λ d. d.0 ≤ 9999) }
 {
-    let year = four_digits_at(line, plan.year);
+    if !has_weekday(plan.layout.weekday, line) {
+        return None;
+    }
     let month = month_at(line, plan.month, plan.layout.month_is_named)?;
-    let day = two_digits_at(line, plan.day);
-    if day < 1 || day > 31 {
+    let day = day_at(line, plan.day)?;
+    let year = four_digits_at(line, plan.year);
+    if !has_day(year, month, day) {
         return None;
     }
     Some((year, month, day))
@@ -125,17 +203,19 @@ fn date(plan: &Plan, line: &[u8]) -> Option<(u16, u8, u8)>
 
 // The minute of the day, and the second.
 #[inline(always)]
-fn clock(plan: &Plan, line: &[u8]) -> Option<(u16, u8)>
+fn clock(plan: &Places, line: &[u8]) -> Option<(u16, u8)>
     requires { Fits plan.now.layout plan.now.bounds line.now }
-    ensures { IfSome result (λ t. SaysClock plan.now.layout line.now t.0 t.1) }
+    ensures says { IfSome result (λ t. SaysClock plan.now.layout line.now t.0 t.1) }
+    ensures minute { IfSome result (λ t. t.0 < 1440) }
+    ensures second { IfSome result (λ t. t.1 < 60) }
 {
     let hour = two_digits_at(line, plan.hour);
-    let minute = two_digits_at(line, plan.minute);
-    let second = two_digits_at(line, plan.second);
-    if second > 59 {
+    if hour > 23 {
         return None;
     }
-    Some((minute_of_day(hour, minute)?, second))
+    let minute = sixty_at(line, plan.minute);
+    let second = sixty_at(line, plan.second);
+    Some((u16::from(hour) * 60 + u16::from(minute), second))
 }
 
 // Whether a sign is a minus.
@@ -155,76 +235,117 @@ fn is_minus(sign: u8) -> Option<bool>
 #[inline(always)]
 fn written_offset(line: &[u8], hour: usize, minute: usize) -> Option<i16>
     requires hour { HasPair line.now (hour + 1) }
-    requires minute { HasPair line.now minute }
+    requires minute { HasSixty line.now minute }
     ensures writes { IfSome result (WritesOffset line.now hour minute) }
     ensures bound { IfSome result (λ o. unsigned_abs o ≤ 1559) }
 {
     let is_negative = is_minus(line[hour])?;
     let hours = two_digits_at(line, hour + 1);
-    let minutes = two_digits_at(line, minute);
-    signed_minutes(is_negative, hours, minutes)
-}
-
-// The minutes of an assumed offset, which has no seconds.
-fn assumed_minutes(offset: UtcOffset) -> Option<i16>
-    ensures named { IfSome result (λ o. offset_named (beginning (Some offset)) ≡ Ok (pos 60 *ℤ o)) }
-    ensures bound { IfSome result (λ o. unsigned_abs o ≤ 1559) }
-{
-    let counted = UtcOffset::from_hms(offset.whole_hours(), offset.minutes_past_hour(), 0).ok()?;
-    if counted.seconds_past_minute() != 0 {
+    if hours > 25 {
         return None;
     }
-    Some(counted.whole_minutes())
+    let minutes = sixty_at(line, minute);
+    Some(offset_minutes(is_negative, hours, minutes))
+}
+
+// The minutes of an assumed offset, of which the seconds don't count.
+#[inline(always)]
+fn assumed_minutes(offset: UtcOffset) -> i16
+    ensures named { offset_named (beginning (Some offset)) ≡ Ok (pos 60 *ℤ result) }
+    ensures bound { unsigned_abs result ≤ 1559 }
+{
+    offset.whole_minutes()
 }
 
 // The minutes of the offset, of the line or else of the one that is assumed.
 #[inline(always)]
-fn offset(layout: &Layout, bounds: &Bounds, line: &[u8], assumed: Option<UtcOffset>) -> Option<i16>
+fn offset(
+    layout: &Layout,
+    bounds: &Bounds,
+    places: Option<OffsetPlaces>,
+    line: &[u8],
+    assumed: Option<UtcOffset>,
+) -> Option<i16>
     requires fits { Fits layout.now bounds.now line.now }
-    requires hour { ForSome layout.now.offset_hour
-        (λ place. IsPair bounds.now layout.now.length (place + 1)) }
-    requires minute { ForSome layout.now.offset_minute
-        (λ place. IsPair bounds.now layout.now.length place) }
+    requires none { ForNone places (HasNoOffset layout.now) }
+    requires some { ForSome places (λ p. HasOffset layout.now bounds.now p.hour p.minute) }
     ensures says { IfSome result (SaysOffset layout.now line.now assumed) }
     ensures bound { IfSome result (λ o. unsigned_abs o ≤ 1559) }
 {
-    match (layout.offset_hour, layout.offset_minute) {
-        (Some(hour), Some(minute)) => written_offset(line, hour, minute),
-        (None, None) => assumed_minutes(assumed?),
-        _ => None,
+    match places {
+        Some(at) => written_offset(line, at.hour, at.minute),
+        None => {
+            let offset = assumed?;
+            Some(assumed_minutes(offset))
+        }
     }
 }
 
-// The fields of a line that has a fraction of a second.
-fn read_split(plan: &Plan, back: &Back, line: &[u8], assumed: Option<UtcOffset>) -> Option<Fields>
+// The fraction of the digits from a place on, so many, at most nine, behind which no digit stands.
+#[inline(always)]
+fn fraction_at(line: &[u8], place: usize, count: usize) -> Option<Fraction>
+    requires some { 0 < count }
+    requires room { 8 ≤ place }
+    requires within { place + count ≤ length line.now }
+    requires ends { digits 1 (drop (place + count) line.now) ≡ None }
+    ensures taken { IfSome result (λ f. taken (fraction_between 1 32) (drop place line.now)
+        ≡ Some (f, drop (place + count) line.now)) }
+    ensures bound { IfSome result (λ f. f < 1_000_000_000) }
+{
+    if count <= 8 {
+        return Fraction::of_digits(line, place + count, count);
+    }
+    let Some(cut) = Fraction::read(from(line, place)) else {
+        return None;
+    };
+    let (fraction, rest) = (cut.0, cut.1);
+    if rest.len() + place + count != line.len() {
+        return None;
+    }
+    Some(fraction)
+}
+
+// Whether what stands behind a fraction lies within its bounds.
+#[inline(always)]
+fn has_back(back: &Back, line: &[u8], place: usize) -> bool
+    requires { place + back.now.layout.length ≡ length line.now }
+    ensures { result ≡ true → Fits back.now.layout back.now.bounds (drop place line.now) }
+{
+    match &back.tail {
+        Some(tail) if line.len() >= LANES => tail.has(line),
+        _ => back.bounds.has(from(line, place), back.layout.length),
+    }
+}
+
+// The fields of a line that has a fraction of a second: its digits are all that the rest of its length leaves.
+#[inline(always)]
+fn read_split(plan: &Places, back: &Back, line: &[u8], assumed: Option<UtcOffset>) -> Option<Fields>
     requires { HasNoOffset plan.now.layout }
     ensures { (m : Meaning) (defaults : Option Record)
         → IsSplitOf m plan.now.layout back.now.layout → starting defaults ≡ beginning assumed
         → IfSome result (λ f. names moment_named (whole m defaults line.now) ≡ Ok (moment_of f)) }
 {
     let length = plan.layout.length;
-    if line.len() < length || !plan.bounds.has(line, length) {
+    if line.len() <= length || line.len() - length <= back.layout.length {
+        return None;
+    }
+    let place = line.len() - back.layout.length;
+    if !plan.bounds.has(line, length) || !has_back(back, line, place) {
         return None;
     }
     let (year, month, day) = date(plan, line)?;
     let (minute, second) = clock(plan, line)?;
-    let Some(cut) = Fraction::read(from(line, length)) else {
-        return None;
-    };
-    let (fraction, rest) = (cut.0, cut.1);
-    if rest.len() != back.layout.length || !back.bounds.has(rest, back.layout.length) {
-        return None;
-    }
-    let offset = offset(&back.layout, &back.bounds, rest, assumed)?;
-    Fields::new(year, month, day, minute, second, fraction, offset)
+    let fraction = fraction_at(line, length, place - length)?;
+    let rest = from(line, place);
+    let offset = offset(&back.layout, &back.bounds, back.offset, rest, assumed)?;
+    Some(Fields::of_numbers(year, month, day, minute, second, fraction, offset))
 }
 
-impl Plan {
-    /// The fields of a line that the plan finds, with an offset assumed or none, which counts only where the line has
-    /// none: what the items of the plan read of the whole line names their moment. `None` says nothing of the line.
+impl Places {
+    // The fields of a line, with an offset assumed or none.
     #[inline(always)]
-    pub fn read(&self, line: &[u8], assumed: Option<UtcOffset>) -> Option<Fields>
-        ensures { (m : Meaning) (defaults : Option Record) → IsPlanOf m self.now
+    fn read(&self, line: &[u8], assumed: Option<UtcOffset>) -> Option<Fields>
+        ensures { (m : Meaning) (defaults : Option Record) → ArePlacesOf m self.now
             → starting defaults ≡ beginning assumed
             → IfSome result
             (λ f. names moment_named (whole m defaults line.now) ≡ Ok (moment_of f)) }
@@ -237,7 +358,27 @@ impl Plan {
         }
         let (year, month, day) = date(self, line)?;
         let (minute, second) = clock(self, line)?;
-        let offset = offset(&self.layout, &self.bounds, line, assumed)?;
-        Fields::new(year, month, day, minute, second, Fraction::new(0), offset)
+        let offset = offset(&self.layout, &self.bounds, self.offset, line, assumed)?;
+        Some(Fields::of_numbers(year, month, day, minute, second, Fraction::new(0), offset))
+    }
+}
+
+impl Plan {
+    /// The fields of a line that the plan finds, with an offset assumed or none, which counts only where the line has
+    /// none: what the items of the plan read of the whole line names their moment. `None` says nothing of the line.
+    #[inline(always)]
+    pub fn read(&self, line: &[u8], assumed: Option<UtcOffset>) -> Option<Fields>
+        ensures { (m : Meaning) (defaults : Option Record) → IsPlanOf m self.now
+            → starting defaults ≡ beginning assumed
+            → IfSome result
+            (λ f. names moment_named (whole m defaults line.now) ≡ Ok (moment_of f)) }
+    {
+        if let Some(places) = &self.places {
+            return places.read(line, assumed);
+        }
+        if let Some(unix) = &self.unix {
+            return unix.read(line);
+        }
+        None
     }
 }

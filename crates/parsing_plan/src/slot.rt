@@ -1,7 +1,7 @@
 //! The components of fixed width.
 ghost use Rattle.std.specs.Prelude.{◌≡◌, true, false, IfSome};
 ghost use Rattle.description_date_modifiers.specs.declared.choices.Padding.TheVariants as Padding;
-ghost use Rattle.parsing_plan.specs.Slot.{IsSlotOf, width};
+ghost use Rattle.parsing_plan.specs.Slot.{IsSlotOf, slot_of_day, width};
 
 use description_items::Component;
 use description_items::modifier::Padding;
@@ -14,7 +14,11 @@ pub(crate) enum Slot {
     Month,
     /// The first three letters of a month's English name, as they are written.
     MonthName,
+    /// The first three letters of a weekday's English name, as they are written.
+    WeekdayName,
     Day,
+    /// A day with a space in the place of a zero.
+    SpacedDay,
     /// The hour of a whole day.
     Hour,
     Minute,
@@ -31,7 +35,7 @@ impl Slot {
     {
         match self {
             Slot::Year => 4,
-            Slot::MonthName | Slot::OffsetHour => 3,
+            Slot::MonthName | Slot::WeekdayName | Slot::OffsetHour => 3,
             _ => 2,
         }
     }
@@ -63,6 +67,17 @@ fn slot_if(holds: bool, slot: Slot) -> Option<Slot>
     if holds { Some(slot) } else { None }
 }
 
+// The slot of a day under a padding.
+fn slot_of_day(padding: Padding) -> Option<Slot>
+    ensures { result ≡ slot_of_day padding }
+{
+    match padding {
+        Padding::Zero => Some(Slot::Day),
+        Padding::Space => Some(Slot::SpacedDay),
+        Padding::None => None,
+    }
+}
+
 /// The slot that a component is.
 pub(crate) fn slot_of(component: &Component) -> Option<Slot>
     ensures { IfSome result (IsSlotOf component.now) }
@@ -78,7 +93,8 @@ pub(crate) fn slot_of(component: &Component) -> Option<Slot>
         ),
         Component::MonthNumerical(m) => slot_if(is_zero(m.padding), Slot::Month),
         Component::MonthShort(m) => slot_if(m.case_sensitive, Slot::MonthName),
-        Component::Day(m) => slot_if(is_zero(m.padding), Slot::Day),
+        Component::WeekdayShort(m) => slot_if(m.case_sensitive, Slot::WeekdayName),
+        Component::Day(m) => slot_of_day(m.padding),
         Component::Hour24(m) => slot_if(is_zero(m.padding), Slot::Hour),
         Component::Minute(m) => slot_if(is_zero(m.padding), Slot::Minute),
         Component::Second(m) => slot_if(is_zero(m.padding), Slot::Second),

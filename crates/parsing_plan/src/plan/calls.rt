@@ -1,36 +1,115 @@
 //! The plans of descriptions.
-ghost use Rattle.std.specs.Prelude.{◌≡◌, ◌+◌, true, Some, None, map, IfSome};
-ghost use Rattle.std.specs.Option.{ForSome};
+ghost use Rattle.std.specs.Prelude.{◌≡◌, ◌+◌, ◌≤◌, true, false, get_or, Some, None, map, IfSome};
+ghost use Rattle.std.specs.Option.{ForSome, ForNone};
 ghost use Rattle.description_items.specs.Tree.{trees, listed};
 ghost use Rattle.description_tree.specs.Description.{v3_tree};
 ghost use Rattle.parsing_components.specs.Component.{reads_component, reads_component_v3};
 ghost use Rattle.parsing_record.specs.Reads.{reading, reading_of_all};
-ghost use Rattle.parsing_plan.specs.Bounds.{IsPair, HasNoOffset, HasNoClock};
-ghost use Rattle.parsing_plan.specs.Plan.{IsPlanOf};
+ghost use Rattle.parsing_plan.specs.Bounds.{IsPair, IsSixty, IsSpaced, HasNoOffset, HasNoClock, HasOffset, BeginsApart, IsTail};
+ghost use Rattle.parsing_plan.specs.Plan.{ArePlacesOf, IsPlanOf};
 
 use crate::bounds::Bounds;
-use crate::items::{HasStep, is_fraction, lead};
+use crate::items::{HasStep, is_fraction, lead, unix_of};
 use crate::layout::{LENGTH, Layout};
-use crate::plan::{Back, Plan};
+use crate::plan::{Back, OffsetPlaces, Places, Plan};
+use crate::tail::Tail;
 use description_items::BorrowedFormatItem;
 use description_tree::{FormatDescriptionV3, FormatDescriptionV3Inner as Inner};
 
-// Whether the bounds let digits alone stand for the offset, if the layout has one.
-fn is_offset(layout: &Layout, bounds: &Bounds) -> bool
-    ensures hour { result ≡ true → ForSome layout.now.offset_hour
-        (λ place. IsPair bounds.now layout.now.length (place + 1)) }
-    ensures minute { result ≡ true → ForSome layout.now.offset_minute
-        (λ place. IsPair bounds.now layout.now.length place) }
+// The places of an offset, or that there is none: `None` where it has hours or minutes alone, or other bytes than digits
+// can stand for it.
+fn offset_of(layout: &Layout, bounds: &Bounds) -> Option<Option<OffsetPlaces>>
+    ensures none { IfSome result (λ places. ForNone places (HasNoOffset layout.now)) }
+    ensures some { IfSome result (λ places. ForSome places
+        (λ p. HasOffset layout.now bounds.now p.hour p.minute)) }
 {
-    if let Some(place) = layout.offset_hour {
-        if place >= LENGTH || !bounds.is_pair(layout.length, place + 1) {
-            return false;
+    match (layout.offset_hour, layout.offset_minute) {
+        (None, None) => Some(None),
+        (Some(hour), Some(minute)) => {
+            if hour >= LENGTH || !bounds.is_pair(layout.length, hour + 1) {
+                return None;
+            }
+            if !bounds.is_sixty(layout.length, minute) {
+                return None;
+            }
+            Some(Some(OffsetPlaces { hour, minute }))
         }
+        _ => None,
     }
-    match layout.offset_minute {
-        Some(place) => bounds.is_pair(layout.length, place),
+}
+
+// Whether there is room for a month's name, or the bounds let digits alone stand for its number.
+fn is_month(layout: &Layout, bounds: &Bounds, place: usize) -> bool
+    ensures room { result ≡ true
+        → layout.now.month_is_named ≡ true → place + 3 ≤ layout.now.length }
+    ensures digits { result ≡ true
+        → layout.now.month_is_named ≡ false → IsPair bounds.now layout.now.length place }
+{
+    let length = layout.length;
+    if layout.month_is_named {
+        return length >= 3 && place <= length - 3;
+    }
+    bounds.is_pair(length, place)
+}
+
+// Whether there is room for a weekday's name, if the layout has one.
+fn has_weekday_room(layout: &Layout) -> bool
+    ensures { result ≡ true
+        → ForSome layout.now.weekday (λ place. place + 3 ≤ layout.now.length) }
+{
+    match layout.weekday {
+        Some(place) => layout.length >= 3 && place <= layout.length - 3,
         None => true,
     }
+}
+
+// Whether the bounds let digits alone stand for a day, or for its ones, where it may have a space in front.
+fn is_day(layout: &Layout, bounds: &Bounds, place: usize) -> bool
+    ensures digits { result ≡ true → IsSpaced bounds.now layout.now.length place }
+    ensures tens { result ≡ true
+        → layout.now.day_is_spaced ≡ false → 48 ≤ get_or bounds.now.low place 0 }
+{
+    if place >= LENGTH || !bounds.is_spaced(layout.length, place) {
+        return false;
+    }
+    layout.day_is_spaced || bounds.low[place] >= b'0'
+}
+
+// Whether the bounds let digits alone stand for a year.
+fn is_year(bounds: &Bounds, length: usize, place: usize) -> bool
+    ensures century { result ≡ true → IsPair bounds.now length place }
+    ensures year { result ≡ true → IsPair bounds.now length (place + 2) }
+{
+    bounds.is_pair(length, place) && bounds.is_pair(length, place + 2)
+}
+
+// The same for a time of day, whose minute and second are below 60.
+fn is_clock(bounds: &Bounds, length: usize, hour: usize, minute: usize, second: usize) -> bool
+    ensures hour { result ≡ true → IsPair bounds.now length hour }
+    ensures minute { result ≡ true → IsSixty bounds.now length minute }
+    ensures second { result ≡ true → IsSixty bounds.now length second }
+{
+    bounds.is_pair(length, hour)
+        && bounds.is_sixty(length, minute)
+        && bounds.is_sixty(length, second)
+}
+
+// Whether no digit can stand behind a fraction.
+fn begins_apart(layout: &Layout, bounds: &Bounds) -> bool
+    ensures { result ≡ true → BeginsApart bounds.now layout.now }
+{
+    layout.length == 0 || bounds.high[0] < b'0' || bounds.low[0] > b'9'
+}
+
+// The bounds at the end of a line, where they are few.
+fn tail_of(bounds: &Bounds, count: usize) -> Option<Tail>
+    ensures { ForSome result (λ t. IsTail t.low t.high bounds.now count) }
+{
+    let tail = Tail::of(bounds, count);
+    if !tail.is_of(bounds, count) {
+        return None;
+    }
+    Some(tail)
 }
 
 // Whether a layout has no place for an offset.
@@ -44,7 +123,10 @@ fn has_no_offset(layout: &Layout) -> bool
 fn has_no_clock(layout: &Layout) -> bool
     ensures { result ≡ true → HasNoClock layout.now }
 {
-    if layout.year.is_some() || layout.month.is_some() || layout.day.is_some() {
+    if layout.year.is_some() || layout.month.is_some() {
+        return false;
+    }
+    if layout.weekday.is_some() || layout.day.is_some() {
         return false;
     }
     layout.hour.is_none() && layout.minute.is_none() && layout.second.is_none()
@@ -58,23 +140,27 @@ fn back_of(layout: Layout) -> Option<Back>
     if !bounds.hold_text(&layout) {
         return None;
     }
-    if !has_no_clock(&layout) {
+    if !has_no_clock(&layout) || !begins_apart(&layout, &bounds) {
         return None;
     }
-    if !is_offset(&layout, &bounds) {
-        return None;
-    }
-    Some(Back { layout, bounds })
+    let offset = offset_of(&layout, &bounds)?;
+    let tail = tail_of(&bounds, layout.length);
+    Some(Back {
+        layout,
+        bounds,
+        offset,
+        tail,
+    })
 }
 
-// The plan of items that are read one after the other.
-fn plan_of<I: HasStep>(items: &[I]) -> Option<Plan>
+// The places of items that are read one after the other.
+fn places_of<I: HasStep>(items: &[I]) -> Option<Places>
     ensures { IfSome result
-        (IsPlanOf (reading_of_all I.language (listed (map I.tree items.now)))) }
+        (ArePlacesOf (reading_of_all I.language (listed (map I.tree items.now)))) }
 {
     let (front, count) = lead(items);
     if count == items.len() {
-        return Plan::of_layout(front);
+        return Places::of_layout(front);
     }
     if !is_fraction(&items[count]) {
         return None;
@@ -84,7 +170,28 @@ fn plan_of<I: HasStep>(items: &[I]) -> Option<Plan>
     if others < rest.len() {
         return None;
     }
-    Plan::of_layout(front)?.with_back(back_of(behind)?)
+    Places::of_layout(front)?.with_back(back_of(behind)?)
+}
+
+// The plan of items that are read one after the other.
+fn plan_of<I: HasStep>(items: &[I]) -> Option<Plan>
+    ensures { IfSome result
+        (IsPlanOf (reading_of_all I.language (listed (map I.tree items.now)))) }
+{
+    if let Some(places) = places_of(items) {
+        return Some(Plan {
+            places: Some(places),
+            unix: None,
+        });
+    }
+    if items.len() != 1 {
+        return None;
+    }
+    let unix = unix_of(&items[0])?;
+    Some(Plan {
+        places: None,
+        unix: Some(unix),
+    })
 }
 
 impl Plan {
@@ -106,16 +213,18 @@ impl Plan {
             _ => None,
         }
     }
+}
 
-    // The plan with a layout behind a fraction, where there is but one offset.
-    fn with_back(self, back: Back) -> Option<Plan>
-        ensures front { IfSome result (λ plan. plan.layout ≡ self.layout) }
-        ensures back { IfSome result (λ plan. plan.back ≡ Some back) }
+impl Places {
+    // The places with a layout behind a fraction, where there is but one offset.
+    fn with_back(self, back: Back) -> Option<Places>
+        ensures front { IfSome result (λ places. places.layout ≡ self.layout) }
+        ensures back { IfSome result (λ places. places.back ≡ Some back) }
     {
         if !has_no_offset(&self.layout) {
             return None;
         }
-        Some(Plan {
+        Some(Places {
             layout: self.layout,
             bounds: self.bounds,
             year: self.year,
@@ -124,35 +233,34 @@ impl Plan {
             hour: self.hour,
             minute: self.minute,
             second: self.second,
+            offset: self.offset,
             back: Some(back),
         })
     }
 
-    // The plan of a layout that has places for all of a date and a time of day.
-    fn of_layout(layout: Layout) -> Option<Plan>
-        ensures front { IfSome result (λ plan. plan.layout ≡ layout) }
-        ensures back { IfSome result (λ plan. plan.back ≡ None) }
+    // The places of a layout that has places for all of a date and a time of day.
+    fn of_layout(layout: Layout) -> Option<Places>
+        ensures front { IfSome result (λ places. places.layout ≡ layout) }
+        ensures back { IfSome result (λ places. places.back ≡ None) }
     {
         let (year, month, day) = (layout.year?, layout.month?, layout.day?);
         let (hour, minute, second) = (layout.hour?, layout.minute?, layout.second?);
         let bounds = Bounds::of(&layout);
         let length = layout.length;
-        if !bounds.hold_text(&layout) || !is_offset(&layout, &bounds) {
+        if length < 8 || !bounds.hold_text(&layout) {
             return None;
         }
-        if length < 3 || month > length - 3 {
+        if !is_year(&bounds, length, year) || !is_month(&layout, &bounds, month) {
             return None;
         }
-        if !bounds.is_pair(length, year) || !bounds.is_pair(length, year + 2) {
+        if !is_day(&layout, &bounds, day) || !has_weekday_room(&layout) {
             return None;
         }
-        if !bounds.is_pair(length, day) || !bounds.is_pair(length, hour) {
+        if !is_clock(&bounds, length, hour, minute, second) {
             return None;
         }
-        if !bounds.is_pair(length, minute) || !bounds.is_pair(length, second) {
-            return None;
-        }
-        Some(Plan {
+        let offset = offset_of(&layout, &bounds)?;
+        Some(Places {
             layout,
             bounds,
             year,
@@ -161,6 +269,7 @@ impl Plan {
             hour,
             minute,
             second,
+            offset,
             back: None,
         })
     }

@@ -12,5 +12,8 @@ returns-in-OneOrMore c =
     let named = fault.component (component_name (component.Subsecond m)) in
     rw c.in-Subsecond.is (λ r line n rest e. fraction_read reads_component (component.Subsecond m) named r line rest n (rw c.in-OneOrMore.is refl) e, λ r line n rest e. fraction_read reads_component_v3 (component.Subsecond m) named r line rest n (rw c.in-OneOrMore.is refl) e)
 
+pub returns-in-Some : goal.returns-in-Some
+returns-in-Some c = ((c.in-Some.ensures.few, c.in-Some.ensures.reads), (c.in-Some.ensures.few, c.in-Some.ensures.reads_v3))
+
 pub returns : goal.returns
 returns c = (λ r line said rest e. part_read reads_component c.args.component.now c.in_ok-slot.slot r line rest said c.in_ok-slot.ensures.0 e, λ r line said rest e. part_read reads_component_v3 c.args.component.now c.in_ok-slot.slot r line rest said c.in_ok-slot.ensures.1 e)

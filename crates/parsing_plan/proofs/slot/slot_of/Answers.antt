@@ -5,8 +5,8 @@ use Rattle.parsing_components.specs.Component.{reads_component, reads_component_
 use Rattle.parsing_components.specs.Ranged.{between, up_to, counted, months}
 use Rattle.parsing_components.specs.Read as read
 use Rattle.parsing_plan.specs.declared.slot.Slot.TheVariants as slot
-use Rattle.parsing_plan.specs.Slot.{slot_piece}
-use Rattle.parsing_plan.proofs.Slots.{chosen, two_read, name_read, four_read, hour_read}
+use Rattle.parsing_plan.specs.Slot.{ReadsSlot, slot_piece}
+use Rattle.parsing_plan.proofs.Slots.{chosen, two_read, name_read, weekday_read, day_read, both_slots, four_read, hour_read}
 use Rattle.parsing_plan.proofs.slot.slot_of.Goals as goal
 
 pub returns-in-CalendarYearFullExtendedRange : goal.returns-in-CalendarYearFullExtendedRange
@@ -33,11 +33,17 @@ returns-in-MonthShort c =
     let m = c.in-MonthShort.m in
     rw c.in-MonthShort.is (chosen (component.MonthShort m) slot.MonthName (m.case_sensitive) c.slot_if-in-MonthShort.result (λ h. (λ line said rest e. name_read _ m.case_sensitive line rest said (h) e, λ line said rest e. name_read _ m.case_sensitive line rest said (h) e)) c.slot_if-in-MonthShort.ensures)
 
+pub returns-in-WeekdayShort : goal.returns-in-WeekdayShort
+unfolding slot_piece reads_component reads_component_v3 reads_modern date_piece year_piece time_piece offset_piece
+returns-in-WeekdayShort c =
+    let m = c.in-WeekdayShort.m in
+    rw c.in-WeekdayShort.is (chosen (component.WeekdayShort m) slot.WeekdayName (m.case_sensitive) c.slot_if-in-WeekdayShort.result (λ h. (λ line said rest e. weekday_read _ m.case_sensitive line rest said (h) e, λ line said rest e. weekday_read _ m.case_sensitive line rest said (h) e)) c.slot_if-in-WeekdayShort.ensures)
+
 pub returns-in-Day : goal.returns-in-Day
 unfolding slot_piece reads_component reads_component_v3 reads_modern date_piece year_piece time_piece offset_piece
 returns-in-Day c =
     let m = c.in-Day.m in
-    rw c.in-Day.is (chosen (component.Day m) slot.Day (c.is_zero-in-Day.result) c.slot_if-in-Day.result (λ h. (λ line said rest e. two_read _ (between 1 31 read.Day) m.padding line rest said (c.is_zero-in-Day.ensures h) e, λ line said rest e. two_read _ (between 1 31 read.Day) m.padding line rest said (c.is_zero-in-Day.ensures h) e)) c.slot_if-in-Day.ensures)
+    rw c.in-Day.is (both_slots (ReadsSlot (reads_component (component.Day m))) (ReadsSlot (reads_component_v3 (component.Day m))) c.slot_of_day.result (day_read m.padding _ c.slot_of_day.result c.slot_of_day.ensures) (day_read m.padding _ c.slot_of_day.result c.slot_of_day.ensures))
 
 pub returns-in-Hour24 : goal.returns-in-Hour24
 unfolding slot_piece reads_component reads_component_v3 reads_modern date_piece year_piece time_piece offset_piece

@@ -1,0 +1,8 @@
+use Rattle.parsing_plan.proofs.Numbers.{weekday_named, no_weekday}
+use Rattle.parsing_plan.proofs.read.has_weekday.Goals as goal
+
+pub returns-in_default : goal.returns-in_default
+returns-in_default c = λ e. rw c.in_default.is (no_weekday c.args.line.now)
+
+pub returns : goal.returns
+returns c = λ e. rw c.in-Some.is (weekday_named c.in-Some.at c.args.line.now c.in-Some-weekday_of._weekday (c.requires c.in-Some.at c.in-Some.is) c.in-Some-weekday_of.ensures)

@@ -1,0 +1,75 @@
+//! Unix time alone on a line.
+ghost use Rattle.std.specs.Prelude.{◌≡◌, ◌+◌, ◌<◌, ◌≤◌, true, drop, length, Ok, Option, ℤ, IfSome};
+ghost use Rattle.parsing_fields.specs.Moment.{moment_of};
+ghost use Rattle.parsing_fields.specs.Written.{WriteFraction};
+ghost use Rattle.parsing_record.specs.Meaning.{Meaning};
+ghost use Rattle.parsing_record.specs.Record.{Record};
+ghost use Rattle.parsing_record.specs.Whole.{whole, names, moment_named, starting};
+ghost use Rattle.parsing_plan.specs.Beginning.{beginning};
+ghost use Rattle.parsing_plan.specs.UnixTime.{IsUnixOf, IsUnixPart};
+
+use description_items::Component;
+use parsing_fields::{Fields, Fraction};
+use parsing_pieces::{nine_digits, one_digit};
+
+// The digits of the seconds, those of the years 2001 to 2286.
+const SECOND_DIGITS: usize = 10;
+
+/// Unix time alone: ten digits of seconds, and so many digits of a fraction behind them.
+#[derive(Clone, Copy)]
+pub(crate) struct UnixTime {
+    pub(crate) finer: usize,
+    ghost few: { finer ≤ 6 },
+}
+
+fn finer_if(holds: bool, finer: usize) -> Option<usize>
+    ensures { IfSome result (λ f. (holds ≡ true) × (f ≡ finer)) }
+{
+    if holds { Some(finer) } else { None }
+}
+
+/// How many digits of a fraction the timestamp has that a component is, where it needs no sign.
+pub(crate) fn finer_digits(component: &Component) -> Option<usize>
+    ensures { IfSome result (IsUnixPart component.now) }
+{
+    match component {
+        Component::UnixTimestampSecond(m) => finer_if(!m.sign_is_mandatory, 0),
+        Component::UnixTimestampMillisecond(m) => finer_if(!m.sign_is_mandatory, 3),
+        Component::UnixTimestampMicrosecond(m) => finer_if(!m.sign_is_mandatory, 6),
+        _ => None,
+    }
+}
+
+// The fraction that the digits behind the seconds write, which may be none.
+#[inline(always)]
+fn fraction_behind(line: &[u8], finer: usize) -> Option<Fraction>
+    requires long { SECOND_DIGITS + finer ≡ length line.now }
+    requires few { finer ≤ 6 }
+    ensures writes { IfSome result (WriteFraction (drop SECOND_DIGITS line.now) finer) }
+    ensures bound { IfSome result (λ f. f < 1_000_000_000) }
+{
+    if finer == 0 {
+        return Some(Fraction::new(0));
+    }
+    Fraction::of_digits(line, line.len(), finer)
+}
+
+impl UnixTime {
+    /// The fields of a line, in UTC: `None` says nothing of the line.
+    #[inline(always)]
+    pub(crate) fn read(&self, line: &[u8]) -> Option<Fields>
+        ensures { (m : Meaning) (defaults : Option Record) (assumed : Option ℤ)
+            → IsUnixOf m self.now.finer → starting defaults ≡ beginning assumed
+            → IfSome result
+            (λ f. names moment_named (whole m defaults line.now) ≡ Ok (moment_of f)) }
+    {
+        if line.len() != SECOND_DIGITS + self.finer {
+            return None;
+        }
+        let (first, rest) = one_digit(line)?;
+        let (last, _behind) = nine_digits(rest)?;
+        let second = u64::from(first) * 1_000_000_000 + u64::from(last);
+        let fraction = fraction_behind(line, self.finer)?;
+        Fields::of_unix(second, fraction)
+    }
+}
