@@ -7,10 +7,11 @@ ghost use Rattle.parsing_pieces.specs.Readings.{value_read};
 ghost use Rattle.parsing_fields.specs.Moment as Moment;
 
 use crate::parts::Rfc3339Parts;
-use crate::reading::{fast_clock, fast_date, fast_fraction, fast_offset, parse_prefix};
+use crate::places::{behind_front, clock, date, has_shape};
+use crate::reading::{fast_fraction, fast_offset, parse_prefix};
 use datetime_types::OffsetDateTime;
 use parsing_fields::{Fields, minute_of_day};
-use parsing_pieces::{Parse, ParseFromDescription, any_byte};
+use parsing_pieces::{Parse, ParseFromDescription};
 use parsing_resolution::{leap_checked, resolve};
 
 // The moment of the numbers that a text has, with what follows them.
@@ -43,14 +44,13 @@ const SHORTEST: usize = 20;
 pub fn read_fields(input: &[u8]) -> Option<Fields>
     ensures { IfSome result (λ fields. direct input.now ≡ Ok (Moment.moment_of fields)) }
 {
-    if input.len() < SHORTEST {
+    if input.len() < SHORTEST || !has_shape(input) {
         return None;
     }
     // Whole tuples handed on would be kept in memory, at some ten instructions a line.
-    let ((year, month, day), rest) = fast_date(input)?;
-    let rest = any_byte(rest)?;
-    let ((hour, minute, second), rest) = fast_clock(rest)?;
-    let Some(read) = fast_fraction(rest) else {
+    let (year, month, day) = date(input)?;
+    let (hour, minute, second) = clock(input);
+    let Some(read) = fast_fraction(behind_front(input)) else {
         return None;
     };
     let offset = fast_offset(read.1)?;

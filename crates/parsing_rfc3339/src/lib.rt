@@ -4,6 +4,7 @@
 mod direct;
 pub mod laws;
 mod parts;
+mod places;
 mod reading;
 
 pub use direct::{read_exact, read_fast, read_fields};

@@ -11,23 +11,7 @@ ghost use Rattle.parsing_rfc3339.specs.Reading as Reading;
 use crate::parts::Rfc3339Parts;
 use parsing_fields::{Fraction, signed_minutes};
 use parsing_pieces::ParseFromDescription::{self, InvalidComponent, InvalidLiteral};
-use parsing_pieces::{
-    Zone, any_byte, byte, four_digits, fraction, sign, two_digits, within, year_month,
-};
-
-// The date at the front, where no piece of it is missing.
-#[tactic(auto, unfolding(crate::specs::Reading::date))]
-#[inline(always)]
-pub(crate) fn fast_date(bytes: &[u8]) -> Option<((u16, u8, u8), &[u8])>
-    ensures { IfSome result (λ x. Reading.date false bytes.now ≡ Ok (x.0, x.1.now)) }
-{
-    let ((year, month), rest) = year_month(bytes)?;
-    if month == 0 {
-        return None;
-    }
-    let (day, rest) = two_digits(rest)?;
-    Some(((year, month, day), rest))
-}
+use parsing_pieces::{Zone, any_byte, byte, four_digits, fraction, sign, two_digits, within};
 
 #[tactic(auto, unfolding(crate::specs::Reading::date))]
 fn date(is_strict: bool, bytes: &[u8]) -> Result<((u16, u8, u8), &[u8]), ParseFromDescription>
@@ -66,15 +50,6 @@ fn clock(is_strict: bool, bytes: &[u8]) -> Result<((u8, u8, u8), &[u8]), ParseFr
         return Err(InvalidComponent("second"));
     }
     Ok(((hour, minute, second), rest))
-}
-
-// The time of day to the second at the front, where no piece of it is missing.
-#[tactic(auto, unfolding(crate::specs::Reading::clock))]
-#[inline(always)]
-pub(crate) fn fast_clock(bytes: &[u8]) -> Option<((u8, u8, u8), &[u8])>
-    ensures { IfSome result (λ x. Reading.clock false bytes.now ≡ Ok (x.0, x.1.now)) }
-{
-    parsing_pieces::clock(bytes)
 }
 
 #[tactic(auto, unfolding(crate::specs::Reading::subsecond, crate::specs::Reading::due_fraction))]

@@ -1,4 +1,4 @@
-use Rattle.std.proofs.Common.{◌≡◌, Ok, sym, rules, arith, w16, to_z, of_z}
+use Rattle.std.proofs.Common.{◌≡◌, Ok, drop, rules, arith, w16, to_z, of_z}
 use Rattle.std.proofs.lemmas.Int.{ints}
 use Rattle.parsing_fields.specs.declared.fields.Fields.{Fields}
 use Rattle.parsing_fields.specs.Moment as Moment
@@ -6,13 +6,14 @@ use Rattle.parsing_fields.specs.Numbers.{HaveNumbers}
 use Rattle.parsing_fields.proofs.lemmas.Moments.{of_fields}
 use Rattle.parsing_rfc3339.specs.Direct.{direct}
 use Rattle.parsing_rfc3339.proofs.FastLemmas.{fields_read}
+use Rattle.parsing_rfc3339.proofs.PlaceLemmas.{any_there}
 use Rattle.parsing_rfc3339.proofs.direct.read_fields.Goals as goal
 
 pub returns : goal.returns
 returns c =
     let d = c.in_ok-year in
-    let b = c.in_ok-rest in
-    let t = c.in_ok-hour in
+    let text = c.args.input.now in
+    let t = c.clock-hour in
     let n = c.in-Some in
     let fraction = n.read.0 in
     let behind = n.read.1.now in
@@ -20,5 +21,5 @@ returns c =
     let m = c.in_ok-minute_of_day in
     let range = m.ensures.some.0 (search rules) in
     let same : to_z w16 (of_z w16 o.offset) ≡ o.offset = omega (arith, ints) in
-    of_fields (λ (f : Fields). HaveNumbers f d.year d.month d.day m.minute_of_day t.second fraction o.offset) (λ (f : Fields). direct c.args.input.now ≡ Ok (Moment.moment_of f)) c.new.result (rw same at c.new.ensures.numbers)
-    (λ f h. fields_read f c.args.input.now d.rest.now b.rest.now t.rest.now behind (d.year, d.month, d.day) (t.hour, t.minute, t.second) fraction o.offset d.ensures (sym b.ensures) t.ensures n.ensures.reads o.ensures (rw m.ensures.value at h) range.0 range.1 n.ensures.bound)
+    of_fields (λ (f : Fields). HaveNumbers f d.year d.month d.day m.minute_of_day t.result.2 fraction o.offset) (λ (f : Fields). direct c.args.input.now ≡ Ok (Moment.moment_of f)) c.new.result (rw same at c.new.ensures.numbers)
+    (λ f h. fields_read f text (drop 10 text) (drop 11 text) (drop 19 text) behind (d.year, d.month, d.day) t.result fraction o.offset d.ensures (any_there text 10 (omega arith)) t.ensures (rw c.behind_front.ensures at n.ensures.reads) o.ensures (rw m.ensures.value at h) range.0 range.1 n.ensures.bound)
