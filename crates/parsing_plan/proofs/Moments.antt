@@ -29,8 +29,8 @@ use Rattle.parsing_plan.proofs.Walk.{was_read}
 use Rattle.parsing_plan.specs.declared.layout.Layout.{Layout}
 use Rattle.parsing_plan.specs.Slot.{Values}
 use Rattle.parsing_plan.specs.Layout.{HasText, Says, read_or, with_values}
-use Rattle.parsing_plan.specs.Parts.{SaysDate, SaysClock, SaysOffset}
-use Rattle.parsing_plan.specs.Bounds.{HasNoOffset, HasNoClock}
+use Rattle.parsing_plan.specs.Parts.{SaysDate, SaysClock, SaysFraction, SaysOffset}
+use Rattle.parsing_plan.specs.Bounds.{IsFront, HasNoClock}
 use Rattle.parsing_plan.specs.Plan.{IsLayoutOf, IsSplitOf, beginning}
 
 -- ---- the record
@@ -43,7 +43,7 @@ read_here : {A : Type 0} (o : Option ℕ) (new old : A) → IsSome o → read_or
 read_here None new old h = absurd (cc)
 read_here (Some place) new old h = refl
 
-filled_is : (l : Layout) (v : Values) (r : Record) → IsSome l.year → IsSome l.month → IsSome l.day → IsSome l.hour → IsSome l.minute → IsSome l.second → with_values l v r ≡ filled l v (read_or l.weekday (Some v.weekday) r.weekday) r
+filled_is : (l : Layout) (v : Values) (r : Record) → IsSome l.year → IsSome l.month → IsSome l.day → IsSome l.hour → IsSome l.minute → IsSome l.second → with_values l v r ≡ filled l v (read_or l.weekday (Some v.weekday) r.weekday) (record r { subsecond = read_or l.subsecond (Some v.nanosecond) r.subsecond })
 filled_is l v r a b c d e f =
     rw (read_here l.year (Some (pos v.year)) r.year a, read_here l.month (Some v.month) r.month b, read_here l.day (Some v.day) r.day c, read_here l.hour (Some v.hour) r.hour_24 d, read_here l.minute (Some v.minute) r.minute e, read_here l.second (Some v.second) r.second f) refl
 
@@ -66,9 +66,13 @@ bare_beginning : (assumed : Option ℤ) → IsBare (beginning assumed)
 bare_beginning None = record { ordinal = refl; unix = refl; leap = refl }
 bare_beginning (Some offset) = record { ordinal = refl; unix = refl; leap = refl }
 
-no_fraction : (assumed : Option ℤ) → unwrap_or (beginning assumed).subsecond 0 ≡ 0
-no_fraction None = refl
-no_fraction (Some offset) = refl
+bare_or : (assumed : Option ℤ) (o : Option ℕ) → IsBare (record (beginning assumed) { subsecond = o })
+bare_or None o = record { ordinal = refl; unix = refl; leap = refl }
+bare_or (Some offset) o = record { ordinal = refl; unix = refl; leap = refl }
+
+none_before : (assumed : Option ℤ) → (beginning assumed).subsecond ≡ None
+none_before None = refl
+none_before (Some offset) = refl
 
 bare_fraction : (assumed : Option ℤ) (n : ℕ) → IsBare (record (beginning assumed) { subsecond = Some n })
 bare_fraction None n = record { ordinal = refl; unix = refl; leap = refl }
@@ -80,59 +84,60 @@ dated l v w r day time fraction offset bare is in_day in_time in_offset = rw (ba
 
 -- ---- the line
 
-values_of : (l : Layout) (line : List ℕ) (assumed : Option ℤ) (year month day minute second : ℕ) (offset : ℤ) → SaysDate l line year month day → SaysClock l line minute second → SaysOffset l line assumed offset → Values
-values_of l line assumed year month day minute second offset d t o = record { year = year; month = d.name; weekday = d.weekday; day = day; hour = t.hour; minute = t.minute; second = second; is_negative = o.values.is_negative; offset_hour = o.values.offset_hour; offset_minute = o.values.offset_minute }
+values_of : (l : Layout) (line : List ℕ) (assumed : Option ℤ) (year month day minute second fraction : ℕ) (offset : ℤ) → SaysDate l line year month day → SaysClock l line minute second → SaysFraction l line fraction → SaysOffset l line assumed offset → Values
+values_of l line assumed year month day minute second fraction offset d t n o = record { year = year; month = d.name; weekday = d.weekday; day = day; hour = t.hour; minute = t.minute; second = second; nanosecond = n.nanosecond; is_negative = o.values.is_negative; offset_hour = o.values.offset_hour; offset_minute = o.values.offset_minute }
 
-all_says : (l : Layout) (line : List ℕ) (assumed : Option ℤ) (year month day minute second : ℕ) (offset : ℤ) (d : SaysDate l line year month day) (t : SaysClock l line minute second) (o : SaysOffset l line assumed offset) → HasText l line → Says l line (values_of l line assumed year month day minute second offset d t o)
+all_says : (l : Layout) (line : List ℕ) (assumed : Option ℤ) (year month day minute second fraction : ℕ) (offset : ℤ) (d : SaysDate l line year month day) (t : SaysClock l line minute second) (n : SaysFraction l line fraction) (o : SaysOffset l line assumed offset) → HasText l line → Says l line (values_of l line assumed year month day minute second fraction offset d t n o)
 unfolding values_of
-all_says l line assumed year month day minute second offset d t o text = record { text = text; year = d.year_says; month = d.month_says; weekday = d.weekday_says; day = d.day_says; hour = t.hour_says; minute = t.minute_says; second = t.second_says; offset_hour = o.hour_says; offset_minute = o.minute_says }
+all_says l line assumed year month day minute second fraction offset d t n o text = record { text = text; year = d.year_says; month = d.month_says; weekday = d.weekday_says; day = d.day_says; hour = t.hour_says; minute = t.minute_says; second = t.second_says; subsecond = n.says; offset_hour = o.hour_says; offset_minute = o.minute_says }
 
-moment_there : (l : Layout) (line : List ℕ) (assumed : Option ℤ) (year month day minute second : ℕ) (offset : ℤ) (d : SaysDate l line year month day) (t : SaysClock l line minute second) (o : SaysOffset l line assumed offset) (f : Fields) → HaveNumbers f year month day minute second 0 offset
-    → moment_named (with_values l (values_of l line assumed year month day minute second offset d t o) (beginning assumed)) ≡ Ok (moment_of f)
+moment_there : (l : Layout) (line : List ℕ) (assumed : Option ℤ) (year month day minute second fraction : ℕ) (offset : ℤ) (d : SaysDate l line year month day) (t : SaysClock l line minute second) (n : SaysFraction l line fraction) (o : SaysOffset l line assumed offset) (f : Fields) → fraction < 1_000_000_000 → HaveNumbers f year month day minute second fraction offset
+    → moment_named (with_values l (values_of l line assumed year month day minute second fraction offset d t n o) (beginning assumed)) ≡ Ok (moment_of f)
 unfolding values_of
-moment_there l line assumed year month day minute second offset d t o f n =
-    let v : Values = values_of l line assumed year month day minute second offset d t o in
-    let r : Record = beginning assumed in
-    let w : Option Weekday = read_or l.weekday (Some v.weekday) r.weekday in
-    let same : with_values l v r ≡ filled l v w r = filled_is l v r d.year_there d.month_there d.day_there t.hour_there t.minute_there t.second_there in
-    let in_day : calendar_date_of (pos year) (month_number d.name) day ≡ Ok (day_of_fields f) = rw d.number_is (calendar_date (pos year) month day (day_of_fields f) (fields_date f year month day minute second 0 offset n)) in
-    let numbers : HaveNumbers f year month day (t.hour * 60 + t.minute) second 0 offset = rw t.minute_is at n in
-    let in_time : time_of t.hour t.minute second 0 ≡ Ok (time_of_fields f) = fields_time f year month day t.hour t.minute second 0 offset numbers t.within_a_day t.within_an_hour (omega arith) in
-    let in_offset : offset_named (filled l v w r) ≡ Ok (pos 60 *ℤ f.offset) = rw n.same_offset o.offset_is in
-    ap (λ (x : Record). moment_named x) same ∙ dated l v w r (day_of_fields f) (time_of_fields f) 0 (pos 60 *ℤ f.offset) (bare_beginning assumed) (no_fraction assumed) in_day in_time in_offset ∙ ap (λ (x : Shown). Ok x) (moment_is f)
+moment_there l line assumed year month day minute second fraction offset d t n o f bound h =
+    let v : Values = values_of l line assumed year month day minute second fraction offset d t n o in
+    let r : Record = record (beginning assumed) { subsecond = read_or l.subsecond (Some n.nanosecond) (beginning assumed).subsecond } in
+    let w : Option Weekday = read_or l.weekday (Some d.weekday) (beginning assumed).weekday in
+    let same : with_values l v (beginning assumed) ≡ filled l v w r = filled_is l v (beginning assumed) d.year_there d.month_there d.day_there t.hour_there t.minute_there t.second_there in
+    let in_day : calendar_date_of (pos year) (month_number d.name) day ≡ Ok (day_of_fields f) = rw d.number_is (calendar_date (pos year) month day (day_of_fields f) (fields_date f year month day minute second fraction offset h)) in
+    let numbers : HaveNumbers f year month day (t.hour * 60 + t.minute) second fraction offset = rw t.minute_is at h in
+    let in_time : time_of t.hour t.minute second fraction ≡ Ok (time_of_fields f) = fields_time f year month day t.hour t.minute second fraction offset numbers t.within_a_day t.within_an_hour bound in
+    let in_offset : offset_named (filled l v w r) ≡ Ok (pos 60 *ℤ f.offset) = rw h.same_offset o.offset_is in
+    let in_fraction : unwrap_or r.subsecond 0 ≡ fraction = ap (λ (x : Option ℕ). unwrap_or (read_or l.subsecond (Some n.nanosecond) x) 0) (none_before assumed) ∙ n.fraction_is in
+    ap (λ (x : Record). moment_named x) same ∙ dated l v w r (day_of_fields f) (time_of_fields f) fraction (pos 60 *ℤ f.offset) (bare_or assumed (read_or l.subsecond (Some n.nanosecond) (beginning assumed).subsecond)) in_fraction in_day in_time in_offset ∙ ap (λ (x : Shown). Ok x) (moment_is f)
 
 pub whole_is : (m : Meaning) (defaults : Option Record) (line : List ℕ) (r : Record) → m (starting defaults) line ≡ Ok (r, []) → whole m defaults line ≡ Ok r
 unfolding whole
 whole_is m defaults line r e = rw e refl
 
-pub line_read : (l : Layout) (line : List ℕ) (assumed : Option ℤ) (year month day minute second : ℕ) (offset : ℤ) → HasText l line → length line ≡ l.length → SaysDate l line year month day → SaysClock l line minute second → SaysOffset l line assumed offset
-    → (f : Fields) → HaveNumbers f year month day minute second 0 offset → (m : Meaning) (defaults : Option Record) → IsLayoutOf m l → starting defaults ≡ beginning assumed → names moment_named (whole m defaults line) ≡ Ok (moment_of f)
-line_read l line assumed year month day minute second offset text long d t o f n m defaults plan start =
-    let v : Values = values_of l line assumed year month day minute second offset d t o in
+pub line_read : (l : Layout) (line : List ℕ) (assumed : Option ℤ) (year month day minute second fraction : ℕ) (offset : ℤ) → HasText l line → length line ≡ l.length → SaysDate l line year month day → SaysClock l line minute second → SaysFraction l line fraction → SaysOffset l line assumed offset
+    → (f : Fields) → fraction < 1_000_000_000 → HaveNumbers f year month day minute second fraction offset → (m : Meaning) (defaults : Option Record) → IsLayoutOf m l → starting defaults ≡ beginning assumed → names moment_named (whole m defaults line) ≡ Ok (moment_of f)
+line_read l line assumed year month day minute second fraction offset text long d t s o f bound n m defaults plan start =
+    let v : Values = values_of l line assumed year month day minute second fraction offset d t s o in
     let nothing : drop l.length line ≡ [] = drop_all l.length line (omega (arith, long)) in
-    let read = was_read (m (starting defaults) line) _ (plan line v (omega (arith, long)) (all_says l line assumed year month day minute second offset d t o text) (starting defaults)) in
+    let read = was_read (m (starting defaults) line) _ (plan line v (omega (arith, long)) (all_says l line assumed year month day minute second fraction offset d t s o text) (starting defaults)) in
     let all : m (starting defaults) line ≡ Ok (with_values l v (beginning assumed), []) = rw (← start, ← nothing) read in
-    rw (whole_is m defaults line (with_values l v (beginning assumed)) all) (moment_there l line assumed year month day minute second offset d t o f n)
+    rw (whole_is m defaults line (with_values l v (beginning assumed)) all) (moment_there l line assumed year month day minute second fraction offset d t s o f bound n)
 
 -- ---- the line with a fraction
 
 -- the places of a date and a time of day are in front, those of an offset behind
-both_filled : (front back : Layout) (v : Values) (r : Record) (n : ℕ) → HasNoOffset front → HasNoClock back → IsSome front.year → IsSome front.month → IsSome front.day → IsSome front.hour → IsSome front.minute → IsSome front.second → with_values back v (record (with_values front v r) { subsecond = Some n }) ≡ filled back v (read_or front.weekday (Some v.weekday) r.weekday) (record r { subsecond = Some n })
+both_filled : (front back : Layout) (v : Values) (r : Record) (n : ℕ) → IsFront front → HasNoClock back → IsSome front.year → IsSome front.month → IsSome front.day → IsSome front.hour → IsSome front.minute → IsSome front.second → with_values back v (record (with_values front v r) { subsecond = Some n }) ≡ filled back v (read_or front.weekday (Some v.weekday) r.weekday) (record r { subsecond = Some n })
 both_filled front back v r n none clock a b c d e f =
-    rw (none.no_hour, none.no_minute, clock.no_year, clock.no_month, clock.no_weekday, clock.no_day, clock.no_hour, clock.no_minute, clock.no_second, read_here front.year (Some (pos v.year)) r.year a, read_here front.month (Some v.month) r.month b, read_here front.day (Some v.day) r.day c, read_here front.hour (Some v.hour) r.hour_24 d, read_here front.minute (Some v.minute) r.minute e, read_here front.second (Some v.second) r.second f) refl
+    rw (none.no_offset.no_hour, none.no_offset.no_minute, clock.no_year, clock.no_month, clock.no_weekday, clock.no_day, clock.no_hour, clock.no_minute, clock.no_second, clock.no_subsecond, read_here front.year (Some (pos v.year)) r.year a, read_here front.month (Some v.month) r.month b, read_here front.day (Some v.day) r.day c, read_here front.hour (Some v.hour) r.hour_24 d, read_here front.minute (Some v.minute) r.minute e, read_here front.second (Some v.second) r.second f) refl
 
 split_values : (front back : Layout) (line rest : List ℕ) (assumed : Option ℤ) (year month day minute second : ℕ) (offset : ℤ) → SaysDate front line year month day → SaysClock front line minute second → SaysOffset back rest assumed offset → Values
-split_values front back line rest assumed year month day minute second offset d t o = record { year = year; month = d.name; weekday = d.weekday; day = day; hour = t.hour; minute = t.minute; second = second; is_negative = o.values.is_negative; offset_hour = o.values.offset_hour; offset_minute = o.values.offset_minute }
+split_values front back line rest assumed year month day minute second offset d t o = record { year = year; month = d.name; weekday = d.weekday; day = day; hour = t.hour; minute = t.minute; second = second; nanosecond = 0; is_negative = o.values.is_negative; offset_hour = o.values.offset_hour; offset_minute = o.values.offset_minute }
 
-front_says : (front : Layout) (line rest : List ℕ) (assumed : Option ℤ) (back : Layout) (year month day minute second : ℕ) (offset : ℤ) (d : SaysDate front line year month day) (t : SaysClock front line minute second) (o : SaysOffset back rest assumed offset) → HasNoOffset front → HasText front line → Says front line (split_values front back line rest assumed year month day minute second offset d t o)
+front_says : (front : Layout) (line rest : List ℕ) (assumed : Option ℤ) (back : Layout) (year month day minute second : ℕ) (offset : ℤ) (d : SaysDate front line year month day) (t : SaysClock front line minute second) (o : SaysOffset back rest assumed offset) → IsFront front → HasText front line → Says front line (split_values front back line rest assumed year month day minute second offset d t o)
 unfolding split_values
-front_says front line rest assumed back year month day minute second offset d t o none text = record { text = text; year = d.year_says; month = d.month_says; weekday = d.weekday_says; day = d.day_says; hour = t.hour_says; minute = t.minute_says; second = t.second_says; offset_hour = rw none.no_hour tt; offset_minute = rw none.no_minute tt }
+front_says front line rest assumed back year month day minute second offset d t o none text = record { text = text; year = d.year_says; month = d.month_says; weekday = d.weekday_says; day = d.day_says; hour = t.hour_says; minute = t.minute_says; second = t.second_says; subsecond = rw none.no_subsecond tt; offset_hour = rw none.no_offset.no_hour tt; offset_minute = rw none.no_offset.no_minute tt }
 
 back_says : (front : Layout) (line rest : List ℕ) (assumed : Option ℤ) (back : Layout) (year month day minute second : ℕ) (offset : ℤ) (d : SaysDate front line year month day) (t : SaysClock front line minute second) (o : SaysOffset back rest assumed offset) → HasNoClock back → HasText back rest → Says back rest (split_values front back line rest assumed year month day minute second offset d t o)
 unfolding split_values
-back_says front line rest assumed back year month day minute second offset d t o none text = record { text = text; year = rw none.no_year tt; month = rw none.no_month tt; weekday = rw none.no_weekday tt; day = rw none.no_day tt; hour = rw none.no_hour tt; minute = rw none.no_minute tt; second = rw none.no_second tt; offset_hour = o.hour_says; offset_minute = o.minute_says }
+back_says front line rest assumed back year month day minute second offset d t o none text = record { text = text; year = rw none.no_year tt; month = rw none.no_month tt; weekday = rw none.no_weekday tt; day = rw none.no_day tt; hour = rw none.no_hour tt; minute = rw none.no_minute tt; second = rw none.no_second tt; subsecond = rw none.no_subsecond tt; offset_hour = o.hour_says; offset_minute = o.minute_says }
 
-split_moment : (front : Layout) (line rest : List ℕ) (assumed : Option ℤ) (back : Layout) (year month day minute second nanosecond : ℕ) (offset : ℤ) (d : SaysDate front line year month day) (t : SaysClock front line minute second) (o : SaysOffset back rest assumed offset) (f : Fields) → HasNoOffset front → HasNoClock back → nanosecond < 1_000_000_000 → HaveNumbers f year month day minute second nanosecond offset
+split_moment : (front : Layout) (line rest : List ℕ) (assumed : Option ℤ) (back : Layout) (year month day minute second nanosecond : ℕ) (offset : ℤ) (d : SaysDate front line year month day) (t : SaysClock front line minute second) (o : SaysOffset back rest assumed offset) (f : Fields) → IsFront front → HasNoClock back → nanosecond < 1_000_000_000 → HaveNumbers f year month day minute second nanosecond offset
     → moment_named (with_values back (split_values front back line rest assumed year month day minute second offset d t o) (record (with_values front (split_values front back line rest assumed year month day minute second offset d t o) (beginning assumed)) { subsecond = Some nanosecond })) ≡ Ok (moment_of f)
 unfolding split_values
 split_moment front line rest assumed back year month day minute second nanosecond offset d t o f none clock bound n =
@@ -146,7 +151,7 @@ split_moment front line rest assumed back year month day minute second nanosecon
     let in_offset : offset_named (filled back v w r) ≡ Ok (pos 60 *ℤ f.offset) = rw n.same_offset o.offset_is in
     ap (λ (x : Record). moment_named x) same ∙ dated back v w r (day_of_fields f) (time_of_fields f) nanosecond (pos 60 *ℤ f.offset) (bare_fraction assumed nanosecond) refl in_day in_time in_offset ∙ ap (λ (x : Shown). Ok x) (moment_is f)
 
-pub split_read : (front back : Layout) (line rest : List ℕ) (assumed : Option ℤ) (year month day minute second nanosecond : ℕ) (offset : ℤ) → HasNoOffset front → HasNoClock back → front.length ≤ length line → HasText front line → taken (fraction_between 1 32) (drop front.length line) ≡ Some (nanosecond, rest) → nanosecond < 1_000_000_000 → length rest ≡ back.length → HasText back rest → SaysDate front line year month day → SaysClock front line minute second → SaysOffset back rest assumed offset
+pub split_read : (front back : Layout) (line rest : List ℕ) (assumed : Option ℤ) (year month day minute second nanosecond : ℕ) (offset : ℤ) → IsFront front → HasNoClock back → front.length ≤ length line → HasText front line → taken (fraction_between 1 32) (drop front.length line) ≡ Some (nanosecond, rest) → nanosecond < 1_000_000_000 → length rest ≡ back.length → HasText back rest → SaysDate front line year month day → SaysClock front line minute second → SaysOffset back rest assumed offset
     → (f : Fields) → HaveNumbers f year month day minute second nanosecond offset → (m : Meaning) (defaults : Option Record) → IsSplitOf m front back → starting defaults ≡ beginning assumed → names moment_named (whole m defaults line) ≡ Ok (moment_of f)
 split_read front back line rest assumed year month day minute second nanosecond offset none clock fits text fraction bound long back_text d t o f n m defaults plan start =
     let v : Values = split_values front back line rest assumed year month day minute second offset d t o in

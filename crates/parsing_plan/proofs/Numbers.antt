@@ -35,7 +35,7 @@ use Rattle.parsing_plan.specs.declared.bounds.Bounds.{Bounds}
 use Rattle.parsing_plan.specs.declared.layout.Layout.{Layout}
 use Rattle.parsing_plan.specs.Bounds.{LiesWithin, IsPair, IsSixty, HasPair, HasSixty, IsSpaced, HasSpaced, HoldText, BeginsApart}
 use Rattle.parsing_plan.specs.Layout.{HasText}
-use Rattle.parsing_plan.specs.Parts.{WritesAt, WritesDay, WritesOffset, SaysMonth, SaysWeekday, IsNameOf, IsWeekdayNameOf}
+use Rattle.parsing_plan.specs.Parts.{WritesAt, WritesDay, WritesOffset, SaysMonth, SaysWeekday, SaysFraction, IsNameOf, IsWeekdayNameOf}
 use Rattle.parsing_pieces.proofs.Fixed.{digits_two, digits_four}
 
 -- ---- numbers
@@ -306,3 +306,21 @@ no_digit_there b l rest apart long within = elim (cases_lt 0 l.length) [
       digits_one rest ∙ no_digit _ _ _ _ other
   | inr none ↦ nothing_there rest (omega arith)
 ]
+
+-- ---- fractions of so many digits
+
+pub no_fraction : (l : Layout) (line : List ℕ) → l.subsecond ≡ None → SaysFraction l line 0
+no_fraction l line none = record { nanosecond = 0; says = rw none tt; fraction_is = rw none refl }
+
+fraction_said : (l : Layout) (line : List ℕ) (place n : ℕ) → l.subsecond ≡ Some place → WriteFraction (drop place line) l.subsecond_digits n → SaysFraction l line n
+unfolding slot_piece
+fraction_said l line place n is w =
+    let count : ℕ = l.subsecond_digits in
+    let least : min (digit_count (drop place line)) count ≡ count = omega (arith, w.enough) in
+    let there : nat_le count (digit_count (drop place line)) ≡ true = let enough = w.enough in grind (arith, nat_tests) in
+    let read_it : taken (fraction_between count count) (drop place line) ≡ Some (n, drop (place + count) line) = taken_digits nanoseconds_of count count (drop place line) (omega arith) ∙ rw (least, there, w.value, drop-drop count place line) refl in
+    record { nanosecond = n; says = rw (is, read_it) refl; fraction_is = rw is refl }
+
+pub fractions_said : (l : Layout) (line : List ℕ) (place : ℕ) (o : Option ℕ) → l.subsecond ≡ Some place → IfSome o (WriteFraction (drop place line) l.subsecond_digits) → IfSome o (SaysFraction l line)
+fractions_said l line place None is w = tt
+fractions_said l line place (Some n) is w = fraction_said l line place n is w

@@ -75,7 +75,7 @@ no_second None = refl
 no_second (Some offset) = refl
 
 written_values : Bool → ℕ → ℕ → Values
-written_values is_negative hours minutes = record { year = 0; month = month.January; weekday = weekday.Monday; day = 0; hour = 0; minute = 0; second = 0; is_negative = is_negative; offset_hour = hours; offset_minute = minutes }
+written_values is_negative hours minutes = record { year = 0; month = month.January; weekday = weekday.Monday; day = 0; hour = 0; minute = 0; second = 0; nanosecond = 0; is_negative = is_negative; offset_hour = hours; offset_minute = minutes }
 
 pub written_says : (l : Layout) (line : List ℕ) (assumed : Option ℤ) (at_hour at_minute : ℕ) (o : Option ℤ) → l.offset_hour ≡ Some at_hour → l.offset_minute ≡ Some at_minute → IfSome o (WritesOffset line at_hour at_minute) → IfSome o (SaysOffset l line assumed)
 unfolding written_values

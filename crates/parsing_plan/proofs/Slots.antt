@@ -7,6 +7,9 @@ use Rattle.std.proofs.lemmas.Bool.Decides.{nat_tests}
 use Rattle.calendar_count.specs.Range.{greatest_year}
 use Rattle.description_date_modifiers.specs.declared.choices.Padding.{Padding}
 use Rattle.description_date_modifiers.specs.declared.choices.Padding.TheVariants as padding
+use Rattle.description_time_modifiers.specs.declared.choices.SubsecondDigits.{SubsecondDigits}
+use Rattle.description_time_modifiers.specs.declared.choices.SubsecondDigits.TheVariants as digits_of
+use Rattle.parsing_components.specs.Component.{fraction_of}
 use Rattle.description_items.specs.declared.component.Component.{Component}
 use Rattle.parsing_pieces.specs.Fault.{Fault}
 use Rattle.parsing_pieces.specs.Readings.{piece_or}
@@ -20,7 +23,7 @@ use Rattle.parsing_components.specs.Ranged.{kept, between, up_to}
 use Rattle.parsing_components.specs.Read.{Read}
 use Rattle.parsing_components.specs.Read as read
 use Rattle.parsing_plan.specs.declared.slot.Slot.{Slot}
-use Rattle.parsing_plan.specs.Slot.{IsSlotOf, slot_piece, slot_of_day}
+use Rattle.parsing_plan.specs.Slot.{IsSlotOf, slot_piece, slot_of_day, slot_of_subsecond}
 
 -- a choice under a condition
 pub chosen : (c : Component) (slot : Slot) (holds : Bool) (o : Option Slot) → (holds ≡ true → IsSlotOf c slot) → IfSome o (λ s. (holds ≡ true) × (s ≡ slot)) → IfSome o (IsSlotOf c)
@@ -106,3 +109,17 @@ both_slots P Q (Some s) p q = (p, q)
 
 pub weekday_read : (fault : Fault) (case_sensitive : Bool) (line rest : List ℕ) (said : Read) → case_sensitive ≡ true → kept (λ w. Some (read.Weekday w)) (taken (named true short_weekdays) line) ≡ Some (said, rest) → piece_or fault (kept (λ w. Some (read.Weekday w)) (taken (named case_sensitive short_weekdays) line)) ≡ Ok (said, rest)
 weekday_read fault case_sensitive line rest said exact e = rw (exact, e) refl
+
+-- so many digits of a fraction
+pub subsecond_read : (d : SubsecondDigits) (fault : Fault) (o : Option Slot) → o ≡ slot_of_subsecond d → IfSome o (λ s. (line : List ℕ) (said : Read) (rest : List ℕ) → slot_piece s line ≡ Some (said, rest) → piece_or fault (kept (λ n. Some (read.Subsecond n)) (taken (fraction_of d) line)) ≡ Ok (said, rest))
+unfolding slot_piece
+subsecond_read digits_of.One fault o is = rw is (λ line said rest e. rw e refl)
+subsecond_read digits_of.Two fault o is = rw is (λ line said rest e. rw e refl)
+subsecond_read digits_of.Three fault o is = rw is (λ line said rest e. rw e refl)
+subsecond_read digits_of.Four fault o is = rw is (λ line said rest e. rw e refl)
+subsecond_read digits_of.Five fault o is = rw is (λ line said rest e. rw e refl)
+subsecond_read digits_of.Six fault o is = rw is (λ line said rest e. rw e refl)
+subsecond_read digits_of.Seven fault o is = rw is (λ line said rest e. rw e refl)
+subsecond_read digits_of.Eight fault o is = rw is (λ line said rest e. rw e refl)
+subsecond_read digits_of.Nine fault o is = rw is tt
+subsecond_read digits_of.OneOrMore fault o is = rw is tt

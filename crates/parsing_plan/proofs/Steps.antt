@@ -27,21 +27,23 @@ put_value slot.SpacedDay l v r = refl
 put_value slot.Hour l v r = refl
 put_value slot.Minute l v r = refl
 put_value slot.Second l v r = refl
+put_value (slot.Subsecond count) l v r = refl
 put_value slot.OffsetHour l v r = refl
 put_value slot.OffsetMinute l v r = refl
 
 shorter : (s : Slot) (l : Layout) (line : List ℕ) (v : Values) → place_of l s ≡ None → Says (with_slot l s) line v → Says l line v
-shorter slot.Year l line v free h = record { text = h.text; year = rw free tt; month = h.month; weekday = h.weekday; day = h.day; hour = h.hour; minute = h.minute; second = h.second; offset_hour = h.offset_hour; offset_minute = h.offset_minute }
-shorter slot.Month l line v free h = record { text = h.text; year = h.year; month = rw free tt; weekday = h.weekday; day = h.day; hour = h.hour; minute = h.minute; second = h.second; offset_hour = h.offset_hour; offset_minute = h.offset_minute }
-shorter slot.MonthName l line v free h = record { text = h.text; year = h.year; month = rw free tt; weekday = h.weekday; day = h.day; hour = h.hour; minute = h.minute; second = h.second; offset_hour = h.offset_hour; offset_minute = h.offset_minute }
-shorter slot.WeekdayName l line v free h = record { text = h.text; year = h.year; month = h.month; weekday = rw free tt; day = h.day; hour = h.hour; minute = h.minute; second = h.second; offset_hour = h.offset_hour; offset_minute = h.offset_minute }
-shorter slot.Day l line v free h = record { text = h.text; year = h.year; month = h.month; weekday = h.weekday; day = rw free tt; hour = h.hour; minute = h.minute; second = h.second; offset_hour = h.offset_hour; offset_minute = h.offset_minute }
-shorter slot.SpacedDay l line v free h = record { text = h.text; year = h.year; month = h.month; weekday = h.weekday; day = rw free tt; hour = h.hour; minute = h.minute; second = h.second; offset_hour = h.offset_hour; offset_minute = h.offset_minute }
-shorter slot.Hour l line v free h = record { text = h.text; year = h.year; month = h.month; weekday = h.weekday; day = h.day; hour = rw free tt; minute = h.minute; second = h.second; offset_hour = h.offset_hour; offset_minute = h.offset_minute }
-shorter slot.Minute l line v free h = record { text = h.text; year = h.year; month = h.month; weekday = h.weekday; day = h.day; hour = h.hour; minute = rw free tt; second = h.second; offset_hour = h.offset_hour; offset_minute = h.offset_minute }
-shorter slot.Second l line v free h = record { text = h.text; year = h.year; month = h.month; weekday = h.weekday; day = h.day; hour = h.hour; minute = h.minute; second = rw free tt; offset_hour = h.offset_hour; offset_minute = h.offset_minute }
-shorter slot.OffsetHour l line v free h = record { text = h.text; year = h.year; month = h.month; weekday = h.weekday; day = h.day; hour = h.hour; minute = h.minute; second = h.second; offset_hour = rw free tt; offset_minute = h.offset_minute }
-shorter slot.OffsetMinute l line v free h = record { text = h.text; year = h.year; month = h.month; weekday = h.weekday; day = h.day; hour = h.hour; minute = h.minute; second = h.second; offset_hour = h.offset_hour; offset_minute = rw free tt }
+shorter slot.Year l line v free h = record { text = h.text; year = rw free tt; month = h.month; weekday = h.weekday; day = h.day; hour = h.hour; minute = h.minute; second = h.second; subsecond = h.subsecond; offset_hour = h.offset_hour; offset_minute = h.offset_minute }
+shorter slot.Month l line v free h = record { text = h.text; year = h.year; month = rw free tt; weekday = h.weekday; day = h.day; hour = h.hour; minute = h.minute; second = h.second; subsecond = h.subsecond; offset_hour = h.offset_hour; offset_minute = h.offset_minute }
+shorter slot.MonthName l line v free h = record { text = h.text; year = h.year; month = rw free tt; weekday = h.weekday; day = h.day; hour = h.hour; minute = h.minute; second = h.second; subsecond = h.subsecond; offset_hour = h.offset_hour; offset_minute = h.offset_minute }
+shorter slot.WeekdayName l line v free h = record { text = h.text; year = h.year; month = h.month; weekday = rw free tt; day = h.day; hour = h.hour; minute = h.minute; second = h.second; subsecond = h.subsecond; offset_hour = h.offset_hour; offset_minute = h.offset_minute }
+shorter slot.Day l line v free h = record { text = h.text; year = h.year; month = h.month; weekday = h.weekday; day = rw free tt; hour = h.hour; minute = h.minute; second = h.second; subsecond = h.subsecond; offset_hour = h.offset_hour; offset_minute = h.offset_minute }
+shorter slot.SpacedDay l line v free h = record { text = h.text; year = h.year; month = h.month; weekday = h.weekday; day = rw free tt; hour = h.hour; minute = h.minute; second = h.second; subsecond = h.subsecond; offset_hour = h.offset_hour; offset_minute = h.offset_minute }
+shorter slot.Hour l line v free h = record { text = h.text; year = h.year; month = h.month; weekday = h.weekday; day = h.day; hour = rw free tt; minute = h.minute; second = h.second; subsecond = h.subsecond; offset_hour = h.offset_hour; offset_minute = h.offset_minute }
+shorter slot.Minute l line v free h = record { text = h.text; year = h.year; month = h.month; weekday = h.weekday; day = h.day; hour = h.hour; minute = rw free tt; second = h.second; subsecond = h.subsecond; offset_hour = h.offset_hour; offset_minute = h.offset_minute }
+shorter slot.Second l line v free h = record { text = h.text; year = h.year; month = h.month; weekday = h.weekday; day = h.day; hour = h.hour; minute = h.minute; second = rw free tt; subsecond = h.subsecond; offset_hour = h.offset_hour; offset_minute = h.offset_minute }
+shorter (slot.Subsecond count) l line v free h = record { text = h.text; year = h.year; month = h.month; weekday = h.weekday; day = h.day; hour = h.hour; minute = h.minute; second = h.second; subsecond = rw free tt; offset_hour = h.offset_hour; offset_minute = h.offset_minute }
+shorter slot.OffsetHour l line v free h = record { text = h.text; year = h.year; month = h.month; weekday = h.weekday; day = h.day; hour = h.hour; minute = h.minute; second = h.second; subsecond = h.subsecond; offset_hour = rw free tt; offset_minute = h.offset_minute }
+shorter slot.OffsetMinute l line v free h = record { text = h.text; year = h.year; month = h.month; weekday = h.weekday; day = h.day; hour = h.hour; minute = h.minute; second = h.second; subsecond = h.subsecond; offset_hour = h.offset_hour; offset_minute = rw free tt }
 
 read_there : (s : Slot) (l : Layout) (line : List ℕ) (v : Values) → Says (with_slot l s) line v → slot_piece s (drop l.length line) ≡ Some (value_in s v, drop (with_slot l s).length line)
 read_there slot.Year l line v h = h.year
@@ -53,6 +55,7 @@ read_there slot.SpacedDay l line v h = h.day
 read_there slot.Hour l line v h = h.hour
 read_there slot.Minute l line v h = h.minute
 read_there slot.Second l line v h = h.second
+read_there (slot.Subsecond count) l line v h = h.subsecond
 read_there slot.OffsetHour l line v h = h.offset_hour
 read_there slot.OffsetMinute l line v h = h.offset_minute
 
@@ -66,6 +69,7 @@ longer slot.SpacedDay l = omega arith
 longer slot.Hour l = omega arith
 longer slot.Minute l = omega arith
 longer slot.Second l = omega arith
+longer (slot.Subsecond count) l = omega arith
 longer slot.OffsetHour l = omega arith
 longer slot.OffsetMinute l = omega arith
 
@@ -97,6 +101,7 @@ shorter_byte l b line v free h = record {
   hour = h.hour;
   minute = h.minute;
   second = h.second;
+  subsecond = h.subsecond;
   offset_hour = h.offset_hour;
   offset_minute = h.offset_minute;
 }

@@ -67,6 +67,18 @@ pub record HasNoOffset (l : Layout) : Type 0 where
   pub no_hour : l.offset_hour ≡ None
   pub no_minute : l.offset_minute ≡ None
 
+-- a layout has no place for a fraction of a second, nor for an offset
+pub record IsFront (l : Layout) : Type 0 where
+  pub no_offset : HasNoOffset l
+  pub no_subsecond : l.subsecond ≡ None
+
+-- so many digits of a fraction, at most eight, end at the ninth place of a line or later, and within a length
+pub record HasRoom (length place digits : ℕ) : Type 0 where
+  pub some : 0 < digits
+  pub few : digits ≤ 8
+  pub far : 8 ≤ place + digits
+  pub within : place + digits ≤ length
+
 -- a layout has no place for a date and a time of day
 pub record HasNoClock (l : Layout) : Type 0 where
   pub no_year : l.year ≡ None
@@ -76,6 +88,7 @@ pub record HasNoClock (l : Layout) : Type 0 where
   pub no_hour : l.hour ≡ None
   pub no_minute : l.minute ≡ None
   pub no_second : l.second ≡ None
+  pub no_subsecond : l.subsecond ≡ None
 
 -- it has places for an offset, whose digits alone the bounds let stand there
 pub record HasOffset (l : Layout) (b : Bounds) (hour minute : ℕ) : Type 0 where

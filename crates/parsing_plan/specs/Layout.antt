@@ -2,6 +2,7 @@
 use Rattle.std.specs.Prelude.{◌≡◌, ℕ, ◌+◌, pos, Bool, true, false, List, drop, get_or, Option, Some, None, IfSome, set}
 use Rattle.parsing_components.specs.Ranged.{under}
 use Rattle.parsing_components.specs.Read.{Read}
+use Rattle.parsing_components.specs.Read as read
 use Rattle.parsing_record.specs.Record.{Record}
 use Rattle.parsing_plan.specs.Slot.{Values, slot_piece, value_in, width}
 use Rattle.parsing_plan.specs.declared.layout.Layout.{Layout}
@@ -18,6 +19,7 @@ place_of l slot.SpacedDay = l.day
 place_of l slot.Hour = l.hour
 place_of l slot.Minute = l.minute
 place_of l slot.Second = l.second
+place_of l (slot.Subsecond count) = l.subsecond
 place_of l slot.OffsetHour = l.offset_hour
 place_of l slot.OffsetMinute = l.offset_minute
 
@@ -32,6 +34,7 @@ with_place slot.SpacedDay place l = record l { day = place; day_is_spaced = true
 with_place slot.Hour place l = record l { hour = place }
 with_place slot.Minute place l = record l { minute = place }
 with_place slot.Second place l = record l { second = place }
+with_place (slot.Subsecond count) place l = record l { subsecond = place; subsecond_digits = count }
 with_place slot.OffsetHour place l = record l { offset_hour = place }
 with_place slot.OffsetMinute place l = record l { offset_minute = place }
 
@@ -68,6 +71,7 @@ pub record Says (l : Layout) (line : List ℕ) (v : Values) : Type 0 where
   pub hour : SaysAt slot.Hour l.hour line (value_in slot.Hour v)
   pub minute : SaysAt slot.Minute l.minute line (value_in slot.Minute v)
   pub second : SaysAt slot.Second l.second line (value_in slot.Second v)
+  pub subsecond : SaysAt (slot.Subsecond l.subsecond_digits) l.subsecond line (read.Subsecond v.nanosecond)
   pub offset_hour : SaysAt slot.OffsetHour l.offset_hour line (value_in slot.OffsetHour v)
   pub offset_minute : SaysAt slot.OffsetMinute l.offset_minute line (value_in slot.OffsetMinute v)
 
@@ -78,4 +82,4 @@ read_or (Some place) new old = new
 
 -- the record with the values of the slots that have places
 abbrev pub with_values : Layout → Values → Record → Record
-with_values l v r = record r { year = read_or l.year (Some (pos v.year)) r.year; month = read_or l.month (Some v.month) r.month; weekday = read_or l.weekday (Some v.weekday) r.weekday; day = read_or l.day (Some v.day) r.day; hour_24 = read_or l.hour (Some v.hour) r.hour_24; minute = read_or l.minute (Some v.minute) r.minute; second = read_or l.second (Some v.second) r.second; offset_hour = read_or l.offset_hour (Some (under v.is_negative v.offset_hour)) r.offset_hour; offset_is_negative = read_or l.offset_hour v.is_negative r.offset_is_negative; offset_minute = read_or l.offset_minute (Some (pos v.offset_minute)) r.offset_minute }
+with_values l v r = record r { year = read_or l.year (Some (pos v.year)) r.year; month = read_or l.month (Some v.month) r.month; weekday = read_or l.weekday (Some v.weekday) r.weekday; day = read_or l.day (Some v.day) r.day; hour_24 = read_or l.hour (Some v.hour) r.hour_24; minute = read_or l.minute (Some v.minute) r.minute; second = read_or l.second (Some v.second) r.second; subsecond = read_or l.subsecond (Some v.nanosecond) r.subsecond; offset_hour = read_or l.offset_hour (Some (under v.is_negative v.offset_hour)) r.offset_hour; offset_is_negative = read_or l.offset_hour v.is_negative r.offset_is_negative; offset_minute = read_or l.offset_minute (Some (pos v.offset_minute)) r.offset_minute }

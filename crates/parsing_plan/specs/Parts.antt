@@ -1,5 +1,6 @@
 -- What the slots of a line say of a date, a time of day and an offset.
-use Rattle.std.specs.Prelude.{◌≡◌, ◌≤◌, ℕ, ◌+◌, ◌*◌, Bool, true, List, ◌∷◌, length, drop, Option, Some, Ok, IsSome, ℤ, pos, ◌*ℤ◌, false}
+use Rattle.std.specs.Prelude.{◌≡◌, ◌≤◌, ℕ, ◌+◌, ◌*◌, Bool, true, List, ◌∷◌, length, drop, Option, Some, None, Ok, IsSome, ℤ, pos, ◌*ℤ◌, false}
+use Rattle.std.specs.Option.{unwrap_or}
 use Rattle.calendar_count.specs.declared.month.Month.{Month}
 use Rattle.calendar_count.specs.Month.{month_number}
 use Rattle.calendar_count.specs.declared.weekday.Weekday.{Weekday}
@@ -11,7 +12,7 @@ use Rattle.parsing_components.specs.Ranged.{under}
 use Rattle.parsing_components.specs.Read as read
 use Rattle.parsing_record.specs.Whole.{offset_named}
 use Rattle.parsing_plan.specs.Slot.{Values, slot_piece, value_in, width}
-use Rattle.parsing_plan.specs.Layout.{SaysAt, month_slot, day_slot, with_values}
+use Rattle.parsing_plan.specs.Layout.{SaysAt, read_or, month_slot, day_slot, with_values}
 use Rattle.parsing_plan.specs.Bounds.{LiesWithin}
 use Rattle.parsing_plan.specs.Beginning.{beginning}
 use Rattle.parsing_plan.specs.declared.bounds.Bounds.{Bounds}
@@ -75,6 +76,12 @@ pub record SaysClock (l : Layout) (line : List ℕ) (minute_of_day second : ℕ)
   pub within_a_day : hour ≤ 23
   pub within_an_hour : minute ≤ 59
   pub minute_is : minute_of_day ≡ hour * 60 + minute
+
+-- the fraction of the second, which is none where there is no place for one
+pub record SaysFraction (l : Layout) (line : List ℕ) (fraction : ℕ) : Type 0 where
+  pub nanosecond : ℕ
+  pub says : SaysAt (slot.Subsecond l.subsecond_digits) l.subsecond line (read.Subsecond nanosecond)
+  pub fraction_is : unwrap_or (read_or l.subsecond (Some nanosecond) None) 0 ≡ fraction
 
 -- hours behind a sign and minutes, each at a place, are an offset of so many minutes
 pub record WritesOffset (line : List ℕ) (hour_place minute_place : ℕ) (offset : ℤ) : Type 0 where

@@ -34,7 +34,6 @@ fn step_of(component: &Component) -> Option<Step<'static>>
         if let SubsecondDigits::OneOrMore = m.digits {
             return Some(Step::Fraction);
         }
-        return None;
     }
     if let Some(finer) = finer_digits(component) {
         return Some(Step::Unix(finer));

@@ -26,6 +26,9 @@ pub(crate) struct Layout {
     pub(crate) hour: Option<usize>,
     pub(crate) minute: Option<usize>,
     pub(crate) second: Option<usize>,
+    pub(crate) subsecond: Option<usize>,
+    /// How many digits the fraction of a second has.
+    pub(crate) subsecond_digits: usize,
     pub(crate) offset_hour: Option<usize>,
     pub(crate) offset_minute: Option<usize>,
     /// The bytes of the literals.
@@ -51,6 +54,8 @@ impl Layout {
             hour: None,
             minute: None,
             second: None,
+            subsecond: None,
+            subsecond_digits: 0,
             offset_hour: None,
             offset_minute: None,
             text: [0; LENGTH],
@@ -69,6 +74,7 @@ impl Layout {
             Slot::Hour => self.hour,
             Slot::Minute => self.minute,
             Slot::Second => self.second,
+            Slot::Subsecond(_) => self.subsecond,
             Slot::OffsetHour => self.offset_hour,
             Slot::OffsetMinute => self.offset_minute,
         }
@@ -128,6 +134,11 @@ impl Layout {
                 second: place,
                 ..self
             },
+            Slot::Subsecond(count) => Layout {
+                subsecond: place,
+                subsecond_digits: count,
+                ..self
+            },
             Slot::OffsetHour => Layout {
                 offset_hour: place,
                 ..self
@@ -145,11 +156,12 @@ impl Layout {
         ensures value { IfSome result (λ l. l ≡ with_slot self slot) }
         ensures free { IfSome result (λ _. place_of self slot ≡ None) }
     {
-        if self.place_of(slot).is_some() || self.length > LENGTH {
+        let width = slot.width();
+        if self.place_of(slot).is_some() || self.length > LENGTH || width > LENGTH {
             return None;
         }
         let place = Some(self.length);
-        let length = self.length + slot.width();
+        let length = self.length + width;
         let longer = Layout { length, ..self };
         match longer.with_date(slot, place) {
             Some(layout) => Some(layout),

@@ -1,7 +1,7 @@
 //! Plans of descriptions.
 ghost use Rattle.std.specs.Prelude.{◌≡◌, ◌≤◌, ◌+◌, true, false, get_or, Some};
 ghost use Rattle.std.specs.Option.{ForSome, ForNone};
-ghost use Rattle.parsing_plan.specs.Bounds.{IsPair, IsSixty, IsSpaced, HoldText, HasNoOffset, HasNoClock, HasOffset, BeginsApart, IsTail};
+ghost use Rattle.parsing_plan.specs.Bounds.{IsPair, IsSixty, IsSpaced, HoldText, HasNoOffset, HasNoClock, HasOffset, IsFront, HasRoom, BeginsApart, IsTail};
 
 mod calls;
 
@@ -68,7 +68,9 @@ pub(crate) struct Places {
     ghost second_digits: { IsSixty bounds layout.length second },
     ghost no_offset: { ForNone offset (HasNoOffset layout) },
     ghost offset_is: { ForSome offset (λ places. HasOffset layout bounds places.hour places.minute) },
-    ghost one_offset: { ForSome back (λ _. HasNoOffset layout) },
+    ghost subsecond_room: { ForSome layout.subsecond
+        (λ place. HasRoom layout.length place layout.subsecond_digits) },
+    ghost one_fraction: { ForSome back (λ _. IsFront layout) },
 }
 
 /// How lines of a description are read by places: each component where it stands, or Unix time alone.

@@ -8,8 +8,8 @@ ghost use Rattle.parsing_fields.specs.Moment.{moment_of};
 ghost use Rattle.parsing_record.specs.Meaning.{Meaning};
 ghost use Rattle.parsing_record.specs.Record.{Record};
 ghost use Rattle.parsing_record.specs.Whole.{whole, names, moment_named, offset_named, starting};
-ghost use Rattle.parsing_plan.specs.Bounds.{HasPair, HasSixty, HasSpaced, HasNoOffset, HasOffset};
-ghost use Rattle.parsing_plan.specs.Parts.{Fits, IsNameOf, IsWeekdayNameOf, WritesAt, WritesDay, WritesOffset, SaysMonth, SaysWeekday, SaysDate, SaysClock, SaysOffset};
+ghost use Rattle.parsing_plan.specs.Bounds.{HasPair, HasSixty, HasSpaced, HasNoOffset, HasOffset, IsFront};
+ghost use Rattle.parsing_plan.specs.Parts.{Fits, IsNameOf, IsWeekdayNameOf, WritesAt, WritesDay, WritesOffset, SaysMonth, SaysWeekday, SaysDate, SaysClock, SaysFraction, SaysOffset};
 ghost use Rattle.parsing_plan.specs.Beginning.{beginning};
 ghost use Rattle.parsing_plan.specs.Plan.{ArePlacesOf, IsPlanOf, IsSplitOf};
 
@@ -305,6 +305,22 @@ fn fraction_at(line: &[u8], place: usize, count: usize) -> Option<Fraction>
     Some(fraction)
 }
 
+// The fraction of a second, of which the digits are there, where it has a place.
+#[inline(always)]
+fn fraction(plan: &Places, line: &[u8]) -> Option<Fraction>
+    requires { Fits plan.now.layout plan.now.bounds line.now }
+    ensures says { IfSome result (SaysFraction plan.now.layout line.now) }
+    ensures bound { IfSome result (λ f. f < 1_000_000_000) }
+{
+    match plan.layout.subsecond {
+        None => Some(Fraction::new(0)),
+        Some(place) => {
+            let digits = plan.layout.subsecond_digits;
+            Fraction::of_digits(line, place + digits, digits)
+        }
+    }
+}
+
 // Whether what stands behind a fraction lies within its bounds.
 #[inline(always)]
 fn has_back(back: &Back, line: &[u8], place: usize) -> bool
@@ -320,7 +336,7 @@ fn has_back(back: &Back, line: &[u8], place: usize) -> bool
 // The fields of a line that has a fraction of a second: its digits are all that the rest of its length leaves.
 #[inline(always)]
 fn read_split(plan: &Places, back: &Back, line: &[u8], assumed: Option<UtcOffset>) -> Option<Fields>
-    requires { HasNoOffset plan.now.layout }
+    requires { IsFront plan.now.layout }
     ensures { (m : Meaning) (defaults : Option Record)
         → IsSplitOf m plan.now.layout back.now.layout → starting defaults ≡ beginning assumed
         → IfSome result (λ f. names moment_named (whole m defaults line.now) ≡ Ok (moment_of f)) }
@@ -358,8 +374,9 @@ impl Places {
         }
         let (year, month, day) = date(self, line)?;
         let (minute, second) = clock(self, line)?;
+        let fraction = fraction(self, line)?;
         let offset = offset(&self.layout, &self.bounds, self.offset, line, assumed)?;
-        Some(Fields::of_numbers(year, month, day, minute, second, Fraction::new(0), offset))
+        Some(Fields::of_numbers(year, month, day, minute, second, fraction, offset))
     }
 }
 

@@ -1,10 +1,10 @@
 //! The components of fixed width.
 ghost use Rattle.std.specs.Prelude.{◌≡◌, true, false, IfSome};
 ghost use Rattle.description_date_modifiers.specs.declared.choices.Padding.TheVariants as Padding;
-ghost use Rattle.parsing_plan.specs.Slot.{IsSlotOf, slot_of_day, width};
+ghost use Rattle.parsing_plan.specs.Slot.{IsSlotOf, slot_of_day, slot_of_subsecond, width};
 
 use description_items::Component;
-use description_items::modifier::Padding;
+use description_items::modifier::{Padding, SubsecondDigits};
 
 /// A component of fixed width.
 #[derive(Clone, Copy)]
@@ -23,6 +23,8 @@ pub(crate) enum Slot {
     Hour,
     Minute,
     Second,
+    /// So many digits of a fraction of a second.
+    Subsecond(usize),
     /// The hours of an offset, behind a sign.
     OffsetHour,
     OffsetMinute,
@@ -36,6 +38,7 @@ impl Slot {
         match self {
             Slot::Year => 4,
             Slot::MonthName | Slot::WeekdayName | Slot::OffsetHour => 3,
+            Slot::Subsecond(count) => count,
             _ => 2,
         }
     }
@@ -78,6 +81,23 @@ fn slot_of_day(padding: Padding) -> Option<Slot>
     }
 }
 
+// The slot of so many digits of a fraction.
+fn slot_of_subsecond(digits: SubsecondDigits) -> Option<Slot>
+    ensures { result ≡ slot_of_subsecond digits }
+{
+    match digits {
+        SubsecondDigits::One => Some(Slot::Subsecond(1)),
+        SubsecondDigits::Two => Some(Slot::Subsecond(2)),
+        SubsecondDigits::Three => Some(Slot::Subsecond(3)),
+        SubsecondDigits::Four => Some(Slot::Subsecond(4)),
+        SubsecondDigits::Five => Some(Slot::Subsecond(5)),
+        SubsecondDigits::Six => Some(Slot::Subsecond(6)),
+        SubsecondDigits::Seven => Some(Slot::Subsecond(7)),
+        SubsecondDigits::Eight => Some(Slot::Subsecond(8)),
+        SubsecondDigits::Nine | SubsecondDigits::OneOrMore => None,
+    }
+}
+
 /// The slot that a component is.
 pub(crate) fn slot_of(component: &Component) -> Option<Slot>
     ensures { IfSome result (IsSlotOf component.now) }
@@ -98,6 +118,7 @@ pub(crate) fn slot_of(component: &Component) -> Option<Slot>
         Component::Hour24(m) => slot_if(is_zero(m.padding), Slot::Hour),
         Component::Minute(m) => slot_if(is_zero(m.padding), Slot::Minute),
         Component::Second(m) => slot_if(is_zero(m.padding), Slot::Second),
+        Component::Subsecond(m) => slot_of_subsecond(m.digits),
         Component::OffsetHour(m) => slot_if(
             is_signed(m.padding, m.sign_is_mandatory),
             Slot::OffsetHour,

@@ -5,7 +5,7 @@ ghost use Rattle.description_items.specs.Tree.{trees, listed};
 ghost use Rattle.description_tree.specs.Description.{v3_tree};
 ghost use Rattle.parsing_components.specs.Component.{reads_component, reads_component_v3};
 ghost use Rattle.parsing_record.specs.Reads.{reading, reading_of_all};
-ghost use Rattle.parsing_plan.specs.Bounds.{IsPair, IsSixty, IsSpaced, HasNoOffset, HasNoClock, HasOffset, BeginsApart, IsTail};
+ghost use Rattle.parsing_plan.specs.Bounds.{IsPair, IsSixty, IsSpaced, HasNoOffset, HasNoClock, HasOffset, IsFront, HasRoom, BeginsApart, IsTail};
 ghost use Rattle.parsing_plan.specs.Plan.{ArePlacesOf, IsPlanOf};
 
 use crate::bounds::Bounds;
@@ -112,11 +112,26 @@ fn tail_of(bounds: &Bounds, count: usize) -> Option<Tail>
     Some(tail)
 }
 
-// Whether a layout has no place for an offset.
-fn has_no_offset(layout: &Layout) -> bool
-    ensures { result ≡ true → HasNoOffset layout.now }
+// Whether a layout has no place for a fraction of a second, nor for an offset.
+fn is_front(layout: &Layout) -> bool
+    ensures { result ≡ true → IsFront layout.now }
 {
-    layout.offset_hour.is_none() && layout.offset_minute.is_none()
+    layout.subsecond.is_none() && layout.offset_hour.is_none() && layout.offset_minute.is_none()
+}
+
+// Whether there is room for the digits of a fraction, and they are few, if the layout has a place for them.
+fn has_subsecond_room(layout: &Layout) -> bool
+    ensures { result ≡ true → ForSome layout.now.subsecond
+        (λ place. HasRoom layout.now.length place layout.now.subsecond_digits) }
+{
+    let Some(place) = layout.subsecond else {
+        return true;
+    };
+    let digits = layout.subsecond_digits;
+    if place >= LENGTH || digits < 1 || digits > 8 {
+        return false;
+    }
+    place + digits >= 8 && place + digits <= layout.length
 }
 
 // Whether a layout has no place for a date and a time of day.
@@ -129,7 +144,10 @@ fn has_no_clock(layout: &Layout) -> bool
     if layout.weekday.is_some() || layout.day.is_some() {
         return false;
     }
-    layout.hour.is_none() && layout.minute.is_none() && layout.second.is_none()
+    if layout.hour.is_some() || layout.minute.is_some() {
+        return false;
+    }
+    layout.second.is_none() && layout.subsecond.is_none()
 }
 
 // The layout behind a fraction, where it has no place for a date and a time of day.
@@ -221,7 +239,7 @@ impl Places {
         ensures front { IfSome result (λ places. places.layout ≡ self.layout) }
         ensures back { IfSome result (λ places. places.back ≡ Some back) }
     {
-        if !has_no_offset(&self.layout) {
+        if !is_front(&self.layout) {
             return None;
         }
         Some(Places {
@@ -256,7 +274,7 @@ impl Places {
         if !is_day(&layout, &bounds, day) || !has_weekday_room(&layout) {
             return None;
         }
-        if !is_clock(&bounds, length, hour, minute, second) {
+        if !is_clock(&bounds, length, hour, minute, second) || !has_subsecond_room(&layout) {
             return None;
         }
         let offset = offset_of(&layout, &bounds)?;

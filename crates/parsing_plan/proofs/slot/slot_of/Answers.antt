@@ -6,7 +6,7 @@ use Rattle.parsing_components.specs.Ranged.{between, up_to, counted, months}
 use Rattle.parsing_components.specs.Read as read
 use Rattle.parsing_plan.specs.declared.slot.Slot.TheVariants as slot
 use Rattle.parsing_plan.specs.Slot.{ReadsSlot, slot_piece}
-use Rattle.parsing_plan.proofs.Slots.{chosen, two_read, name_read, weekday_read, day_read, both_slots, four_read, hour_read}
+use Rattle.parsing_plan.proofs.Slots.{chosen, two_read, name_read, weekday_read, day_read, subsecond_read, both_slots, four_read, hour_read}
 use Rattle.parsing_plan.proofs.slot.slot_of.Goals as goal
 
 pub returns-in-CalendarYearFullExtendedRange : goal.returns-in-CalendarYearFullExtendedRange
@@ -62,6 +62,12 @@ unfolding slot_piece reads_component reads_component_v3 reads_modern date_piece 
 returns-in-Second c =
     let m = c.in-Second.m in
     rw c.in-Second.is (chosen (component.Second m) slot.Second (c.is_zero-in-Second.result) c.slot_if-in-Second.result (λ h. (λ line said rest e. two_read _ (between 0 60 read.Second) m.padding line rest said (c.is_zero-in-Second.ensures h) e, λ line said rest e. two_read _ (between 0 60 read.Second) m.padding line rest said (c.is_zero-in-Second.ensures h) e)) c.slot_if-in-Second.ensures)
+
+pub returns-in-Subsecond : goal.returns-in-Subsecond
+unfolding slot_piece reads_component reads_component_v3 reads_modern date_piece year_piece time_piece offset_piece
+returns-in-Subsecond c =
+    let m = c.in-Subsecond.m in
+    rw c.in-Subsecond.is (both_slots (ReadsSlot (reads_component (component.Subsecond m))) (ReadsSlot (reads_component_v3 (component.Subsecond m))) c.slot_of_subsecond.result (subsecond_read m.digits _ c.slot_of_subsecond.result c.slot_of_subsecond.ensures) (subsecond_read m.digits _ c.slot_of_subsecond.result c.slot_of_subsecond.ensures))
 
 pub returns-in-OffsetHour : goal.returns-in-OffsetHour
 unfolding slot_piece reads_component reads_component_v3 reads_modern date_piece year_piece time_piece offset_piece

@@ -22,5 +22,6 @@ invariant_of-result c = record {
   second_digits = c.is_clock.ensures.second c.if-not-is_clock.false;
   no_offset = c.in_ok-offset.ensures.none;
   offset_is = c.in_ok-offset.ensures.some;
-  one_offset = λ back is. absurd (cc);
+  subsecond_room = c.has_subsecond_room.ensures c.if-not-has_subsecond_room.false;
+  one_fraction = λ back is. absurd (cc);
 }

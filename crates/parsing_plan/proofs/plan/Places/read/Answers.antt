@@ -14,4 +14,4 @@ returns c = λ m defaults is_plan start.
     let few : unsigned_abs c.in_ok-offset.offset ≤ 1559 = c.in_ok-offset.ensures.bound in
     let back : to_z w16 (of_z w16 c.in_ok-offset.offset) ≡ c.in_ok-offset.offset = omega (arith, ints) in
     let text = text_there plan.bounds plan.layout c.args.line.now (rw c.if-line-self.false at (c.has.ensures c.if-not-has.false)) plan.text in
-    line_read plan.layout c.args.line.now c.args.assumed c.in_ok-year.year c.in_ok-year.month c.in_ok-year.day c.in_ok-minute.minute c.in_ok-minute.second c.in_ok-offset.offset text c.if-line-self.false c.in_ok-year.ensures.says c.in_ok-minute.ensures.says c.in_ok-offset.ensures.says c.of_numbers.result (rw (c.new.ensures, back) at c.of_numbers.ensures) m defaults (is_plan.0 c.in_default.is) start
+    line_read plan.layout c.args.line.now c.args.assumed c.in_ok-year.year c.in_ok-year.month c.in_ok-year.day c.in_ok-minute.minute c.in_ok-minute.second c.in_ok-fraction.fraction c.in_ok-offset.offset text c.if-line-self.false c.in_ok-year.ensures.says c.in_ok-minute.ensures.says c.in_ok-fraction.ensures.says c.in_ok-offset.ensures.says c.of_numbers.result c.in_ok-fraction.ensures.bound (rw back at c.of_numbers.ensures) m defaults (is_plan.0 c.in_default.is) start
