@@ -27,9 +27,9 @@ pub record HasMonth (text : List ℕ) (number : ℕ) : Type 0 where
   pub named : month (drop 1 text) ≡ Some (month_is, drop 4 text)
   pub number_is : month_number month_is ≡ number
 
--- from the last digit of the day on: `1 Jul 2003 10:52:37 +0200`, where what may be letters and a sign is not known
+-- from the last digit of the day on: `1 Jul 2003 10:52:37 `, where what may be letters is not known, and a zone
 pub record HasShape (text : List ℕ) : Type 0 where
-  pub long : length text ≡ 25
+  pub room : 23 ≤ length text
   pub last_of_day : HasDigit text 0
   pub before_month : get_or text 1 0 ≡ space
   pub letter : 41 ≤ get_or text 2 0
@@ -39,6 +39,10 @@ pub record HasShape (text : List ℕ) : Type 0 where
   pub before_clock : get_or text 10 0 ≡ space
   pub clock : HasClock text 11
   pub before_zone : get_or text 19 0 ≡ space
+
+-- `+0200` is that zone, where what may be a sign is not known
+pub record HasOffset (text : List ℕ) : Type 0 where
+  pub long : length text ≡ 25
   pub lowest_sign : plus ≤ get_or text 20 0
   pub highest_sign : get_or text 20 0 ≤ hyphen
   pub zone_hours : HasPair text 21
@@ -46,7 +50,7 @@ pub record HasShape (text : List ℕ) : Type 0 where
 
 -- with what stands before it, the text has a day, of which these are the tens
 pub record IsFront (input : List ℕ) (tens : ℕ) (text : List ℕ) : Type 0 where
-  pub long : length text ≡ 25
+  pub room : 23 ≤ length text
   pub few : tens ≤ 9
   pub weekday_is : Option Weekday
   pub reads : HasDigit text 0 → get_or text 1 0 ≡ space → day false input ≡ Ok ((weekday_is, tens * 10 + (get_or text 0 0 - 48)), drop 1 text)

@@ -8,7 +8,7 @@ ghost use Rattle.parsing_rfc2822.specs.Fast.{IsAllZone};
 ghost use Rattle.parsing_rfc2822.specs.Reading as Reading;
 
 use crate::names::{month, weekday, zone_name};
-use crate::places::read_by_places;
+use crate::places::{read_with_name, read_with_offset};
 use crate::reading::one_or_two_digits;
 use calendar_count::{Month, Weekday};
 use parsing_fields::{Fields, Fraction, minute_of_day, signed_minutes};
@@ -100,7 +100,7 @@ fn named_zone(bytes: &[u8]) -> Option<i16>
 // The minutes of ` +0200` or ` GMT`, where it is all that is there.
 #[tactic(auto, unfolding(crate::specs::Reading::spaced_zone, crate::specs::Reading::zone))]
 #[inline(always)]
-fn fast_zone(bytes: &[u8]) -> Option<i16>
+pub(crate) fn fast_zone(bytes: &[u8]) -> Option<i16>
     ensures { IfSome result (IsAllZone (Reading.spaced_zone false bytes.now)) }
 {
     let rest = one_space(bytes)?;
@@ -142,9 +142,10 @@ fn read_by_parts(input: &[u8]) -> Option<Fields>
 pub fn read_fields(input: &[u8]) -> Option<Fields>
     ensures { IfSome result (λ fields. direct input.now ≡ Ok (moment_of fields)) }
 {
-    // The lengths of texts with a weekday and an offset in digits.
-    if input.len() == 30 || input.len() == 31 {
-        return read_by_places(input);
+    // The lengths of texts with a weekday.
+    match input.len() {
+        30 | 31 => read_with_offset(input),
+        28 | 29 => read_with_name(input),
+        _ => read_by_parts(input),
     }
-    read_by_parts(input)
 }

@@ -1,14 +1,16 @@
 //! The fast way of most texts, such as `Tue, 01 Jul 2003 10:52:37 +0200`, by the places of their parts.
 //!
-//! Such a text has a weekday and an offset in digits, and ends with 25 bytes from the last digit of its day on.
+//! Such a text has a weekday, and ends with 25 bytes from the last digit of its day on, or with 23 where a name of three
+//! letters is its zone.
 ghost use Rattle.std.specs.Prelude.{◌≡◌, ◌≤◌, ◌+◌, ◌*◌, IfSome, Ok, Some, true, false, drop, length, List, ℕ, Option};
 ghost use Rattle.calendar_count.specs.declared.weekday.Weekday.{Weekday};
 ghost use Rattle.parsing_fields.specs.Moment.{moment_of};
 ghost use Rattle.parsing_rfc2822.specs.Direct.{direct};
 ghost use Rattle.parsing_rfc2822.specs.Fast.{IsAllZone};
-ghost use Rattle.parsing_rfc2822.specs.Places.{HasShape, IsFront, ReadsMonth};
+ghost use Rattle.parsing_rfc2822.specs.Places.{HasShape, HasOffset, IsFront, ReadsMonth};
 ghost use Rattle.parsing_rfc2822.specs.Reading as Reading;
 
+use crate::fast::fast_zone;
 use crate::letters::{has_weekday, month_number};
 use parsing_fields::{Fields, Fraction, minute_of_day, signed_minutes};
 use parsing_pieces::{are_between, clock_at, four_digits_at, two_pairs_at};
@@ -21,22 +23,40 @@ static HIGHEST: [u8; 25] = *b"9 zzz 9999 29:59:59 -2959";
 
 // Whether bytes can be those from the last digit of a day on: `1 Jul 2003 10:52:37 +0200`.
 #[inline(always)]
-fn has_shape(text: &[u8]) -> bool
+fn has_offset(text: &[u8]) -> bool
     requires { length text.now ≡ 25 }
-    ensures { result ≡ true → HasShape text.now }
+    ensures shape { result ≡ true → HasShape text.now }
+    ensures offset { result ≡ true → HasOffset text.now }
 {
     are_between(text, &LOWEST, &HIGHEST)
 }
 
-// The tens of the day, none where it has one digit, and what stands behind them.
+// The same with a name in the place of the offset.
+static LOWEST_NAMED: [u8; 23] = *b"0 AAA 1000 00:00:00 AAA";
+
+static HIGHEST_NAMED: [u8; 23] = *b"9 zzz 9999 29:59:59 zzz";
+
+// Whether bytes can be those from the last digit of a day on: `1 Jul 2003 10:52:37 GMT`.
 #[inline(always)]
-fn tens_of_day(input: &[u8]) -> Option<(u8, &[u8])>
-    ensures { IfSome result (λ x. IsFront input.now x.0 x.1.now) }
+fn has_name(text: &[u8]) -> bool
+    requires { length text.now ≡ 23 }
+    ensures { result ≡ true → HasShape text.now }
 {
-    if input.len() < 30 || input.len() > 31 || !has_weekday(input) {
+    are_between(text, &LOWEST_NAMED, &HIGHEST_NAMED)
+}
+
+// The tens of the day, none where it has one digit, and what stands behind them, so many bytes.
+#[inline(always)]
+fn tens_of_day(input: &[u8], left: usize) -> Option<(u8, &[u8])>
+    requires low { 23 ≤ left }
+    requires high { left ≤ 25 }
+    ensures front { IfSome result (λ x. IsFront input.now x.0 x.1.now) }
+    ensures long { IfSome result (λ x. length x.1.now ≡ left) }
+{
+    if input.len() < left + 5 || input.len() > left + 6 || !has_weekday(input) {
         return None;
     }
-    if input.len() == 30 {
+    if input.len() == left + 5 {
         return Some((0, &input[5..]));
     }
     if !input[5].is_ascii_digit() {
@@ -45,10 +65,11 @@ fn tens_of_day(input: &[u8]) -> Option<(u8, &[u8])>
     Some((input[5] - b'0', &input[6..]))
 }
 
-// The minutes of the offset.
+// The minutes of the offset in digits.
 #[inline(always)]
 fn offset(text: &[u8]) -> Option<i16>
-    requires { HasShape text.now }
+    requires shape { HasShape text.now }
+    requires offset { HasOffset text.now }
     ensures { IfSome result (IsAllZone (Reading.spaced_zone false (drop 19 text.now))) }
 {
     let sign = text[20];
@@ -73,10 +94,11 @@ fn year_and_month(text: &[u8]) -> Option<(u16, u8)>
     Some((year, month))
 }
 
-// The fields of a text, where its day was read.
+// The fields of a text, where its day and its offset were read.
 #[inline(always)]
-fn fields_behind(day: u8, text: &[u8]) -> Option<Fields>
-    requires { HasShape text.now }
+fn fields_behind(day: u8, offset: i16, text: &[u8]) -> Option<Fields>
+    requires shape { HasShape text.now }
+    requires zone { IsAllZone (Reading.spaced_zone false (drop 19 text.now)) offset }
     ensures { IfSome result (λ fields. (input : List ℕ) (weekday : Option Weekday)
         → Reading.day false input ≡ Ok ((weekday, day), drop 1 text.now)
         → direct input ≡ Ok (moment_of fields)) }
@@ -84,18 +106,31 @@ fn fields_behind(day: u8, text: &[u8]) -> Option<Fields>
     let (year, month) = year_and_month(text)?;
     let (hour, minute, second) = clock_at(text, 11);
     let minute = minute_of_day(hour, minute)?;
-    let offset = offset(text)?;
     Fields::new(year, month, day, minute, second, Fraction::new(0), offset)
 }
 
-/// The fields of a text, where it has such places: `None` says nothing of the text.
+/// The fields of a text with an offset in digits, where it has such places: `None` says nothing of the text.
 #[inline(always)]
-pub(crate) fn read_by_places(input: &[u8]) -> Option<Fields>
+pub(crate) fn read_with_offset(input: &[u8]) -> Option<Fields>
     ensures { IfSome result (λ fields. direct input.now ≡ Ok (moment_of fields)) }
 {
-    let (tens, text) = tens_of_day(input)?;
-    if !has_shape(text) {
+    let (tens, text) = tens_of_day(input, 25)?;
+    if !has_offset(text) {
         return None;
     }
-    fields_behind(tens * 10 + (text[0] - b'0'), text)
+    let offset = offset(text)?;
+    fields_behind(tens * 10 + (text[0] - b'0'), offset, text)
+}
+
+/// The same of a text with a zone's name of three letters.
+#[inline(always)]
+pub(crate) fn read_with_name(input: &[u8]) -> Option<Fields>
+    ensures { IfSome result (λ fields. direct input.now ≡ Ok (moment_of fields)) }
+{
+    let (tens, text) = tens_of_day(input, 23)?;
+    if !has_name(text) {
+        return None;
+    }
+    let offset = fast_zone(&text[19..])?;
+    fields_behind(tens * 10 + (text[0] - b'0'), offset, text)
 }

@@ -4,4 +4,4 @@ use Rattle.parsing_rfc2822.proofs.places.offset.Goals as goal
 pub returns : goal.returns
 returns c =
     let numbers = c.two_pairs_at-hours in
-    zone_there c.args.text.now c.signed_minutes.result numbers.result.0 numbers.result.1 c.requires c.if-sign-eq44.false numbers.ensures.first numbers.ensures.second c.signed_minutes.ensures.value
+    zone_there c.args.text.now c.signed_minutes.result numbers.result.0 numbers.result.1 c.requires.shape c.requires.offset c.if-sign-eq44.false numbers.ensures.first numbers.ensures.second c.signed_minutes.ensures.value

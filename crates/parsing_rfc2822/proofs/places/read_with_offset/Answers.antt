@@ -1,8 +1,8 @@
 use Rattle.parsing_fields.proofs.lemmas.Moments.{of_fields}
-use Rattle.parsing_rfc2822.proofs.places.read_by_places.Goals as goal
+use Rattle.parsing_rfc2822.proofs.places.read_with_offset.Goals as goal
 
 pub returns : goal.returns
 returns c =
-    let front = c.in_ok-tens.ensures in
-    let shape = c.has_shape.ensures c.if-not-has_shape.false in
+    let front = c.in_ok-tens.ensures.front in
+    let shape = c.has_offset.ensures.shape c.if-not-has_offset.false in
     of_fields _ _ c.fields_behind.result c.fields_behind.ensures (λ f read. read c.args.input.now front.weekday_is (front.reads shape.last_of_day shape.before_month))
