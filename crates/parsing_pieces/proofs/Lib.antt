@@ -4,6 +4,7 @@ pub mod ClockChunks
 pub mod Decimal
 pub mod DigitChunks
 pub mod DigitLanes
+pub mod Fitting
 pub mod Fixed
 pub mod FractionDigits
 pub mod Fronts

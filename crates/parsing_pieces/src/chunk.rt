@@ -26,14 +26,20 @@ fn first_chunk(bytes: &[u8]) -> Option<(Chunk, &[u8])>
     Some((u64::from_le_bytes([*a, *b, *c, *d, *e, *f, *g, *h]), rest))
 }
 
-// Whether each byte is as the pattern under the mask, and also with what is added.
+// What the bytes have above those of the pattern, where each is as there under the mask, also with what is added.
 #[inline(always)]
-fn fits(chunk: Chunk, mask: Chunk, pattern: Chunk, added: Chunk) -> bool
-    ensures { IsTrue result
-        ↔ ((bit_and chunk mask ≡ pattern)
-        × (bit_and ((chunk + added) % 2 ^ 64) mask ≡ pattern)) }
+fn fits(chunk: Chunk, mask: Chunk, pattern: Chunk, added: Chunk) -> Option<Chunk>
+    requires { bit_and pattern mask ≡ pattern }
+    ensures low { IfSome result (λ x. pattern ≤ chunk) }
+    ensures here { IfSome result (λ x. bit_and chunk mask ≡ pattern) }
+    ensures more { IfSome result (λ x. bit_and ((chunk + added) % 2 ^ 64) mask ≡ pattern) }
+    ensures above { IfSome result (λ x. x ≡ chunk - pattern) }
 {
-    chunk & mask == pattern && chunk.wrapping_add(added) & mask == pattern
+    let above = chunk.wrapping_sub(pattern);
+    if (above | above.wrapping_add(added)) & mask != 0 {
+        return None;
+    }
+    Some(above)
 }
 
 // In each byte ten times that byte and the next one.
@@ -52,10 +58,8 @@ pub fn year_month(bytes: &[u8]) -> Option<((u16, u8), &[u8])>
 {
     let (chunk, rest) = first_chunk(bytes)?;
     let pattern = 0x2d30_302d_3030_3030;
-    if !fits(chunk, 0xfff0_f0ff_f0f0_f0f0, pattern, 0x0006_0600_0606_0606) {
-        return None;
-    }
-    let pairs = paired(chunk - pattern);
+    let digits = fits(chunk, 0xfff0_f0ff_f0f0_f0f0, pattern, 0x0006_0600_0606_0606)?;
+    let pairs = paired(digits);
     let year = pairs % 256 * 100 + pairs / 0x1_0000 % 256;
     let month = pairs / 0x100_0000_0000 % 256;
     Some(((year as u16, month as u8), rest))
@@ -68,10 +72,8 @@ pub fn clock(bytes: &[u8]) -> Option<((u8, u8, u8), &[u8])>
 {
     let (chunk, rest) = first_chunk(bytes)?;
     let pattern = 0x3030_3a30_303a_3030;
-    if !fits(chunk, 0xf0f0_fff0_f0ff_f0f0, pattern, 0x0606_0006_0600_0606) {
-        return None;
-    }
-    let pairs = paired(chunk - pattern);
+    let digits = fits(chunk, 0xf0f0_fff0_f0ff_f0f0, pattern, 0x0606_0006_0600_0606)?;
+    let pairs = paired(digits);
     let hour = pairs % 256;
     let minute = pairs / 0x100_0000 % 256;
     let second = pairs / 0x1_0000_0000_0000 % 256;
@@ -86,10 +88,8 @@ fn eight_digits(bytes: &[u8]) -> Option<(u32, &[u8])>
 {
     let (chunk, rest) = first_chunk(bytes)?;
     let pattern = 0x3030_3030_3030_3030;
-    if !fits(chunk, 0xf0f0_f0f0_f0f0_f0f0, pattern, 0x0606_0606_0606_0606) {
-        return None;
-    }
-    let pairs = paired(chunk - pattern);
+    let digits = fits(chunk, 0xf0f0_f0f0_f0f0_f0f0, pattern, 0x0606_0606_0606_0606)?;
+    let pairs = paired(digits);
     let high = pairs % 256 * 100 + pairs / 0x1_0000 % 256;
     let low = pairs / 0x1_0000_0000 % 256 * 100 + pairs / 0x1_0000_0000_0000 % 256;
     Some(((high * 10_000 + low) as u32, rest))
@@ -197,10 +197,8 @@ fn padded_digits(bytes: &[u8], chunk: Chunk, count: usize) -> Option<u32>
 {
     let chunk = padded_chunk(bytes, chunk, count);
     let pattern = 0x3030_3030_3030_3030;
-    if !fits(chunk, 0xf0f0_f0f0_f0f0_f0f0, pattern, 0x0606_0606_0606_0606) {
-        return None;
-    }
-    let pairs = paired(chunk - pattern);
+    let digits = fits(chunk, 0xf0f0_f0f0_f0f0_f0f0, pattern, 0x0606_0606_0606_0606)?;
+    let pairs = paired(digits);
     let high = pairs % 256 * 100 + pairs / 0x1_0000 % 256;
     let low = pairs / 0x1_0000_0000 % 256 * 100 + pairs / 0x1_0000_0000_0000 % 256;
     Some((high * 10_000 + low) as u32)
