@@ -13,25 +13,24 @@ pub fn show_parts(rt: &impl Print, parts: &Parts) -> io::Result<()> {
         lacking_hour(parts),
         lacking_offset(parts),
     );
-    if let Some(lacking) = date {
-        println!(rt; "names no date: {lacking}")?;
-    }
-    if let Some(lacking) = hour {
-        println!(rt; "names no time of day: {lacking}")?;
-    }
-    if let Some(lacking) = offset {
-        println!(rt; "names no offset: {lacking}")?;
-    }
+    show_lacking(rt, "date", date)?;
+    show_lacking(rt, "time of day", hour)?;
+    show_lacking(rt, "offset", offset)?;
     if parts.unix_time {
         return Ok(());
     }
     // What counts is the first that is lacking: an offset can be assumed.
-    match (date.or(hour), offset) {
-        (Some(lacking), _) => println!(rt; "names no moment: {lacking}"),
-        (None, Some(lacking)) => {
-            println!(rt; "names no moment unless an offset is assumed: {lacking}")
-        }
-        (None, None) => Ok(()),
+    match date.or(hour) {
+        Some(lacking) => show_lacking(rt, "moment", Some(lacking)),
+        None => show_lacking(rt, "moment unless an offset is assumed", offset),
+    }
+}
+
+// Says what is lacking to name a value, if anything is.
+fn show_lacking(rt: &impl Print, value: &str, lacking: Option<&str>) -> io::Result<()> {
+    match lacking {
+        Some(lacking) => println!(rt; "names no {value}: {lacking}"),
+        None => Ok(()),
     }
 }
 
@@ -84,11 +83,16 @@ pub fn show_fault(
     let before = front.rsplit('\n').next().unwrap_or(front);
     let after = back.split('\n').next().unwrap_or(back);
     println!(rt; "{before}{after}")?;
+    show_caret(rt, before)?;
+    println!(rt; "{fault}")
+}
+
+// Writes a caret behind as much space as a text takes.
+fn show_caret(rt: &impl Print, before: &str) -> io::Result<()> {
     for letter in before.chars() {
         print!(rt; "{}", if letter == '\t' { '\t' } else { ' ' })?;
     }
-    println!(rt; "^")?;
-    println!(rt; "{fault}")
+    println!(rt; "^")
 }
 
 // How many bytes of the text stand before the fault.

@@ -47,24 +47,55 @@ fn ended(rt: &HostRuntime, merged: Result<(), ProgramFault>) -> ExitCode {
 
 // Answers standard input as the words say. Where memory runs out a call returns an error: `?` makes the fault of it.
 fn merge_input<'a>(rt: &HostRuntime, words: &'a Vec<String>) -> Result<(), ProgramFault<'a>> {
-    let alloc = rt.alloc();
-    let words: Vec<&'a str> = words.iter().map(|word| word.as_str()).collect(alloc)?;
-    let said = read_words(alloc, words.as_slice())?;
+    let words: Vec<&'a str> = words.iter().map(|word| word.as_str()).collect(rt.alloc())?;
+    merge_by(rt, words.as_slice())
+}
+
+// The same by these words. What a function owns is dropped on each way out of it: so each owns little.
+fn merge_by<'a>(rt: &HostRuntime, words: &[&'a str]) -> Result<(), ProgramFault<'a>> {
+    let said = read_words(rt.alloc(), words)?;
     // `new` requires a source, and offsets of whole minutes. The contract of `read_words` promises both of the words
     // that it accepts, so the check lets the call stand without a test.
-    let timeline = Timeline::new(alloc, said.sources.as_slice(), said.target, said.assumed)?;
-    let reader = BufReader::new(alloc, rt.stdin()).map_err(|_| ProgramFault::Memory)?;
-    let block = vec![in alloc; 0; BLOCK]?;
+    let timeline = Timeline::new(
+        rt.alloc(),
+        said.sources.as_slice(),
+        said.target,
+        said.assumed,
+    )?;
+    merge_at(rt, &timeline, said.limit)
+}
+
+// Answers standard input by this timeline.
+fn merge_at(
+    rt: &HostRuntime,
+    timeline: &Timeline,
+    limit: usize,
+) -> Result<(), ProgramFault<'static>> {
+    let block = vec![in rt.alloc(); 0; BLOCK]?;
     let mut writer = BlockWriter::new(block, StdWriter::new(rt.stdout()));
-    let merged = merge_lines(alloc, &timeline, said.limit, reader, &mut writer);
+    let reader = BufReader::new(rt.alloc(), rt.stdin()).map_err(|_| ProgramFault::Memory)?;
+    Ok(merge_all(rt.alloc(), timeline, limit, reader, &mut writer)?)
+}
+
+// Writes each line behind its answer, and flushes them.
+fn merge_all<R: BufRead + Drop, W: ByteWriter>(
+    alloc: Global,
+    timeline: &Timeline,
+    limit: usize,
+    reader: R,
+    writer: &mut W,
+) -> Result<(), RunFault>
+    requires { W.failed writer.old ≡ false }
+{
+    let merged = merge_lines(alloc, timeline, limit, reader, writer);
     // What has failed can't be written to again: each write requires that none failed, so the check asks for this test.
     if writer.has_failed() {
-        return Err(ProgramFault::Run(RunFault::Write));
+        return Err(RunFault::Write);
     }
     // What was answered is flushed also where a read failed, which stays the fault.
     let flushed = writer.flush();
     merged?;
-    Ok(flushed.map_err(|_| RunFault::Write)?)
+    flushed.map_err(|_| RunFault::Write)
 }
 
 // Writes each line behind its answer. A line is kept whole till its line feed, or the end, was read, however long it is.

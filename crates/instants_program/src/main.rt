@@ -26,10 +26,15 @@ fn words(rt: &HostRuntime) -> Result<Vec<String>, ProgramFault<'static>> {
 // Answers each line of standard input on standard output. Memory is taken only before the first read.
 fn answer_input<'a>(rt: &HostRuntime, words: &'a Vec<String>) -> Result<(), ProgramFault<'a>> {
     let words: Vec<&'a str> = words.iter().map(|word| word.as_str()).collect(rt.alloc())?;
+    answer_by(rt, words.as_slice())
+}
+
+// The same by these words.
+fn answer_by<'a>(rt: &HostRuntime, words: &[&'a str]) -> Result<(), ProgramFault<'a>> {
     let block = vec![in rt.alloc(); 0; BLOCK]?;
     let mut reader = StdReader::new(rt.stdin());
     let mut writer = BlockWriter::new(block, StdWriter::new(rt.stdout()));
-    run_words(rt.alloc(), words.as_slice(), &mut reader, &mut writer)
+    run_words(rt.alloc(), words, &mut reader, &mut writer)
 }
 
 // Says what ended the program early, if anything did, and ends it.

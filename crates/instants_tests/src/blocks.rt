@@ -1,10 +1,12 @@
 //! The program over a device that fails once and works again afterwards: what it was given, byte by byte.
 
+ghost use Rattle.std.specs.Prelude.{◌<◌, ◌≤◌, length, vec_len, IfOk};
+
 use crate::support::{OUTPUT, STREAM};
 use instants::{BlockWriter, ByteWriter, CutReader, ProgramFault, RunFault, StdWriter, run_words};
-use std::alloc::{AllocError, Global};
+use std::alloc::Global;
 use std::io::{Error, ErrorKind, Result as IoResult, Write};
-use std::test::Fail;
+use std::process::Abort;
 
 // How a device was used: its calls, and the bytes that it took.
 #[derive(Clone, Copy)]
@@ -12,6 +14,31 @@ struct Used {
     calls: u8,
     len: u8,
     bytes: [u8; 64],
+}
+
+impl Used {
+    // Takes the first byte, if there is one and room for it, and says how many were taken.
+    fn take(&mut self, from: &[u8]) -> usize
+        ensures { result ≤ length from.now }
+    {
+        let at = self.len;
+        if at >= 64 || from.is_empty() {
+            return 0;
+        }
+        self.bytes[at as usize] = from[0];
+        self.len = at + 1;
+        1
+    }
+}
+
+// What a call that fails answers.
+fn failure(takes_nothing: bool) -> IoResult<usize>
+    ensures { IfOk result (λ count. count ≤ 0) }
+{
+    if takes_nothing {
+        return Ok(0);
+    }
+    Err(Error::from(ErrorKind::Other))
 }
 
 // A writer of std that takes one byte a call. One of its calls fails, or takes nothing; the later ones work again.
@@ -38,18 +65,9 @@ impl Write for FailsOnce<'_> {
 
     fn write(&mut self, from: &[u8]) -> IoResult<usize> {
         if self.is_failing() {
-            if self.takes_nothing {
-                return Ok(0);
-            }
-            return Err(Error::from(ErrorKind::Other));
+            return failure(self.takes_nothing);
         }
-        let at = self.used.len;
-        if at >= 64 || from.is_empty() {
-            return Ok(0);
-        }
-        self.used.bytes[at as usize] = from[0];
-        self.used.len = at + 1;
-        Ok(1)
+        Ok(self.used.take(from))
     }
 
     fn flush(&mut self) -> IoResult<()> {
@@ -60,22 +78,24 @@ impl Write for FailsOnce<'_> {
     }
 }
 
-// What a run over blocks of so many bytes answers, and whether its writer has failed.
-fn run_in_blocks(
-    alloc: Global,
-    size: usize,
-    device: FailsOnce,
-) -> Result<(Result<(), ProgramFault<'static>>, bool), AllocError> {
-    let block = vec![in alloc; 0; size.max(1)]?;
+// What a run answers, and whether its writer has failed.
+type End = (Result<(), ProgramFault<'static>>, bool);
+
+// How a run over a block ends.
+fn run_in(alloc: Global, block: Vec<u8>, device: FailsOnce) -> End
+    requires { 0 < vec_len block }
+{
     let mut reader = CutReader::new(STREAM, 26, None);
     let mut writer = BlockWriter::new(block, StdWriter::new(device));
     let words = ["+00:00", "-", "100", "rfc3339"];
     let answer = run_words(alloc, &words, &mut reader, &mut writer);
-    Ok((answer, writer.has_failed()))
+    (answer, writer.has_failed())
 }
 
-// Whether a run whose call at this place fails has written what came before, and makes no call behind it.
-fn ends_there(alloc: Global, size: usize, at: u8, takes_nothing: bool) -> Result<bool, AllocError> {
+// How a run over a block ends whose call at this place fails, and how the device was used.
+fn run_failing(alloc: Global, block: Vec<u8>, at: u8, takes_nothing: bool) -> (End, Used)
+    requires { 0 < vec_len block }
+{
     let mut used = Used {
         calls: 0,
         len: 0,
@@ -86,7 +106,13 @@ fn ends_there(alloc: Global, size: usize, at: u8, takes_nothing: bool) -> Result
         fails_at: at,
         takes_nothing,
     };
-    let (answer, has_failed) = run_in_blocks(alloc, size, device)?;
+    let end = run_in(alloc, block, device);
+    (end, used)
+}
+
+// Whether this is how a run ends whose call at this place fails: it has written what came before, and makes no call
+// behind it.
+fn is_end((answer, has_failed): End, used: &Used, at: u8, takes_nothing: bool) -> bool {
     let fails = at < 48 || at == 48 && !takes_nothing;
     let wanted = if fails {
         Err(ProgramFault::Run(RunFault::Write))
@@ -94,23 +120,28 @@ fn ends_there(alloc: Global, size: usize, at: u8, takes_nothing: bool) -> Result
         Ok(())
     };
     let len = at.min(48);
-    let written = &used.bytes[..len as usize];
-    Ok(
-        answer == wanted
-            && (has_failed, used.calls, used.len) == (fails, len + 1, len)
-            && OUTPUT.starts_with(written),
-    )
+    answer == wanted
+        && (has_failed, used.calls, used.len) == (fails, len + 1, len)
+        && OUTPUT.starts_with(&used.bytes[..len as usize])
+}
+
+// Whether runs over blocks of so many bytes end so, whichever of the first calls fails.
+fn end_so(rt: &impl Abort, alloc: Global, size: usize, calls: u8, takes_nothing: bool) -> bool {
+    for at in 0..calls {
+        let block = vec![in alloc; 0; size.max(1)].expect(rt, "memory");
+        let (end, used) = run_failing(alloc, block, at, takes_nothing);
+        if !is_end(end, &used, at, takes_nothing) {
+            return false;
+        }
+    }
+    true
 }
 
 #[test]
-fn each_call_fails_once(rt: HostRuntime) -> Result<(), Fail> {
+fn each_call_fails_once(rt: HostRuntime) {
     for size in [1, 7, 64, 100] {
-        for at in 0..50 {
-            assert!(rt; ends_there(rt.alloc(), size, at, false)?);
-        }
-        for at in 0..48 {
-            assert!(rt; ends_there(rt.alloc(), size, at, true)?);
-        }
+        let fails = end_so(&rt, rt.alloc(), size, 50, false);
+        let takes_nothing = end_so(&rt, rt.alloc(), size, 48, true);
+        assert!(rt; fails && takes_nothing);
     }
-    Ok(())
 }

@@ -3,6 +3,7 @@
 use instants_devices::{
     ByteReader, ByteWriter, CutReader, CutWriter, DeviceFailed, StdReader, StdWriter,
 };
+use std::alloc::Global;
 use std::io::{Error, ErrorKind, Read, Result as IoResult, Write};
 
 // How many bytes a read gives, or how it fails.
@@ -18,12 +19,20 @@ const READS: [(usize, Option<usize>, &[Count]); 5] = [
     (8, Some(8), &[Ok(4), Ok(4), Err(DeviceFailed)]),
 ];
 
+// What a read of four bytes gives, or nothing where the reader has failed before.
+fn read_once(reader: &mut CutReader) -> Option<Count> {
+    if reader.has_failed() {
+        return None;
+    }
+    let mut into = [0; 4];
+    Some(reader.read(&mut into))
+}
+
 // Whether reads give these counts, and the last one alone fails, if one does.
 fn are_read(most: usize, fail_after: Option<usize>, counts: &[Count]) -> bool {
     let mut reader = CutReader::new(b"abcdefgh", most.max(1), fail_after);
-    let mut into = [0; 4];
     for count in counts {
-        if reader.has_failed() || reader.read(&mut into) != *count {
+        if read_once(&mut reader) != Some(*count) {
             return false;
         }
     }
@@ -145,25 +154,40 @@ fn tired_writes(takes_nothing: bool) -> Option<(Count, Count, bool)> {
     Some((first, second, writer.has_failed()))
 }
 
-#[test]
-fn std_devices_fail(rt: HostRuntime) {
-    assert!(rt; tired_reads() == Some((Ok(0), Err(DeviceFailed), true)));
-    for takes_nothing in [false, true] {
-        assert!(rt; tired_writes(takes_nothing) == Some((Ok(2), Err(DeviceFailed), true)));
-    }
+// What a flush answers that fails, and whether the writer has failed after it.
+fn tired_flush() -> (Result<(), DeviceFailed>, bool) {
     let mut writer = StdWriter::new(Tired {
         calls: 0,
         takes_nothing: false,
     });
-    assert!(rt; writer.flush() == Err(DeviceFailed) && writer.has_failed());
+    let flushed = writer.flush();
+    (flushed, writer.has_failed())
+}
+
+#[test]
+fn std_devices_fail(rt: HostRuntime) {
+    let ends = [tired_reads(), tired_writes(false), tired_writes(true)];
+    let wanted = [0, 2, 2].map(|count| Some((Ok(count), Err(DeviceFailed), true)));
+    assert!(rt; ends == wanted);
+    assert!(rt; tired_flush() == (Err(DeviceFailed), true));
+}
+
+// What a read gives of more bytes than it takes, and the bytes.
+fn std_read() -> (Count, [u8; 3]) {
+    let mut reader = StdReader::new(b"abcde".as_slice());
+    let mut into = [0; 3];
+    let count = reader.read(&mut into);
+    (count, into)
+}
+
+// Whether writing and flushing work, and the writer is flushed then.
+fn std_written(alloc: Global) -> bool {
+    let mut writer = StdWriter::new(Vec::new(alloc));
+    writer.write_all(b"abc").is_ok() && writer.flush().is_ok() && writer.is_flushed()
 }
 
 #[test]
 fn std_devices(rt: HostRuntime) {
-    let mut reader = StdReader::new(b"abcde".as_slice());
-    let mut into = [0; 3];
-    assert!(rt; reader.read(&mut into) == Ok(3) && into == *b"abc");
-    let mut writer = StdWriter::new(Vec::new(rt.alloc()));
-    assert!(rt; writer.write_all(b"abc").is_ok());
-    assert!(rt; writer.flush().is_ok() && writer.is_flushed());
+    assert!(rt; std_read() == (Ok(3), *b"abc"));
+    assert!(rt; std_written(rt.alloc()));
 }

@@ -33,26 +33,20 @@ fn ended(timeline: &Timeline, limit: usize, most: usize, failing: Failing, outpu
     end_of(answer, &reader, &writer, output)
 }
 
-// Whether runs with each list of sources, and reads and writes of each size, end so.
+// Whether runs with reads and writes of each size end so.
 fn end_so(
-    timelines: &[Timeline<'static>; 2],
+    timeline: &Timeline,
     limit: usize,
     failing: Failing,
     answer: Result<(), RunFault>,
     output: &[u8],
 ) -> bool {
-    for timeline in timelines {
-        for most in SIZES {
-            if ended(timeline, limit, most, failing, output) != wanted_end(answer) {
-                return false;
-            }
+    for most in SIZES {
+        if ended(timeline, limit, most, failing, output) != wanted_end(answer) {
+            return false;
         }
     }
     true
-}
-
-fn timelines(rt: &impl Abort, alloc: Global) -> [Timeline<'static>; 2] {
-    [timeline(rt, alloc, LISTS[0]), timeline(rt, alloc, LISTS[1])]
 }
 
 const NO_READ: Result<(), RunFault> = Err(RunFault::Read);
@@ -73,38 +67,79 @@ fn write_fails(after: usize) -> Failing {
     }
 }
 
-#[test]
-fn reads_that_fail(rt: HostRuntime) {
-    let timelines = timelines(&rt, rt.alloc());
+// Whether runs end so whose reads fail after each number of bytes.
+fn reads_end_so(timeline: &Timeline) -> bool {
     for after in 0..27 {
-        let output = written_before(after);
-        assert!(rt; end_so(&timelines, 100, read_fails(after), NO_READ, output));
+        if !end_so(
+            timeline,
+            100,
+            read_fails(after),
+            NO_READ,
+            written_before(after),
+        ) {
+            return false;
+        }
     }
+    true
+}
+
+// The same of a line that is longer than the limit, and of devices that both fail.
+fn others_end_so(timeline: &Timeline) -> [bool; 3] {
     let both = Failing {
         write: Some(0),
         ..read_fails(0)
     };
-    // a line that is longer than the limit, and devices that both fail
-    let ends = [
-        end_so(&timelines, 22, read_fails(23), NO_READ, b""),
-        end_so(&timelines, 22, read_fails(24), NO_READ, b"! long\n"),
-        end_so(&timelines, 100, both, NO_READ, b""),
-    ];
-    assert!(rt; ends == [true; 3]);
+    [
+        end_so(timeline, 22, read_fails(23), NO_READ, b""),
+        end_so(timeline, 22, read_fails(24), NO_READ, b"! long\n"),
+        end_so(timeline, 100, both, NO_READ, b""),
+    ]
+}
+
+// The same of the timeline that words ask for.
+fn reads_that_fail_end_so(rt: &impl Abort, alloc: Global, words: &str) -> bool {
+    let timeline = timeline(rt, alloc, words);
+    reads_end_so(&timeline) && others_end_so(&timeline) == [true; 3]
 }
 
 #[test]
-fn writes_that_fail(rt: HostRuntime) {
-    let timelines = timelines(&rt, rt.alloc());
-    for after in 0..49 {
-        let output = &OUTPUT[..after];
-        assert!(rt; end_so(&timelines, 100, write_fails(after), NO_WRITE, output));
+fn reads_that_fail(rt: HostRuntime) {
+    for words in LISTS {
+        assert!(rt; reads_that_fail_end_so(&rt, rt.alloc(), words));
     }
+}
+
+// Whether runs end so whose writes fail after each number of bytes.
+fn writes_end_so(timeline: &Timeline) -> bool {
+    for after in 0..49 {
+        if !end_so(
+            timeline,
+            100,
+            write_fails(after),
+            NO_WRITE,
+            &OUTPUT[..after],
+        ) {
+            return false;
+        }
+    }
+    true
+}
+
+// The same, and of devices that don't fail, of the timeline that words ask for.
+fn writes_that_fail_end_so(rt: &impl Abort, alloc: Global, words: &str) -> bool {
     let none = Failing {
         read: None,
         write: None,
     };
-    assert!(rt; end_so(&timelines, 100, none, Ok(()), OUTPUT));
+    let timeline = timeline(rt, alloc, words);
+    writes_end_so(&timeline) && end_so(&timeline, 100, none, Ok(()), OUTPUT)
+}
+
+#[test]
+fn writes_that_fail(rt: HostRuntime) {
+    for words in LISTS {
+        assert!(rt; writes_that_fail_end_so(&rt, rt.alloc(), words));
+    }
 }
 
 // What a run answers whose writer takes so many bytes and then none, and whether that failed.
@@ -116,20 +151,29 @@ fn full(timeline: &Timeline, most: usize, room: usize) -> (Result<(), RunFault>,
     (answer, writer.has_failed())
 }
 
-#[test]
-fn writers_that_take_no_byte(rt: HostRuntime) {
-    let timeline = timeline(&rt, rt.alloc(), LISTS[0]);
-    for most in [1, 5, 26] {
-        for room in 0..48 {
-            assert!(rt; full(&timeline, most, room) == (NO_WRITE, true));
+// Whether runs end so whose writers have too little room, or as much as all of the output takes.
+fn are_full(timeline: &Timeline, most: usize) -> bool {
+    for room in 0..48 {
+        if full(timeline, most, room) != (NO_WRITE, true) {
+            return false;
         }
-        assert!(rt; full(&timeline, most, 48) == (Ok(()), false));
     }
+    full(timeline, most, 48) == (Ok(()), false)
 }
 
 #[test]
-fn one_line_is_two_reads(rt: HostRuntime) {
+fn writers_that_take_no_byte(rt: HostRuntime) {
     let timeline = timeline(&rt, rt.alloc(), LISTS[0]);
+    let are_full = [
+        are_full(&timeline, 1),
+        are_full(&timeline, 5),
+        are_full(&timeline, 26),
+    ];
+    assert!(rt; are_full == [true; 3]);
+}
+
+// What a run over one line answers, how many reads it makes, and whether it writes the line's answer.
+fn run_line(timeline: &Timeline) -> (Result<(), RunFault>, u8, bool) {
     let mut buffer = [0; 101];
     let mut space = [0; 100];
     let mut reader = Counting {
@@ -137,7 +181,13 @@ fn one_line_is_two_reads(rt: HostRuntime) {
         reads: 0,
     };
     let mut writer = CutWriter::new(&mut space, 100, None);
-    let answer = run(&timeline, &mut buffer, &mut reader, &mut writer);
+    let answer = run(timeline, &mut buffer, &mut reader, &mut writer);
     let line = b"1985-04-12T23:20:50.520000000Z\n".as_slice();
-    assert!(rt; (answer, reader.reads) == (Ok(()), 2) && writer.written() == line);
+    (answer, reader.reads, writer.written() == line)
+}
+
+#[test]
+fn one_line_is_two_reads(rt: HostRuntime) {
+    let timeline = timeline(&rt, rt.alloc(), LISTS[0]);
+    assert!(rt; run_line(&timeline) == (Ok(()), 2, true));
 }

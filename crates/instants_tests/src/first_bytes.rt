@@ -3,86 +3,138 @@
 use description::{Description, DescriptionVersion, parse_borrowed, parse_strftime_borrowed};
 use parsing_first_bytes::FirstBytes;
 use std::alloc::Global;
+use std::process::Abort;
 
-// Letters of strftime, lines whose first bytes they can't read, and others.
-const LETTERS: [(&str, &str, &str); 9] = [
-    ("%d/%b", "2021-01-01\n1/Jan\n\nGET /", "01/Jan\n99/Oct"),
-    (
-        "%b %e",
-        "GET / HTTP\nJun-01\n1 Jun\nJu",
-        "Jun  1\ndec 31\nDxx 31",
-    ),
-    ("%A", "July\n1", "Tuesday\nwednesday"),
-    ("%e.", "/1.\n1/.\n1", " 1.\n31."),
-    ("%-d.%m", ".1\nx", "1.01\n31.01\n1"),
-    ("%s", "x\n\n.5", "-1\n+1\n1700000000"),
-    ("", "", "x\n\n"),
-    ("%C", "x\n ", "20\n-1"),
-    ("%u", "x\n 1", "1\n7"),
-];
+// A description, a line, and whether the description can't read the line's first bytes.
+const ROWS: &str = r"strftime %d/%b => 2021-01-01 => is ruled out
+strftime %d/%b => 1/Jan => is ruled out
+strftime %d/%b =>  => is ruled out
+strftime %d/%b => GET / => is ruled out
+strftime %d/%b => 01/Jan => is not
+strftime %d/%b => 99/Oct => is not
+strftime %b %e => GET / HTTP => is ruled out
+strftime %b %e => Jun-01 => is ruled out
+strftime %b %e => 1 Jun => is ruled out
+strftime %b %e => Ju => is ruled out
+strftime %b %e => Jun  1 => is not
+strftime %b %e => dec 31 => is not
+strftime %b %e => Dxx 31 => is not
+strftime %A => July => is ruled out
+strftime %A => 1 => is ruled out
+strftime %A => Tuesday => is not
+strftime %A => wednesday => is not
+strftime %e. => /1. => is ruled out
+strftime %e. => 1/. => is ruled out
+strftime %e. => 1 => is ruled out
+strftime %e. =>  1. => is not
+strftime %e. => 31. => is not
+strftime %-d.%m => .1 => is ruled out
+strftime %-d.%m => x => is ruled out
+strftime %-d.%m => 1.01 => is not
+strftime %-d.%m => 31.01 => is not
+strftime %-d.%m => 1 => is not
+strftime %s => x => is ruled out
+strftime %s =>  => is ruled out
+strftime %s => .5 => is ruled out
+strftime %s => -1 => is not
+strftime %s => +1 => is not
+strftime %s => 1700000000 => is not
+strftime  => x => is not
+strftime  =>  => is not
+strftime %C => x => is ruled out
+strftime %C =>   => is ruled out
+strftime %C => 20 => is not
+strftime %C => -1 => is not
+strftime %u => x => is ruled out
+strftime %u =>  1 => is ruled out
+strftime %u => 1 => is not
+strftime %u => 7 => is not
+v1 [[[day] => 01 => is ruled out
+v1 [[[day] => ]01 => is ruled out
+v1 [[[day] => [01 => is not
+v1 [[[day] => [31 => is not
+v2 [year]-[month] => 01/01/2021 => is ruled out
+v2 [year]-[month] => 202 => is ruled out
+v2 [year]-[month] => 202x-01 => is ruled out
+v2 [year]-[month] => -20x-01 => is ruled out
+v2 [year]-[month] => 2021-01 => is not
+v2 [year]-[month] => -0001-01 => is not
+v2 [year]-[month] => +12345-01 => is not
+v2 at [hour] => am 12 => is ruled out
+v2 at [hour] => At 12 => is ruled out
+v2 at [hour] => at => is ruled out
+v2 at [hour] => at 12 => is not
+v2 [period] => xm => is ruled out
+v2 [period] => A1 => is ruled out
+v2 [period] => p => is ruled out
+v2 [period] => AM => is not
+v2 [period] => pm 1 => is not
+v2 [ignore count:2]x => abc => is not
+v2 [ignore count:2]x =>  => is not
+v3 [offset_hour sign:mandatory] => x1 => is ruled out
+v3 [offset_hour sign:mandatory] => +x => is ruled out
+v3 [offset_hour sign:mandatory] => +01 => is not
+v3 [offset_hour sign:mandatory] => -12 => is not
+v3 [unix_timestamp] => abc => is ruled out
+v3 [unix_timestamp] =>  1 => is ruled out
+v3 [unix_timestamp] => 12 => is not
+v3 [unix_timestamp] => -12 => is not
+v3 [hour]:[minute] => 1:00 => is ruled out
+v3 [hour]:[minute] => abc => is ruled out
+v3 [hour]:[minute] => 01:00 => is not
+v3 [optional [x]]y => y => is not
+v3 [optional [x]]y => z => is not";
 
-const V1: DescriptionVersion = DescriptionVersion::One;
+fn by_letters(rt: &impl Abort, alloc: Global, text: &str, line: &[u8]) -> bool {
+    let items = parse_strftime_borrowed(alloc, text).expect(rt, "letters");
+    FirstBytes::of_items(&items).rule_out(line)
+}
 
-const V2: DescriptionVersion = DescriptionVersion::Two;
-
-const V3: DescriptionVersion = DescriptionVersion::Three;
-
-// The same of a version.
-const DESCRIPTIONS: [(DescriptionVersion, &str, &str, &str); 9] = [
-    (V1, "[[[day]", "01\n]01", "[01\n[31"),
-    (
-        V2,
-        "[year]-[month]",
-        "01/01/2021\n202\n202x-01\n-20x-01",
-        "2021-01\n-0001-01\n+12345-01",
-    ),
-    (V2, "at [hour]", "am 12\nAt 12\nat", "at 12"),
-    (V2, "[period]", "xm\nA1\np", "AM\npm 1"),
-    (V2, "[ignore count:2]x", "", "abc\n\n"),
-    (V3, "[offset_hour sign:mandatory]", "x1\n+x", "+01\n-12"),
-    (V3, "[unix_timestamp]", "abc\n 1", "12\n-12"),
-    (V3, "[hour]:[minute]", "1:00\nabc", "01:00"),
-    (V3, "[optional [x]]y", "", "y\nz"),
-];
-
-// Whether all of the lines are ruled out, or none is, as is wanted.
-fn are_ruled_out(first_bytes: &FirstBytes, lines: &str, wanted: bool) -> bool {
-    for line in lines.lines() {
-        if first_bytes.rule_out(line.as_bytes()) != wanted {
-            return false;
-        }
+fn by(description: &Description, line: &[u8]) -> bool {
+    match description {
+        Description::Items(items) => FirstBytes::of_items(items).rule_out(line),
+        Description::V3(description) => FirstBytes::of_description(description).rule_out(line),
     }
-    true
 }
 
-fn are_told_apart(first_bytes: &FirstBytes, ruled_out: &str, others: &str) -> bool {
-    are_ruled_out(first_bytes, ruled_out, true) && are_ruled_out(first_bytes, others, false)
-}
-
-#[test]
-fn letters(rt: HostRuntime) {
-    for (text, ruled_out, others) in LETTERS {
-        let items = parse_strftime_borrowed(rt.alloc(), text).expect(&rt, "a description");
-        assert!(rt; are_told_apart(&FirstBytes::of_items(&items), ruled_out, others));
-    }
-}
-
-fn of_version(
+fn by_version(
+    rt: &impl Abort,
     alloc: Global,
     version: DescriptionVersion,
-    text: &'static str,
-) -> Option<FirstBytes> {
-    match parse_borrowed(alloc, version, text) {
-        Ok(Description::Items(items)) => Some(FirstBytes::of_items(&items)),
-        Ok(Description::V3(description)) => Some(FirstBytes::of_description(&description)),
-        Err(_) => None,
+    text: &str,
+    line: &[u8],
+) -> bool {
+    let description = parse_borrowed(alloc, version, text).expect(rt, "a description");
+    by(&description, line)
+}
+
+// Whether the first bytes of a line rule a description out.
+fn is_ruled_out(rt: &impl Abort, alloc: Global, language: &str, text: &str, line: &[u8]) -> bool {
+    match language {
+        "v1" => by_version(rt, alloc, DescriptionVersion::One, text, line),
+        "v2" => by_version(rt, alloc, DescriptionVersion::Two, text, line),
+        "v3" => by_version(rt, alloc, DescriptionVersion::Three, text, line),
+        _ => by_letters(rt, alloc, text, line),
     }
 }
 
+// Whether a row says what is so.
+fn holds(rt: &impl Abort, alloc: Global, row: &str) -> bool {
+    let (row, wanted) = row.rsplit_once(" => ").expect(rt, "a row");
+    let (description, line) = row.split_once(" => ").expect(rt, "a line");
+    let (language, text) = description.split_once(' ').expect(rt, "a language");
+    let is_ruled_out = is_ruled_out(rt, alloc, language, text, line.as_bytes());
+    wanted
+        == if is_ruled_out {
+            "is ruled out"
+        } else {
+            "is not"
+        }
+}
+
 #[test]
-fn descriptions(rt: HostRuntime) {
-    for (version, text, ruled_out, others) in DESCRIPTIONS {
-        let first_bytes = of_version(rt.alloc(), version, text).expect(&rt, "a description");
-        assert!(rt; are_told_apart(&first_bytes, ruled_out, others));
+fn rows(rt: HostRuntime) {
+    for row in ROWS.lines() {
+        assert!(rt; holds(&rt, rt.alloc(), row));
     }
 }

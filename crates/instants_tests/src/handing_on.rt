@@ -1,6 +1,6 @@
 //! What the writer below has once it was handed on, device by device and before each read of a run.
 
-ghost use Rattle.std.specs.Prelude.{◌<◌, vec_len};
+ghost use Rattle.std.specs.Prelude.{◌≡◌, ◌<◌, false, vec_len};
 
 use crate::support::{OUTPUT, STREAM, timeline, written_before};
 use instants::{
@@ -11,74 +11,119 @@ use std::process::Abort;
 
 const WORDS: &str = "+00:00|-|100|rfc3339";
 
+// What handing on answers, and whether the writer has failed.
+type Handed = (Result<(), DeviceFailed>, bool);
+
+// How handing on six bytes ends.
+fn hand_on_six<W: ByteWriter>(writer: &mut W) -> Handed
+    requires { W.failed writer.old ≡ false }
+{
+    let answer = match writer.write_all(b"abcdef") {
+        Ok(()) => writer.hand_on(),
+        Err(fault) => Err(fault),
+    };
+    (answer, writer.has_failed())
+}
+
+// How a writer is flushed before and after it is handed on, where it works.
+fn flushed_around<W: ByteWriter>(writer: &mut W) -> (bool, bool, bool)
+    requires { W.failed writer.old ≡ false }
+{
+    let before = writer.is_flushed();
+    let works = writer.hand_on().is_ok();
+    (works, before, writer.is_flushed())
+}
+
+// How handing on ends at a writer over space, whether it has the bytes, whether it is flushed and how often it was.
+fn cut_writer() -> (Handed, bool, bool, usize) {
+    let mut space = [0; 6];
+    let mut writer = CutWriter::new(&mut space, 4, None);
+    let end = hand_on_six(&mut writer);
+    let has_bytes = writer.written() == b"abcdef".as_slice();
+    (end, has_bytes, writer.is_flushed(), writer.flushes())
+}
+
+// How a writer of std is flushed when it is new, how handing on ends, and whether it is flushed then.
+fn std_writer(alloc: Global) -> Option<((bool, bool, bool), Handed, bool)> {
+    let mut writer = StdWriter::new(Vec::new(alloc));
+    let is_flushed = flushed_around(&mut writer);
+    if writer.has_failed() {
+        return None;
+    }
+    let end = hand_on_six(&mut writer);
+    Some((is_flushed, end, writer.is_flushed()))
+}
+
 // Devices that hold nothing back.
 #[test]
 fn nothing_held_back(rt: HostRuntime) {
-    let mut space = [0; 6];
-    let mut writer = CutWriter::new(&mut space, 4, None);
-    assert!(rt; writer.write_all(b"abcdef").is_ok() && writer.hand_on().is_ok());
-    assert!(rt;
-        writer.written() == b"abcdef".as_slice() && !writer.is_flushed() && writer.flushes() == 0
-    );
-    let mut writer = StdWriter::new(Vec::new(rt.alloc()));
-    assert!(rt; writer.is_flushed() && writer.hand_on().is_ok() && writer.is_flushed());
-    assert!(rt; writer.write_all(b"abcdef").is_ok() && writer.hand_on().is_ok());
-    assert!(rt; !writer.is_flushed());
+    assert!(rt; cut_writer() == ((Ok(()), false), true, false, 0));
+    let end = ((true, true, true), (Ok(()), false), false);
+    assert!(rt; std_writer(rt.alloc()) == Some(end));
 }
 
-// How handing on six bytes ends where the writer below fails after so many: its answer, whether the writer has failed, and
-// what the writer below has.
-fn handed_on(
-    rt: &impl Abort,
-    alloc: Global,
-    fail_after: Option<usize>,
-) -> (Result<(), DeviceFailed>, bool, [u8; 6]) {
+// A block of so many bytes.
+fn block(rt: &impl Abort, alloc: Global, size: usize) -> Vec<u8>
+    requires { 0 < size }
+    ensures { 0 < vec_len result }
+{
+    vec![in alloc; 0; size].expect(rt, "memory")
+}
+
+// How handing on six bytes through two blocks ends where the writer below fails after so many: the answer, whether the
+// writer has failed, and what the writer below has.
+fn handed_on(inner: Vec<u8>, outer: Vec<u8>, fail_after: Option<usize>) -> (Handed, [u8; 6])
+    requires inner { 0 < vec_len inner }
+    requires outer { 0 < vec_len outer }
+{
     let mut space = [0; 6];
     let end;
     {
-        let block = vec![in alloc; 0; 8].expect(rt, "memory");
-        let inner = BlockWriter::new(block, CutWriter::new(&mut space, 4, fail_after));
-        let block = vec![in alloc; 0; 100].expect(rt, "memory");
-        let mut writer = BlockWriter::new(block, inner);
-        let answer = match writer.write_all(b"abcdef") {
-            Ok(()) => writer.hand_on(),
-            Err(fault) => Err(fault),
-        };
-        end = (answer, writer.has_failed());
+        let inner = BlockWriter::new(inner, CutWriter::new(&mut space, 4, fail_after));
+        let mut writer = BlockWriter::new(outer, inner);
+        end = hand_on_six(&mut writer);
     }
-    (end.0, end.1, space)
+    (end, space)
 }
 
 // Both blocks are handed on.
 #[test]
 fn blocks(rt: HostRuntime) {
-    assert!(rt; handed_on(&rt, rt.alloc(), None) == (Ok(()), false, *b"abcdef"));
-    for (fail_after, space) in [(0, *b"\0\0\0\0\0\0"), (4, *b"abcd\0\0"), (5, *b"abcde\0")] {
-        let end = (Err(DeviceFailed), true, space);
-        assert!(rt; handed_on(&rt, rt.alloc(), Some(fail_after)) == end);
+    let failed = (Err(DeviceFailed), true);
+    for (fail_after, end, space) in [
+        (None, (Ok(()), false), *b"abcdef"),
+        (Some(0), failed, *b"\0\0\0\0\0\0"),
+        (Some(4), failed, *b"abcd\0\0"),
+        (Some(5), failed, *b"abcde\0"),
+    ] {
+        let (inner, outer) = (block(&rt, rt.alloc(), 8), block(&rt, rt.alloc(), 100));
+        assert!(rt; handed_on(inner, outer, fail_after) == (end, space));
     }
 }
 
-// How a block writer is flushed before and after it is handed on.
-fn flushed(rt: &impl Abort, alloc: Global, is_written: bool) -> (bool, bool, bool) {
+// How a block writer is flushed before and after it is handed on, that was flushed first, and was written a byte since.
+fn flushed(block: Vec<u8>, is_written: bool) -> (bool, bool, bool)
+    requires { 0 < vec_len block }
+{
     let mut space = [0; 6];
-    let block = vec![in alloc; 0; 8].expect(rt, "memory");
     let mut writer = BlockWriter::new(block, CutWriter::new(&mut space, 4, None));
     let mut works = writer.flush().is_ok();
     if works && is_written {
         works = writer.write(b"a") == Ok(1);
     }
-    let before = writer.is_flushed();
     if works {
-        works = writer.hand_on().is_ok();
+        flushed_around(&mut writer)
+    } else {
+        (false, false, false)
     }
-    (works, before, writer.is_flushed())
 }
 
 #[test]
 fn no_flush(rt: HostRuntime) {
-    let alloc = rt.alloc();
-    let ends = [flushed(&rt, alloc, false), flushed(&rt, alloc, true)];
+    let ends = [
+        flushed(block(&rt, rt.alloc(), 8), false),
+        flushed(block(&rt, rt.alloc(), 8), true),
+    ];
     assert!(rt; ends == [(true, true, true), (true, false, false)]);
 }
 
@@ -111,30 +156,42 @@ fn holds(space: &[u8; 48], bytes: &[u8]) -> bool {
     space.starts_with(bytes) && others == bytes.len()
 }
 
+// Whether all answers are below where a read of at most so many bytes fails, wherever it does.
+fn are_below(rt: &impl Abort, alloc: Global, timeline: &Timeline, most: usize) -> bool {
+    for read_fails in 0..27 {
+        let (answer, space) = ended(timeline, block(rt, alloc, 100), most, read_fails, None);
+        if answer != Err(RunFault::Read) || !holds(&space, written_before(read_fails)) {
+            return false;
+        }
+    }
+    true
+}
+
 // Before each read all answers are below, so that they are there when it fails.
 #[test]
 fn before_each_read(rt: HostRuntime) {
     let timeline = timeline(&rt, rt.alloc(), WORDS);
-    for most in [1, 2, 5, 24, 26] {
-        for read_fails in 0..27 {
-            let block = vec![in rt.alloc(); 0; 100].expect(&rt, "memory");
-            let (answer, space) = ended(&timeline, block, most, read_fails, None);
-            let holds = holds(&space, written_before(read_fails));
-            assert!(rt; answer == Err(RunFault::Read) && holds);
+    let are_below = [1, 2, 5, 24, 26].map(|most| are_below(&rt, rt.alloc(), &timeline, most));
+    assert!(rt; are_below == [true; 5]);
+}
+
+// Whether a run ends where the writer below fails, wherever it does.
+fn ends_at_writes(rt: &impl Abort, alloc: Global, timeline: &Timeline) -> bool {
+    for write_fails in 0..31 {
+        let block = block(rt, alloc, 100);
+        let (answer, space) = ended(timeline, block, 5, 24, Some(write_fails));
+        if answer != Err(RunFault::Write) || !holds(&space, &OUTPUT[..write_fails]) {
+            return false;
         }
     }
+    true
 }
 
 // What fails to be handed on is a failed write, and nothing is read behind it.
 #[test]
 fn fails_before_a_read(rt: HostRuntime) {
     let timeline = timeline(&rt, rt.alloc(), WORDS);
-    for write_fails in 0..31 {
-        let block = vec![in rt.alloc(); 0; 100].expect(&rt, "memory");
-        let (answer, space) = ended(&timeline, block, 5, 24, Some(write_fails));
-        let holds = holds(&space, &OUTPUT[..write_fails]);
-        assert!(rt; answer == Err(RunFault::Write) && holds);
-    }
+    assert!(rt; ends_at_writes(&rt, rt.alloc(), &timeline));
 }
 
 // A writer of those methods alone that each has to have. It takes a byte at a time, while there is room.
@@ -183,9 +240,8 @@ impl ByteWriter for Plain {
     }
 }
 
-#[test]
-fn plain_writer(rt: HostRuntime) {
-    let timeline = timeline(&rt, rt.alloc(), WORDS);
+// What a run answers whose writer is plain, whether it wrote the output, how many bytes, and whether it flushed them.
+fn run_plain(timeline: &Timeline) -> (Result<(), RunFault>, bool, usize, bool) {
     let mut buffer = [0; 101];
     let mut reader = CutReader::new(STREAM, 26, None);
     let mut writer = Plain {
@@ -194,6 +250,13 @@ fn plain_writer(rt: HostRuntime) {
         is_flushed: false,
         has_failed: false,
     };
-    assert!(rt; run(&timeline, &mut buffer, &mut reader, &mut writer) == Ok(()));
-    assert!(rt; writer.bytes.starts_with(OUTPUT) && (writer.len, writer.is_flushed) == (48, true));
+    let answer = run(timeline, &mut buffer, &mut reader, &mut writer);
+    let is_output = writer.bytes.starts_with(OUTPUT);
+    (answer, is_output, writer.len, writer.is_flushed)
+}
+
+#[test]
+fn plain_writer(rt: HostRuntime) {
+    let timeline = timeline(&rt, rt.alloc(), WORDS);
+    assert!(rt; run_plain(&timeline) == (Ok(()), true, 48, true));
 }

@@ -1,6 +1,6 @@
 //! Lines compare as bytes as their instants, and are read again as themselves.
 
-ghost use Rattle.std.specs.Prelude.{IfOk};
+ghost use Rattle.std.specs.Prelude.{◌<◌, length, IfSome};
 ghost use Rattle.calendar.specs.UtcOffset.{IsClockOffset};
 
 use crate::support::moment;
@@ -13,7 +13,6 @@ use instants::{Answer, SourceText, Timeline, fits_line, rfc3339_line};
 use instants_answers::is_target;
 use std::alloc::Global;
 use std::process::Abort;
-use std::test::Fail;
 
 // Year ends, the last days of months, and both ends of the years that are shown.
 const DAYS: [(i32, Month, u8); 10] = [
@@ -49,16 +48,33 @@ const TARGETS: [i16; 4] = [-1439, 0, 330, 1439];
 type Answered = (Answer, i128, Answer);
 
 // A target of so many minutes.
-fn target(minutes: i16) -> Result<UtcOffset, Fail>
-    ensures { IfOk result IsClockOffset }
+fn target(rt: &impl Abort, minutes: i16) -> UtcOffset
+    ensures { IsClockOffset result }
 {
-    let offset = UtcOffset::from_whole_seconds(i32::from(minutes) * 60)
-        .ok()
-        .ok_or("an offset")?;
-    if is_target(offset) {
-        Ok(offset)
-    } else {
-        Err(Fail::from("no target"))
+    let offset = UtcOffset::from_whole_seconds(i32::from(minutes) * 60).expect(rt, "an offset");
+    assert!(rt; is_target(offset));
+    offset
+}
+
+fn timeline_of(
+    rt: &impl Abort,
+    alloc: Global,
+    sources: &[SourceText<'static>],
+    target: UtcOffset,
+    assumed: Option<UtcOffset>,
+) -> Timeline<'static>
+    requires sources { 0 < length sources.now }
+    requires target { IsClockOffset target }
+    requires assumed { IfSome assumed IsClockOffset }
+{
+    Timeline::new(alloc, sources, target, assumed).expect(rt, "a timeline")
+}
+
+// The answer to a line, where it is a moment's.
+fn answer_line(timeline: &Timeline, line: Answer) -> Option<Answered> {
+    match timeline.place(line.as_bytes()) {
+        Ok(placed) => Some((rfc3339_line(placed), placed.unix_timestamp_nanos(), line)),
+        Err(_) => None,
     }
 }
 
@@ -68,29 +84,24 @@ fn answer_day(
     timeline: &Timeline,
     day: (i32, Month, u8),
     answers: &mut Vec<Answered>,
-) -> Result<(), Fail> {
+) {
     for time in &TIMES {
         for minutes in &OFFSETS {
             let moment = moment(rt, day, *time, *minutes * 60);
             assert!(rt; fits_line(moment));
-            let line = rfc3339_line(moment);
-            if let Ok(placed) = timeline.place(line.as_bytes()) {
-                answers.push((rfc3339_line(placed), placed.unix_timestamp_nanos(), line))?;
+            if let Some(answer) = answer_line(timeline, rfc3339_line(moment)) {
+                answers.push(answer).expect(rt, "memory");
             }
         }
     }
-    Ok(())
 }
 
-fn answer_days(alloc: Global, rt: &impl Abort, target: UtcOffset) -> Result<Vec<Answered>, Fail>
-    requires { IsClockOffset target }
-{
-    let timeline = Timeline::new(alloc, &[SourceText::Rfc3339], target, None)?;
+fn answer_days(rt: &impl Abort, alloc: Global, timeline: &Timeline) -> Vec<Answered> {
     let mut answers = Vec::new(alloc);
     for day in &DAYS {
-        answer_day(rt, &timeline, *day, &mut answers)?;
+        answer_day(rt, timeline, *day, &mut answers);
     }
-    Ok(answers)
+    answers
 }
 
 // Whether answers that were sorted as bytes are in the order of their instants, and equal where these are.
@@ -103,53 +114,117 @@ fn are_in_order(answers: &[Answered]) -> bool {
     true
 }
 
-#[test]
-fn sorted_answers(rt: HostRuntime) -> Result<(), Fail> {
-    for minutes in &TARGETS {
-        let mut answers = answer_days(rt.alloc(), &rt, target(*minutes)?)?;
-        answers.sort_by(|one, other| one.0.as_bytes().cmp(other.0.as_bytes()))?;
-        assert!(rt; answers.len() > 500 && are_in_order(answers.as_slice()));
-    }
-    Ok(())
+// Whether there are many answers at a target, and they are in order once they are sorted as bytes.
+fn are_sorted(rt: &impl Abort, alloc: Global, minutes: i16) -> bool {
+    let target = target(rt, minutes);
+    let timeline = timeline_of(rt, alloc, &[SourceText::Rfc3339], target, None);
+    let mut answers = answer_days(rt, alloc, &timeline);
+    let sorted = answers.sort_by(|one, other| one.0.as_bytes().cmp(other.0.as_bytes()));
+    sorted.is_ok() && answers.len() > 500 && are_in_order(answers.as_slice())
 }
 
-// Whether each answer is answered as itself, and at the other target as its line is there.
+#[test]
+fn sorted_answers(rt: HostRuntime) {
+    for minutes in TARGETS {
+        assert!(rt; are_sorted(&rt, rt.alloc(), minutes));
+    }
+}
+
+// Whether the answer is answered as itself, and at the other target as its line is there.
+fn is_read_again(
+    again: &Timeline,
+    from_lines: &Timeline,
+    from_answers: &Timeline,
+    (answer, _, line): &Answered,
+) -> bool {
+    let there = from_lines.answer_line(line.as_bytes());
+    again.answer_line(answer.as_bytes()) == *answer
+        && from_answers.answer_line(answer.as_bytes()) == there
+}
+
 fn are_read_again(
     again: &Timeline,
     from_lines: &Timeline,
     from_answers: &Timeline,
     answers: &[Answered],
 ) -> bool {
-    for (answer, _, line) in answers {
-        let there = from_lines.answer_line(line.as_bytes());
-        if again.answer_line(answer.as_bytes()) != *answer
-            || from_answers.answer_line(answer.as_bytes()) != there
-        {
+    for answered in answers {
+        if !is_read_again(again, from_lines, from_answers, answered) {
             return false;
         }
     }
     true
 }
 
-#[test]
-fn lines_read_again(rt: HostRuntime) -> Result<(), Fail> {
-    let (here, other) = (target(-1439)?, target(1439)?);
-    let answers = answer_days(rt.alloc(), &rt, here)?;
-    let from_lines = Timeline::new(rt.alloc(), &[SourceText::Rfc3339], other, None)?;
-    for source in [SourceText::Rfc3339, SourceText::Iso8601] {
-        for assumed in [None, Some(other)] {
-            let again = Timeline::new(rt.alloc(), &[source], here, assumed)?;
-            let from_answers = Timeline::new(rt.alloc(), &[source], other, assumed)?;
-            let answers = answers.as_slice();
-            assert!(rt; are_read_again(&again, &from_lines, &from_answers, answers));
-        }
+// The offset of the other target, where one is assumed.
+fn assumed(rt: &impl Abort, is_assumed: bool) -> Option<UtcOffset>
+    ensures { IfSome result IsClockOffset }
+{
+    if is_assumed {
+        Some(target(rt, 1439))
+    } else {
+        None
     }
-    Ok(())
+}
+
+// The same of these sources for timelines with both targets, with or without an offset to assume.
+fn all_read_again(
+    rt: &impl Abort,
+    alloc: Global,
+    sources: &[SourceText<'static>],
+    is_assumed: bool,
+    from_lines: &Timeline,
+    answers: &[Answered],
+) -> bool
+    requires { 0 < length sources.now }
+{
+    let (here, assumed_here) = (target(rt, -1439), assumed(rt, is_assumed));
+    let again = timeline_of(rt, alloc, sources, here, assumed_here);
+    let (other, assumed_there) = (target(rt, 1439), assumed(rt, is_assumed));
+    let from_answers = timeline_of(rt, alloc, sources, other, assumed_there);
+    are_read_again(&again, from_lines, &from_answers, answers)
+}
+
+// The same of each source that reads the answers, with and without an offset to assume.
+fn each_reads_again(
+    rt: &impl Abort,
+    alloc: Global,
+    from_lines: &Timeline,
+    answers: &[Answered],
+) -> [bool; 4] {
+    let (rfc3339, iso8601) = ([SourceText::Rfc3339], [SourceText::Iso8601]);
+    [
+        all_read_again(rt, alloc, &rfc3339, false, from_lines, answers),
+        all_read_again(rt, alloc, &rfc3339, true, from_lines, answers),
+        all_read_again(rt, alloc, &iso8601, false, from_lines, answers),
+        all_read_again(rt, alloc, &iso8601, true, from_lines, answers),
+    ]
+}
+
+#[test]
+fn lines_read_again(rt: HostRuntime) {
+    let (here, other) = (target(&rt, -1439), target(&rt, 1439));
+    let here = timeline_of(&rt, rt.alloc(), &[SourceText::Rfc3339], here, None);
+    let answers = answer_days(&rt, rt.alloc(), &here);
+    let from_lines = timeline_of(&rt, rt.alloc(), &[SourceText::Rfc3339], other, None);
+    let read_again = each_reads_again(&rt, rt.alloc(), &from_lines, answers.as_slice());
+    assert!(rt; read_again == [true; 4]);
+}
+
+// Where adding the difference of two places to the one leads, and back.
+fn led_by_difference(timeline: &Timeline, one: &[u8], other: &[u8]) -> Option<[bool; 2]> {
+    match (timeline.place(one), timeline.place(other)) {
+        (Ok(one), Ok(other)) => Some([
+            difference_added(one, other) == Some(one),
+            difference_added(other, one) == Some(other),
+        ]),
+        _ => None,
+    }
 }
 
 // But for the last one the laws are contracts: nothing is answered.
 #[test]
-fn laws(rt: HostRuntime) -> Result<(), Fail> {
+fn laws(rt: HostRuntime) {
     appended();
     joined_streams();
     embedding();
@@ -157,15 +232,9 @@ fn laws(rt: HostRuntime) -> Result<(), Fail> {
     fixed_point();
     order_of_lines();
     reread();
-    let timeline = Timeline::new(rt.alloc(), &[SourceText::Rfc3339], target(-30)?, None)?;
+    difference();
+    let target = target(&rt, -30);
+    let timeline = timeline_of(&rt, rt.alloc(), &[SourceText::Rfc3339], target, None);
     let (first, last) = (b"0000-01-01T00:30:00Z", b"9999-12-31T23:59:59.999999999Z");
-    if let Ok(one) = timeline.place(first)
-        && let Ok(other) = timeline.place(last)
-    {
-        difference();
-        let (there, back) = (difference_added(one, other), difference_added(other, one));
-        assert!(rt; there == Some(one) && back == Some(other));
-        return Ok(());
-    }
-    Err(Fail::from("no place"))
+    assert!(rt; led_by_difference(&timeline, first, last) == Some([true; 2]));
 }

@@ -60,16 +60,38 @@ fn told(
     format!(in alloc; "{read:?} {named:?} {}", source.cannot_match(line))
 }
 
+// Whether what is told of a row's line is what stands behind it.
+fn is_told(rt: &impl Abort, alloc: Global, source: &Source, row: &str, hour: UtcOffset) -> bool {
+    let (line, wanted) = row.split_once(" => ").expect(rt, "a row");
+    let told = told(alloc, source, line.as_bytes(), hour).expect(rt, "memory");
+    told.as_str() == wanted
+}
+
+fn are_told(rt: &impl Abort, alloc: Global, source: &Source, rows: &str, hour: UtcOffset) -> bool {
+    for row in rows.lines() {
+        if !is_told(rt, alloc, source, row, hour) {
+            return false;
+        }
+    }
+    true
+}
+
+fn are_told_by(
+    rt: &impl Abort,
+    alloc: Global,
+    text: SourceText,
+    rows: &str,
+    hour: UtcOffset,
+) -> bool {
+    let source = Source::new(alloc, text).expect(rt, "a source");
+    are_told(rt, alloc, &source, rows, hour)
+}
+
 #[test]
 fn moments(rt: HostRuntime) {
     let hour = UtcOffset::from_hms(1, 0, 0).expect(&rt, "an offset");
     for (text, rows) in CASES {
-        let source = Source::new(rt.alloc(), text).expect(&rt, "a source");
-        for row in rows.lines() {
-            let (line, wanted) = row.split_once(" => ").expect(&rt, "a row");
-            let told = told(rt.alloc(), &source, line.as_bytes(), hour).expect(&rt, "memory");
-            assert!(rt; told.as_str() == wanted);
-        }
+        assert!(rt; are_told_by(&rt, rt.alloc(), text, rows, hour));
     }
 }
 
@@ -95,25 +117,47 @@ fn fast_ways(rt: HostRuntime) {
     assert!(rt; none == [None; 3]);
 }
 
-// The Unix time that a source names for a line by the fast way, with an offset of an hour assumed.
-fn fast(rt: &impl Abort, alloc: Global, text: SourceText, line: &[u8]) -> Option<i64> {
-    let hour = UtcOffset::from_hms(1, 0, 0).expect(rt, "an offset");
+// A source, a line, and the Unix time that it names for it by the fast way, with an offset of an hour assumed.
+const FAST: [(SourceText<'static>, &[u8], Option<i64>); 5] = [
+    (SourceText::Rfc3339, b"1970-01-01T00:00:01Z", Some(1)),
+    (
+        SourceText::Strftime("%d/%b/%Y:%H:%M:%S %z"),
+        b"01/Jan/1970:01:00:01 +0100",
+        Some(1),
+    ),
+    (
+        SourceText::Strftime("%d/%b/%Y:%H:%M:%S"),
+        b"01/Jan/1970:01:00:01",
+        Some(1),
+    ),
+    (
+        SourceText::V3("[year]-[month]-[day] [hour]:[minute]:[second]"),
+        b"1970-01-01 01:00:01",
+        Some(1),
+    ),
+    (
+        SourceText::Strftime("%d/%b/%Y:%H:%M:%S"),
+        b"32/Jan/1970:01:00:01",
+        None,
+    ),
+];
+
+// The Unix time that a source names for a line by the fast way.
+fn fast(
+    rt: &impl Abort,
+    alloc: Global,
+    text: SourceText,
+    line: &[u8],
+    hour: UtcOffset,
+) -> Option<i64> {
     let source = Source::new(alloc, text).expect(rt, "a source");
     second_of(source.read_fast(line, Some(hour)))
 }
 
 #[test]
 fn fast_ways_of_sources(rt: HostRuntime) {
-    let alloc = rt.alloc();
-    let letters = SourceText::Strftime("%d/%b/%Y:%H:%M:%S");
-    let with_offset = SourceText::Strftime("%d/%b/%Y:%H:%M:%S %z");
-    let version = SourceText::V3("[year]-[month]-[day] [hour]:[minute]:[second]");
-    let seconds = [
-        fast(&rt, alloc, SourceText::Rfc3339, b"1970-01-01T00:00:01Z"),
-        fast(&rt, alloc, with_offset, b"01/Jan/1970:01:00:01 +0100"),
-        fast(&rt, alloc, letters, b"01/Jan/1970:01:00:01"),
-        fast(&rt, alloc, version, b"1970-01-01 01:00:01"),
-        fast(&rt, alloc, letters, b"32/Jan/1970:01:00:01"),
-    ];
-    assert!(rt; seconds == [Some(1), Some(1), Some(1), Some(1), None]);
+    let hour = UtcOffset::from_hms(1, 0, 0).expect(&rt, "an offset");
+    for (text, line, wanted) in FAST {
+        assert!(rt; fast(&rt, rt.alloc(), text, line, hour) == wanted);
+    }
 }

@@ -68,10 +68,16 @@ pub fn moment(
     OffsetDateTime::new_in_offset(date, time, offset)
 }
 
-/// The timeline that words ask for, which are parted by bars.
-pub fn timeline<'a>(rt: &impl Abort, alloc: Global, words: &'a str) -> Timeline<'a> {
+// What is parted by bars.
+fn parted<'a>(rt: &impl Abort, alloc: Global, words: &'a str) -> Vec<&'a str> {
     let mut parts = Vec::new(alloc);
     parts.extend(words.split('|')).expect(rt, "memory");
+    parts
+}
+
+/// The timeline that words ask for, which are parted by bars.
+pub fn timeline<'a>(rt: &impl Abort, alloc: Global, words: &'a str) -> Timeline<'a> {
+    let parts = parted(rt, alloc, words);
     let said = read_words(alloc, parts.as_slice()).expect(rt, "words");
     let sources = said.sources.as_slice();
     Timeline::new(alloc, sources, said.target, said.assumed).expect(rt, "a timeline")

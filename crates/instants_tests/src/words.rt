@@ -17,22 +17,30 @@ fn are_said(
         && read.sources.as_slice() == sources
 }
 
+fn greatest_limit_is_said(alloc: Global) -> bool {
+    let words = ["+00:00", "-", "1048576", "rfc3339"];
+    are_said(alloc, &words, 1_048_576, &[SourceText::Rfc3339])
+}
+
+// Descriptions that are the names of languages.
+fn names_are_said(alloc: Global) -> bool {
+    let words = ["+00:00", "-", "100", "v2", "v3", "v3", "v2"];
+    let sources = [SourceText::V2("v3"), SourceText::V3("v2")];
+    are_said(alloc, &words, 100, &sources)
+}
+
+fn empty_description_is_said(alloc: Global) -> bool {
+    let words = ["+00:00", "-", "100", "rfc3339", "v2", "", "rfc3339"];
+    let last = SourceText::Rfc3339;
+    are_said(alloc, &words, 100, &[last, SourceText::V2(""), last])
+}
+
 #[test]
 fn words(rt: HostRuntime) {
-    let alloc = rt.alloc();
-    let greatest = ["+00:00", "-", "1048576", "rfc3339"];
-    let named = ["+00:00", "-", "100", "v2", "v3", "v3", "v2"];
-    let empty = ["+00:00", "-", "100", "rfc3339", "v2", "", "rfc3339"];
-    let last = SourceText::Rfc3339;
     let said = [
-        are_said(alloc, &greatest, 1_048_576, &[last]),
-        are_said(
-            alloc,
-            &named,
-            100,
-            &[SourceText::V2("v3"), SourceText::V3("v2")],
-        ),
-        are_said(alloc, &empty, 100, &[last, SourceText::V2(""), last]),
+        greatest_limit_is_said(rt.alloc()),
+        names_are_said(rt.alloc()),
+        empty_description_is_said(rt.alloc()),
     ];
     assert!(rt; said == [true; 3]);
 }
