@@ -23,8 +23,8 @@ MODULES = {
     "datetime::laws": ("datetime/src/laws.rt",),
     "description::laws": ("description_laws/src/lib.rt",),
     "description::strftime_laws": ("description_strftime/src/laws.rt",),
-    "parsing::laws": ("parsing/src/laws.rt", "parsing_places/src/laws.rt"),
-    "instants::laws": ("instants/src/laws.rt", "instants_order/src/laws.rt", "instants_stream/src/laws.rt"),
+    "parsing::laws": ("parsing/src/laws.rt", "parsing_laws/src/node_laws.rt"),
+    "instants::laws": ("instants/src/laws.rt", "instants_answers/src/laws.rt", "instants_stream/src/laws.rt"),
 }
 
 HEAD = """\

@@ -90,7 +90,7 @@ def missing_letters(rows):
 
 def missing_nesting(rows):
     told = " ".join(it.get("written", "") for it in rows)
-    heads = (ROOT / "crates" / "description_spelling" / "specs" / "Spelling.antt").read_text()
+    heads = (ROOT / "crates" / "description_grammar" / "specs" / "Spelling.antt").read_text()
     return [f"nesting {it}" for it in re.findall(r'SpellsNesting v \(codes "(\w+)"\)', heads) if f"[{it} " not in told]
 
 

@@ -6,3 +6,4 @@ mod ThursdayLemmas
 mod FourDigits
 mod PaddingLemmas
 mod DigitLemmas
+mod StandardFacts

@@ -3,7 +3,7 @@ use crate::dates;
 use calendar::{Date, Month};
 
 // The lengths of the months of a year that is no leap year.
-const LENGTHS: [u8; 12] = [31, 28, 31, 30, 31, 30, 31, 31, 30, 31, 30, 31];
+static LENGTHS: [u8; 12] = [31, 28, 31, 30, 31, 30, 31, 31, 30, 31, 30, 31];
 
 // A year, a month, a day of the month, and the day's place in the year.
 type Day = (i32, u8, u8, u16);

@@ -15,18 +15,21 @@ fn lengths(year: i32) -> (bool, u16, u8, u8, u8) {
     )
 }
 
+static YEARS: [(i32, (bool, u16, u8, u8, u8)); 8] = [
+    (2000, (true, 366, 52, 29, 30)),
+    (1900, (false, 365, 52, 28, 30)),
+    (2020, (true, 366, 53, 29, 30)),
+    (2021, (false, 365, 52, 28, 30)),
+    (2015, (false, 365, 53, 28, 30)),
+    (0, (true, 366, 52, 29, 30)),
+    (-396, (true, 366, 53, 29, 30)),
+    (i32::MAX, (false, 365, 52, 28, 30)),
+];
+
 #[test]
 fn lengths_of_years(rt: HostRuntime) {
-    for (year, expected) in [
-        (2000, (true, 366, 52, 29, 30)),
-        (1900, (false, 365, 52, 28, 30)),
-        (2020, (true, 366, 53, 29, 30)),
-        (2021, (false, 365, 52, 28, 30)),
-        (2015, (false, 365, 53, 28, 30)),
-        (0, (true, 366, 52, 29, 30)),
-        (-396, (true, 366, 53, 29, 30)),
-        (i32::MAX, (false, 365, 52, 28, 30)),
-    ] {
+    for row in &YEARS {
+        let (year, expected) = *row;
         assert!(rt; lengths(year) == expected);
     }
 }

@@ -29,7 +29,7 @@ fn one_by_one(date: Date) -> (i32, Month, u8, u16) {
     (date.year(), date.month(), date.day(), date.ordinal())
 }
 
-const DAYS: [Views; 8] = [
+static DAYS: [Views; 8] = [
     (
         (-999_999, Month::January, 1),
         -363_521_074,
@@ -73,7 +73,8 @@ fn is_named(day: Views) -> bool {
 
 #[test]
 fn names_days(rt: HostRuntime) {
-    for day in DAYS {
+    for row in &DAYS {
+        let day = *row;
         assert!(rt; is_named(day));
     }
 }
@@ -102,7 +103,7 @@ fn weeks(date: Date) -> Weeks {
     )
 }
 
-const WEEKS: [((i32, Month, u8), Weeks); 3] = [
+static WEEKS: [((i32, Month, u8), Weeks); 3] = [
     (
         (2021, Month::January, 1),
         (53, (2020, 53, Weekday::Friday), 0, 0),
@@ -127,7 +128,8 @@ fn has_weeks((year, month, day): (i32, Month, u8), expected: Weeks) -> bool {
 
 #[test]
 fn counts_weeks(rt: HostRuntime) {
-    for (day, expected) in WEEKS {
+    for row in &WEEKS {
+        let (day, expected) = *row;
         assert!(rt; has_weeks(day, expected));
     }
 }
@@ -233,7 +235,9 @@ fn found_by_weekday(alloc: Global) -> Result<Option<u8>, AllocError> {
 
 #[test]
 fn keys_maps(rt: HostRuntime) {
-    assert!(rt; found_by_hash(rt.alloc()) == Ok([Some(Month::February), None]));
-    assert!(rt; found_by_order(rt.alloc()) == Ok(Some(31)));
-    assert!(rt; found_by_weekday(rt.alloc()) == Ok(None));
+    assert!(rt;
+        found_by_hash(rt.alloc()) == Ok([Some(Month::February), None])
+            && found_by_order(rt.alloc()) == Ok(Some(31))
+            && found_by_weekday(rt.alloc()) == Ok(None)
+    );
 }

@@ -62,17 +62,17 @@ fn fine(duration: SignedDuration) -> (i128, i128, i128, i16, i32, i32) {
 
 #[test]
 fn cuts_toward_zero(rt: HostRuntime) {
-    assert!(rt; whole(sample()) == (0, -1, -26, -1563, -93_784));
     assert!(rt;
-        fine(sample())
-            == (
-                -93_784_005,
-                -93_784_005_000,
-                -93_784_005_000_001,
-                -5,
-                -5000,
-                -5_000_001
-            )
+        whole(sample()) == (0, -1, -26, -1563, -93_784)
+            && fine(sample())
+                == (
+                    -93_784_005,
+                    -93_784_005_000,
+                    -93_784_005_000_001,
+                    -5,
+                    -5000,
+                    -5_000_001
+                )
     );
 }
 
@@ -95,8 +95,11 @@ fn tells_signs(rt: HostRuntime) {
         SignedDuration::MAX,
     );
     let given = [signs(sample()), signs(none), signs(greatest), signs(least)];
-    assert!(rt; given == [BACK, (false, false, true), (false, true, false), BACK]);
-    assert!(rt; least < sample() && sample() < none);
+    assert!(rt;
+        given == [BACK, (false, false, true), (false, true, false), BACK]
+            && least < sample()
+            && sample() < none
+    );
 }
 
 #[test]
@@ -196,6 +199,8 @@ fn adds_and_subtracts(rt: HostRuntime) {
         SignedDuration::milliseconds(-500),
         SignedDuration::milliseconds(2500),
     );
-    assert!(rt; [second + sample, second - sample, sum, difference] == [less, more, less, more]);
-    assert!(rt; -sample == SignedDuration::milliseconds(1500));
+    assert!(rt;
+        [second + sample, second - sample, sum, difference] == [less, more, less, more]
+            && -sample == SignedDuration::milliseconds(1500)
+    );
 }

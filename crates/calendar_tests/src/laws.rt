@@ -13,12 +13,13 @@ fn laws_of_dates(rt: HostRuntime) {
         laws::day_of_iso_week_date(leap),
         laws::day_of_julian_day(leap),
     ];
-    assert!(rt; found == [Ok(leap), Ok(leap), Ok(leap), Ok(leap)]);
     let led = [
         laws::day_and_back(leap, SignedDuration::WEEK),
         laws::day_at_difference(leap, Date::MIN),
     ];
-    assert!(rt; led == [Some(leap), Some(Date::MIN)]);
+    assert!(rt;
+        found == [Ok(leap), Ok(leap), Ok(leap), Ok(leap)] && led == [Some(leap), Some(Date::MIN)]
+    );
 }
 
 #[test]
@@ -27,23 +28,27 @@ fn laws_of_views(rt: HostRuntime) {
     laws::both_ends();
     laws::order_of_days();
     let week_date = (2024, 9, Weekday::Thursday);
-    assert!(rt; laws::iso_week_date_of_day(2024, 9, Weekday::Thursday) == Some(week_date));
-    assert!(rt; laws::julian_day_of_day(2_451_545) == Some(2_451_545));
-    assert!(rt; laws::ends_of_calendar() == [Date::MIN, Date::MAX]);
-    assert!(rt; Ok(laws::day_of_unix_epoch()) == Date::from_calendar_date(1970, Month::January, 1));
+    assert!(rt;
+        laws::iso_week_date_of_day(2024, 9, Weekday::Thursday) == Some(week_date)
+            && laws::julian_day_of_day(2_451_545) == Some(2_451_545)
+            && laws::ends_of_calendar() == [Date::MIN, Date::MAX]
+            && Ok(laws::day_of_unix_epoch()) == Date::from_calendar_date(1970, Month::January, 1)
+    );
 }
 
 #[test]
 fn laws_of_months_and_offsets(rt: HostRuntime) {
-    assert!(rt; laws::order_of_months(Month::May, Month::June) == Ordering::Less);
     let back = (
         laws::month_and_back(Month::May, 200),
         laws::weekday_and_back(Weekday::Sunday, 200),
     );
-    assert!(rt; back == (Month::May, Weekday::Sunday));
     let offset = UtcOffset::from_hms(-3, 30, 0).unwrap_or(UtcOffset::UTC);
-    assert!(rt; laws::offset_of_whole_seconds(offset) == Ok(offset));
-    assert!(rt; [times::offset_of_utc(), times::turned_twice(offset)] == [UtcOffset::UTC, offset]);
+    assert!(rt;
+        laws::order_of_months(Month::May, Month::June) == Ordering::Less
+            && back == (Month::May, Weekday::Sunday)
+            && laws::offset_of_whole_seconds(offset) == Ok(offset)
+            && [times::offset_of_utc(), times::turned_twice(offset)] == [UtcOffset::UTC, offset]
+    );
 }
 
 #[test]
@@ -75,9 +80,9 @@ fn laws_of_durations(rt: HostRuntime) {
         SignedDuration::weeks(1),
         SignedDuration::MAX,
     ];
-    assert!(rt; laws::durations::constants() == expected);
     assert!(rt;
-        laws::durations::added_and_taken_away(durations::sample(), SignedDuration::WEEK)
-            == Some(durations::sample())
+        laws::durations::constants() == expected
+            && laws::durations::added_and_taken_away(durations::sample(), SignedDuration::WEEK)
+                == Some(durations::sample())
     );
 }

@@ -12,16 +12,21 @@ fn months(rt: HostRuntime) {
         Month::March.nth_next(255),
         Month::June.nth_prev(255),
     ];
-    assert!(rt; given == [Month::January, Month::December, Month::June, Month::March]);
-    assert!(rt; (u8::from(Month::September), Month::February.length(2024)) == (9, 29));
-    assert!(rt; Month::April < Month::August && Month::October > Month::August);
+    assert!(rt;
+        given == [Month::January, Month::December, Month::June, Month::March]
+            && (u8::from(Month::September), Month::February.length(2024)) == (9, 29)
+            && Month::April < Month::August
+            && Month::October > Month::August
+    );
 }
 
 #[test]
 fn months_by_number(rt: HostRuntime) {
-    assert!(rt; Month::try_from(2) == Ok(Month::February));
-    assert!(rt; Month::try_from(13) == Err(ComponentRange::unconditional(ComponentName::Month)));
-    assert!(rt; Month::try_from(0).is_err());
+    assert!(rt;
+        Month::try_from(2) == Ok(Month::February)
+            && Month::try_from(13) == Err(ComponentRange::unconditional(ComponentName::Month))
+            && Month::try_from(0).is_err()
+    );
 }
 
 fn numbers(weekday: Weekday) -> (u8, u8, u8, u8) {
@@ -54,7 +59,7 @@ fn weekdays(rt: HostRuntime) {
     );
 }
 
-const NUMBERS: [(Weekday, (u8, u8, u8, u8)); 3] = [
+static NUMBERS: [(Weekday, (u8, u8, u8, u8)); 3] = [
     (Weekday::Monday, (1, 0, 2, 1)),
     (Weekday::Saturday, (6, 5, 7, 6)),
     (Weekday::Sunday, (7, 6, 1, 0)),
@@ -62,7 +67,8 @@ const NUMBERS: [(Weekday, (u8, u8, u8, u8)); 3] = [
 
 #[test]
 fn numbers_weekdays(rt: HostRuntime) {
-    for (weekday, expected) in NUMBERS {
+    for row in &NUMBERS {
+        let (weekday, expected) = *row;
         assert!(rt; numbers(weekday) == expected);
     }
 }
@@ -79,7 +85,7 @@ fn named(text: &str) -> Named {
 
 const NEITHER: Named = (Err(InvalidVariant), Err(InvalidVariant));
 
-const NAMES: [(&str, Named); 14] = [
+static NAMES: [(&str, Named); 14] = [
     ("January", (Ok(Month::January), Err(InvalidVariant))),
     ("May", (Ok(Month::May), Err(InvalidVariant))),
     ("September", (Ok(Month::September), Err(InvalidVariant))),
@@ -98,7 +104,8 @@ const NAMES: [(&str, Named); 14] = [
 
 #[test]
 fn names(rt: HostRuntime) {
-    for (text, expected) in NAMES {
+    for row in &NAMES {
+        let (text, expected) = *row;
         assert!(rt; named(text) == expected);
     }
 }
@@ -139,15 +146,17 @@ fn walks_months_back(rt: HostRuntime) {
 #[test]
 fn tells_of_all_months(rt: HostRuntime) {
     let (first, last) = (Some(Month::January), Some(Month::December));
-    let (months, turned) = (MonthIter::new(Month::June), RevMonthIter::new(Month::June));
-    assert!(rt; [months.min(), turned.min()] == [first; 2]);
-    let (months, turned) = (MonthIter::new(Month::June), RevMonthIter::new(Month::June));
-    assert!(rt; [months.max(), turned.max()] == [last; 2]);
-    let (months, turned) = (
-        MonthIter::new(Month::January),
-        RevMonthIter::new(Month::December),
-    );
-    assert!(rt; [months.is_sorted(), turned.is_sorted()] == [false; 2]);
+    let ends = [
+        MonthIter::new(Month::June).min(),
+        RevMonthIter::new(Month::June).min(),
+        MonthIter::new(Month::June).max(),
+        RevMonthIter::new(Month::June).max(),
+    ];
+    let sorted = [
+        MonthIter::new(Month::January).is_sorted(),
+        RevMonthIter::new(Month::December).is_sorted(),
+    ];
+    assert!(rt; (ends, sorted) == ([first, first, last, last], [false; 2]));
 }
 
 #[test]

@@ -8,9 +8,11 @@ fn multiplies(rt: HostRuntime) {
         SignedDuration::milliseconds(4500),
         SignedDuration::milliseconds(-4500),
     );
-    assert!(rt; [half * -3i8, half * -3i16, half * -3i32] == [back; 3]);
-    assert!(rt; [half * 3u8, half * 3u16, half * 3u32] == [forward; 3]);
-    assert!(rt; (half.checked_mul(-3), half.saturating_mul(-3)) == (Some(back), back));
+    assert!(rt;
+        [half * -3i8, half * -3i16, half * -3i32] == [back; 3]
+            && [half * 3u8, half * 3u16, half * 3u32] == [forward; 3]
+            && (half.checked_mul(-3), half.saturating_mul(-3)) == (Some(back), back)
+    );
 }
 
 #[test]
@@ -20,8 +22,10 @@ fn multiplies_numbers(rt: HostRuntime) {
         SignedDuration::milliseconds(4500),
         SignedDuration::milliseconds(-4500),
     );
-    assert!(rt; [-3i8 * half, -3i16 * half, -3i32 * half] == [back; 3]);
-    assert!(rt; [3u8 * half, 3u16 * half, 3u32 * half] == [forward; 3]);
+    assert!(rt;
+        [-3i8 * half, -3i16 * half, -3i32 * half] == [back; 3]
+            && [3u8 * half, 3u16 * half, 3u32 * half] == [forward; 3]
+    );
 }
 
 #[test]
@@ -31,10 +35,12 @@ fn divides(rt: HostRuntime) {
         SignedDuration::nanoseconds(666_666_667),
         SignedDuration::nanoseconds(-666_666_667),
     );
-    assert!(rt; [whole / -3i8, whole / -3i16, whole / -3i32] == [forward; 3]);
-    assert!(rt; [whole / 3u8, whole / 3u16, whole / 3u32] == [back; 3]);
-    assert!(rt; whole.checked_div(-3) == Some(forward));
-    assert!(rt; SignedDuration::seconds(7) / 2i32 == SignedDuration::nanoseconds(3_500_000_000));
+    assert!(rt;
+        [whole / -3i8, whole / -3i16, whole / -3i32] == [forward; 3]
+            && [whole / 3u8, whole / 3u16, whole / 3u32] == [back; 3]
+            && whole.checked_div(-3) == Some(forward)
+            && SignedDuration::seconds(7) / 2i32 == SignedDuration::nanoseconds(3_500_000_000)
+    );
 }
 
 #[test]

@@ -6,16 +6,20 @@ fn offset_of(hours: i8, minutes: i8, seconds: i8) -> UtcOffset {
     UtcOffset::from_hms(hours, minutes, seconds).unwrap_or(UtcOffset::UTC)
 }
 
+// The parts of an offset and its seconds.
+static OFFSETS: [(i8, i8, i8, i32); 6] = [
+    (1, -30, 0, 5400),
+    (0, -30, 5, -1805),
+    (-5, 0, 30, -18_030),
+    (25, 59, 59, 93_599),
+    (-25, 59, -59, -93_599),
+    (0, 0, -1, -1),
+];
+
 #[test]
 fn shifts_offsets(rt: HostRuntime) {
-    for (hours, minutes, seconds, whole) in [
-        (1, -30, 0, 5400),
-        (0, -30, 5, -1805),
-        (-5, 0, 30, -18_030),
-        (25, 59, 59, 93_599),
-        (-25, 59, -59, -93_599),
-        (0, 0, -1, -1),
-    ] {
+    for row in &OFFSETS {
+        let (hours, minutes, seconds, whole) = *row;
         let offset = offset_of(hours, minutes, seconds);
         assert!(rt; offset.whole_seconds() == whole);
         assert!(rt; UtcOffset::from_whole_seconds(whole) == Ok(offset));

@@ -147,6 +147,9 @@ fn stays_at_the_ends(rt: HostRuntime) {
         last.saturating_add(SignedDuration::MIN),
         first.saturating_sub(SignedDuration::MIN),
     ];
-    assert!(rt; stayed == [last, first, last] && (last - first).whole_days() == 730_484_633);
-    assert!(rt; (last.weekday(), first.weekday()) == (Weekday::Friday, Weekday::Monday));
+    assert!(rt;
+        stayed == [last, first, last]
+            && (last - first).whole_days() == 730_484_633
+            && (last.weekday(), first.weekday()) == (Weekday::Friday, Weekday::Monday)
+    );
 }

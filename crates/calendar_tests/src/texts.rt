@@ -120,14 +120,14 @@ fn prints_durations(rt: HostRuntime) {
     assert!(rt; all_print(rt.alloc(), &rows));
 }
 
-const MONTHS: [(Month, &str); 4] = [
+static MONTHS: [(Month, &str); 4] = [
     (Month::January, "January January"),
     (Month::May, "May May"),
     (Month::September, "September September"),
     (Month::December, "December December"),
 ];
 
-const WEEKDAYS: [(Weekday, &str); 3] = [
+static WEEKDAYS: [(Weekday, &str); 3] = [
     (Weekday::Monday, "Monday Monday"),
     (Weekday::Wednesday, "Wednesday Wednesday"),
     (Weekday::Sunday, "Sunday Sunday"),
@@ -135,8 +135,7 @@ const WEEKDAYS: [(Weekday, &str); 3] = [
 
 #[test]
 fn prints_months_and_weekdays(rt: HostRuntime) {
-    assert!(rt; all_print(rt.alloc(), &MONTHS));
-    assert!(rt; all_print(rt.alloc(), &WEEKDAYS));
+    assert!(rt; all_print(rt.alloc(), &MONTHS) && all_print(rt.alloc(), &WEEKDAYS));
 }
 
 fn displays<T: fmt::Display + Drop>(alloc: Global, value: T, text: &str) -> bool {
@@ -146,89 +145,96 @@ fn displays<T: fmt::Display + Drop>(alloc: Global, value: T, text: &str) -> bool
 #[test]
 fn prints_refusals(rt: HostRuntime) {
     let day = ComponentRange::conditional(ComponentName::Day);
+    let julian_day = ComponentRange::unconditional(ComponentName::JulianDay);
     assert!(rt;
         displays(
             rt.alloc(),
             day,
             "day was not in range given values of other parameters"
-        )
-    );
-    let julian_day = ComponentRange::unconditional(ComponentName::JulianDay);
-    assert!(rt; displays(rt.alloc(), julian_day, "julian_day was not in range"));
-    assert!(rt;
-        displays(
-            rt.alloc(),
-            ConversionRange,
-            "value out of range for the target type"
-        ) && displays(rt.alloc(), InvalidVariant, "value was not a valid variant")
+        ) && displays(rt.alloc(), julian_day, "julian_day was not in range")
+            && displays(
+                rt.alloc(),
+                ConversionRange,
+                "value out of range for the target type"
+            )
+            && displays(rt.alloc(), InvalidVariant, "value was not a valid variant")
     );
 }
 
-#[test]
-fn prints_a_date_under_widths(rt: HostRuntime) {
+fn a_date_is_padded(alloc: Global) -> bool {
     let day = dates::date_of(-44, Month::March, 15);
-    let answer = format!(in rt.alloc(); "[{day:13}|{day:<12}|{day:>12}|{day:*^14}|{day:3}]");
-    assert!(rt;
-        is_text(
-            answer,
-            "[-0044-03-15  |-0044-03-15 | -0044-03-15|*-0044-03-15**|-0044-03-15]"
-        )
-    );
+    let answer = format!(in alloc; "[{day:13}|{day:<12}|{day:>12}|{day:*^14}|{day:3}]");
+    is_text(
+        answer,
+        "[-0044-03-15  |-0044-03-15 | -0044-03-15|*-0044-03-15**|-0044-03-15]",
+    )
 }
 
-#[test]
-fn prints_dates_under_a_width(rt: HostRuntime) {
-    for (year, text) in [
-        (9999, "    9999-01-01"),
-        (-1, "   -0001-01-01"),
-        (10_000, "  +10000-01-01"),
-        (-99_999, "  -99999-01-01"),
-        (100_000, " +100000-01-01"),
-    ] {
-        let day = dates::date_of(year, Month::January, 1);
-        assert!(rt; is_text(format!(in rt.alloc(); "{day:>14}"), text));
+static PADDED: [(i32, &str); 5] = [
+    (9999, "    9999-01-01"),
+    (-1, "   -0001-01-01"),
+    (10_000, "  +10000-01-01"),
+    (-99_999, "  -99999-01-01"),
+    (100_000, " +100000-01-01"),
+];
+
+fn dates_are_padded(alloc: Global) -> bool {
+    for (year, text) in &PADDED {
+        let day = dates::date_of(*year, Month::January, 1);
+        if !is_text(format!(in alloc; "{day:>14}"), text) {
+            return false;
+        }
     }
+    true
 }
 
-#[test]
-fn prints_a_time_under_widths(rt: HostRuntime) {
+fn a_time_is_padded(alloc: Global) -> bool {
     let time = Time::from_seconds_nanoseconds(25_500, 250_000_000);
-    let answer = format!(in rt.alloc(); "[{time:12}|{time:>12}|{time:*^13}|{time:3}]");
-    assert!(rt;
-        is_text(
-            answer,
-            "[7:05:00.25  |  7:05:00.25|*7:05:00.25**|7:05:00.25]"
-        )
-    );
+    let answer = format!(in alloc; "[{time:12}|{time:>12}|{time:*^13}|{time:3}]");
+    is_text(
+        answer,
+        "[7:05:00.25  |  7:05:00.25|*7:05:00.25**|7:05:00.25]",
+    )
 }
 
-#[test]
-fn prints_an_offset_under_widths(rt: HostRuntime) {
+fn an_offset_is_padded(alloc: Global) -> bool {
     let offset = UtcOffset::from_hms(-5, -30, 0).unwrap_or(UtcOffset::UTC);
-    let answer = format!(in rt.alloc(); "[{offset:11}|{offset:>11}|{offset:=^12}|{offset:9}]");
-    assert!(rt; is_text(answer, "[-05:30:00  |  -05:30:00|=-05:30:00==|-05:30:00]"));
+    let answer = format!(in alloc; "[{offset:11}|{offset:>11}|{offset:=^12}|{offset:9}]");
+    is_text(answer, "[-05:30:00  |  -05:30:00|=-05:30:00==|-05:30:00]")
 }
 
-#[test]
-fn prints_durations_under_widths(rt: HostRuntime) {
+fn durations_are_padded(alloc: Global) -> bool {
     let (short, none) = (SignedDuration::milliseconds(-1500), SignedDuration::ZERO);
-    let answer = format!(in rt.alloc(); "[{short:9}|{short:>10}|{short:.^11}|{none:>4}|{none:2}]");
-    assert!(rt; is_text(answer, "[-1s500ms |  -1s500ms|.-1s500ms..|  0s|0s]"));
+    let answer = format!(in alloc; "[{short:9}|{short:>10}|{short:.^11}|{none:>4}|{none:2}]");
+    is_text(answer, "[-1s500ms |  -1s500ms|.-1s500ms..|  0s|0s]")
 }
 
 // A width counts characters, of which `µ` is one.
-#[test]
-fn prints_the_longest_duration_under_a_width(rt: HostRuntime) {
+fn the_longest_duration_is_padded(alloc: Global) -> bool {
     let least = SignedDuration::MIN;
-    let answer = format!(in rt.alloc(); "{least:*>42}");
-    assert!(rt; is_text(answer, "**-106751991167300d15h30m8s999ms999µs999ns"));
+    let answer = format!(in alloc; "{least:*>42}");
+    is_text(answer, "**-106751991167300d15h30m8s999ms999µs999ns")
+}
+
+fn names_are_padded(alloc: Global) -> bool {
+    let (month, weekday) = (Month::May, Weekday::Friday);
+    let answer = format!(in alloc; "[{month:>5}|{weekday:*<8}|{month:^6}]");
+    is_text(answer, "[  May|Friday**| May  ]")
 }
 
 #[test]
-fn prints_names_under_widths(rt: HostRuntime) {
-    let (month, weekday) = (Month::May, Weekday::Friday);
-    let answer = format!(in rt.alloc(); "[{month:>5}|{weekday:*<8}|{month:^6}]");
-    assert!(rt; is_text(answer, "[  May|Friday**| May  ]"));
+fn prints_under_widths(rt: HostRuntime) {
+    let alloc = rt.alloc();
+    let are_padded = [
+        a_date_is_padded(alloc),
+        dates_are_padded(alloc),
+        a_time_is_padded(alloc),
+        an_offset_is_padded(alloc),
+        durations_are_padded(alloc),
+        the_longest_duration_is_padded(alloc),
+        names_are_padded(alloc),
+    ];
+    assert!(rt; are_padded == [true; 7]);
 }
 
 fn debugs<T: fmt::Debug + Drop>(alloc: Global, value: T, text: &str) -> bool {
@@ -237,25 +243,35 @@ fn debugs<T: fmt::Debug + Drop>(alloc: Global, value: T, text: &str) -> bool {
 
 #[test]
 fn prints_walks(rt: HostRuntime) {
+    let alloc = rt.alloc();
     let leap = dates::date_of(2024, Month::February, 29);
-    assert!(rt;
+    let monday = Weekday::Monday;
+    let are_printed = [
         debugs(
-            rt.alloc(),
+            alloc,
             leap.iter_to(leap),
-            "DateIter { first: 365981444, len: 1 }"
-        )
-    );
-    let (months, turned) = (Month::iter_from(Month::May), RevMonthIter::new(Month::May));
-    assert!(rt;
-        debugs(rt.alloc(), months, "MonthIter { due: May }")
-            && debugs(rt.alloc(), turned, "RevMonthIter { due: May }")
-    );
-    let (weekdays, turned) = (
-        Weekday::iter_from(Weekday::Monday),
-        RevWeekdayIter::new(Weekday::Monday),
-    );
-    assert!(rt;
-        debugs(rt.alloc(), weekdays, "WeekdayIter { due: Monday }")
-            && debugs(rt.alloc(), turned, "RevWeekdayIter { due: Monday }")
-    );
+            "DateIter { first: 365981444, len: 1 }",
+        ),
+        debugs(
+            alloc,
+            Month::iter_from(Month::May),
+            "MonthIter { due: May }",
+        ),
+        debugs(
+            alloc,
+            RevMonthIter::new(Month::May),
+            "RevMonthIter { due: May }",
+        ),
+        debugs(
+            alloc,
+            Weekday::iter_from(monday),
+            "WeekdayIter { due: Monday }",
+        ),
+        debugs(
+            alloc,
+            RevWeekdayIter::new(monday),
+            "RevWeekdayIter { due: Monday }",
+        ),
+    ];
+    assert!(rt; are_printed == [true; 5]);
 }

@@ -56,8 +56,7 @@ fn tells_of_days_left(rt: HostRuntime) {
         after.iter_to(before).count(),
         Date::MIN.iter_to(Date::MAX).len(),
     ];
-    assert!(rt; given == [3, 0, 730_484_634]);
-    assert!(rt; before.iter_to(after).is_sorted());
+    assert!(rt; given == [3, 0, 730_484_634] && before.iter_to(after).is_sorted());
 }
 
 #[test]
@@ -88,15 +87,19 @@ fn nth_by_both(day: Date, weekday: Weekday, n: u8) -> (Option<Date>, Option<Date
     }
 }
 
+// A weekday, which one, its day in January 2018, and that of the last ones in December 2017.
+static OCCURRENCES: [(Weekday, u8, u8, u8); 4] = [
+    (Weekday::Monday, 1, 8, 25),
+    (Weekday::Tuesday, 1, 2, 26),
+    (Weekday::Sunday, 1, 7, 31),
+    (Weekday::Sunday, 3, 21, 17),
+];
+
 #[test]
 fn finds_weekdays(rt: HostRuntime) {
     let monday = date_of(2018, Month::January, 1);
-    for (weekday, n, day, back) in [
-        (Weekday::Monday, 1, 8, 25),
-        (Weekday::Tuesday, 1, 2, 26),
-        (Weekday::Sunday, 1, 7, 31),
-        (Weekday::Sunday, 3, 21, 17),
-    ] {
+    for row in &OCCURRENCES {
+        let (weekday, n, day, back) = *row;
         let later = Some(date_of(2018, Month::January, day));
         let earlier = Some(date_of(2017, Month::December, back));
         assert!(rt; nth_by_both(monday, weekday, n) == (later, earlier));

@@ -143,7 +143,7 @@ fn shown_by_both(start: Timestamp) -> (Parts, Parts) {
     (start.parts(), start.to_utc().parts())
 }
 
-const SHOWN: [(i64, u32, Parts); 4] = [
+static SHOWN: [(i64, u32, Parts); 4] = [
     (-62_167_219_200, 0, ((0, Month::January, 1), (0, 0, 0, 0))),
     (
         -1,
@@ -160,7 +160,8 @@ const SHOWN: [(i64, u32, Parts); 4] = [
 
 #[test]
 fn shows_dates_by_both_calendars(rt: HostRuntime) {
-    for (seconds, nanosecond, wanted) in SHOWN {
+    for row in &SHOWN {
+        let (seconds, nanosecond, wanted) = *row;
         let shown = Timestamp::new(seconds, nanosecond).ok().map(shown_by_both);
         assert!(rt; shown == Some((wanted, wanted)));
     }

@@ -1,16 +1,16 @@
 //! Known days and clocks, and whole stretches of days against the conversions by division.
 ghost use Rattle.calendar_count.specs.Range.{IsCount};
-ghost use Rattle.datetime_products.specs.Seconds.{IsUnixSecond};
+ghost use Rattle.datetime_wall.specs.Seconds.{IsUnixSecond};
 
 use calendar_count::range::LAST_COUNT;
 use calendar_count::{Month, closed, march, util};
-use datetime_products::{
+use datetime_wall::{
     clock_of_second, count_of_seconds, day_of_count, iso_week_of_count, monday_week_of_count,
     place_of_count, second_of_day, sunday_week_of_count, weekday_of_count,
 };
 
 // Counts of a first day, and how many days after it are compared.
-const STRETCHES: [(u32, u32); 4] = [
+static STRETCHES: [(u32, u32); 4] = [
     (0, 150_000),
     (365_000_000, 150_000),
     (365_800_000, 400_000),
@@ -60,7 +60,8 @@ fn by_division(count: u32) -> Day
 
 #[test]
 fn days_as_by_division(rt: HostRuntime) {
-    for (first, len) in STRETCHES {
+    for row in &STRETCHES {
+        let (first, len) = *row;
         for count in first..first + len {
             assert!(rt; by_products(u64::from(count)) == by_division(count));
         }
@@ -169,12 +170,11 @@ fn known_places(rt: HostRuntime) {
         weekday_of_count(365_961_662),
         iso_week_of_count(365_980_291),
     );
-    assert!(rt; given == ((2000, 366), 3, (2020, 53)));
     let weeks = (
         sunday_week_of_count(365_981_444),
         monday_week_of_count(365_981_444),
     );
-    assert!(rt; weeks == (8, 9));
+    assert!(rt; given == ((2000, 366), 3, (2020, 53)) && weeks == (8, 9));
 }
 
 // A year, a month and a day; an hour, a minute and a second.
@@ -189,7 +189,7 @@ fn shown(seconds: i64) -> Option<Shown> {
     Some((day_of_count(count), clock_of_second(second)))
 }
 
-const SECONDS: [(i64, Shown); 7] = [
+static SECONDS: [(i64, Shown); 7] = [
     (-62_167_219_200, ((0, 1, 1), (0, 0, 0))),
     (-1, ((1969, 12, 31), (23, 59, 59))),
     (0, ((1970, 1, 1), (0, 0, 0))),
@@ -201,7 +201,8 @@ const SECONDS: [(i64, Shown); 7] = [
 
 #[test]
 fn known_seconds(rt: HostRuntime) {
-    for (seconds, expected) in SECONDS {
+    for row in &SECONDS {
+        let (seconds, expected) = *row;
         assert!(rt; shown(seconds) == Some(expected));
     }
 }

@@ -26,7 +26,8 @@ fn evenings() -> Evenings {
 
 fn has_views<T: DateTime>(value: T) -> bool {
     value.parts() == (LEAP_DAY, EVENING)
-        && (value.day_views(), value.time_views()) == (DAY_VIEWS, TIME_VIEWS)
+        && value.day_views() == DAY_VIEWS
+        && value.time_views() == TIME_VIEWS
 }
 
 fn is_replaced<T: DateTime>(value: T, rows: &[(Part, Parts)]) -> bool {
@@ -227,7 +228,7 @@ fn cuts_to_units(rt: HostRuntime) {
     let shown = cut_shown(shown.replace_date(date));
     for i in 0..6 {
         let wanted = CUT[i];
-        assert!(rt; (plain[i].parts(), utc[i].parts()) == (wanted, wanted));
-        assert!(rt; shown[i].shown() == (wanted, Some(east())));
+        let given = (plain[i].parts(), utc[i].parts(), shown[i].shown());
+        assert!(rt; given == (wanted, wanted, (wanted, Some(east()))));
     }
 }

@@ -28,9 +28,8 @@ fn converts(rt: HostRuntime) {
 fn converts_to_offset_zero(rt: HostRuntime) {
     let (timestamp, utc, shown) = leap_evening();
     let at_zero = [OffsetDateTime::from(utc), OffsetDateTime::from(timestamp)];
-    assert!(rt; at_zero == [shown; 2]);
     let wanted = ((LEAP_DAY, EVENING), Some(UtcOffset::UTC));
-    assert!(rt; [at_zero[0].shown(), at_zero[1].shown()] == [wanted; 2]);
+    assert!(rt; at_zero == [shown; 2] && [at_zero[0].shown(), at_zero[1].shown()] == [wanted; 2]);
 }
 
 // The first by each other type: equality both ways, and the order both ways.
@@ -80,11 +79,13 @@ fn same_later(later: Timestamp) -> Instants {
 
 #[test]
 fn compares_and_subtracts(rt: HostRuntime) {
-    assert!(rt; answers(leap_evening(), leap_evening()) == ([true; 6], [Ordering::Equal; 6]));
     let later = same_later(timestamp_of(1_709_251_198, 123_456_790));
-    assert!(rt; answers(leap_evening(), later) == ([false; 6], [Ordering::Less; 6]));
     let second_later = same_later(timestamp_of(1_709_251_199, 123_456_789));
-    assert!(rt; differences(leap_evening(), second_later) == [SignedDuration::SECOND; 6]);
+    assert!(rt;
+        answers(leap_evening(), leap_evening()) == ([true; 6], [Ordering::Equal; 6])
+            && answers(leap_evening(), later) == ([false; 6], [Ordering::Less; 6])
+            && differences(leap_evening(), second_later) == [SignedDuration::SECOND; 6]
+    );
 }
 
 fn counted((timestamp, utc, _): Instants) -> (i64, i64, i128, i128, i64, i128) {
@@ -117,9 +118,11 @@ fn begins_in_1970(rt: HostRuntime) {
         laws::constants_of_utc(),
         laws::constants_of_timestamps(),
     );
-    assert!(rt; (utc.unix_timestamp_nanos(), timestamp.as_nanoseconds()) == (0, 0));
     let shown = laws::epoch_at_offset_zero();
-    assert!(rt; (shown.unix_timestamp_nanos(), shown.offset()) == (0, UtcOffset::UTC));
+    assert!(rt;
+        (utc.unix_timestamp_nanos(), timestamp.as_nanoseconds()) == (0, 0)
+            && (shown.unix_timestamp_nanos(), shown.offset()) == (0, UtcOffset::UTC)
+    );
 }
 
 #[test]
@@ -145,9 +148,11 @@ fn rounds_down_before_1970(rt: HostRuntime) {
     let value = Timestamp::from_milliseconds(-1).unwrap_or(Timestamp::MIN);
     let nanosecond = Timestamp::from_nanoseconds(-1).unwrap_or(Timestamp::MIN);
     let eve = ((1969, Month::December, 31), (23, 59, 59, 999_000_000));
-    assert!(rt; value.parts() == eve);
-    assert!(rt; (value.as_seconds(), value.as_milliseconds()) == (-1, -1));
-    assert!(rt; (nanosecond.as_milliseconds(), nanosecond.as_microseconds()) == (-1, -1));
+    assert!(rt;
+        value.parts() == eve
+            && (value.as_seconds(), value.as_milliseconds()) == (-1, -1)
+            && (nanosecond.as_milliseconds(), nanosecond.as_microseconds()) == (-1, -1)
+    );
 }
 
 // Refused as a timestamp, but for the one whose nanoseconds alone are too many.
@@ -222,11 +227,12 @@ fn is_shown_elsewhere(rt: HostRuntime) {
 #[test]
 fn is_shown_in_utc(rt: HostRuntime) {
     let (value, _, _) = leap_evening();
-    assert!(rt; value.to_utc().parts() == (LEAP_DAY, EVENING));
     let east = east();
     let last = Timestamp::MAX;
     assert!(rt;
-        last.checked_to_offset(east) == None && last.to_utc().checked_to_offset(east) == None
+        value.to_utc().parts() == (LEAP_DAY, EVENING)
+            && last.checked_to_offset(east) == None
+            && last.to_utc().checked_to_offset(east) == None
     );
 }
 
@@ -235,10 +241,11 @@ fn takes_an_offset(rt: HostRuntime) {
     let value = PlainDateTime::new(leap_day(), evening());
     let east = east();
     let shown = value.assume_offset(east);
-    assert!(rt; shown.shown() == ((LEAP_DAY, EVENING), Some(east)));
     let utc = value.assume_utc();
-    assert!(rt; (utc.date(), utc.offset()) == (leap_day(), UtcOffset::UTC));
     assert!(rt;
-        (utc.unix_timestamp(), value.as_utc().unix_timestamp()) == (1_709_251_198, 1_709_251_198)
+        shown.shown() == ((LEAP_DAY, EVENING), Some(east))
+            && (utc.date(), utc.offset()) == (leap_day(), UtcOffset::UTC)
+            && (utc.unix_timestamp(), value.as_utc().unix_timestamp())
+                == (1_709_251_198, 1_709_251_198)
     );
 }

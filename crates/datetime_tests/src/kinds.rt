@@ -1,6 +1,6 @@
 //! What every type of date-time answers alike, so that one row serves all of them.
 use crate::rows::{DayViews, Part, Parts, Step, TimeViews};
-use calendar::{ComponentRange, SignedDuration, UtcOffset};
+use calendar::{ComponentRange, Date, SignedDuration, Time, UtcOffset};
 use datetime::{OffsetDateTime, PlainDateTime, Timestamp, UtcDateTime};
 use std::time::Duration;
 
@@ -72,8 +72,8 @@ impl DateTime for PlainDateTime {
 
     fn replaced(self, part: Part) -> Result<PlainDateTime, ComponentRange> {
         match part {
-            Part::Date(date) => Ok(self.replace_date(date)),
-            Part::Time(time) => Ok(self.replace_time(time)),
+            Part::FirstDay => Ok(self.replace_date(Date::MIN)),
+            Part::Midnight => Ok(self.replace_time(Time::MIDNIGHT)),
             Part::Year(year) => self.replace_year(year),
             Part::Month(month) => self.replace_month(month),
             Part::Day(day) => self.replace_day(day),
@@ -177,8 +177,8 @@ impl DateTime for UtcDateTime {
 
     fn replaced(self, part: Part) -> Result<UtcDateTime, ComponentRange> {
         match part {
-            Part::Date(date) => Ok(self.replace_date(date)),
-            Part::Time(time) => Ok(self.replace_time(time)),
+            Part::FirstDay => Ok(self.replace_date(Date::MIN)),
+            Part::Midnight => Ok(self.replace_time(Time::MIDNIGHT)),
             Part::Year(year) => self.replace_year(year),
             Part::Month(month) => self.replace_month(month),
             Part::Day(day) => self.replace_day(day),
@@ -282,8 +282,8 @@ impl DateTime for Timestamp {
 
     fn replaced(self, part: Part) -> Result<Timestamp, ComponentRange> {
         match part {
-            Part::Date(date) => Ok(self.replace_date(date)),
-            Part::Time(time) => Ok(self.replace_time(time)),
+            Part::FirstDay => Ok(self.replace_date(Date::MIN)),
+            Part::Midnight => Ok(self.replace_time(Time::MIDNIGHT)),
             Part::Year(year) => self.replace_year(year),
             Part::Month(month) => self.replace_month(month),
             Part::Day(day) => self.replace_day(day),
@@ -387,8 +387,8 @@ impl DateTime for OffsetDateTime {
 
     fn replaced(self, part: Part) -> Result<OffsetDateTime, ComponentRange> {
         match part {
-            Part::Date(date) => Ok(self.replace_date(date)),
-            Part::Time(time) => Ok(self.replace_time(time)),
+            Part::FirstDay => Ok(self.replace_date(Date::MIN)),
+            Part::Midnight => Ok(self.replace_time(Time::MIDNIGHT)),
             Part::Year(year) => self.replace_year(year),
             Part::Month(month) => self.replace_month(month),
             Part::Day(day) => self.replace_day(day),

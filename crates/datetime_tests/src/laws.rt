@@ -11,17 +11,19 @@ use std::cmp::Ordering;
 fn pins_the_constants(rt: HostRuntime) {
     let first = PlainDateTime::new(Date::MIN, Time::MIDNIGHT);
     let last = PlainDateTime::new(Date::MAX, Time::MAX);
-    assert!(rt; laws::ends_of_wall_clocks() == [first, last]);
     let epoch = UtcDateTime::from_unix_timestamp(0).unwrap_or(last.as_utc());
     let ends = [first.as_utc(), epoch, last.as_utc()];
-    assert!(rt; laws::constants_of_utc() == ends);
     let timestamps = [
         Timestamp::from(first.as_utc()),
         Timestamp::from(epoch),
         Timestamp::from(last.as_utc()),
     ];
-    assert!(rt; laws::constants_of_timestamps() == timestamps);
-    assert!(rt; laws::epoch_at_offset_zero() == OffsetDateTime::from(epoch));
+    assert!(rt;
+        laws::ends_of_wall_clocks() == [first, last]
+            && laws::constants_of_utc() == ends
+            && laws::constants_of_timestamps() == timestamps
+            && laws::epoch_at_offset_zero() == OffsetDateTime::from(epoch)
+    );
 }
 
 #[test]
@@ -69,12 +71,11 @@ fn day_and_back((wall, utc, timestamp, moment): Moments) -> Moved {
 #[test]
 fn leads_back(rt: HostRuntime) {
     let utc = UtcDateTime::new(leap_day(), evening());
-    assert!(rt; other_and_back(utc) == (utc, utc.into()));
     let milliseconds = [
         laws::milliseconds_and_back(-1),
         laws::milliseconds_and_back(i64::MAX),
     ];
-    assert!(rt; milliseconds == [Some(-1), None]);
+    assert!(rt; other_and_back(utc) == (utc, utc.into()) && milliseconds == [Some(-1), None]);
 }
 
 #[test]
@@ -122,9 +123,8 @@ fn leads_moments(rt: HostRuntime) {
         laws::moment_at_difference(moment, last),
         laws::shown_at_own_offset(moment),
     ];
-    assert!(rt; led == [Some(epoch), None, Some(moment)]);
     let shown = laws::shown_by_way_of(moment, UtcOffset::UTC, moment.offset());
-    assert!(rt; shown == Some(Some(moment)));
+    assert!(rt; led == [Some(epoch), None, Some(moment)] && shown == Some(Some(moment)));
 }
 
 #[test]

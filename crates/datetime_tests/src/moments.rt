@@ -21,18 +21,19 @@ fn leap_evening() -> OffsetDateTime {
 fn counts_from_1970(rt: HostRuntime) {
     let value = leap_evening();
     let counted = (value.unix_timestamp(), value.unix_timestamp_nanos());
-    assert!(rt; counted == (1_709_231_398, 1_709_231_398_123_456_789));
     let nanosecond = OffsetDateTime::from_unix_timestamp_nanos(1_709_231_398_123_456_789);
-    assert!(rt; nanosecond == Ok(value));
+    assert!(rt; counted == (1_709_231_398, 1_709_231_398_123_456_789) && nanosecond == Ok(value));
 }
 
 #[test]
 fn is_counted_from_1970(rt: HostRuntime) {
     let new_year: Parts = ((2019, Month::January, 1), (0, 0, 0, 0));
     let shown = OffsetDateTime::from_unix_timestamp(1_546_300_800).map(OffsetDateTime::shown);
-    assert!(rt; shown == Ok((new_year, Some(UtcOffset::UTC))));
     let before = OffsetDateTime::from_unix_timestamp_nanos(-1).unwrap_or(leap_evening());
-    assert!(rt; (before.unix_timestamp(), before.year()) == (-1, 1969));
+    assert!(rt;
+        shown == Ok((new_year, Some(UtcOffset::UTC)))
+            && (before.unix_timestamp(), before.year()) == (-1, 1969)
+    );
 }
 
 #[test]
@@ -91,12 +92,15 @@ fn is_made_in_utc(rt: HostRuntime) {
 
 // Half past midnight of a new year in UTC, an hour behind.
 fn check_new_year(rt: &impl Abort, utc: OffsetDateTime, same: OffsetDateTime) {
-    assert!(rt; utc == same && utc.cmp(&same) == Ordering::Equal);
-    assert!(rt; hash_of(utc) == hash_of(same));
     let shown = utc.checked_to_offset(same.offset());
-    assert!(rt; shown.map(OffsetDateTime::shown) == Some(same.shown()));
     let back = moved_to(same, UtcOffset::UTC);
-    assert!(rt; back.map(OffsetDateTime::shown) == Some(utc.shown()));
+    assert!(rt;
+        utc == same
+            && utc.cmp(&same) == Ordering::Equal
+            && hash_of(utc) == hash_of(same)
+            && shown.map(OffsetDateTime::shown) == Some(same.shown())
+            && back.map(OffsetDateTime::shown) == Some(utc.shown())
+    );
 }
 
 fn moved_to(value: OffsetDateTime, offset: UtcOffset) -> Option<OffsetDateTime> {
@@ -118,18 +122,24 @@ fn keeps_what_the_calendar_has(rt: HostRuntime) {
     let date = date_of(9999, Month::December, 31);
     let value = OffsetDateTime::new_in_offset(date, time_of(23, 59, 59), offset_of(-1, 0, 0));
     let utc = value.checked_to_utc().map(DateTime::parts);
-    assert!(rt; utc == Some(((10_000, Month::January, 1), (0, 59, 59, 0))));
-    assert!(rt; value > OffsetDateTime::new_utc(date, Time::MAX));
+    assert!(rt;
+        utc == Some(((10_000, Month::January, 1), (0, 59, 59, 0)))
+            && value > OffsetDateTime::new_utc(date, Time::MAX)
+    );
 }
 
 fn check_without_utc(rt: &impl Abort, value: OffsetDateTime, seconds: i64) {
-    assert!(rt; value.checked_to_utc() == None && value.checked_to_timestamp() == None);
-    assert!(rt; value.checked_to_offset(UtcOffset::UTC) == None);
-    assert!(rt; value.unix_timestamp() == seconds);
     let own = value
         .checked_to_offset(value.offset())
         .unwrap_or(laws::epoch_at_offset_zero());
-    assert!(rt; own.shown() == value.shown() && hash_of(own) == hash_of(value));
+    assert!(rt;
+        value.checked_to_utc() == None
+            && value.checked_to_timestamp() == None
+            && value.checked_to_offset(UtcOffset::UTC) == None
+            && value.unix_timestamp() == seconds
+            && own.shown() == value.shown()
+            && hash_of(own) == hash_of(value)
+    );
 }
 
 // Moments whose UTC days lie beyond both ends of the calendar.

@@ -27,11 +27,11 @@ pub type TimeViews = (
     (u16, u32, u32),
 );
 
-// A part that is replaced.
+// A part that is replaced: by the first day of all, by midnight, or by a number.
 #[derive(Clone, Copy)]
 pub enum Part {
-    Date(Date),
-    Time(Time),
+    FirstDay,
+    Midnight,
     Year(i32),
     Month(Month),
     Day(u8),
@@ -69,7 +69,7 @@ pub const NEXT_DAY: Parts = ((2024, Month::March, 1), EVENING);
 
 pub const DAY_BEFORE: Parts = ((2024, Month::February, 28), EVENING);
 
-pub const DAY_VIEWS: DayViews = (
+pub static DAY_VIEWS: DayViews = (
     LEAP_DAY,
     (2024, 60),
     (2024, 9, Weekday::Thursday),
@@ -78,7 +78,7 @@ pub const DAY_VIEWS: DayViews = (
     (9, 8, 9, Weekday::Thursday),
 );
 
-pub const TIME_VIEWS: TimeViews = (
+pub static TIME_VIEWS: TimeViews = (
     EVENING,
     (23, 59, 58, 123_456),
     (23, 59, 58, 123),
@@ -88,7 +88,7 @@ pub const TIME_VIEWS: TimeViews = (
 );
 
 // The leap day's evening with a part replaced.
-pub const REPLACED: [(Part, Parts); 12] = [
+pub static REPLACED: [(Part, Parts); 12] = [
     (Part::Year(2020), ((2020, Month::February, 29), EVENING)),
     (
         Part::Month(Month::March),
@@ -96,11 +96,8 @@ pub const REPLACED: [(Part, Parts); 12] = [
     ),
     (Part::Day(1), ((2024, Month::February, 1), EVENING)),
     (Part::Ordinal(366), ((2024, Month::December, 31), EVENING)),
-    (
-        Part::Date(Date::MIN),
-        ((-999_999, Month::January, 1), EVENING),
-    ),
-    (Part::Time(Time::MIDNIGHT), (LEAP_DAY, (0, 0, 0, 0))),
+    (Part::FirstDay, ((-999_999, Month::January, 1), EVENING)),
+    (Part::Midnight, (LEAP_DAY, (0, 0, 0, 0))),
     (Part::Hour(1), (LEAP_DAY, (1, 59, 58, 123_456_789))),
     (Part::Minute(1), (LEAP_DAY, (23, 1, 58, 123_456_789))),
     (Part::Second(1), (LEAP_DAY, (23, 59, 1, 123_456_789))),
@@ -111,7 +108,7 @@ pub const REPLACED: [(Part, Parts); 12] = [
 
 // Parts that are refused: the name in the refusal, and whether it is conditional. The last one is
 // refused in December 31.
-pub const REFUSED: [(Part, (&'static str, bool)); 10] = [
+pub static REFUSED: [(Part, (&'static str, bool)); 10] = [
     (Part::Year(2023), ("day", true)),
     (Part::Year(1_000_000), ("year", false)),
     (Part::Day(30), ("day", true)),
@@ -127,7 +124,7 @@ pub const REFUSED: [(Part, (&'static str, bool)); 10] = [
 const EVE: (i32, Month, u8) = (1969, Month::December, 31);
 
 // The evening of the last day of 1969, cut to a day, an hour, a minute, a second, a millisecond and a microsecond.
-pub const CUT: [Parts; 6] = [
+pub static CUT: [Parts; 6] = [
     (EVE, (0, 0, 0, 0)),
     (EVE, (23, 0, 0, 0)),
     (EVE, (23, 59, 0, 0)),

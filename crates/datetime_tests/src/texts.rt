@@ -15,18 +15,23 @@ fn is_text(answer: Result<String, AllocError>, wanted: &str) -> bool {
 
 // By `Display` and by `Debug` alike.
 fn prints_as<T: fmt::Display + fmt::Debug + Drop>(alloc: Global, value: T, wanted: &str) -> bool {
-    is_text(format!(in alloc; "{value}"), wanted) && is_text(format!(in alloc; "{value:?}"), wanted)
+    match format!(in alloc; "{value}|{value:?}") {
+        Ok(told) => told.as_str().split_once('|') == Some((wanted, wanted)),
+        Err(_) => false,
+    }
 }
 
 #[test]
 fn prints(rt: HostRuntime) {
     let (date, time) = (leap_day(), evening());
     let plain = PlainDateTime::new(date, time);
-    assert!(rt; prints_as(rt.alloc(), plain, "2024-02-29 23:59:58.123456789"));
     let utc = UtcDateTime::new(date, time);
-    assert!(rt; prints_as(rt.alloc(), utc, "2024-02-29 23:59:58.123456789 +00"));
     let shown = OffsetDateTime::new_in_offset(date, time, east());
-    assert!(rt; prints_as(rt.alloc(), shown, "2024-02-29 23:59:58.123456789 +05:30:00"));
+    assert!(rt;
+        prints_as(rt.alloc(), plain, "2024-02-29 23:59:58.123456789")
+            && prints_as(rt.alloc(), utc, "2024-02-29 23:59:58.123456789 +00")
+            && prints_as(rt.alloc(), shown, "2024-02-29 23:59:58.123456789 +05:30:00")
+    );
 }
 
 #[test]

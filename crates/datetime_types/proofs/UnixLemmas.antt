@@ -6,7 +6,7 @@ use Rattle.std.proofs.lemmas.Int.{quot-rem}
 use Rattle.calendar_count.specs.Range.{unix_epoch}
 use Rattle.calendar_count.proofs.lemmas.Signed.{signed}
 use Rattle.datetime_wall.specs.Wall.{second_nanos, day_of, nanosecond_of, IsWallClock, Shown, instant}
-use Rattle.datetime_products.specs.Seconds.{day_seconds, IsUnixSecond}
+use Rattle.datetime_wall.specs.Seconds.{day_seconds, IsUnixSecond}
 use Rattle.datetime_types.specs.Unix.{unix_nanos}
 
 pub unix_nanos_range : (seconds : ℤ) (nanosecond : ℕ) → IsUnixSecond seconds → nanosecond < second_nanos → IsWallClock (unix_nanos seconds nanosecond)

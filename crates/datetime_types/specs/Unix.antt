@@ -6,7 +6,7 @@ use Rattle.std.proofs.Common.{◌≡◌, arith}
 use Rattle.calendar_count.proofs.lemmas.Signed.{signed}
 use Rattle.calendar.specs.Range.{last_count, unix_epoch}
 use Rattle.datetime_wall.specs.Wall.{second_nanos}
-use Rattle.datetime_products.specs.Seconds.{day_seconds}
+use Rattle.datetime_wall.specs.Seconds.{day_seconds}
 
 unfoldable pub unix_nanos : ℤ → ℕ → ℤ
 unix_nanos seconds nanosecond = seconds *ℤ pos second_nanos +ℤ pos nanosecond

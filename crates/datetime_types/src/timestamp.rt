@@ -12,7 +12,7 @@ ghost use Rattle.calendar_count.specs.declared.component_range.ComponentName.The
 ghost use Rattle.datetime_wall.specs.Wall.{second_nanos, greatest_distance, day_nanos, day_of, nanosecond_of, IsWallClock, shown_at};
 ghost use Rattle.calendar.specs.UtcOffset.{IsOffset};
 ghost use Rattle.calendar_spans.specs.Duration.{milli_nanos, micro_nanos};
-ghost use Rattle.datetime_products.specs.Seconds.{IsUnixSecond};
+ghost use Rattle.datetime_wall.specs.Seconds.{IsUnixSecond};
 ghost use Rattle.datetime_types.specs.Unix.{unix_nanos, is_unix_second};
 
 mod arithmetic;
@@ -24,7 +24,7 @@ use crate::{OffsetDateTime, UtcDateTime};
 use calendar::{ComponentRange, Date, Time, UtcOffset};
 use calendar_count::ComponentName;
 use calendar_count::range::{LAST_COUNT, UNIX_EPOCH};
-use datetime_products::{count_of_seconds, second_of_day};
+use datetime_wall::{count_of_seconds, second_of_day};
 use std::cmp::Ordering;
 use std::hash::{Hash, Hasher};
 use std::marker::Model;
@@ -50,7 +50,7 @@ impl Model for Timestamp {
     ghost use Rattle.std.specs.Prelude.{◌<◌, ℤ, pos, unsigned_abs};
     ghost use Rattle.std.specs.Int.{int_div_euclid, int_rem_euclid};
     ghost use Rattle.datetime_wall.specs.Wall.{second_nanos};
-    ghost use Rattle.datetime_products.specs.Seconds.{IsUnixSecond};
+    ghost use Rattle.datetime_wall.specs.Seconds.{IsUnixSecond};
     ghost use Rattle.datetime_types.specs.Unix.{unix_nanos, seconds_back, nanosecond_back};
 
     ghost Value = { ℤ };

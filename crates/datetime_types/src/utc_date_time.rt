@@ -11,7 +11,7 @@ ghost use Rattle.calendar.specs.UtcOffset.{IsOffset};
 ghost use Rattle.calendar.specs.ComponentRange.{out_of_range};
 ghost use Rattle.calendar_count.specs.declared.component_range.ComponentName.TheVariants as component;
 ghost use Rattle.datetime_wall.specs.Wall.{second_nanos, greatest_distance, day_nanos, wall_clock, day_of, nanosecond_of, IsWallClock, shown_at};
-ghost use Rattle.datetime_products.specs.Seconds.{IsUnixSecond};
+ghost use Rattle.datetime_wall.specs.Seconds.{IsUnixSecond};
 
 mod arithmetic;
 mod changes;

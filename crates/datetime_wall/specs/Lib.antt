@@ -1,1 +1,2 @@
 pub mod Wall
+pub mod Seconds

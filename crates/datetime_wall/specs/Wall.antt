@@ -3,7 +3,7 @@ use Rattle.std.specs.Prelude.{ℕ, ◌+◌, ◌-◌, ◌*◌, Bool, ◌&&◌, Op
 use Rattle.std.specs.Int.{int_div_euclid, int_rem_euclid}
 use Rattle.calendar_count.specs.declared.component_range.ComponentRange.{ComponentRange}
 use Rattle.calendar_count.specs.Range.{last_count, unix_epoch}
-use Rattle.datetime_products.specs.Seconds.{day_seconds}
+use Rattle.datetime_wall.specs.Seconds.{day_seconds}
 use Rattle.calendar_clock.specs.UtcOffset.{greatest_offset}
 -- the nanoseconds of a second and of a day
 pub use Rattle.calendar_clock.specs.Time.{second_nanos, day_nanos}

@@ -1,7 +1,7 @@
 //! Calculations on a wall clock, given as a date and a time.
 ghost use Rattle.std.specs.Prelude.{◌≡◌, ◌↔◌, ◌≤◌, ◌<◌, pos, ◌+◌, ◌*◌, ◌/◌, ◌+ℤ◌, ◌*ℤ◌, IsSome, IfSome, unsigned_abs};
 ghost use Rattle.std.specs.Int.{int_div_euclid};
-ghost use Rattle.datetime_products.specs.Seconds.{IsUnixSecond};
+ghost use Rattle.datetime_wall.specs.Seconds.{IsUnixSecond};
 ghost use Rattle.calendar_count.specs.Range.{unix_epoch, IsCount};
 ghost use Rattle.datetime_wall.specs.Wall.{second_nanos, day_nanos, wall_clock, instant, IsWallClock};
 

@@ -9,8 +9,8 @@ use Rattle.description_items.specs.Tree.{Tree, trees}
 use Rattle.description_words.specs.declared.version.DescriptionVersion.{DescriptionVersion}
 use Rattle.description_tree.specs.Description.{v3_node, v3_tree}
 use Rattle.description_tree.specs.Forms.{is_read}
-use Rattle.description_reading.specs.Reading.{read_items}
-use Rattle.description_spelling.specs.Outcomes.{joined}
+use Rattle.description_grammar.specs.Reading.{read_items}
+use Rattle.description_grammar.specs.Outcomes.{joined}
 use Rattle.description.specs.declared.described.Description.{Description}
 use Rattle.description.specs.declared.described.Description.TheVariants as description
 

@@ -7,15 +7,15 @@ ghost use Rattle.description_items.specs.Forms.{are_of_text};
 ghost use Rattle.description_items.specs.Tree.{Tree};
 ghost use Rattle.description_words.specs.declared.version.DescriptionVersion.TheVariants.{One, Three};
 ghost use Rattle.description_words.specs.Version.{is_three};
-ghost use Rattle.description_spelling.specs.Spelling.{SpellsTree};
-ghost use Rattle.description_spelling.specs.Faulty.{Faulty};
-ghost use Rattle.description_spelling.specs.Outcomes.{Outcome};
+ghost use Rattle.description_grammar.specs.Spelling.{SpellsTree};
+ghost use Rattle.description_grammar.specs.Faulty.{Faulty};
+ghost use Rattle.description_grammar.specs.Outcomes.{Outcome};
 ghost use Rattle.description.specs.Described.{items_tree, described, has_tree, is_as_read, read_joined};
 
 use crate::described::Description;
 use description_faults::DescriptionFault;
+use description_grammar::{items_of, tree_of};
 use description_items::BorrowedFormatItem;
-use description_reading::{items_of, tree_of};
 use description_words::DescriptionVersion;
 use std::alloc::Global;
 
@@ -78,7 +78,7 @@ fn read<'a>(
     }
 }
 
-#[tactic(auto, unfolding(description_reading::specs::Reading::read_tree))]
+#[tactic(auto, unfolding(description_grammar::specs::Reading::read_tree))]
 fn read_three<'a>(alloc: Global, s: &'a str) -> Result<Description<'a>, DescriptionFault<'a>>
     ensures value { Gives described result (read_joined Three s.now) }
     ensures form { IfOk result (λ description. has_tree description ≡ true) }

@@ -57,12 +57,15 @@ enum Language {
 
 // The one word on the command line.
 fn named_language(rt: &HostRuntime) -> Option<Language> {
-    let args = env::args(rt).ok()?;
-    let args: Vec<String> = args.skip(1).collect(rt.alloc()).ok()?;
-    if args.len() != 1 {
-        return None;
+    let args: Vec<String> = env::args(rt).ok()?.collect(rt.alloc()).ok()?;
+    match args.as_slice() {
+        [_, word] => language_of(word.as_str()),
+        _ => None,
     }
-    match args[0].as_str() {
+}
+
+fn language_of(word: &str) -> Option<Language> {
+    match word {
         "v1" => Some(Language::Version(DescriptionVersion::One)),
         "v2" => Some(Language::Version(DescriptionVersion::Two)),
         "v3" => Some(Language::Version(DescriptionVersion::Three)),
@@ -79,10 +82,17 @@ fn read(alloc: Global, language: Language, text: &str) -> Result<Parts, Descript
             let items = parse_strftime_borrowed(alloc, text)?;
             parts_of_items(items.as_slice(), &mut parts);
         }
-        Language::Version(version) => match parse_borrowed(alloc, version, text)? {
-            Description::Items(items) => parts_of_items(items.as_slice(), &mut parts),
-            Description::V3(description) => parts_of_node(description.inner(), &mut parts),
-        },
+        Language::Version(version) => {
+            let description = parse_borrowed(alloc, version, text)?;
+            parts_of_description(&description, &mut parts);
+        }
     }
     Ok(parts)
+}
+
+fn parts_of_description(description: &Description<'_>, parts: &mut Parts) {
+    match description {
+        Description::Items(items) => parts_of_items(items, parts),
+        Description::V3(description) => parts_of_node(description.inner(), parts),
+    }
 }

@@ -3,6 +3,7 @@
 
 mod component;
 mod convert;
+mod formats;
 mod item;
 mod modern;
 pub mod modifier;
@@ -11,7 +12,7 @@ mod same;
 mod shown;
 
 pub use component::Component;
-pub use description_formats::{Iso8601, Rfc2822, Rfc3339};
+pub use formats::{Iso8601, Rfc2822, Rfc3339};
 pub use item::{BorrowedFormatItem, FormatItem, StaticFormatDescription};
 pub use period::Period;
 pub use variants::DifferentVariant;

@@ -10,10 +10,10 @@ use Rattle.description_words.specs.declared.version.DescriptionVersion.TheVarian
 use Rattle.description_words.specs.Text.{Rest}
 use Rattle.description_words.specs.Words.{Modifier}
 use Rattle.description_faults.specs.Further.{further}
-use Rattle.description_spelling.specs.Heads.{SpellsModifiers, SpellsHead}
-use Rattle.description_spelling.specs.Spelling.{SpellsItems, Spells}
-use Rattle.description_spelling.specs.Faulty.{BadWord, missing_at, LacksName, HasBadWord, IsUnclosed, MeansNothing, BadEscape, Wrong, BadNesting, IsOne, AreSome, IsNothing, AreBefore, BadItem, FaultyItems, FaultyNested, Faulty}
-use Rattle.description_spelling.proofs.ItemsAgain.{unlisted, listed_again}
+use Rattle.description_grammar.specs.Heads.{SpellsModifiers, SpellsHead}
+use Rattle.description_grammar.specs.Spelling.{SpellsItems, Spells}
+use Rattle.description_grammar.specs.Faulty.{BadWord, missing_at, LacksName, HasBadWord, IsUnclosed, MeansNothing, BadEscape, Wrong, BadNesting, IsOne, AreSome, IsNothing, AreBefore, BadItem, FaultyItems, FaultyNested, Faulty}
+use Rattle.description_grammar.proofs.ItemsComplete.{unlisted, listed_again}
 use Rattle.description_laws.specs.Laws.{Joins}
 use Rattle.description_laws.proofs.Joining.{joined_texts}
 use Rattle.description_laws.proofs.Moved.{moved, all_moved, shifted, component_shift}

@@ -16,8 +16,8 @@ use Rattle.description_tables.specs.Names.{time_name_of, name_of}
 use Rattle.description_tables.specs.Keys.{key_of}
 use Rattle.description_tables.specs.Values.{padding_of, flag_of, base_of, sign_of, range_of, case_of, digits_of, precision_of, trailing_input_of, month_repr_of, weekday_repr_of, week_repr_of, year_repr_of, hour_repr_of, repr_of, count_of}
 use Rattle.description_tables.specs.Chosen.{with_value}
-use Rattle.description_spelling.specs.Heads.{is_nesting}
-use Rattle.description_spelling.proofs.Runs.{which}
+use Rattle.description_grammar.specs.Heads.{is_nesting}
+use Rattle.description_grammar.proofs.Runs.{which}
 use Rattle.description_laws.proofs.Letters.{Alike, lower_same, digits_alike, digits_same}
 
 padding_cased : (v : DescriptionVersion) (w u : List ℕ) → is_three v ≡ false → str_to_ascii_lowercase w ≡ str_to_ascii_lowercase u → padding_of v w ≡ padding_of v u

@@ -8,12 +8,12 @@ use Rattle.description_items.specs.Tree.{Tree, Literal, Part, Compound, Optional
 use Rattle.description_words.specs.declared.version.DescriptionVersion.{DescriptionVersion}
 use Rattle.description_words.specs.declared.version.DescriptionVersion.TheVariants.{One, Two, Three}
 use Rattle.description_words.specs.Text.{is_bracket, is_plain}
-use Rattle.description_spelling.specs.Heads.{Stops, SpellsLiteral, SpellsEscape, SpellsOpening, SpellsNesting}
-use Rattle.description_spelling.specs.Spelling.{SpellsItem, Spells}
+use Rattle.description_grammar.specs.Heads.{Stops, SpellsLiteral, SpellsEscape, SpellsOpening, SpellsNesting}
+use Rattle.description_grammar.specs.Spelling.{SpellsItem, Spells}
 use Rattle.description_laws.specs.Laws.{EndsIn, IsFirm, AreApart, Joins}
-use Rattle.description_spelling.proofs.Runs.{which, each_append}
-use Rattle.description_spelling.proofs.Texts.{text_some}
-use Rattle.description_spelling.proofs.Items.{item_front}
+use Rattle.description_grammar.proofs.Runs.{which, each_append}
+use Rattle.description_grammar.proofs.TextsSound.{text_some}
+use Rattle.description_grammar.proofs.Items.{item_front}
 
 -- ---- what stands behind an item
 

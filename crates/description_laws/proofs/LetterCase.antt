@@ -9,13 +9,13 @@ use Rattle.description_words.specs.declared.version.DescriptionVersion.TheVarian
 use Rattle.description_words.specs.Version.{is_three}
 use Rattle.description_words.specs.Text.{Rest, is_space, is_no_colon, is_plain}
 use Rattle.description_words.specs.Words.{Modifier}
-use Rattle.description_spelling.specs.Heads.{Stops, SpellsModifier, SpellsModifiers, SpellsComponent}
-use Rattle.description_spelling.specs.Spelling.{Spells}
-use Rattle.description_spelling.proofs.Runs.{at_index}
-use Rattle.description_spelling.proofs.Meaning.{AreAlike, AllAlike, component_moved}
+use Rattle.description_grammar.specs.Heads.{Stops, SpellsModifier, SpellsModifiers, SpellsComponent}
+use Rattle.description_grammar.specs.Spelling.{Spells}
+use Rattle.description_grammar.proofs.Runs.{at_index}
+use Rattle.description_grammar.proofs.Meaning.{AreAlike, AllAlike, component_moved}
 use Rattle.description_laws.proofs.Letters.{IsLetter, space_agrees, colon_agrees, Alike, alike_from, lower_same, alike_length, alike_each, alike_word, CutAlike, cut_alike, alike_byte, alike_nothing}
 use Rattle.description_laws.proofs.CasedTables.{name_cased, key_cased, nesting_cased, value_cased}
-use Rattle.description_spelling.proofs.ItemsAgain.{item_more}
+use Rattle.description_grammar.proofs.ItemsComplete.{item_more}
 
 -- what stands between words is no letter
 no_open : IsLetter left_bracket → ⊥

@@ -9,8 +9,8 @@ use Rattle.std.proofs.lemmas.Bool.Decides.{nat_tests}
 use Rattle.std.proofs.lemmas.Slice.Eq.{bytes_eq-Decides}
 use Rattle.std.proofs.lemmas.Str.Ascii.{lowercase_is}
 use Rattle.description_words.specs.Text.{is_space, is_word_byte, is_no_colon}
-use Rattle.description_spelling.specs.Heads.{Each, IsWord}
-use Rattle.description_spelling.proofs.Results.{both}
+use Rattle.description_grammar.specs.Heads.{Each, IsWord}
+use Rattle.description_grammar.proofs.Results.{both}
 
 -- ---- bytes
 

@@ -4,10 +4,10 @@ use Rattle.std.proofs.lemmas.List.{length-append}
 use Rattle.byte_names.specs.Bytes.{right_bracket}
 use Rattle.description_items.specs.Tree.{Tree, Literal, Part, Compound, Optional, First, Trees, none, also}
 use Rattle.description_words.specs.declared.version.DescriptionVersion.{DescriptionVersion}
-use Rattle.description_spelling.specs.Heads.{SpellsNesting}
-use Rattle.description_spelling.specs.Spelling.{SpellsItems, SpellsItem, SpellsNested, SpellsAlternatives, SpellsTree}
+use Rattle.description_grammar.specs.Heads.{SpellsNesting}
+use Rattle.description_grammar.specs.Spelling.{SpellsItems, SpellsItem, SpellsNested, SpellsAlternatives, SpellsTree}
 use Rattle.description_laws.specs.Laws.{nodes, all_nodes}
-use Rattle.description_spelling.proofs.Texts.{text_some}
+use Rattle.description_grammar.proofs.TextsSound.{text_some}
 
 -- an opening and a closing bracket leave room for a node
 nesting_room : (v : DescriptionVersion) (name own : List ℕ) (Inside : List ℕ → Type 0) (h : SpellsNesting v name own Inside) → 1 + length h.inside ≤ length own

@@ -6,8 +6,8 @@ use Rattle.byte_names.specs.Bytes.{right_bracket}
 use Rattle.description_items.specs.Tree.{Tree, Literal, Part, Compound, Optional, First, Trees, none, also}
 use Rattle.description_words.specs.declared.version.DescriptionVersion.TheVariants.{Three}
 use Rattle.description_tree.specs.Reserved.{reserved, reserved_in_turn, greatest_reserved}
-use Rattle.description_spelling.specs.Heads.{SpellsLiteral, SpellsEscape, SpellsNesting}
-use Rattle.description_spelling.specs.Spelling.{SpellsItems, SpellsItem, SpellsNested, SpellsAlternatives, SpellsTree}
+use Rattle.description_grammar.specs.Heads.{SpellsLiteral, SpellsEscape, SpellsNesting}
+use Rattle.description_grammar.specs.Spelling.{SpellsItems, SpellsItem, SpellsNested, SpellsAlternatives, SpellsTree}
 use Rattle.description_laws.proofs.Widths.{component_width}
 
 -- an opening and a closing bracket stand round what is nested

@@ -27,7 +27,7 @@ use Rattle.description_tables.specs.Names.{time_name_of, name_of, name_text}
 use Rattle.description_tables.specs.Keys.{key_of}
 use Rattle.description_tables.specs.Values.{padding_of, flag_of, base_of, sign_of, range_of, case_of, digits_of, precision_of, trailing_input_of, month_repr_of, weekday_repr_of, week_repr_of, year_repr_of, hour_repr_of, repr_of}
 use Rattle.description_tables.specs.Chosen.{with_value}
-use Rattle.description_spelling.specs.Heads.{is_nesting}
+use Rattle.description_grammar.specs.Heads.{is_nesting}
 use Rattle.description_laws.proofs.Tables.{none_not, name_is, key_text, key_is}
 
 -- a word that the third version's table has first, another table has too

@@ -40,10 +40,10 @@ use Rattle.description_tables.specs.Keys.{key_of, has_key}
 use Rattle.description_tables.specs.Chosen.{nothing, with_value, is_chosen, is_carried}
 use Rattle.description_tables.specs.Made.{made, year_repr}
 use Rattle.description_tables.specs.Component.{found, bad, key_among, key_in, with_modifier, with_modifiers, combined, named, component_of}
-use Rattle.description_spelling.specs.Heads.{SpellsComponent}
-use Rattle.description_spelling.specs.Spelling.{Spells}
+use Rattle.description_grammar.specs.Heads.{SpellsComponent}
+use Rattle.description_grammar.specs.Spelling.{Spells}
 use Rattle.description_laws.specs.Versions.{extended, has_range, IsFlat, InTwo, SaysRange, SpellsRanged}
-use Rattle.description_spelling.proofs.Results.{cond_true}
+use Rattle.description_grammar.proofs.Results.{cond_true}
 use Rattle.description_laws.proofs.Tables.{none_not, some_is, key_text, key_is, key_found, value_found, found_is}
 use Rattle.description_laws.proofs.TwoTables.{name_two, no_nesting_two, key_two, value_two}
 

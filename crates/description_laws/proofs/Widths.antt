@@ -44,7 +44,7 @@ use Rattle.description_tables.specs.Made.{made}
 use Rattle.description_tables.specs.Component.{found, bad, key_in, with_modifier, with_modifiers, combined, named, component_of}
 use Rattle.description_tree.specs.Reserved.{digits_width, width_of}
 use Rattle.description_laws.proofs.Tables.{some_is, none_not, name_is, key_text, key_is, sign_is, key_found, value_found, found_is}
-use Rattle.description_spelling.specs.Heads.{SpellsModifiers, SpellsComponent}
+use Rattle.description_grammar.specs.Heads.{SpellsModifiers, SpellsComponent}
 
 -- ---- widths by names
 

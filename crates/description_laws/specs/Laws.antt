@@ -3,8 +3,8 @@ use Rattle.std.specs.Prelude.{◌≡◌, ℕ, ◌+◌, true, false, List, [], �
 use Rattle.description_items.specs.Tree.{Tree, Literal, Part, Compound, Optional, First, Trees, none, also}
 use Rattle.description_words.specs.declared.version.DescriptionVersion.{DescriptionVersion}
 use Rattle.description_words.specs.Text.{is_plain}
-use Rattle.description_spelling.specs.Heads.{Stops, SpellsLiteral}
-use Rattle.description_spelling.specs.Spelling.{SpellsItem, Spells}
+use Rattle.description_grammar.specs.Heads.{Stops, SpellsLiteral}
+use Rattle.description_grammar.specs.Spelling.{SpellsItem, Spells}
 
 -- the last item of a text, and the items before it
 pub record EndsIn (v : DescriptionVersion) (text : List ℕ) (ts : List Tree) (last : List ℕ) (t : Tree) : Type 0 where

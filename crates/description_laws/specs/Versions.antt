@@ -6,8 +6,8 @@ use Rattle.description_items.specs.declared.component.Component.TheVariants as c
 use Rattle.description_items.specs.Tree.{Tree, Literal, Part, Compound, Optional, First}
 use Rattle.description_words.specs.declared.version.DescriptionVersion.TheVariants.{Two, Three}
 use Rattle.description_words.specs.Words.{Modifier}
-use Rattle.description_spelling.specs.Heads.{SpellsComponent}
-use Rattle.description_spelling.specs.Spelling.{SpellsItem, Spells}
+use Rattle.description_grammar.specs.Heads.{SpellsComponent}
+use Rattle.description_grammar.specs.Spelling.{SpellsItem, Spells}
 
 -- a full or century year of the standard range, in the extended one; any other component as it is
 abbrev pub extended : Component → Component

@@ -13,10 +13,10 @@ ghost use Rattle.description_words.specs.Version.{is_three};
 ghost use Rattle.description_tree.specs.Reserved.{IsLongest, reserved};
 ghost use Rattle.description_faults.specs.Further.{further};
 ghost use Rattle.description_strftime.specs.Outcomes as letters;
-ghost use Rattle.description_spelling.specs.Outcomes.{OneOutcome};
-ghost use Rattle.description_spelling.specs.Faulty.{Faulty};
-ghost use Rattle.description_spelling.specs.Heads.{SpellsComponent};
-ghost use Rattle.description_spelling.specs.Spelling.{Spells, SpellsTree};
+ghost use Rattle.description_grammar.specs.Outcomes.{OneOutcome};
+ghost use Rattle.description_grammar.specs.Faulty.{Faulty};
+ghost use Rattle.description_grammar.specs.Heads.{SpellsComponent};
+ghost use Rattle.description_grammar.specs.Spelling.{Spells, SpellsTree};
 ghost use Rattle.description_laws.specs.Versions.{IsFlat, InTwo, SpellsRanged};
 ghost use Rattle.description_laws.specs.Laws.{Joins, nodes};
 

@@ -47,55 +47,66 @@ Weekday(Weekday { repr: Long, one_indexed: true, case_sensitive: true }) Weekday
 
 #[test]
 fn days_and_weeks(rt: HostRuntime) -> Result<(), Fail> {
+    let day = Day::default();
+    let ordinal = Ordinal::default();
+    let week_number_iso = WeekNumberIso::default();
+    let week_number_sunday = WeekNumberSunday::default();
+    let week_number_monday = WeekNumberMonday::default();
+    let week_number = WeekNumber::default();
+    let weekday_short = WeekdayShort::default();
+    let weekday_long = WeekdayLong::default();
+    let weekday_sunday = WeekdaySunday::default();
+    let weekday_monday = WeekdayMonday::default();
+    let weekday = Weekday::default();
     let rows = [
         (
-            Component::Day(Day::default()),
-            Component::Day(Day::default().with_padding(Padding::Space)),
+            Component::Day(day),
+            Component::Day(day.with_padding(Padding::Space)),
         ),
         (
-            Component::Ordinal(Ordinal::default()),
-            Component::Ordinal(Ordinal::default().with_padding(Padding::Space)),
+            Component::Ordinal(ordinal),
+            Component::Ordinal(ordinal.with_padding(Padding::Space)),
         ),
         (
-            Component::WeekNumberIso(WeekNumberIso::default()),
-            Component::WeekNumberIso(WeekNumberIso::default().with_padding(Padding::Space)),
+            Component::WeekNumberIso(week_number_iso),
+            Component::WeekNumberIso(week_number_iso.with_padding(Padding::Space)),
         ),
         (
-            Component::WeekNumberSunday(WeekNumberSunday::default()),
-            Component::WeekNumberSunday(WeekNumberSunday::default().with_padding(Padding::Space)),
+            Component::WeekNumberSunday(week_number_sunday),
+            Component::WeekNumberSunday(week_number_sunday.with_padding(Padding::Space)),
         ),
         (
-            Component::WeekNumberMonday(WeekNumberMonday::default()),
-            Component::WeekNumberMonday(WeekNumberMonday::default().with_padding(Padding::Space)),
+            Component::WeekNumberMonday(week_number_monday),
+            Component::WeekNumberMonday(week_number_monday.with_padding(Padding::Space)),
         ),
         (
-            Component::WeekNumber(WeekNumber::default()),
+            Component::WeekNumber(week_number),
             Component::WeekNumber(
-                WeekNumber::default()
+                week_number
                     .with_padding(Padding::Space)
                     .with_repr(WeekNumberRepr::Sunday),
             ),
         ),
         (
-            Component::WeekdayShort(WeekdayShort::default()),
-            Component::WeekdayShort(WeekdayShort::default().with_case_sensitive(false)),
+            Component::WeekdayShort(weekday_short),
+            Component::WeekdayShort(weekday_short.with_case_sensitive(false)),
         ),
         (
-            Component::WeekdayLong(WeekdayLong::default()),
-            Component::WeekdayLong(WeekdayLong::default().with_case_sensitive(false)),
+            Component::WeekdayLong(weekday_long),
+            Component::WeekdayLong(weekday_long.with_case_sensitive(false)),
         ),
         (
-            Component::WeekdaySunday(WeekdaySunday::default()),
-            Component::WeekdaySunday(WeekdaySunday::default().with_one_indexed(false)),
+            Component::WeekdaySunday(weekday_sunday),
+            Component::WeekdaySunday(weekday_sunday.with_one_indexed(false)),
         ),
         (
-            Component::WeekdayMonday(WeekdayMonday::default()),
-            Component::WeekdayMonday(WeekdayMonday::default().with_one_indexed(false)),
+            Component::WeekdayMonday(weekday_monday),
+            Component::WeekdayMonday(weekday_monday.with_one_indexed(false)),
         ),
         (
-            Component::Weekday(Weekday::default()),
+            Component::Weekday(weekday),
             Component::Weekday(
-                Weekday::default()
+                weekday
                     .with_repr(WeekdayRepr::Monday)
                     .with_one_indexed(false)
                     .with_case_sensitive(false),
@@ -116,33 +127,37 @@ Year(Year { padding: Zero, repr: Full, range: Extended, iso_week_based: false, s
 
 #[test]
 fn months_and_years(rt: HostRuntime) -> Result<(), Fail> {
+    let month_short = MonthShort::default();
+    let month_long = MonthLong::default();
+    let month_numerical = MonthNumerical::default();
+    let month = Month::default();
+    let year = Year::default();
     let rows = [
         (
-            Component::MonthShort(MonthShort::default()),
-            Component::MonthShort(MonthShort::default().with_case_sensitive(false)),
+            Component::MonthShort(month_short),
+            Component::MonthShort(month_short.with_case_sensitive(false)),
         ),
         (
-            Component::MonthLong(MonthLong::default()),
-            Component::MonthLong(MonthLong::default().with_case_sensitive(false)),
+            Component::MonthLong(month_long),
+            Component::MonthLong(month_long.with_case_sensitive(false)),
         ),
         (
-            Component::MonthNumerical(MonthNumerical::default()),
-            Component::MonthNumerical(MonthNumerical::default().with_padding(Padding::Space)),
+            Component::MonthNumerical(month_numerical),
+            Component::MonthNumerical(month_numerical.with_padding(Padding::Space)),
         ),
         (
-            Component::Month(Month::default()),
+            Component::Month(month),
             Component::Month(
-                Month::default()
+                month
                     .with_padding(Padding::Space)
                     .with_repr(MonthRepr::Short)
                     .with_case_sensitive(false),
             ),
         ),
         (
-            Component::Year(Year::default()),
+            Component::Year(year),
             Component::Year(
-                Year::default()
-                    .with_padding(Padding::Space)
+                year.with_padding(Padding::Space)
                     .with_repr(YearRepr::Century)
                     .with_range(YearRange::Standard)
                     .with_iso_week_based(true)
@@ -164,48 +179,47 @@ CalendarYearLastTwo(CalendarYearLastTwo { padding: Zero }) CalendarYearLastTwo(C
 
 #[test]
 fn years_of_the_calendar(rt: HostRuntime) -> Result<(), Fail> {
+    let calendar_year_full_extended_range = CalendarYearFullExtendedRange::default();
+    let calendar_year_full_standard_range = CalendarYearFullStandardRange::default();
+    let calendar_year_century_extended_range = CalendarYearCenturyExtendedRange::default();
+    let calendar_year_century_standard_range = CalendarYearCenturyStandardRange::default();
+    let calendar_year_last_two = CalendarYearLastTwo::default();
     let rows = [
         (
-            Component::CalendarYearFullExtendedRange(CalendarYearFullExtendedRange::default()),
+            Component::CalendarYearFullExtendedRange(calendar_year_full_extended_range),
             Component::CalendarYearFullExtendedRange(
-                CalendarYearFullExtendedRange::default()
+                calendar_year_full_extended_range
                     .with_padding(Padding::Space)
                     .with_sign_is_mandatory(true),
             ),
         ),
         (
-            Component::CalendarYearFullStandardRange(CalendarYearFullStandardRange::default()),
+            Component::CalendarYearFullStandardRange(calendar_year_full_standard_range),
             Component::CalendarYearFullStandardRange(
-                CalendarYearFullStandardRange::default()
+                calendar_year_full_standard_range
                     .with_padding(Padding::Space)
                     .with_sign_is_mandatory(true),
             ),
         ),
         (
+            Component::CalendarYearCenturyExtendedRange(calendar_year_century_extended_range),
             Component::CalendarYearCenturyExtendedRange(
-                CalendarYearCenturyExtendedRange::default(),
-            ),
-            Component::CalendarYearCenturyExtendedRange(
-                CalendarYearCenturyExtendedRange::default()
+                calendar_year_century_extended_range
                     .with_padding(Padding::Space)
                     .with_sign_is_mandatory(true),
             ),
         ),
         (
+            Component::CalendarYearCenturyStandardRange(calendar_year_century_standard_range),
             Component::CalendarYearCenturyStandardRange(
-                CalendarYearCenturyStandardRange::default(),
-            ),
-            Component::CalendarYearCenturyStandardRange(
-                CalendarYearCenturyStandardRange::default()
+                calendar_year_century_standard_range
                     .with_padding(Padding::Space)
                     .with_sign_is_mandatory(true),
             ),
         ),
         (
-            Component::CalendarYearLastTwo(CalendarYearLastTwo::default()),
-            Component::CalendarYearLastTwo(CalendarYearLastTwo::default().with_padding(
-                Padding::Space,
-            )),
+            Component::CalendarYearLastTwo(calendar_year_last_two),
+            Component::CalendarYearLastTwo(calendar_year_last_two.with_padding(Padding::Space)),
         ),
     ];
     let told = told(rt.alloc(), &rows)?;
@@ -222,42 +236,47 @@ IsoYearLastTwo(IsoYearLastTwo { padding: Zero }) IsoYearLastTwo(IsoYearLastTwo {
 
 #[test]
 fn years_of_weeks(rt: HostRuntime) -> Result<(), Fail> {
+    let iso_year_full_extended_range = IsoYearFullExtendedRange::default();
+    let iso_year_full_standard_range = IsoYearFullStandardRange::default();
+    let iso_year_century_extended_range = IsoYearCenturyExtendedRange::default();
+    let iso_year_century_standard_range = IsoYearCenturyStandardRange::default();
+    let iso_year_last_two = IsoYearLastTwo::default();
     let rows = [
         (
-            Component::IsoYearFullExtendedRange(IsoYearFullExtendedRange::default()),
+            Component::IsoYearFullExtendedRange(iso_year_full_extended_range),
             Component::IsoYearFullExtendedRange(
-                IsoYearFullExtendedRange::default()
+                iso_year_full_extended_range
                     .with_padding(Padding::Space)
                     .with_sign_is_mandatory(true),
             ),
         ),
         (
-            Component::IsoYearFullStandardRange(IsoYearFullStandardRange::default()),
+            Component::IsoYearFullStandardRange(iso_year_full_standard_range),
             Component::IsoYearFullStandardRange(
-                IsoYearFullStandardRange::default()
+                iso_year_full_standard_range
                     .with_padding(Padding::Space)
                     .with_sign_is_mandatory(true),
             ),
         ),
         (
-            Component::IsoYearCenturyExtendedRange(IsoYearCenturyExtendedRange::default()),
+            Component::IsoYearCenturyExtendedRange(iso_year_century_extended_range),
             Component::IsoYearCenturyExtendedRange(
-                IsoYearCenturyExtendedRange::default()
+                iso_year_century_extended_range
                     .with_padding(Padding::Space)
                     .with_sign_is_mandatory(true),
             ),
         ),
         (
-            Component::IsoYearCenturyStandardRange(IsoYearCenturyStandardRange::default()),
+            Component::IsoYearCenturyStandardRange(iso_year_century_standard_range),
             Component::IsoYearCenturyStandardRange(
-                IsoYearCenturyStandardRange::default()
+                iso_year_century_standard_range
                     .with_padding(Padding::Space)
                     .with_sign_is_mandatory(true),
             ),
         ),
         (
-            Component::IsoYearLastTwo(IsoYearLastTwo::default()),
-            Component::IsoYearLastTwo(IsoYearLastTwo::default().with_padding(Padding::Space)),
+            Component::IsoYearLastTwo(iso_year_last_two),
+            Component::IsoYearLastTwo(iso_year_last_two.with_padding(Padding::Space)),
         ),
     ];
     let told = told(rt.alloc(), &rows)?;
@@ -277,46 +296,49 @@ End(End { trailing_input: Prohibit }) End(End { trailing_input: Discard })"#;
 
 #[test]
 fn times_and_ends(rt: HostRuntime) -> Result<(), Fail> {
+    let hour_12 = Hour12::default();
+    let hour_24 = Hour24::default();
+    let hour = Hour::default();
+    let period = Period::default();
+    let minute = Minute::default();
+    let second = Second::default();
+    let subsecond = Subsecond::default();
+    let end = End::default();
     let rows = [
         (
-            Component::Hour12(Hour12::default()),
-            Component::Hour12(Hour12::default().with_padding(Padding::Space)),
+            Component::Hour12(hour_12),
+            Component::Hour12(hour_12.with_padding(Padding::Space)),
         ),
         (
-            Component::Hour24(Hour24::default()),
-            Component::Hour24(Hour24::default().with_padding(Padding::Space)),
+            Component::Hour24(hour_24),
+            Component::Hour24(hour_24.with_padding(Padding::Space)),
         ),
         (
-            Component::Hour(Hour::default()),
+            Component::Hour(hour),
             Component::Hour(
-                Hour::default()
-                    .with_padding(Padding::Space)
+                hour.with_padding(Padding::Space)
                     .with_is_12_hour_clock(true),
             ),
         ),
         (
-            Component::Period(Period::default()),
-            Component::Period(
-                Period::default()
-                    .with_is_uppercase(false)
-                    .with_case_sensitive(false),
-            ),
+            Component::Period(period),
+            Component::Period(period.with_is_uppercase(false).with_case_sensitive(false)),
         ),
         (
-            Component::Minute(Minute::default()),
-            Component::Minute(Minute::default().with_padding(Padding::Space)),
+            Component::Minute(minute),
+            Component::Minute(minute.with_padding(Padding::Space)),
         ),
         (
-            Component::Second(Second::default()),
-            Component::Second(Second::default().with_padding(Padding::Space)),
+            Component::Second(second),
+            Component::Second(second.with_padding(Padding::Space)),
         ),
         (
-            Component::Subsecond(Subsecond::default()),
-            Component::Subsecond(Subsecond::default().with_digits(SubsecondDigits::Three)),
+            Component::Subsecond(subsecond),
+            Component::Subsecond(subsecond.with_digits(SubsecondDigits::Three)),
         ),
         (
-            Component::End(End::default()),
-            Component::End(End::default().with_trailing_input(TrailingInput::Discard)),
+            Component::End(end),
+            Component::End(end.with_trailing_input(TrailingInput::Discard)),
         ),
     ];
     let told = told(rt.alloc(), &rows)?;
@@ -336,51 +358,57 @@ UnixTimestamp(UnixTimestamp { precision: Second, sign_is_mandatory: false }) Uni
 
 #[test]
 fn offsets_and_timestamps(rt: HostRuntime) -> Result<(), Fail> {
+    let offset_hour = OffsetHour::default();
+    let offset_minute = OffsetMinute::default();
+    let offset_second = OffsetSecond::default();
+    let unix_timestamp_second = UnixTimestampSecond::default();
+    let unix_timestamp_millisecond = UnixTimestampMillisecond::default();
+    let unix_timestamp_microsecond = UnixTimestampMicrosecond::default();
+    let unix_timestamp_nanosecond = UnixTimestampNanosecond::default();
+    let unix_timestamp = UnixTimestamp::default();
     let rows = [
         (
-            Component::OffsetHour(OffsetHour::default()),
+            Component::OffsetHour(offset_hour),
             Component::OffsetHour(
-                OffsetHour::default()
+                offset_hour
                     .with_sign_is_mandatory(true)
                     .with_padding(Padding::Space),
             ),
         ),
         (
-            Component::OffsetMinute(OffsetMinute::default()),
-            Component::OffsetMinute(OffsetMinute::default().with_padding(Padding::Space)),
+            Component::OffsetMinute(offset_minute),
+            Component::OffsetMinute(offset_minute.with_padding(Padding::Space)),
         ),
         (
-            Component::OffsetSecond(OffsetSecond::default()),
-            Component::OffsetSecond(OffsetSecond::default().with_padding(Padding::Space)),
+            Component::OffsetSecond(offset_second),
+            Component::OffsetSecond(offset_second.with_padding(Padding::Space)),
         ),
         (
-            Component::UnixTimestampSecond(UnixTimestampSecond::default()),
-            Component::UnixTimestampSecond(UnixTimestampSecond::default().with_sign_is_mandatory(
+            Component::UnixTimestampSecond(unix_timestamp_second),
+            Component::UnixTimestampSecond(unix_timestamp_second.with_sign_is_mandatory(true)),
+        ),
+        (
+            Component::UnixTimestampMillisecond(unix_timestamp_millisecond),
+            Component::UnixTimestampMillisecond(unix_timestamp_millisecond.with_sign_is_mandatory(
                 true,
             )),
         ),
         (
-            Component::UnixTimestampMillisecond(UnixTimestampMillisecond::default()),
-            Component::UnixTimestampMillisecond(
-                UnixTimestampMillisecond::default().with_sign_is_mandatory(true),
-            ),
+            Component::UnixTimestampMicrosecond(unix_timestamp_microsecond),
+            Component::UnixTimestampMicrosecond(unix_timestamp_microsecond.with_sign_is_mandatory(
+                true,
+            )),
         ),
         (
-            Component::UnixTimestampMicrosecond(UnixTimestampMicrosecond::default()),
-            Component::UnixTimestampMicrosecond(
-                UnixTimestampMicrosecond::default().with_sign_is_mandatory(true),
-            ),
+            Component::UnixTimestampNanosecond(unix_timestamp_nanosecond),
+            Component::UnixTimestampNanosecond(unix_timestamp_nanosecond.with_sign_is_mandatory(
+                true,
+            )),
         ),
         (
-            Component::UnixTimestampNanosecond(UnixTimestampNanosecond::default()),
-            Component::UnixTimestampNanosecond(
-                UnixTimestampNanosecond::default().with_sign_is_mandatory(true),
-            ),
-        ),
-        (
-            Component::UnixTimestamp(UnixTimestamp::default()),
+            Component::UnixTimestamp(unix_timestamp),
             Component::UnixTimestamp(
-                UnixTimestamp::default()
+                unix_timestamp
                     .with_precision(UnixTimestampPrecision::Microsecond)
                     .with_sign_is_mandatory(true),
             ),

@@ -61,8 +61,13 @@ fn are_themselves() -> bool {
 
 #[test]
 fn items_are_equal_by_their_trees_and_come_back(rt: HostRuntime) {
-    assert!(rt; are_alike() && are_unlike() && are_themselves());
-    assert!(rt; components_come_back() && slices_come_back());
+    assert!(rt;
+        are_alike()
+            && are_unlike()
+            && are_themselves()
+            && components_come_back()
+            && slices_come_back()
+    );
 }
 
 #[test]

@@ -1,4 +1,4 @@
-//! Tests of the crates of descriptions. What their texts are read as stands in the rows of `description_rows`.
+//! Tests of the crates of descriptions. What their texts are read as stands in the rows of the program `rows`.
 #![tactic(auto)]
 
 #[cfg(test)]

@@ -4,11 +4,11 @@
 use crate::support::{ONE, TWO};
 use crate::trees::push_told;
 use description::{DescriptionFault, parse, parse_strftime_borrowed};
+use description_grammar::{items_of, tree_of};
 use description_items::modifier::{
     CalendarYearFullExtendedRange, Day, MonthNumerical, OffsetHour, OffsetMinute, Padding,
 };
 use description_items::{BorrowedFormatItem, Component};
-use description_reading::{items_of, tree_of};
 use description_words::{Modifier, modifiers_of, whole_of};
 use std::alloc::{AllocError, Global};
 use std::process::Abort;
@@ -49,28 +49,26 @@ const YEAR: BorrowedFormatItem<'static> = BorrowedFormatItem::Component(
 const DASH: BorrowedFormatItem<'static> = BorrowedFormatItem::StringLiteral("-");
 
 // The items of `%dx%zx%d%z%dx`.
-const LETTERS: [BorrowedFormatItem<'static>; 10] = [
-    DAY,
-    X,
-    OFFSET_HOUR,
-    OFFSET_MINUTE,
-    X,
-    DAY,
-    OFFSET_HOUR,
-    OFFSET_MINUTE,
-    DAY,
-    X,
-];
+fn letters() -> [BorrowedFormatItem<'static>; 10] {
+    let (day, x, hour, minute) = (DAY, X, OFFSET_HOUR, OFFSET_MINUTE);
+    [day, x, hour, minute, x, day, hour, minute, day, x]
+}
 
 // The items of `%F%F%F`.
-const DATES: [BorrowedFormatItem<'static>; 15] = [
-    YEAR, DASH, MONTH, DASH, DAY, YEAR, DASH, MONTH, DASH, DAY, YEAR, DASH, MONTH, DASH, DAY,
-];
+fn dates() -> [BorrowedFormatItem<'static>; 15] {
+    let (year, dash, month, day) = (YEAR, DASH, MONTH, DAY);
+    [
+        year, dash, month, dash, day, year, dash, month, dash, day, year, dash, month, dash, day,
+    ]
+}
 
 // A text whose items take more room than a list begins with, and these items.
 const LONG: &str = "[day]x[day padding:zero]x[day]x[day]x[day]x";
 
-const LONG_ITEMS: [BorrowedFormatItem<'static>; 10] = [DAY, X, DAY, X, DAY, X, DAY, X, DAY, X];
+fn long_items() -> [BorrowedFormatItem<'static>; 10] {
+    let (day, x) = (DAY, X);
+    [day, x, day, x, day, x, day, x, day, x]
+}
 
 // The keys and the values, one after the other.
 fn words(alloc: Global, all: &[Modifier<'_>]) -> Result<String, AllocError> {
@@ -101,18 +99,22 @@ fn has_items(
 
 #[test]
 fn items_of_letters(rt: HostRuntime) {
-    let letters = parse_strftime_borrowed(rt.alloc(), "%dx%zx%d%z%dx");
-    assert!(rt; has_items(&rt, letters, &LETTERS));
-    let dates = parse_strftime_borrowed(rt.alloc(), "%F%F%F");
-    assert!(rt; has_items(&rt, dates, &DATES));
+    let read = parse_strftime_borrowed(rt.alloc(), "%dx%zx%d%z%dx");
+    let has_letters = has_items(&rt, read, &letters());
+    let read = parse_strftime_borrowed(rt.alloc(), "%F%F%F");
+    let has_dates = has_items(&rt, read, &dates());
+    assert!(rt; has_letters && has_dates);
 }
 
 #[test]
 fn items_of_versions_1_and_2(rt: HostRuntime) {
-    let wanted = LONG_ITEMS;
-    assert!(rt; has_items(&rt, parse(rt.alloc(), LONG), &wanted));
-    assert!(rt; has_items(&rt, items_of(rt.alloc(), ONE, LONG), &wanted));
-    assert!(rt; has_items(&rt, items_of(rt.alloc(), TWO, LONG), &wanted));
+    let wanted = long_items();
+    let are_given = [
+        has_items(&rt, parse(rt.alloc(), LONG), &wanted),
+        has_items(&rt, items_of(rt.alloc(), ONE, LONG), &wanted),
+        has_items(&rt, items_of(rt.alloc(), TWO, LONG), &wanted),
+    ];
+    assert!(rt; are_given == [true; 3]);
 }
 
 // Text, an optional item, alternatives, and more nodes than a list begins with.

@@ -36,7 +36,12 @@ fn has_no_name(text: &str, index: usize) -> bool {
 
 #[test]
 fn names_and_brackets(rt: HostRuntime) {
-    assert!(rt; versions_are_told_apart() && names_are_cut());
-    assert!(rt; brackets_are_found() && brackets_are_closed());
-    assert!(rt; has_no_name("[ ]", 1) && has_no_name("[]", 0));
+    assert!(rt;
+        versions_are_told_apart()
+            && names_are_cut()
+            && brackets_are_found()
+            && brackets_are_closed()
+            && has_no_name("[ ]", 1)
+            && has_no_name("[]", 0)
+    );
 }

@@ -1,7 +1,7 @@
 //! Copies that lend nothing.
 
 ghost use Rattle.std.specs.Prelude.{◌≡◌, true, IfOk};
-ghost use Rattle.description_items.specs.Tree.{Optional};
+ghost use Rattle.description_items.specs.Tree.{Literal, Compound, Optional, First, listed};
 ghost use Rattle.description_tree.specs.Forms.{is_owned, are_owned};
 ghost use Rattle.description_tree.specs.Inner.{inner_tree, inner_trees};
 
@@ -18,16 +18,42 @@ pub(crate) fn owned<'b>(alloc: Global, node: &Inner<'_>) -> Result<Inner<'b>, Al
         return Ok(Inner::from(component));
     }
     match node {
-        Inner::BorrowedLiteral(text) => Ok(Inner::OwnedLiteral(String::from_str(alloc, text)?)),
-        Inner::OwnedLiteral(text) => Ok(Inner::OwnedLiteral(String::from_str(alloc, text)?)),
-        Inner::BorrowedCompound(lent) => Ok(Inner::OwnedCompound(all_owned(alloc, lent.items)?)),
-        Inner::OwnedCompound(items) => Ok(Inner::OwnedCompound(all_owned(alloc, items)?)),
+        Inner::BorrowedLiteral(text) => literal(alloc, text),
+        Inner::OwnedLiteral(text) => literal(alloc, text),
+        Inner::BorrowedCompound(lent) => compound(alloc, lent.items),
+        Inner::OwnedCompound(items) => compound(alloc, items),
         Inner::BorrowedOptional { format, item } => optional(alloc, *format, item),
         Inner::OwnedOptional { format, item } => optional(alloc, *format, item),
-        Inner::BorrowedFirst(lent) => Ok(Inner::OwnedFirst(all_owned(alloc, lent.items)?)),
-        Inner::OwnedFirst(items) => Ok(Inner::OwnedFirst(all_owned(alloc, items)?)),
+        Inner::BorrowedFirst(lent) => first(alloc, lent.items),
+        Inner::OwnedFirst(items) => first(alloc, items),
         _ => unreachable!(),
     }
+}
+
+// A literal of a copy of the text.
+fn literal<'b>(alloc: Global, text: &str) -> Result<Inner<'b>, AllocError>
+    ensures tree { IfOk result (λ copy. inner_tree copy ≡ Literal text.now) }
+    ensures owned { IfOk result (λ copy. is_owned copy ≡ true) }
+{
+    Ok(Inner::OwnedLiteral(String::from_str(alloc, text)?))
+}
+
+// A list of copies of the nodes.
+#[cycle(owned)]
+fn compound<'b>(alloc: Global, nodes: &[Inner<'_>]) -> Result<Inner<'b>, AllocError>
+    ensures tree { IfOk result (λ copy. inner_tree copy ≡ Compound (listed (inner_trees nodes.now))) }
+    ensures owned { IfOk result (λ copy. is_owned copy ≡ true) }
+{
+    Ok(Inner::OwnedCompound(all_owned(alloc, nodes)?))
+}
+
+// Copies of the nodes of which the first that can be read is taken.
+#[cycle(owned)]
+fn first<'b>(alloc: Global, nodes: &[Inner<'_>]) -> Result<Inner<'b>, AllocError>
+    ensures tree { IfOk result (λ copy. inner_tree copy ≡ First (listed (inner_trees nodes.now))) }
+    ensures owned { IfOk result (λ copy. is_owned copy ≡ true) }
+{
+    Ok(Inner::OwnedFirst(all_owned(alloc, nodes)?))
 }
 
 // An optional node round a copy of this one.

@@ -8,7 +8,6 @@ use instants::{
     BlockWriter, ByteWriter, DeviceFailed, ProgramFault, RunFault, StdWriter, Timeline, WordsFault,
     read_words,
 };
-use std::alloc::Global;
 use std::env;
 use std::io::{BufRead, BufReader};
 use std::process::ExitCode;
@@ -23,11 +22,10 @@ fn main(rt: HostRuntime) -> ExitCode {
     }
 }
 
-// The words behind the program's name.
+// The program's name and the words behind it.
 fn words(rt: &HostRuntime) -> Result<Vec<String>, ProgramFault<'static>> {
     let args = env::args(rt).map_err(|_| ProgramFault::Memory)?;
-    let words: Vec<String> = args.skip(1).collect(rt.alloc())?;
-    Ok(words)
+    Ok(args.collect(rt.alloc())?)
 }
 
 // Says what ended the program early, if anything did, and ends it.
@@ -47,7 +45,11 @@ fn ended(rt: &HostRuntime, merged: Result<(), ProgramFault>) -> ExitCode {
 
 // Answers standard input as the words say. Where memory runs out a call returns an error: `?` makes the fault of it.
 fn merge_input<'a>(rt: &HostRuntime, words: &'a Vec<String>) -> Result<(), ProgramFault<'a>> {
-    let words: Vec<&'a str> = words.iter().map(|word| word.as_str()).collect(rt.alloc())?;
+    let words: Vec<&'a str> = words
+        .iter()
+        .skip(1)
+        .map(|word| word.as_str())
+        .collect(rt.alloc())?;
     merge_by(rt, words.as_slice())
 }
 
@@ -73,21 +75,36 @@ fn merge_at(
 ) -> Result<(), ProgramFault<'static>> {
     let block = vec![in rt.alloc(); 0; BLOCK]?;
     let mut writer = BlockWriter::new(block, StdWriter::new(rt.stdout()));
-    let reader = BufReader::new(rt.alloc(), rt.stdin()).map_err(|_| ProgramFault::Memory)?;
-    Ok(merge_all(rt.alloc(), timeline, limit, reader, &mut writer)?)
+    merge_to(rt, timeline, limit, &mut writer)
+}
+
+// The same to this writer.
+fn merge_to<W: ByteWriter>(
+    rt: &HostRuntime,
+    timeline: &Timeline,
+    limit: usize,
+    writer: &mut W,
+) -> Result<(), ProgramFault<'static>>
+    requires { W.failed writer.old ≡ false }
+{
+    let mut reader = BufReader::new(rt.alloc(), rt.stdin()).map_err(|_| ProgramFault::Memory)?;
+    let mut line = Vec::new(rt.alloc());
+    merge_all(timeline, limit, &mut reader, &mut line, writer).map_err(|fault| ProgramFault::Run(
+        fault,
+    ))
 }
 
 // Writes each line behind its answer, and flushes them.
-fn merge_all<R: BufRead + Drop, W: ByteWriter>(
-    alloc: Global,
+fn merge_all<R: BufRead, W: ByteWriter>(
     timeline: &Timeline,
     limit: usize,
-    reader: R,
+    reader: &mut R,
+    line: &mut Vec<u8>,
     writer: &mut W,
 ) -> Result<(), RunFault>
     requires { W.failed writer.old ≡ false }
 {
-    let merged = merge_lines(alloc, timeline, limit, reader, writer);
+    let merged = merge_lines(timeline, limit, reader, line, writer);
     // What has failed can't be written to again: each write requires that none failed, so the check asks for this test.
     if writer.has_failed() {
         return Err(RunFault::Write);
@@ -99,20 +116,32 @@ fn merge_all<R: BufRead + Drop, W: ByteWriter>(
 }
 
 // Writes each line behind its answer. A line is kept whole till its line feed, or the end, was read, however long it is.
-fn merge_lines<R: BufRead + Drop, W: ByteWriter>(
-    alloc: Global,
+fn merge_lines<R: BufRead, W: ByteWriter>(
     timeline: &Timeline,
     limit: usize,
-    reader: R,
+    reader: &mut R,
+    line: &mut Vec<u8>,
     writer: &mut W,
 ) -> Result<(), RunFault>
     requires { W.failed writer.old ≡ false }
 {
-    for line in reader.split(alloc, b'\n') {
-        let line = line.map_err(|_| RunFault::Read)?;
-        merge_line(timeline, limit, line.as_slice(), writer).map_err(|_| RunFault::Write)?;
+    'lines: for _ in 0..u64::MAX {
+        line.clear();
+        let count = reader.read_until(b'\n', line).map_err(|_| RunFault::Read)?;
+        if count == 0 {
+            break;
+        }
+        let line = without_line_feed(line.as_slice());
+        merge_line(timeline, limit, line, writer).map_err(|_| RunFault::Write)?;
     }
     Ok(())
+}
+
+fn without_line_feed(line: &[u8]) -> &[u8] {
+    match line {
+        [front @ .., b'\n'] => front,
+        _ => line,
+    }
 }
 
 // Writes the answer to a line, a tab, the line and a line feed.

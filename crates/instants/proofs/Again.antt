@@ -6,18 +6,18 @@ use Rattle.calendar.specs.UtcOffset.{IsClockOffset}
 use Rattle.datetime_wall.specs.Wall.{Shown, day_of, nanosecond_of, second_nanos}
 use Rattle.datetime_wall.proofs.lemmas.WallClocks.{wall_clock_parts, nanosecond_of_bound, day_of_bound}
 use Rattle.instants_answers.specs.Text.{offset_text, moment_text}
-use Rattle.instants_order.specs.Written.{IsWritten}
-use Rattle.instants_order.proofs.Lines.{day_fits, has_year}
+use Rattle.instants_answers.specs.Written.{IsWritten}
+use Rattle.instants_answers.proofs.Lines.{day_fits, has_year}
 use Rattle.instants_sources.specs.Grammar.{Rfc3339, Iso8601}
 use Rattle.instants_sources.specs.Named.{defaults_of, named}
 use Rattle.parsing_rfc3339.specs.Direct.{direct}
 use Rattle.parsing_rfc3339.proofs.FastLemmas.{moment_read}
 use Rattle.parsing_rfc3339.proofs.StrictLemmas.{strict_is_in_range}
 use Rattle.parsing_staged.specs.Staged.{reads_rfc3339}
-use Rattle.parsing_two_roads.specs.TwoRoads.{AgreeOn}
-use Rattle.parsing_two_roads.proofs.Rfc3339.{agree}
-use Rattle.parsing_two_roads.specs.TwoFormats.{HoldsAtMostAnOffset}
-use Rattle.parsing_two_roads.proofs.Assumed.{one_road, same_moment, two_formats}
+use Rattle.parsing_laws.specs.TwoRoads.{AgreeOn}
+use Rattle.parsing_laws.proofs.Rfc3339.{agree}
+use Rattle.parsing_laws.specs.TwoFormats.{HoldsAtMostAnOffset}
+use Rattle.parsing_laws.proofs.Assumed.{one_road, same_moment, two_formats}
 use Rattle.instants.proofs.Pieces.{date_read, any_read, clock_read, subsecond_read, zone_named, offset_read, offset_ends}
 use Rattle.instants.proofs.Values.{day_named, time_named, offset_named}
 use Rattle.instants.proofs.Bytes.{behind_second, behind_date, line_parts, both, unrounded}

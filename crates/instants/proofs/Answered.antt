@@ -4,10 +4,10 @@ use Rattle.std.specs.Prelude.{if◌then◌else◌, ◌↔◌, IsOk}
 use Rattle.std.specs.Ordering.{int_cmp}
 use Rattle.datetime_wall.specs.Wall.{Shown, instant, shown_at}
 use Rattle.instants_answers.specs.Text.{moment_text, has_written_year}
-use Rattle.instants_order.specs.Written.{IsWritten}
-use Rattle.instants_order.proofs.Compares.{Compares, same_when, int_cmp-equal}
-use Rattle.instants_order.proofs.Lines.{line_field}
-use Rattle.instants_order.proofs.Placed.{shown_at-is}
+use Rattle.instants_answers.specs.Written.{IsWritten}
+use Rattle.instants_answers.proofs.Compares.{Compares, same_when, int_cmp-equal}
+use Rattle.instants_answers.proofs.Lines.{line_field}
+use Rattle.instants_answers.proofs.Placed.{shown_at-is}
 use Rattle.instants.specs.Answered.{IsAnswered}
 use Rattle.instants.specs.Refusal.{Refusal, year}
 use Rattle.instants.specs.Place.{Setting, in_written_years, place_of, place_text, answer_to}

@@ -8,13 +8,13 @@ use Rattle.calendar_count.specs.Calendar.{YearMonthDay, day_at}
 use Rattle.datetime_wall.specs.Wall.{Shown, day_of, nanosecond_of, second_nanos}
 use Rattle.instants_answers.specs.Decimal.{decimal}
 use Rattle.instants_answers.specs.Text.{date_text, time_text, offset_text, moment_text}
-use Rattle.instants_order.proofs.Compares.{decimal_length}
+use Rattle.instants_answers.proofs.Compares.{decimal_length}
 use Rattle.parsing_iso8601.specs.Designators.{time_designator}
 use Rattle.parsing_iso8601.proofs.Rounding.{none_left}
-use Rattle.parsing_two_roads.specs.TwoFormats.{separator, last_byte, fraction_of, rounds_up, is_of_both, rounded}
-use Rattle.parsing_two_roads.proofs.Places.{byte_at, last_of_rest}
-use Rattle.parsing_pieces.specs.Pieces.{digit_count}
-use Rattle.parsing_pieces.proofs.Fronts.{byte_at as byte_read}
+use Rattle.parsing_laws.specs.TwoFormats.{separator, last_byte, fraction_of, rounds_up, is_of_both, rounded}
+use Rattle.parsing_laws.proofs.Places.{byte_at, last_of_rest}
+use Rattle.parsing_combinator.specs.Pieces.{digit_count}
+use Rattle.parsing_combinator.proofs.Fronts.{byte_at as byte_read}
 use Rattle.instants.proofs.Decimals.{count_with}
 use Rattle.instants.proofs.Pieces.{clock_text, zone_text, offset_ends}
 

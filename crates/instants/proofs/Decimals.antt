@@ -9,8 +9,8 @@ use Rattle.std.proofs.lemmas.List.Folds.{prefix_len-append}
 use Rattle.std.proofs.lemmas.Int.Digits.{digits_value_push}
 use Rattle.byte_names.specs.Bytes.{digit_zero}
 use Rattle.instants_answers.specs.Decimal.{decimal}
-use Rattle.instants_order.proofs.Compares.{decimal_length, fits_next}
-use Rattle.parsing_pieces.specs.Pieces.{digits, digit_run, digit_count, fraction, nanoseconds_of}
+use Rattle.instants_answers.proofs.Compares.{decimal_length, fits_next}
+use Rattle.parsing_combinator.specs.Pieces.{digits, digit_run, digit_count, fraction, nanoseconds_of}
 
 -- digits alone, and what follows them
 digit_count-append : (a b : List ℕ) → digit_count a ≡ length a → digit_count (a ++ b) ≡ length a + digit_count b

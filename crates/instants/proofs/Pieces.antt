@@ -9,9 +9,9 @@ use Rattle.calendar_count.specs.Calendar.{YearMonthDay}
 use Rattle.calendar.specs.UtcOffset.{IsClockOffset}
 use Rattle.instants_answers.specs.Decimal.{decimal}
 use Rattle.instants_answers.specs.Text.{date_text, offset_text}
-use Rattle.instants_order.proofs.Lines.{Fits}
-use Rattle.parsing_pieces.specs.Pieces.{digit_count, any_byte, byte_of, skip_of}
-use Rattle.parsing_pieces.specs.declared.zone.Zone.{Zone}
+use Rattle.instants_answers.proofs.Lines.{Fits}
+use Rattle.parsing_combinator.specs.Pieces.{digit_count, any_byte, byte_of, skip_of}
+use Rattle.parsing_combinator.specs.declared.zone.Zone.{Zone}
 use Rattle.parsing_rfc3339.specs.Reading.{date, clock, due_fraction, subsecond, zulu, signed_offset, offset}
 use Rattle.instants.proofs.Decimals.{decimal_read, fraction_read}
 

@@ -5,9 +5,9 @@ use Rattle.std.specs.Int.Signed.{le_z_yes}
 use Rattle.calendar_count.proofs.lemmas.Signed.{signed}
 use Rattle.datetime_wall.specs.Wall.{Shown, second_nanos, instant, shown_at, first_wall_clock, last_wall_clock, IsWallClock}
 use Rattle.calendar.specs.Duration.{least_duration, greatest_duration, IsDuration}
-use Rattle.parsing_pieces.specs.Fault.{Fault}
+use Rattle.parsing_combinator.specs.Fault.{Fault}
 use Rattle.instants_answers.specs.Text.{has_written_year, moment_text}
-use Rattle.instants_order.proofs.Placed.{shown_at-is}
+use Rattle.instants_answers.proofs.Placed.{shown_at-is}
 use Rattle.instants.specs.Refusal.{Refusal, year}
 use Rattle.instants.specs.Place.{Setting, in_written_years, first_named, shown_or_refused, place_of, place_text, answer_to}
 

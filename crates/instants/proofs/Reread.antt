@@ -6,7 +6,7 @@ use Rattle.byte_names.specs.Bytes.{line_feed}
 use Rattle.calendar.specs.UtcOffset.{IsClockOffset}
 use Rattle.datetime_wall.specs.Wall.{Shown, instant, shown_at}
 use Rattle.instants_answers.specs.Text.{moment_text}
-use Rattle.instants_order.specs.Written.{IsWritten}
+use Rattle.instants_answers.specs.Written.{IsWritten}
 use Rattle.instants.proofs.Again.{rfc3339_again, iso8601_again}
 use Rattle.instants.proofs.Bytes.{at_most_35}
 use Rattle.instants_sources.specs.Grammar.{Grammar}

@@ -10,8 +10,8 @@ use Rattle.calendar_count.proofs.lemmas.Days.{day_valid}
 use Rattle.calendar_count.proofs.lemmas.TheDay.{the_day-named}
 use Rattle.calendar.specs.Time.{time_of, second_nanos, day_nanos}
 use Rattle.calendar.specs.UtcOffset.{IsClockOffset, with_sign_of, offset_seconds, offset_of}
-use Rattle.instants_order.proofs.Lines.{HasYear}
-use Rattle.parsing_resolution.specs.Resolution.{date_of, signed_offset_of}
+use Rattle.instants_answers.proofs.Lines.{HasYear}
+use Rattle.parsing_values.specs.Resolution.{date_of, signed_offset_of}
 
 nonnegative : (y : ℤ) → pos 0 ≤ℤ y → pos (unsigned_abs y) ≡ y
 nonnegative y h = omega (arith, ints)

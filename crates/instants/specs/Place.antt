@@ -3,7 +3,7 @@ use Rattle.std.specs.Prelude.{◌≡◌, ℕ, List, [], ◌∷◌, Option, None,
 use Rattle.std.specs.Option.{ok_or}
 use Rattle.std.specs.Result.{result_ok}
 use Rattle.datetime_wall.specs.Wall.{Shown, instant, shown_at}
-use Rattle.parsing_pieces.specs.Fault.{Fault, insufficient}
+use Rattle.parsing_combinator.specs.Fault.{Fault, insufficient}
 use Rattle.instants_sources.specs.Grammar.{Grammar}
 use Rattle.instants_sources.specs.Named.{named}
 use Rattle.instants_answers.specs.Text.{moment_text, has_written_year}

@@ -1,8 +1,8 @@
 -- Why a line has no place on the timeline, and what is written for it then.
 use Rattle.std.specs.Prelude.{ℕ, ◌≤◌, List, ◌++◌, length, codes, ⊤}
 use Rattle.calendar_count.specs.ComponentRange.{component_name, refused_component}
-use Rattle.parsing_pieces.specs.Fault.{Fault}
-use Rattle.parsing_pieces.specs.Fault as fault
+use Rattle.parsing_combinator.specs.Fault.{Fault}
+use Rattle.parsing_combinator.specs.Fault as fault
 use Rattle.instants.specs.declared.line_fault.LineFault.{LineFault}
 use Rattle.instants.specs.declared.line_fault.LineFault.TheVariants as line_fault
 

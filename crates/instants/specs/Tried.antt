@@ -1,7 +1,7 @@
 -- How many places a timeline has, and how many items are tried on a line.
 use Rattle.std.specs.Prelude.{ℕ, ◌+◌, List, [], ◌∷◌, Option, Result, Ok, Err, sum_by, ℤ}
 use Rattle.datetime_wall.specs.Wall.{Shown}
-use Rattle.parsing_pieces.specs.Fault.{Fault}
+use Rattle.parsing_combinator.specs.Fault.{Fault}
 use Rattle.instants_sources.specs.Grammar.{Grammar}
 use Rattle.instants_sources.specs.Named.{named}
 use Rattle.instants_sources.specs.Tried.{places_in, tried_by}

@@ -6,9 +6,9 @@ ghost use Rattle.byte_names.specs.Bytes.{line_feed};
 ghost use Rattle.calendar.specs.Duration.{IsDuration};
 ghost use Rattle.calendar.specs.UtcOffset.{IsClockOffset};
 ghost use Rattle.datetime_wall.specs.Wall.{Shown, instant, IsWallClock};
-ghost use Rattle.parsing_pieces.specs.Fault.{Fault};
+ghost use Rattle.parsing_combinator.specs.Fault.{Fault};
 ghost use Rattle.instants_answers.specs.Text.{moment_text};
-ghost use Rattle.instants_order.specs.Written.{IsWritten};
+ghost use Rattle.instants_answers.specs.Written.{IsWritten};
 ghost use Rattle.instants_sources.specs.Grammar.{Grammar};
 ghost use Rattle.instants_sources.specs.Grammar as grammar;
 ghost use Rattle.instants_sources.specs.Named.{named};
@@ -20,7 +20,7 @@ ghost use Rattle.instants.specs.Output.{IsAnsweredIn, written};
 ghost use Rattle.instants.specs.Place.{Setting, first_named, shown_or_refused, place_of, place_text, answer_to};
 
 use datetime_types::OffsetDateTime;
-pub use instants_order::laws::order_of_lines;
+pub use instants_answers::laws::order_of_lines;
 pub use instants_stream::laws::joined_streams;
 
 /// One source more, behind the others, leaves the answer to each line for which another one has a moment, also where the

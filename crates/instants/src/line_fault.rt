@@ -2,7 +2,7 @@
 ghost use Rattle.std.specs.Prelude.{◌≡◌, ◌≢◌, ◌≤◌, codes, length};
 
 use instants_answers::Answer;
-use parsing_pieces::{Parse, ParseFromDescription, TryFromParsed};
+use parsing_combinator::{Parse, ParseFromDescription, TryFromParsed};
 
 /// Why a line has no place on the timeline. The names of components are in small letters, as `offset hour`.
 #[derive(Clone, Copy, Debug, PartialEq, Eq)]
@@ -56,7 +56,7 @@ impl LineFault {
 
 impl From<Parse> for LineFault {
     ghost use Rattle.std.specs.Prelude.{◌≡◌};
-    ghost use Rattle.parsing_pieces.specs.FaultOf.{fault_of};
+    ghost use Rattle.parsing_combinator.specs.FaultOf.{fault_of};
     ghost use Rattle.instants.specs.Refusal.{refusal_of, refusal_said};
 
     ghost from_gives = { λ fault said. refusal_said said ≡ refusal_of (fault_of fault) };

@@ -6,7 +6,7 @@ ghost use Rattle.instants_stream.specs.Answers.{output, owed, due};
 ghost use Rattle.instants.specs.Place.{answer_to};
 ghost use Rattle.instants.specs.Settings.{setting_of};
 
-use crate::timeline::{Iso8601Way, Led, LikelyWay, PlannedWay, Rfc2822Way, Rfc3339Way, Timeline};
+use crate::timeline::{Iso8601Way, Led, PlannedWay, Rfc2822Way, Rfc3339Way, Timeline};
 use instants_devices::{ByteReader, ByteWriter};
 use instants_sources::Source;
 use instants_stream::{RunFault, run_lines};
@@ -49,7 +49,7 @@ pub fn run<R: ByteReader, W: ByteWriter>(
     answer_lines(timeline, buffer.len() - 1, buffer, reader, writer)
 }
 
-// Writes the answer to each line, by the run for one source of its kind, or for several.
+// Writes the answer to each line, by the run for a first source of its kind.
 pub(crate) fn answer_lines<R: ByteReader, W: ByteWriter>(
     timeline: &Timeline,
     limit: usize,
@@ -75,15 +75,6 @@ pub(crate) fn answer_lines<R: ByteReader, W: ByteWriter>(
     ensures read_failed { IsTrue (R.failed reader.new) ↔ (result ≡ Err RunFault.Read) }
     ensures write_failed { IsTrue (W.failed writer.new) ↔ (result ≡ Err RunFault.Write) }
 {
-    if timeline.has_others() {
-        return run_lines(
-            &Led::new(timeline, LikelyWay),
-            limit,
-            buffer,
-            reader,
-            writer,
-        );
-    }
     match timeline.first() {
         Source::Rfc3339 => run_lines(
             &Led::new(timeline, Rfc3339Way),

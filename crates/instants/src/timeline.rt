@@ -10,14 +10,15 @@ mod fast_ways;
 mod places;
 
 use calendar::UtcOffset;
-pub(crate) use fast_ways::{Iso8601Way, Led, LikelyWay, PlannedWay, Rfc2822Way, Rfc3339Way};
+pub(crate) use fast_ways::{Iso8601Way, Led, PlannedWay, Rfc2822Way, Rfc3339Way};
+use instants_answers::Target;
 use instants_sources::Source;
 
 /// Sources in order, the offset in which moments are shown, and the one that is assumed for lines without one.
 #[derive(Drop)]
 pub struct Timeline<'a> {
     sources: Vec<Source<'a>>,
-    target: UtcOffset,
+    target: Target,
     assumed: Option<UtcOffset>,
     // There is a source to try.
     ghost some: { 0 < length sources.items },

@@ -5,9 +5,9 @@ use Rattle.std.specs.Str.Parse.{digits_value}
 use Rattle.std.proofs.lemmas.List.{take_more, take_all}
 use Rattle.std.proofs.lemmas.List.Sums.{prefix_len_passes, prefix_len-le-length}
 use Rattle.std.proofs.lemmas.Int.Digits.{digits_value_more}
-use Rattle.parsing_pieces.specs.Pieces.{digits, digit_count}
-use Rattle.parsing_pieces.proofs.Decimal.{digit_here}
-use Rattle.parsing_pieces.proofs.FractionDigits.{digits_read}
+use Rattle.parsing_combinator.specs.Pieces.{digits, digit_count}
+use Rattle.parsing_combinator.proofs.Decimal.{digit_here}
+use Rattle.parsing_combinator.proofs.FractionDigits.{digits_read}
 use Rattle.instants_answers.specs.Decimal.{decimal}
 
 -- the last digit, behind the decimal of the others

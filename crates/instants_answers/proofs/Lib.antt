@@ -3,3 +3,6 @@ pub mod PairLemmas
 pub mod AppendLemmas
 pub mod MovedLemmas
 pub mod DigitLemmas
+pub mod Compares
+pub mod Lines
+pub mod Placed

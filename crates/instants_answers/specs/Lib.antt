@@ -3,3 +3,4 @@ pub mod Text
 pub mod Padded
 pub mod Utc
 pub mod Moved
+pub mod Written

@@ -2,7 +2,6 @@
 
 ghost use Rattle.std.specs.Prelude.{◌≡◌, ◌+◌, ◌*◌, ◌<◌, ◌≤◌, ◌++◌, [], true, false, pos, ◌+ℤ◌, ◌-ℤ◌, int_div, length, unsigned_abs, Some, if◌then◌else◌};
 ghost use Rattle.std.specs.Ordering.{int_eq};
-ghost use Rattle.calendar.specs.UtcOffset.{IsClockOffset};
 ghost use Rattle.calendar_count.specs.Calendar.{ymd};
 ghost use Rattle.datetime_wall.specs.Wall.{instant, shown_at};
 ghost use Rattle.parsing_fields.specs.Moment.{moment_of};
@@ -12,7 +11,7 @@ ghost use Rattle.instants_answers.specs.Text.{FitsLine, moment_text, parts_text}
 use crate::answer::Answer;
 use crate::fields::{push_clock, push_date, push_offset};
 use crate::moved::moved_within_month;
-use calendar::UtcOffset;
+use crate::target::Target;
 use parsing_fields::Fields;
 
 // Writes the line of a day of the fields' month, a minute of it, and the fields' second and fraction.
@@ -41,12 +40,12 @@ fn write_parts(fields: &Fields, day: u8, minute: u32, offset: i32, answer: &mut 
 
 // The minutes from where the fields' day begins to their time at the target.
 #[inline(always)]
-fn minutes_at(fields: &Fields, target: UtcOffset) -> i32
+fn minutes_at(fields: &Fields, target: Target) -> i32
     ensures value { result
         ≡ pos fields.now.minute +ℤ (int_div target (pos 60) -ℤ fields.now.offset) }
     ensures bound { unsigned_abs result ≤ 5000 }
 {
-    let apart = i32::from(target.whole_minutes()) - i32::from(fields.offset);
+    let apart = target.minutes() - i32::from(fields.offset);
     i32::from(fields.minute) + apart
 }
 
@@ -55,8 +54,7 @@ fn minutes_at(fields: &Fields, target: UtcOffset) -> i32
 /// No day is counted: `false`, with the answer as it was, where the day at the target is in another month, or
 /// more than one day away.
 #[inline(always)]
-pub fn write_fields(fields: &Fields, target: UtcOffset, answer: &mut Answer) -> bool
-    requires { IsClockOffset target }
+pub fn write_fields(fields: &Fields, target: Target, answer: &mut Answer) -> bool
     ensures line { result ≡ true → answer.new ≡ moment_text
         (at_offset target (moment_of fields.now)) }
     ensures shown { result ≡ true → shown_at target (instant (moment_of fields.now))
@@ -68,6 +66,7 @@ pub fn write_fields(fields: &Fields, target: UtcOffset, answer: &mut Answer) -> 
     let Some(moved) = moved_within_month(fields, minutes_at(fields, target)) else {
         return false;
     };
-    write_parts(fields, moved.0, moved.1, target.whole_seconds(), answer);
+    let offset = target.offset().whole_seconds();
+    write_parts(fields, moved.0, moved.1, offset, answer);
     true
 }

@@ -2,7 +2,12 @@
 //! to standard output: a date-time of fixed width at the target offset, or a named fault.
 #![tactic(auto)]
 
-use instants::{BlockWriter, ProgramFault, StdReader, StdWriter, run_words};
+ghost use Rattle.std.specs.Prelude.{◌≡◌, false};
+
+use instants::{
+    BlockWriter, ByteReader, ByteWriter, ProgramFault, StdReader, StdWriter, run_words,
+};
+use std::alloc::Global;
 use std::env;
 use std::process::ExitCode;
 
@@ -16,16 +21,19 @@ fn main(rt: HostRuntime) -> ExitCode {
     }
 }
 
-// The words behind the program's name.
+// The program's name and the words behind it.
 fn words(rt: &HostRuntime) -> Result<Vec<String>, ProgramFault<'static>> {
     let args = env::args(rt).map_err(|_| ProgramFault::Memory)?;
-    let words: Vec<String> = args.skip(1).collect(rt.alloc())?;
-    Ok(words)
+    Ok(args.collect(rt.alloc())?)
 }
 
 // Answers each line of standard input on standard output. Memory is taken only before the first read.
 fn answer_input<'a>(rt: &HostRuntime, words: &'a Vec<String>) -> Result<(), ProgramFault<'a>> {
-    let words: Vec<&'a str> = words.iter().map(|word| word.as_str()).collect(rt.alloc())?;
+    let words: Vec<&'a str> = words
+        .iter()
+        .skip(1)
+        .map(|word| word.as_str())
+        .collect(rt.alloc())?;
     answer_by(rt, words.as_slice())
 }
 
@@ -34,7 +42,20 @@ fn answer_by<'a>(rt: &HostRuntime, words: &[&'a str]) -> Result<(), ProgramFault
     let block = vec![in rt.alloc(); 0; BLOCK]?;
     let mut reader = StdReader::new(rt.stdin());
     let mut writer = BlockWriter::new(block, StdWriter::new(rt.stdout()));
-    run_words(rt.alloc(), words, &mut reader, &mut writer)
+    answer_on(rt.alloc(), words, &mut reader, &mut writer)
+}
+
+// The same on these devices, whatever they are: what `run_words` promises of them is not needed above.
+fn answer_on<'a, R: ByteReader, W: ByteWriter>(
+    alloc: Global,
+    words: &[&'a str],
+    reader: &mut R,
+    writer: &mut W,
+) -> Result<(), ProgramFault<'a>>
+    requires reader { R.failed reader.old ≡ false }
+    requires writer { W.failed writer.old ≡ false }
+{
+    run_words(alloc, words, reader, writer)
 }
 
 // Says what ended the program early, if anything did, and ends it.

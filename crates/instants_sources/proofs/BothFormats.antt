@@ -1,5 +1,5 @@
 -- Fractions that are not rounded, and lines that both formats read alike.
-use Rattle.std.proofs.Common.{◌≡◌, ℕ, ◌+◌, ◌≤◌, ◌==◌, Bool, true, false, List, [], ◌∷◌, length, get_or, drop, Option, Some, None, Ok, refl, sym, ◌∙◌, inl, inr, ℤ, arith}
+use Rattle.std.proofs.Common.{◌≡◌, ℕ, ◌+◌, ◌≤◌, ◌==◌, Bool, true, false, List, [], ◌∷◌, length, get_or, drop, Option, Some, None, Ok, sym, ◌∙◌, inl, inr, ℤ, arith}
 use Rattle.std.specs.Prelude.{if◌then◌else◌, IfSome}
 use Rattle.std.specs.Char.{is_ascii_digit}
 use Rattle.std.proofs.lemmas.Bool.{cases_lt}
@@ -10,14 +10,14 @@ use Rattle.byte_names.specs.Bytes.{dot}
 use Rattle.datetime_wall.specs.Wall.{Shown}
 use Rattle.parsing_fields.specs.Moment.{moment_of}
 use Rattle.parsing_fields.specs.declared.fields.Fields.{Fields}
-use Rattle.parsing_pieces.specs.Pieces.{byte, digit_count, skip_of}
-use Rattle.parsing_pieces.proofs.Decimal.{digit_count_within}
+use Rattle.parsing_combinator.specs.Pieces.{byte, digit_count, skip_of}
+use Rattle.parsing_combinator.proofs.Decimal.{digit_count_within}
 use Rattle.parsing_iso8601.proofs.Rounding.{none_left}
 use Rattle.parsing_record.specs.Record.{Record}
 use Rattle.parsing_record.specs.Whole.{by_roads}
 use Rattle.parsing_rfc3339.specs.Direct.{direct}
 use Rattle.parsing_staged.specs.Staged.{reads_rfc3339}
-use Rattle.parsing_two_roads.specs.TwoFormats.{digits_behind, fraction_of, rounds_up, is_of_both, HoldsAtMostAnOffset, IsReadAlike}
+use Rattle.parsing_laws.specs.TwoFormats.{digits_behind, fraction_of, rounds_up, is_of_both, HoldsAtMostAnOffset, IsReadAlike}
 use Rattle.instants_sources.specs.Grammar.{Rfc3339, Iso8601}
 use Rattle.instants_sources.specs.Named.{defaults_of, named}
 use Rattle.instants_sources.proofs.Roads.{assumed_alone}

@@ -5,15 +5,15 @@ use Rattle.std.specs.Result.{result_ok}
 use Rattle.datetime_wall.specs.Wall.{Shown}
 use Rattle.parsing_fields.specs.Moment.{moment_of}
 use Rattle.parsing_fields.specs.declared.fields.Fields.{Fields}
-use Rattle.parsing_pieces.specs.Fault.{Fault}
+use Rattle.parsing_combinator.specs.Fault.{Fault}
 use Rattle.parsing_record.specs.Meaning.{Meaning}
 use Rattle.parsing_record.specs.Record.{Record}
 use Rattle.parsing_record.specs.Whole.{by_roads, whole, names, moment_named}
 use Rattle.parsing_iso8601.specs.Moment.{IsOfOffset}
 use Rattle.parsing_iso8601.proofs.Pieces.{same}
 use Rattle.parsing_staged.specs.Staged.{reads_iso8601}
-use Rattle.parsing_two_roads.specs.TwoFormats.{HoldsAtMostAnOffset}
-use Rattle.parsing_two_roads.specs.TwoRoads.{AgreeOn}
+use Rattle.parsing_laws.specs.TwoFormats.{HoldsAtMostAnOffset}
+use Rattle.parsing_laws.specs.TwoRoads.{AgreeOn}
 use Rattle.instants_sources.specs.Grammar.{Iso8601}
 use Rattle.instants_sources.specs.Named.{defaults_of, IsNamedBy}
 

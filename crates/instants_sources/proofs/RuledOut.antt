@@ -1,5 +1,5 @@
 -- Lines that a format can't have written.
-use Rattle.std.proofs.Common.{◌≡◌, ℕ, ◌+◌, ◌<◌, ◌≤◌, zero, suc, ◌-◌, ◌*◌, Bool, true, false, cond, eqb, leb, List, [], ◌∷◌, length, get_or, drop, Option, Some, None, Result, Ok, Err, nat_le, refl, sym, ◌∙◌, ℤ, arith}
+use Rattle.std.proofs.Common.{◌≡◌, ℕ, ◌+◌, ◌<◌, ◌≤◌, zero, suc, ◌-◌, ◌*◌, Bool, true, false, cond, eqb, leb, List, [], ◌∷◌, length, get_or, drop, Option, Some, None, Ok, Err, nat_le, refl, ◌∙◌, arith}
 use Rattle.std.specs.Prelude.{codes, option_map, not, nat_lt}
 use Rattle.std.specs.Result.{result_ok}
 use Rattle.std.specs.Char.{is_ascii_digit, to_ascii_lowercase}
@@ -7,11 +7,10 @@ use Rattle.std.proofs.lemmas.Bool.{le-leb, ne_eqb}
 use Rattle.std.proofs.lemmas.Bool.Decides.{nat_tests}
 use Rattle.calendar_count.specs.declared.weekday.Weekday.{Weekday}
 use Rattle.byte_names.specs.Bytes.{hyphen, plus}
-use Rattle.datetime_wall.specs.Wall.{Shown}
-use Rattle.parsing_pieces.specs.Fault.{Fault, literal, component}
-use Rattle.parsing_pieces.specs.Pieces.{digits, digit_count, byte, byte_of, skip_of}
-use Rattle.parsing_pieces.proofs.Decimal.{digit_here}
-use Rattle.parsing_pieces.proofs.Fixed.{digits_two}
+use Rattle.parsing_combinator.specs.Fault.{Fault, literal, component}
+use Rattle.parsing_combinator.specs.Pieces.{digits, digit_count, byte, byte_of, skip_of}
+use Rattle.parsing_combinator.proofs.Decimal.{digit_here}
+use Rattle.parsing_combinator.proofs.Fixed.{digits_two}
 use Rattle.parsing_record.specs.Record.{Record}
 use Rattle.parsing_staged.specs.Staged.{reads_iso8601}
 use Rattle.parsing_iso8601.specs.declared.kind.Kind.TheVariants.{Unknown}
@@ -25,7 +24,7 @@ use Rattle.parsing_rfc3339.specs.Direct as rfc3339_direct
 use Rattle.parsing_rfc2822.specs.Reading as rfc2822
 use Rattle.parsing_rfc2822.specs.Names.{weekday, weekday_of}
 use Rattle.parsing_rfc2822.specs.Direct as rfc2822_direct
-use Rattle.parsing_white_space.proofs.WhiteSpaceLemmas.{none_at, none_of_nothing}
+use Rattle.parsing_rfc2822.proofs.WhiteSpaceLemmas.{none_at, none_of_nothing}
 
 -- ---- RFC 3339: a hyphen is due behind four digits
 

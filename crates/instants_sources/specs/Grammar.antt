@@ -4,8 +4,8 @@ use Rattle.description_faults.specs.Fault.{Fault, fault_of}
 use Rattle.description_faults.specs.declared.description_fault.DescriptionFault.{DescriptionFault}
 use Rattle.description_faults.specs.declared.description_fault.DescriptionFault.TheVariants as refused
 use Rattle.description_items.specs.Tree.{Tree, trees}
-use Rattle.description_spelling.specs.Faulty.{Faulty}
-use Rattle.description_spelling.specs.Spelling.{Spells, SpellsTree}
+use Rattle.description_grammar.specs.Faulty.{Faulty}
+use Rattle.description_grammar.specs.Spelling.{Spells, SpellsTree}
 use Rattle.description_strftime.specs.Faulty.{FaultyStrftime}
 use Rattle.description_strftime.specs.Spelled.{SpellsStrftime}
 use Rattle.description_tree.specs.Description.{v3_tree}

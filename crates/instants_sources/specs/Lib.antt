@@ -1,3 +1,4 @@
 pub mod Grammar
 pub mod Named
 pub mod Tried
+pub mod Planned

@@ -3,7 +3,7 @@ use Rattle.std.specs.Prelude.{◌≡◌, ℕ, List, Option, None, Some, Result, 
 use Rattle.std.specs.Result.{result_ok}
 use Rattle.datetime_wall.specs.Wall.{Shown}
 use Rattle.parsing_components.specs.Component.{reads_component_v3}
-use Rattle.parsing_pieces.specs.Fault.{Fault}
+use Rattle.parsing_combinator.specs.Fault.{Fault}
 use Rattle.parsing_record.specs.Meaning.{meaning}
 use Rattle.parsing_record.specs.Reads.{reads}
 use Rattle.parsing_record.specs.Record.{Record}
@@ -12,7 +12,7 @@ use Rattle.parsing_rfc2822.specs.Direct as rfc2822
 use Rattle.parsing_rfc3339.specs.Direct as rfc3339
 use Rattle.parsing_staged.specs.Staged.{reads_rfc2822, reads_rfc3339, reads_iso8601}
 use Rattle.parsing_trait.specs.Moment.{reads_in_turn}
-use Rattle.parsing_two_roads.specs.TwoRoads.{holding}
+use Rattle.parsing_laws.specs.TwoRoads.{holding}
 use Rattle.instants_sources.specs.Grammar.{Grammar, Items, V3, Rfc2822, Rfc3339, Iso8601}
 
 -- what a reading begins with where an offset is assumed: its hour and its minute

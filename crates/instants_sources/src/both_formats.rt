@@ -1,6 +1,6 @@
 //! Lines that RFC 3339 and ISO 8601 read alike.
 ghost use Rattle.std.specs.Prelude.{◌≡◌, ◌≤◌, true, false, length};
-ghost use Rattle.parsing_two_roads.specs.TwoFormats.{fraction_of, is_of_both, rounds_up};
+ghost use Rattle.parsing_laws.specs.TwoFormats.{fraction_of, is_of_both, rounds_up};
 
 // Whether a fraction behind the second has at most nine digits: `false` says nothing of the line. A fraction ends before
 // the last byte, a `Z`, or before the last six, an offset.

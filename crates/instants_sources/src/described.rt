@@ -1,21 +1,17 @@
 //! Descriptions, with the bytes that their lines begin with, and a plan where all parts have fixed widths.
-ghost use Rattle.std.specs.Prelude.{◌≡◌, true, None, Ok, IfSome};
+ghost use Rattle.std.specs.Prelude.{◌≡◌, true, None, IfSome};
 ghost use Rattle.std.specs.Option.{ForSome};
 ghost use Rattle.std.specs.Result.{result_ok};
 ghost use Rattle.description_items.specs.Tree.{listed, trees};
 ghost use Rattle.description_tree.specs.Description.{v3_tree};
 ghost use Rattle.parsing_components.specs.Component.{reads_component, reads_component_v3};
-ghost use Rattle.parsing_fields.specs.Moment.{moment_of};
 ghost use Rattle.parsing_first_bytes.specs.FirstBytes.{AreOf};
 ghost use Rattle.parsing_plan.specs.Plan.{IsPlanOf};
 ghost use Rattle.parsing_record.specs.Reads.{reading, reading_of_all};
 ghost use Rattle.parsing_record.specs.Record.{Record};
-ghost use Rattle.parsing_record.specs.Whole.{whole, names, moment_named};
 
-use calendar::UtcOffset;
 use description_items::BorrowedFormatItem;
 use description_tree::FormatDescriptionV3;
-use parsing_fields::Fields;
 use parsing_first_bytes::FirstBytes;
 use parsing_plan::Plan;
 
@@ -32,8 +28,6 @@ pub struct DescribedItems<'a> {
 }
 
 impl<'a> DescribedItems<'a> {
-    ghost use Rattle.instants_sources.specs.Named.{defaults_of};
-
     pub(crate) fn new(items: Vec<BorrowedFormatItem<'a>>) -> DescribedItems<'a>
         ensures { result.items ≡ items.entry }
     {
@@ -50,18 +44,16 @@ impl<'a> DescribedItems<'a> {
         &self.items
     }
 
-    /// The fields of the moment of a line, where the plan finds them, with an offset assumed or none: `None` says nothing of
-    /// the line.
+    /// The plan of its lines, where it has one.
     #[inline(always)]
-    pub(crate) fn read_fast(&self, line: &[u8], assumed: Option<UtcOffset>) -> Option<Fields>
-        ensures { IfSome result (λ fields. names moment_named
-            (whole (reading_of_all reads_component (listed (trees self.now.items.items)))
-            (defaults_of assumed) line.now) ≡ Ok (moment_of fields)) }
+    pub(crate) fn plan(&self) -> Option<&Plan>
+        ensures { IfSome result (λ plan.
+            IsPlanOf (reading_of_all reads_component (listed (trees self.now.items.items))) plan.now) }
     {
-        let Some(plan) = &self.plan else {
-            return None;
-        };
-        plan.read(line, assumed)
+        match &self.plan {
+            Some(plan) => Some(plan),
+            None => None,
+        }
     }
 
     /// Whether the first bytes of a line show that the items don't read it.
@@ -88,8 +80,6 @@ pub struct DescribedTree<'a> {
 }
 
 impl<'a> DescribedTree<'a> {
-    ghost use Rattle.instants_sources.specs.Named.{defaults_of};
-
     pub(crate) fn new(tree: FormatDescriptionV3<'a>) -> DescribedTree<'a>
         ensures { result.tree ≡ tree.entry }
     {
@@ -106,18 +96,16 @@ impl<'a> DescribedTree<'a> {
         &self.tree
     }
 
-    /// The fields of the moment of a line, where the plan finds them, with an offset assumed or none: `None` says nothing of
-    /// the line.
+    /// The plan of its lines, where it has one.
     #[inline(always)]
-    pub(crate) fn read_fast(&self, line: &[u8], assumed: Option<UtcOffset>) -> Option<Fields>
-        ensures { IfSome result (λ fields. names moment_named
-            (whole (reading reads_component_v3 (v3_tree self.now.tree))
-            (defaults_of assumed) line.now) ≡ Ok (moment_of fields)) }
+    pub(crate) fn plan(&self) -> Option<&Plan>
+        ensures { IfSome result
+            (λ plan. IsPlanOf (reading reads_component_v3 (v3_tree self.now.tree)) plan.now) }
     {
-        let Some(plan) = &self.plan else {
-            return None;
-        };
-        plan.read(line, assumed)
+        match &self.plan {
+            Some(plan) => Some(plan),
+            None => None,
+        }
     }
 
     /// Whether the first bytes of a line show that the tree doesn't read it.

@@ -5,6 +5,7 @@ ghost use Rattle.parsing_fields.specs.Moment.{moment_of};
 ghost use Rattle.instants_sources.specs.Grammar.{grammar_of};
 ghost use Rattle.instants_sources.specs.Grammar as grammar;
 ghost use Rattle.instants_sources.specs.Named.{named, IsNamedBy, NamesNothing};
+ghost use Rattle.instants_sources.specs.Planned.{IsPlanned};
 
 use crate::both_formats::is_read_alike;
 use crate::ruled_out::{begins_no_day, begins_no_part, has_no_hyphen, has_no_space};
@@ -12,9 +13,10 @@ use crate::source::Source;
 use calendar::UtcOffset;
 use datetime_types::OffsetDateTime;
 use parsing_fields::Fields;
-use parsing_two_roads::laws::{
+use parsing_laws::two_roads::{
     one_road_of_iso8601, two_formats, two_roads_of_rfc2822, two_roads_of_rfc3339,
 };
+use parsing_plan::Plan;
 
 /// The fields of the moment of a line of RFC 2822, where the fast way finds them, whatever offset is assumed: `None` says
 /// nothing of the line.
@@ -93,6 +95,18 @@ impl<'a> Source<'a> {
         }
     }
 
+    // The plan of a description, where it has one.
+    #[inline(always)]
+    fn plan(&self) -> Option<&Plan>
+        ensures { IfSome result (λ plan. IsPlanned (grammar_of self.now) plan.now) }
+    {
+        match self {
+            Source::Items(described) => described.plan(),
+            Source::V3(described) => described.plan(),
+            _ => None,
+        }
+    }
+
     /// The fields of the moment of a line, where the plan of a description finds them, with an offset assumed or none: `None`
     /// says nothing of the line.
     #[inline(always)]
@@ -100,11 +114,8 @@ impl<'a> Source<'a> {
         ensures { IfSome result
             (λ fields. named assumed (grammar_of self.now) line.now ≡ Ok (moment_of fields)) }
     {
-        match self {
-            Source::Items(described) => described.read_fast(line, assumed),
-            Source::V3(described) => described.read_fast(line, assumed),
-            _ => None,
-        }
+        let plan = self.plan()?;
+        plan.read(line, assumed)
     }
 
     /// The fields of the moment of a line, where the fast way finds them, with an offset assumed or none: `None` says nothing

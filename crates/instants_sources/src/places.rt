@@ -6,7 +6,7 @@ ghost use Rattle.instants_sources.specs.Tried.{places_in, tried_by};
 
 use crate::source::{Source, starting};
 use calendar::UtcOffset;
-use parsing_places::{places_of_description, places_of_items};
+use parsing_laws::{places_of_description, places_of_items};
 use parsing_trait::{Items, Parsable};
 
 impl Source<'_> {

@@ -4,8 +4,8 @@ ghost use Rattle.instants_words.specs.Sources.{said_by};
 ghost use Rattle.instants_sources.specs.Grammar.{grammar_of, Means, SpellsIn, IsRefused, IsRefusedIn};
 ghost use Rattle.instants_sources.specs.Named.{defaults_of, named};
 ghost use Rattle.instants_sources.specs.Tried.{places_in};
-ghost use Rattle.parsing_pieces.specs.FaultOf.{fault_of, Gives};
-ghost use Rattle.parsing_pieces.specs.ShortName.{HasShortName};
+ghost use Rattle.parsing_combinator.specs.FaultOf.{fault_of, Gives};
+ghost use Rattle.parsing_combinator.specs.ShortName.{HasShortName};
 ghost use Rattle.parsing_record.specs.Meaning.{meaning};
 ghost use Rattle.parsing_record.specs.Whole.{whole, names, moment_named, starting};
 
@@ -15,9 +15,9 @@ use datetime_types::OffsetDateTime;
 use description::{
     Description, DescriptionFault, DescriptionVersion, parse_borrowed, parse_strftime_borrowed,
 };
-use description_formats::{Iso8601, Rfc2822, Rfc3339};
+use description_items::{Iso8601, Rfc2822, Rfc3339};
 use instants_words::SourceText;
-use parsing_pieces::Parse;
+use parsing_combinator::Parse;
 use parsing_record::Parsed;
 use parsing_trait::{Items, Parsable};
 use std::alloc::Global;

@@ -133,6 +133,8 @@ fn answer_lines<A: AnswersLines, W: ByteWriter>(
 /// A line with more bytes than the limit is answered `! long`. The buffer is longer than the limit.
 /// What is answered is handed on before each read, and the writer is flushed once, before `Ok`. A reader or a writer
 /// that failed isn't tried again.
+// A function of its own, in which the reader, the writer and the buffer are known to lie apart.
+#[inline(never)]
 pub fn run_lines<A: AnswersLines, R: ByteReader, W: ByteWriter>(
     answers: &A,
     limit: usize,

@@ -2,8 +2,8 @@
 
 ghost use Rattle.std.specs.Prelude.{◌<◌, ◌≤◌, length, vec_len, IfOk};
 
-use crate::support::{OUTPUT, STREAM};
-use instants::{BlockWriter, ByteWriter, CutReader, ProgramFault, RunFault, StdWriter, run_words};
+use crate::support::{OUTPUT, STREAM, run_words_on};
+use instants::{BlockWriter, ByteWriter, CutReader, ProgramFault, RunFault, StdWriter};
 use std::alloc::Global;
 use std::io::{Error, ErrorKind, Result as IoResult, Write};
 use std::process::Abort;
@@ -88,7 +88,7 @@ fn run_in(alloc: Global, block: Vec<u8>, device: FailsOnce) -> End
     let mut reader = CutReader::new(STREAM, 26, None);
     let mut writer = BlockWriter::new(block, StdWriter::new(device));
     let words = ["+00:00", "-", "100", "rfc3339"];
-    let answer = run_words(alloc, &words, &mut reader, &mut writer);
+    let answer = run_words_on(alloc, &words, &mut reader, &mut writer);
     (answer, writer.has_failed())
 }
 

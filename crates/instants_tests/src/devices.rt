@@ -11,7 +11,7 @@ type Count = Result<usize, DeviceFailed>;
 
 // At most how many bytes a read gives, after how many bytes reads fail, and what reads of four bytes give until one gives
 // none or fails.
-const READS: [(usize, Option<usize>, &[Count]); 5] = [
+static READS: [(usize, Option<usize>, &[Count]); 5] = [
     (3, None, &[Ok(3), Ok(3), Ok(2), Ok(0)]),
     (9, None, &[Ok(4), Ok(4), Ok(0)]),
     (3, Some(4), &[Ok(3), Ok(1), Err(DeviceFailed)]),
@@ -41,14 +41,15 @@ fn are_read(most: usize, fail_after: Option<usize>, counts: &[Count]) -> bool {
 
 #[test]
 fn cut_reader(rt: HostRuntime) {
-    for (most, fail_after, counts) in READS {
+    for row in &READS {
+        let (most, fail_after, counts) = *row;
         assert!(rt; are_read(most, fail_after, counts));
     }
 }
 
 // Bytes, after how many of them writes fail, what stands in six bytes of space after a try to write and flush them, and how
 // often they are flushed.
-const WRITES: [(&[u8], Option<usize>, &[u8], usize); 4] = [
+static WRITES: [(&[u8], Option<usize>, &[u8], usize); 4] = [
     (b"abcdef", None, b"abcdef", 1),
     (b"abcdefg", None, b"abcdef", 0),
     (b"abcdef", Some(3), b"abc", 0),
@@ -75,7 +76,8 @@ fn written(bytes: &[u8], fail_after: Option<usize>, wanted: &[u8]) -> (bool, boo
 
 #[test]
 fn cut_writer(rt: HostRuntime) {
-    for (bytes, fail_after, wanted, flushes) in WRITES {
+    for row in &WRITES {
+        let (bytes, fail_after, wanted, flushes) = *row;
         assert!(rt; written(bytes, fail_after, wanted) == (true, true, flushes, flushes == 0));
     }
 }
@@ -168,8 +170,7 @@ fn tired_flush() -> (Result<(), DeviceFailed>, bool) {
 fn std_devices_fail(rt: HostRuntime) {
     let ends = [tired_reads(), tired_writes(false), tired_writes(true)];
     let wanted = [0, 2, 2].map(|count| Some((Ok(count), Err(DeviceFailed), true)));
-    assert!(rt; ends == wanted);
-    assert!(rt; tired_flush() == (Err(DeviceFailed), true));
+    assert!(rt; ends == wanted && tired_flush() == (Err(DeviceFailed), true));
 }
 
 // What a read gives of more bytes than it takes, and the bytes.
@@ -188,6 +189,5 @@ fn std_written(alloc: Global) -> bool {
 
 #[test]
 fn std_devices(rt: HostRuntime) {
-    assert!(rt; std_read() == (Ok(3), *b"abc"));
-    assert!(rt; std_written(rt.alloc()));
+    assert!(rt; std_read() == (Ok(3), *b"abc") && std_written(rt.alloc()));
 }

@@ -1,16 +1,16 @@
 //! Readers and writers that fail, under the program's own lines.
 
 use crate::support::{
-    Counting, End, Full, OUTPUT, STREAM, end_of, timeline, wanted_end, written_before,
+    Counting, End, Full, OUTPUT, STREAM, end_of, run_on, timeline, wanted_end, written_before,
 };
-use instants::{ByteWriter, CutReader, CutWriter, RunFault, StdWriter, Timeline, run};
+use instants::{ByteWriter, CutReader, CutWriter, RunFault, StdWriter, Timeline};
 use std::alloc::Global;
 use std::process::Abort;
 
-const SIZES: [usize; 6] = [1, 2, 3, 5, 7, 26];
+static SIZES: [usize; 6] = [1, 2, 3, 5, 7, 26];
 
 // One source, and three in order: the first source names the stream's moment, and its fault is told.
-const LISTS: [&str; 2] = [
+static LISTS: [&str; 2] = [
     "+00:00|-|100|rfc3339",
     "+00:00|-|100|rfc3339|rfc2822|strftime|%d/%b/%Y:%H:%M:%S %z",
 ];
@@ -29,7 +29,7 @@ fn ended(timeline: &Timeline, limit: usize, most: usize, failing: Failing, outpu
     let mut reader = CutReader::new(STREAM, most.max(1), failing.read);
     let mut writer = CutWriter::new(&mut space, most.max(1), failing.write);
     let buffer = &mut buffer[..=limit.clamp(1, 100)];
-    let answer = run(timeline, buffer, &mut reader, &mut writer);
+    let answer = run_on(timeline, buffer, &mut reader, &mut writer);
     end_of(answer, &reader, &writer, output)
 }
 
@@ -41,7 +41,8 @@ fn end_so(
     answer: Result<(), RunFault>,
     output: &[u8],
 ) -> bool {
-    for most in SIZES {
+    for row in &SIZES {
+        let most = *row;
         if ended(timeline, limit, most, failing, output) != wanted_end(answer) {
             return false;
         }
@@ -104,7 +105,8 @@ fn reads_that_fail_end_so(rt: &impl Abort, alloc: Global, words: &str) -> bool {
 
 #[test]
 fn reads_that_fail(rt: HostRuntime) {
-    for words in LISTS {
+    for row in &LISTS {
+        let words = *row;
         assert!(rt; reads_that_fail_end_so(&rt, rt.alloc(), words));
     }
 }
@@ -137,7 +139,8 @@ fn writes_that_fail_end_so(rt: &impl Abort, alloc: Global, words: &str) -> bool 
 
 #[test]
 fn writes_that_fail(rt: HostRuntime) {
-    for words in LISTS {
+    for row in &LISTS {
+        let words = *row;
         assert!(rt; writes_that_fail_end_so(&rt, rt.alloc(), words));
     }
 }
@@ -147,7 +150,7 @@ fn full(timeline: &Timeline, most: usize, room: usize) -> (Result<(), RunFault>,
     let mut buffer = [0; 101];
     let mut reader = CutReader::new(STREAM, most.max(1), None);
     let mut writer = StdWriter::new(Full { room });
-    let answer = run(timeline, &mut buffer, &mut reader, &mut writer);
+    let answer = run_on(timeline, &mut buffer, &mut reader, &mut writer);
     (answer, writer.has_failed())
 }
 
@@ -181,7 +184,7 @@ fn run_line(timeline: &Timeline) -> (Result<(), RunFault>, u8, bool) {
         reads: 0,
     };
     let mut writer = CutWriter::new(&mut space, 100, None);
-    let answer = run(timeline, &mut buffer, &mut reader, &mut writer);
+    let answer = run_on(timeline, &mut buffer, &mut reader, &mut writer);
     let line = b"1985-04-12T23:20:50.520000000Z\n".as_slice();
     (answer, reader.reads, writer.written() == line)
 }

@@ -2,9 +2,9 @@
 
 ghost use Rattle.std.specs.Prelude.{◌≡◌, ◌<◌, false, vec_len};
 
-use crate::support::{OUTPUT, STREAM, timeline, written_before};
+use crate::support::{OUTPUT, STREAM, run_on, timeline, written_before};
 use instants::{
-    BlockWriter, ByteWriter, CutReader, CutWriter, DeviceFailed, RunFault, StdWriter, Timeline, run,
+    BlockWriter, ByteWriter, CutReader, CutWriter, DeviceFailed, RunFault, StdWriter, Timeline,
 };
 use std::alloc::Global;
 use std::process::Abort;
@@ -57,9 +57,10 @@ fn std_writer(alloc: Global) -> Option<((bool, bool, bool), Handed, bool)> {
 // Devices that hold nothing back.
 #[test]
 fn nothing_held_back(rt: HostRuntime) {
-    assert!(rt; cut_writer() == ((Ok(()), false), true, false, 0));
     let end = ((true, true, true), (Ok(()), false), false);
-    assert!(rt; std_writer(rt.alloc()) == Some(end));
+    assert!(rt;
+        cut_writer() == ((Ok(()), false), true, false, 0) && std_writer(rt.alloc()) == Some(end)
+    );
 }
 
 // A block of so many bytes.
@@ -145,7 +146,7 @@ fn ended(
         let mut reader = CutReader::new(STREAM, most.max(1), Some(read_fails));
         let below = CutWriter::new(&mut space, 48, write_fails);
         let mut writer = BlockWriter::new(block, below);
-        answer = run(timeline, &mut buffer, &mut reader, &mut writer);
+        answer = run_on(timeline, &mut buffer, &mut reader, &mut writer);
     }
     (answer, space)
 }
@@ -250,7 +251,7 @@ fn run_plain(timeline: &Timeline) -> (Result<(), RunFault>, bool, usize, bool) {
         is_flushed: false,
         has_failed: false,
     };
-    let answer = run(timeline, &mut buffer, &mut reader, &mut writer);
+    let answer = run_on(timeline, &mut buffer, &mut reader, &mut writer);
     let is_output = writer.bytes.starts_with(OUTPUT);
     (answer, is_output, writer.len, writer.is_flushed)
 }

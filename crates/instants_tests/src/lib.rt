@@ -1,5 +1,5 @@
 //! Tests of the program's crates, each by itself and several together. Rows of words and streams with their answers
-//! stand in `instants_rows`.
+//! stand in the program `rows`.
 #![tactic(auto)]
 
 #[cfg(test)]

@@ -1,4 +1,4 @@
-//! Lines of moments by themselves. Lines and the answers to them are rows of `instants_rows`.
+//! Lines of moments by themselves. Lines and the answers to them are rows of the program `rows`.
 
 use crate::support::moment;
 use calendar::{Month, UtcOffset};
@@ -16,16 +16,20 @@ fn parts_with_lines(moment: OffsetDateTime) -> (bool, bool, bool) {
     )
 }
 
+// A date, an offset in seconds, whether the year has a line, and whether the offset has one.
+static PARTS: [((i32, Month, u8), i32, bool, bool); 6] = [
+    ((10_000, Month::January, 1), 0, false, true),
+    ((-1, Month::December, 31), 0, false, true),
+    ((2021, Month::January, 2), 30, true, false),
+    ((2021, Month::January, 2), 86_400, true, false),
+    ((2021, Month::January, 2), -86_400, true, false),
+    ((2021, Month::January, 2), -3600, true, true),
+];
+
 #[test]
 fn no_lines(rt: HostRuntime) {
-    for (date, offset, year, target) in [
-        ((10_000, Month::January, 1), 0, false, true),
-        ((-1, Month::December, 31), 0, false, true),
-        ((2021, Month::January, 2), 30, true, false),
-        ((2021, Month::January, 2), 86_400, true, false),
-        ((2021, Month::January, 2), -86_400, true, false),
-        ((2021, Month::January, 2), -3600, true, true),
-    ] {
+    for row in &PARTS {
+        let (date, offset, year, target) = *row;
         let moment = moment(&rt, date, (23, 59, 59, 0), offset);
         assert!(rt; parts_with_lines(moment) == (year, target, year && target));
     }
@@ -37,7 +41,7 @@ fn no_lines(rt: HostRuntime) {
 }
 
 // Seconds since 1970, nanoseconds, and the line in UTC, or nothing where there is none.
-const UTC_LINES: [(i64, u32, &[u8]); 6] = [
+static UTC_LINES: [(i64, u32, &[u8]); 6] = [
     (-62_167_219_201, 0, b""),
     (-62_167_219_200, 0, b"0000-01-01T00:00:00.000000000Z"),
     (-1, 999_999_999, b"1969-12-31T23:59:59.999999999Z"),
@@ -67,7 +71,8 @@ fn is_utc_line(moment: OffsetDateTime, line: &[u8]) -> bool {
 
 #[test]
 fn utc_lines(rt: HostRuntime) {
-    for (second, nanosecond, line) in UTC_LINES {
+    for row in &UTC_LINES {
+        let (second, nanosecond, line) = *row;
         for offset in [-86_340, -3600, 0, 20_700, 86_399] {
             assert!(rt; is_utc_line(shown(&rt, second, nanosecond, offset), line));
         }

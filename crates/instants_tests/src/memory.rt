@@ -1,14 +1,14 @@
 //! Calls that take memory: where a growth is refused they say so, and else they give what they always give.
 
+use crate::support::run_words_on;
 use calendar::UtcOffset;
 use instants::{
     CutReader, CutWriter, NewFault, ProgramFault, SourceText, Timeline, WordsFault, read_words,
-    run_words,
 };
 use std::alloc::AllocError;
 use std::test::Fail;
 
-const WORDS: [&str; 8] = [
+static WORDS: [&str; 8] = [
     "+00:00",
     "-",
     "100",
@@ -60,7 +60,7 @@ fn runs(rt: HostRuntime) -> Result<(), Fail> {
     let mut space = [0; 100];
     let mut reader = CutReader::new(STREAM, 7, None);
     let mut writer = CutWriter::new(&mut space, 7, None);
-    match run_words(rt.alloc(), &WORDS, &mut reader, &mut writer) {
+    match run_words_on(rt.alloc(), &WORDS, &mut reader, &mut writer) {
         Ok(()) => {
             assert!(rt; writer.written() == OUTPUT);
             Ok(())

@@ -1,7 +1,7 @@
-//! Lines of fields, shown at another offset. Those that stay in their month are rows of `instants_rows`.
+//! Lines of fields, shown at another offset. Those that stay in their month are rows of the program `rows`.
 
 use calendar::UtcOffset;
-use instants_answers::{Answer, is_target, write_fields};
+use instants_answers::{Answer, Target, is_target, write_fields};
 use parsing_fields::{Fields, Fraction};
 use std::process::Abort;
 
@@ -9,7 +9,7 @@ use std::process::Abort;
 // in another month.
 type Case = ((u16, u8, u8), u16, i16, i32, &'static [u8]);
 
-const CASES: [Case; 5] = [
+static CASES: [Case; 5] = [
     (
         (2024, 2, 28),
         1439,
@@ -30,13 +30,14 @@ fn is_written(rt: &impl Abort, case: Case) -> bool {
     let target = UtcOffset::from_whole_seconds(target).expect(rt, "an offset");
     let mut answer = Answer::new();
     is_target(target)
-        && write_fields(&fields, target, &mut answer) != line.is_empty()
+        && write_fields(&fields, Target::new(target), &mut answer) != line.is_empty()
         && answer.as_bytes() == line
 }
 
 #[test]
 fn lines(rt: HostRuntime) {
-    for case in CASES {
+    for row in &CASES {
+        let case = *row;
         assert!(rt; is_written(&rt, case));
     }
 }

@@ -15,7 +15,7 @@ use std::alloc::Global;
 use std::process::Abort;
 
 // Year ends, the last days of months, and both ends of the years that are shown.
-const DAYS: [(i32, Month, u8); 10] = [
+static DAYS: [(i32, Month, u8); 10] = [
     (0, Month::January, 1),
     (0, Month::February, 29),
     (1969, Month::December, 31),
@@ -29,7 +29,7 @@ const DAYS: [(i32, Month, u8); 10] = [
 ];
 
 // The second of a leap second stands for the last of these.
-const TIMES: [(u8, u8, u8, u32); 5] = [
+static TIMES: [(u8, u8, u8, u32); 5] = [
     (0, 0, 0, 0),
     (0, 0, 0, 1),
     (12, 34, 56, 789_000_000),
@@ -38,11 +38,11 @@ const TIMES: [(u8, u8, u8, u32); 5] = [
 ];
 
 // Offsets in minutes.
-const OFFSETS: [i32; 13] = [
+static OFFSETS: [i32; 13] = [
     -1439, -1380, -780, -330, -60, -30, 0, 1, 30, 345, 780, 1380, 1439,
 ];
 
-const TARGETS: [i16; 4] = [-1439, 0, 330, 1439];
+static TARGETS: [i16; 4] = [-1439, 0, 330, 1439];
 
 // An answer, the nanoseconds of the instant that it shows, and the line that it was written for.
 type Answered = (Answer, i128, Answer);
@@ -125,7 +125,8 @@ fn are_sorted(rt: &impl Abort, alloc: Global, minutes: i16) -> bool {
 
 #[test]
 fn sorted_answers(rt: HostRuntime) {
-    for minutes in TARGETS {
+    for row in &TARGETS {
+        let minutes = *row;
         assert!(rt; are_sorted(&rt, rt.alloc(), minutes));
     }
 }

@@ -87,7 +87,7 @@ fn deep(rt: HostRuntime) {
 }
 
 // A source, a line, how many items it tries on it, and its places.
-const SOURCES: [(SourceText<'static>, &[u8], u128, u128); 5] = [
+static SOURCES: [(SourceText<'static>, &[u8], u128, u128); 5] = [
     (SourceText::Rfc2822, b"", 1, 1),
     (SourceText::Rfc3339, b"", 1, 1),
     (SourceText::Iso8601, b"", 1, 1),
@@ -103,7 +103,8 @@ fn counts(rt: &impl Abort, alloc: Global, text: SourceText, line: &[u8]) -> (u12
 
 #[test]
 fn sources(rt: HostRuntime) {
-    for (text, line, tried, places) in SOURCES {
+    for row in &SOURCES {
+        let (text, line, tried, places) = *row;
         assert!(rt; counts(&rt, rt.alloc(), text, line) == (tried, places));
     }
 }

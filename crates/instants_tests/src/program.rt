@@ -1,8 +1,8 @@
 //! The program's parts together: what is written and what is said where a device fails. Streams cut in every way are rows
-//! of `instants_rows`.
+//! of the program `rows`.
 
-use crate::support::{OUTPUT, STREAM};
-use instants::{CutReader, CutWriter, ProgramFault, RunFault, run_words};
+use crate::support::{OUTPUT, STREAM, run_words_on};
+use instants::{CutReader, CutWriter, ProgramFault, RunFault};
 use std::alloc::Global;
 
 // How a run over devices that fail after so many bytes ends: its answer, whether this is written, and how often it was
@@ -19,7 +19,7 @@ fn failed_run(
     let mut reader = CutReader::new(STREAM, 7, read_fails);
     let mut writer = CutWriter::new(&mut space, 7, write_fails);
     let words = ["+00:00", "-", "100", "rfc3339"];
-    let answer = run_words(alloc, &words, &mut reader, &mut writer);
+    let answer = run_words_on(alloc, &words, &mut reader, &mut writer);
     (answer, writer.written() == output, writer.flushes())
 }
 

@@ -49,7 +49,7 @@ const WHOLE: Cut = Cut {
     write_fails: None,
 };
 
-const SIZES: [usize; 6] = [1, 2, 3, 5, 7, 26];
+static SIZES: [usize; 6] = [1, 2, 3, 5, 7, 26];
 
 // How a run over a stream ends.
 fn ended(stream: &[u8], cut: Cut, output: &[u8]) -> End {
@@ -64,7 +64,7 @@ fn ended(stream: &[u8], cut: Cut, output: &[u8]) -> End {
 }
 
 // A limit, a stream and its output.
-const STREAMS: [(usize, &[u8], &[u8]); 5] = [
+static STREAMS: [(usize, &[u8], &[u8]); 5] = [
     (100, STREAM, OUTPUT),
     (
         1,
@@ -82,7 +82,8 @@ const STREAMS: [(usize, &[u8], &[u8]); 5] = [
 
 #[test]
 fn reads_of_every_size(rt: HostRuntime) {
-    for (limit, stream, output) in STREAMS {
+    for row in &STREAMS {
+        let (limit, stream, output) = *row;
         for read in 1..27 {
             for write in [1, 5, 48, 100] {
                 let cut = Cut {
@@ -99,7 +100,8 @@ fn reads_of_every_size(rt: HostRuntime) {
 
 // Whether runs over the stream with reads of each size end with this fault.
 fn end_so(cut: Cut, fault: RunFault, output: &[u8]) -> bool {
-    for read in SIZES {
+    for row in &SIZES {
+        let read = *row;
         let cut = Cut { read, ..cut };
         if ended(STREAM, cut, output) != wanted_end(Err(fault)) {
             return false;

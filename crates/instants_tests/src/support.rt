@@ -1,9 +1,12 @@
 //! Streams, devices and ends of runs that several tests use.
 
+ghost use Rattle.std.specs.Prelude.{◌≡◌, ◌≤◌, false, length};
+
 use calendar::{Date, Month, Time, UtcOffset};
 use datetime::OffsetDateTime;
 use instants::{
-    ByteReader, ByteWriter, CutReader, CutWriter, DeviceFailed, RunFault, Timeline, read_words,
+    ByteReader, ByteWriter, CutReader, CutWriter, DeviceFailed, ProgramFault, RunFault, Timeline,
+    read_words, run, run_words,
 };
 use std::alloc::Global;
 use std::io::{Result as IoResult, Write};
@@ -81,6 +84,33 @@ pub fn timeline<'a>(rt: &impl Abort, alloc: Global, words: &'a str) -> Timeline<
     let said = read_words(alloc, parts.as_slice()).expect(rt, "words");
     let sources = said.sources.as_slice();
     Timeline::new(alloc, sources, said.target, said.assumed).expect(rt, "a timeline")
+}
+
+/// A run of words on these devices, whatever they are: of its promises the tests need none.
+pub fn run_words_on<'a, R: ByteReader, W: ByteWriter>(
+    alloc: Global,
+    words: &[&'a str],
+    reader: &mut R,
+    writer: &mut W,
+) -> Result<(), ProgramFault<'a>>
+    requires reader { R.failed reader.old ≡ false }
+    requires writer { W.failed writer.old ≡ false }
+{
+    run_words(alloc, words, reader, writer)
+}
+
+/// The same of a timeline.
+pub fn run_on<R: ByteReader, W: ByteWriter>(
+    timeline: &Timeline,
+    buffer: &mut [u8],
+    reader: &mut R,
+    writer: &mut W,
+) -> Result<(), RunFault>
+    requires room { 2 ≤ length buffer.old }
+    requires reader { R.failed reader.old ≡ false }
+    requires writer { W.failed writer.old ≡ false }
+{
+    run(timeline, buffer, reader, writer)
 }
 
 /// A writer of std that takes so many bytes, one at a time, and then none.

@@ -1,4 +1,4 @@
-//! Words and what they say. Other words, and why words are refused, are rows of `instants_rows`.
+//! Words and what they say. Other words, and why words are refused, are rows of the program `rows`.
 
 use instants_words::{SourceText, read_words};
 use std::alloc::Global;

@@ -3,10 +3,10 @@ use Rattle.std.specs.Prelude.{ℕ, List, codes}
 use Rattle.calendar_count.specs.ComponentRange.{range_text}
 use Rattle.description_faults.specs.Sentence.{sentence}
 use Rattle.description_faults.specs.Fault.{fault_of}
-use Rattle.parsing_pieces.specs.FaultOf.{reading_fault, resolution_fault}
-use Rattle.parsing_pieces.specs.FaultText.{fault_text}
-use Rattle.parsing_pieces.specs.declared.fault.Parse.{Parse}
-use Rattle.parsing_pieces.specs.declared.fault.Parse.TheVariants as parse
+use Rattle.parsing_combinator.specs.FaultOf.{reading_fault, resolution_fault}
+use Rattle.parsing_combinator.specs.FaultText.{fault_text}
+use Rattle.parsing_combinator.specs.declared.fault.Parse.{Parse}
+use Rattle.parsing_combinator.specs.declared.fault.Parse.TheVariants as parse
 use Rattle.parsing.specs.declared.error.Error.{Error}
 use Rattle.parsing.specs.declared.error.Error.TheVariants as error
 

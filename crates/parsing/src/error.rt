@@ -7,7 +7,7 @@ ghost use Rattle.parsing.specs.declared.error.Error.TheVariants as error;
 use calendar_count::{ComponentRange, ConversionRange, InvalidVariant};
 use description_faults::InvalidFormatDescription;
 use description_items::DifferentVariant;
-use parsing_pieces::{Parse, ParseFromDescription, TryFromParsed};
+use parsing_combinator::{Parse, ParseFromDescription, TryFromParsed};
 use std::fmt;
 
 /// Any refusal but want of memory, as one type. Each is made into it by `from`, and given back by `try_from`, which

@@ -3,29 +3,29 @@ ghost use Rattle.std.specs.Prelude.{◌≡◌, ◌++◌, ℕ, List, Option, Ok};
 ghost use Rattle.datetime_wall.specs.Wall.{Shown};
 ghost use Rattle.description_items.specs.Tree.{Tree};
 ghost use Rattle.description_laws.specs.Versions.{SpellsRanged};
-ghost use Rattle.description_spelling.specs.Spelling.{Spells, SpellsTree};
+ghost use Rattle.description_grammar.specs.Spelling.{Spells, SpellsTree};
 ghost use Rattle.description_strftime.specs.Spelled.{SpellsStrftime};
 ghost use Rattle.description_words.specs.declared.version.DescriptionVersion.{DescriptionVersion};
 ghost use Rattle.description_words.specs.declared.version.DescriptionVersion.TheVariants.{Three};
-ghost use Rattle.parsing_descriptions.specs.Joined.{IsReadInTurn, by_items, by_tree};
-ghost use Rattle.parsing_descriptions.specs.TwoVersions.{IgnoresNothing, IsReadByBoth};
+ghost use Rattle.parsing_laws.specs.Joined.{IsReadInTurn, by_items, by_tree};
+ghost use Rattle.parsing_laws.specs.TwoVersions.{IgnoresNothing, IsReadByBoth};
 ghost use Rattle.parsing_record.specs.Record.{Record};
 ghost use Rattle.parsing_record.specs.Whole.{by_roads};
 ghost use Rattle.parsing_rfc2822.specs.Direct as rfc2822;
 ghost use Rattle.parsing_rfc3339.specs.Direct as rfc3339;
 ghost use Rattle.parsing_staged.specs.Staged.{reads_rfc2822, reads_rfc3339};
-ghost use Rattle.parsing_two_roads.specs.TwoFormats.{HoldsAtMostAnOffset, IsReadAlike};
-ghost use Rattle.parsing_two_roads.specs.TwoRoads.{AgreeOn};
+ghost use Rattle.parsing_laws.specs.TwoFormats.{HoldsAtMostAnOffset, IsReadAlike};
+ghost use Rattle.parsing_laws.specs.TwoRoads.{AgreeOn};
 ghost use Rattle.parsing.specs.Laws.{HasOneInstant};
 
-pub use parsing_places::laws::{few_nodes, tried_at_most_places};
+pub use parsing_laws::node_laws::{few_nodes, tried_at_most_places};
 
 /// A record without Unix time that names a date, a time of day and an offset, of which the calendar has the day in UTC,
 /// is accepted alike as `OffsetDateTime`, `UtcDateTime` and `Timestamp`, with one instant; else each refuses it.
 pub fn three_instants()
     ensures { (r : Record) → HasOneInstant r }
 {
-    parsing_moments::laws::three_instants();
+    parsing_values::laws::three_instants();
 }
 
 /// RFC 3339 and RFC 2822: a text names a moment directly exactly where it names one by a record without any field, or with
@@ -34,8 +34,8 @@ pub fn two_roads()
     ensures rfc3339 { (bytes : List ℕ) → AgreeOn rfc3339.direct reads_rfc3339 bytes }
     ensures rfc2822 { (bytes : List ℕ) → AgreeOn rfc2822.direct reads_rfc2822 bytes }
 {
-    parsing_two_roads::laws::two_roads_of_rfc3339();
-    parsing_two_roads::laws::two_roads_of_rfc2822();
+    parsing_laws::two_roads::two_roads_of_rfc3339();
+    parsing_laws::two_roads::two_roads_of_rfc2822();
 }
 
 /// Where RFC 3339 names a moment for a text, ISO 8601 names one exactly if a `T` stands between date and time, a `Z` is
@@ -47,7 +47,7 @@ pub fn two_formats()
         (m : Shown) → by_roads rfc3339.direct reads_rfc3339 defaults bytes ≡ Ok m →
         IsReadAlike defaults bytes m }
 {
-    parsing_two_roads::laws::two_formats();
+    parsing_laws::two_roads::two_formats();
 }
 
 /// Of two texts that a language of descriptions accepts, it accepts the one followed by the other. Reading by that is
@@ -64,7 +64,7 @@ pub fn joined_descriptions()
     ensures trees { (s t : List ℕ) (a b : Tree) → SpellsTree Three s a → SpellsTree Three t b
         → IsReadInTurn (SpellsTree Three (s ++ t)) by_tree a b }
 {
-    parsing_descriptions::laws::joined_descriptions();
+    parsing_laws::descriptions::joined_descriptions();
 }
 
 /// A description of version 3 without nested ones, in which every full and century year says its range and no bytes are
@@ -74,5 +74,5 @@ pub fn two_versions()
     ensures { (text : List ℕ) (items : List Tree)
         → SpellsRanged text items → IgnoresNothing items → IsReadByBoth text items }
 {
-    parsing_descriptions::laws::two_versions();
+    parsing_laws::descriptions::two_versions();
 }

@@ -4,8 +4,8 @@ use Rattle.std.specs.Prelude.{IfSome}
 use Rattle.std.specs.Borrow.{Bor}
 use Rattle.description_items.specs.declared.component.Component.{Component}
 use Rattle.description_items.specs.declared.component.Component.TheVariants as component
-use Rattle.parsing_pieces.specs.Fault as fault
-use Rattle.parsing_pieces.specs.Readings.{then_read, give}
+use Rattle.parsing_combinator.specs.Fault as fault
+use Rattle.parsing_combinator.specs.Readings.{then_read, give}
 use Rattle.parsing_components.specs.Component.{date_piece, year_piece, time_piece, offset_piece, component_name, reads_modern, reads_component, reads_component_v3}
 use Rattle.parsing_components.specs.declared.fields.Record.{Record}
 use Rattle.parsing_components.specs.Put.{put, set_by, putting, MaySet, MayRead}

@@ -1,7 +1,7 @@
 -- What a piece sets is what its reading puts into the record.
 use Rattle.std.proofs.Common.{◌≡◌, ℕ, List, Option, Some, None, Ok, Err, refl}
-use Rattle.parsing_pieces.specs.Fault.{Fault}
-use Rattle.parsing_pieces.specs.Readings.{piece_or, then_read, give}
+use Rattle.parsing_combinator.specs.Fault.{Fault}
+use Rattle.parsing_combinator.specs.Readings.{piece_or, then_read, give}
 use Rattle.parsing_components.specs.Read.{Read}
 use Rattle.parsing_components.specs.declared.fields.Record.{Record}
 use Rattle.std.specs.Borrow.{Bor}

@@ -8,13 +8,13 @@ use Rattle.description_time_modifiers.specs.declared.choices.TrailingInput.TheVa
 use Rattle.description_items.specs.declared.component.Component.{Component}
 use Rattle.description_items.specs.declared.component.Component.TheVariants as component
 use Rattle.description_items.specs.Modern.{modern}
-use Rattle.parsing_pieces.specs.Fault.{Fault, trailing}
-use Rattle.parsing_pieces.specs.Fault as fault
-use Rattle.parsing_pieces.specs.Pieces.{Piece}
-use Rattle.parsing_pieces.specs.Readings.{Reading, piece_or}
-use Rattle.parsing_shapes.specs.Shape.{Shape, taken, digits_between, fraction_between}
-use Rattle.parsing_shapes.specs.Numbers.{padded, year, century, offset_hour, timestamp}
-use Rattle.parsing_shapes.specs.Names.{named, period, short_months, long_months, short_weekdays, long_weekdays}
+use Rattle.parsing_combinator.specs.Fault.{Fault, trailing}
+use Rattle.parsing_combinator.specs.Fault as fault
+use Rattle.parsing_combinator.specs.Pieces.{Piece}
+use Rattle.parsing_combinator.specs.Readings.{Reading, piece_or}
+use Rattle.parsing_combinator.specs.Shape.{Shape, taken, digits_between, fraction_between}
+use Rattle.parsing_combinator.specs.Numbers.{padded, year, century, offset_hour, timestamp}
+use Rattle.parsing_combinator.specs.Names.{named, period, short_months, long_months, short_weekdays, long_weekdays}
 use Rattle.calendar_count.specs.Range.{greatest_year}
 use Rattle.parsing_components.specs.Ranged.{greatest_century, says, between, up_to, since_epoch, counted, months, from_sunday, from_monday}
 use Rattle.parsing_components.specs.Read.{Read}

@@ -1,10 +1,10 @@
 -- What a component sets in a record.
 use Rattle.std.specs.Prelude.{◌≡◌, ℕ, List, pos, Option, Some, None, Result, Ok, Err, option_map}
 use Rattle.std.specs.Borrow.{Bor}
-use Rattle.parsing_pieces.specs.Fault.{Fault}
-use Rattle.parsing_pieces.specs.FaultOf.{reading_fault}
-use Rattle.parsing_pieces.specs.Readings.{Reading, then_read, give}
-use Rattle.parsing_pieces.specs.declared.fault.ParseFromDescription.{ParseFromDescription}
+use Rattle.parsing_combinator.specs.Fault.{Fault}
+use Rattle.parsing_combinator.specs.FaultOf.{reading_fault}
+use Rattle.parsing_combinator.specs.Readings.{Reading, then_read, give}
+use Rattle.parsing_combinator.specs.declared.fault.ParseFromDescription.{ParseFromDescription}
 use Rattle.parsing_components.specs.Read.{Read}
 use Rattle.parsing_components.specs.Read as read
 use Rattle.parsing_components.specs.declared.fields.Record.{Record}

@@ -6,7 +6,7 @@ use Rattle.calendar_count.specs.declared.month.Month.{Month}
 use Rattle.calendar_count.specs.declared.month.Month.TheVariants as month
 use Rattle.calendar_count.specs.declared.weekday.Weekday.{Weekday}
 use Rattle.calendar_count.specs.declared.weekday.Weekday.TheVariants as weekday
-use Rattle.parsing_pieces.specs.Pieces.{Piece}
+use Rattle.parsing_combinator.specs.Pieces.{Piece}
 
 -- what a piece says, seen otherwise, or refused
 abbrev pub kept : {A B : Type 0} → (A → Option B) → Option (A × List ℕ) → Option (B × List ℕ)

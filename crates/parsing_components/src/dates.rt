@@ -1,8 +1,8 @@
 //! The parts of a date but the year.
 ghost use Rattle.std.specs.Prelude.{◌≡◌, true, Some, option_map};
-ghost use Rattle.parsing_shapes.specs.Shape.{taken, digits_between};
-ghost use Rattle.parsing_shapes.specs.Numbers.{padded};
-ghost use Rattle.parsing_shapes.specs.Names.{named, short_months, long_months, short_weekdays, long_weekdays};
+ghost use Rattle.parsing_combinator.specs.Shape.{taken, digits_between};
+ghost use Rattle.parsing_combinator.specs.Numbers.{padded};
+ghost use Rattle.parsing_combinator.specs.Names.{named, short_months, long_months, short_weekdays, long_weekdays};
 ghost use Rattle.parsing_components.specs.Record.{IsWithin};
 ghost use Rattle.parsing_components.specs.Put.{Sets};
 ghost use Rattle.parsing_components.specs.Ranged.{says, entry, between, counted, months, from_sunday, from_monday};
@@ -14,7 +14,7 @@ use crate::years::year_piece;
 use calendar_count::{Month, Weekday};
 use description_items::Component;
 use description_items::modifier::Padding;
-use parsing_shapes::{
+use parsing_combinator::{
     digits_between, long_month, long_weekday, padded, padded_two, short_month, short_weekday,
 };
 

@@ -1,7 +1,7 @@
 //! The parts of an offset, timestamps, and what is passed over.
 ghost use Rattle.std.specs.Prelude.{◌≡◌, ◌≤◌, ◌<◌, ◌*◌, ◌^◌, pos, neg_ℤ, option_map};
-ghost use Rattle.parsing_shapes.specs.Shape.{taken};
-ghost use Rattle.parsing_shapes.specs.Numbers.{padded, offset_hour, timestamp};
+ghost use Rattle.parsing_combinator.specs.Shape.{taken};
+ghost use Rattle.parsing_combinator.specs.Numbers.{padded, offset_hour, timestamp};
 ghost use Rattle.parsing_components.specs.Record.{IsWithin, InSigned};
 ghost use Rattle.parsing_components.specs.Put.{Sets, passed};
 ghost use Rattle.parsing_components.specs.Ranged.{nanoseconds_before_epoch, nanoseconds_after_epoch, says, between, up_to, since_epoch};
@@ -11,7 +11,7 @@ ghost use Rattle.parsing_components.specs.Read as read;
 use crate::fields::Record;
 use description_items::Component;
 use description_items::modifier::Padding;
-use parsing_shapes::{offset_hour, padded_two, timestamp};
+use parsing_combinator::{offset_hour, padded_two, timestamp};
 
 #[inline(always)]
 pub(crate) fn offset_minute<'a>(

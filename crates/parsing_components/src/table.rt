@@ -1,10 +1,10 @@
 //! What a component reads.
 ghost use Rattle.std.specs.Prelude.{◌≡◌};
-ghost use Rattle.parsing_pieces.specs.FaultOf.{Gives, reading_fault};
+ghost use Rattle.parsing_combinator.specs.FaultOf.{Gives, reading_fault};
 ghost use Rattle.parsing_components.specs.Record.{IsWithin};
 ghost use Rattle.parsing_components.specs.Put.{Reads, putting, passed};
-ghost use Rattle.parsing_pieces.specs.Fault as fault;
-ghost use Rattle.parsing_pieces.specs.Readings.{◌or◌};
+ghost use Rattle.parsing_combinator.specs.Fault as fault;
+ghost use Rattle.parsing_combinator.specs.Readings.{◌or◌};
 ghost use Rattle.parsing_components.specs.Component as Components;
 
 use crate::dates::date_piece;
@@ -12,7 +12,7 @@ use crate::fields::Record;
 use crate::offsets::ignored_characters;
 use description_items::Component;
 use description_items::modifier::TrailingInput;
-use parsing_pieces::ParseFromDescription;
+use parsing_combinator::ParseFromDescription;
 
 // The name of a part of a time in a fault, else that of years.
 #[tactic(auto, unfolding(crate::specs::Component::time_name))]

@@ -1,8 +1,8 @@
 //! The parts of a time.
 ghost use Rattle.std.specs.Prelude.{Some};
-ghost use Rattle.parsing_shapes.specs.Shape.{taken};
-ghost use Rattle.parsing_shapes.specs.Numbers.{padded};
-ghost use Rattle.parsing_shapes.specs.Names.{period};
+ghost use Rattle.parsing_combinator.specs.Shape.{taken};
+ghost use Rattle.parsing_combinator.specs.Numbers.{padded};
+ghost use Rattle.parsing_combinator.specs.Names.{period};
 ghost use Rattle.parsing_components.specs.Record.{IsWithin};
 ghost use Rattle.parsing_components.specs.Put.{Sets};
 ghost use Rattle.parsing_components.specs.Ranged.{says, between};
@@ -13,7 +13,7 @@ use crate::fields::Record;
 use crate::offsets::offset_piece;
 use description_items::Component;
 use description_items::modifier::{Padding, SubsecondDigits};
-use parsing_shapes::{fraction_between, padded_two, period};
+use parsing_combinator::{fraction_between, padded_two, period};
 
 #[inline(always)]
 fn hour_12<'a>(padding: Padding, bytes: &'a [u8], fields: &mut Record) -> Option<&'a [u8]>

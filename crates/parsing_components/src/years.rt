@@ -1,7 +1,7 @@
 //! Years.
 ghost use Rattle.std.specs.Prelude.{◌≡◌, ◌<◌};
-ghost use Rattle.parsing_shapes.specs.Shape.{taken};
-ghost use Rattle.parsing_shapes.specs.Numbers.{padded, year, century};
+ghost use Rattle.parsing_combinator.specs.Shape.{taken};
+ghost use Rattle.parsing_combinator.specs.Numbers.{padded, year, century};
 ghost use Rattle.calendar_count.specs.Range.{greatest_year};
 ghost use Rattle.parsing_components.specs.Record.{IsWithin};
 ghost use Rattle.parsing_components.specs.Put.{Sets};
@@ -14,7 +14,7 @@ use crate::fields::Record;
 use crate::times::time_piece;
 use description_items::Component;
 use description_items::modifier::Padding;
-use parsing_shapes::{century, padded_two, year};
+use parsing_combinator::{century, padded_two, year};
 
 // The number under its sign.
 #[inline(always)]

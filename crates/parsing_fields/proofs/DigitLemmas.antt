@@ -9,13 +9,13 @@ use Rattle.std.proofs.lemmas.Bool.Decides.{nat_tests}
 use Rattle.std.proofs.lemmas.List.Folds.{prefix_len-append}
 use Rattle.std.proofs.lemmas.List.{append-nil}
 use Rattle.std.proofs.lemmas.Nat.{le_bytes_8}
-use Rattle.parsing_pieces.specs.Pieces.{digits, digit_count, fraction, cut_view}
-use Rattle.parsing_pieces.specs.Chunks.{IsDigitChunk, padded}
-use Rattle.parsing_pieces.proofs.Decimal.{digit_here, value_append, digit_count_within}
-use Rattle.parsing_pieces.proofs.Fixed.{digits_nine, joined}
-use Rattle.parsing_pieces.proofs.FractionDigits.{fraction_of_nine, digits_read}
-use Rattle.parsing_pieces.proofs.Padding.{fraction_of_padded, padded_long, padded_fit, padded_whole, padded_rest, padded_below}
-use Rattle.parsing_pieces.proofs.Lanes.{chunk_eight}
+use Rattle.parsing_combinator.specs.Pieces.{digits, digit_count, fraction, cut_view}
+use Rattle.parsing_combinator.specs.Chunks.{IsDigitChunk, padded}
+use Rattle.parsing_combinator.proofs.Decimal.{digit_here, value_append, digit_count_within}
+use Rattle.parsing_combinator.proofs.Fixed.{digits_nine, joined}
+use Rattle.parsing_combinator.proofs.FractionDigits.{fraction_of_nine, digits_read}
+use Rattle.parsing_combinator.proofs.PaddingLemmas.{fraction_of_padded, padded_long, padded_fit, padded_whole, padded_rest, padded_below}
+use Rattle.parsing_combinator.proofs.Lanes.{chunk_eight}
 use Rattle.parsing_fields.specs.Digits.{nine_digits, first_digits, AreNineDigits}
 
 nine_is : (first last : ℕ) (eight : List ℕ) → to_le_bytes w64 first ≡ eight → nine_digits first last ≡ eight ++ last ∷ []

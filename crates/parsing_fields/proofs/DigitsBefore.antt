@@ -8,11 +8,11 @@ use Rattle.std.proofs.lemmas.Bool.Decides.{nat_tests}
 use Rattle.std.proofs.lemmas.List.{length-take-le, length-drop, take_all, drop_all, take-append-le, drop-take, drop-drop, get_or-drop}
 use Rattle.std.proofs.lemmas.List.Folds.{prefix_len-append}
 use Rattle.std.proofs.lemmas.Nat.{div-mul-add}
-use Rattle.parsing_pieces.specs.Pieces.{digits, digit_count, digit_run, fraction, nanoseconds_of}
-use Rattle.parsing_pieces.specs.Chunks.{chunk, padded, IsDigitChunk}
-use Rattle.parsing_pieces.proofs.Decimal.{count_front}
-use Rattle.parsing_pieces.proofs.FractionDigits.{digits_read}
-use Rattle.parsing_pieces.proofs.Padding.{chunk_append, chunk_below, padded_read}
+use Rattle.parsing_combinator.specs.Pieces.{digits, digit_count, digit_run, fraction, nanoseconds_of}
+use Rattle.parsing_combinator.specs.Chunks.{chunk, padded, IsDigitChunk}
+use Rattle.parsing_combinator.proofs.Decimal.{count_front}
+use Rattle.parsing_combinator.proofs.FractionDigits.{digits_read}
+use Rattle.parsing_combinator.proofs.PaddingLemmas.{chunk_append, chunk_below, padded_read}
 use Rattle.parsing_fields.proofs.DigitLemmas.{Nine, short_read, none_of_nothing}
 use Rattle.parsing_fields.specs.Digits.{nine_digits, AreNineDigits}
 use Rattle.parsing_fields.specs.Written.{WriteFraction}

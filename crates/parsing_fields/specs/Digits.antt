@@ -2,7 +2,7 @@
 use Rattle.std.specs.Prelude.{◌≡◌, ℕ, ◌+◌, ◌^◌, ◌/◌, ◌%◌, ◌<◌, List, [], ◌∷◌, ◌++◌}
 use Rattle.std.specs.Int.{w64, to_le_bytes}
 use Rattle.byte_names.specs.Bytes.{digit_zero}
-use Rattle.parsing_pieces.specs.Pieces.{digit_count}
+use Rattle.parsing_combinator.specs.Pieces.{digit_count}
 
 -- eight bytes as one number, the first one lowest, and the ninth
 unfoldable pub nine_digits : ℕ → ℕ → List ℕ

@@ -5,8 +5,8 @@ use Rattle.std.specs.Char.{is_ascii_digit, digit_value}
 use Rattle.std.specs.Str.Parse.{digits_value}
 use Rattle.std.proofs.lemmas.List.Sums.{prefix_len_passes}
 use Rattle.std.proofs.lemmas.Nat.{from_le_bytes-to_le_bytes_8}
-use Rattle.parsing_pieces.specs.Pieces.{digit_count}
-use Rattle.parsing_pieces.proofs.Decimal.{digit_here}
+use Rattle.parsing_combinator.specs.Pieces.{digit_count}
+use Rattle.parsing_combinator.proofs.Decimal.{digit_here}
 use Rattle.parsing_fields.specs.Digits.{nine_digits, first_digits, AreNineDigits}
 
 digit_at : (bytes : List ℕ) (k : ℕ) → k < digit_count bytes → (48 ≤ get_or bytes k 0) × (get_or bytes k 0 ≤ 57) × (digit_value (get_or bytes k 0) ≡ get_or bytes k 0 - 48)

@@ -1,6 +1,6 @@
 -- Digits that write a fraction of a second.
 use Rattle.std.specs.Prelude.{◌≡◌, ◌≤◌, ℕ, List, take}
-use Rattle.parsing_pieces.specs.Pieces.{digit_count, nanoseconds_of}
+use Rattle.parsing_combinator.specs.Pieces.{digit_count, nanoseconds_of}
 
 -- so many digits at the front of bytes write these nanoseconds
 pub record WriteFraction (bytes : List ℕ) (count nanosecond : ℕ) : Type 0 where

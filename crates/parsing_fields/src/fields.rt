@@ -6,8 +6,8 @@ ghost use Rattle.datetime_wall.specs.Wall.{second_nanos};
 use crate::fraction::Fraction;
 use calendar::{Date, Time, UtcOffset};
 use calendar_count::{closed, march};
-use datetime_products::{count_of_seconds, day_of_count, second_of_day};
-use datetime_types::OffsetDateTime;
+use datetime_wall::{count_of_seconds, day_of_count, second_of_day};
+use parsing_values::OffsetDateTime;
 
 /// The fields of a date-time in a year of four digits: a day of the calendar, a time of day, and an offset of whole minutes,
 /// at most 25:59. No second is a leap second.

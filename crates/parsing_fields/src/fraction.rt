@@ -1,11 +1,11 @@
 //! Fractions of a second.
 ghost use Rattle.std.specs.Prelude.{◌≡◌, ◌+◌, ◌-◌, ◌<◌, ◌≤◌, [], drop, length, None, Some, IfSome};
 ghost use Rattle.byte_names.specs.Bytes.{digit_zero};
-ghost use Rattle.parsing_pieces.specs.Pieces as Pieces;
+ghost use Rattle.parsing_combinator.specs.Pieces as Pieces;
 ghost use Rattle.parsing_fields.specs.Written.{WriteFraction};
 
 use crate::before::digits_before;
-use parsing_pieces::{digit_chunk, fraction, one_digit};
+use parsing_combinator::{digit_chunk, fraction, one_digit};
 use std::marker::Model;
 
 /// A fraction of a second, in whole nanoseconds.

@@ -7,9 +7,9 @@ use Rattle.std.proofs.lemmas.List.{get_or-take}
 use Rattle.std.proofs.lemmas.Slice.Eq.{bytes_eq-Decides}
 use Rattle.description_items.specs.declared.component.Component.{Component}
 use Rattle.description_items.specs.Tree.{Literal, Part}
-use Rattle.parsing_pieces.specs.Fault.{Fault, literal}
-use Rattle.parsing_pieces.specs.Pieces.{Piece}
-use Rattle.parsing_pieces.specs.Readings.{Reading, piece_or, then_read, give}
+use Rattle.parsing_combinator.specs.Fault.{Fault, literal}
+use Rattle.parsing_combinator.specs.Pieces.{Piece}
+use Rattle.parsing_combinator.specs.Readings.{Reading, piece_or, then_read, give}
 use Rattle.parsing_components.specs.Ranged.{kept}
 use Rattle.parsing_components.specs.Read.{Read}
 use Rattle.parsing_components.specs.Put.{put}

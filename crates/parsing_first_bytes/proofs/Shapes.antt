@@ -14,11 +14,11 @@ use Rattle.description_date_modifiers.specs.declared.choices.Padding.{Padding}
 use Rattle.description_date_modifiers.specs.declared.choices.Padding.TheVariants as padding
 use Rattle.description_time_modifiers.specs.declared.choices.SubsecondDigits.{SubsecondDigits}
 use Rattle.description_time_modifiers.specs.declared.choices.SubsecondDigits.TheVariants as digits
-use Rattle.parsing_pieces.specs.Pieces.{nanoseconds_of}
+use Rattle.parsing_combinator.specs.Pieces.{nanoseconds_of}
 use Rattle.parsing_components.specs.Component.{fraction_of}
-use Rattle.parsing_shapes.specs.Shape.{Shape, or_before, greatest, front, taken, nothing, is_sign, is_space, space_count, are_digits, digits_as, spaced_between, signed}
-use Rattle.parsing_shapes.specs.Numbers.{padded, signed_if}
-use Rattle.parsing_shapes.specs.Names.{compared, is_name, named}
+use Rattle.parsing_combinator.specs.Shape.{Shape, or_before, greatest, front, taken, nothing, is_sign, is_space, space_count, are_digits, digits_as, spaced_between, signed}
+use Rattle.parsing_combinator.specs.Numbers.{padded, signed_if}
+use Rattle.parsing_combinator.specs.Names.{compared, is_name, named}
 use Rattle.parsing_first_bytes.specs.declared.front.Bytes.{Bytes}
 use Rattle.parsing_first_bytes.specs.declared.front.Bytes.TheVariants.{Digits, Name}
 use Rattle.parsing_first_bytes.specs.declared.front.Front.{Front}

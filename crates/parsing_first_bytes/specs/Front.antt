@@ -3,9 +3,9 @@ use Rattle.std.specs.Prelude.{◌≡◌, ◌<◌, ◌==◌, ◌&&◌, ◌||◌, 
 use Rattle.std.specs.Char.{is_ascii_digit, to_ascii_lowercase}
 use Rattle.std.specs.List.{list_any}
 use Rattle.description_items.specs.declared.component.Component.{Component}
-use Rattle.parsing_pieces.specs.Pieces.{Piece}
-use Rattle.parsing_pieces.specs.Readings.{Reading}
-use Rattle.parsing_shapes.specs.Shape.{is_sign, is_space}
+use Rattle.parsing_combinator.specs.Pieces.{Piece}
+use Rattle.parsing_combinator.specs.Readings.{Reading}
+use Rattle.parsing_combinator.specs.Shape.{is_sign, is_space}
 use Rattle.parsing_components.specs.Component.{reads_component, reads_component_v3}
 use Rattle.parsing_record.specs.Meaning.{Meaning}
 use Rattle.parsing_record.specs.Record.{Record}

@@ -1,7 +1,7 @@
 //! What each text that an item reads begins with.
 ghost use Rattle.std.specs.Prelude.{◌≡◌, ◌≤◌, ℕ, false, Bool, List};
-ghost use Rattle.parsing_shapes.specs.Shape.{digits_as, taken};
-ghost use Rattle.parsing_shapes.specs.Numbers.{padded, signed_if};
+ghost use Rattle.parsing_combinator.specs.Shape.{digits_as, taken};
+ghost use Rattle.parsing_combinator.specs.Numbers.{padded, signed_if};
 ghost use Rattle.parsing_record.specs.Meaning.{literally, unchanged};
 ghost use Rattle.parsing_first_bytes.specs.declared.front.Bytes.TheVariants.{Name};
 ghost use Rattle.parsing_first_bytes.specs.Front.{Begins, HasFront, stands};

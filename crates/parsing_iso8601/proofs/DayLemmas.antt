@@ -4,15 +4,16 @@ use Rattle.std.specs.Int.{IsInRange}
 use Rattle.std.proofs.lemmas.Bool.Decides.{nat_tests}
 use Rattle.std.proofs.lemmas.Int.{ints}
 use Rattle.calendar_count.specs.Range.{greatest_year, IsYear, IsCount}
-use Rattle.calendar_count.specs.Calendar.{days_in_year, day_at, ordinal_at, weekday_at, iso_year_at, iso_week_at}
+use Rattle.calendar_count.specs.Calendar.{IsDay, days_in_year, day_at, ymd, ordinal_at, weekday_at, iso_year_at, iso_week_at}
 use Rattle.calendar_count.specs.Closed.{days_before_year}
 use Rattle.calendar_count.specs.March.{march_days}
 use Rattle.calendar_count.specs.Place.{place_count, IsPlace, first_thursday, iso_count}
 use Rattle.calendar_count.specs.declared.component_range.ComponentName.TheVariants.{Ordinal, Week}
 use Rattle.calendar_count.proofs.lemmas.Places.{place-year, place-ordinal, iso_count-is, iso_count-at, march_day, january_day}
+use Rattle.calendar_count.proofs.lemmas.Days.{day_valid}
 use Rattle.calendar_count.proofs.lemmas.Years.{ordinal_after}
-use Rattle.parsing_dates.specs.NamedDay.{is_ordinal_day, is_iso_day, ordinal_date_of, iso_week_date_of}
-use Rattle.parsing_dates.proofs.NamedDayLemmas.{one_day}
+use Rattle.parsing_values.specs.NamedDay.{is_ordinal_day, is_iso_day, ordinal_date_of, iso_week_date_of}
+use Rattle.parsing_values.proofs.NamedDayLemmas.{one_day}
 use Rattle.parsing_iso8601.specs.Days.{NamesOrdinal, NamesWeek}
 
 -- ---- the years of four digits
@@ -57,25 +58,23 @@ ordinal_named year ordinal four range =
     one_day y Ordinal (is_ordinal_day y ordinal) c place.0 (count_within year ordinal four range) here (λ k within passes.
     omega (arith, count_is year ordinal, ordinal_of y ordinal k passes, ordinal_after k (year + greatest_year) y (since year) (year_of_ordinal y ordinal k passes)))
 
+-- a day by its count is one that the calendar has
+day_there : (y : ℤ) (m d count : ℕ) → IsCount count → day_at count ≡ ymd y m d → IsDay y m d
+day_there y m d count within is = rw is at (day_valid count within)
+
 -- behind February
 pub march_ordinal : (year ordinal k m d : ℕ) → year ≤ 9999 → IsInRange 1 365 ordinal → ordinal + 305 ≡ days_in_year (pos year) + k → march_days m + d ≡ k → k < march_days (m + 1) → 3 ≤ m → m ≤ 12 → NamesOrdinal year ordinal m (d + 1)
 march_ordinal year ordinal k m d four range is day next low high =
     let c = place_count (pos year) ordinal in
-    record {
-      count = c;
-      named = ordinal_named year ordinal four range;
-      day_is = march_day c (year + greatest_year) k m d (pos year) (since year) (omega (arith, count_is year ordinal, next_year year, is, range.0)) day next low high;
-    }
+    let is_day = march_day c (year + greatest_year) k m d (pos year) (since year) (omega (arith, count_is year ordinal, next_year year, is, range.0)) day next low high in
+    record { count = c; named = ordinal_named year ordinal four range; day_is = is_day; there = day_there (pos year) m (d + 1) c (count_within year ordinal four range) is_day }
 
 -- in January or February
 pub january_ordinal : (year ordinal k m d : ℕ) → year ≤ 9999 → IsInRange 1 365 ordinal → ordinal + 305 ≡ k → k < days_in_year (pos year) → march_days m + d ≡ k → k < march_days (m + 1) → 13 ≤ m → m ≤ 14 → NamesOrdinal year ordinal (m - 12) (d + 1)
 january_ordinal year ordinal k m d four range is early day next low high =
     let c = place_count (pos year) ordinal in
-    record {
-      count = c;
-      named = ordinal_named year ordinal four range;
-      day_is = january_day c (year + greatest_year) k m d (pos year) (since year) (omega (arith, count_is year ordinal, is, range.0)) (omega (arith, count_is year ordinal, next_year year, is, range.0)) day next low high;
-    }
+    let is_day = january_day c (year + greatest_year) k m d (pos year) (since year) (omega (arith, count_is year ordinal, is, range.0)) (omega (arith, count_is year ordinal, next_year year, is, range.0)) day next low high in
+    record { count = c; named = ordinal_named year ordinal four range; day_is = is_day; there = day_there (pos year) (m - 12) (d + 1) c (count_within year ordinal four range) is_day }
 
 -- ---- days of weeks
 

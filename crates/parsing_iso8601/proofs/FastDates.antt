@@ -12,13 +12,13 @@ use Rattle.std.proofs.lemmas.Int.{ints}
 use Rattle.calendar_count.specs.Calendar.{is_year, day_at, ymd}
 use Rattle.calendar_count.specs.ComponentRange.{out_of_conditional_range}
 use Rattle.calendar_count.specs.declared.component_range.ComponentName.TheVariants.{Day}
-use Rattle.parsing_dates.specs.NamedDay.{calendar_date_of}
+use Rattle.parsing_values.specs.NamedDay.{calendar_date_of}
 use Rattle.parsing_fields.proofs.lemmas.Moments.{day_found, day_of_count}
 use Rattle.parsing_iso8601.specs.declared.written.WrittenDate.{WrittenDate}
 use Rattle.parsing_iso8601.specs.Fast.{NamesDay, ReadsDay}
 use Rattle.parsing_iso8601.specs.ReadView.{day_named}
-use Rattle.parsing_pieces.specs.Chunks.{IsYearMonth}
-use Rattle.parsing_pieces.specs.Pieces.{digits, byte}
+use Rattle.parsing_combinator.specs.Chunks.{IsYearMonth}
+use Rattle.parsing_combinator.specs.Pieces.{digits, byte}
 use Rattle.parsing_iso8601.specs.declared.kind.Kind.TheVariants.{Extended}
 use Rattle.parsing_iso8601.specs.declared.written.WrittenDate.TheVariants.{OfMonth}
 use Rattle.parsing_iso8601.specs.Dates.{month_and_day, date_of_month, date_behind, year_and_kind}

@@ -7,11 +7,11 @@ use Rattle.std.specs.Option.{unwrap_or}
 use Rattle.calendar.specs.Time.{time_of}
 use Rattle.calendar.specs.UtcOffset.{offset_of}
 use Rattle.datetime_wall.specs.Wall.{wall_clock}
-use Rattle.parsing_dates.specs.NamedDate.{named_date, in_range, by_ordinal, by_day, by_iso_week, year_of, split_year}
-use Rattle.parsing_moments.specs.NamedTime.{named_time, named_offset, hour_of, half_day_hour, finer_parts, seconds_behind}
-use Rattle.parsing_moments.specs.NamedMoment.{named_moment, dated_moment, named_wall}
-use Rattle.parsing_resolution.specs.Resolution.{permitted_time_of, leap_time_of}
-use Rattle.parsing_resolution.specs.StandIn.{leap_checked}
+use Rattle.parsing_values.specs.NamedDate.{named_date, in_range, by_ordinal, by_day, by_iso_week, year_of, split_year}
+use Rattle.parsing_values.specs.NamedTime.{named_time, named_offset, hour_of, half_day_hour, finer_parts, seconds_behind}
+use Rattle.parsing_values.specs.NamedMoment.{named_moment, dated_moment, named_wall}
+use Rattle.parsing_values.specs.Resolution.{permitted_time_of, leap_time_of}
+use Rattle.parsing_values.specs.StandIn.{leap_checked}
 use Rattle.parsing_iso8601.specs.declared.kind.Kind.{Kind}
 use Rattle.parsing_iso8601.specs.declared.written.WrittenDate.{WrittenDate}
 use Rattle.parsing_iso8601.specs.declared.written.WrittenDate.TheVariants.{OfMonth, OfYear, OfWeek}

@@ -5,9 +5,9 @@ use Rattle.std.proofs.lemmas.Bool.Decides.{nat_tests}
 use Rattle.std.proofs.Common.{arith}
 use Rattle.byte_names.specs.Bytes.{hyphen, upper_z}
 use Rattle.calendar.specs.UtcOffset.{offset_of}
-use Rattle.parsing_pieces.specs.Pieces.{byte, digits, sign}
-use Rattle.parsing_resolution.specs.Resolution.{signed_offset_of}
-use Rattle.parsing_resolution.proofs.lemmas.Ranges.{offset_ranges}
+use Rattle.parsing_combinator.specs.Pieces.{byte, digits, sign}
+use Rattle.parsing_values.specs.Resolution.{signed_offset_of}
+use Rattle.parsing_values.proofs.lemmas.Ranges.{offset_ranges}
 use Rattle.parsing_iso8601.specs.Fast.{IsAllOffset}
 use Rattle.parsing_iso8601.specs.Numbers.{signed}
 use Rattle.parsing_iso8601.specs.Offsets as Offsets

@@ -4,8 +4,8 @@ use Rattle.std.specs.Borrow.{Bor}
 use Rattle.std.specs.Prelude.{nat_lt, IfSome}
 use Rattle.std.proofs.lemmas.Bool.Decides.{nat_tests}
 use Rattle.byte_names.specs.Bytes.{colon}
-use Rattle.parsing_pieces.specs.Chunks.{IsClock}
-use Rattle.parsing_pieces.specs.Pieces.{digits, fraction, byte}
+use Rattle.parsing_combinator.specs.Chunks.{IsClock}
+use Rattle.parsing_combinator.specs.Pieces.{digits, fraction, byte}
 use Rattle.parsing_iso8601.specs.Designators.{time_designator}
 use Rattle.parsing_iso8601.specs.Fractions.{rounded_part_of}
 use Rattle.parsing_iso8601.specs.declared.kind.Kind.TheVariants.{Basic, Extended}

@@ -1,5 +1,6 @@
 pub mod Carrying
 pub mod DayLemmas
+pub mod EndLemmas
 pub mod Entries
 pub mod Pieces
 pub mod PlaceLemmas

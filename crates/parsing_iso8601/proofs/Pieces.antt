@@ -3,8 +3,8 @@ use Rattle.std.proofs.Common.{◌≡◌, ℕ, ◌+◌, ◌≤◌, ◌==◌, ◌|
 use Rattle.std.specs.Prelude.{option_map}
 use Rattle.std.specs.Char.{is_ascii_digit}
 use Rattle.std.proofs.lemmas.Bool.Decides.{nat_tests}
-use Rattle.parsing_pieces.specs.Pieces.{digits, digit_run, fraction, nanoseconds_of, byte, skip_of, byte_of, sign, digit_count}
-use Rattle.parsing_pieces.proofs.Decimal.{digit_here}
+use Rattle.parsing_combinator.specs.Pieces.{digits, digit_run, fraction, nanoseconds_of, byte, skip_of, byte_of, sign, digit_count}
+use Rattle.parsing_combinator.proofs.Decimal.{digit_here}
 use Rattle.parsing_iso8601.specs.Numbers.{decimal_mark}
 
 abbrev there : {A : Type 0} → A → Option A
@@ -96,3 +96,13 @@ mapped {B = B} f (Some x) v rest h on =
 pub fraction_run : {C : Type 0} (bytes : List ℕ) (n : ℕ) (rest : List ℕ) → fraction bytes ≡ Some (n, rest) → ((run : List ℕ) → digit_run bytes ≡ Some (run, rest) → nanoseconds_of run ≡ n → C) → C
 unfolding fraction
 fraction_run bytes n rest h on = mapped nanoseconds_of (digit_run bytes) n rest h on
+
+run_rest : (bytes run rest : List ℕ) → digit_run bytes ≡ Some (run, rest) → drop (digit_count bytes) bytes ≡ rest
+unfolding digit_run
+run_rest bytes run rest e =
+    let k = digit_count bytes in
+    ap (λ (x : List ℕ × List ℕ). x.1) (not_passed (k == 0) (take k bytes, drop k bytes) (run, rest) e)
+
+-- what a fraction leaves
+pub fraction_rest : (bytes : List ℕ) (n : ℕ) (rest : List ℕ) → fraction bytes ≡ Some (n, rest) → drop (digit_count bytes) bytes ≡ rest
+fraction_rest bytes n rest h = fraction_run bytes n rest h (λ run e is. run_rest bytes run rest e)

@@ -1,21 +1,22 @@
 -- The fronts of texts by the places of their parts.
-use Rattle.std.proofs.Common.{◌≡◌, ◌≤◌, ◌<◌, ◌+◌, ◌-◌, ◌*◌, ◌∙◌, ◌==◌, ℕ, zero, suc, true, false, List, length, get_or, drop, leb, Option, Some, None, Ok, Err, refl, arith, pos}
+use Rattle.std.proofs.Common.{◌≡◌, ◌≤◌, ◌<◌, ◌+◌, ◌-◌, ◌*◌, ◌∙◌, ◌==◌, ℕ, zero, suc, true, false, List, length, get_or, drop, leb, Option, Some, None, Ok, Err, refl, sym, ap, arith, pos, ℤ}
 use Rattle.std.specs.Prelude.{option_map, codes}
 use Rattle.std.specs.Char.{is_ascii_digit}
 use Rattle.std.proofs.lemmas.Bool.Decides.{nat_tests}
 use Rattle.std.proofs.lemmas.List.{drop-drop, drop_more, get_or-drop, length-drop}
 use Rattle.byte_names.specs.Bytes.{hyphen}
+use Rattle.calendar_count.specs.Calendar.{IsDay}
 use Rattle.calendar_count.specs.Month.{month_number}
 use Rattle.calendar_count.specs.Weekday.{days_from_monday}
 use Rattle.calendar_count.specs.declared.month.Month.{Month}
 use Rattle.calendar_count.specs.declared.weekday.Weekday.{Weekday}
 use Rattle.calendar_count.specs.declared.weekday.Weekday.TheVariants.{Monday, Tuesday, Wednesday, Thursday, Friday, Saturday, Sunday}
-use Rattle.parsing_pieces.specs.Chunks.{IsClock}
-use Rattle.parsing_pieces.specs.Fault.{Fault, literal, component}
-use Rattle.parsing_pieces.specs.Pieces.{digits, byte, skip_of}
-use Rattle.parsing_pieces.specs.Places.{HasDigit}
-use Rattle.parsing_pieces.proofs.AtPlaces.{is_digit, at_least, first_at, two_there, byte_there}
-use Rattle.parsing_pieces.proofs.Fixed.{digits_one, digits_two, digits_three}
+use Rattle.parsing_combinator.specs.Chunks.{IsClock}
+use Rattle.parsing_combinator.specs.Fault.{Fault, literal, component}
+use Rattle.parsing_combinator.specs.Pieces.{digits, byte, skip_of}
+use Rattle.parsing_combinator.specs.Places.{HasDigit, HasPair}
+use Rattle.parsing_combinator.proofs.AtPlaces.{is_digit, at_least, first_at, two_there, byte_there}
+use Rattle.parsing_combinator.proofs.Fixed.{digits_one, digits_two, digits_three}
 use Rattle.parsing_iso8601.specs.Dates.{month_and_day, date_of_month, date_of_year, date_of_week, week_and_weekday, date_without_month, date_behind, year_and_kind}
 use Rattle.parsing_iso8601.specs.Days.{NamesOrdinal, NamesWeekDay}
 use Rattle.parsing_iso8601.specs.Designators.{time_designator, week_designator}
@@ -29,10 +30,11 @@ use Rattle.parsing_iso8601.specs.declared.written.WrittenDate.TheVariants.{OfMon
 use Rattle.parsing_iso8601.proofs.Entries.{weekday_entry}
 use Rattle.parsing_iso8601.proofs.FastDates.{year_of, month_of, within, named_month, month_names, count_names}
 use Rattle.parsing_iso8601.proofs.FastTimes.{time_of_chunk, basic_time_of}
+use Rattle.parsing_iso8601.proofs.Pieces.{same}
 
 -- ---- what is not there
 
-not_digit : (c : ℕ) → 57 < c → is_ascii_digit c ≡ false
+pub not_digit : (c : ℕ) → 57 < c → is_ascii_digit c ≡ false
 not_digit c high = grind (arith, nat_tests)
 
 -- no two digits, where the first is none
@@ -47,7 +49,7 @@ no_second text place room h high =
     let long : leb 2 (length (drop place text)) ≡ true = at_least 2 (length (drop place text)) (omega (arith, length-drop place text)) in
     digits_two (drop place text) ∙ rw (long, first_at text place, get_or-drop place text 1 0, is_digit (get_or text place 0) h.low h.high, not_digit (get_or text (place + 1) 0) high) refl
 
-other_byte : (text : List ℕ) (place c : ℕ) → place < length text → (get_or text place 0 ≡ c → ⊥) → byte c (drop place text) ≡ None
+pub other_byte : (text : List ℕ) (place c : ℕ) → place < length text → (get_or text place 0 ≡ c → ⊥) → byte c (drop place text) ≡ None
 unfolding skip_of
 other_byte text place c lt other =
     let t : (get_or text place 0 == c) ≡ false = grind (arith, nat_tests) in
@@ -190,6 +192,10 @@ basic_ordinal_day text y m d s p0 o =
       of_ordinal y o.ordinal m d o.named,
     )
 
+-- no month has more than 31 days
+pub few_days : (y : ℤ) (m d : ℕ) → IsDay y m d → d ≤ 31
+few_days y m d h = let most = h.4 in grind (arith, nat_tests)
+
 pub basic_calendar_day : (text : List ℕ) (y m d : ℕ) → IsBasicCalendar text → digits 4 text ≡ Some (y, drop 4 text) → digits 2 (drop 4 text) ≡ Some (m, drop 6 text) → digits 2 (drop 6 text) ≡ Some (d, drop 8 text) → 1 ≤ m → m ≤ 12 → 1 ≤ d → d ≤ 31 → ReadsDay text y m d Basic (drop 8 text)
 basic_calendar_day text y m d s p0 p2 p3 low high some most =
     let room = s.clock.second.room in
@@ -220,3 +226,30 @@ basic_clock_of text place h m s k p1 p2 p3 =
     let fifth : place + 1 + 4 ≡ place + 5 = omega arith in
     let seventh : place + 5 + 2 ≡ place + 7 = omega arith in
     basic_clock_reads text place h m s k (rw third at p1) (rw (third, fifth) at p2) (rw seventh at p3)
+
+-- ---- numbers below sixty
+
+-- two digits whose tens are at most 5
+sixty_at : (text : List ℕ) (place n : ℕ) (rest : List ℕ) → HasPair text place → get_or text place 0 ≤ 53 → digits 2 (drop place text) ≡ Some (n, rest) → n ≤ 59
+sixty_at text place n rest pair tens e =
+    let both = same ((get_or text place 0 - 48) * 10 + (get_or text (place + 1) 0 - 48), drop (place + 2) text) (n, rest) (sym (two_there text place pair) ∙ e) in
+    let is : (get_or text place 0 - 48) * 10 + (get_or text (place + 1) 0 - 48) ≡ n = ap (λ (x : ℕ × List ℕ). x.0) both in
+    omega (arith, is, pair.second.high)
+
+pub minute_of_clock : (text : List ℕ) (place h m s : ℕ) (rest : List ℕ) → HasExtendedClock text place → IsClock (drop (place + 1) text) h m s rest → m ≤ 59
+minute_of_clock text place h m s rest k is =
+    let fourth : place + 1 + 3 ≡ place + 4 = omega arith in
+    sixty_at text (place + 4) m _ (rw fourth at k.clock.minute) k.minute_tens (rw (drop-drop 3 (place + 1) text, fourth) at is.minute_digits)
+
+pub second_of_clock : (text : List ℕ) (place h m s : ℕ) (rest : List ℕ) → HasExtendedClock text place → IsClock (drop (place + 1) text) h m s rest → s ≤ 59
+second_of_clock text place h m s rest k is =
+    let seventh : place + 1 + 6 ≡ place + 7 = omega arith in
+    sixty_at text (place + 7) s _ (rw seventh at k.clock.second) k.second_tens (rw (drop-drop 6 (place + 1) text, seventh) at is.second_digits)
+
+pub basic_minute : (text : List ℕ) (place m : ℕ) (rest : List ℕ) → HasBasicClock text place → digits 2 (drop (place + 1 + 2) text) ≡ Some (m, rest) → m ≤ 59
+basic_minute text place m rest k e =
+    let third : place + 1 + 2 ≡ place + 3 = omega arith in
+    sixty_at text (place + 3) m rest k.minute k.minute_tens (rw third at e)
+
+pub basic_second : (text : List ℕ) (place s : ℕ) (rest : List ℕ) → HasBasicClock text place → digits 2 (drop (place + 5) text) ≡ Some (s, rest) → s ≤ 59
+basic_second text place s rest k e = sixty_at text (place + 5) s rest k.second k.second_tens e

@@ -5,7 +5,7 @@ use Rattle.std.proofs.lemmas.Bool.{cases_lt}
 use Rattle.std.proofs.lemmas.Bool.Decides.{nat_tests}
 use Rattle.std.proofs.lemmas.Nat.{pow-add, div_below, le-div, div-add-mod'}
 use Rattle.std.proofs.Math.Nat.{one-le-pow, mul_assoc, mul-mod_left, mod-lt}
-use Rattle.parsing_pieces.specs.Pieces.{nanoseconds_of}
+use Rattle.parsing_combinator.specs.Pieces.{nanoseconds_of}
 use Rattle.parsing_iso8601.specs.Fractions.{rounded_part_of}
 
 -- a quotient by its bounds

@@ -5,14 +5,14 @@ use Rattle.std.specs.Prelude.{IfOk, IfErr, codes, nat_le, nat_lt, not, is_some, 
 use Rattle.std.specs.Result.{is_ok}
 use Rattle.std.specs.Int.{is_in_range}
 use Rattle.byte_names.specs.Bytes.{hyphen, colon, upper_z}
-use Rattle.parsing_pieces.specs.Fault.{Fault, literal, component}
-use Rattle.parsing_pieces.specs.FaultOf.{Gives, reading_fault}
-use Rattle.parsing_pieces.specs.Pieces.{Piece, digits, digit_run, byte, sign}
-use Rattle.parsing_pieces.specs.Readings.{Reading, then_read}
-use Rattle.parsing_pieces.specs.ShortName.{HasShortName}
-use Rattle.parsing_pieces.specs.Tame.{EndsWith, Leaves, Tame, IsTame}
-use Rattle.parsing_pieces.specs.declared.fault.ParseFromDescription.{ParseFromDescription}
-use Rattle.parsing_pieces.proofs.lemmas.Tame.{joined, whole_end, digits_leaves, byte_leaves, skip_leaves, run_leaves, piece_tame, further, then_tame, require_tame, entered_tame, front_ends, front_short}
+use Rattle.parsing_combinator.specs.Fault.{Fault, literal, component}
+use Rattle.parsing_combinator.specs.FaultOf.{Gives, reading_fault}
+use Rattle.parsing_combinator.specs.Pieces.{Piece, digits, digit_run, byte, sign}
+use Rattle.parsing_combinator.specs.Readings.{Reading, then_read}
+use Rattle.parsing_combinator.specs.ShortName.{HasShortName}
+use Rattle.parsing_combinator.specs.Tame.{EndsWith, Leaves, Tame, IsTame}
+use Rattle.parsing_combinator.specs.declared.fault.ParseFromDescription.{ParseFromDescription}
+use Rattle.parsing_combinator.proofs.lemmas.Tame.{joined, whole_end, digits_leaves, byte_leaves, skip_leaves, run_leaves, piece_tame, further, then_tame, require_tame, entered_tame, front_ends, front_short}
 use Rattle.parsing_iso8601.specs.declared.kind.Kind.{Kind}
 use Rattle.parsing_iso8601.specs.declared.kind.Kind.TheVariants.{Unknown, Basic, Extended}
 use Rattle.parsing_iso8601.specs.declared.written.Iso8601Parts.{Iso8601Parts}

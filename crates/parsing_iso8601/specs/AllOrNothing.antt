@@ -1,6 +1,6 @@
 -- Pieces one after another: where one of them has no front, neither have all.
 use Rattle.std.specs.Prelude.{ℕ, Bool, List, Option, Some, None, if◌then◌else◌}
-use Rattle.parsing_pieces.specs.Pieces.{Piece}
+use Rattle.parsing_combinator.specs.Pieces.{Piece}
 
 abbrev pub then_cut : {A B : Type 0} → Option (A × List ℕ) → (A → Piece B) → Option (B × List ℕ)
 then_cut None f = None

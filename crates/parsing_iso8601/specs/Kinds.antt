@@ -1,8 +1,8 @@
 -- Texts of the basic format have nothing between their numbers; those of the extended format have hyphens and colons (ISO 8601-1:2019, 4.2).
 use Rattle.byte_names.specs.Bytes.{hyphen, colon}
-use Rattle.parsing_pieces.specs.Fault.{literal}
-use Rattle.parsing_pieces.specs.Pieces.{Piece, byte}
-use Rattle.parsing_pieces.specs.Readings.{Reading, ◌or◌, give, if_there}
+use Rattle.parsing_combinator.specs.Fault.{literal}
+use Rattle.parsing_combinator.specs.Pieces.{Piece, byte}
+use Rattle.parsing_combinator.specs.Readings.{Reading, ◌or◌, give, if_there}
 use Rattle.parsing_iso8601.specs.AllOrNothing as part
 use Rattle.parsing_iso8601.specs.declared.kind.Kind.{Kind}
 use Rattle.parsing_iso8601.specs.declared.kind.Kind.TheVariants.{Unknown, Basic, Extended}

@@ -2,8 +2,8 @@
 use Rattle.std.specs.Prelude.{◌≡◌, ℕ, List, Ok}
 use Rattle.std.specs.Option.{IsSome}
 use Rattle.datetime_wall.specs.Wall.{Shown}
-use Rattle.parsing_pieces.specs.Readings.{value_read}
-use Rattle.parsing_moments.specs.NamedMoment.{named_moment}
+use Rattle.parsing_combinator.specs.Readings.{value_read}
+use Rattle.parsing_values.specs.NamedMoment.{named_moment}
 use Rattle.parsing_iso8601.specs.declared.written.Iso8601Parts.{Iso8601Parts}
 use Rattle.parsing_iso8601.specs.Parts.{parts_of, offset_parts_of}
 use Rattle.parsing_iso8601.specs.Reading.{whole}

@@ -6,7 +6,7 @@ use Rattle.calendar_count.specs.declared.month.Month.{Month}
 use Rattle.calendar_count.specs.declared.month.Month.TheVariants.{January, February, March, April, May, June, July, August, September, October, November, December}
 use Rattle.calendar_count.specs.declared.weekday.Weekday.{Weekday}
 use Rattle.calendar_count.specs.declared.weekday.Weekday.TheVariants.{Monday, Tuesday, Wednesday, Thursday, Friday, Saturday, Sunday}
-use Rattle.parsing_pieces.specs.Pieces.{Piece, digits, digit_run, skip_of, sign}
+use Rattle.parsing_combinator.specs.Pieces.{Piece, digits, digit_run, skip_of, sign}
 use Rattle.parsing_iso8601.specs.AllOrNothing.{◌>>=◌, give, if_there}
 use Rattle.parsing_iso8601.specs.Designators.{comma}
 

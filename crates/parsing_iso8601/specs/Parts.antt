@@ -1,10 +1,10 @@
 -- What the parts of a text say of a moment.
 use Rattle.std.specs.Prelude.{true, false, Option, Some, None, ℤ}
-use Rattle.parsing_dates.specs.declared.date_parts.YearParts.{YearParts}
-use Rattle.parsing_dates.specs.declared.date_parts.DateParts.{DateParts}
-use Rattle.parsing_moments.specs.declared.parts.TimeParts.{TimeParts}
-use Rattle.parsing_moments.specs.declared.parts.OffsetParts.{OffsetParts}
-use Rattle.parsing_moments.specs.declared.parts.MomentParts.{MomentParts}
+use Rattle.parsing_values.specs.declared.date_parts.YearParts.{YearParts}
+use Rattle.parsing_values.specs.declared.date_parts.DateParts.{DateParts}
+use Rattle.parsing_values.specs.declared.parts.TimeParts.{TimeParts}
+use Rattle.parsing_values.specs.declared.parts.OffsetParts.{OffsetParts}
+use Rattle.parsing_values.specs.declared.parts.MomentParts.{MomentParts}
 use Rattle.parsing_iso8601.specs.declared.written.Iso8601Parts.{Iso8601Parts}
 use Rattle.parsing_iso8601.specs.declared.written.WrittenDate.{WrittenDate}
 use Rattle.parsing_iso8601.specs.declared.written.WrittenDate.TheVariants.{OfMonth, OfYear, OfWeek}

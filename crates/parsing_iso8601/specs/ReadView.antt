@@ -4,11 +4,11 @@ use Rattle.std.specs.Borrow.{Bor}
 use Rattle.calendar_count.specs.Month.{month_number}
 use Rattle.calendar_count.specs.Weekday.{days_from_monday}
 use Rattle.calendar_count.specs.declared.component_range.ComponentRange.{ComponentRange}
-use Rattle.parsing_dates.specs.NamedDay.{calendar_date_of, ordinal_date_of, iso_week_date_of}
-use Rattle.parsing_pieces.specs.Fault.{Fault}
-use Rattle.parsing_pieces.specs.FaultOf.{reading_fault}
-use Rattle.parsing_pieces.specs.Pieces.{Piece, digit_count}
-use Rattle.parsing_pieces.specs.declared.fault.ParseFromDescription.{ParseFromDescription}
+use Rattle.parsing_values.specs.NamedDay.{calendar_date_of, ordinal_date_of, iso_week_date_of}
+use Rattle.parsing_combinator.specs.Fault.{Fault}
+use Rattle.parsing_combinator.specs.FaultOf.{reading_fault}
+use Rattle.parsing_combinator.specs.Pieces.{Piece, digit_count}
+use Rattle.parsing_combinator.specs.declared.fault.ParseFromDescription.{ParseFromDescription}
 use Rattle.parsing_iso8601.specs.declared.written.WrittenDate.{WrittenDate}
 use Rattle.parsing_iso8601.specs.declared.written.WrittenDate.TheVariants.{OfMonth, OfYear, OfWeek}
 use Rattle.parsing_iso8601.specs.Numbers.{fraction_digits}

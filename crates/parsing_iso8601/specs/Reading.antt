@@ -1,9 +1,9 @@
 -- ISO 8601: a date, a time of day and an offset, each of which may be missing (ISO 8601-1:2019, 5.4).
 use Rattle.std.specs.Prelude.{ℕ, ◌||◌, Bool, not, List, Result, Ok, Err, Option, Some, None, is_some, option_map, if◌then◌else◌, ℤ}
 use Rattle.std.specs.Result.{is_ok}
-use Rattle.parsing_pieces.specs.Fault.{Fault}
-use Rattle.parsing_pieces.specs.Pieces.{Piece}
-use Rattle.parsing_pieces.specs.Readings.{Reading, ◌>>=◌, ◌>>◌, give, end}
+use Rattle.parsing_combinator.specs.Fault.{Fault}
+use Rattle.parsing_combinator.specs.Pieces.{Piece}
+use Rattle.parsing_combinator.specs.Readings.{Reading, ◌>>=◌, ◌>>◌, give, end}
 use Rattle.parsing_iso8601.specs.declared.kind.Kind.{Kind}
 use Rattle.parsing_iso8601.specs.declared.kind.Kind.TheVariants.{Unknown}
 use Rattle.parsing_iso8601.specs.declared.written.Iso8601Parts.{Iso8601Parts}

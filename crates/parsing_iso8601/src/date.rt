@@ -2,7 +2,7 @@
 ghost use Rattle.std.specs.Prelude.{IfOk};
 ghost use Rattle.std.specs.Int.{IsInRange};
 ghost use Rattle.calendar_count.specs.Range.{IsYear};
-ghost use Rattle.parsing_pieces.specs.FaultOf.{Gives, reading_fault};
+ghost use Rattle.parsing_combinator.specs.FaultOf.{Gives, reading_fault};
 ghost use Rattle.parsing_iso8601.specs.Dates as Dates;
 ghost use Rattle.parsing_iso8601.specs.Ranges.{IsDateInRange};
 
@@ -10,8 +10,8 @@ use crate::kind::{Kind, dash, kind_of_date};
 use crate::number;
 use crate::written::WrittenDate;
 use calendar_count::{Month, Weekday};
-use parsing_pieces::ParseFromDescription::{self, InvalidComponent};
-use parsing_pieces::byte;
+use parsing_combinator::ParseFromDescription::{self, InvalidComponent};
+use parsing_combinator::byte;
 
 #[tactic(auto, unfolding(crate::specs::Dates::month_and_day))]
 #[inline(always)]

@@ -9,8 +9,8 @@ use crate::moment::day_named;
 use crate::offset::{maybe_colon, offset_minute};
 use crate::reading::dated;
 use crate::written::WrittenDate;
+use parsing_combinator::{byte, clock, sign, two_digits, year_month};
 use parsing_fields::signed_minutes;
-use parsing_pieces::{byte, clock, sign, two_digits, year_month};
 
 // The year of a date in four digits.
 #[inline(always)]

@@ -1,6 +1,6 @@
 //! Exact fractions of hours, minutes and seconds.
 ghost use Rattle.std.specs.Prelude.{◌≡◌, ◌≤◌, ◌<◌, IfSome, Some, length};
-ghost use Rattle.parsing_pieces.specs.Pieces as Pieces;
+ghost use Rattle.parsing_combinator.specs.Pieces as Pieces;
 ghost use Rattle.parsing_iso8601.specs.Fractions as Fractions;
 ghost use Rattle.parsing_iso8601.specs.ReadView.{subsecond};
 

@@ -1,10 +1,10 @@
 //! The kind of a text, handed from part to part.
 ghost use Rattle.std.specs.Prelude.{◌≡◌, Ok};
-ghost use Rattle.parsing_pieces.specs.FaultOf.{Gives, reading_fault};
-ghost use Rattle.parsing_pieces.specs.Pieces.{cut_view};
+ghost use Rattle.parsing_combinator.specs.FaultOf.{Gives, reading_fault};
+ghost use Rattle.parsing_combinator.specs.Pieces.{cut_view};
 ghost use Rattle.parsing_iso8601.specs.Kinds as Kinds;
 
-use parsing_pieces::{ParseFromDescription, byte};
+use parsing_combinator::{ParseFromDescription, byte};
 
 /// How a text separates its numbers: the basic kind by nothing, the extended kind by hyphens and colons.
 #[derive(Clone, Copy, Debug, PartialEq, Eq)]

@@ -3,6 +3,7 @@
 
 mod calendar_days;
 mod date;
+mod ends;
 mod fast;
 mod fraction;
 mod kind;

@@ -2,17 +2,15 @@
 ghost use Rattle.std.specs.Prelude.{◌≡◌, IfSome};
 ghost use Rattle.parsing_fields.specs.Moment.{moment_of};
 ghost use Rattle.parsing_iso8601.specs.Moment.{IsOfOffset};
-ghost use Rattle.parsing_iso8601.specs.Places.{ReadsFront};
 ghost use Rattle.parsing_iso8601.specs.ReadView.{day_named};
 
+use crate::ends::{fraction_between, read_front};
 use crate::fast::{fast_clock, fast_day, fast_offset};
 use crate::fraction::fast_fraction;
-use crate::places::{Front, read_front};
 use crate::written::WrittenDate;
 use calendar::{ComponentRange, Date};
-use datetime_types::OffsetDateTime;
-use parsing_dates::named_day;
 use parsing_fields::{Fields, minute_of_day};
+use parsing_values::{OffsetDateTime, named_day};
 
 // The day that a date names, or the first of its numbers that is out of range.
 #[inline(always)]
@@ -26,35 +24,38 @@ pub(crate) fn day_named(date: WrittenDate) -> Result<Date, ComponentRange>
     }
 }
 
-// The front of a text, by its parts one after another.
+// The fields of a text, by its parts one after another.
 #[inline(never)]
 #[cold]
-fn front_by_parts(input: &[u8]) -> Option<Front<'_>>
-    ensures { IfSome result (ReadsFront input.now) }
+fn read_by_parts(input: &[u8]) -> Option<Fields>
+    ensures { IfSome result (λ fields. IsOfOffset input.now (moment_of fields)) }
 {
     let (((year, month, day), kind), rest) = fast_day(input)?;
     let ((hour, minute, second), rest) = fast_clock(kind, rest)?;
-    Some(Front {
-        year,
-        month,
-        day,
-        hour,
-        minute,
-        second,
-        kind,
-        rest,
-    })
+    let Some(read) = fast_fraction(rest) else {
+        return None;
+    };
+    let offset = fast_offset(kind, read.1)?;
+    let minute_of_day = minute_of_day(hour, minute)?;
+    Fields::new(year, month, day, minute_of_day, second, read.0, offset)
 }
 
-// The front of a text, by its places, or else by its parts.
+// The same by the places of its parts, where it has such places.
 #[inline(always)]
-fn any_front(input: &[u8]) -> Option<Front<'_>>
-    ensures { IfSome result (ReadsFront input.now) }
+fn read_by_places(input: &[u8]) -> Option<Fields>
+    ensures { IfSome result (λ fields. IsOfOffset input.now (moment_of fields)) }
 {
-    match read_front(input) {
-        Some(front) => Some(front),
-        None => front_by_parts(input),
-    }
+    let front = read_front(input)?;
+    let fraction = fraction_between(input, front.place, front.end)?;
+    Some(Fields::of_numbers(
+        front.year,
+        front.month,
+        front.day,
+        front.minute,
+        front.second,
+        fraction,
+        front.offset,
+    ))
 }
 
 /// The fields of a text, where the fast way finds them: `None` says nothing of the text.
@@ -65,21 +66,11 @@ fn any_front(input: &[u8]) -> Option<Front<'_>>
 pub fn read_fields(input: &[u8]) -> Option<Fields>
     ensures { IfSome result (λ fields. IsOfOffset input.now (moment_of fields)) }
 {
-    let front = any_front(input)?;
-    let Some(read) = fast_fraction(front.rest) else {
-        return None;
-    };
-    let offset = fast_offset(front.kind, read.1)?;
-    let minute_of_day = minute_of_day(front.hour, front.minute)?;
-    Fields::new(
-        front.year,
-        front.month,
-        front.day,
-        minute_of_day,
-        front.second,
-        read.0,
-        offset,
-    )
+    if let Some(fields) = read_by_places(input) {
+        return Some(fields);
+    }
+    let fields = read_by_parts(input)?;
+    Some(fields)
 }
 
 /// The moment that a text of ISO 8601 names, where the fast way finds one: `None` says nothing of the text.

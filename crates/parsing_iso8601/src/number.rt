@@ -2,17 +2,17 @@
 ghost use Rattle.std.specs.Prelude.{◌≡◌, ◌<◌, IfSome, option_map};
 ghost use Rattle.std.specs.Int.{IsInRange};
 ghost use Rattle.calendar_count.specs.Range.{IsYear};
-ghost use Rattle.parsing_pieces.specs.Pieces.{cut_view, rest_view};
+ghost use Rattle.parsing_combinator.specs.Pieces.{cut_view, rest_view};
 ghost use Rattle.parsing_iso8601.specs.Numbers as Numbers;
 ghost use Rattle.parsing_iso8601.specs.ReadView.{digits_view, AreDigits};
 
 use calendar_count::{Month, Weekday};
-use parsing_pieces::{
+use parsing_combinator::{
     digit_run, four_digits, one_digit, sign, six_digits, three_digits, two_digits,
 };
 
 /// What stands behind a decimal point or a comma.
-#[tactic(auto, unfolding(crate::specs::Numbers::decimal_mark, parsing_pieces::specs::Pieces::skip_of))]
+#[tactic(auto, unfolding(crate::specs::Numbers::decimal_mark, parsing_combinator::specs::Pieces::skip_of))]
 #[inline(always)]
 pub fn decimal_mark(bytes: &[u8]) -> Option<&[u8]>
     ensures { rest_view result ≡ Numbers.decimal_mark bytes.now }

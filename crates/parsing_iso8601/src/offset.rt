@@ -1,12 +1,12 @@
 //! The offset of a text.
 ghost use Rattle.std.specs.Prelude.{◌≡◌, ◌≤◌, IfSome, Some};
-ghost use Rattle.parsing_pieces.specs.Pieces.{cut_view};
+ghost use Rattle.parsing_combinator.specs.Pieces.{cut_view};
 ghost use Rattle.parsing_iso8601.specs.Offsets as Offsets;
 ghost use Rattle.parsing_iso8601.specs.Ranges.{IsOffsetInRange};
 
 use crate::kind::Kind;
 use crate::written::WrittenOffset;
-use parsing_pieces::{byte, sign, two_digits};
+use parsing_combinator::{byte, sign, two_digits};
 
 // Past a colon that the kind allows.
 #[inline(always)]

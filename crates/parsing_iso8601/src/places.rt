@@ -1,35 +1,32 @@
-//! The fronts of most texts, a date and a time of day to the second, by the places of their parts.
+//! The dates of most texts, each before a time of day to the second, by the places of their parts.
 //!
 //! A date with a month of the extended kind, as `1985-04-12`, is none of these: `fast.rt` has it.
-ghost use Rattle.std.specs.Prelude.{◌≡◌, ◌≤◌, ◌+◌, IfSome, true, drop, length};
-ghost use Rattle.parsing_pieces.specs.Places.{HasDigit, HasPair};
-ghost use Rattle.parsing_iso8601.specs.Fast.{ReadsDay};
+ghost use Rattle.std.specs.Prelude.{◌≡◌, ◌≤◌, ◌+◌, IfSome, pos, true, drop, length};
+ghost use Rattle.calendar_count.specs.Calendar.{IsDay};
+ghost use Rattle.parsing_combinator.specs.Places.{HasDigit, HasPair};
+ghost use Rattle.parsing_iso8601.specs.Fast.{ReadsClock};
 ghost use Rattle.parsing_iso8601.specs.Places as Places;
 ghost use Rattle.parsing_iso8601.specs.declared.kind.Kind.TheVariants as kind;
 
 use crate::calendar_days::{of_ordinal, of_week_day};
-use crate::kind::Kind;
-use parsing_pieces::{
+use calendar_count::closed;
+use parsing_combinator::{
     are_between, are_sixteen_between, clock_at, four_digits_at, two_digits_at, two_pairs_at,
 };
 
-/// A day, a time of day to the second, the kind that they hand on, and what follows them.
+/// The day that a date names, and the place behind the date.
 #[derive(Clone, Copy)]
-pub(crate) struct Front<'a> {
+pub(crate) struct Dated {
     pub(crate) year: u16,
     pub(crate) month: u8,
     pub(crate) day: u8,
-    pub(crate) hour: u8,
-    pub(crate) minute: u8,
-    pub(crate) second: u8,
-    pub(crate) kind: Kind,
-    pub(crate) rest: &'a [u8],
+    pub(crate) place: usize,
 }
 
 // The lowest and the highest bytes of `1985-W15-5T23:20:50`.
 static LOW_WEEK: [u8; 19] = *b"0000-W00-1T00:00:00";
 
-static HIGH_WEEK: [u8; 19] = *b"9999-W99-7T99:99:99";
+static HIGH_WEEK: [u8; 19] = *b"9999-W99-7T99:59:59";
 
 #[inline(always)]
 fn is_extended_week(input: &[u8]) -> bool
@@ -44,7 +41,7 @@ fn is_extended_week(input: &[u8]) -> bool
 // The lowest and the highest bytes of `1985-102T23:20:50`.
 static LOW_ORDINAL: [u8; 17] = *b"0000-000T00:00:00";
 
-static HIGH_ORDINAL: [u8; 17] = *b"9999-999T99:99:99";
+static HIGH_ORDINAL: [u8; 17] = *b"9999-999T99:59:59";
 
 #[inline(always)]
 fn is_extended_ordinal(input: &[u8]) -> bool
@@ -60,15 +57,15 @@ fn is_extended_ordinal(input: &[u8]) -> bool
 // them.
 static LOW_CALENDAR: [u8; 16] = *b"00000000T000000\x00";
 
-static HIGH_CALENDAR: [u8; 16] = *b"99999999T999999\xff";
+static HIGH_CALENDAR: [u8; 16] = *b"99999999T995959\xff";
 
 static LOW_BASIC_WEEK: [u8; 16] = *b"0000W001T000000\x00";
 
-static HIGH_BASIC_WEEK: [u8; 16] = *b"9999W997T999999\xff";
+static HIGH_BASIC_WEEK: [u8; 16] = *b"9999W997T995959\xff";
 
 static LOW_BASIC_ORDINAL: [u8; 16] = *b"0000000T000000\x00\x00";
 
-static HIGH_BASIC_ORDINAL: [u8; 16] = *b"9999999T999999\xff\xff";
+static HIGH_BASIC_ORDINAL: [u8; 16] = *b"9999999T995959\xff\xff";
 
 #[inline(always)]
 fn is_basic_calendar(input: &[u8]) -> bool
@@ -94,47 +91,6 @@ fn is_basic_ordinal(input: &[u8]) -> bool
     are_sixteen_between(input, &LOW_BASIC_ORDINAL, &HIGH_BASIC_ORDINAL)
 }
 
-// A day, and a time of day such as `T23:20:50` at a place.
-#[inline(always)]
-fn extended<'a>(year: u16, day: (u8, u8), input: &'a [u8], place: usize) -> Front<'a>
-    requires clock { Places.HasExtendedClock input.now place }
-    requires day { ReadsDay input.now year day.0 day.1 kind.Extended (drop place input.now) }
-    ensures { Places.ReadsFront input.now result }
-{
-    let (hour, minute, second) = clock_at(input, place + 1);
-    Front {
-        year,
-        month: day.0,
-        day: day.1,
-        hour,
-        minute,
-        second,
-        kind: Kind::Extended,
-        rest: &input[place + 9..],
-    }
-}
-
-// A day, and a time of day such as `T232050` at a place.
-#[inline(always)]
-fn basic<'a>(year: u16, day: (u8, u8), input: &'a [u8], place: usize) -> Front<'a>
-    requires clock { Places.HasBasicClock input.now place }
-    requires day { ReadsDay input.now year day.0 day.1 kind.Basic (drop place input.now) }
-    ensures { Places.ReadsFront input.now result }
-{
-    let (hour, minute) = two_pairs_at(input, place + 1);
-    let second = two_digits_at(input, place + 5);
-    Front {
-        year,
-        month: day.0,
-        day: day.1,
-        hour,
-        minute,
-        second,
-        kind: Kind::Basic,
-        rest: &input[place + 7..],
-    }
-}
-
 // The day of a day of the year in three digits at a place.
 #[inline(always)]
 fn ordinal_at(year: u16, input: &[u8], place: usize) -> Option<(u8, u8)>
@@ -152,64 +108,101 @@ fn ordinal_at(year: u16, input: &[u8], place: usize) -> Option<(u8, u8)>
     Some(of_ordinal(year, ordinal))
 }
 
+// Whether the calendar has a day.
 #[inline(always)]
-fn extended_week(input: &[u8]) -> Option<Front<'_>>
+fn is_day(year: u16, month: u8, day: u8) -> bool
+    requires { year ≤ 9999 }
+    ensures { result ≡ true → IsDay (pos year) month day }
+{
+    if month < 1 || month > 12 {
+        return false;
+    }
+    closed::has_day(i32::from(year), month, day)
+}
+
+#[inline(always)]
+fn extended_week(input: &[u8]) -> Option<Dated>
     requires { Places.IsExtendedWeek input.now }
-    ensures { IfSome result (Places.ReadsFront input.now) }
+    ensures { IfSome result (Places.HasExtendedDate input.now) }
 {
     let year = four_digits_at(input, 0);
-    let day = of_week_day(year, two_digits_at(input, 6), input[9] - b'1')?;
-    Some(extended(year, day, input, 10))
+    let (month, day) = of_week_day(year, two_digits_at(input, 6), input[9] - b'1')?;
+    Some(Dated {
+        year,
+        month,
+        day,
+        place: 10,
+    })
 }
 
 #[inline(always)]
-fn extended_ordinal(input: &[u8]) -> Option<Front<'_>>
+fn extended_ordinal(input: &[u8]) -> Option<Dated>
     requires { Places.IsExtendedOrdinal input.now }
-    ensures { IfSome result (Places.ReadsFront input.now) }
+    ensures { IfSome result (Places.HasExtendedDate input.now) }
 {
     let year = four_digits_at(input, 0);
-    let day = ordinal_at(year, input, 5)?;
-    Some(extended(year, day, input, 8))
+    let (month, day) = ordinal_at(year, input, 5)?;
+    Some(Dated {
+        year,
+        month,
+        day,
+        place: 8,
+    })
 }
 
 #[inline(always)]
-fn basic_calendar(input: &[u8]) -> Option<Front<'_>>
+fn basic_calendar(input: &[u8]) -> Option<Dated>
     requires { Places.IsBasicCalendar input.now }
-    ensures { IfSome result (Places.ReadsFront input.now) }
+    ensures { IfSome result (Places.HasBasicDate input.now) }
 {
     let year = four_digits_at(input, 0);
-    let day = two_pairs_at(input, 4);
-    if day.0 < 1 || day.0 > 12 || day.1 < 1 || day.1 > 31 {
+    let (month, day) = two_pairs_at(input, 4);
+    if !is_day(year, month, day) {
         return None;
     }
-    Some(basic(year, day, input, 8))
+    Some(Dated {
+        year,
+        month,
+        day,
+        place: 8,
+    })
 }
 
 #[inline(always)]
-fn basic_week(input: &[u8]) -> Option<Front<'_>>
+fn basic_week(input: &[u8]) -> Option<Dated>
     requires { Places.IsBasicWeek input.now }
-    ensures { IfSome result (Places.ReadsFront input.now) }
+    ensures { IfSome result (Places.HasBasicDate input.now) }
 {
     let year = four_digits_at(input, 0);
-    let day = of_week_day(year, two_digits_at(input, 5), input[7] - b'1')?;
-    Some(basic(year, day, input, 8))
+    let (month, day) = of_week_day(year, two_digits_at(input, 5), input[7] - b'1')?;
+    Some(Dated {
+        year,
+        month,
+        day,
+        place: 8,
+    })
 }
 
 #[inline(always)]
-fn basic_ordinal(input: &[u8]) -> Option<Front<'_>>
+fn basic_ordinal(input: &[u8]) -> Option<Dated>
     requires { Places.IsBasicOrdinal input.now }
-    ensures { IfSome result (Places.ReadsFront input.now) }
+    ensures { IfSome result (Places.HasBasicDate input.now) }
 {
     let year = four_digits_at(input, 0);
-    let day = ordinal_at(year, input, 4)?;
-    Some(basic(year, day, input, 7))
+    let (month, day) = ordinal_at(year, input, 4)?;
+    Some(Dated {
+        year,
+        month,
+        day,
+        place: 7,
+    })
 }
 
-// The front of a text with a hyphen behind its year.
+/// The date of a text with a hyphen behind its year, where a time of day to the second follows it.
 #[inline(always)]
-fn extended_front(input: &[u8]) -> Option<Front<'_>>
+pub(crate) fn extended_date(input: &[u8]) -> Option<Dated>
     requires { 16 ≤ length input.now }
-    ensures { IfSome result (Places.ReadsFront input.now) }
+    ensures { IfSome result (Places.HasExtendedDate input.now) }
 {
     if input[5] == b'W' {
         if is_extended_week(input) {
@@ -223,11 +216,11 @@ fn extended_front(input: &[u8]) -> Option<Front<'_>>
     None
 }
 
-// The front of a text with no hyphen behind its year.
+/// The date of a text with no hyphen behind its year, where a time of day to the second follows it.
 #[inline(always)]
-fn basic_front(input: &[u8]) -> Option<Front<'_>>
+pub(crate) fn basic_date(input: &[u8]) -> Option<Dated>
     requires { 16 ≤ length input.now }
-    ensures { IfSome result (Places.ReadsFront input.now) }
+    ensures { IfSome result (Places.HasBasicDate input.now) }
 {
     if input[4] == b'W' {
         if is_basic_week(input) {
@@ -247,16 +240,28 @@ fn basic_front(input: &[u8]) -> Option<Front<'_>>
     None
 }
 
-/// The front of a text, where it has such places: `None` says nothing of the text.
+/// The numbers of a time of day such as `T23:20:50` at a place.
 #[inline(always)]
-pub(crate) fn read_front(input: &[u8]) -> Option<Front<'_>>
-    ensures { IfSome result (Places.ReadsFront input.now) }
+pub(crate) fn extended_clock_at(input: &[u8], place: usize) -> (u8, u8, u8)
+    requires { Places.HasExtendedClock input.now place }
+    ensures reads { ReadsClock kind.Extended (drop place input.now) result.0 result.1 result.2
+        (drop (place + 9) input.now) }
+    ensures minute { result.1 ≤ 59 }
+    ensures second { result.2 ≤ 59 }
 {
-    if input.len() < 16 {
-        return None;
-    }
-    if input[4] == b'-' {
-        return extended_front(input);
-    }
-    basic_front(input)
+    clock_at(input, place + 1)
+}
+
+/// The numbers of a time of day such as `T232050` at a place.
+#[inline(always)]
+pub(crate) fn basic_clock_at(input: &[u8], place: usize) -> (u8, u8, u8)
+    requires { Places.HasBasicClock input.now place }
+    ensures reads { ReadsClock kind.Basic (drop place input.now) result.0 result.1 result.2
+        (drop (place + 7) input.now) }
+    ensures minute { result.1 ≤ 59 }
+    ensures second { result.2 ≤ 59 }
+{
+    let (hour, minute) = two_pairs_at(input, place + 1);
+    let second = two_digits_at(input, place + 5);
+    (hour, minute, second)
 }

@@ -1,9 +1,9 @@
 //! The parts of a text, one after another.
 ghost use Rattle.std.specs.Prelude.{◌≡◌, Ok, IfOk, IfErr, IfSome};
-ghost use Rattle.parsing_pieces.specs.ShortName.{HasShortName};
-ghost use Rattle.parsing_pieces.specs.Tame.{EndsWith};
+ghost use Rattle.parsing_combinator.specs.ShortName.{HasShortName};
+ghost use Rattle.parsing_combinator.specs.Tame.{EndsWith};
 ghost use Rattle.parsing_iso8601.specs.Ranges.{IsDateInRange, IsTimeInRange, IsOffsetInRange, AreInRange};
-ghost use Rattle.parsing_pieces.specs.FaultOf.{Gives, reading_fault};
+ghost use Rattle.parsing_combinator.specs.FaultOf.{Gives, reading_fault};
 ghost use Rattle.parsing_iso8601.specs.Reading as Reading;
 ghost use Rattle.parsing_iso8601.specs.Times as Times;
 ghost use Rattle.parsing_iso8601.specs.Offsets as Offsets;
@@ -14,7 +14,7 @@ use crate::kind::Kind;
 use crate::offset::offset;
 use crate::time::time;
 use crate::written::{Iso8601Parts, WrittenDate, WrittenOffset, WrittenTime};
-use parsing_pieces::ParseFromDescription;
+use parsing_combinator::ParseFromDescription;
 
 type DateOrFault = Result<WrittenDate, ParseFromDescription>;
 

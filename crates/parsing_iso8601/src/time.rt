@@ -1,6 +1,6 @@
 //! The time of day of a text.
 ghost use Rattle.std.specs.Prelude.{◌≡◌, ◌≤◌, ◌<◌, IfSome};
-ghost use Rattle.parsing_pieces.specs.Pieces.{cut_view, rest_view};
+ghost use Rattle.parsing_combinator.specs.Pieces.{cut_view, rest_view};
 ghost use Rattle.parsing_iso8601.specs.Ranges.{IsTimeInRange};
 ghost use Rattle.parsing_iso8601.specs.ReadView.{digits_view, AreDigits};
 ghost use Rattle.parsing_iso8601.specs.Times as Times;
@@ -9,7 +9,7 @@ use crate::fraction::{part_of, rounded_part_of};
 use crate::kind::{Kind, kind_of_time};
 use crate::number::number;
 use crate::written::WrittenTime;
-use parsing_pieces::byte;
+use parsing_combinator::byte;
 
 const NANOSECONDS_IN_SECOND: u64 = 1_000_000_000;
 

@@ -1,9 +1,9 @@
 -- What items of fixed width read.
 use Rattle.std.proofs.Common.{◌≡◌, List, ℕ, length, take, drop, Option, Some, None, Ok, true, refl}
 use Rattle.std.specs.Prelude.{IfSome}
-use Rattle.parsing_pieces.specs.Fault.{Fault}
-use Rattle.parsing_pieces.specs.Readings.{piece_or}
-use Rattle.parsing_shapes.specs.Shape.{taken, fraction_between}
+use Rattle.parsing_combinator.specs.Fault.{Fault}
+use Rattle.parsing_combinator.specs.Readings.{piece_or}
+use Rattle.parsing_combinator.specs.Shape.{taken, fraction_between}
 use Rattle.parsing_components.specs.Component.{reads_component, reads_component_v3}
 use Rattle.parsing_components.specs.Ranged.{kept}
 use Rattle.parsing_components.specs.Read as read
@@ -19,8 +19,8 @@ use Rattle.parsing_components.specs.Read.{Read}
 use Rattle.parsing_record.specs.Meaning.{Meaning, literally}
 use Rattle.parsing_record.specs.Reads.{Language, reading, reads}
 use Rattle.parsing_record.specs.Record.{Record}
-use Rattle.parsing_plan.specs.declared.slot.Slot.{Slot}
-use Rattle.parsing_plan.specs.Slot.{ReadsSlot, slot_piece}
+use Rattle.parsing_slots.specs.declared.slot.Slot.{Slot}
+use Rattle.parsing_slots.specs.Slot.{ReadsSlot, slot_piece}
 
 pub literal_read : (language : Language) (text line : List ℕ) (r : Record) → take (length text) line ≡ text → reading language (Literal text) r line ≡ Ok (r, drop (length text) line)
 unfolding reads literally

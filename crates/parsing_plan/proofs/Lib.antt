@@ -1,4 +1,3 @@
-mod Slots
 mod ItemReads
 mod Lanes
 mod Steps

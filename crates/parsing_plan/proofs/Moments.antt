@@ -9,25 +9,25 @@ use Rattle.calendar_count.specs.Month.{month_number}
 use Rattle.calendar_count.specs.declared.weekday.Weekday.{Weekday}
 use Rattle.calendar_clock.specs.Time.{time_of}
 use Rattle.datetime_wall.specs.Wall.{Shown, wall_clock}
-use Rattle.parsing_resolution.specs.Resolution.{date_of, permitted_time_of}
-use Rattle.parsing_resolution.specs.StandIn.{leap_checked}
-use Rattle.parsing_resolution.proofs.lemmas.Ranges.{in_both}
+use Rattle.parsing_values.specs.Resolution.{date_of, permitted_time_of}
+use Rattle.parsing_values.specs.StandIn.{leap_checked}
+use Rattle.parsing_values.proofs.lemmas.Ranges.{in_both}
 use Rattle.parsing_fields.specs.declared.fields.Fields.{Fields}
 use Rattle.parsing_fields.specs.Moment.{day_of_fields, time_of_fields, moment_of}
 use Rattle.parsing_fields.specs.Numbers.{HaveNumbers}
 use Rattle.parsing_fields.proofs.lemmas.Moments.{fields_date, fields_time, moment_is}
-use Rattle.parsing_dates.specs.NamedDate.{named_date, by_ordinal, by_day, year_of}
-use Rattle.parsing_dates.specs.NamedDay.{calendar_date_of}
-use Rattle.parsing_moments.specs.NamedTime.{named_time, hour_of, finer_parts}
-use Rattle.parsing_moments.specs.NamedMoment.{named_wall, dated_moment, named_moment}
-use Rattle.parsing_shapes.specs.Shape.{taken, fraction_between}
+use Rattle.parsing_values.specs.NamedDate.{named_date, by_ordinal, by_day, year_of}
+use Rattle.parsing_values.specs.NamedDay.{calendar_date_of}
+use Rattle.parsing_values.specs.NamedTime.{named_time, hour_of, finer_parts}
+use Rattle.parsing_values.specs.NamedMoment.{named_wall, dated_moment, named_moment}
+use Rattle.parsing_combinator.specs.Shape.{taken, fraction_between}
 use Rattle.parsing_components.specs.Ranged.{under}
 use Rattle.parsing_record.specs.Meaning.{Meaning}
 use Rattle.parsing_record.specs.Record.{Record}
 use Rattle.parsing_record.specs.Whole.{whole, names, moment_named, offset_named, starting}
 use Rattle.parsing_plan.proofs.Walk.{was_read}
 use Rattle.parsing_plan.specs.declared.layout.Layout.{Layout}
-use Rattle.parsing_plan.specs.Slot.{Values}
+use Rattle.parsing_slots.specs.Slot.{Values}
 use Rattle.parsing_plan.specs.Layout.{HasText, Says, read_or, with_values}
 use Rattle.parsing_plan.specs.Parts.{SaysDate, SaysClock, SaysFraction, SaysOffset}
 use Rattle.parsing_plan.specs.Bounds.{IsFront, HasNoClock}

@@ -11,32 +11,32 @@ use Rattle.calendar_count.specs.declared.weekday.Weekday.{Weekday}
 use Rattle.calendar_count.specs.declared.weekday.Weekday.TheVariants as weekdays
 use Rattle.calendar_count.specs.Month.{month_number}
 use Rattle.description_date_modifiers.specs.declared.choices.Padding.TheVariants as padding
-use Rattle.parsing_pieces.proofs.Decimal.{digit_count_within}
-use Rattle.parsing_shapes.proofs.Longest.{taken_digits, taken_exactly}
-use Rattle.parsing_shapes.proofs.SpaceLemmas.{taken_spaced}
-use Rattle.parsing_pieces.specs.Pieces.{fraction, digit_run, nanoseconds_of, digit_count, digits, sign, byte_of}
-use Rattle.parsing_resolution.specs.Resolution.{signed_offset_of}
-use Rattle.parsing_resolution.proofs.lemmas.Ranges.{offset_ranges}
-use Rattle.parsing_shapes.specs.Shape.{taken, fraction_between, spaced_between, is_space}
-use Rattle.parsing_shapes.specs.Numbers.{offset_hour}
-use Rattle.parsing_shapes.specs.Names.{named, found, begins, short_months, short_weekdays}
-use Rattle.parsing_shapes.proofs.Components.{taken_offset_hour, taken_padded_exactly}
-use Rattle.parsing_shapes.proofs.NameLemmas.{apart, taken_named}
+use Rattle.parsing_combinator.proofs.Decimal.{digit_count_within}
+use Rattle.parsing_combinator.proofs.Longest.{taken_digits, taken_exactly}
+use Rattle.parsing_combinator.proofs.SpaceLemmas.{taken_spaced}
+use Rattle.parsing_combinator.specs.Pieces.{fraction, digit_run, nanoseconds_of, digit_count, digits, sign, byte_of}
+use Rattle.parsing_values.specs.Resolution.{signed_offset_of}
+use Rattle.parsing_values.proofs.lemmas.Ranges.{offset_ranges}
+use Rattle.parsing_combinator.specs.Shape.{taken, fraction_between, spaced_between, is_space}
+use Rattle.parsing_combinator.specs.Numbers.{offset_hour}
+use Rattle.parsing_combinator.specs.Names.{named, found, begins, short_months, short_weekdays}
+use Rattle.parsing_combinator.proofs.Components.{taken_offset_hour, taken_padded_exactly}
+use Rattle.parsing_combinator.proofs.NameLemmas.{apart, taken_named}
 use Rattle.parsing_components.specs.Ranged.{kept, between}
 use Rattle.parsing_components.specs.Read as read
 use Rattle.parsing_components.proofs.Entries.{month_entry}
-use Rattle.parsing_pieces.proofs.Decimal.{count_drop}
-use Rattle.parsing_pieces.proofs.Fixed.{some_if, digits_one}
-use Rattle.parsing_pieces.proofs.FractionDigits.{none_there}
+use Rattle.parsing_combinator.proofs.Decimal.{count_drop}
+use Rattle.parsing_combinator.proofs.Fixed.{some_if, digits_one}
+use Rattle.parsing_combinator.proofs.FractionDigits.{none_there}
 use Rattle.parsing_fields.specs.Written.{WriteFraction}
 use Rattle.std.proofs.lemmas.Bool.{cases_lt}
-use Rattle.parsing_plan.specs.Slot.{slot_piece}
+use Rattle.parsing_slots.specs.Slot.{slot_piece}
 use Rattle.parsing_plan.specs.declared.bounds.Bounds.{Bounds}
 use Rattle.parsing_plan.specs.declared.layout.Layout.{Layout}
 use Rattle.parsing_plan.specs.Bounds.{LiesWithin, IsPair, IsSixty, HasPair, HasSixty, IsSpaced, HasSpaced, HoldText, BeginsApart}
 use Rattle.parsing_plan.specs.Layout.{HasText}
 use Rattle.parsing_plan.specs.Parts.{WritesAt, WritesDay, WritesOffset, SaysMonth, SaysWeekday, SaysFraction, IsNameOf, IsWeekdayNameOf}
-use Rattle.parsing_pieces.proofs.Fixed.{digits_two, digits_four}
+use Rattle.parsing_combinator.proofs.Fixed.{digits_two, digits_four}
 
 -- ---- numbers
 

@@ -8,17 +8,17 @@ use Rattle.calendar_count.specs.Calendar.{days_in_month}
 use Rattle.calendar_clock.specs.UtcOffset.{offset_of, with_sign_of}
 use Rattle.calendar_count.specs.declared.month.Month.TheVariants as month
 use Rattle.calendar_count.specs.declared.weekday.Weekday.TheVariants as weekday
-use Rattle.parsing_pieces.specs.Pieces.{digits}
-use Rattle.parsing_resolution.specs.Resolution.{signed_offset_of}
-use Rattle.parsing_moments.specs.NamedTime.{named_offset, seconds_behind}
+use Rattle.parsing_combinator.specs.Pieces.{digits}
+use Rattle.parsing_values.specs.Resolution.{signed_offset_of}
+use Rattle.parsing_values.specs.NamedTime.{named_offset, seconds_behind}
 use Rattle.parsing_components.specs.Ranged.{under}
 use Rattle.parsing_components.specs.Read as read
 use Rattle.parsing_record.specs.Parts.{under_sign}
 use Rattle.parsing_record.specs.Whole.{offset_named}
 use Rattle.parsing_plan.specs.declared.layout.Layout.{Layout}
-use Rattle.parsing_plan.specs.Slot.{Values, slot_piece, width}
+use Rattle.parsing_slots.specs.Slot.{Values, slot_piece, width}
 use Rattle.parsing_plan.specs.Layout.{day_slot}
-use Rattle.parsing_shapes.specs.Shape.{taken, spaced_between}
+use Rattle.parsing_combinator.specs.Shape.{taken, spaced_between}
 use Rattle.parsing_plan.specs.Parts.{WritesAt, WritesDay, WritesOffset, SaysMonth, SaysWeekday, SaysDate, SaysClock, SaysOffset}
 use Rattle.parsing_plan.specs.Beginning.{beginning}
 use Rattle.parsing_plan.proofs.Numbers.{slot_number}

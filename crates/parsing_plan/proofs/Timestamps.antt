@@ -16,26 +16,26 @@ use Rattle.parsing_components.specs.Read as read
 use Rattle.parsing_fields.specs.declared.fields.Fields.{Fields}
 use Rattle.parsing_fields.specs.Moment.{moment_of}
 use Rattle.parsing_fields.specs.Written.{WriteFraction}
-use Rattle.parsing_moments.specs.NamedMoment.{named_moment, unix_subsecond, unix_instant}
-use Rattle.parsing_pieces.specs.Fault.{Fault}
-use Rattle.parsing_pieces.specs.Pieces.{digits, digit_count, sign, byte_of}
-use Rattle.parsing_pieces.specs.Readings.{piece_or}
-use Rattle.parsing_pieces.proofs.Decimal.{digit_count_within}
-use Rattle.parsing_pieces.proofs.Fixed.{digits_add}
-use Rattle.parsing_pieces.proofs.FractionDigits.{Read, digits_read, short_fraction}
+use Rattle.parsing_values.specs.NamedMoment.{named_moment, unix_subsecond, unix_instant}
+use Rattle.parsing_combinator.specs.Fault.{Fault}
+use Rattle.parsing_combinator.specs.Pieces.{digits, digit_count, sign, byte_of}
+use Rattle.parsing_combinator.specs.Readings.{piece_or}
+use Rattle.parsing_combinator.proofs.Decimal.{digit_count_within}
+use Rattle.parsing_combinator.proofs.Fixed.{digits_add}
+use Rattle.parsing_combinator.proofs.FractionDigits.{Read, digits_read, short_fraction}
 use Rattle.parsing_record.specs.Meaning.{Meaning}
 use Rattle.parsing_record.specs.Reads.{Language, reading, reads}
 use Rattle.parsing_record.specs.Record.{Record}
 use Rattle.parsing_record.specs.Whole.{whole, names, moment_named, starting}
-use Rattle.parsing_shapes.specs.Numbers.{timestamp}
-use Rattle.parsing_shapes.specs.Shape.{taken, digits_between}
-use Rattle.parsing_shapes.proofs.Components.{taken_timestamp}
-use Rattle.parsing_shapes.proofs.Longest.{taken_digits}
-use Rattle.parsing_shapes.proofs.SignLemmas.{under}
+use Rattle.parsing_combinator.specs.Numbers.{timestamp}
+use Rattle.parsing_combinator.specs.Shape.{taken, digits_between}
+use Rattle.parsing_combinator.proofs.Components.{taken_timestamp}
+use Rattle.parsing_combinator.proofs.Longest.{taken_digits}
+use Rattle.parsing_combinator.proofs.SignLemmas.{under}
 use Rattle.parsing_plan.specs.Beginning.{beginning}
 use Rattle.parsing_plan.specs.UnixTime.{IsUnixOf}
 use Rattle.parsing_plan.proofs.Moments.{whole_is}
-use Rattle.parsing_plan.proofs.Slots.{digit_no_sign}
+use Rattle.parsing_slots.proofs.Slots.{digit_no_sign}
 use Rattle.parsing_plan.proofs.Walk.{was_read}
 
 -- ---- what a component reads

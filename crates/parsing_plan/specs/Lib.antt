@@ -1,4 +1,3 @@
-pub mod Slot
 pub mod Layout
 pub mod Bounds
 pub mod Beginning

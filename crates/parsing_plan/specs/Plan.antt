@@ -2,10 +2,10 @@
 use Rattle.std.specs.Prelude.{◌≡◌, ◌≤◌, ℕ, List, drop, length, Some}
 use Rattle.std.specs.Result.{result_ok}
 use Rattle.std.specs.Option.{ForSome, ForNone}
-use Rattle.parsing_shapes.specs.Shape.{taken, fraction_between}
+use Rattle.parsing_combinator.specs.Shape.{taken, fraction_between}
 use Rattle.parsing_record.specs.Meaning.{Meaning}
 use Rattle.parsing_record.specs.Record.{Record}
-use Rattle.parsing_plan.specs.Slot.{Values}
+use Rattle.parsing_slots.specs.Slot.{Values}
 use Rattle.parsing_plan.specs.Layout.{Says, with_values}
 use Rattle.parsing_plan.specs.declared.layout.Layout.{Layout}
 use Rattle.parsing_plan.specs.UnixTime.{IsUnixOf}

@@ -3,13 +3,13 @@ use Rattle.std.specs.Prelude.{◌≡◌, ◌≤◌, List, ℕ, take, drop, lengt
 use Rattle.description_items.specs.declared.component.Component.{Component}
 use Rattle.description_items.specs.Tree.{Tree, listed, Part}
 use Rattle.parsing_components.specs.Component.{reads_component, reads_component_v3}
-use Rattle.parsing_shapes.specs.Shape.{taken, fraction_between}
+use Rattle.parsing_combinator.specs.Shape.{taken, fraction_between}
 use Rattle.parsing_components.specs.Read.{Read}
 use Rattle.parsing_components.specs.Put.{put}
 use Rattle.parsing_record.specs.Meaning.{Meaning}
 use Rattle.parsing_record.specs.Reads.{Language, reading, reading_of_all}
 use Rattle.parsing_record.specs.Record.{Record}
-use Rattle.parsing_plan.specs.Slot.{Values, slot_piece}
+use Rattle.parsing_slots.specs.Slot.{Values, slot_piece}
 use Rattle.parsing_plan.specs.UnixTime.{IsUnixOf}
 use Rattle.parsing_plan.specs.Layout.{Says, with_values}
 use Rattle.parsing_plan.specs.declared.layout.Layout.{Layout}

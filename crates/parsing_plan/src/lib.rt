@@ -6,7 +6,6 @@ mod items;
 mod layout;
 mod plan;
 mod read;
-mod slot;
 mod tail;
 mod unix;
 

@@ -2,8 +2,8 @@
 ghost use Rattle.std.specs.Prelude.{◌≡◌, ◌<◌, ◌≤◌, ◌+◌, ◌-◌, ◌*◌, ◌==◌, ◌||◌, ◌*ℤ◌, pos, Ok, Some, None, true, false, drop, get_or, length, unsigned_abs, IfSome, Option};
 ghost use Rattle.std.specs.Option.{ForSome, ForNone};
 ghost use Rattle.calendar_count.specs.Calendar.{IsDay};
-ghost use Rattle.parsing_pieces.specs.Pieces.{digits};
-ghost use Rattle.parsing_shapes.specs.Shape.{taken, fraction_between};
+ghost use Rattle.parsing_combinator.specs.Pieces.{digits};
+ghost use Rattle.parsing_combinator.specs.Shape.{taken, fraction_between};
 ghost use Rattle.parsing_fields.specs.Moment.{moment_of};
 ghost use Rattle.parsing_record.specs.Meaning.{Meaning};
 ghost use Rattle.parsing_record.specs.Record.{Record};
@@ -55,7 +55,7 @@ fn four_digits_at(line: &[u8], place: usize) -> u16
 
 // The month that has these letters.
 #[inline(always)]
-#[tactic(auto, unfolding(parsing_shapes::specs::Names::found, parsing_shapes::specs::Names::begins))]
+#[tactic(auto, unfolding(parsing_combinator::specs::Names::found, parsing_combinator::specs::Names::begins))]
 fn month_of(first: u8, second: u8, third: u8) -> Option<Month>
     ensures { IfSome result (λ month. IsNameOf month first second third) }
 {
@@ -138,7 +138,7 @@ fn day_at(line: &[u8], place: usize) -> Option<u8>
 
 // The weekday that has these letters.
 #[inline(always)]
-#[tactic(auto, unfolding(parsing_shapes::specs::Names::found, parsing_shapes::specs::Names::begins))]
+#[tactic(auto, unfolding(parsing_combinator::specs::Names::found, parsing_combinator::specs::Names::begins))]
 fn weekday_of(first: u8, second: u8, third: u8) -> Option<Weekday>
     ensures { IfSome result (λ weekday. IsWeekdayNameOf weekday first second third) }
 {

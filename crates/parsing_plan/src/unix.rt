@@ -9,8 +9,8 @@ ghost use Rattle.parsing_plan.specs.Beginning.{beginning};
 ghost use Rattle.parsing_plan.specs.UnixTime.{IsUnixOf, IsUnixPart};
 
 use description_items::Component;
+use parsing_combinator::{nine_digits, one_digit};
 use parsing_fields::{Fields, Fraction};
-use parsing_pieces::{nine_digits, one_digit};
 
 // The digits of the seconds, those of the years 2001 to 2286.
 const SECOND_DIGITS: usize = 10;

@@ -1,10 +1,10 @@
 -- What the items of a description mean: a record and bytes to a record and the rest, or a fault, and how many items were tried. The ways to combine meanings.
 use Rattle.std.specs.Prelude.{◌≡◌, ℕ, ◌+◌, List, [], ◌∷◌, length, take, drop, Option, Some, None, Result, Ok, Err, bytes_eq, if◌then◌else◌}
 use Rattle.std.specs.Borrow.{Bor}
-use Rattle.parsing_pieces.specs.Fault.{Fault, literal}
-use Rattle.parsing_pieces.specs.FaultOf.{reading_fault}
-use Rattle.parsing_pieces.specs.Readings.{Reading, then_read}
-use Rattle.parsing_pieces.specs.declared.fault.ParseFromDescription.{ParseFromDescription}
+use Rattle.parsing_combinator.specs.Fault.{Fault, literal}
+use Rattle.parsing_combinator.specs.FaultOf.{reading_fault}
+use Rattle.parsing_combinator.specs.Readings.{Reading, then_read}
+use Rattle.parsing_combinator.specs.declared.fault.ParseFromDescription.{ParseFromDescription}
 use Rattle.parsing_components.specs.declared.fields.Record.{Record}
 pub use Rattle.parsing_components.specs.Put.{Answer, Meaning, Reads}
 

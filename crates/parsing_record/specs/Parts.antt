@@ -1,9 +1,9 @@
 -- What the values of a record are made from.
 use Rattle.std.specs.Prelude.{ℤ, neg_ℤ, Bool, Option, option_map, if◌then◌else◌}
-use Rattle.parsing_dates.specs.declared.date_parts.DateParts.{DateParts}
-use Rattle.parsing_moments.specs.declared.parts.TimeParts.{TimeParts}
-use Rattle.parsing_moments.specs.declared.parts.OffsetParts.{OffsetParts}
-use Rattle.parsing_moments.specs.declared.parts.MomentParts.{MomentParts}
+use Rattle.parsing_values.specs.declared.date_parts.DateParts.{DateParts}
+use Rattle.parsing_values.specs.declared.parts.TimeParts.{TimeParts}
+use Rattle.parsing_values.specs.declared.parts.OffsetParts.{OffsetParts}
+use Rattle.parsing_values.specs.declared.parts.MomentParts.{MomentParts}
 use Rattle.parsing_record.specs.Record.{Record}
 
 abbrev pub date_parts : Record → DateParts

@@ -2,12 +2,12 @@
 use Rattle.std.specs.Prelude.{◌≡◌, ℕ, ℤ, false, List, Option, Some, None, Result, Ok, Err, length, ◌==◌, if◌then◌else◌}
 use Rattle.std.specs.Borrow.{Bor}
 use Rattle.datetime_wall.specs.Wall.{Shown}
-use Rattle.parsing_pieces.specs.Fault.{Fault, trailing}
-use Rattle.parsing_pieces.specs.FaultOf.{fault_of}
-use Rattle.parsing_pieces.specs.declared.fault.Parse.{Parse}
-use Rattle.parsing_dates.specs.NamedDate.{named_date}
-use Rattle.parsing_moments.specs.NamedTime.{named_time, named_offset}
-use Rattle.parsing_moments.specs.NamedMoment.{named_wall, named_moment, named_utc, named_timestamp}
+use Rattle.parsing_combinator.specs.Fault.{Fault, trailing}
+use Rattle.parsing_combinator.specs.FaultOf.{fault_of}
+use Rattle.parsing_combinator.specs.declared.fault.Parse.{Parse}
+use Rattle.parsing_values.specs.NamedDate.{named_date}
+use Rattle.parsing_values.specs.NamedTime.{named_time, named_offset}
+use Rattle.parsing_values.specs.NamedMoment.{named_wall, named_moment, named_utc, named_timestamp}
 use Rattle.parsing_record.specs.Record.{Record, empty}
 use Rattle.parsing_record.specs.Parts.{date_parts, time_parts, offset_parts, moment_parts}
 use Rattle.parsing_record.specs.Meaning.{Answer, Meaning}

@@ -1,17 +1,18 @@
 //! The values that a record names.
-ghost use Rattle.parsing_pieces.specs.FaultOf.{Gives, resolution_fault};
-ghost use Rattle.parsing_dates.specs.NamedDate.{named_date};
-ghost use Rattle.parsing_moments.specs.NamedTime.{named_time, named_offset};
-ghost use Rattle.parsing_moments.specs.NamedMoment.{named_wall, named_moment, named_utc, named_timestamp};
+ghost use Rattle.parsing_combinator.specs.FaultOf.{Gives, resolution_fault};
+ghost use Rattle.parsing_values.specs.NamedDate.{named_date};
+ghost use Rattle.parsing_values.specs.NamedTime.{named_time, named_offset};
+ghost use Rattle.parsing_values.specs.NamedMoment.{named_wall, named_moment, named_utc, named_timestamp};
 ghost use Rattle.parsing_record.specs.Parts.{date_parts, time_parts, offset_parts, moment_parts};
 ghost use Rattle.std.specs.Prelude.{◌≡◌, false};
 
 use crate::parsed::Parsed;
 use calendar::{Date, Time, UtcOffset};
-use datetime_types::{OffsetDateTime, PlainDateTime, Timestamp, UtcDateTime};
-use parsing_dates::{DateParts, YearParts};
-use parsing_moments::{MomentParts, OffsetParts, TimeParts};
-use parsing_pieces::TryFromParsed;
+use parsing_combinator::TryFromParsed;
+use parsing_values::{
+    DateParts, MomentParts, OffsetDateTime, OffsetParts, PlainDateTime, TimeParts, Timestamp,
+    UtcDateTime, YearParts,
+};
 
 impl Parsed {
     #[inline(always)]
@@ -93,7 +94,7 @@ impl Parsed {
     {
         match self.usual_moment() {
             Some(moment) => Ok(moment),
-            None => parsing_moments::offset_date_time(&self.moment_parts(), &self.offset_parts()),
+            None => parsing_values::offset_date_time(&self.moment_parts(), &self.offset_parts()),
         }
     }
 }
@@ -106,7 +107,7 @@ impl TryFrom<Parsed> for Date {
 
     #[inline(always)]
     fn try_from(parsed: Parsed) -> Result<Date, TryFromParsed> {
-        parsing_dates::date(&parsed.date_parts())
+        parsing_values::date(&parsed.date_parts())
     }
 }
 
@@ -118,7 +119,7 @@ impl TryFrom<Parsed> for Time {
 
     #[inline(always)]
     fn try_from(parsed: Parsed) -> Result<Time, TryFromParsed> {
-        parsing_moments::time(false, &parsed.time_parts())
+        parsing_values::time(false, &parsed.time_parts())
     }
 }
 
@@ -130,7 +131,7 @@ impl TryFrom<Parsed> for UtcOffset {
 
     #[inline(always)]
     fn try_from(parsed: Parsed) -> Result<UtcOffset, TryFromParsed> {
-        parsing_moments::offset(&parsed.offset_parts())
+        parsing_values::offset(&parsed.offset_parts())
     }
 }
 
@@ -142,7 +143,7 @@ impl TryFrom<Parsed> for PlainDateTime {
 
     #[inline(always)]
     fn try_from(parsed: Parsed) -> Result<PlainDateTime, TryFromParsed> {
-        parsing_moments::plain_date_time(false, &parsed.date_parts(), &parsed.time_parts())
+        parsing_values::plain_date_time(false, &parsed.date_parts(), &parsed.time_parts())
     }
 }
 
@@ -166,7 +167,7 @@ impl TryFrom<Parsed> for UtcDateTime {
 
     #[inline(always)]
     fn try_from(parsed: Parsed) -> Result<UtcDateTime, TryFromParsed> {
-        parsing_moments::utc_date_time(&parsed.moment_parts(), &parsed.offset_parts())
+        parsing_values::utc_date_time(&parsed.moment_parts(), &parsed.offset_parts())
     }
 }
 
@@ -178,6 +179,6 @@ impl TryFrom<Parsed> for Timestamp {
 
     #[inline(always)]
     fn try_from(parsed: Parsed) -> Result<Timestamp, TryFromParsed> {
-        parsing_moments::timestamp(&parsed.moment_parts(), &parsed.offset_parts())
+        parsing_values::timestamp(&parsed.moment_parts(), &parsed.offset_parts())
     }
 }

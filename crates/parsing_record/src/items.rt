@@ -1,7 +1,7 @@
 //! Reading by the items of a description.
 ghost use Rattle.std.specs.Prelude.{◌≡◌, Ok, IfSome};
 ghost use Rattle.description_items.specs.Tree.{tree_of, trees, listed};
-ghost use Rattle.parsing_pieces.specs.FaultOf.{Gives, reading_fault};
+ghost use Rattle.parsing_combinator.specs.FaultOf.{Gives, reading_fault};
 ghost use Rattle.parsing_components.specs.Component.{reads_component, reads_component_v3};
 ghost use Rattle.parsing_components.specs.Put.{MayRead};
 ghost use Rattle.parsing_record.specs.Meaning.{Answers, Reads, literally, first_of};
@@ -10,8 +10,8 @@ ghost use Rattle.parsing_record.specs.Reads.{putting, reading, reading_of_all, e
 use crate::parsed::Parsed;
 use crate::tally::{NoTally, Tally};
 use description_items::{BorrowedFormatItem, Component};
+use parsing_combinator::ParseFromDescription;
 use parsing_components::{read_component, read_component_v3, read_usual};
-use parsing_pieces::ParseFromDescription;
 
 impl Parsed {
     /// The bytes after the literal, which have to begin with it: `InvalidLiteral` where they do not.

@@ -1,20 +1,18 @@
 //! The moment of a record with the usual components: `None` says nothing of the record.
 ghost use Rattle.std.specs.Prelude.{◌≡◌, false, Ok, IfSome};
-ghost use Rattle.parsing_dates.specs.NamedDate.{named_date};
-ghost use Rattle.parsing_moments.specs.NamedTime.{named_time, named_offset};
-ghost use Rattle.parsing_moments.specs.NamedMoment.{named_moment};
+ghost use Rattle.parsing_values.specs.NamedDate.{named_date};
+ghost use Rattle.parsing_values.specs.NamedTime.{named_time, named_offset};
+ghost use Rattle.parsing_values.specs.NamedMoment.{named_moment};
 ghost use Rattle.parsing_record.specs.Parts.{date_parts, time_parts, offset_parts, moment_parts};
 
 use crate::parsed::Parsed;
 use calendar::{Date, Time, UtcOffset};
-use datetime_types::OffsetDateTime;
-use parsing_dates::named_day;
-use parsing_resolution::resolve;
+use parsing_values::{OffsetDateTime, named_day, resolve};
 
 impl Parsed {
     // The date of a year, a month and a day.
     #[inline(always)]
-    #[tactic(auto, unfolding(parsing_dates::specs::NamedDate::named_date, parsing_dates::specs::NamedDate::by_ordinal, parsing_dates::specs::NamedDate::by_day, parsing_dates::specs::NamedDate::year_of))]
+    #[tactic(auto, unfolding(parsing_values::specs::NamedDate::named_date, parsing_values::specs::NamedDate::by_ordinal, parsing_values::specs::NamedDate::by_day, parsing_values::specs::NamedDate::year_of))]
     fn usual_date(&self) -> Option<Date>
         ensures { IfSome result (λ d. named_date (date_parts self.now) ≡ Ok d) }
     {
@@ -28,7 +26,7 @@ impl Parsed {
 
     // The time of an hour of the day, a minute and a second.
     #[inline(always)]
-    #[tactic(auto, unfolding(parsing_moments::specs::NamedTime::named_time, parsing_moments::specs::NamedTime::hour_of, parsing_moments::specs::NamedTime::finer_parts))]
+    #[tactic(auto, unfolding(parsing_values::specs::NamedTime::named_time, parsing_values::specs::NamedTime::hour_of, parsing_values::specs::NamedTime::finer_parts))]
     fn usual_time(&self) -> Option<Time>
         ensures { IfSome result (λ t. named_time false (time_parts self.now) ≡ Ok t) }
     {
@@ -40,7 +38,7 @@ impl Parsed {
 
     // The offset of an hour and a minute.
     #[inline(always)]
-    #[tactic(auto, unfolding(parsing_moments::specs::NamedTime::named_offset, parsing_moments::specs::NamedTime::seconds_behind))]
+    #[tactic(auto, unfolding(parsing_values::specs::NamedTime::named_offset, parsing_values::specs::NamedTime::seconds_behind))]
     fn usual_offset(&self) -> Option<UtcOffset>
         ensures { IfSome result (λ o. named_offset (offset_parts self.now) ≡ Ok o) }
     {
@@ -51,7 +49,7 @@ impl Parsed {
 
     /// The moment of a date, a time of day and an offset.
     #[inline(always)]
-    #[tactic(auto, unfolding(parsing_moments::specs::NamedMoment::named_moment, parsing_moments::specs::NamedMoment::dated_moment, parsing_moments::specs::NamedMoment::named_wall, parsing_resolution::specs::StandIn::leap_checked))]
+    #[tactic(auto, unfolding(parsing_values::specs::NamedMoment::named_moment, parsing_values::specs::NamedMoment::dated_moment, parsing_values::specs::NamedMoment::named_wall, parsing_values::specs::StandIn::leap_checked))]
     pub(crate) fn usual_moment(&self) -> Option<OffsetDateTime>
         ensures { IfSome result
             (λ m. named_moment (moment_parts self.now) (offset_parts self.now) ≡ Ok m) }

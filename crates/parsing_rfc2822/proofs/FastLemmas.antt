@@ -7,21 +7,21 @@ use Rattle.std.proofs.lemmas.Bool.{eqb-true}
 use Rattle.std.proofs.lemmas.Bool.Decides.{nat_tests}
 use Rattle.calendar_count.specs.declared.weekday.Weekday.{Weekday}
 use Rattle.byte_names.specs.Bytes.{colon}
-use Rattle.parsing_pieces.specs.Pieces.{digits, byte, skip_of, cut_view, sign}
-use Rattle.parsing_pieces.specs.Chunks.{IsClock}
-use Rattle.parsing_pieces.proofs.Decimal.{digit_here}
-use Rattle.parsing_white_space.specs.Skips.{rest_or, byte_where}
-use Rattle.parsing_white_space.specs.WhiteSpace.{comments_and_white_space}
-use Rattle.parsing_white_space.proofs.WhiteSpaceLemmas.{none_at, none_of_empty}
+use Rattle.parsing_combinator.specs.Pieces.{digits, byte, skip_of, cut_view, sign}
+use Rattle.parsing_combinator.specs.Chunks.{IsClock}
+use Rattle.parsing_combinator.proofs.Decimal.{digit_here}
+use Rattle.parsing_rfc2822.specs.Skips.{rest_or, byte_where}
+use Rattle.parsing_rfc2822.specs.WhiteSpace.{comments_and_white_space}
+use Rattle.parsing_rfc2822.proofs.WhiteSpaceLemmas.{none_at, none_of_empty}
 use Rattle.parsing_rfc2822.specs.Names.{weekday, weekday_of}
 use Rattle.parsing_rfc2822.specs.Reading.{spaced_colon, hour_and_minute, due_second, second, clock, day, month_and_year, zone, signed_zone, named_zone, spaced_zone, rfc2822}
 use Rattle.calendar.specs.Time.{time_of}
 use Rattle.calendar_count.specs.Month.{month_number}
 use Rattle.calendar_count.specs.declared.month.Month.{Month}
 use Rattle.datetime_wall.specs.Wall.{wall_clock}
-use Rattle.parsing_pieces.specs.declared.zone.Zone.{Zone}
-use Rattle.parsing_resolution.specs.Resolution.{date_of, permitted_time_of, signed_offset_of}
-use Rattle.parsing_resolution.specs.StandIn.{leap_checked}
+use Rattle.parsing_combinator.specs.declared.zone.Zone.{Zone}
+use Rattle.parsing_values.specs.Resolution.{date_of, permitted_time_of, signed_offset_of}
+use Rattle.parsing_values.specs.StandIn.{leap_checked}
 use Rattle.parsing_fields.specs.declared.fields.Fields.{Fields}
 use Rattle.parsing_fields.specs.Moment as Moment
 use Rattle.parsing_fields.specs.Moment.{day_of_fields, time_of_fields}

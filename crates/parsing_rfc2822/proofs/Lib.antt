@@ -4,3 +4,6 @@ pub mod PlaceLemmas
 pub mod StrictLemmas
 pub mod TameLemmas
 pub mod WordLemmas
+pub mod lemmas
+pub mod Many
+pub mod WhiteSpaceLemmas

@@ -6,13 +6,13 @@ use Rattle.std.proofs.lemmas.List.{drop-drop, drop_all, get_or-drop, get_or-take
 use Rattle.byte_names.specs.Bytes.{hyphen, plus}
 use Rattle.calendar_count.specs.declared.month.Month.{Month}
 use Rattle.calendar_count.specs.declared.weekday.Weekday.{Weekday}
-use Rattle.parsing_pieces.specs.Places.{IsBetween, LieBetween, HasDigit, HasPair}
-use Rattle.parsing_pieces.specs.Pieces.{digits, byte}
-use Rattle.parsing_pieces.proofs.Fixed.{digits_one, digits_two}
-use Rattle.parsing_pieces.proofs.AtPlaces.{is_digit, at_least, first_at, two_there, byte_there, sign_there, digit_between}
-use Rattle.parsing_resolution.specs.Resolution.{signed_offset_of}
-use Rattle.parsing_white_space.specs.WhiteSpace.{comments_and_white_space, folding_white_space}
-use Rattle.parsing_white_space.proofs.WhiteSpaceLemmas.{none_there, one_space_there, folding_space_there}
+use Rattle.parsing_combinator.specs.Places.{IsBetween, LieBetween, HasDigit, HasPair}
+use Rattle.parsing_combinator.specs.Pieces.{digits, byte}
+use Rattle.parsing_combinator.proofs.Fixed.{digits_one, digits_two}
+use Rattle.parsing_combinator.proofs.AtPlaces.{is_digit, at_least, first_at, two_there, byte_there, sign_there, digit_between}
+use Rattle.parsing_values.specs.Resolution.{signed_offset_of}
+use Rattle.parsing_rfc2822.specs.WhiteSpace.{comments_and_white_space, folding_white_space}
+use Rattle.parsing_rfc2822.proofs.WhiteSpaceLemmas.{none_there, one_space_there, folding_space_there}
 use Rattle.parsing_rfc2822.specs.Fast.{IsAllZone}
 use Rattle.parsing_rfc2822.specs.Names.{weekday, month}
 use Rattle.parsing_rfc2822.specs.Places.{HasWeekday, HasMonth, HasShape, HasOffset, IsFront, ReadsMonth}

@@ -4,15 +4,15 @@ use Rattle.std.specs.Borrow.{Bor}
 use Rattle.std.specs.Prelude.{◌↔◌, IfOk, IfSome, codes, option_map, nat_le}
 use Rattle.std.specs.Int.{IsInRange}
 use Rattle.calendar_count.specs.declared.weekday.Weekday.{Weekday}
-use Rattle.parsing_pieces.specs.Fault.{Fault, literal, component}
-use Rattle.parsing_pieces.specs.FaultOf.{Gives, reading_fault}
-use Rattle.parsing_pieces.specs.Pieces.{digits, sign, byte_of}
-use Rattle.parsing_pieces.specs.Readings.{piece_or, give, then_read, within}
-use Rattle.parsing_pieces.specs.declared.fault.ParseFromDescription.{ParseFromDescription}
-use Rattle.parsing_pieces.specs.declared.zone.Zone.{Zone}
-use Rattle.parsing_pieces.proofs.lemmas.Strict.{Narrows, Says, given, denied, then_misses, then_narrows, plain_then, checked, entered_narrows, within_yes, within_no, same_narrows, narrows_iff, strict_passes}
-use Rattle.parsing_white_space.specs.Skips.{optional, past}
-use Rattle.parsing_white_space.specs.WhiteSpace.{comments_and_white_space}
+use Rattle.parsing_combinator.specs.Fault.{Fault, literal, component}
+use Rattle.parsing_combinator.specs.FaultOf.{Gives, reading_fault}
+use Rattle.parsing_combinator.specs.Pieces.{digits, sign, byte_of}
+use Rattle.parsing_combinator.specs.Readings.{piece_or, give, then_read, within}
+use Rattle.parsing_combinator.specs.declared.fault.ParseFromDescription.{ParseFromDescription}
+use Rattle.parsing_combinator.specs.declared.zone.Zone.{Zone}
+use Rattle.parsing_combinator.proofs.lemmas.Strict.{Narrows, Says, given, denied, then_misses, then_narrows, plain_then, checked, entered_narrows, within_yes, within_no, same_narrows, narrows_iff, strict_passes}
+use Rattle.parsing_rfc2822.specs.Skips.{optional, past}
+use Rattle.parsing_rfc2822.specs.WhiteSpace.{comments_and_white_space}
 use Rattle.parsing_rfc2822.specs.declared.parts.Rfc2822Parts.{Rfc2822Parts}
 use Rattle.parsing_rfc2822.specs.Names.{is_name, is_military, zone_of, military_zone, short_zone, zone_name}
 use Rattle.parsing_rfc2822.specs.Range.{AreInRange}

@@ -8,19 +8,19 @@ use Rattle.byte_names.specs.Bytes.{colon}
 use Rattle.calendar_count.specs.Month.{month_number}
 use Rattle.calendar_count.specs.declared.weekday.Weekday.{Weekday}
 use Rattle.datetime_wall.specs.Wall.{Shown}
-use Rattle.parsing_pieces.specs.Fault.{literal, component}
-use Rattle.parsing_pieces.specs.FaultOf.{Gives, fault_of, reading_fault}
-use Rattle.parsing_pieces.specs.Pieces.{digits, byte, byte_of, sign}
-use Rattle.parsing_pieces.specs.Readings.{within}
-use Rattle.parsing_pieces.specs.ShortName.{HasShortName}
-use Rattle.parsing_pieces.specs.Tame.{EndsWith, Leaves, IsTame}
-use Rattle.parsing_pieces.specs.declared.fault.Parse.{Parse}
-use Rattle.parsing_pieces.specs.declared.fault.ParseFromDescription.{ParseFromDescription}
-use Rattle.parsing_pieces.proofs.lemmas.Tame.{joined, dropped, whole_end, digits_leaves, byte_leaves, skip_leaves, kept_leaves, piece_tame, further, then_tame, require_tame, resolved_tame, end_tame, entered_tame, front_ends, front_short, value_given_short}
-use Rattle.parsing_resolution.specs.Resolution.{date_of, leap_time_of, signed_offset_of}
-use Rattle.parsing_white_space.specs.Skips.{optional, past, byte_where}
-use Rattle.parsing_white_space.specs.WhiteSpace.{folding_white_space, comments_and_white_space}
-use Rattle.parsing_white_space.proofs.lemmas.Ends.{Ends, IsEnding, byte_ends, optional_ends, past_leaves, folding_ends, spacing_ends}
+use Rattle.parsing_combinator.specs.Fault.{literal, component}
+use Rattle.parsing_combinator.specs.FaultOf.{Gives, fault_of, reading_fault}
+use Rattle.parsing_combinator.specs.Pieces.{digits, byte, byte_of, sign}
+use Rattle.parsing_combinator.specs.Readings.{within}
+use Rattle.parsing_combinator.specs.ShortName.{HasShortName}
+use Rattle.parsing_combinator.specs.Tame.{EndsWith, Leaves, IsTame}
+use Rattle.parsing_combinator.specs.declared.fault.Parse.{Parse}
+use Rattle.parsing_combinator.specs.declared.fault.ParseFromDescription.{ParseFromDescription}
+use Rattle.parsing_combinator.proofs.lemmas.Tame.{joined, dropped, whole_end, digits_leaves, byte_leaves, skip_leaves, kept_leaves, piece_tame, further, then_tame, require_tame, resolved_tame, end_tame, entered_tame, front_ends, front_short, value_given_short}
+use Rattle.parsing_values.specs.Resolution.{date_of, leap_time_of, signed_offset_of}
+use Rattle.parsing_rfc2822.specs.Skips.{optional, past, byte_where}
+use Rattle.parsing_rfc2822.specs.WhiteSpace.{folding_white_space, comments_and_white_space}
+use Rattle.parsing_rfc2822.proofs.lemmas.Ends.{Ends, IsEnding, byte_ends, optional_ends, past_leaves, folding_ends, spacing_ends}
 use Rattle.parsing_rfc2822.specs.declared.parts.Rfc2822Parts.{Rfc2822Parts}
 use Rattle.parsing_rfc2822.specs.Names.{is_name, named, weekday_of, weekday, month_of, month, zone_of, is_military, military_zone, short_zone, zone_name}
 use Rattle.parsing_rfc2822.specs.Reading.{comma, first_or, spaced_colon, one_or_two_digits, named_day, optional_weekday, day, full_year, short_year, year, month_and_year, hour_and_minute, due_second, second, clock, signed_zone, named_zone, zone, spaced_zone, rfc2822}

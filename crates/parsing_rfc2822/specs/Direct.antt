@@ -3,10 +3,10 @@ use Rattle.std.specs.Prelude.{ℕ, ◌==◌, List, Result, pos, false}
 use Rattle.std.specs.Option.{unwrap_or}
 use Rattle.calendar_count.specs.Month.{month_number}
 use Rattle.datetime_wall.specs.Wall.{Shown, wall_clock}
-use Rattle.parsing_pieces.specs.Fault.{Fault}
-use Rattle.parsing_pieces.specs.Readings.{Reading, ◌>>=◌, ◌>>◌, resolved, end, value_read}
-use Rattle.parsing_resolution.specs.Resolution.{date_of, leap_time_of, signed_offset_of}
-use Rattle.parsing_resolution.specs.StandIn.{leap_checked}
+use Rattle.parsing_combinator.specs.Fault.{Fault}
+use Rattle.parsing_combinator.specs.Readings.{Reading, ◌>>=◌, ◌>>◌, resolved, end, value_read}
+use Rattle.parsing_values.specs.Resolution.{date_of, leap_time_of, signed_offset_of}
+use Rattle.parsing_values.specs.StandIn.{leap_checked}
 use Rattle.parsing_rfc2822.specs.declared.parts.Rfc2822Parts.{Rfc2822Parts}
 use Rattle.parsing_rfc2822.specs.Reading.{rfc2822}
 

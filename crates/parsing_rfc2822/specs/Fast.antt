@@ -1,8 +1,8 @@
 -- What the fast way of the code finds.
 use Rattle.std.specs.Prelude.{◌≡◌, ℕ, List, [], Result, Ok, ℤ, pos, ◌*ℤ◌}
-use Rattle.parsing_pieces.specs.Fault.{Fault}
-use Rattle.parsing_pieces.specs.declared.zone.Zone.{Zone}
-use Rattle.parsing_resolution.specs.Resolution.{signed_offset_of}
+use Rattle.parsing_combinator.specs.Fault.{Fault}
+use Rattle.parsing_combinator.specs.declared.zone.Zone.{Zone}
+use Rattle.parsing_values.specs.Resolution.{signed_offset_of}
 
 -- a zone is all that was there, and these are its minutes
 abbrev pub IsAllZone : Result (Zone × List ℕ) Fault → ℤ → Type 0

@@ -5,3 +5,5 @@ pub mod Range
 pub mod Reading
 pub mod Words
 pub mod Places
+pub mod Skips
+pub mod WhiteSpace

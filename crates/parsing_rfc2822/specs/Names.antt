@@ -6,7 +6,7 @@ use Rattle.calendar_count.specs.declared.month.Month.{Month}
 use Rattle.calendar_count.specs.declared.month.Month.TheVariants.{January, February, March, April, May, June, July, August, September, October, November, December}
 use Rattle.calendar_count.specs.declared.weekday.Weekday.{Weekday}
 use Rattle.calendar_count.specs.declared.weekday.Weekday.TheVariants.{Monday, Tuesday, Wednesday, Thursday, Friday, Saturday, Sunday}
-use Rattle.parsing_pieces.specs.Pieces.{Piece, byte_of}
+use Rattle.parsing_combinator.specs.Pieces.{Piece, byte_of}
 
 abbrev pub is_name : List ℕ → List ℕ → Bool
 is_name text name = str_eq_ignore_ascii_case text name

@@ -4,7 +4,7 @@ use Rattle.byte_names.specs.Bytes.{space, plus, hyphen}
 use Rattle.calendar_count.specs.Month.{month_number}
 use Rattle.calendar_count.specs.declared.month.Month.{Month}
 use Rattle.calendar_count.specs.declared.weekday.Weekday.{Weekday}
-use Rattle.parsing_pieces.specs.Places.{HasDigit, HasPair, HasClock}
+use Rattle.parsing_combinator.specs.Places.{HasDigit, HasPair, HasClock}
 use Rattle.parsing_rfc2822.specs.Names.{weekday, month}
 use Rattle.parsing_rfc2822.specs.Reading.{comma, day, month_and_year}
 

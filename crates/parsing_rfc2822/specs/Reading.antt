@@ -5,14 +5,14 @@ use Rattle.std.specs.Prelude.{ℕ, ◌+◌, Bool, true, false, List, Option, Som
 use Rattle.byte_names.specs.Bytes.{colon, hyphen}
 use Rattle.calendar_count.specs.declared.month.Month.{Month}
 use Rattle.calendar_count.specs.declared.weekday.Weekday.{Weekday}
-use Rattle.parsing_pieces.specs.Fault.{literal, component}
-use Rattle.parsing_pieces.specs.Pieces.{Piece, digits, byte, sign}
-use Rattle.parsing_pieces.specs.Readings.{Reading, ◌or◌, ◌>>=◌, ◌>>◌, give, if_there, require, within}
-use Rattle.parsing_white_space.specs.Skips.{Skip, optional, byte_where, past}
-use Rattle.parsing_white_space.specs.WhiteSpace.{folding_white_space, comments_and_white_space}
+use Rattle.parsing_combinator.specs.Fault.{literal, component}
+use Rattle.parsing_combinator.specs.Pieces.{Piece, digits, byte, sign}
+use Rattle.parsing_combinator.specs.Readings.{Reading, ◌or◌, ◌>>=◌, ◌>>◌, give, if_there, require, within}
+use Rattle.parsing_rfc2822.specs.Skips.{Skip, optional, byte_where, past}
+use Rattle.parsing_rfc2822.specs.WhiteSpace.{folding_white_space, comments_and_white_space}
 use Rattle.parsing_rfc2822.specs.Names.{weekday, month, zone_name}
 use Rattle.parsing_rfc2822.specs.declared.parts.Rfc2822Parts.{Rfc2822Parts}
-use Rattle.parsing_pieces.specs.declared.zone.Zone.{Zone}
+use Rattle.parsing_combinator.specs.declared.zone.Zone.{Zone}
 
 -- `,`
 abbrev pub comma : ℕ

@@ -1,16 +1,15 @@
 //! The moment that a text names.
 ghost use Rattle.std.specs.Prelude.{◌≡◌, ◌<◌, IfErr, IfSome, Ok};
-ghost use Rattle.parsing_pieces.specs.FaultOf.{Gives, fault_of};
-ghost use Rattle.parsing_pieces.specs.Readings.{value_read};
-ghost use Rattle.parsing_pieces.specs.ShortName.{HasShortName};
+ghost use Rattle.parsing_combinator.specs.FaultOf.{Gives, fault_of};
+ghost use Rattle.parsing_combinator.specs.Readings.{value_read};
+ghost use Rattle.parsing_combinator.specs.ShortName.{HasShortName};
 ghost use Rattle.parsing_rfc2822.specs.Direct.{direct, moment_of};
 
 use crate::fast::read_fields;
 use crate::parts::Rfc2822Parts;
 use crate::reading::parse_prefix;
-use datetime_types::OffsetDateTime;
-use parsing_pieces::{Parse, ParseFromDescription};
-use parsing_resolution::{leap_checked, resolve};
+use parsing_combinator::{Parse, ParseFromDescription};
+use parsing_values::{OffsetDateTime, leap_checked, resolve};
 
 // The moment of what a text says, with what follows it.
 #[tactic(auto, unfolding(crate::specs::Direct::moment_of))]

@@ -10,10 +10,10 @@ ghost use Rattle.parsing_rfc2822.specs.Reading as Reading;
 use crate::names::{month, weekday, zone_name};
 use crate::places::{read_with_name, read_with_offset};
 use crate::reading::one_or_two_digits;
+use crate::{may_begin, one_space};
 use calendar_count::{Month, Weekday};
+use parsing_combinator::{byte, four_digits, one_digit, sign, two_digits};
 use parsing_fields::{Fields, Fraction, minute_of_day, signed_minutes};
-use parsing_pieces::{byte, four_digits, one_digit, sign, two_digits};
-use parsing_white_space::{may_begin, one_space};
 
 // `Tue, `, or nothing before a digit.
 #[tactic(auto, unfolding(crate::specs::Reading::optional_weekday, crate::specs::Reading::named_day))]
@@ -67,7 +67,7 @@ fn fast_clock(bytes: &[u8]) -> Option<((u8, u8, u8), &[u8])>
     ensures { IfSome result
         (λ x. Reading.clock false bytes.now ≡ Ok ((x.0.0, x.0.1, Some x.0.2), x.1.now)) }
 {
-    parsing_pieces::clock(bytes)
+    parsing_combinator::clock(bytes)
 }
 
 // The minutes of `+0200`, where it is all that is there and its numbers are in range.
@@ -134,6 +134,19 @@ fn read_by_parts(input: &[u8]) -> Option<Fields>
     Fields::new(year, month, day, minute_of_day, second, fraction, offset)
 }
 
+// The fields of a text of another length than the usual ones. A call of its own, so that `read_fields` stays small enough
+// to be inlined into a loop over lines.
+#[inline(never)]
+fn read_other_length(input: &[u8]) -> Option<Fields>
+    ensures { IfSome result (λ fields. direct input.now ≡ Ok (moment_of fields)) }
+{
+    // The lengths of texts with a weekday and a zone's name.
+    match input.len() {
+        28 | 29 => read_with_name(input),
+        _ => read_by_parts(input),
+    }
+}
+
 /// The fields of a text, where the fast way finds them: `None` says nothing of the text.
 ///
 /// It finds those of most texts: single spaces between their parts, all numbers of the clock, no leap second and no
@@ -142,10 +155,12 @@ fn read_by_parts(input: &[u8]) -> Option<Fields>
 pub fn read_fields(input: &[u8]) -> Option<Fields>
     ensures { IfSome result (λ fields. direct input.now ≡ Ok (moment_of fields)) }
 {
-    // The lengths of texts with a weekday.
+    // The lengths of texts with a weekday and an offset in digits.
     match input.len() {
         30 | 31 => read_with_offset(input),
-        28 | 29 => read_with_name(input),
-        _ => read_by_parts(input),
+        _ => {
+            let fields = read_other_length(input)?;
+            Some(fields)
+        }
     }
 }

@@ -1,8 +1,11 @@
 //! The readings of RFC 2822: the numbers of a text, and the moment that it names.
 #![tactic(auto)]
 
+mod bytes;
+mod comment;
 mod direct;
 mod fast;
+mod folding;
 pub mod laws;
 mod letters;
 mod names;
@@ -11,7 +14,9 @@ mod places;
 mod reading;
 mod spacing;
 
+pub use comment::{comments_and_white_space, may_begin, one_space};
 pub use direct::{read_exact, read_fast};
 pub use fast::read_fields;
+pub use folding::folding_white_space;
 pub use parts::Rfc2822Parts;
 pub use reading::parse_prefix;

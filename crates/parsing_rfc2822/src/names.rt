@@ -2,7 +2,7 @@
 //!
 //! Three letters stand in one number, the first one highest: one comparison takes a name.
 ghost use Rattle.std.specs.Prelude.{◌≡◌, ◌≤◌, IfSome, length};
-ghost use Rattle.parsing_pieces.specs.Pieces.{cut_view};
+ghost use Rattle.parsing_combinator.specs.Pieces.{cut_view};
 ghost use Rattle.parsing_rfc2822.specs.Names as Names;
 ghost use Rattle.parsing_rfc2822.specs.Words.{word_of};
 
@@ -115,7 +115,7 @@ fn zone_of(text: &[u8]) -> Option<u8>
 }
 
 // A letter other than `J` and `j`.
-#[tactic(auto, unfolding(crate::specs::Names::military_zone, parsing_pieces::specs::Pieces::byte_of))]
+#[tactic(auto, unfolding(crate::specs::Names::military_zone, parsing_combinator::specs::Pieces::byte_of))]
 fn military_zone(bytes: &[u8]) -> Option<(u8, &[u8])>
     ensures cut { cut_view result ≡ Names.military_zone bytes.now }
     ensures bound { IfSome result (λ x. x.0 ≤ 8) }

@@ -1,7 +1,7 @@
 //! What a text of RFC 2822 says.
 
 use calendar_count::{Month, Weekday};
-use parsing_pieces::Zone;
+use parsing_combinator::Zone;
 
 /// What the text says.
 #[derive(Clone, Copy, Debug, PartialEq, Eq)]

@@ -12,8 +12,8 @@ ghost use Rattle.parsing_rfc2822.specs.Reading as Reading;
 
 use crate::fast::fast_zone;
 use crate::letters::{has_weekday, month_number};
+use parsing_combinator::{are_between, clock_at, four_digits_at, two_pairs_at};
 use parsing_fields::{Fields, Fraction, minute_of_day, signed_minutes};
-use parsing_pieces::{are_between, clock_at, four_digits_at, two_pairs_at};
 
 // The lowest and the highest byte at each place from the last digit of the day on. What lies between the letters or the
 // signs is refused later, and so are most numbers out of range.

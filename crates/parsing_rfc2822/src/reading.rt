@@ -1,19 +1,19 @@
 //! Readings of the parts of a text.
 ghost use Rattle.std.specs.Prelude.{◌≡◌, ◌<◌, IfOk, IfErr, true};
-ghost use Rattle.parsing_pieces.specs.FaultOf.{Gives, reading_fault};
-ghost use Rattle.parsing_pieces.specs.Pieces as Pieces;
-ghost use Rattle.parsing_pieces.specs.ShortName.{HasShortName};
-ghost use Rattle.parsing_pieces.specs.Tame.{EndsWith};
+ghost use Rattle.parsing_combinator.specs.FaultOf.{Gives, reading_fault};
+ghost use Rattle.parsing_combinator.specs.Pieces as Pieces;
+ghost use Rattle.parsing_combinator.specs.ShortName.{HasShortName};
+ghost use Rattle.parsing_combinator.specs.Tame.{EndsWith};
 ghost use Rattle.parsing_rfc2822.specs.Range.{AreInRange};
 ghost use Rattle.parsing_rfc2822.specs.Reading as Reading;
 
 use crate::names::{month, weekday, zone_name};
 use crate::parts::Rfc2822Parts;
 use crate::spacing::{past_spacing, spaced_colon};
+use crate::{comments_and_white_space, folding_white_space};
 use calendar_count::{Month, Weekday};
-use parsing_pieces::ParseFromDescription::{self, InvalidComponent, InvalidLiteral};
-use parsing_pieces::{Zone, byte, four_digits, one_digit, sign, two_digits, within};
-use parsing_white_space::{comments_and_white_space, folding_white_space};
+use parsing_combinator::ParseFromDescription::{self, InvalidComponent, InvalidLiteral};
+use parsing_combinator::{Zone, byte, four_digits, one_digit, sign, two_digits, within};
 
 #[tactic(auto, unfolding(crate::specs::Reading::one_or_two_digits))]
 #[inline(always)]

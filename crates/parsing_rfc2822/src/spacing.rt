@@ -1,10 +1,10 @@
 //! Colons, and the white space and comments that may stand between the parts of a text.
 ghost use Rattle.std.specs.Prelude.{◌≡◌, option_map};
-ghost use Rattle.parsing_white_space.specs.Skips as Skips;
-ghost use Rattle.parsing_white_space.specs.WhiteSpace as White;
+ghost use Rattle.parsing_rfc2822.specs.Skips as Skips;
+ghost use Rattle.parsing_rfc2822.specs.WhiteSpace as White;
 ghost use Rattle.parsing_rfc2822.specs.Reading as Reading;
 
-use parsing_white_space::comments_and_white_space;
+use crate::comments_and_white_space;
 
 /// What follows comments and white space, where there are any.
 #[inline(always)]
@@ -18,7 +18,7 @@ pub(crate) fn past_spacing(bytes: &[u8]) -> &[u8]
 }
 
 /// A colon, with comments and white space on both sides.
-#[tactic(auto, unfolding(crate::specs::Reading::spaced_colon, parsing_white_space::specs::Skips::byte_where))]
+#[tactic(auto, unfolding(crate::specs::Reading::spaced_colon, crate::specs::Skips::byte_where))]
 #[inline(always)]
 pub(crate) fn spaced_colon(bytes: &[u8]) -> Option<&[u8]>
     ensures { option_map (λ r. r.now) result ≡ Reading.spaced_colon bytes.now }

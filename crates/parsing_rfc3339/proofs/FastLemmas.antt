@@ -1,18 +1,21 @@
 -- A text whose pieces are read one after another, with numbers in range and no leap second, names their moment.
-use Rattle.std.proofs.Common.{◌≡◌, ℕ, ◌+◌, ◌*◌, ◌<◌, ◌≤◌, false, List, [], Option, Some, None, Ok, ℤ, pos, refl, arith}
+use Rattle.std.proofs.Common.{◌≡◌, ℕ, ◌+◌, ◌*◌, ◌<◌, ◌≤◌, false, List, [], Option, Some, None, Ok, Err, ℤ, pos, refl, arith}
 use Rattle.std.specs.Option.{unwrap_or}
+use Rattle.std.proofs.lemmas.Bool.{le-leb}
 use Rattle.std.proofs.lemmas.Bool.Decides.{nat_tests}
 use Rattle.std.specs.Borrow.{Bor}
-use Rattle.std.specs.Prelude.{◌==◌, IfSome, ◌*ℤ◌}
+use Rattle.std.specs.Prelude.{◌==◌, IfSome, codes, ◌*ℤ◌}
 use Rattle.calendar.specs.Time.{time_of}
 use Rattle.datetime_wall.specs.Wall.{wall_clock}
-use Rattle.byte_names.specs.Bytes.{dot}
-use Rattle.parsing_pieces.specs.Pieces.{byte, any_byte, fraction}
-use Rattle.parsing_pieces.specs.declared.zone.Zone.{Zone}
-use Rattle.parsing_resolution.specs.Resolution.{date_of, permitted_time_of, signed_offset_of}
-use Rattle.parsing_resolution.specs.StandIn.{leap_checked}
+use Rattle.byte_names.specs.Bytes.{dot, hyphen}
+use Rattle.parsing_combinator.specs.Fault.{component}
+use Rattle.parsing_combinator.specs.Pieces.{byte, any_byte, digits, fraction, sign}
+use Rattle.parsing_combinator.specs.declared.zone.Zone.{Zone}
+use Rattle.parsing_values.specs.Resolution.{date_of, permitted_time_of, signed_offset_of}
+use Rattle.parsing_values.specs.StandIn.{leap_checked}
 use Rattle.parsing_rfc3339.specs.declared.parts.Rfc3339Parts.{Rfc3339Parts}
-use Rattle.parsing_rfc3339.specs.Reading.{date, clock, due_fraction, subsecond, offset, rfc3339}
+use Rattle.parsing_rfc3339.specs.Fast.{AreHoursAndMinutes}
+use Rattle.parsing_rfc3339.specs.Reading.{date, clock, due_fraction, subsecond, signed_offset, offset, rfc3339}
 use Rattle.parsing_rfc3339.specs.Direct.{direct, moment, moment_of}
 use Rattle.parsing_fields.specs.declared.fields.Fields.{Fields}
 use Rattle.parsing_fields.specs.Moment as Moment
@@ -51,3 +54,13 @@ moment_read b0 b1 b2 b3 b4 d t nanosecond o day time in_date between in_clock in
 pub fields_read : (f : Fields) (b0 b1 b2 b3 b4 : List ℕ) (d t : ℕ × ℕ × ℕ) (fraction : ℕ) (o : ℤ) → date false b0 ≡ Ok (d, b1) → any_byte b1 ≡ Some (tt, b2) → clock false b2 ≡ Ok (t, b3) → ((n : Option ℕ) × (subsecond b3 ≡ Ok (n, b4)) × (unwrap_or n 0 ≡ fraction)) → ((z : Zone) × (offset false b4 ≡ Ok (z, [])) × (signed_offset_of z.is_negative z.hours z.minutes ≡ Ok (pos 60 *ℤ o))) → HaveNumbers f d.0 d.1 d.2 (t.0 * 60 + t.1) t.2 fraction o → t.0 ≤ 23 → t.1 ≤ 59 → fraction < 1_000_000_000 → direct b0 ≡ Ok (Moment.moment_of f)
 fields_read f b0 b1 b2 b3 b4 d t fraction o in_date between in_clock in_subsecond in_offset numbers hour minute bound =
     rw (← moment_is f, numbers.same_offset) (moment_read b0 b1 b2 b3 b4 d t fraction (pos 60 *ℤ o) (day_of_fields f) (time_of_fields f) in_date between in_clock in_subsecond in_offset (fields_date f _ _ _ _ _ _ _ numbers) (fields_time f _ _ _ _ _ _ _ _ numbers hour minute bound))
+
+-- an offset whose hours and minutes are read at once
+pub signed_read : (bytes rest : List ℕ) (mark hours minutes : ℕ) → sign bytes ≡ Some (mark, rest) → AreHoursAndMinutes rest hours minutes → hours ≤ 23 → signed_offset false bytes ≡ Ok (record { is_named = false; is_negative = mark == hyphen; hours = hours; minutes = minutes }, [])
+unfolding signed_offset
+signed_read bytes rest mark hours minutes there r le = rw (there, r.hour_digits, le-leb hours 23 le, r.colon_there, r.minute_digits) refl
+
+-- a text without four digits in front has no year
+pub no_year : (bytes : List ℕ) → digits 4 bytes ≡ None → direct bytes ≡ Err (component (codes "year"))
+unfolding direct moment rfc3339 date
+no_year bytes e = rw e refl

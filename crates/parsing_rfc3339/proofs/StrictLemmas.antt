@@ -6,13 +6,13 @@ use Rattle.std.specs.Int.{IsInRange}
 use Rattle.std.proofs.lemmas.Bool.{and_parts, leb-true}
 use Rattle.std.proofs.lemmas.Bool.Decides.{nat_tests}
 use Rattle.byte_names.specs.Bytes.{hyphen, colon}
-use Rattle.parsing_pieces.specs.Fault.{literal, component}
-use Rattle.parsing_pieces.specs.FaultOf.{Gives, reading_fault}
-use Rattle.parsing_pieces.specs.Pieces.{digits, byte, any_byte, sign}
-use Rattle.parsing_pieces.specs.Readings.{piece_or, give, require, within}
-use Rattle.parsing_pieces.specs.declared.fault.ParseFromDescription.{ParseFromDescription}
-use Rattle.parsing_pieces.specs.declared.zone.Zone.{Zone}
-use Rattle.parsing_pieces.proofs.lemmas.Strict.{Narrows, given, denied, then_misses, then_narrows, same_then, plain_then, checked, entered_narrows, within_yes, within_no, required_says, narrows_iff, strict_passes}
+use Rattle.parsing_combinator.specs.Fault.{literal, component}
+use Rattle.parsing_combinator.specs.FaultOf.{Gives, reading_fault}
+use Rattle.parsing_combinator.specs.Pieces.{digits, byte, any_byte, sign}
+use Rattle.parsing_combinator.specs.Readings.{piece_or, give, require, within}
+use Rattle.parsing_combinator.specs.declared.fault.ParseFromDescription.{ParseFromDescription}
+use Rattle.parsing_combinator.specs.declared.zone.Zone.{Zone}
+use Rattle.parsing_combinator.proofs.lemmas.Strict.{Narrows, given, denied, then_misses, then_narrows, same_then, plain_then, checked, entered_narrows, within_yes, within_no, required_says, narrows_iff, strict_passes}
 use Rattle.parsing_rfc3339.specs.declared.parts.Rfc3339Parts.{Rfc3339Parts}
 use Rattle.parsing_rfc3339.specs.Range.{AreInRange}
 use Rattle.parsing_rfc3339.specs.Reading.{date, clock, subsecond, zulu, signed_offset, offset, rfc3339}

@@ -5,16 +5,16 @@ use Rattle.std.specs.Prelude.{◌&&◌, IfOk, IfErr, codes, nat_lt, nat_le, pos,
 use Rattle.std.specs.Option.{unwrap_or}
 use Rattle.byte_names.specs.Bytes.{hyphen, colon, dot}
 use Rattle.datetime_wall.specs.Wall.{Shown}
-use Rattle.parsing_pieces.specs.Fault.{literal, component}
-use Rattle.parsing_pieces.specs.FaultOf.{Gives, fault_of, reading_fault}
-use Rattle.parsing_pieces.specs.Pieces.{digits, byte, any_byte, sign, fraction}
-use Rattle.parsing_pieces.specs.Readings.{within}
-use Rattle.parsing_pieces.specs.ShortName.{HasShortName}
-use Rattle.parsing_pieces.specs.Tame.{EndsWith, IsTame}
-use Rattle.parsing_pieces.specs.declared.fault.Parse.{Parse}
-use Rattle.parsing_pieces.specs.declared.fault.ParseFromDescription.{ParseFromDescription}
-use Rattle.parsing_pieces.proofs.lemmas.Tame.{digits_leaves, byte_leaves, skip_leaves, fraction_leaves, whole_end, piece_tame, then_tame, require_tame, resolved_tame, end_tame, entered_tame, front_ends, front_short, value_given_short}
-use Rattle.parsing_resolution.specs.Resolution.{date_of, leap_time_of, signed_offset_of}
+use Rattle.parsing_combinator.specs.Fault.{literal, component}
+use Rattle.parsing_combinator.specs.FaultOf.{Gives, fault_of, reading_fault}
+use Rattle.parsing_combinator.specs.Pieces.{digits, byte, any_byte, sign, fraction}
+use Rattle.parsing_combinator.specs.Readings.{within}
+use Rattle.parsing_combinator.specs.ShortName.{HasShortName}
+use Rattle.parsing_combinator.specs.Tame.{EndsWith, IsTame}
+use Rattle.parsing_combinator.specs.declared.fault.Parse.{Parse}
+use Rattle.parsing_combinator.specs.declared.fault.ParseFromDescription.{ParseFromDescription}
+use Rattle.parsing_combinator.proofs.lemmas.Tame.{digits_leaves, byte_leaves, skip_leaves, fraction_leaves, whole_end, piece_tame, then_tame, require_tame, resolved_tame, end_tame, entered_tame, front_ends, front_short, value_given_short}
+use Rattle.parsing_values.specs.Resolution.{date_of, leap_time_of, signed_offset_of}
 use Rattle.parsing_rfc3339.specs.declared.parts.Rfc3339Parts.{Rfc3339Parts}
 use Rattle.parsing_rfc3339.specs.Reading.{date, clock, due_fraction, subsecond, zulu, signed_offset, offset, rfc3339}
 use Rattle.parsing_rfc3339.specs.Direct.{moment, moment_of, direct}

@@ -1,5 +1,5 @@
 pub mod Direct
-mod Fast
+pub mod Fast
 pub mod Places
 pub mod Range
 pub mod Reading

@@ -1,18 +1,17 @@
 //! The moment that a text names.
 ghost use Rattle.std.specs.Prelude.{◌≡◌, ◌<◌, IfErr, IfSome, Ok};
-ghost use Rattle.parsing_pieces.specs.FaultOf.{Gives, fault_of};
-ghost use Rattle.parsing_pieces.specs.ShortName.{HasShortName};
+ghost use Rattle.parsing_combinator.specs.FaultOf.{Gives, fault_of};
+ghost use Rattle.parsing_combinator.specs.ShortName.{HasShortName};
 ghost use Rattle.parsing_rfc3339.specs.Direct.{direct, moment_of};
-ghost use Rattle.parsing_pieces.specs.Readings.{value_read};
+ghost use Rattle.parsing_combinator.specs.Readings.{value_read};
 ghost use Rattle.parsing_fields.specs.Moment as Moment;
 
 use crate::parts::Rfc3339Parts;
 use crate::places::{behind_front, clock, date, has_shape};
 use crate::reading::{fast_fraction, fast_offset, parse_prefix};
-use datetime_types::OffsetDateTime;
+use parsing_combinator::{Parse, ParseFromDescription, four_digits};
 use parsing_fields::{Fields, minute_of_day};
-use parsing_pieces::{Parse, ParseFromDescription};
-use parsing_resolution::{leap_checked, resolve};
+use parsing_values::{OffsetDateTime, leap_checked, resolve};
 
 // The moment of the numbers that a text has, with what follows them.
 #[tactic(auto, unfolding(crate::specs::Direct::moment_of))]
@@ -44,7 +43,8 @@ const SHORTEST: usize = 20;
 pub fn read_fields(input: &[u8]) -> Option<Fields>
     ensures { IfSome result (λ fields. direct input.now ≡ Ok (Moment.moment_of fields)) }
 {
-    if input.len() < SHORTEST || !has_shape(input) {
+    // The hyphen by itself first: it is what most other texts lack.
+    if input.len() < SHORTEST || input[4] != b'-' || !has_shape(input) {
         return None;
     }
     // Whole tuples handed on would be kept in memory, at some ten instructions a line.
@@ -67,16 +67,29 @@ pub fn read_fast(input: &[u8]) -> Option<OffsetDateTime>
     Some(fields.moment())
 }
 
+// The moment that a text names, or its first fault, piece by piece.
+#[tactic(auto, unfolding(crate::specs::Direct::direct, crate::specs::Direct::moment))]
+#[cold]
+#[inline(never)]
+fn read_pieces(input: &[u8]) -> Result<OffsetDateTime, Parse>
+    ensures { Gives (λ d. d) fault_of result (direct input.now) }
+{
+    let (parts, rest) = parse_prefix(false, input)?;
+    resolved(parts, rest)
+}
+
 /// The moment that a text of RFC 3339, section 5.6, names, with any one byte between date and time.
 ///
 /// The first fault counts: what can't be read, the offset's range, what follows, the ranges of date and time, and last
 /// whether a second 60 can be a leap second. It reads piece by piece; `read_fast` finds most moments sooner.
-#[tactic(auto, unfolding(crate::specs::Direct::direct, crate::specs::Direct::moment))]
-#[cold]
+#[inline(always)]
 pub fn read_exact(input: &[u8]) -> Result<OffsetDateTime, Parse>
     ensures gives { Gives (λ d. d) fault_of result (direct input.now) }
     ensures short_name { IfErr result (λ e. HasShortName (fault_of e)) }
 {
-    let (parts, rest) = parse_prefix(false, input)?;
-    resolved(parts, rest)
+    // Most texts that are refused begin with no year.
+    let Some(_) = four_digits(input) else {
+        return Err(ParseFromDescription::InvalidComponent("year").into());
+    };
+    read_pieces(input)
 }

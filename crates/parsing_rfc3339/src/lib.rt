@@ -6,6 +6,7 @@ pub mod laws;
 mod parts;
 mod places;
 mod reading;
+mod zone;
 
 pub use direct::{read_exact, read_fast, read_fields};
 pub use parts::Rfc3339Parts;

@@ -1,6 +1,6 @@
 //! What a text of RFC 3339 says.
 
-use parsing_pieces::Zone;
+use parsing_combinator::Zone;
 
 /// The numbers that the text has.
 #[derive(Clone, Copy, Debug, PartialEq, Eq)]

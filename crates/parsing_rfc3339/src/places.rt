@@ -3,7 +3,7 @@ ghost use Rattle.std.specs.Prelude.{◌≡◌, ◌≤◌, Ok, IfSome, true, fals
 ghost use Rattle.parsing_rfc3339.specs.Places.{HasShape};
 ghost use Rattle.parsing_rfc3339.specs.Reading as Reading;
 
-use parsing_pieces::{are_between, clock_at, four_digits_at, two_digits_at};
+use parsing_combinator::{are_between, clock_at, four_digits_at, two_digits_at};
 
 // How many bytes a date, a separator and a time of day to the second have.
 pub(crate) const FRONT: usize = 19;

@@ -1,17 +1,18 @@
 //! Readings of the parts of a text.
 ghost use Rattle.std.specs.Prelude.{◌≡◌, ◌≤◌, ◌<◌, IfOk, IfErr, IfSome, Ok, true, false};
-ghost use Rattle.parsing_pieces.specs.FaultOf.{Gives, reading_fault};
-ghost use Rattle.parsing_pieces.specs.Pieces.{rest_view};
-ghost use Rattle.parsing_pieces.specs.ShortName.{HasShortName};
-ghost use Rattle.parsing_pieces.specs.Tame.{EndsWith};
+ghost use Rattle.parsing_combinator.specs.FaultOf.{Gives, reading_fault};
+ghost use Rattle.parsing_combinator.specs.Pieces.{rest_view};
+ghost use Rattle.parsing_combinator.specs.ShortName.{HasShortName};
+ghost use Rattle.parsing_combinator.specs.Tame.{EndsWith};
 ghost use Rattle.parsing_rfc3339.specs.Fast.{IsAllOffset, ReadsNanosecond};
 ghost use Rattle.parsing_rfc3339.specs.Range.{AreInRange};
 ghost use Rattle.parsing_rfc3339.specs.Reading as Reading;
 
 use crate::parts::Rfc3339Parts;
-use parsing_fields::{Fraction, signed_minutes};
-use parsing_pieces::ParseFromDescription::{self, InvalidComponent, InvalidLiteral};
-use parsing_pieces::{Zone, any_byte, byte, four_digits, fraction, sign, two_digits, within};
+use crate::zone::hours_and_minutes;
+use parsing_combinator::ParseFromDescription::{self, InvalidComponent, InvalidLiteral};
+use parsing_combinator::{Zone, any_byte, byte, four_digits, fraction, sign, two_digits, within};
+use parsing_fields::{Fraction, offset_minutes};
 
 #[tactic(auto, unfolding(crate::specs::Reading::date))]
 fn date(is_strict: bool, bytes: &[u8]) -> Result<((u16, u8, u8), &[u8]), ParseFromDescription>
@@ -78,7 +79,7 @@ pub(crate) fn fast_fraction(bytes: &[u8]) -> Option<(Fraction, &[u8])>
     }
 }
 
-#[tactic(auto, unfolding(crate::specs::Reading::zulu, parsing_pieces::specs::Pieces::skip_of))]
+#[tactic(auto, unfolding(crate::specs::Reading::zulu, parsing_combinator::specs::Pieces::skip_of))]
 #[inline(always)]
 fn zulu(bytes: &[u8]) -> Option<&[u8]>
     ensures { rest_view result ≡ Reading.zulu bytes.now }
@@ -137,20 +138,17 @@ fn offset(is_strict: bool, bytes: &[u8]) -> Result<(Zone, &[u8]), ParseFromDescr
 }
 
 // The minutes of the signed offset that is all that is there, where its numbers are in range.
+#[tactic(auto, unfolding(crate::specs::Reading::signed_offset))]
 #[inline(always)]
 fn fast_signed_offset(bytes: &[u8]) -> Option<i16>
     ensures { IfSome result (IsAllOffset (Reading.signed_offset false bytes.now)) }
 {
-    if bytes.len() != 6 {
+    let (mark, rest) = sign(bytes)?;
+    let (hours, minutes) = hours_and_minutes(rest)?;
+    if hours > 23 || minutes > 59 {
         return None;
     }
-    let Ok((zone, rest)) = signed_offset(false, bytes) else {
-        return None;
-    };
-    if !rest.is_empty() {
-        return None;
-    }
-    signed_minutes(zone.is_negative, zone.hours, zone.minutes)
+    Some(offset_minutes(mark == b'-', hours, minutes))
 }
 
 // The minutes of the offset that is all that is there, where its numbers are in range.

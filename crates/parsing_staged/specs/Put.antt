@@ -1,7 +1,7 @@
 -- What a text of RFC 3339, RFC 2822 or ISO 8601 sets in a record: all that it says, and the permission of a leap second.
-use Rattle.std.specs.Prelude.{true, Bool, Option, Some, None, ℤ, pos, if◌then◌else◌}
+use Rattle.std.specs.Prelude.{true, Option, Some, None, pos, if◌then◌else◌}
 use Rattle.std.specs.Option.{option_or}
-use Rattle.parsing_pieces.specs.declared.zone.Zone.{Zone}
+use Rattle.parsing_combinator.specs.declared.zone.Zone.{Zone}
 use Rattle.parsing_components.specs.Ranged.{under, counted, months}
 use Rattle.parsing_record.specs.Record.{Record}
 use Rattle.parsing_rfc3339.specs.declared.parts.Rfc3339Parts.{Rfc3339Parts}

@@ -1,6 +1,6 @@
 -- The readings of RFC 3339, RFC 2822 and ISO 8601 into a record. Each number that a record does not take is refused where it stands.
 use Rattle.std.specs.Prelude.{true}
-use Rattle.parsing_pieces.specs.Readings.{◌>>=◌, give}
+use Rattle.parsing_combinator.specs.Readings.{◌>>=◌, give}
 use Rattle.parsing_record.specs.Meaning.{Meaning}
 use Rattle.parsing_rfc3339.specs.Reading as rfc3339
 use Rattle.parsing_rfc2822.specs.Reading as rfc2822

@@ -1,15 +1,15 @@
 //! The reading of ISO 8601 into a record.
 ghost use Rattle.std.specs.Prelude.{◌≡◌, IfOk, IfErr, Some};
-ghost use Rattle.parsing_pieces.specs.FaultOf.{reading_fault};
-ghost use Rattle.parsing_pieces.specs.ShortName.{HasShortName};
-ghost use Rattle.parsing_pieces.specs.Tame.{EndsWith};
+ghost use Rattle.parsing_combinator.specs.FaultOf.{reading_fault};
+ghost use Rattle.parsing_combinator.specs.ShortName.{HasShortName};
+ghost use Rattle.parsing_combinator.specs.Tame.{EndsWith};
 ghost use Rattle.parsing_components.specs.Put.{Reads};
 ghost use Rattle.parsing_iso8601.specs.Ranges.{AreInRange, IsDateInRange, IsTimeInRange, IsOffsetInRange};
 ghost use Rattle.parsing_staged.specs.Put as Put;
 ghost use Rattle.parsing_staged.specs.Staged as Staged;
 
+use parsing_combinator::ParseFromDescription;
 use parsing_iso8601::{Iso8601Parts, WrittenDate, WrittenOffset, WrittenTime, parse_prefix};
-use parsing_pieces::ParseFromDescription;
 use parsing_record::Parsed;
 
 fn set_date(date: WrittenDate, parsed: &mut Parsed)

@@ -1,15 +1,15 @@
 //! The reading of RFC 2822 into a record.
 ghost use Rattle.std.specs.Prelude.{◌≡◌, IfOk, IfErr};
-ghost use Rattle.parsing_pieces.specs.FaultOf.{reading_fault};
-ghost use Rattle.parsing_pieces.specs.ShortName.{HasShortName};
-ghost use Rattle.parsing_pieces.specs.Tame.{EndsWith};
+ghost use Rattle.parsing_combinator.specs.FaultOf.{reading_fault};
+ghost use Rattle.parsing_combinator.specs.ShortName.{HasShortName};
+ghost use Rattle.parsing_combinator.specs.Tame.{EndsWith};
 ghost use Rattle.parsing_components.specs.Put.{Reads};
 ghost use Rattle.parsing_rfc2822.specs.Range.{AreInRange};
 ghost use Rattle.parsing_staged.specs.Put as Put;
 ghost use Rattle.parsing_staged.specs.Staged as Staged;
 
 use crate::zone::set_zone;
-use parsing_pieces::ParseFromDescription;
+use parsing_combinator::ParseFromDescription;
 use parsing_record::Parsed;
 use parsing_rfc2822::{Rfc2822Parts, parse_prefix};
 

@@ -1,8 +1,8 @@
 //! The reading of RFC 3339 into a record.
 ghost use Rattle.std.specs.Prelude.{◌≡◌, ◌<◌, IfOk, IfErr, IfSome};
-ghost use Rattle.parsing_pieces.specs.FaultOf.{reading_fault};
-ghost use Rattle.parsing_pieces.specs.ShortName.{HasShortName};
-ghost use Rattle.parsing_pieces.specs.Tame.{EndsWith};
+ghost use Rattle.parsing_combinator.specs.FaultOf.{reading_fault};
+ghost use Rattle.parsing_combinator.specs.ShortName.{HasShortName};
+ghost use Rattle.parsing_combinator.specs.Tame.{EndsWith};
 ghost use Rattle.parsing_components.specs.Put.{Reads};
 ghost use Rattle.parsing_rfc3339.specs.Range.{AreInRange};
 ghost use Rattle.parsing_staged.specs.Put as Put;
@@ -10,7 +10,7 @@ ghost use Rattle.parsing_staged.specs.Staged as Staged;
 
 use crate::zone::set_zone;
 use calendar_count::Month;
-use parsing_pieces::ParseFromDescription;
+use parsing_combinator::ParseFromDescription;
 use parsing_record::Parsed;
 use parsing_rfc3339::{Rfc3339Parts, parse_prefix};
 

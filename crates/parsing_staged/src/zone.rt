@@ -3,7 +3,7 @@ ghost use Rattle.std.specs.Prelude.{◌≡◌, ◌≤◌};
 ghost use Rattle.parsing_components.specs.Ranged.{under};
 ghost use Rattle.parsing_staged.specs.Put as Put;
 
-use parsing_pieces::Zone;
+use parsing_combinator::Zone;
 use parsing_record::Parsed;
 
 // A number under its sign.

@@ -109,8 +109,7 @@ fn alternatives(rt: HostRuntime) -> Result<(), Fail> {
         is_answer(&first, b"x", &none, (hour, 4)),
         is_answer(&none_of, b"x", &none, (Ok(1), 1)),
     ];
-    assert!(rt; answers == [true; 6]);
-    assert!(rt; places_of_items(&[first, may_be_day]) == 8);
+    assert!(rt; answers == [true; 6] && places_of_items(&[first, may_be_day]) == 8);
     Ok(())
 }
 

@@ -1,6 +1,6 @@
 //! What a caller knows that is generic over `Parsable` or `TwoRoads`: the moment that bytes name, by the bound alone.
 ghost use Rattle.std.specs.Prelude.{Some};
-ghost use Rattle.parsing_pieces.specs.FaultOf.{Gives, fault_of};
+ghost use Rattle.parsing_combinator.specs.FaultOf.{Gives, fault_of};
 ghost use Rattle.parsing_record.specs.Meaning.{meaning};
 ghost use Rattle.parsing_record.specs.Whole.{whole, names, moment_named};
 
@@ -39,9 +39,11 @@ fn second<P: Parsable>(format: &P, input: &[u8]) -> Option<i64> {
 #[test]
 fn moments(rt: HostRuntime) -> Result<(), Fail> {
     let items = parse(rt.alloc(), "[unix_timestamp]")?;
-    assert!(rt; second(&Items(&items), b"7") == Some(7));
-    assert!(rt; seconds() == [Some(7), Some(7), None]);
-    assert!(rt; roads(b"1 Jan 1970 00:00:07 GMT") == [true; 2]);
+    assert!(rt;
+        second(&Items(&items), b"7") == Some(7)
+            && seconds() == [Some(7), Some(7), None]
+            && roads(b"1 Jan 1970 00:00:07 GMT") == [true; 2]
+    );
     Ok(())
 }
 

@@ -2,8 +2,8 @@
 
 use calendar::{Date, Month, Weekday};
 use calendar_count::{ComponentName, ComponentRange};
-use parsing_dates::{DateParts, YearParts, date, named_day, year};
-use parsing_pieces::TryFromParsed;
+use parsing_combinator::TryFromParsed;
+use parsing_values::{DateParts, YearParts, date, named_day, year};
 use std::test::Fail;
 
 const NO_YEAR: YearParts = YearParts {

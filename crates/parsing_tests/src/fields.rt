@@ -2,8 +2,8 @@
 
 use calendar::UtcOffset;
 use description::{Description, DescriptionVersion, parse_borrowed, parse_strftime_borrowed};
+use parsing_combinator::digit_chunk;
 use parsing_fields::{Fields, Fraction, minute_of_day, signed_minutes};
-use parsing_pieces::digit_chunk;
 use parsing_plan::Plan;
 use std::test::Fail;
 
@@ -33,9 +33,11 @@ fn moments(rt: HostRuntime) {
 
 #[test]
 fn minutes(rt: HostRuntime) {
-    assert!(rt; [minute_of_day(23, 59), minute_of_day(24, 0)] == [Some(1439), None]);
     let minutes = [signed_minutes(true, 5, 30), signed_minutes(false, 26, 0)];
-    assert!(rt; minutes == [Some(-330), None]);
+    assert!(rt;
+        [minute_of_day(23, 59), minute_of_day(24, 0)] == [Some(1439), None]
+            && minutes == [Some(-330), None]
+    );
 }
 
 #[test]
@@ -44,11 +46,13 @@ fn fractions(rt: HostRuntime) {
         Some((fraction, rest)) => Some((fraction.digits(), fraction.nanosecond(), rest.len())),
         None => None,
     };
-    assert!(rt; read(b"5Z") == Some((*b"500000000", 500_000_000, 1)));
-    assert!(rt; read(b"123456789+01:00") == Some((*b"123456789", 123_456_789, 6)));
-    assert!(rt; read(b"1234567890") == None);
-    assert!(rt; read(b"Z") == None);
-    assert!(rt; digit_chunk(b"123Z") == Some((u64::from_le_bytes(*b"12300000"), 3)));
+    assert!(rt;
+        read(b"5Z") == Some((*b"500000000", 500_000_000, 1))
+            && read(b"123456789+01:00") == Some((*b"123456789", 123_456_789, 6))
+            && read(b"1234567890") == None
+            && read(b"Z") == None
+            && digit_chunk(b"123Z") == Some((u64::from_le_bytes(*b"12300000"), 3))
+    );
 }
 
 #[test]
@@ -68,9 +72,11 @@ fn plans_of_items(rt: HostRuntime) -> Result<(), Fail> {
     let items = parse_strftime_borrowed(rt.alloc(), "%d/%b/%Y:%H:%M:%S %z")?;
     let plan = Plan::of_items(&items);
     let read = |line: &[u8]| instant(plan?.read(line, None));
-    assert!(rt; read(b"02/Jan/2021:03:04:05 +0100") == WHOLE);
-    assert!(rt; read(b"02/jan/2021:03:04:05 +0100") == None);
-    assert!(rt; read(b"30/Feb/2021:03:04:05 +0100") == None);
+    assert!(rt;
+        read(b"02/Jan/2021:03:04:05 +0100") == WHOLE
+            && read(b"02/jan/2021:03:04:05 +0100") == None
+            && read(b"30/Feb/2021:03:04:05 +0100") == None
+    );
     Ok(())
 }
 
@@ -85,7 +91,6 @@ fn plans_of_descriptions(rt: HostRuntime) -> Result<(), Fail> {
     let plan = Plan::of_description(&tree);
     let read = |line: &[u8], assumed| instant(plan?.read(line, assumed));
     let line = b"2021-01-02 02:04:05 UTC";
-    assert!(rt; read(line, Some(UtcOffset::UTC)) == WHOLE);
-    assert!(rt; read(line, None) == None);
+    assert!(rt; (read(line, Some(UtcOffset::UTC)), read(line, None)) == (WHOLE, None));
     Ok(())
 }

@@ -9,9 +9,9 @@ fn readings() {
     laws::two_formats();
     laws::joined_descriptions();
     laws::two_versions();
-    parsing_two_roads::laws::two_formats();
-    parsing_dates::laws::one_day();
-    parsing_moments::laws::three_instants();
+    parsing_laws::two_roads::two_formats();
+    parsing_values::date_laws::one_day();
+    parsing_values::laws::three_instants();
 }
 
 #[test]

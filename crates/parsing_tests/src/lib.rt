@@ -1,5 +1,5 @@
 //! Tests of what takes types: items and records made by hand, parts of dates and moments, refusals, laws. What texts are
-//! read as stands in the rows of `parsing_rows`.
+//! read as stands in the rows of the program `rows`.
 #![tactic(auto)]
 
 #[cfg(test)]

@@ -3,13 +3,12 @@
 use calendar::{Date, Month, Time, UtcOffset};
 use calendar_count::{ComponentName, ComponentRange};
 use datetime_types::{OffsetDateTime, PlainDateTime, Timestamp, UtcDateTime};
-use parsing_dates::{DateParts, YearParts};
-use parsing_moments::{
-    MomentParts, OffsetParts, TimeParts, hour, offset, offset_date_time, plain_date_time, time,
-    timestamp, utc_date_time,
+use parsing_combinator::TryFromParsed;
+use parsing_values::resolve::permitted_time;
+use parsing_values::{
+    DateParts, MomentParts, OffsetParts, TimeParts, YearParts, hour, offset, offset_date_time,
+    plain_date_time, time, timestamp, utc_date_time,
 };
-use parsing_pieces::TryFromParsed;
-use parsing_resolution::resolve::permitted_time;
 use std::test::Fail;
 
 const NO_YEAR: YearParts = YearParts {
@@ -152,8 +151,9 @@ fn times(rt: HostRuntime) -> Result<(), Fail> {
     ] {
         assert!(rt; time(leap, &parts) == wanted);
     }
-    assert!(rt; permitted_time(true, 3, 4, 60, 0) == Ok(end));
-    assert!(rt; permitted_time(false, 3, 4, 60, 0).is_err());
+    assert!(rt;
+        permitted_time(true, 3, 4, 60, 0) == Ok(end) && permitted_time(false, 3, 4, 60, 0).is_err()
+    );
     Ok(())
 }
 
@@ -192,8 +192,10 @@ fn unix_nanoseconds(rt: HostRuntime) -> Result<(), Fail> {
     let wall = PlainDateTime::new(day, Time::from_hms_nano(23, 59, 59, 250_000_000)?);
     let instant = Timestamp::from_seconds(-1)?;
     let read = instants(&parts, &ahead(5));
-    assert!(rt; read == (Ok(wall.assume_utc()), Ok(wall.as_utc()), Ok(instant)));
-    assert!(rt; read.0.map(OffsetDateTime::offset) == Ok(UtcOffset::UTC));
+    assert!(rt;
+        read == (Ok(wall.assume_utc()), Ok(wall.as_utc()), Ok(instant))
+            && read.0.map(OffsetDateTime::offset) == Ok(UtcOffset::UTC)
+    );
     Ok(())
 }
 
@@ -281,9 +283,8 @@ fn walls(rt: HostRuntime) -> Result<(), Fail> {
     assert!(rt;
         plain_date_time(false, &parts, &at(23, 20, 50))
             == Ok(PlainDateTime::new(day, Time::from_hms(23, 20, 50)?))
-    );
-    assert!(rt;
-        plain_date_time(false, &parts, &at(23, 20, 60)) == Err(refused(ComponentName::Second))
+            && plain_date_time(false, &parts, &at(23, 20, 60))
+                == Err(refused(ComponentName::Second))
     );
     Ok(())
 }

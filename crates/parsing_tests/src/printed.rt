@@ -4,7 +4,7 @@ use calendar::{Date, Month};
 use parsing::{Error, Parse, ParseFromDescription, Parsed, TryFromParsed};
 use std::test::Fail;
 
-const FAULTS: [Parse; 4] = [
+static FAULTS: [Parse; 4] = [
     Parse::ParseFromDescription(ParseFromDescription::InvalidLiteral),
     Parse::ParseFromDescription(ParseFromDescription::InvalidComponent("day")),
     Parse::ParseFromDescription(ParseFromDescription::UnexpectedTrailingCharacters),
@@ -14,7 +14,8 @@ const FAULTS: [Parse; 4] = [
 #[test]
 fn refusals(rt: HostRuntime) -> Result<(), Fail> {
     let mut told = String::new(rt.alloc());
-    for fault in FAULTS {
+    for row in &FAULTS {
+        let fault = *row;
         write!(told, "\n{fault:?}: {fault:>99}")?;
     }
     let range = Date::from_calendar_date(2021, Month::February, 29);

@@ -90,11 +90,11 @@ fn days(rt: HostRuntime) {
             parsed.ordinal(),
             parsed.day(),
         );
-        assert!(rt;
-            (set, names, low, high) == ([Some(()); 5], (Some(()), Some(())), [None; 5], [None; 5])
-        );
+        let are_set = ([Some(()); 5], (Some(()), Some(())), [None; 5], [None; 5]);
         let wanted = (Some(month), Some(weekday), Some(ordinal), Some(day));
-        assert!(rt; (weeks, got) == ((Some(week), Some(week), Some(iso_week)), wanted));
+        let wanted_weeks = (Some(week), Some(week), Some(iso_week));
+        let answers = ((set, names, low, high), weeks, got);
+        assert!(rt; answers == (are_set, wanted_weeks, wanted));
     }
 }
 
@@ -130,9 +130,10 @@ fn clocks(rt: HostRuntime) {
         let high = set_clock(&mut parsed, 24, 13, 60, 61, 1_000_000_000);
         let hours = (parsed.hour_24(), parsed.hour_12(), parsed.hour_12_is_pm());
         let got = (parsed.minute(), parsed.second(), parsed.subsecond());
-        assert!(rt; (set, is_pm, low, high) == ([Some(()); 5], Some(()), [None; 5], [None; 5]));
+        let are_set = ([Some(()); 5], Some(()), [None; 5], [None; 5]);
+        let wanted_hours = (Some(hour), Some(half), Some(true));
         let wanted = (Some(minute), Some(second), Some(subsecond));
-        assert!(rt; (hours, got) == ((Some(hour), Some(half), Some(true)), wanted));
+        assert!(rt; ((set, is_pm, low, high), hours, got) == (are_set, wanted_hours, wanted));
     }
 }
 
@@ -157,8 +158,8 @@ fn offsets(rt: HostRuntime) {
             parsed.offset_minute_signed(),
             parsed.offset_second_signed(),
         );
-        assert!(rt; (set, low, high) == ([Some(()); 3], [None; 3], [None; 3]));
-        assert!(rt; got == (Some(hour), Some(minute), Some(second)));
+        let are_set = ([Some(()); 3], [None; 3], [None; 3]);
+        assert!(rt; ((set, low, high), got) == (are_set, (Some(hour), Some(minute), Some(second))));
     }
 }
 
@@ -172,8 +173,8 @@ fn sizes_of_offsets(rt: HostRuntime) {
         );
         let past = (parsed.set_offset_minute(60), parsed.set_offset_second(60));
         let got = (parsed.offset_minute(), parsed.offset_second());
-        assert!(rt; (set, past) == ((Some(()), Some(())), (None, None)));
-        assert!(rt; got == (Some(value), Some(value)));
+        let are_set = ((Some(()), Some(())), (None, None));
+        assert!(rt; ((set, past), got) == (are_set, (Some(value), Some(value))));
     }
 }
 
@@ -209,7 +210,7 @@ fn dated() -> Option<Parsed> {
         .with_day(31)
 }
 
-const DATED: [i32; 15] = [
+static DATED: [i32; 15] = [
     -999_999, -9_999, 1, 99, 999_999, 0, 1, 0, 12, 0, 53, 1, 6, 366, 31,
 ];
 
@@ -228,7 +229,7 @@ fn timed() -> Option<Parsed> {
         .with_unix_timestamp_nanos(-31_619_087_596_800_000_000_000)
 }
 
-const TIMED: [i128; 12] = [
+static TIMED: [i128; 12] = [
     23,
     12,
     0,
@@ -338,7 +339,10 @@ fn moments(rt: HostRuntime) -> Result<(), Fail> {
         moment.map(OffsetDateTime::unix_timestamp),
         usual.map(OffsetDateTime::unix_timestamp),
     );
-    assert!(rt; forbidden && moment == OffsetDateTime::try_from(leap));
-    assert!(rt; seconds == (Ok(662_687_999), Ok(1_609_562_045)));
+    assert!(rt;
+        forbidden
+            && moment == OffsetDateTime::try_from(leap)
+            && seconds == (Ok(662_687_999), Ok(1_609_562_045))
+    );
     Ok(())
 }

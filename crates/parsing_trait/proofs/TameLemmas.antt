@@ -1,8 +1,8 @@
 -- What follows of an answer that is tame.
 use Rattle.std.proofs.Common.{◌≡◌, ℕ, List, Ok, Err, subst}
-use Rattle.parsing_pieces.specs.Fault.{Fault}
-use Rattle.parsing_pieces.specs.ShortName.{HasShortName}
-use Rattle.parsing_pieces.specs.Tame.{EndsWith, Tame}
+use Rattle.parsing_combinator.specs.Fault.{Fault}
+use Rattle.parsing_combinator.specs.ShortName.{HasShortName}
+use Rattle.parsing_combinator.specs.Tame.{EndsWith, Tame}
 use Rattle.parsing_record.specs.Record.{Record}
 use Rattle.parsing_record.specs.Meaning.{Answer}
 

@@ -3,7 +3,7 @@ use Rattle.std.specs.Prelude.{ℕ, List, None, Result}
 use Rattle.datetime_wall.specs.Wall.{Shown}
 use Rattle.description_items.specs.Tree.{Tree, listed}
 use Rattle.parsing_components.specs.Component.{reads_component}
-use Rattle.parsing_pieces.specs.Fault.{Fault}
+use Rattle.parsing_combinator.specs.Fault.{Fault}
 use Rattle.parsing_record.specs.Meaning.{Counted, all_of, meaning}
 use Rattle.parsing_record.specs.Reads.{each_reads}
 use Rattle.parsing_record.specs.Whole.{whole, names, moment_named}

@@ -7,7 +7,7 @@ ghost use Rattle.parsing_trait.specs.Moment.{moment_by};
 use crate::parsable::Parsable;
 use datetime_types::OffsetDateTime;
 use description_items::BorrowedFormatItem;
-use parsing_pieces::Parse;
+use parsing_combinator::Parse;
 use parsing_record::{ItemTally, Parsed};
 
 impl Parsable for BorrowedFormatItem<'_> {

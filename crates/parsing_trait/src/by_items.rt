@@ -5,7 +5,7 @@ ghost use Rattle.parsing_trait.specs.Moment.{moment_by, reads_in_turn};
 use crate::parsable::Parsable;
 use datetime_types::OffsetDateTime;
 use description_items::BorrowedFormatItem;
-use parsing_pieces::Parse;
+use parsing_combinator::Parse;
 use parsing_record::{ItemTally, Parsed};
 
 /// Items, one behind the other, as a text of versions 1 and 2 and of strftime spells them.

@@ -2,7 +2,7 @@
 
 use crate::parsable::Parsable;
 use datetime_types::OffsetDateTime;
-use parsing_pieces::Parse;
+use parsing_combinator::Parse;
 use parsing_record::Parsed;
 
 impl<P: Parsable> Parsable for &P {

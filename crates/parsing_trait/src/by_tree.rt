@@ -7,7 +7,7 @@ ghost use Rattle.parsing_trait.specs.Moment.{moment_by};
 use crate::parsable::Parsable;
 use datetime_types::OffsetDateTime;
 use description_tree::FormatDescriptionV3;
-use parsing_pieces::Parse;
+use parsing_combinator::Parse;
 use parsing_record::{ItemTally, NoTally, Parsed};
 use parsing_trees::parse_tree;
 

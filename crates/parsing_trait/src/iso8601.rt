@@ -5,8 +5,8 @@ ghost use Rattle.parsing_trait.specs.Moment.{moment_by};
 
 use crate::parsable::Parsable;
 use datetime_types::OffsetDateTime;
-use description_formats::Iso8601;
-use parsing_pieces::Parse;
+use description_items::Iso8601;
+use parsing_combinator::Parse;
 use parsing_record::Parsed;
 use parsing_staged::read_iso8601;
 

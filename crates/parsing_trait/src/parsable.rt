@@ -1,17 +1,17 @@
 //! What bytes can be read by.
 ghost use Rattle.std.specs.Prelude.{◌≡◌, ℕ, List, None, Some, Result, ◌<◌, length, min, IfOk, IfErr, OnOk, OnErr};
 ghost use Rattle.datetime_wall.specs.Wall.{Shown};
-ghost use Rattle.parsing_pieces.specs.Fault.{Fault, trailing};
-ghost use Rattle.parsing_pieces.specs.FaultOf.{Gives, fault_of};
-ghost use Rattle.parsing_pieces.specs.ShortName.{HasShortName};
-ghost use Rattle.parsing_pieces.specs.Tame.{EndsWith};
+ghost use Rattle.parsing_combinator.specs.Fault.{Fault, trailing};
+ghost use Rattle.parsing_combinator.specs.FaultOf.{Gives, fault_of};
+ghost use Rattle.parsing_combinator.specs.ShortName.{HasShortName};
+ghost use Rattle.parsing_combinator.specs.Tame.{EndsWith};
 ghost use Rattle.parsing_record.specs.Meaning.{Counted, meaning};
 ghost use Rattle.parsing_record.specs.Tally.{greatest_count};
 ghost use Rattle.parsing_record.specs.Whole.{ReadsInto, whole, names, date_named, time_named, offset_named, wall_named, utc_named, timestamp_named, moment_named, by_roads};
 
 use calendar::{Date, Time, UtcOffset};
 use datetime_types::{OffsetDateTime, PlainDateTime, Timestamp, UtcDateTime};
-use parsing_pieces::{Parse, ParseFromDescription};
+use parsing_combinator::{Parse, ParseFromDescription};
 use parsing_record::Parsed;
 
 // Refuses what follows.

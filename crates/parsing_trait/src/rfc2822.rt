@@ -6,8 +6,8 @@ ghost use Rattle.parsing_staged.specs.Staged.{reads_rfc2822};
 use crate::parsable::Parsable;
 use crate::two_roads::TwoRoads;
 use datetime_types::OffsetDateTime;
-use description_formats::Rfc2822;
-use parsing_pieces::Parse;
+use description_items::Rfc2822;
+use parsing_combinator::Parse;
 use parsing_record::Parsed;
 use parsing_staged::read_rfc2822;
 

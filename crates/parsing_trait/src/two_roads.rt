@@ -1,11 +1,11 @@
 //! Formats whose texts name a moment by a reading of their own.
 ghost use Rattle.std.specs.Prelude.{IfErr};
-ghost use Rattle.parsing_pieces.specs.FaultOf.{Gives, fault_of};
-ghost use Rattle.parsing_pieces.specs.ShortName.{HasShortName};
+ghost use Rattle.parsing_combinator.specs.FaultOf.{Gives, fault_of};
+ghost use Rattle.parsing_combinator.specs.ShortName.{HasShortName};
 
 use crate::parsable::Parsable;
 use datetime_types::OffsetDateTime;
-use parsing_pieces::Parse;
+use parsing_combinator::Parse;
 
 /// A format that names a whole moment, so that its texts can be read without a record of components.
 pub trait TwoRoads: Parsable {

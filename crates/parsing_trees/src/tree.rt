@@ -7,7 +7,7 @@ ghost use Rattle.parsing_record.specs.Meaning.{Answers, Reads, optionally, first
 ghost use Rattle.parsing_record.specs.Reads.{reads, reading, reading_of_all, each_reads, tried, tried_in_all};
 
 use description_tree::{FormatDescriptionV3, FormatDescriptionV3Inner as Inner};
-use parsing_pieces::ParseFromDescription;
+use parsing_combinator::ParseFromDescription;
 use parsing_record::{Parsed, Tally};
 
 /// Reads by the description into the record, tells the tally of each node that is begun, and returns the bytes after

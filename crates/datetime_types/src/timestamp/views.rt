@@ -11,7 +11,7 @@ ghost use Rattle.datetime_wall.specs.Wall.{day_of, nanosecond_of};
 use crate::Timestamp;
 use calendar::{Month, Weekday};
 use calendar_count::range::JULIAN_ZERO;
-use datetime_products::{
+use datetime_wall::{
     clock_of_second, day_of_count, iso_week_of_count, monday_week_of_count, place_of_count,
     sunday_week_of_count, weekday_of_count,
 };

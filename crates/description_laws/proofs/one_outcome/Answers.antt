@@ -1,4 +1,4 @@
-use Rattle.description_spelling.proofs.Outcomes.{one_outcome_holds}
+use Rattle.description_grammar.proofs.Outcomes.{one_outcome_holds}
 use Rattle.description_strftime.proofs.Outcomes as letters
 use Rattle.description_laws.proofs.one_outcome.Goals as goal
 

@@ -12,7 +12,6 @@ ghost use Rattle.instants.specs.Settings.{setting_of};
 
 use crate::line_fault::LineFault;
 use crate::timeline::Timeline;
-use crate::timeline::fast_ways::{AnswerWay, LikelyWay};
 use datetime_types::OffsetDateTime;
 use instants_answers::{Answer, write_fields, write_line};
 use instants_sources::{Source, fast_iso8601, fast_rfc2822, fast_rfc3339};
@@ -126,9 +125,9 @@ impl Timeline<'_> {
         }
     }
 
-    // The same within the loop over lines, where no way is a call of its own.
+    // The same, where no way is a call of its own.
     #[inline(always)]
-    pub(super) fn write_likely(&self, source: &Source, line: &[u8], storage: &mut Answer) -> bool
+    fn write_likely(&self, source: &Source, line: &[u8], storage: &mut Answer) -> bool
         ensures { result ≡ true → IsAnswerOf (setting_of self.now)
             (result_ok (named (setting_of self.now).assumed (grammar_of source.now) line.now))
             storage.new }
@@ -189,7 +188,7 @@ impl Timeline<'_> {
 
     // Writes the answer to a line for which no source names a moment: the first one's fault.
     #[inline(never)]
-    pub(super) fn write_first_fault(&self, line: &[u8], storage: &mut Answer)
+    fn write_first_fault(&self, line: &[u8], storage: &mut Answer)
         requires { result_ok (first_named (setting_of self.now).assumed
             (setting_of self.now).sources line.now) ≡ None }
         ensures bytes { storage.new ≡ answer_to (setting_of self.now) line.now }
@@ -202,10 +201,43 @@ impl Timeline<'_> {
         }
     }
 
+    // Writes the answer to a line that the first source's first bytes rule out: the likely source is the first behind it that
+    // they do not.
+    #[inline(always)]
+    fn write_behind(&self, line: &[u8], storage: &mut Answer)
+        requires { NamesFrom (setting_of self.now) line.now 1 }
+        ensures bytes { storage.new ≡ answer_to (setting_of self.now) line.now }
+        ensures room { length storage.new ≤ 63 }
+        ensures never_long { storage.new ≢ codes "! long" }
+    {
+        let Some((place, source)) = self.likely(line) else {
+            self.write_first_fault(line, storage);
+            return;
+        };
+        if !self.write_likely(source, line, storage) {
+            self.write_exact(place, line, storage);
+        }
+    }
+
+    // Writes the answer to a line of which the first source's fast way says nothing.
+    #[cold]
+    #[inline(never)]
+    pub(super) fn write_rest(&self, line: &[u8], storage: &mut Answer)
+        ensures bytes { storage.new ≡ answer_to (setting_of self.now) line.now }
+        ensures room { length storage.new ≤ 63 }
+        ensures never_long { storage.new ≢ codes "! long" }
+    {
+        if self.has_others() && self.first().cannot_match(line) {
+            self.write_behind(line, storage);
+        } else {
+            self.write_exact(0, line, storage);
+        }
+    }
+
     // Writes the answer to a line for which the sources before a place name no moment, and of which the fast way of the one
     // there says nothing.
     #[inline(never)]
-    pub(super) fn write_exact(&self, place: usize, line: &[u8], storage: &mut Answer)
+    fn write_exact(&self, place: usize, line: &[u8], storage: &mut Answer)
         requires place { place < length (setting_of self.now).sources }
         requires from { NamesFrom (setting_of self.now) line.now place }
         ensures bytes { storage.new ≡ answer_to (setting_of self.now) line.now }
@@ -235,7 +267,9 @@ impl Timeline<'_> {
         ensures never_long { result ≢ codes "! long" }
     {
         let mut answer = Answer::new();
-        LikelyWay.write_answer(self, line, &mut answer);
+        if !self.write_fast(self.first(), line, &mut answer) {
+            self.write_rest(line, &mut answer);
+        }
         answer
     }
 }

@@ -2,8 +2,8 @@
 ghost use Rattle.std.specs.Prelude.{◌≡◌, ◌≢◌, ◌<◌, ◌≤◌, ◌+◌, ◌∷◌, drop, length, map, None, Ok, IfOk, IfErr, IfSome, IfNone};
 ghost use Rattle.std.specs.Option.{ok_or};
 ghost use Rattle.std.specs.Result.{result_ok};
-ghost use Rattle.parsing_pieces.specs.FaultOf.{fault_of, Gives};
-ghost use Rattle.parsing_pieces.specs.ShortName.{HasShortName};
+ghost use Rattle.parsing_combinator.specs.FaultOf.{fault_of, Gives};
+ghost use Rattle.parsing_combinator.specs.ShortName.{HasShortName};
 ghost use Rattle.calendar.specs.UtcOffset.{IsClockOffset};
 ghost use Rattle.parsing_fields.specs.Moment.{moment_of};
 ghost use Rattle.instants_answers.specs.Text.{FitsLine};
@@ -20,11 +20,11 @@ use crate::new_fault::NewFault;
 use crate::timeline::Timeline;
 use calendar::UtcOffset;
 use datetime_types::OffsetDateTime;
-use instants_answers::has_written_year;
+use instants_answers::{Target, has_written_year};
 use instants_sources::Source;
 use instants_words::SourceText;
+use parsing_combinator::Parse;
 use parsing_fields::Fields;
-use parsing_pieces::Parse;
 use std::alloc::{AllocError, Global};
 
 impl<'a> Timeline<'a> {
@@ -56,7 +56,7 @@ impl<'a> Timeline<'a> {
         }
         Ok(Timeline {
             sources: read,
-            target,
+            target: Target::new(target),
             assumed,
         })
     }
@@ -75,9 +75,10 @@ impl<'a> Timeline<'a> {
         self.sources.len() > 1
     }
 
-    // The first source that the first bytes of a line do not rule out, and its place.
+    // The first source behind the first one that the first bytes of a line do not rule out, and its place.
     #[inline(always)]
     pub(super) fn likely(&self, line: &[u8]) -> Option<(usize, &Source<'a>)>
+        requires { NamesFrom (setting_of self.now) line.now 1 }
         ensures within { IfSome result (λ x. x.0 < length (setting_of self.now).sources) }
         ensures from { IfSome result (λ x. NamesFrom (setting_of self.now) line.now x.0) }
         ensures source { IfSome result (λ x. drop x.0 (setting_of self.now).sources
@@ -85,10 +86,14 @@ impl<'a> Timeline<'a> {
         ensures none { IfNone result (result_ok (first_named (setting_of self.now).assumed
             (setting_of self.now).sources line.now) ≡ None) }
     {
-        for (place, source) in self.sources.iter().enumerate() {
+        let sources = self.sources.as_slice();
+        let mut place = 1;
+        while place < sources.len() {
+            let source = &sources[place];
             if !source.cannot_match(line) {
                 return Some((place, source));
             }
+            place += 1;
         }
         None
     }
@@ -159,7 +164,7 @@ impl<'a> Timeline<'a> {
             shown_or_refused (setting_of self.now).target (Ok named) }
         ensures fits { IfSome result FitsLine }
     {
-        let moment = named.checked_to_offset(self.target)?;
+        let moment = named.checked_to_offset(self.target.offset())?;
         if has_written_year(moment) {
             Some(moment)
         } else {

@@ -8,8 +8,8 @@ use instants_answers::Answer;
 use instants_sources::{Source, fast_iso8601, fast_rfc2822, fast_rfc3339};
 use instants_stream::AnswersLines;
 
-/// A way to answer the lines of a timeline. All answer alike: a run over a stream is compiled once for each, so that what it
-/// holds and the fields of a line stay in registers.
+/// A way to answer the lines of a timeline, by the kind of its first source. All answer alike: a run over a stream is compiled
+/// once for each, with that source's fast way within it, so that what it holds and the fields of a line stay in registers.
 pub(crate) trait AnswerWay {
     /// Writes the answer to a line.
     fn write_answer(&self, timeline: &Timeline, line: &[u8], storage: &mut Answer)
@@ -18,7 +18,7 @@ pub(crate) trait AnswerWay {
         ensures never_long { storage.new ≢ codes "! long" };
 }
 
-/// For RFC 3339 alone.
+/// Where RFC 3339 is tried first.
 #[derive(Drop)]
 pub(crate) struct Rfc3339Way;
 
@@ -30,11 +30,11 @@ impl AnswerWay for Rfc3339Way {
                 return;
             }
         }
-        timeline.write_exact(0, line, storage);
+        timeline.write_rest(line, storage);
     }
 }
 
-/// For RFC 2822 alone.
+/// Where RFC 2822 is.
 #[derive(Drop)]
 pub(crate) struct Rfc2822Way;
 
@@ -46,11 +46,11 @@ impl AnswerWay for Rfc2822Way {
                 return;
             }
         }
-        timeline.write_exact(0, line, storage);
+        timeline.write_rest(line, storage);
     }
 }
 
-/// For ISO 8601 alone.
+/// Where ISO 8601 is.
 #[derive(Drop)]
 pub(crate) struct Iso8601Way;
 
@@ -62,11 +62,11 @@ impl AnswerWay for Iso8601Way {
                 return;
             }
         }
-        timeline.write_exact(0, line, storage);
+        timeline.write_rest(line, storage);
     }
 }
 
-/// For a description alone.
+/// Where a description is.
 #[derive(Drop)]
 pub(crate) struct PlannedWay;
 
@@ -75,24 +75,7 @@ impl AnswerWay for PlannedWay {
     fn write_answer(&self, timeline: &Timeline, line: &[u8], storage: &mut Answer) {
         let planned = timeline.first().read_planned(line, timeline.assumed);
         if !timeline.write_found(planned, storage) {
-            timeline.write_exact(0, line, storage);
-        }
-    }
-}
-
-/// For several sources: the first that the first bytes of a line do not rule out is the likely one.
-#[derive(Drop)]
-pub(crate) struct LikelyWay;
-
-impl AnswerWay for LikelyWay {
-    #[inline(never)]
-    fn write_answer(&self, timeline: &Timeline, line: &[u8], storage: &mut Answer) {
-        let Some((place, source)) = timeline.likely(line) else {
-            timeline.write_first_fault(line, storage);
-            return;
-        };
-        if !timeline.write_likely(source, line, storage) {
-            timeline.write_exact(place, line, storage);
+            timeline.write_rest(line, storage);
         }
     }
 }

@@ -8,15 +8,15 @@ use Rattle.description_time_modifiers.specs.declared.choices.TrailingInput.TheVa
 use Rattle.description_items.specs.declared.component.Component.{Component}
 use Rattle.description_items.specs.declared.component.Component.TheVariants as component
 use Rattle.description_items.specs.Modern.{modern}
-use Rattle.parsing_pieces.specs.Fault.{Fault}
-use Rattle.parsing_pieces.specs.Fault as fault
-use Rattle.parsing_pieces.specs.Readings.{piece_or}
-use Rattle.parsing_pieces.specs.ShortName.{HasShortName}
-use Rattle.parsing_pieces.specs.Tame.{EndsWith, Leaves, Tame, IsTame}
-use Rattle.parsing_pieces.proofs.lemmas.Tame.{dropped}
-use Rattle.parsing_shapes.specs.Shape.{Shape, greatest, or_before, front, taken, digits_between}
-use Rattle.parsing_shapes.specs.Numbers.{padded, year, century, offset_hour, timestamp}
-use Rattle.parsing_shapes.specs.Names.{named, period, short_months, long_months, short_weekdays, long_weekdays}
+use Rattle.parsing_combinator.specs.Fault.{Fault}
+use Rattle.parsing_combinator.specs.Fault as fault
+use Rattle.parsing_combinator.specs.Readings.{piece_or}
+use Rattle.parsing_combinator.specs.ShortName.{HasShortName}
+use Rattle.parsing_combinator.specs.Tame.{EndsWith, Leaves, Tame, IsTame}
+use Rattle.parsing_combinator.proofs.lemmas.Tame.{dropped}
+use Rattle.parsing_combinator.specs.Shape.{Shape, greatest, or_before, front, taken, digits_between}
+use Rattle.parsing_combinator.specs.Numbers.{padded, year, century, offset_hour, timestamp}
+use Rattle.parsing_combinator.specs.Names.{named, period, short_months, long_months, short_weekdays, long_weekdays}
 use Rattle.parsing_components.specs.Ranged.{kept, says, between, up_to, since_epoch, counted, months, from_sunday, from_monday, greatest_century}
 use Rattle.parsing_components.specs.Component.{fraction_of, ignored, offset_piece, time_piece, year_piece, date_piece, component_name, time_name, at_end, begins_character, if_whole, reads_modern, reads_component, reads_component_v3}
 use Rattle.parsing_components.specs.Read.{Read}

@@ -21,7 +21,7 @@ use Rattle.calendar_count.proofs.lemmas.Days.{day_at_same}
 use Rattle.calendar_count.proofs.lemmas.Years.{years_since, years_apart}
 use Rattle.calendar_count.proofs.lemmas.TheDay.{the_day-named}
 use Rattle.datetime_wall.specs.Wall.{wall_clock}
-use Rattle.parsing_resolution.specs.Resolution.{date_of}
+use Rattle.parsing_values.specs.Resolution.{date_of}
 use Rattle.parsing_fields.specs.declared.fields.Fields.{Fields}
 use Rattle.parsing_fields.specs.Moment.{day_of_fields, time_of_fields, moment_of}
 use Rattle.parsing_fields.specs.Numbers.{HaveNumbers}

@@ -3,9 +3,9 @@ use Rattle.std.proofs.Common.{Bool, true, false, not, ◌≡◌, ℕ, suc, ◌+�
 use Rattle.std.proofs.lemmas.List.{drop_all}
 use Rattle.std.specs.Prelude.{option_map, is_some}
 use Rattle.description_items.specs.Tree.{Tree, Trees, also, listed}
-use Rattle.parsing_pieces.specs.declared.fault.ParseFromDescription.{ParseFromDescription}
-use Rattle.parsing_pieces.specs.Fault.{Fault}
-use Rattle.parsing_pieces.specs.FaultOf.{reading_fault}
+use Rattle.parsing_combinator.specs.declared.fault.ParseFromDescription.{ParseFromDescription}
+use Rattle.parsing_combinator.specs.Fault.{Fault}
+use Rattle.parsing_combinator.specs.FaultOf.{reading_fault}
 use Rattle.parsing_record.specs.Record.{Record}
 use Rattle.parsing_record.specs.Meaning.{Answer, Counted, then_counted, all_of, first_of, first_success, or_next, or_found, found_or}
 use Rattle.parsing_record.specs.Reads.{Language, reads, each_reads, reading, reading_of_all, tried, tried_in_all}

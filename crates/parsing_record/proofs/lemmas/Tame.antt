@@ -3,11 +3,11 @@ use Rattle.std.proofs.Common.{ℕ, Bool, true, false, cond, List, [], ◌∷◌,
 use Rattle.std.specs.Prelude.{bytes_eq}
 use Rattle.description_items.specs.declared.component.Component.{Component}
 use Rattle.description_items.specs.Tree.{Tree, Trees, Literal, Part, Compound, Optional, First, none, also}
-use Rattle.parsing_pieces.specs.Fault.{Fault, literal}
-use Rattle.parsing_pieces.specs.ShortName.{HasShortName}
-use Rattle.parsing_pieces.specs.Readings.{then_read}
-use Rattle.parsing_pieces.specs.Tame.{Tame, IsTame}
-use Rattle.parsing_pieces.proofs.lemmas.Tame.{further}
+use Rattle.parsing_combinator.specs.Fault.{Fault, literal}
+use Rattle.parsing_combinator.specs.ShortName.{HasShortName}
+use Rattle.parsing_combinator.specs.Readings.{then_read}
+use Rattle.parsing_combinator.specs.Tame.{Tame, IsTame}
+use Rattle.parsing_combinator.proofs.lemmas.Tame.{further}
 use Rattle.parsing_record.specs.Record.{Record}
 use Rattle.parsing_components.specs.Put.{put}
 use Rattle.parsing_record.specs.Meaning.{Answer, Meaning, Counted, meaning, literally, then_counted, all_of, or_unchanged, optionally, or_next, first_success, found_or, or_found, first_of}

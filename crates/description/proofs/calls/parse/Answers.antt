@@ -1,7 +1,7 @@
 use Rattle.description_items.specs.Tree.{trees}
 use Rattle.description_words.specs.declared.version.DescriptionVersion.TheVariants.{One}
-use Rattle.description_reading.specs.Reading.{read_items}
-use Rattle.description_spelling.proofs.Outcomes.{as_tree, has_outcome, gives_tree, gives_fault}
+use Rattle.description_grammar.specs.Reading.{read_items}
+use Rattle.description_grammar.proofs.Outcomes.{as_tree, has_outcome, gives_tree, gives_fault}
 use Rattle.description.specs.Described.{items_tree}
 use Rattle.description.proofs.calls.parse.Goals as goal
 

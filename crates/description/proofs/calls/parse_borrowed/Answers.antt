@@ -1,4 +1,4 @@
-use Rattle.description_spelling.proofs.Outcomes.{has_outcome, gives_tree, gives_fault}
+use Rattle.description_grammar.proofs.Outcomes.{has_outcome, gives_tree, gives_fault}
 use Rattle.description.specs.Described.{described}
 use Rattle.description.proofs.calls.parse_borrowed.Goals as goal
 

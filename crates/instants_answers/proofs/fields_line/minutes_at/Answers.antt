@@ -12,4 +12,4 @@ summed x y z a b m ex ey ez ha hb hm =
 pub returns-clause-value : goal.returns-clause-value
 returns-clause-value c =
     let f = c.args.fields.now in
-    summed c.from.result c.from-2.result c.from-3.result (int_div c.args.target (pos 60)) f.offset (pos f.minute) (search rules) (search rules) (search rules) (search rules) (omega (arith, f.is_offset)) (omega (arith, f.within_a_day))
+    summed c.minutes.result c.from.result c.from-2.result (int_div c.args.target (pos 60)) f.offset (pos f.minute) (search rules) (search rules) (search rules) (omega (arith, rw c.minutes.ensures.value at c.minutes.ensures.bound)) (omega (arith, f.is_offset)) (omega (arith, f.within_a_day))

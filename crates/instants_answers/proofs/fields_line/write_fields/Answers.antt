@@ -9,13 +9,13 @@ pub returns-clause-line : goal.returns-clause-line
 returns-clause-line c = λ e.
     let f = c.args.fields.now in
     let moved = c.in-Some.moved in
-    let offset_is : to_z w32 (of_z w32 c.whole_seconds.result) ≡ c.args.target = omega (arith, signed) in
+    let offset_is : to_z w32 (of_z w32 c.whole_seconds-offset.result) ≡ c.args.target = omega (arith, signed) in
     c.write_parts.ensures.line
     ∙ ap (λ (offset : ℤ). parts_text (ymd (pos f.year) f.month moved.0) (moved.1 * 60 + f.second) f.fraction offset) offset_is
-    ∙ sym (line_is f c.args.target _ moved.0 moved.1 c.in-Some.ensures c.requires c.write_parts.ensures.fraction (kept_number c.minutes_at.result (omega (arith, c.minutes_at.ensures.bound)) ∙ c.minutes_at.ensures.value))
+    ∙ sym (line_is f c.args.target _ moved.0 moved.1 c.in-Some.ensures c.offset.ensures.clock c.write_parts.ensures.fraction (kept_number c.minutes_at.result (omega (arith, c.minutes_at.ensures.bound)) ∙ c.minutes_at.ensures.value))
 
 pub returns-clause-shown : goal.returns-clause-shown
-returns-clause-shown c = λ e. shown_is c.args.fields.now c.args.target _ c.in-Some.moved.0 c.in-Some.moved.1 c.in-Some.ensures c.requires c.write_parts.ensures.fraction (kept_number c.minutes_at.result (omega (arith, c.minutes_at.ensures.bound)) ∙ c.minutes_at.ensures.value)
+returns-clause-shown c = λ e. shown_is c.args.fields.now c.args.target _ c.in-Some.moved.0 c.in-Some.moved.1 c.in-Some.ensures c.offset.ensures.clock c.write_parts.ensures.fraction (kept_number c.minutes_at.result (omega (arith, c.minutes_at.ensures.bound)) ∙ c.minutes_at.ensures.value)
 
 pub returns-clause-fits : goal.returns-clause-fits
-returns-clause-fits c = λ e. fits c.args.fields.now c.args.target _ c.in-Some.moved.0 c.in-Some.moved.1 c.in-Some.ensures c.requires c.write_parts.ensures.fraction (kept_number c.minutes_at.result (omega (arith, c.minutes_at.ensures.bound)) ∙ c.minutes_at.ensures.value)
+returns-clause-fits c = λ e. fits c.args.fields.now c.args.target _ c.in-Some.moved.0 c.in-Some.moved.1 c.in-Some.ensures c.offset.ensures.clock c.write_parts.ensures.fraction (kept_number c.minutes_at.result (omega (arith, c.minutes_at.ensures.bound)) ∙ c.minutes_at.ensures.value)

@@ -1,5 +1,5 @@
 use Rattle.std.proofs.Common.{ℕ, ◌-◌, ◌<◌, get_or, take, drop, arith}
-use Rattle.parsing_pieces.proofs.Padding.{padded_below}
+use Rattle.parsing_combinator.proofs.PaddingLemmas.{padded_below}
 use Rattle.parsing_fields.proofs.DigitsBefore.{run_long, number, are_read, cut_fit}
 use Rattle.parsing_fields.proofs.before.digits_before.Goals as goal
 

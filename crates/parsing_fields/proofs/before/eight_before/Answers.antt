@@ -1,6 +1,6 @@
 use Rattle.std.proofs.Common.{◌≡◌, ◌+◌, ◌-◌, get_or, drop, arith}
 use Rattle.std.proofs.lemmas.List.{get_or-drop, length-drop}
-use Rattle.parsing_pieces.proofs.Lanes.{chunk_eight}
+use Rattle.parsing_combinator.proofs.Lanes.{chunk_eight}
 use Rattle.parsing_fields.proofs.before.eight_before.Goals as goal
 
 pub returns : goal.returns

@@ -1,5 +1,5 @@
 use Rattle.std.proofs.Common.{arith}
-use Rattle.parsing_pieces.proofs.Padding.{zeros_at}
+use Rattle.parsing_combinator.proofs.PaddingLemmas.{zeros_at}
 use Rattle.parsing_fields.proofs.before.zeros_behind.Goals as goal
 
 pub returns : goal.returns

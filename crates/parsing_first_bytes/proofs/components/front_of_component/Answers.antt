@@ -1,9 +1,9 @@
 use Rattle.std.proofs.Common.{true, false, Some, refl, arith}
 use Rattle.std.specs.Prelude.{option_map}
 use Rattle.std.specs.Str.Parse.{digits_value}
-use Rattle.parsing_shapes.specs.Shape.{taken, digits_between}
-use Rattle.parsing_shapes.specs.Numbers.{padded}
-use Rattle.parsing_shapes.specs.Names.{named, short_months, short_weekdays, long_months, long_weekdays}
+use Rattle.parsing_combinator.specs.Shape.{taken, digits_between}
+use Rattle.parsing_combinator.specs.Numbers.{padded}
+use Rattle.parsing_combinator.specs.Names.{named, short_months, short_weekdays, long_months, long_weekdays}
 use Rattle.parsing_components.specs.Component.{reads_component, reads_component_v3, reads_modern, date_piece}
 use Rattle.parsing_components.specs.Ranged.{between, counted, months, from_sunday, from_monday}
 use Rattle.parsing_components.specs.Read as read

@@ -1,7 +1,7 @@
 use Rattle.std.proofs.Common.{◌&&◌, true, Some, refl, arith}
-use Rattle.parsing_shapes.specs.Shape.{taken}
-use Rattle.parsing_shapes.specs.Numbers.{padded, offset_hour}
-use Rattle.parsing_shapes.specs.Names.{period, periods}
+use Rattle.parsing_combinator.specs.Shape.{taken}
+use Rattle.parsing_combinator.specs.Numbers.{padded, offset_hour}
+use Rattle.parsing_combinator.specs.Names.{period, periods}
 use Rattle.parsing_components.specs.Component.{fraction_of, reads_component, reads_component_v3, reads_modern, date_piece, year_piece, time_piece, offset_piece}
 use Rattle.parsing_components.specs.Ranged.{between, up_to}
 use Rattle.parsing_components.specs.Read as read

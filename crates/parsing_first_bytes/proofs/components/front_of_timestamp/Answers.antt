@@ -1,6 +1,6 @@
 use Rattle.std.proofs.Common.{arith}
-use Rattle.parsing_shapes.specs.Shape.{taken}
-use Rattle.parsing_shapes.specs.Numbers.{padded, timestamp}
+use Rattle.parsing_combinator.specs.Shape.{taken}
+use Rattle.parsing_combinator.specs.Numbers.{padded, timestamp}
 use Rattle.parsing_components.specs.Component.{reads_component, reads_component_v3, reads_modern, date_piece, year_piece, time_piece, offset_piece}
 use Rattle.parsing_components.specs.Ranged.{since_epoch}
 use Rattle.parsing_components.specs.Read as read

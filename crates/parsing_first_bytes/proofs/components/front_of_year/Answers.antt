@@ -1,7 +1,7 @@
 use Rattle.std.proofs.Common.{true, false, arith}
 use Rattle.calendar_count.specs.Range.{greatest_year}
-use Rattle.parsing_shapes.specs.Shape.{taken}
-use Rattle.parsing_shapes.specs.Numbers.{padded, year, century}
+use Rattle.parsing_combinator.specs.Shape.{taken}
+use Rattle.parsing_combinator.specs.Numbers.{padded, year, century}
 use Rattle.parsing_components.specs.Component.{reads_component, reads_component_v3, reads_modern, date_piece, year_piece}
 use Rattle.parsing_components.specs.Ranged.{between, greatest_century, up_to}
 use Rattle.parsing_components.specs.Read as read

@@ -1,5 +1,10 @@
+use Rattle.std.proofs.Common.{arith}
 use Rattle.parsing_iso8601.proofs.PlaceLemmas.{basic_ordinal_day}
 use Rattle.parsing_iso8601.proofs.places.basic_ordinal.Goals as goal
 
-pub basic-requires-clause-day : goal.basic-requires-clause-day
-basic-requires-clause-day c = basic_ordinal_day c.args.input.now c.four_digits_at-year.result c.in_ok-day.day.0 c.in_ok-day.day.1 c.requires c.four_digits_at-year.ensures.digits c.in_ok-day.ensures
+pub returns : goal.returns
+returns c =
+    let y = c.four_digits_at-year in
+    let m = c.in_ok-month in
+    let day = basic_ordinal_day c.args.input.now y.result m.month m.day c.requires y.ensures.digits m.ensures in
+    record { named = record { in_day = day; there = m.ensures.named.there; four_digits = y.ensures.bound; long = omega arith }; clock = c.requires.clock }

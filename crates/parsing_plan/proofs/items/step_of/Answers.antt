@@ -1,6 +1,6 @@
 use Rattle.std.proofs.Common.{refl}
 use Rattle.description_items.specs.declared.component.Component.TheVariants as component
-use Rattle.parsing_pieces.specs.Fault as fault
+use Rattle.parsing_combinator.specs.Fault as fault
 use Rattle.parsing_components.specs.Component.{reads_component, reads_component_v3, reads_modern, component_name, date_piece, year_piece, time_piece}
 use Rattle.parsing_plan.proofs.ItemReads.{fraction_read, part_read}
 use Rattle.parsing_plan.proofs.items.step_of.Goals as goal

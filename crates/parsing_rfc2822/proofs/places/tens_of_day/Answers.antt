@@ -1,7 +1,7 @@
 use Rattle.std.proofs.Common.{get_or, sym, ◌∙◌, arith}
 use Rattle.std.proofs.lemmas.List.{take_rest}
-use Rattle.parsing_pieces.specs.Places.{HasDigit}
-use Rattle.parsing_pieces.proofs.Decimal.{digit_here}
+use Rattle.parsing_combinator.specs.Places.{HasDigit}
+use Rattle.parsing_combinator.proofs.Decimal.{digit_here}
 use Rattle.parsing_rfc2822.proofs.PlaceLemmas.{front_of_one, front_of_two}
 use Rattle.parsing_rfc2822.proofs.places.tens_of_day.Goals as goal
 

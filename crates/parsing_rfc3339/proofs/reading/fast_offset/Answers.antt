@@ -1,7 +1,7 @@
 use Rattle.std.proofs.Common.{true, false, arith}
 use Rattle.std.proofs.lemmas.Grind.{common_steps}
 use Rattle.calendar.specs.UtcOffset.{offset_of}
-use Rattle.parsing_resolution.specs.Resolution.{signed_offset_of}
+use Rattle.parsing_values.specs.Resolution.{signed_offset_of}
 use Rattle.parsing_rfc3339.specs.Reading.{offset}
 use Rattle.parsing_rfc3339.proofs.reading.fast_offset.Goals as goal
 

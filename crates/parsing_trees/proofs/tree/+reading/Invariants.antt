@@ -1,7 +1,7 @@
 use Rattle.std.proofs.Common.{◌≡◌, ℕ, ◌+◌}
 use Rattle.std.specs.Prelude.{option_map}
 use Rattle.description_tree.specs.Inner.{inner_tree}
-use Rattle.parsing_pieces.specs.FaultOf.{reading_fault}
+use Rattle.parsing_combinator.specs.FaultOf.{reading_fault}
 use Rattle.parsing_components.specs.Component.{reads_component_v3}
 use Rattle.parsing_record.specs.Meaning.{first_of}
 use Rattle.parsing_record.specs.Reads.{reading_of_all, each_reads, tried_in_all}

@@ -1,3 +1,4 @@
+use Rattle.std.proofs.Common.{◌-◌, length}
 use Rattle.instants.specs.FirstNamed.{NamesFrom}
 use Rattle.instants.specs.Settings.{setting_of}
 use Rattle.instants.proofs.timeline.Timeline.likely.Given as goal
@@ -5,3 +6,6 @@ use Rattle.instants.proofs.timeline.Timeline.likely.Given as goal
 -- the sources so far named none
 abbrev pub invariant-loop-place : goal.invariant-loop-place
 invariant-loop-place l = NamesFrom (setting_of l.self) l.line l.place
+
+abbrev pub decreases-loop-place : goal.decreases-loop-place
+decreases-loop-place l = length l.sources - l.place

@@ -1,6 +1,6 @@
 use Rattle.std.proofs.Common.{ℕ, List, [], Option, ap, ◌∙◌}
 use Rattle.std.specs.Option.{unwrap_or}
-use Rattle.parsing_pieces.proofs.FractionDigits.{fraction_of_nine}
+use Rattle.parsing_combinator.proofs.FractionDigits.{fraction_of_nine}
 use Rattle.parsing_fields.proofs.DigitLemmas.{none_of_nothing}
 use Rattle.parsing_fields.proofs.fraction.Fraction.nanosecond.Goals as goal
 

@@ -1,8 +1,8 @@
 use Rattle.std.proofs.Common.{◌≡◌, ℕ, List, None, Some, drop, sym, ◌∙◌, subst, arith}
 use Rattle.std.proofs.lemmas.List.{take_rest}
 use Rattle.std.specs.Str.Parse.{digits_value}
-use Rattle.parsing_pieces.specs.Pieces.{digits, fraction}
-use Rattle.parsing_pieces.specs.Chunks.{IsDigitChunk}
+use Rattle.parsing_combinator.specs.Pieces.{digits, fraction}
+use Rattle.parsing_combinator.specs.Chunks.{IsDigitChunk}
 use Rattle.parsing_fields.specs.DigitsBack.{digits_below}
 use Rattle.parsing_fields.proofs.DigitLemmas.{short_read, nine_read, no_digit}
 use Rattle.parsing_fields.specs.Digits.{nine_digits, AreNineDigits}

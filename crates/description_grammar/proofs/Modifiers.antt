@@ -1,0 +1,242 @@
+-- What is read as modifiers is spelled so.
+use Rattle.std.proofs.Common.{◌≡◌, ℕ, zero, suc, ◌+◌, ◌≤◌, ◌<◌, List, [], ◌∷◌, ◌++◌, length, take, drop, Result, Ok, Err, true, false, eqb, refl, sym, ap, subst, ◌∙◌, append_assoc, arith, inl, inr}
+use Rattle.std.specs.List.{prefix_len}
+use Rattle.std.proofs.lemmas.List.{take-append-drop, length-drop, nil_from_length}
+use Rattle.std.proofs.lemmas.List.Folds.{length-prefix_len}
+use Rattle.std.proofs.lemmas.List.Sums.{prefix_len-le-length}
+use Rattle.std.proofs.lemmas.Bool.{eqb-true}
+use Rattle.std.proofs.lemmas.Bool.Decides.{nat_tests}
+use Rattle.byte_names.specs.Bytes.{colon}
+use Rattle.description_faults.specs.Fault.{Fault, InvalidModifier}
+use Rattle.description_words.specs.Text.{Rest, is_space, is_word_byte, is_no_colon, run, past, after}
+use Rattle.description_words.specs.Many.{many}
+use Rattle.description_words.specs.Words.{Modifier, has_word, modifier_in, modifier_at, no_modifier, modifiers_at}
+use Rattle.description_words.proofs.Readings.{bind_ok, ok_is, made_err}
+use Rattle.description_words.proofs.Shorter.{modifier_lt}
+use Rattle.description_grammar.specs.Heads.{Each, Stops, IsWord, SpellsModifier, SpellsModifiers}
+use Rattle.description_grammar.specs.Faulty.{BadWord}
+use Rattle.description_grammar.proofs.Results.{three_ok, three_err, lt_of, above, flip_false, flip_true}
+use Rattle.description_grammar.proofs.Runs.{each_run, each_of_take, each_of_drop, each_whole, stops_past, stops_from_none, none_from_stops, past_index}
+use Rattle.description_grammar.proofs.Takes.{Takes, takes_then, takes_run}
+use Rattle.description_words.proofs.Steps.{Steps, many_steps, many_failing, Failing}
+
+-- ---- one modifier
+
+-- the colon at which a word is cut
+colon_there : (s : List ℕ) → prefix_len is_no_colon s < length s → drop (prefix_len is_no_colon s) s ≡ colon ∷ drop (prefix_len is_no_colon s + 1) s
+colon_there s lt = at_stop (prefix_len is_no_colon s) s (stops_past is_no_colon s) lt
+  where
+    is_colon : (b : ℕ) → is_no_colon b ≡ false → b ≡ colon
+    is_colon b h = grind (arith, nat_tests)
+
+    at_stop : (n : ℕ) (s : List ℕ) → Stops is_no_colon (drop n s) → n < length s → drop n s ≡ colon ∷ drop (n + 1) s
+    at_stop zero [] stops lt = absurd (omega arith)
+    at_stop zero (b ∷ bs) stops lt = rw (is_colon b stops) refl
+    at_stop (suc n) [] stops lt = absurd (omega arith)
+    at_stop (suc n) (b ∷ bs) stops lt =
+        let one : suc n + 1 ≡ suc (n + 1) = omega arith in rw one (at_stop n bs stops (omega arith))
+
+-- a word that is a modifier
+record IsModifierWord (s : Rest) (m : Modifier) : Type 0 where
+  parts : s.text ≡ m.key.text ++ colon ∷ m.value.text
+  is_key : IsWord m.key.text
+  no_colon : Each is_no_colon m.key.text
+  is_value : IsWord m.value.text
+  key_at : m.key.index ≡ s.index
+  value_at : m.value.index ≡ s.index + length m.key.text + 1
+
+modifier_takes : (s : Rest) (m : Modifier) → Each is_word_byte s.text → modifier_in s ≡ Ok m → IsModifierWord s m
+unfolding modifier_in
+modifier_takes s m each e =
+    let k : ℕ = prefix_len is_no_colon s.text in
+    let g = three_ok (eqb k (length s.text)) (eqb k 0) (eqb (k + 1) (length s.text)) (InvalidModifier s.text s.index) (InvalidModifier [] s.index) (InvalidModifier [] (s.index + length s.text)) (record { key = run is_no_colon s; value = after (k + 1) s }) m e in
+    let lt : k < length s.text = lt_of k (length s.text) (prefix_len-le-length is_no_colon s.text) g.0 in
+    let some : 0 < k = above k g.1 in
+    let more : k + 1 < length s.text = lt_of (k + 1) (length s.text) (omega arith) g.2 in
+    let len : length (take k s.text) ≡ k = length-prefix_len is_no_colon s.text in
+    let parts : s.text ≡ take k s.text ++ colon ∷ drop (k + 1) s.text = sym (take-append-drop k s.text) ∙ ap (λ (t : List ℕ). take k s.text ++ t) (colon_there s.text lt) in
+    let word : IsModifierWord s (record { key = run is_no_colon s; value = after (k + 1) s }) = record {
+      parts = parts;
+      is_key = (omega (arith, len), each_of_take is_word_byte k s.text each);
+      no_colon = each_run is_no_colon s.text;
+      is_value = (omega (arith, length-drop (k + 1) s.text), each_of_drop is_word_byte (k + 1) s.text each);
+      key_at = refl;
+      value_at = omega (arith, len);
+    } in
+    subst (IsModifierWord s) g.3 word
+
+word_refused : (s : Rest) (e : Fault) → modifier_in s ≡ Err e → BadWord s.index s.text e
+unfolding modifier_in
+word_refused s e h =
+    let k : ℕ = prefix_len is_no_colon s.text in
+    let le : k ≤ length s.text = prefix_len-le-length is_no_colon s.text in
+    elim (three_err (eqb k (length s.text)) (eqb k 0) (eqb (k + 1) (length s.text)) (InvalidModifier s.text s.index) (InvalidModifier [] s.index) (InvalidModifier [] (s.index + length s.text)) e (record { key = run is_no_colon s; value = after (k + 1) s }) h) [
+      | inl g ↦ inl (each_whole is_no_colon s.text (eqb-true _ _ g.0), sym g.1)
+      | inr g ↦ elim g [
+        | inl g ↦
+            let zero_is : k ≡ 0 = eqb-true _ _ g.1 in
+            let lt : k < length s.text = lt_of k (length s.text) le g.0 in
+            let cut : drop k s.text ≡ colon ∷ drop (k + 1) s.text = colon_there s.text lt in
+            inr (inl (drop (k + 1) s.text, ap (λ (n : ℕ). drop n s.text) (sym zero_is) ∙ cut, sym g.2))
+        | inr g ↦
+            let lt : k < length s.text = lt_of k (length s.text) le g.0 in
+            let last : k + 1 ≡ length s.text = eqb-true _ _ g.2 in
+            let cut : drop k s.text ≡ colon ∷ drop (k + 1) s.text = colon_there s.text lt in
+            let ends : drop (k + 1) s.text ≡ [] = nil_from_length _ (omega (arith, length-drop (k + 1) s.text)) in
+            inr (inr (
+              take k s.text,
+              omega (arith, length-prefix_len is_no_colon s.text, above k g.1),
+              each_run is_no_colon s.text,
+              sym (take-append-drop k s.text) ∙ ap (λ (t : List ℕ). take k s.text ++ t) (cut ∙ ap (λ (t : List ℕ). colon ∷ t) ends),
+              sym g.3,
+            ))
+      ]
+    ]
+
+-- ---- words behind white space
+
+pub none_there : (s : Rest) → has_word s ≡ false → prefix_len is_word_byte s.text ≡ 0
+none_there s h = grind (arith, nat_tests)
+
+pub some_there : (s : Rest) → has_word s ≡ true → 0 < prefix_len is_word_byte s.text
+some_there s h = grind (arith, nat_tests)
+
+-- where no word byte stands, white space comes before a word
+space_before : (s : Rest) → Stops is_word_byte s.text → has_word (past is_space s) ≡ true → 0 < length (run is_space s).text
+space_before s stops h = none_or_some (prefix_len is_space s.text) refl
+  where
+    none_or_some : (n : ℕ) → n ≡ prefix_len is_space s.text → 0 < length (run is_space s).text
+    none_or_some zero e =
+        let some : 0 < prefix_len is_word_byte (drop (prefix_len is_space s.text) s.text) = some_there (past is_space s) h in
+        let some_now : 0 < prefix_len is_word_byte s.text = rw (← e) at some in
+        absurd (omega (arith, none_from_stops is_word_byte s.text stops))
+    none_or_some (suc n) e = omega (arith, length-prefix_len is_space s.text)
+
+-- a word behind white space, with what follows it
+word_takes : (s : Rest) → Takes s ((run is_space s).text ++ (run is_word_byte (past is_space s)).text) (past is_word_byte (past is_space s))
+word_takes s = takes_then s (run is_space s).text (past is_space s) (run is_word_byte (past is_space s)).text (past is_word_byte (past is_space s)) (takes_run is_space s) (takes_run is_word_byte (past is_space s))
+
+-- ---- modifiers
+
+-- steps over modifiers
+record TakesWords (s : Rest) (ms : List Modifier) (rest : Rest) : Type 0 where
+  own : List ℕ
+  takes : Takes s own rest
+  spells : SpellsModifiers s.index own ms
+  no_word : Stops is_word_byte rest.text
+
+one_more : (s : Rest) (m : Modifier) (ms : List Modifier) (rest : Rest) → Stops is_word_byte s.text → has_word (past is_space s) ≡ true → modifier_in (run is_word_byte (past is_space s)) ≡ Ok m
+    → TakesWords (past is_word_byte (past is_space s)) ms rest → TakesWords s (m ∷ ms) rest
+one_more s m ms rest stops there is_m others = record {
+  own = first ++ others.own;
+  takes = takes_then s first (past is_word_byte (past is_space s)) others.own rest (word_takes s) others.takes;
+  spells = (first, others.own, refl, modifier, subst (λ (i : ℕ). SpellsModifiers i others.own ms) (word_takes s).index others.spells);
+  no_word = others.no_word;
+}
+  where
+    blank : List ℕ
+    blank = (run is_space s).text
+
+    word : Rest
+    word = run is_word_byte (past is_space s)
+
+    first : List ℕ
+    first = blank ++ word.text
+
+    word_is : IsModifierWord word m
+    word_is = modifier_takes word m (each_run is_word_byte (past is_space s).text) is_m
+
+    modifier : SpellsModifier s.index first m
+    modifier = record {
+      blank = blank;
+      parts = ap (λ (t : List ℕ). blank ++ t) word_is.parts;
+      is_space = each_run is_space s.text;
+      some_space = space_before s stops there;
+      is_key = word_is.is_key;
+      no_colon = word_is.no_colon;
+      is_value = word_is.is_value;
+      key_at = word_is.key_at ∙ past_index is_space s;
+      value_at = omega (arith, word_is.value_at, past_index is_space s);
+    }
+
+steps_take : (s : Rest) (ms : List Modifier) (rest : Rest) → Stops is_word_byte s.text → Steps no_modifier modifier_at s ms rest → TakesWords s ms rest
+unfolding modifier_at
+steps_take s [] rest stops e = subst (λ (r : Rest). TakesWords s [] r) e (record { own = []; takes = record { parts = refl; index = omega arith }; spells = refl; no_word = stops })
+steps_take s (m ∷ ms) rest stops (next, goes, is_m, more) =
+    let after_word : Rest = past is_word_byte (past is_space s) in
+    let a = bind_ok (modifier_in (run is_word_byte (past is_space s))) (λ m. Ok (m, after_word)) (m, next) is_m in
+    let same = ok_is (a.0, after_word) (m, next) a.2 in
+    let same_m : a.0 ≡ m = ap (λ (x : Modifier × Rest). x.0) same in
+    let same_next : next ≡ after_word = sym (ap (λ (x : Modifier × Rest). x.1) same) in
+    let others : TakesWords after_word ms rest = steps_take after_word ms rest (stops_past is_word_byte (past is_space s).text) (subst (λ (p : Rest). Steps no_modifier modifier_at p ms rest) same_next more) in
+    one_more s m ms rest stops (flip_false _ goes) (a.1 ∙ ap (λ (m : Modifier). ok_modifier m) same_m) others
+  where
+    ok_modifier : Modifier → Result Modifier Fault
+    ok_modifier m = Ok m
+
+-- what reading modifiers took
+pub record TakesModifiers (s : Rest) (ms : List Modifier) (rest : Rest) : Type 0 where
+  pub own : List ℕ
+  pub last : List ℕ
+  pub takes : Takes s (own ++ last) rest
+  pub spells : SpellsModifiers s.index own ms
+  pub is_last : Each is_space last
+  pub no_space : Stops is_space rest.text
+  pub no_word : Stops is_word_byte rest.text
+
+pub modifiers_take : (s : Rest) (x : List Modifier × Rest) → Stops is_word_byte s.text → modifiers_at s ≡ Ok x → TakesModifiers s x.0 x.1
+unfolding modifiers_at
+modifiers_take s x stops e =
+    let a = bind_ok (many no_modifier modifier_at (suc (length s.text)) s) (λ all. Ok (all.0, past is_space all.1)) x e in
+    let read = many_steps no_modifier modifier_at modifier_lt (suc (length s.text)) s a.0 (omega arith) a.1 in
+    let words : TakesWords s a.0.0 a.0.1 = steps_take s a.0.0 a.0.1 stops read.0 in
+    let last : List ℕ = (run is_space a.0.1).text in
+    let none : has_word (past is_space a.0.1) ≡ false = flip_true _ read.1 in
+    subst (λ (y : List Modifier × Rest). TakesModifiers s y.0 y.1) (ok_is (a.0.0, past is_space a.0.1) x a.2) (record {
+      own = words.own;
+      last = last;
+      takes = takes_then s words.own a.0.1 last (past is_space a.0.1) words.takes (takes_run is_space a.0.1);
+      spells = words.spells;
+      is_last = each_run is_space a.0.1.text;
+      no_space = stops_past is_space a.0.1.text;
+      no_word = stops_from_none is_word_byte (past is_space a.0.1).text (none_there (past is_space a.0.1) none);
+    })
+
+-- what stands before a word that is no modifier
+pub record Refuses (s : Rest) (e : Fault) : Type 0 where
+  pub ms : List Modifier
+  pub own : List ℕ
+  pub last : List ℕ
+  pub word : List ℕ
+  pub rest : List ℕ
+  pub parts : s.text ≡ own ++ (last ++ (word ++ rest))
+  pub spells : SpellsModifiers s.index own ms
+  pub is_last : Each is_space last
+  pub apart : 0 < length last
+  pub is_word : IsWord word
+  pub no_word : Stops is_word_byte rest
+  pub bad : BadWord (s.index + length own + length last) word e
+
+pub modifiers_refused : (s : Rest) (e : Fault) → Stops is_word_byte s.text → modifiers_at s ≡ Err e → Refuses s e
+unfolding modifiers_at modifier_at
+modifiers_refused s e stops h =
+    let f : Failing no_modifier modifier_at s e = many_failing no_modifier modifier_at modifier_lt (suc (length s.text)) s e (omega arith) (made_err (many no_modifier modifier_at (suc (length s.text)) s) (λ all. (all.0, past is_space all.1)) e h) in
+    let words : TakesWords s f.front f.bad = steps_take s f.front f.bad stops f.steps in
+    let start : Rest = past is_space f.bad in
+    let word : Rest = run is_word_byte start in
+    let there : has_word start ≡ true = flip_false _ f.goes_on in
+    let is_bad : modifier_in word ≡ Err e = made_err (modifier_in word) (λ m. (m, past is_word_byte start)) e f.fails in
+    record {
+      ms = f.front;
+      own = words.own;
+      last = (run is_space f.bad).text;
+      word = word.text;
+      rest = (past is_word_byte start).text;
+      parts = words.takes.parts ∙ ap (λ (t : List ℕ). words.own ++ t) ((word_takes f.bad).parts ∙ append_assoc (run is_space f.bad).text word.text (past is_word_byte start).text);
+      spells = words.spells;
+      is_last = each_run is_space f.bad.text;
+      apart = space_before f.bad words.no_word there;
+      is_word = (omega (arith, some_there start there, length-prefix_len is_word_byte start.text), each_run is_word_byte start.text);
+      no_word = stops_past is_word_byte start.text;
+      bad = subst (λ (i : ℕ). BadWord i word.text e) (omega (arith, words.takes.index, past_index is_space f.bad)) (word_refused word e is_bad);
+    }

@@ -1,0 +1,95 @@
+-- A run is what passes at the front, and no more.
+use Rattle.std.proofs.Common.{◌≡◌, ℕ, zero, suc, ◌+◌, ◌<◌, List, [], ◌∷◌, ◌++◌, length, take, drop, Bool, true, false, refl, sym, ap, subst, arith, inl, inr}
+use Rattle.std.specs.List.{prefix_len}
+use Rattle.std.proofs.lemmas.List.{take-append-drop, take_at, drop_at}
+use Rattle.std.proofs.lemmas.List.Folds.{length-prefix_len}
+use Rattle.std.proofs.lemmas.Bool.Decides.{nat_tests}
+use Rattle.description_words.specs.Text.{Rest, is_space, is_word_byte, run, past}
+use Rattle.description_grammar.specs.Heads.{Each, Stops}
+pub use Rattle.description_words.proofs.Fronts.{which, each_run, stops_past, run_again}
+
+-- the parts of a run again
+pub run_is : (p : ℕ → Bool) (at : ℕ) (xs rest : List ℕ) → Each p xs → Stops p rest → run p (record { index = at; text = xs ++ rest }) ≡ record { index = at; text = xs }
+run_is p at xs rest each stops = rw (run_again p xs rest each stops, take_at xs rest (length xs) refl) refl
+
+pub past_is : (p : ℕ → Bool) (at : ℕ) (xs rest : List ℕ) → Each p xs → Stops p rest → past p (record { index = at; text = xs ++ rest }) ≡ record { index = at + length xs; text = rest }
+past_is p at xs rest each stops = rw (run_again p xs rest each stops, drop_at xs rest (length xs) refl) refl
+
+pub no_space : (b : ℕ) → is_word_byte b ≡ true → is_space b ≡ false
+no_space b h = grind (arith, nat_tests)
+
+pub no_word : (b : ℕ) → is_space b ≡ true → is_word_byte b ≡ false
+no_word b h = grind (arith, nat_tests)
+
+-- white space stops before a word, and a word before white space
+pub space_stops : (w rest : List ℕ) → 0 < length w → Each is_word_byte w → Stops is_space (w ++ rest)
+space_stops [] rest some each = absurd (omega arith)
+space_stops (b ∷ bs) rest some each = no_space b each.0
+
+pub word_stops : (s rest : List ℕ) → Each is_space s → Stops is_word_byte rest → Stops is_word_byte (s ++ rest)
+word_stops [] rest each stops = stops
+word_stops (b ∷ bs) rest each stops = no_word b each.0
+
+-- a run's end is the next one's beginning
+pub cut_run : (p : ℕ → Bool) (s : Rest) → s.text ≡ (run p s).text ++ (past p s).text
+cut_run p s = sym (take-append-drop (prefix_len p s.text) s.text)
+
+pub past_index : (p : ℕ → Bool) (s : Rest) → (past p s).index ≡ s.index + length (run p s).text
+past_index p s = ap (λ (n : ℕ). s.index + n) (sym (length-prefix_len p s.text))
+
+-- ---- rests by their index
+
+abbrev pub at_index : ℕ → List ℕ → Rest
+at_index i t = record { index = i; text = t }
+
+pub same_index : (i j : ℕ) (t : List ℕ) → i ≡ j → at_index i t ≡ at_index j t
+same_index i j t e = ap (λ (n : ℕ). at_index n t) e
+
+-- ---- bytes that pass
+
+pub each_append : (p : ℕ → Bool) (xs ys : List ℕ) → Each p xs → Each p ys → Each p (xs ++ ys)
+each_append p [] ys h k = k
+each_append p (x ∷ xs) ys h k = (h.0, each_append p xs ys h.1 k)
+
+pub each_of_take : (p : ℕ → Bool) (n : ℕ) (s : List ℕ) → Each p s → Each p (take n s)
+each_of_take p zero s h = tt
+each_of_take p (suc n) [] h = tt
+each_of_take p (suc n) (b ∷ bs) h = (h.0, each_of_take p n bs h.1)
+
+pub each_of_drop : (p : ℕ → Bool) (n : ℕ) (s : List ℕ) → Each p s → Each p (drop n s)
+each_of_drop p zero s h = h
+each_of_drop p (suc n) [] h = tt
+each_of_drop p (suc n) (b ∷ bs) h = each_of_drop p n bs h.1
+
+pub each_whole : (p : ℕ → Bool) (s : List ℕ) → prefix_len p s ≡ length s → Each p s
+each_whole p s e = subst (Each p) (rw e (take_all s)) (each_run p s)
+  where
+    take_all : (s : List ℕ) → take (length s) s ≡ s
+    take_all [] = refl
+    take_all (b ∷ bs) = ap (λ (t : List ℕ). b ∷ t) (take_all bs)
+
+-- ---- where a run stops
+
+pub stops_front : (p : ℕ → Bool) (xs ys : List ℕ) → Stops p (xs ++ ys) → Stops p xs
+stops_front p [] ys h = tt
+stops_front p (x ∷ xs) ys h = h
+
+pub stops_append : (p : ℕ → Bool) (xs ys : List ℕ) → Stops p xs → Stops p ys → Stops p (xs ++ ys)
+stops_append p [] ys h k = k
+stops_append p (x ∷ xs) ys h k = h
+
+pub stops_from_none : (p : ℕ → Bool) (s : List ℕ) → prefix_len p s ≡ 0 → Stops p s
+stops_from_none p [] e = tt
+stops_from_none p (b ∷ bs) e = elim (which (p b)) [ inl h ↦ absurd (no_none h) | inr h ↦ h ]
+  where
+    no_none : p b ≡ true → ⊥
+    no_none h = let f = rw h at e in omega arith
+
+pub none_from_stops : (p : ℕ → Bool) (s : List ℕ) → Stops p s → prefix_len p s ≡ 0
+none_from_stops p [] h = refl
+none_from_stops p (b ∷ bs) h = rw h refl
+
+-- white space is no word
+pub space_first : (s t : List ℕ) → 0 < length s → Each is_space s → Stops is_word_byte (s ++ t)
+space_first [] t some each = absurd (omega arith)
+space_first (b ∷ bs) t some each = no_word b each.0

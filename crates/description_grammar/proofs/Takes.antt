@@ -1,0 +1,57 @@
+-- A text is a front and what follows it.
+use Rattle.std.proofs.Common.{◌≡◌, ℕ, ◌+◌, List, [], ◌∷◌, ◌++◌, length, drop, Ok, Err, Bool, true, false, refl, sym, ap, subst, ◌∙◌, append_assoc, arith, inl, inr}
+use Rattle.std.proofs.lemmas.List.{length-append}
+use Rattle.std.proofs.lemmas.Bool.{eqb-true}
+use Rattle.std.proofs.lemmas.Bool.Decides.{nat_tests}
+use Rattle.byte_names.specs.Bytes.{left_bracket, right_bracket}
+use Rattle.description_faults.specs.Fault.{Fault, UnclosedOpeningBracket}
+use Rattle.description_words.specs.Text.{Rest, is_space, run, past, after}
+use Rattle.description_words.specs.Words.{begins, closed_at}
+use Rattle.description_words.proofs.Readings.{ok_is, not_ok, chosen, err_is, not_err}
+use Rattle.description_grammar.specs.Heads.{Stops}
+use Rattle.description_grammar.proofs.Runs.{cut_run, past_index, at_index}
+
+pub record Takes (s : Rest) (own : List ℕ) (rest : Rest) : Type 0 where
+  pub parts : s.text ≡ own ++ rest.text
+  pub index : rest.index ≡ s.index + length own
+
+pub takes_then : (a : Rest) (x : List ℕ) (b : Rest) (y : List ℕ) (c : Rest) → Takes a x b → Takes b y c → Takes a (x ++ y) c
+takes_then a x b y c p q = record { parts = p.parts ∙ ap (λ (t : List ℕ). x ++ t) q.parts ∙ sym (append_assoc x y c.text); index = omega (arith, p.index, q.index, length-append x y) }
+
+pub takes_run : (p : ℕ → Bool) (s : Rest) → Takes s (run p s).text (past p s)
+takes_run p s = record { parts = cut_run p s; index = past_index p s }
+
+pub takes_length : (s : Rest) (own : List ℕ) (rest : Rest) → Takes s own rest → length s.text ≡ length own + length rest.text
+takes_length s own rest t = omega (arith, ap (length {A = ℕ}) t.parts, length-append own rest.text)
+
+pub begins_cons : (b : ℕ) (text : List ℕ) → begins b text ≡ true → text ≡ b ∷ drop 1 text
+begins_cons b [] h = absurd cc
+begins_cons b (c ∷ cs) h = let e : c ≡ b = grind (arith, nat_tests) in rw e refl
+
+-- a bracket is no white space
+pub stops_91 : (text : List ℕ) → begins left_bracket text ≡ true → Stops is_space text
+stops_91 [] h = tt
+stops_91 (b ∷ bs) h = let e : b ≡ left_bracket = eqb-true b left_bracket h in rw e refl
+
+pub takes_byte : (b : ℕ) (s : Rest) → begins b s.text ≡ true → Takes s (b ∷ []) (after 1 s)
+takes_byte b s h = record { parts = begins_cons b s.text h; index = refl }
+
+pub closed_takes : (bracket : ℕ) (s : Rest) (rest : Rest) → closed_at bracket s ≡ Ok rest → Takes s (right_bracket ∷ []) rest
+unfolding closed_at
+closed_takes bracket s rest e =
+    elim (chosen (begins right_bracket s.text) (Ok (after 1 s)) (Err (UnclosedOpeningBracket bracket)) (Ok rest) e) [
+      | inl h ↦ subst (λ (y : Rest). Takes s (right_bracket ∷ []) y) (ok_is (after 1 s) rest h.1) (takes_byte right_bracket s h.0)
+      | inr h ↦ absurd (not_ok _ rest h.1)
+    ]
+
+pub closed_refused : (bracket : ℕ) (s : Rest) (e : Fault) → closed_at bracket s ≡ Err e → (begins right_bracket s.text ≡ false) × (e ≡ UnclosedOpeningBracket bracket)
+unfolding closed_at
+closed_refused bracket s e h =
+    elim (chosen (begins right_bracket s.text) (Ok (after 1 s)) (Err (UnclosedOpeningBracket bracket)) (Err e) h) [
+      | inl g ↦ absurd (not_err (after 1 s) e g.1)
+      | inr g ↦ (g.0, sym (err_is {A = Rest} _ e g.1))
+    ]
+
+pub closed_again : (bracket at : ℕ) (rest : List ℕ) → closed_at bracket (at_index at (right_bracket ∷ rest)) ≡ Ok (at_index (at + 1) rest)
+unfolding closed_at
+closed_again bracket at rest = refl

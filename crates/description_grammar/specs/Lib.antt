@@ -1,0 +1,5 @@
+pub mod Reading
+pub mod Heads
+pub mod Spelling
+pub mod Faulty
+pub mod Outcomes

@@ -1,0 +1,248 @@
+//! Descriptions inside one another.
+
+ghost use Rattle.std.specs.Prelude.{suc, ◌≡◌, ◌<◌, true, IfOk, length};
+ghost use Rattle.std.specs.Str.{IsCharBoundary};
+ghost use Rattle.description_faults.specs.Answer.{Answers, Gives};
+ghost use Rattle.description_faults.specs.Fault.{fault_of};
+ghost use Rattle.description_items.specs.Tree.{Compound, listed};
+ghost use Rattle.description_tree.specs.Forms.{is_read, are_read};
+ghost use Rattle.description_tree.specs.Inner.{inner_tree, inner_trees};
+ghost use Rattle.description_words.specs.Many.{many};
+ghost use Rattle.description_words.specs.Views.{rest_of};
+ghost use Rattle.description_grammar.specs.Reading.{opened_at, unsupported_at, optional_at, first_at, bracket_at, element_at, is_end, no_bracket, nested_at, read_tree};
+
+use crate::components::component_from;
+use crate::texts::{doubled, is_end, text};
+use description_faults::{DescriptionFault, InvalidFormatDescription};
+use description_tree::FormatDescriptionV3Inner;
+use description_words::{
+    DescriptionVersion, Rest, begins, closed, cut, is_named, name_of, past_space, whole_of,
+};
+use std::alloc::Global;
+
+/// So many descriptions may stand inside one another.
+pub const LEVELS: u8 = 127;
+
+/// The tree of a description of version 3: its items, one after the other.
+#[tactic(auto, unfolding(crate::specs::Reading::read_tree, crate::specs::Reading::read_items))]
+pub fn tree_of<'a>(
+    alloc: Global,
+    text: &'a str,
+) -> Result<FormatDescriptionV3Inner<'a>, DescriptionFault<'a>>
+    ensures value { Gives inner_tree result (read_tree text.now) }
+    ensures form { IfOk result (λ node. is_read node ≡ true) }
+{
+    let (all, _) = items(
+        alloc,
+        DescriptionVersion::Three,
+        LEVELS,
+        false,
+        whole_of(text),
+    )?;
+    Ok(FormatDescriptionV3Inner::OwnedCompound(all))
+}
+
+// The white space and the bracket that a nesting name needs.
+#[tactic(auto, unfolding(crate::specs::Reading::opened_at))]
+fn opened<'a>(what: &'static str, here: Rest<'a>) -> Result<Rest<'a>, InvalidFormatDescription<'a>>
+    ensures value { Answers rest_of result (opened_at what.now (rest_of here.entry)) }
+    ensures boundary { IfOk result (λ start. IsCharBoundary start.text.now 1) }
+{
+    let start = past_space(here);
+    if start.text.len() == here.text.len() {
+        return Err(InvalidFormatDescription::Expected {
+            what,
+            index: here.index,
+        });
+    }
+    if begins(start.text, b'[') {
+        Ok(start)
+    } else {
+        Err(InvalidFormatDescription::Expected {
+            what: "opening bracket",
+            index: start.index,
+        })
+    }
+}
+
+// Versions 1 and 2 have no nested items.
+fn unsupported<'a>(bracket: usize) -> InvalidFormatDescription<'a>
+    ensures { fault_of result ≡ unsupported_at bracket }
+{
+    InvalidFormatDescription::NotSupported {
+        what: "nested item",
+        context: "versions 1 and 2",
+        index: bracket,
+    }
+}
+
+// Items up to the end, or inside a nested description to its bracket.
+#[cycle(nested)]
+fn items<'a>(
+    alloc: Global,
+    version: DescriptionVersion,
+    levels: u8,
+    inner: bool,
+    here: Rest<'a>,
+) -> Result<(Vec<FormatDescriptionV3Inner<'a>>, Rest<'a>), DescriptionFault<'a>>
+    ensures value { Gives (λ x. (inner_trees x.0.items, rest_of x.1)) result
+        (many (is_end inner) (element_at version (nested_at version levels))
+        (suc (length here.entry.text.now)) (rest_of here.entry)) }
+    ensures form { IfOk result (λ x. are_read x.0.items ≡ true) }
+{
+    let mut all = Vec::new(alloc);
+    let mut rest = here;
+    'items: while !is_end(inner, rest) {
+        let (item, after) = element(alloc, version, levels, rest)?;
+        all.push(item)?;
+        rest = after;
+    }
+    Ok((all, rest))
+}
+
+#[tactic(auto, unfolding(crate::specs::Reading::element_at))]
+#[cycle(nested)]
+fn element<'a>(
+    alloc: Global,
+    version: DescriptionVersion,
+    levels: u8,
+    here: Rest<'a>,
+) -> Result<(FormatDescriptionV3Inner<'a>, Rest<'a>), DescriptionFault<'a>>
+    requires { 0 < length here.text.now }
+    ensures value { Gives (λ x. (inner_tree x.0, rest_of x.1)) result
+        (element_at version (nested_at version levels) (rest_of here.entry)) }
+    ensures form { IfOk result (λ x. is_read x.0 ≡ true) }
+{
+    if let Some((front, rest)) = doubled(version, here) {
+        return Ok((FormatDescriptionV3Inner::BorrowedLiteral(front), rest));
+    }
+    if begins(here.text, b'[') {
+        return bracketed(alloc, version, levels, here);
+    }
+    let (front, rest) = text(version, here)?;
+    Ok((FormatDescriptionV3Inner::BorrowedLiteral(front), rest))
+}
+
+#[tactic(auto, unfolding(crate::specs::Reading::bracket_at))]
+#[cycle(nested)]
+fn bracketed<'a>(
+    alloc: Global,
+    version: DescriptionVersion,
+    levels: u8,
+    here: Rest<'a>,
+) -> Result<(FormatDescriptionV3Inner<'a>, Rest<'a>), DescriptionFault<'a>>
+    requires { IsCharBoundary here.text.now 1 }
+    ensures value { Gives (λ x. (inner_tree x.0, rest_of x.1)) result
+        (bracket_at version (nested_at version levels) (rest_of here.entry)) }
+    ensures form { IfOk result (λ x. is_read x.0 ≡ true) }
+{
+    let (_, inside) = cut(here, 1);
+    let (name, rest) = name_of(here.index, inside)?;
+    if is_named(version, name.text, "optional") {
+        return optional(alloc, version, levels, here.index, rest);
+    }
+    if is_named(version, name.text, "first") {
+        return first(alloc, version, levels, here.index, rest);
+    }
+    let (component, rest) = component_from(alloc, version, here.index, name, rest)?;
+    Ok((FormatDescriptionV3Inner::from(component), rest))
+}
+
+/// An optional item behind its name, and what follows it.
+#[tactic(auto, unfolding(crate::specs::Reading::optional_at))]
+#[cycle(nested)]
+pub fn optional<'a>(
+    alloc: Global,
+    version: DescriptionVersion,
+    levels: u8,
+    bracket: usize,
+    here: Rest<'a>,
+) -> Result<(FormatDescriptionV3Inner<'a>, Rest<'a>), DescriptionFault<'a>>
+    ensures value { Gives (λ x. (inner_tree x.0, rest_of x.1)) result
+        (optional_at version (nested_at version levels) bracket (rest_of here.entry)) }
+    ensures form { IfOk result (λ x. is_read x.0 ≡ true) }
+{
+    let start = opened("whitespace after `optional`", here)?;
+    let (items, rest) = nested(alloc, version, levels, start)?;
+    let rest = closed(bracket, rest)?;
+    if !version.is_three() {
+        return Err(DescriptionFault::Description(unsupported(bracket)));
+    }
+    let item = Box::new(alloc, FormatDescriptionV3Inner::OwnedCompound(items))?;
+    Ok((
+        FormatDescriptionV3Inner::OwnedOptional { format: true, item },
+        rest,
+    ))
+}
+
+/// Alternatives behind their name, and what follows them.
+#[tactic(auto, unfolding(crate::specs::Reading::first_at))]
+#[cycle(nested)]
+pub fn first<'a>(
+    alloc: Global,
+    version: DescriptionVersion,
+    levels: u8,
+    bracket: usize,
+    here: Rest<'a>,
+) -> Result<(FormatDescriptionV3Inner<'a>, Rest<'a>), DescriptionFault<'a>>
+    ensures value { Gives (λ x. (inner_tree x.0, rest_of x.1)) result
+        (first_at version (nested_at version levels) bracket (rest_of here.entry)) }
+    ensures form { IfOk result (λ x. is_read x.0 ≡ true) }
+{
+    let start = opened("whitespace after `first`", here)?;
+    let (all, rest) = alternatives(alloc, version, levels, start)?;
+    let rest = closed(bracket, rest)?;
+    if !version.is_three() {
+        return Err(DescriptionFault::Description(unsupported(bracket)));
+    }
+    Ok((FormatDescriptionV3Inner::OwnedFirst(all), rest))
+}
+
+#[cycle(nested)]
+fn alternatives<'a>(
+    alloc: Global,
+    version: DescriptionVersion,
+    levels: u8,
+    here: Rest<'a>,
+) -> Result<(Vec<FormatDescriptionV3Inner<'a>>, Rest<'a>), DescriptionFault<'a>>
+    ensures value { Gives (λ x. (inner_trees x.0.items, rest_of x.1)) result
+        (many no_bracket (nested_at version levels) (suc (length here.entry.text.now))
+        (rest_of here.entry)) }
+    ensures form { IfOk result (λ x. are_read x.0.items ≡ true) }
+{
+    let mut all = Vec::new(alloc);
+    let mut rest = here;
+    'others: while begins(rest.text, b'[') {
+        let (items, after) = nested(alloc, version, levels, rest)?;
+        all.push(FormatDescriptionV3Inner::OwnedCompound(items))?;
+        rest = after;
+    }
+    Ok((all, rest))
+}
+
+// The items of a nested description from its bracket on, where so many levels may be opened.
+#[tactic(auto, unfolding(crate::specs::Reading::nested_at))]
+#[cycle(nested)]
+fn nested<'a>(
+    alloc: Global,
+    version: DescriptionVersion,
+    levels: u8,
+    here: Rest<'a>,
+) -> Result<(Vec<FormatDescriptionV3Inner<'a>>, Rest<'a>), DescriptionFault<'a>>
+    requires { IsCharBoundary here.text.now 1 }
+    ensures value { Gives (λ x. (Compound (listed (inner_trees x.0.items)), rest_of x.1)) result
+        (nested_at version levels (rest_of here.entry)) }
+    ensures form { IfOk result (λ x. are_read x.0.items ≡ true) }
+{
+    if levels == 0 {
+        return Err(DescriptionFault::Description(InvalidFormatDescription::NotSupported {
+            what: "nesting past 127 levels",
+            context: "format descriptions",
+            index: here.index,
+        }));
+    }
+    let (_, inside) = cut(here, 1);
+    let (all, rest) = items(alloc, version, levels - 1, true, inside)?;
+    let rest = closed(here.index, rest)?;
+    Ok((all, past_space(rest)))
+}

@@ -1,4 +1,0 @@
-pub mod Heads
-pub mod Spelling
-pub mod Faulty
-pub mod Outcomes

@@ -1,3 +1,0 @@
-pub mod Compares
-pub mod Lines
-pub mod Placed

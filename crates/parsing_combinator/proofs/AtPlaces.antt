@@ -1,0 +1,125 @@
+-- What is read at the places of a text.
+use Rattle.std.proofs.Common.{◌≡◌, ◌≤◌, ◌<◌, ◌+◌, ◌-◌, ◌*◌, ◌/◌, ◌%◌, ◌^◌, ◌∙◌, ◌==◌, ◌||◌, ℕ, true, List, ◌∷◌, length, get_or, drop, leb, Some, refl, arith}
+use Rattle.std.specs.Char.{is_ascii_digit}
+use Rattle.std.proofs.lemmas.Bool.Decides.{nat_tests}
+use Rattle.std.proofs.lemmas.List.{drop-drop, drop_more, get_or-drop, length-drop}
+use Rattle.byte_names.specs.Bytes.{plus, hyphen, colon}
+use Rattle.parsing_combinator.specs.Chunks.{IsClock}
+use Rattle.parsing_combinator.specs.Pieces.{digits, byte, byte_of, sign}
+use Rattle.parsing_combinator.specs.Places.{HasDigit, HasPair, HasClock}
+use Rattle.parsing_combinator.proofs.Fixed.{digits_two, digits_four}
+use Rattle.parsing_combinator.proofs.Fronts.{byte_at}
+
+pub is_digit : (c : ℕ) → 48 ≤ c → c ≤ 57 → is_ascii_digit c ≡ true
+is_digit c low high = grind (arith, nat_tests)
+
+pub at_least : (n m : ℕ) → n ≤ m → leb n m ≡ true
+at_least n m le = grind (arith, nat_tests)
+
+-- the first byte from a place on
+pub first_at : (text : List ℕ) (place : ℕ) → get_or (drop place text) 0 0 ≡ get_or text place 0
+first_at text place = let same : place + 0 ≡ place = omega arith in rw same at (get_or-drop place text 0 0)
+
+pub two_there : (text : List ℕ) (place : ℕ) → HasPair text place → digits 2 (drop place text) ≡ Some ((get_or text place 0 - 48) * 10 + (get_or text (place + 1) 0 - 48), drop (place + 2) text)
+two_there text place h =
+    let long : leb 2 (length (drop place text)) ≡ true = at_least 2 (length (drop place text)) (omega (arith, length-drop place text, h.room)) in
+    let first = is_digit (get_or text place 0) h.first.low h.first.high in
+    let second = is_digit (get_or text (place + 1) 0) h.second.low h.second.high in
+    digits_two (drop place text) ∙ rw (long, first_at text place, get_or-drop place text 1 0, first, second, drop-drop 2 place text) refl
+
+-- ---- digits in one number
+
+-- the pairs that a product makes of four digits
+pub record Pairs (w a b c d : ℕ) : Type 0 where
+  pub least : 808_464_432 ≤ w
+  pub first : (w - 808_464_432) * 2561 % 2 ^ 32 / 256 % 256 ≡ (a - 48) * 10 + (b - 48)
+  pub second : (w - 808_464_432) * 2561 % 2 ^ 32 / 16_777_216 ≡ (c - 48) * 10 + (d - 48)
+
+pairs_of : (w x y z t : ℕ) → x ≤ 9 → y ≤ 9 → z ≤ 9 → t ≤ 9 → w ≡ x + 48 + (y + 48) * 256 + (z + 48) * 65_536 + (t + 48) * 16_777_216 → Pairs w (x + 48) (y + 48) (z + 48) (t + 48)
+pairs_of w x y z t hx hy hz ht is =
+    let product : (w - 808_464_432) * 2561 % 2 ^ 32 ≡ x + (x * 10 + y) * 256 + (y * 10 + z) * 65_536 + (z * 10 + t) * 16_777_216 = omega arith in
+    record { least = omega arith; first = omega arith; second = omega arith }
+
+shifted : (a : ℕ) → 48 ≤ a → a - 48 + 48 ≡ a
+shifted a low = omega arith
+
+pairs_by : (w a b c d : ℕ) → 48 ≤ a → a ≤ 57 → 48 ≤ b → b ≤ 57 → 48 ≤ c → c ≤ 57 → 48 ≤ d → d ≤ 57 → w ≡ a + b * 256 + c * 65_536 + d * 16_777_216 → Pairs w a b c d
+pairs_by w a b c d la ha lb hb lc hc ld hd is =
+    let p = pairs_of w (a - 48) (b - 48) (c - 48) (d - 48) (omega arith) (omega arith) (omega arith) (omega arith) (omega arith) in
+    rw (shifted a la, shifted b lb, shifted c lc, shifted d ld) at p
+
+-- the same of the digits at four places
+pub pairs_there : (w : ℕ) (text : List ℕ) (place : ℕ) → HasPair text place → HasPair text (place + 2) → w ≡ get_or text place 0 + get_or text (place + 1) 0 * 256 + get_or text (place + 2) 0 * 65_536 + get_or text (place + 3) 0 * 16_777_216 → Pairs w (get_or text place 0) (get_or text (place + 1) 0) (get_or text (place + 2) 0) (get_or text (place + 3) 0)
+pairs_there w text place h k is =
+    let last : place + 2 + 1 ≡ place + 3 = omega arith in
+    let d : HasDigit text (place + 3) = rw last at k.second in
+    pairs_by w _ _ _ _ h.first.low h.first.high h.second.low h.second.high k.first.low k.first.high d.low d.high is
+
+pub places_two_on : (text : List ℕ) (place : ℕ) → HasPair text (place + 2) → digits 2 (drop (place + 2) text) ≡ Some ((get_or text (place + 2) 0 - 48) * 10 + (get_or text (place + 3) 0 - 48), drop (place + 4) text)
+places_two_on text place h =
+    let second : place + 2 + 1 ≡ place + 3 = omega arith in
+    let behind : place + 2 + 2 ≡ place + 4 = omega arith in
+    rw (second, behind) at (two_there text (place + 2) h)
+
+pub four_there : (text : List ℕ) (place high low : ℕ) → digits 2 (drop place text) ≡ Some (high, drop (place + 2) text) → digits 2 (drop (place + 2) text) ≡ Some (low, drop (place + 4) text) → digits 4 (drop place text) ≡ Some (high * 100 + low, drop (place + 4) text)
+four_there text place high low first second =
+    digits_four (drop place text) ∙ rw (first, second) refl
+
+-- a byte at a place
+pub byte_there : (text : List ℕ) (place c : ℕ) → place < length text → get_or text place 0 ≡ c → byte c (drop place text) ≡ Some (tt, drop (place + 1) text)
+byte_there text place c lt is = rw (drop_more text place 0 lt, is) (byte_at c (drop (place + 1) text))
+
+sign_of : (c : ℕ) (rest : List ℕ) → ((c == plus) || (c == hyphen)) ≡ true → sign (c ∷ rest) ≡ Some (c, rest)
+unfolding byte_of
+sign_of c rest e = rw e refl
+
+pub sign_there : (text : List ℕ) (place : ℕ) → place < length text → ((get_or text place 0 == plus) || (get_or text place 0 == hyphen)) ≡ true → sign (drop place text) ≡ Some (get_or text place 0, drop (place + 1) text)
+sign_there text place lt e = rw (drop_more text place 0 lt) (sign_of (get_or text place 0) (drop (place + 1) text) e)
+
+-- digits between bounds
+pub digit_between : (text : List ℕ) (place low high : ℕ) → 48 ≤ low → high ≤ 57 → (low ≤ get_or text place 0) × (get_or text place 0 ≤ high) → HasDigit text place
+digit_between text place low high least most h = record { low = omega (arith, h.0); high = omega (arith, h.1) }
+
+-- ---- a clock in one number
+
+abbrev made : ℕ → ℕ
+made w = (w - 3_472_339_291_344_613_424) * 2561 % 2 ^ 64
+
+record ClockPairs (w a b d e g h : ℕ) : Type 0 where
+  hour : made w / 256 % 256 ≡ (a - 48) * 10 + (b - 48)
+  minute : made w / 4_294_967_296 % 256 ≡ (d - 48) * 10 + (e - 48)
+  second : made w / 72_057_594_037_927_936 ≡ (g - 48) * 10 + (h - 48)
+
+clock_of : (w a b d e g h : ℕ) → a ≤ 9 → b ≤ 9 → d ≤ 9 → e ≤ 9 → g ≤ 9 → h ≤ 9 → w ≡ a + 48 + (b + 48) * 256 + 58 * 65_536 + (d + 48) * 16_777_216 + (e + 48) * 4_294_967_296 + 58 * 1_099_511_627_776 + (g + 48) * 281_474_976_710_656 + (h + 48) * 72_057_594_037_927_936 → ClockPairs w (a + 48) (b + 48) (d + 48) (e + 48) (g + 48) (h + 48)
+clock_of w a b d e g h ha hb hd he hg hh is =
+    let product : made w ≡ a + (a * 10 + b) * 256 + b * 10 * 65_536 + d * 16_777_216 + (d * 10 + e) * 4_294_967_296 + e * 10 * 1_099_511_627_776 + g * 281_474_976_710_656 + (g * 10 + h) * 72_057_594_037_927_936 = omega arith in
+    record { hour = omega arith; minute = omega arith; second = omega arith }
+
+clock_by : (w a b d e g h : ℕ) → 48 ≤ a → a ≤ 57 → 48 ≤ b → b ≤ 57 → 48 ≤ d → d ≤ 57 → 48 ≤ e → e ≤ 57 → 48 ≤ g → g ≤ 57 → 48 ≤ h → h ≤ 57 → w ≡ a + b * 256 + 58 * 65_536 + d * 16_777_216 + e * 4_294_967_296 + 58 * 1_099_511_627_776 + g * 281_474_976_710_656 + h * 72_057_594_037_927_936 → ClockPairs w a b d e g h
+clock_by w a b d e g h la ha lb hb ld hd le he lg hg lh hh is =
+    let p = clock_of w (a - 48) (b - 48) (d - 48) (e - 48) (g - 48) (h - 48) (omega arith) (omega arith) (omega arith) (omega arith) (omega arith) (omega arith) (omega arith) in
+    rw (shifted a la, shifted b lb, shifted d ld, shifted e le, shifted g lg, shifted h lh) at p
+
+pub clock_there : (w : ℕ) (text : List ℕ) (place : ℕ) → HasClock text place → w ≡ get_or text place 0 + get_or text (place + 1) 0 * 256 + get_or text (place + 2) 0 * 65_536 + get_or text (place + 3) 0 * 16_777_216 + get_or text (place + 4) 0 * 4_294_967_296 + get_or text (place + 5) 0 * 1_099_511_627_776 + get_or text (place + 6) 0 * 281_474_976_710_656 + get_or text (place + 7) 0 * 72_057_594_037_927_936
+    → IsClock (drop place text) (made w / 256 % 256) (made w / 4_294_967_296 % 256) (made w / 72_057_594_037_927_936) (drop (place + 8) text)
+clock_there w text place k is =
+    let fourth : place + 3 + 1 ≡ place + 4 = omega arith in
+    let fifth : place + 3 + 2 ≡ place + 5 = omega arith in
+    let seventh : place + 6 + 1 ≡ place + 7 = omega arith in
+    let eighth : place + 6 + 2 ≡ place + 8 = omega arith in
+    let third : place + 2 + 1 ≡ place + 3 = omega arith in
+    let sixth : place + 5 + 1 ≡ place + 6 = omega arith in
+    let e : HasDigit text (place + 4) = rw fourth at k.minute.second in
+    let h : HasDigit text (place + 7) = rw seventh at k.second.second in
+    let room = k.second.room in
+    let p = clock_by w _ _ _ _ _ _ k.hour.first.low k.hour.first.high k.hour.second.low k.hour.second.high k.minute.first.low k.minute.first.high e.low e.high k.second.first.low k.second.first.high h.low h.high (omega (arith, k.first_colon, k.second_colon)) in
+    let minute = rw (fourth, fifth) at (two_there text (place + 3) k.minute) in
+    let second = rw (seventh, eighth) at (two_there text (place + 6) k.second) in
+    record {
+      hour_digits = rw (p.hour, drop-drop 2 place text) (two_there text place k.hour);
+      first_colon = rw (drop-drop 2 place text, drop-drop 3 place text) (rw third at (byte_there text (place + 2) colon (omega arith) k.first_colon));
+      minute_digits = rw (p.minute, drop-drop 3 place text, drop-drop 5 place text) minute;
+      second_colon = rw (drop-drop 5 place text, drop-drop 6 place text) (rw sixth at (byte_there text (place + 5) colon (omega arith) k.second_colon));
+      second_digits = rw (p.second, drop-drop 6 place text, drop-drop 8 place text) second;
+      rest_is = drop-drop 8 place text;
+    }

@@ -1,0 +1,124 @@
+-- The digits of a fraction past the ninth have no effect.
+use Rattle.std.proofs.Common.{◌≡◌, ℕ, zero, suc, Bool, true, false, cond, ◌+◌, ◌-◌, ◌*◌, ◌/◌, ◌^◌, ◌<◌, ◌≤◌, List, [], ◌∷◌, length, take, drop, refl, sym, ap, ◌∙◌, arith, lit<, inl, inr, leb, Option, Some, None, unwrap_or}
+use Rattle.std.specs.Char.{is_ascii_digit, digit_value}
+use Rattle.std.specs.Str.Parse.{digits_value, digits_value_after, AllDigits}
+use Rattle.std.proofs.lemmas.Bool.{cases_lt}
+use Rattle.std.proofs.lemmas.Bool.Decides.{nat_tests}
+use Rattle.std.proofs.lemmas.List.{take-append-drop, length-take-le, take_all, length-drop}
+use Rattle.std.proofs.lemmas.List.Sums.{prefix_len-le-length}
+use Rattle.std.proofs.lemmas.Nat.{pow-add, le-div, div_below}
+use Rattle.std.proofs.Math.Nat.{mul-lt-mul_of_pos_right, mul-div_cancel, mul_assoc, mul-le-mul_right, mul-div-mul_right, one-le-pow}
+use Rattle.parsing_combinator.proofs.Decimal.{digit_here, power_next, value_append, count_drop}
+use Rattle.parsing_combinator.specs.Pieces.{digits, digit_count, digit_run, fraction, nanoseconds_of}
+
+scale : (n p q d v : ℕ) → q ≡ p * 10 → (n * 10 + d) * p ≤ v → n * q ≤ v
+scale n p q d v e h = rw e (omega arith)
+
+scale_lt : (n p q d v : ℕ) → q ≡ p * 10 → d < 10 → v < (n * 10 + d + 1) * p → v < (n + 1) * q
+scale_lt n p q d v e small h = rw e (omega (arith, mul-le-mul_right p (let le : n * 10 + d + 1 ≤ n * 10 + 10 = omega arith in le)))
+
+value_after_ge : (n : ℕ) (cs : List ℕ) → n * 10 ^ length cs ≤ digits_value_after 10 n cs
+value_after_ge n [] = omega arith
+value_after_ge n (c ∷ cs) =
+    scale n (10 ^ length cs) (10 ^ suc (length cs)) (digit_value c) (digits_value_after 10 (n * 10 + digit_value c) cs) (power_next (length cs)) (value_after_ge (n * 10 + digit_value c) cs)
+
+value_after_lt : (n : ℕ) (cs : List ℕ) → AllDigits 10 cs → digits_value_after 10 n cs < (n + 1) * 10 ^ length cs
+value_after_lt n [] all = omega arith
+value_after_lt n (c ∷ cs) all =
+    scale_lt n (10 ^ length cs) (10 ^ suc (length cs)) (digit_value c) (digits_value_after 10 (n * 10 + digit_value c) cs) (power_next (length cs)) all.0 (value_after_lt (n * 10 + digit_value c) cs all.1)
+
+AllDigits-drop : (k : ℕ) (cs : List ℕ) → AllDigits 10 cs → AllDigits 10 (drop k cs)
+AllDigits-drop zero cs all = all
+AllDigits-drop (suc k) [] all = tt
+AllDigits-drop (suc k) (c ∷ cs) all = AllDigits-drop k cs all.1
+
+counted_first : (b : Bool) (n k : ℕ) → cond b (1 + n) 0 ≡ suc k → (b ≡ true) × (n ≡ k)
+counted_first true n k e = (refl, omega arith)
+counted_first false n k e = absurd (omega arith)
+
+pub all_digits : (cs : List ℕ) → digit_count cs ≡ length cs → AllDigits 10 cs
+all_digits [] e = tt
+all_digits (c ∷ cs) e =
+    let parts = counted_first (is_ascii_digit c) (digit_count cs) (length cs) e in
+    let here = digit_here c parts.0 in
+    (omega (arith, here.2, here.0, here.1), all_digits cs parts.1)
+
+pub short_fraction : (run : List ℕ) → length run ≤ 9 → digits_value 10 run * 10 ^ (9 - length run) ≡ nanoseconds_of run
+short_fraction run le =
+    let n = length run in
+    let split : 10 ^ 9 ≡ 10 ^ (9 - n) * 10 ^ n = ap (λ (k : ℕ). 10 ^ k) (let e : 9 ≡ 9 - n + n = omega arith in e) ∙ pow-add 10 (9 - n) n in
+    let product : digits_value 10 run * 10 ^ 9 ≡ digits_value 10 run * 10 ^ (9 - n) * 10 ^ n = ap (λ (k : ℕ). digits_value 10 run * k) split ∙ sym (mul_assoc (digits_value 10 run) (10 ^ (9 - n)) (10 ^ n)) in
+    sym (ap (λ (k : ℕ). k / 10 ^ n) product ∙ mul-div_cancel (digits_value 10 run * 10 ^ (9 - n)) {n = 10 ^ n} (one-le-pow n 10 (lit< tt)))
+
+pub long_fraction : (run : List ℕ) → 9 < length run → digit_count run ≡ length run → digits_value 10 (take 9 run) ≡ nanoseconds_of run
+long_fraction run lt all =
+    let k = length run - 9 in
+    let front = digits_value 10 (take 9 run) in
+    let rest_length : length (drop 9 run) ≡ k = length-drop 9 run in
+    let value : digits_value 10 run ≡ digits_value_after 10 front (drop 9 run) = ap (digits_value 10) (sym (take-append-drop 9 run)) ∙ value_append 0 (take 9 run) (drop 9 run) in
+    let low : front * 10 ^ k ≤ digits_value 10 run = rw (value, ← rest_length) (value_after_ge front (drop 9 run)) in
+    let high : digits_value 10 run < (front + 1) * 10 ^ k = rw (value, ← rest_length) (value_after_lt front (drop 9 run) (AllDigits-drop 9 run (all_digits run all))) in
+    let power : 10 ^ length run ≡ 10 ^ k * 10 ^ 9 = ap (λ (m : ℕ). 10 ^ m) (let e : length run ≡ k + 9 = omega arith in e) ∙ pow-add 10 k 9 in
+    let less : nanoseconds_of run ≡ digits_value 10 run / 10 ^ k = ap (λ (m : ℕ). digits_value 10 run * 10 ^ 9 / m) power ∙ mul-div-mul_right {m = 10 ^ 9} (digits_value 10 run) (10 ^ k) (lit< tt) in
+    let above = le-div front (digits_value 10 run) (10 ^ k) (one-le-pow k 10 (lit< tt)) low in
+    let below = div_below (digits_value 10 run) (10 ^ k) (front + 1) (one-le-pow k 10 (lit< tt)) high in
+    omega (arith, above, below, less)
+
+pub nanoseconds_is : (run : List ℕ) (used : ℕ) → digit_count run ≡ length run → (length run ≤ 9 → used ≡ length run) → (9 < length run → used ≡ 9) → digits_value 10 (take used run) * 10 ^ (9 - used) ≡ nanoseconds_of run
+nanoseconds_is run used all short long =
+    elim (cases_lt 9 (length run)) [
+      | inl lt ↦ let u : used ≡ 9 = long lt in rw u (let e = long_fraction run lt all in omega (arith, e))
+      | inr le ↦ let u : used ≡ length run = short le in rw (u, take_all (length run) run (omega arith)) (short_fraction run le)
+    ]
+
+-- the digits that are there, with zeros behind them, stay below the ninth power
+pub scaled_below : (value used : ℕ) → value < 10 ^ used → used ≤ 9 → value * 10 ^ (9 - used) < 1_000_000_000
+scaled_below value used small le =
+    let split : 10 ^ 9 ≡ 10 ^ used * 10 ^ (9 - used) = ap (λ (k : ℕ). 10 ^ k) (let e : 9 ≡ used + (9 - used) = omega arith in e) ∙ pow-add 10 used (9 - used) in
+    let below : value * 10 ^ (9 - used) < 10 ^ used * 10 ^ (9 - used) = mul-lt-mul_of_pos_right small (one-le-pow (9 - used) 10 (lit< tt)) in
+    let whole : 10 ^ 9 ≡ 1_000_000_000 = refl in
+    omega (arith, below, split, whole)
+
+-- what was read of n digits
+pub record Read (n : ℕ) (bytes : List ℕ) (v : ℕ) (rest : List ℕ) : Type 0 where
+  pub enough : n ≤ digit_count bytes
+  pub value : digits_value 10 (take n bytes) ≡ v
+  pub after : drop n bytes ≡ rest
+
+pub digits_read : (n : ℕ) (bytes : List ℕ) (v : ℕ) (rest : List ℕ) → digits n bytes ≡ Some (v, rest) → Read n bytes v rest
+unfolding digits
+digits_read n bytes v rest h =
+    elim (cases_lt (digit_count bytes) n) [
+      | inl lt ↦
+          let e : leb n (digit_count bytes) ≡ false = grind (arith, nat_tests) in
+          let f = rw e at h in
+          cc
+      | inr le ↦
+          let e : leb n (digit_count bytes) ≡ true = grind (arith, nat_tests) in
+          let f = rw e at h in
+          record { enough = le; value = ap (λ (o : Option (ℕ × List ℕ)). (unwrap_or o (0, [])).0) f; after = ap (λ (o : Option (ℕ × List ℕ)). (unwrap_or o (0, [])).1) f }
+    ]
+
+pub none_there : (bytes : List ℕ) → digits 1 bytes ≡ None → digit_count bytes ≡ 0
+unfolding digits
+none_there bytes h =
+    elim (cases_lt (digit_count bytes) 1) [
+      | inl lt ↦ omega arith
+      | inr le ↦
+          let e : leb 1 (digit_count bytes) ≡ true = grind (arith, nat_tests) in
+          let f = rw e at h in
+          cc
+    ]
+
+-- nine digits and no tenth are the nanoseconds of a fraction
+pub fraction_of_nine : (bytes : List ℕ) (v : ℕ) (rest : List ℕ) → digits 9 bytes ≡ Some (v, rest) → digits 1 rest ≡ None → fraction bytes ≡ Some (v, rest)
+unfolding fraction digit_run
+fraction_of_nine bytes v rest nine none =
+    let r = digits_read 9 bytes v rest nine in
+    let left = none_there rest none in
+    let count = count_drop 9 bytes r.enough in
+    let k : digit_count (drop 9 bytes) ≡ 0 = ap digit_count r.after ∙ left in
+    let e : digit_count bytes ≡ 9 = omega arith in
+    let long : length (take 9 bytes) ≡ 9 = length-take-le 9 bytes (omega (arith, prefix_len-le-length is_ascii_digit bytes)) in
+    let w : nanoseconds_of (take 9 bytes) ≡ v = sym (short_fraction (take 9 bytes) (omega arith)) ∙ rw long (omega (arith, r.value)) in
+    rw (e, w, r.after) refl

@@ -1,0 +1,154 @@
+-- The longest front, by what it is and by what the shape's parts say.
+use Rattle.std.proofs.Common.{◌≡◌, ℕ, zero, suc, min, ◌+◌, ◌<◌, ◌≤◌, ◌&&◌, Bool, true, false, cond, List, [], ◌∷◌, length, take, drop, Option, Some, None, refl, sym, ap, ◌∙◌, arith, inl, inr, lit<, ◌^◌}
+use Rattle.std.specs.Prelude.{option_map, nat_le, nat_eq, IfSome}
+use Rattle.std.specs.List.{list_all}
+use Rattle.std.specs.Char.{is_ascii_digit}
+use Rattle.std.specs.Str.Parse.{digits_value}
+use Rattle.std.proofs.lemmas.Bool.{cases_lt}
+use Rattle.std.proofs.lemmas.Bool.Decides.{nat_tests}
+use Rattle.std.proofs.lemmas.List.{length-take-le, drop_all}
+use Rattle.std.proofs.lemmas.List.Sums.{prefix_len-le-length}
+use Rattle.std.proofs.Math.Seq.{take-length}
+use Rattle.std.proofs.Math.Nat.{pow-le-pow_right}
+use Rattle.parsing_combinator.specs.Pieces.{digit_count, digits, digit_run, fraction, nanoseconds_of}
+use Rattle.parsing_combinator.specs.Shape.{Shape, or_before, greatest, front, taken, nothing, are_digits, digits_as, digits_between}
+
+-- ---- the greatest number
+
+pub greatest_is : {A : Type 0} → (f : ℕ → Option A) (x : A) (n k : ℕ) → k ≤ n → f k ≡ Some x → ((j : ℕ) → k < j → j ≤ n → f j ≡ None) → greatest f n ≡ Some x
+greatest_is f x zero k le here above =
+    let z : k ≡ 0 = omega arith in rw (sym z) here
+greatest_is f x (suc n) k le here above =
+    elim (cases_lt k (suc n)) [
+      | inl lt ↦ rw (above (suc n) lt (omega arith)) (greatest_is f x n k (omega arith) here (λ j a b. above j a (omega arith)))
+      | inr ge ↦ let z : k ≡ suc n = omega arith in rw (rw z at here) refl
+    ]
+
+pub greatest_none : {A : Type 0} → (f : ℕ → Option A) (n : ℕ) → ((j : ℕ) → j ≤ n → f j ≡ None) → greatest f n ≡ None
+greatest_none f zero none = none 0 (omega arith)
+greatest_none f (suc n) none = rw (none (suc n) (omega arith)) (greatest_none f n (λ j a. none j (omega arith)))
+
+pub greatest_same : {A : Type 0} → (f g : ℕ → Option A) (n : ℕ) → ((j : ℕ) → j ≤ n → f j ≡ g j) → greatest f n ≡ greatest g n
+greatest_same f g zero same = same 0 (omega arith)
+greatest_same f g (suc n) same = rw (same (suc n) (omega arith), greatest_same f g n (λ j a. same j (omega arith))) refl
+
+before_none : {A : Type 0} → (x : Option A) → or_before x None ≡ x
+before_none (Some x) = refl
+before_none None = refl
+
+-- where nothing is found at 0, what is found is found at a number behind it
+pub greatest_up : {A : Type 0} → (f : ℕ → Option A) (n : ℕ) → f 0 ≡ None → greatest f (suc n) ≡ greatest (λ k. f (suc k)) n
+greatest_up f zero none = rw none (before_none (f 1))
+greatest_up f (suc n) none = ap (or_before (f (suc (suc n)))) (greatest_up f n none)
+
+map_before : {A B : Type 0} → (h : A → B) (x y : Option A) → or_before (option_map h x) (option_map h y) ≡ option_map h (or_before x y)
+map_before h (Some x) y = refl
+map_before h None y = refl
+
+-- what is found passes through a function
+pub greatest_map : {A B : Type 0} → (h : A → B) (f : ℕ → Option A) (n : ℕ) → greatest (λ k. option_map h (f k)) n ≡ option_map h (greatest f n)
+greatest_map h f zero = refl
+greatest_map h f (suc n) = ap (or_before (option_map h (f (suc n)))) (greatest_map h f n) ∙ map_before h (f (suc n)) (greatest f n)
+
+-- ---- what is taken
+
+pub taken_nothing : {A : Type 0} → (bytes : List ℕ) → taken {A = A} nothing bytes ≡ None
+unfolding taken nothing
+taken_nothing bytes = greatest_none (front nothing bytes) (length bytes) (λ j le. refl)
+
+-- shapes that agree on the fronts
+pub taken_same : {A : Type 0} → (shape other : Shape A) (bytes : List ℕ) → ((j : ℕ) → j ≤ length bytes → shape (take j bytes) ≡ other (take j bytes)) → taken shape bytes ≡ taken other bytes
+unfolding taken
+taken_same shape other bytes same = greatest_same (front shape bytes) (front other bytes) (length bytes) (λ j le. ap (option_map (λ x. (x, drop j bytes))) (same j le))
+
+-- a byte that all of the shape begin with
+pub taken_behind : {A : Type 0} → (shape other : Shape A) (c : ℕ) (cs : List ℕ) → shape [] ≡ None → ((text : List ℕ) → shape (c ∷ text) ≡ other text) → taken shape (c ∷ cs) ≡ taken other cs
+unfolding taken
+taken_behind shape other c cs none same =
+    greatest_up (front shape (c ∷ cs)) (length cs) (ap (option_map (λ x. (x, c ∷ cs))) none)
+    ∙ greatest_same (λ k. front shape (c ∷ cs) (suc k)) (front other cs) (length cs) (λ j le. ap (option_map (λ x. (x, drop j cs))) (same (take j cs)))
+
+-- ---- a run of digits
+
+one_more : (b x : Bool) (j n : ℕ) → x ≡ nat_le j n → (b && x) ≡ nat_le (suc j) (cond b (1 + n) 0)
+one_more true x j n e = grind (arith, nat_tests)
+one_more false x j n e = grind (arith, nat_tests)
+
+pub digits_at : (bytes : List ℕ) (j : ℕ) → j ≤ length bytes → list_all is_ascii_digit (take j bytes) ≡ nat_le j (digit_count bytes)
+digits_at bytes zero le = grind (arith, nat_tests)
+digits_at [] (suc j) le = absurd (omega arith)
+digits_at (c ∷ cs) (suc j) le = one_more (is_ascii_digit c) (list_all is_ascii_digit (take j cs)) j (digit_count cs) (digits_at cs j (omega arith))
+
+shape_at : (n m : ℕ) (bytes : List ℕ) (j : ℕ) → j ≤ length bytes → are_digits n m (take j bytes) ≡ (nat_le n j && nat_le j m && nat_le j (digit_count bytes))
+shape_at n m bytes j le = rw (length-take-le j bytes le, digits_at bytes j le) refl
+
+within : (n m c j : ℕ) → n ≤ j → j ≤ m → j ≤ c → (nat_le n j && nat_le j m && nat_le j c) ≡ true
+within n m c j a b d = grind (arith, nat_tests)
+
+too_long : (n m c j : ℕ) → min c m < j → (nat_le n j && nat_le j m && nat_le j c) ≡ false
+too_long n m c j a = grind (arith, nat_tests)
+
+too_few : (n m c j : ℕ) → c < n → (nat_le n j && nat_le j m && nat_le j c) ≡ false
+too_few n m c j a = grind (arith, nat_tests)
+
+le_true : (n c : ℕ) → n ≤ c → nat_le n c ≡ true
+le_true n c h = grind (arith, nat_tests)
+
+le_false : (n c : ℕ) → c < n → nat_le n c ≡ false
+le_false n c h = grind (arith, nat_tests)
+
+said_none : {A : Type 0} → (value : List ℕ → A) (n m : ℕ) (bytes : List ℕ) (j : ℕ) → are_digits n m (take j bytes) ≡ false → front (digits_as value n m) bytes j ≡ None
+unfolding digits_as
+said_none value n m bytes j e = rw e refl
+
+said_some : {A : Type 0} → (value : List ℕ → A) (n m : ℕ) (bytes : List ℕ) (j : ℕ) → are_digits n m (take j bytes) ≡ true → front (digits_as value n m) bytes j ≡ Some (value (take j bytes), drop j bytes)
+unfolding digits_as
+said_some value n m bytes j e = rw e refl
+
+-- as many digits as are there, up to m
+abbrev pub run_of : {A : Type 0} → (List ℕ → A) → ℕ → List ℕ → A × List ℕ
+run_of value k bytes = (value (take k bytes), drop k bytes)
+
+pub taken_digits : {A : Type 0} → (value : List ℕ → A) (n m : ℕ) (bytes : List ℕ) → n ≤ m → taken (digits_as value n m) bytes ≡ cond (nat_le n (digit_count bytes)) (Some (run_of value (min (digit_count bytes) m) bytes)) None
+unfolding taken
+taken_digits value n m bytes le =
+    let c = digit_count bytes in
+    let short : c ≤ length bytes = prefix_len-le-length is_ascii_digit bytes in
+    elim (cases_lt c n) [
+      | inl few ↦ rw (le_false n c few) (greatest_none (front (digits_as value n m) bytes) (length bytes) (λ j a. said_none value n m bytes j (shape_at n m bytes j a ∙ too_few n m c j few)))
+      | inr enough ↦
+          rw (le_true n c enough)
+          (greatest_is (front (digits_as value n m) bytes) (run_of value (min c m) bytes) (length bytes) (min c m) (omega arith)
+          (said_some value n m bytes (min c m) (shape_at n m bytes (min c m) (omega arith) ∙ within n m c (min c m) (omega arith) (omega arith) (omega arith)))
+          (λ j a b. said_none value n m bytes j (shape_at n m bytes j b ∙ too_long n m c j a)))
+    ]
+
+exactly : (n c : ℕ) (bytes : List ℕ) → cond (nat_le n c) (Some (run_of (digits_value 10) (min c n) bytes)) None ≡ cond (nat_le n c) (Some (run_of (digits_value 10) n bytes)) None
+exactly n c bytes =
+    elim (cases_lt c n) [
+      | inl few ↦ rw (le_false n c few) refl
+      | inr enough ↦ let e : min c n ≡ n = omega arith in rw e refl
+    ]
+
+-- exactly n digits
+pub taken_exactly : (n : ℕ) (bytes : List ℕ) → taken (digits_between n n) bytes ≡ digits n bytes
+unfolding digits
+taken_exactly n bytes = taken_digits (digits_value 10) n n bytes (omega arith) ∙ exactly n (digit_count bytes) bytes
+
+pub below_power : (x k m : ℕ) → x < 10 ^ k → k ≤ m → x < 10 ^ m
+below_power x k m lt le = omega (arith, pow-le-pow_right {n = 10} (lit< tt) {i = k} {j = m} le)
+
+pub taken_bound : (x k count m : ℕ) → x < 10 ^ k → k ≡ min count m → x < 10 ^ m
+taken_bound x k count m lt e = below_power x k m lt (omega arith)
+
+-- the fraction that digits alone write
+pub whole_fraction : (text : List ℕ) → digit_count text ≡ length text → 0 < length text → fraction text ≡ Some (nanoseconds_of text, [])
+unfolding fraction digit_run
+whole_fraction text all some =
+    let e : nat_eq (length text) 0 ≡ false = grind (arith, nat_tests) in
+    rw (all, e, take-length text, drop_all (length text) text (omega arith)) refl
+
+-- a number below a power of ten is below a greater one
+pub bound_up : {R : Type 0} → (o : Option (ℕ × R)) (k m : ℕ) → k ≤ m → IfSome o (λ x. x.0 < 10 ^ k) → IfSome o (λ x. x.0 < 10 ^ m)
+bound_up None k m le bound = tt
+bound_up (Some x) k m le bound = below_power x.0 k m bound le

@@ -1,0 +1,211 @@
+-- Names, none of which begins with an earlier one: what is taken is the first that is there.
+use Rattle.std.proofs.Common.{◌≡◌, ℕ, zero, suc, ◌<◌, ◌≤◌, ◌&&◌, Bool, true, false, not, List, [], ◌∷◌, ◌++◌, map, length, take, drop, Option, Some, None, refl, sym, ap, ◌∙◌, arith}
+use Rattle.std.specs.Prelude.{bytes_eq, if◌then◌else◌}
+use Rattle.std.specs.Char.{to_ascii_lowercase}
+use Rattle.std.proofs.lemmas.Bool.{true≢false}
+use Rattle.std.proofs.lemmas.List.{length-take-le, length-take}
+use Rattle.std.proofs.lemmas.Slice.Eq.{bytes_eq-Decides}
+use Rattle.calendar_count.specs.declared.month.Month.{Month}
+use Rattle.parsing_combinator.specs.Shape.{or_before, front, taken, nothing}
+use Rattle.parsing_combinator.specs.Names.{compared, is_name, begins, named, found, long_months, long_weekdays, long_first_quarter, long_second_quarter, long_third_quarter, long_fourth_quarter, long_first_days, long_last_days, short_months, short_weekdays, short_first_quarter, short_second_quarter, short_third_quarter, short_fourth_quarter, short_first_days, short_last_days, periods, period}
+use Rattle.parsing_combinator.proofs.Longest.{greatest_is, taken_same, taken_nothing}
+
+-- no entry begins with an earlier one
+abbrev pub none_begins : {A : Type 0} → Bool → List ℕ → List (List ℕ × A) → Bool
+none_begins b name [] = true
+none_begins b name (entry ∷ entries) = not (begins b name entry.0) && none_begins b name entries
+
+abbrev pub apart : {A : Type 0} → Bool → List (List ℕ × A) → Bool
+apart b [] = true
+apart b (entry ∷ entries) = none_begins b entry.0 entries && apart b entries
+
+both_left : (x y : Bool) → (x && y) ≡ true → x ≡ true
+both_left true y e = refl
+both_left false y e = absurd (true≢false (sym e))
+
+both_right : (x y : Bool) → (x && y) ≡ true → y ≡ true
+both_right true y e = e
+both_right false y e = absurd (true≢false (sym e))
+
+not_true : (x : Bool) → not x ≡ true → x ≡ false
+not_true true e = absurd (true≢false (sym e))
+not_true false e = refl
+
+compared_length : (b : Bool) (xs : List ℕ) → length (compared b xs) ≡ length xs
+compared_length true xs = refl
+compared_length false [] = refl
+compared_length false (x ∷ xs) = ap suc (compared_length false xs)
+
+map_take : (f : ℕ → ℕ) (k : ℕ) (xs : List ℕ) → map f (take k xs) ≡ take k (map f xs)
+map_take f zero xs = refl
+map_take f (suc k) [] = refl
+map_take f (suc k) (x ∷ xs) = ap (λ ys. f x ∷ ys) (map_take f k xs)
+
+compared_take : (b : Bool) (k : ℕ) (xs : List ℕ) → compared b (take k xs) ≡ take k (compared b xs)
+compared_take true k xs = refl
+compared_take false k xs = map_take to_ascii_lowercase k xs
+
+eq_length : (xs ys : List ℕ) → bytes_eq xs ys ≡ true → length xs ≡ length ys
+eq_length [] [] e = refl
+eq_length [] (y ∷ ys) e = absurd (true≢false (sym e))
+eq_length (x ∷ xs) [] e = absurd (true≢false (sym e))
+eq_length (x ∷ xs) (y ∷ ys) e = ap suc (eq_length xs ys (both_right _ _ e))
+
+-- a name has the length of every text that is it
+is_name_length : (b : Bool) (name text : List ℕ) → is_name b name text ≡ true → length name ≡ length text
+is_name_length b name text e = sym (compared_length b name) ∙ eq_length (compared b name) (compared b text) e ∙ compared_length b text
+
+take-take : (k j : ℕ) (xs : List ℕ) → k ≤ j → take k (take j xs) ≡ take k xs
+take-take zero j xs le = refl
+take-take (suc k) zero xs le = absurd (omega arith)
+take-take (suc k) (suc j) [] le = refl
+take-take (suc k) (suc j) (x ∷ xs) le = ap (λ ys. x ∷ ys) (take-take k j xs (omega arith))
+
+decided : (x : Bool) → (x ≡ true → x ≡ false) → x ≡ false
+decided true f = f refl
+decided false f = refl
+
+same_if : (b : Bool) (xs ys : List ℕ) → is_name b xs ys ≡ true → compared b xs ≡ compared b ys
+same_if b xs ys e = (bytes_eq-Decides (compared b xs) (compared b ys)).0 e
+
+name_if : (b : Bool) (xs ys : List ℕ) → compared b xs ≡ compared b ys → is_name b xs ys ≡ true
+name_if b xs ys e = (bytes_eq-Decides (compared b xs) (compared b ys)).1 e
+
+-- a text that begins with a name, and is another one: the other begins with the name
+carried : (b : Bool) (name other bytes : List ℕ) (j : ℕ) → length name ≤ j → begins b name bytes ≡ true → is_name b other (take j bytes) ≡ true → begins b name other ≡ true
+unfolding begins
+carried b name other bytes j le starts is =
+    let k = length name in
+    let e : compared b (take k other) ≡ compared b (take k bytes) =
+    compared_take b k other ∙ ap (take k) (same_if b other (take j bytes) is) ∙ sym (compared_take b k (take j bytes)) ∙ ap (compared b) (take-take k j bytes le) in
+    name_if b name (take k other) (same_if b name (take k bytes) starts ∙ sym e)
+
+no_later : {A : Type 0} → (b : Bool) (name : List ℕ) (entries : List (List ℕ × A)) (bytes : List ℕ) (j : ℕ) → none_begins b name entries ≡ true → length name ≤ j → begins b name bytes ≡ true → named b entries (take j bytes) ≡ None
+unfolding named
+no_later b name [] bytes j none le starts = refl
+no_later b name (entry ∷ entries) bytes j none le starts =
+    let first = not_true (begins b name entry.0) (both_left _ _ none) in
+    let other : is_name b entry.0 (take j bytes) ≡ false = decided _ (λ is. absurd (true≢false (sym (carried b name entry.0 bytes j le starts is) ∙ first))) in
+    rw other (no_later b name entries bytes j (both_right _ _ none) le starts)
+
+long_enough : (b : Bool) (name bytes : List ℕ) → begins b name bytes ≡ true → length name ≤ length bytes
+unfolding begins
+long_enough b name bytes starts =
+    let e = is_name_length b name (take (length name) bytes) starts in
+    let f = length-take (length name) bytes in
+    omega (arith, e, f)
+
+other_length : (b : Bool) (name bytes : List ℕ) (j : ℕ) → length name < j → j ≤ length bytes → is_name b name (take j bytes) ≡ false
+other_length b name bytes j lt le =
+    decided _ (λ is. let e = is_name_length b name (take j bytes) is in let f = length-take-le j bytes le in absurd (omega (arith, e, f)))
+
+-- a text that is a name begins with it
+begins_if : (b : Bool) (name bytes : List ℕ) (j : ℕ) → j ≤ length bytes → is_name b name (take j bytes) ≡ true → begins b name bytes ≡ true
+unfolding begins
+begins_if b name bytes j le is =
+    let e = is_name_length b name (take j bytes) is in
+    let f = length-take-le j bytes le in
+    let g : length name ≡ j = omega (arith, e, f) in
+    rw g is
+
+not_here : {A : Type 0} → (b : Bool) (entry : List ℕ × A) (entries : List (List ℕ × A)) (bytes : List ℕ) (j : ℕ) → begins b entry.0 bytes ≡ false → j ≤ length bytes → named b (entry ∷ entries) (take j bytes) ≡ named b entries (take j bytes)
+unfolding named
+not_here b entry entries bytes j other_start le =
+    let other : is_name b entry.0 (take j bytes) ≡ false = decided _ (λ is. absurd (true≢false (sym (begins_if b entry.0 bytes j le is) ∙ other_start))) in
+    rw other refl
+
+above_none : {A : Type 0} → (b : Bool) (entry : List ℕ × A) (entries : List (List ℕ × A)) (bytes : List ℕ) (j : ℕ) → none_begins b entry.0 entries ≡ true → begins b entry.0 bytes ≡ true → length entry.0 < j → j ≤ length bytes → front (named b (entry ∷ entries)) bytes j ≡ None
+unfolding named
+above_none b entry entries bytes j none starts lt le =
+    rw (other_length b entry.0 bytes j lt le, no_later b entry.0 entries bytes j none (omega arith) starts) refl
+
+here_some : {A : Type 0} → (b : Bool) (entry : List ℕ × A) (entries : List (List ℕ × A)) (bytes : List ℕ) → begins b entry.0 bytes ≡ true → front (named b (entry ∷ entries)) bytes (length entry.0) ≡ Some (entry.1, drop (length entry.0) bytes)
+unfolding named begins
+here_some b entry entries bytes starts = rw starts refl
+
+found_here : {A : Type 0} → (b t : Bool) (entry : List ℕ × A) (entries : List (List ℕ × A)) (bytes : List ℕ) → begins b entry.0 bytes ≡ t → none_begins b entry.0 entries ≡ true → taken (named b entries) bytes ≡ found b entries bytes → taken (named b (entry ∷ entries)) bytes ≡ found b (entry ∷ entries) bytes
+unfolding found taken
+found_here b true entry entries bytes e none more =
+    rw e (greatest_is (front (named b (entry ∷ entries)) bytes) (entry.1, drop (length entry.0) bytes) (length bytes) (length entry.0) (long_enough b entry.0 bytes e) (here_some b entry entries bytes e) (λ j lt le. above_none b entry entries bytes j none e lt le))
+found_here b false entry entries bytes e none more =
+    rw e (taken_same (named b (entry ∷ entries)) (named b entries) bytes (λ j le. not_here b entry entries bytes j e le) ∙ more)
+
+empty_named : {A : Type 0} → (b : Bool) (text : List ℕ) → named {A = A} b [] text ≡ nothing text
+unfolding named nothing
+empty_named b text = refl
+
+pub taken_named : {A : Type 0} → (b : Bool) (entries : List (List ℕ × A)) (bytes : List ℕ) → apart b entries ≡ true → taken (named b entries) bytes ≡ found b entries bytes
+unfolding found
+taken_named b [] bytes e = taken_same (named b []) nothing bytes (λ j le. empty_named b (take j bytes)) ∙ taken_nothing bytes
+taken_named b (entry ∷ entries) bytes e =
+    found_here b (begins b entry.0 bytes) entry entries bytes refl (both_left _ _ e) (taken_named b entries bytes (both_right _ _ e))
+
+found_both_here : {A : Type 0} → (b t : Bool) (x : List ℕ × A) (xs ys : List (List ℕ × A)) (bytes : List ℕ) → found b (xs ++ ys) bytes ≡ or_before (found b xs bytes) (found b ys bytes) → (if t then Some (x.1, drop (length x.0) bytes) else found b (xs ++ ys) bytes) ≡ or_before (if t then Some (x.1, drop (length x.0) bytes) else found b xs bytes) (found b ys bytes)
+found_both_here b true x xs ys bytes more = refl
+found_both_here b false x xs ys bytes more = more
+
+-- the first entry of two tables
+found_both : {A : Type 0} → (b : Bool) (xs ys : List (List ℕ × A)) (bytes : List ℕ) → found b (xs ++ ys) bytes ≡ or_before (found b xs bytes) (found b ys bytes)
+unfolding found
+found_both b [] ys bytes = refl
+found_both b (x ∷ xs) ys bytes = found_both_here b (begins b x.0 bytes) x xs ys bytes (found_both b xs ys bytes)
+
+-- ---- the names
+
+months_apart : (b : Bool) → apart b long_months ≡ true
+unfolding begins
+months_apart true = refl
+months_apart false = refl
+
+short_months_apart : (b : Bool) → apart b short_months ≡ true
+unfolding begins
+short_months_apart true = refl
+short_months_apart false = refl
+
+weekdays_apart : (b : Bool) → apart b long_weekdays ≡ true
+unfolding begins
+weekdays_apart true = refl
+weekdays_apart false = refl
+
+short_weekdays_apart : (b : Bool) → apart b short_weekdays ≡ true
+unfolding begins
+short_weekdays_apart true = refl
+short_weekdays_apart false = refl
+
+periods_apart : (b : Bool) → apart b periods ≡ true
+unfolding begins
+periods_apart true = refl
+periods_apart false = refl
+
+abbrev pub long_month_by : Bool → List ℕ → Option (Month × List ℕ)
+long_month_by b bytes = or_before (found b long_first_quarter bytes) (or_before (found b long_second_quarter bytes) (or_before (found b long_third_quarter bytes) (found b long_fourth_quarter bytes)))
+
+pub taken_long_month : (b : Bool) (bytes : List ℕ) → taken (named b long_months) bytes ≡ long_month_by b bytes
+taken_long_month b bytes =
+    taken_named b long_months bytes (months_apart b)
+    ∙ found_both b long_first_quarter (long_second_quarter ++ long_third_quarter ++ long_fourth_quarter) bytes
+    ∙ ap (or_before (found b long_first_quarter bytes)) (found_both b long_second_quarter (long_third_quarter ++ long_fourth_quarter) bytes ∙ ap (or_before (found b long_second_quarter bytes)) (found_both b long_third_quarter long_fourth_quarter bytes))
+
+abbrev pub short_month_by : Bool → List ℕ → Option (Month × List ℕ)
+short_month_by b bytes = or_before (found b short_first_quarter bytes) (or_before (found b short_second_quarter bytes) (or_before (found b short_third_quarter bytes) (found b short_fourth_quarter bytes)))
+
+pub taken_short_month : (b : Bool) (bytes : List ℕ) → taken (named b short_months) bytes ≡ short_month_by b bytes
+taken_short_month b bytes =
+    taken_named b short_months bytes (short_months_apart b)
+    ∙ found_both b short_first_quarter (short_second_quarter ++ short_third_quarter ++ short_fourth_quarter) bytes
+    ∙ ap (or_before (found b short_first_quarter bytes)) (found_both b short_second_quarter (short_third_quarter ++ short_fourth_quarter) bytes ∙ ap (or_before (found b short_second_quarter bytes)) (found_both b short_third_quarter short_fourth_quarter bytes))
+
+pub taken_long_weekday : (b : Bool) (bytes : List ℕ) → taken (named b long_weekdays) bytes ≡ or_before (found b long_first_days bytes) (found b long_last_days bytes)
+taken_long_weekday b bytes = taken_named b long_weekdays bytes (weekdays_apart b) ∙ found_both b long_first_days long_last_days bytes
+
+pub taken_short_weekday : (b : Bool) (bytes : List ℕ) → taken (named b short_weekdays) bytes ≡ or_before (found b short_first_days bytes) (found b short_last_days bytes)
+taken_short_weekday b bytes = taken_named b short_weekdays bytes (short_weekdays_apart b) ∙ found_both b short_first_days short_last_days bytes
+
+pub taken_period : (upper sensitive : Bool) (bytes : List ℕ) → taken (period upper sensitive) bytes ≡ found (upper && sensitive) periods bytes
+unfolding period
+taken_period upper sensitive bytes = taken_named (upper && sensitive) periods bytes (periods_apart (upper && sensitive))
+
+-- a text shorter than a name doesn't begin with it
+pub short_text : (b : Bool) (name bytes : List ℕ) → length bytes < length name → is_name b name (take (length name) bytes) ≡ false
+short_text b name bytes lt =
+    decided _ (λ is. let e = is_name_length b name (take (length name) bytes) is in let f = length-take (length name) bytes in absurd (omega (arith, e, f)))

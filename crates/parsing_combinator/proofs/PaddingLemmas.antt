@@ -1,0 +1,163 @@
+-- Digits at the front of bytes, read with zeros behind them.
+use Rattle.std.proofs.Common.{◌≡◌, ℕ, zero, suc, ◌+◌, ◌-◌, ◌*◌, ◌%◌, ◌^◌, ◌<◌, ◌≤◌, ◌==◌, eqb, List, [], ◌∷◌, ◌++◌, length, get_or, take, drop, replicate, Some, None, true, false, Fits, w64, refl, sym, ap, ◌∙◌, arith, lit<, take-append-drop, length-append}
+use Rattle.std.specs.Char.{is_ascii_digit}
+use Rattle.std.specs.Str.Parse.{digits_value, digits_value_after}
+use Rattle.std.specs.Int.Bits.{bit_and}
+use Rattle.std.proofs.lemmas.Bool.{agree_below_at, eqb-true}
+use Rattle.std.proofs.lemmas.Bool.Decides.{nat_tests}
+use Rattle.std.proofs.lemmas.List.{length-take-le, take_all, drop_all, take-append-le, take-take, drop_more, length-drop}
+use Rattle.std.proofs.lemmas.List.Folds.{prefix_len-append}
+use Rattle.std.proofs.lemmas.Simd.{length-replicate}
+use Rattle.std.proofs.lemmas.Nat.{pow-add, and_mask}
+use Rattle.std.proofs.Math.Nat.{add-mul-mod_self_right, mod-eq_of_lt, pow-le-pow_right}
+use Rattle.parsing_combinator.specs.Pieces.{digits, digit_count, digit_run, fraction, nanoseconds_of}
+use Rattle.parsing_combinator.specs.Chunks.{chunk, padded}
+use Rattle.parsing_combinator.proofs.Decimal.{value_append, value_after, count_front}
+use Rattle.parsing_combinator.proofs.DigitChunks.{EightChunk, eight_read}
+use Rattle.parsing_combinator.proofs.FractionDigits.{Read, digits_read, none_there, short_fraction}
+
+byte_power : (n : ℕ) → 2 ^ (8 * suc n) ≡ 2 ^ (8 * n) * 256
+byte_power n = ap (λ (k : ℕ). 2 ^ k) (let e : 8 * suc n ≡ 8 * n + 8 = omega arith in e) ∙ pow-add 2 (8 * n) 8
+
+one_more : (w b p q : ℕ) → w < p → b < 256 → q ≡ p * 256 → w * 256 + b < q
+one_more w b p q h k e = omega arith
+
+pub chunk_below : (bytes : List ℕ) → ((k : ℕ) → get_or bytes k 0 < 256) → chunk bytes < 2 ^ (8 * length bytes)
+unfolding chunk
+chunk_below [] fit = lit< tt
+chunk_below (b ∷ bs) fit = one_more (chunk bs) b (2 ^ (8 * length bs)) (2 ^ (8 * suc (length bs))) (chunk_below bs (λ k. fit (suc k))) (fit 0) (byte_power (length bs))
+
+pub short_fits : (bytes : List ℕ) → length bytes ≤ 7 → ((k : ℕ) → get_or bytes k 0 < 256) → chunk bytes < 2 ^ 56
+short_fits bytes le fit = omega (arith, chunk_below bytes fit, (let most : 2 ^ (8 * length bytes) ≤ 2 ^ 56 = pow-le-pow_right {n = 2} (lit< tt) {i = 8 * length bytes} {j = 56} (omega arith) in most))
+
+drop_fit : (n : ℕ) (bytes : List ℕ) → ((k : ℕ) → get_or bytes k 0 < 256) → (k : ℕ) → get_or (drop n bytes) k 0 < 256
+drop_fit zero bytes fit k = fit k
+drop_fit (suc n) [] fit k = lit< tt
+drop_fit (suc n) (b ∷ bs) fit k = drop_fit n bs (λ j. fit (suc j)) k
+
+pub drop_fits : (n : ℕ) (bytes : List ℕ) → length bytes < 8 → ((k : ℕ) → get_or bytes k 0 < 256) → chunk (drop n bytes) < 2 ^ 56
+drop_fits n bytes lt fit = short_fits (drop n bytes) (omega (arith, length-drop n bytes)) (drop_fit n bytes fit)
+
+-- one byte more in front
+pub chunk_drop : (n : ℕ) (bytes : List ℕ) → n < length bytes → chunk (drop n bytes) ≡ chunk (drop (n + 1) bytes) * 256 + get_or bytes n 0
+unfolding chunk
+chunk_drop n bytes lt = ap chunk (drop_more bytes n 0 lt)
+
+-- the table of ones
+abbrev pub ones : List ℕ
+ones = 0 ∷ 255 ∷ 65_535 ∷ 16_777_215 ∷ 4_294_967_295 ∷ 1_099_511_627_775 ∷ 281_474_976_710_655 ∷ 72_057_594_037_927_935 ∷ 18_446_744_073_709_551_615 ∷ []
+
+pub ones_at : (n : ℕ) → n < 9 → get_or ones n 0 ≡ 2 ^ (8 * n) - 1
+ones_at n h = eqb-true _ _ (agree_below_at (λ (k : ℕ). eqb (get_or ones k 0) (2 ^ (8 * k) - 1)) (λ _. true) 9 n refl h)
+
+-- the table of zeros
+abbrev pub zeros : List ℕ
+zeros = 3_472_328_296_227_680_304 ∷ 3_472_328_296_227_680_256 ∷ 3_472_328_296_227_667_968 ∷ 3_472_328_296_224_522_240 ∷ 3_472_328_295_419_215_872 ∷ 3_472_328_089_260_785_664 ∷ 3_472_275_312_702_652_416 ∷ 3_458_764_513_820_540_928 ∷ 0 ∷ []
+
+pub zeros_at : (n : ℕ) → n < 9 → get_or zeros n 0 ≡ chunk (replicate (8 - n) 48) * 2 ^ (8 * n)
+unfolding chunk
+zeros_at n h = eqb-true _ _ (agree_below_at (λ (k : ℕ). eqb (get_or zeros k 0) (chunk (replicate (8 - k) 48) * 2 ^ (8 * k))) (λ _. true) 9 n refl h)
+
+appended : (x y b p q : ℕ) → q ≡ p * 256 → (x + y * p) * 256 + b ≡ x * 256 + b + y * q
+appended x y b p q e = rw e (omega arith)
+
+pub chunk_append : (xs ys : List ℕ) → chunk (xs ++ ys) ≡ chunk xs + chunk ys * 2 ^ (8 * length xs)
+unfolding chunk
+chunk_append [] ys = omega arith
+chunk_append (x ∷ xs) ys = rw (chunk_append xs ys) (appended (chunk xs) (chunk ys) x (2 ^ (8 * length xs)) (2 ^ (8 * suc (length xs))) (byte_power (length xs)))
+
+zeros_value : (m : ℕ) → digits_value_after 10 0 (replicate m 48) ≡ 0
+zeros_value zero = refl
+zeros_value (suc m) = zeros_value m
+
+-- the number of the digits with zeros behind them
+padded_value : (k : ℕ) (run : List ℕ) → k ≤ 8 → length run ≡ k → digits_value 10 (run ++ replicate (8 - k) 48) ≡ digits_value 10 run * 10 ^ (8 - k)
+padded_value k run few long =
+    value_append 0 run (replicate (8 - k) 48) ∙ value_after (digits_value 10 run) (replicate (8 - k) 48) ∙ rw (zeros_value (8 - k), length-replicate {A = ℕ} (8 - k) 48) (omega arith)
+
+ten_more : (v p q : ℕ) → q ≡ p * 10 → v * p * 10 ≡ v * q
+ten_more v p q e = rw e (omega arith)
+
+-- digits that are all that are there, read with zeros behind them, are a fraction
+pub fraction_of_padded : (bytes : List ℕ) (k v : ℕ) → 0 < k → k ≤ 8 → k ≤ length bytes → digits 8 (padded k bytes) ≡ Some (v, []) → digits 1 (drop k bytes) ≡ None → fraction bytes ≡ Some (v * 10, drop k bytes)
+unfolding fraction digit_run
+fraction_of_padded bytes k v some few within eight none =
+    let run = take k bytes in
+    let zeros : List ℕ = replicate (8 - k) 48 in
+    let long : length run ≡ k = length-take-le k bytes within in
+    let r : Read 8 (run ++ zeros) v [] = digits_read 8 (run ++ zeros) v [] eight in
+    let whole : take 8 (run ++ zeros) ≡ run ++ zeros = take_all 8 (run ++ zeros) (omega (arith, length-append run zeros, length-replicate {A = ℕ} (8 - k) 48)) in
+    let front : take k (run ++ zeros) ≡ run = take-append-le k run zeros (omega arith) ∙ take_all k run (omega arith) in
+    let all : digit_count run ≡ length run = rw front at (count_front (run ++ zeros) k (omega (arith, r.enough))) in
+    let left = none_there (drop k bytes) none in
+    let counted : digit_count bytes ≡ k =
+    ap digit_count (sym (take-append-drop k bytes)) ∙ prefix_len-append is_ascii_digit run (drop k bytes) ∙ (let e : eqb (digit_count run) (length run) ≡ true = grind (arith, nat_tests) in rw e (omega arith)) in
+    let value : v ≡ digits_value 10 run * 10 ^ (8 - k) = sym r.value ∙ ap (digits_value 10) whole ∙ padded_value k run few long in
+    let power : 10 ^ (9 - k) ≡ 10 ^ (8 - k) * 10 = ap (λ (n : ℕ). 10 ^ n) (let e : 9 - k ≡ 8 - k + 1 = omega arith in e) ∙ pow-add 10 (8 - k) 1 in
+    let nanos : nanoseconds_of run ≡ v * 10 = sym (short_fraction run (omega arith)) ∙ rw long (sym (ten_more (digits_value 10 run) (10 ^ (8 - k)) (10 ^ (9 - k)) power) ∙ ap (λ (n : ℕ). n * 10) (sym value)) in
+    let nonzero : (k == 0) ≡ false = grind (arith, nat_tests) in
+    rw counted (rw nonzero (rw nanos refl))
+
+take_fit : (n : ℕ) (bytes : List ℕ) → ((k : ℕ) → get_or bytes k 0 < 256) → (k : ℕ) → get_or (take n bytes) k 0 < 256
+take_fit zero bytes fit k = lit< tt
+take_fit (suc n) [] fit k = lit< tt
+take_fit (suc n) (b ∷ bs) fit zero = fit 0
+take_fit (suc n) (b ∷ bs) fit (suc k) = take_fit n bs (λ j. fit (suc j)) k
+
+append_fit : (xs ys : List ℕ) → ((k : ℕ) → get_or xs k 0 < 256) → ((k : ℕ) → get_or ys k 0 < 256) → (k : ℕ) → get_or (xs ++ ys) k 0 < 256
+append_fit [] ys fx fy k = fy k
+append_fit (x ∷ xs) ys fx fy zero = fx 0
+append_fit (x ∷ xs) ys fx fy (suc k) = append_fit xs ys (λ j. fx (suc j)) fy k
+
+zeros_fit : (m k : ℕ) → get_or (replicate m 48) k 0 < 256
+zeros_fit zero k = lit< tt
+zeros_fit (suc m) zero = lit< tt
+zeros_fit (suc m) (suc k) = zeros_fit m k
+
+masked_sum : (w x y p : ℕ) → w ≡ x + y * p → x < p → w % p ≡ x
+masked_sum w x y p e lt = rw e (add-mul-mod_self_right x y p ∙ mod-eq_of_lt lt)
+
+module _ (bytes : List ℕ) (k : ℕ) (few : k ≤ 8) (within : k ≤ length bytes) (fit : (j : ℕ) → get_or bytes j 0 < 256) where
+  long : length (take k bytes) ≡ k
+  long = length-take-le k bytes within
+
+  pub padded_long : length (padded k bytes) ≡ 8
+  padded_long = omega (arith, length-append (take k bytes) (replicate (8 - k) 48), length-replicate {A = ℕ} (8 - k) 48, long)
+
+  pub padded_fit : (j : ℕ) → get_or (padded k bytes) j 0 < 256
+  padded_fit = append_fit (take k bytes) (replicate (8 - k) 48) (take_fit k bytes fit) (zeros_fit (8 - k))
+
+  pub padded_whole : take 8 (padded k bytes) ≡ padded k bytes
+  padded_whole = take_all 8 (padded k bytes) (omega (arith, padded_long))
+
+  pub padded_rest : drop 8 (padded k bytes) ≡ []
+  padded_rest = drop_all 8 (padded k bytes) (omega (arith, padded_long))
+
+  sum : chunk (padded k bytes) ≡ chunk (take k bytes) + chunk (replicate (8 - k) 48) * 2 ^ (8 * k)
+  sum = chunk_append (take k bytes) (replicate (8 - k) 48) ∙ rw long refl
+
+  -- the first bytes of a chunk, and zeros behind them
+  pub padded_is : bit_and (chunk (take 8 bytes)) (2 ^ (8 * k) - 1) + chunk (replicate (8 - k) 48) * 2 ^ (8 * k) ≡ chunk (padded k bytes)
+  padded_is =
+      let front : take k (take 8 bytes) ≡ take k bytes = take-take k 8 bytes few in
+      let parts : chunk (take 8 bytes) ≡ chunk (take k bytes) + chunk (drop k (take 8 bytes)) * 2 ^ (8 * k) =
+      ap chunk (sym (take-append-drop k (take 8 bytes))) ∙ chunk_append (take k (take 8 bytes)) (drop k (take 8 bytes)) ∙ rw front (rw long refl) in
+      let below : chunk (take k bytes) < 2 ^ (8 * k) = rw long at (chunk_below (take k bytes) (take_fit k bytes fit)) in
+      let mask : bit_and (chunk (take 8 bytes)) (2 ^ (8 * k) - 1) ≡ chunk (take k bytes) = and_mask (chunk (take 8 bytes)) (8 * k) ∙ masked_sum (chunk (take 8 bytes)) (chunk (take k bytes)) (chunk (drop k (take 8 bytes))) (2 ^ (8 * k)) parts below in
+      rw mask (sym sum)
+
+  below : chunk (padded k bytes) < 2 ^ 64
+  below = rw padded_long at (chunk_below (padded k bytes) padded_fit)
+
+  pub padded_below : Fits w64 (chunk (padded k bytes))
+  padded_below = record { fits = below }
+
+  -- what the test of the first bytes with zeros behind them says
+  pub record PaddedRead : Type 0 where
+    pub eight : EightChunk (padded k bytes) (chunk (padded k bytes))
+    pub rest : drop 8 (padded k bytes) ≡ []
+
+  pub padded_read : bit_and (chunk (padded k bytes)) 17_361_641_481_138_401_520 ≡ 3_472_328_296_227_680_304 → bit_and ((chunk (padded k bytes) + 434_041_037_028_460_038) % 2 ^ 64) 17_361_641_481_138_401_520 ≡ 3_472_328_296_227_680_304 → PaddedRead
+  padded_read here more =
+      let r = eight_read (padded k bytes) (omega (arith, padded_long)) padded_fit (rw padded_whole here) (rw padded_whole more) in
+      record { eight = rw padded_whole at r; rest = padded_rest }

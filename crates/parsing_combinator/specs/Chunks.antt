@@ -1,0 +1,49 @@
+-- Eight bytes as one number, the first byte the lowest.
+use Rattle.std.specs.Prelude.{◌≡◌, ℕ, ◌+◌, ◌-◌, ◌*◌, ◌/◌, ◌<◌, ◌≤◌, List, [], ◌∷◌, ◌++◌, length, take, drop, replicate, Some, None, bit_and, bit_xor}
+use Rattle.std.specs.Int.{w64, trailing_zeros}
+use Rattle.byte_names.specs.Bytes.{digit_zero, hyphen, colon}
+use Rattle.parsing_combinator.specs.Pieces.{digits, digit_count, byte}
+
+-- the number of these bytes
+unfoldable pub chunk : List ℕ → ℕ
+chunk [] = 0
+chunk (b ∷ bs) = chunk bs * 256 + b
+
+-- in each byte ten times that byte and the next one
+abbrev pub paired : ℕ → ℕ
+paired digits = digits * 10 + digits / 256
+
+-- the first bytes and then the digit zero, eight in all
+abbrev pub padded : ℕ → List ℕ → List ℕ
+padded count bytes = take count bytes ++ replicate (8 - count) digit_zero
+
+-- how many of eight bytes come before the first that has not the high half of a digit
+unfoldable pub likely_digits : ℕ → ℕ
+likely_digits number =
+    trailing_zeros w64 (bit_xor (bit_and number 17_361_641_481_138_401_520) 3_472_328_296_227_680_304) / 8
+
+-- the number of so many digits at the front, with the digit zero behind them
+pub record IsDigitChunk (bytes : List ℕ) (number count : ℕ) : Type 0 where
+  pub some : 0 < count
+  pub few : count ≤ 8
+  pub within : count ≤ length bytes
+  pub number_is : number ≡ chunk (padded count bytes)
+  pub digits_are : 8 ≤ digit_count (padded count bytes)
+  pub ends : count < 8 → digits 1 (drop count bytes) ≡ None
+
+-- `1985-04-`
+pub record IsYearMonth (bytes : List ℕ) (year month : ℕ) (rest : List ℕ) : Type 0 where
+  pub year_digits : digits 4 bytes ≡ Some (year, drop 4 bytes)
+  pub first_hyphen : byte hyphen (drop 4 bytes) ≡ Some (tt, drop 5 bytes)
+  pub month_digits : digits 2 (drop 5 bytes) ≡ Some (month, drop 7 bytes)
+  pub second_hyphen : byte hyphen (drop 7 bytes) ≡ Some (tt, drop 8 bytes)
+  pub rest_is : drop 8 bytes ≡ rest
+
+-- `23:20:50`
+pub record IsClock (bytes : List ℕ) (hour minute second : ℕ) (rest : List ℕ) : Type 0 where
+  pub hour_digits : digits 2 bytes ≡ Some (hour, drop 2 bytes)
+  pub first_colon : byte colon (drop 2 bytes) ≡ Some (tt, drop 3 bytes)
+  pub minute_digits : digits 2 (drop 3 bytes) ≡ Some (minute, drop 5 bytes)
+  pub second_colon : byte colon (drop 5 bytes) ≡ Some (tt, drop 6 bytes)
+  pub second_digits : digits 2 (drop 6 bytes) ≡ Some (second, drop 8 bytes)
+  pub rest_is : drop 8 bytes ≡ rest

@@ -1,0 +1,256 @@
+//! Shapes of eight bytes, each read at once.
+//!
+//! The bytes stand in one number, the first one lowest: one test takes all of them, as one product then takes the
+//! tens of all digits. A text of another shape may be `None` here and still be read byte by byte.
+ghost use Rattle.std.specs.Prelude.{◌≡◌, ◌≤◌, ◌<◌, ◌+◌, ◌-◌, ◌*◌, ◌%◌, ◌^◌, ◌↔◌, IfSome, IfNone, Some, IsTrue, [], take, drop, length, replicate, bit_and};
+ghost use Rattle.byte_names.specs.Bytes.{digit_zero};
+ghost use Rattle.parsing_combinator.specs.Pieces as Pieces;
+ghost use Rattle.parsing_combinator.specs.Chunks as Chunks;
+
+use crate::cut::one_digit;
+
+// Eight bytes as one number, the first one lowest.
+type Chunk = u64;
+
+// The first eight bytes.
+#[inline(always)]
+fn first_chunk(bytes: &[u8]) -> Option<(Chunk, &[u8])>
+    ensures enough { IfSome result (λ x. 8 ≤ length bytes.now) }
+    ensures few { IfNone result (length bytes.now < 8) }
+    ensures chunk { IfSome result (λ x. x.0 ≡ Chunks.chunk (take 8 bytes.now)) }
+    ensures rest { IfSome result (λ x. x.1.now ≡ drop 8 bytes.now) }
+{
+    let [a, b, c, d, e, f, g, h, rest @ ..] = bytes else {
+        return None;
+    };
+    Some((u64::from_le_bytes([*a, *b, *c, *d, *e, *f, *g, *h]), rest))
+}
+
+// What the bytes have above those of the pattern, where each is as there under the mask, also with what is added.
+#[inline(always)]
+fn fits(chunk: Chunk, mask: Chunk, pattern: Chunk, added: Chunk) -> Option<Chunk>
+    requires { bit_and pattern mask ≡ pattern }
+    ensures low { IfSome result (λ x. pattern ≤ chunk) }
+    ensures here { IfSome result (λ x. bit_and chunk mask ≡ pattern) }
+    ensures more { IfSome result (λ x. bit_and ((chunk + added) % 2 ^ 64) mask ≡ pattern) }
+    ensures above { IfSome result (λ x. x ≡ chunk - pattern) }
+{
+    let above = chunk.wrapping_sub(pattern);
+    if (above | above.wrapping_add(added)) & mask != 0 {
+        return None;
+    }
+    Some(above)
+}
+
+// In each byte ten times that byte and the next one.
+#[inline(always)]
+fn paired(digits: Chunk) -> Chunk
+    requires { digits ≤ 651_061_555_542_690_057 }
+    ensures { result ≡ Chunks.paired digits }
+{
+    digits * 10 + digits / 256
+}
+
+/// Four digits, a dash, two digits and a dash, as `1985-04-`, where all of them are there: the two numbers.
+#[inline(always)]
+pub fn year_month(bytes: &[u8]) -> Option<((u16, u8), &[u8])>
+    ensures { IfSome result (λ x. Chunks.IsYearMonth bytes.now x.0.0 x.0.1 x.1.now) }
+{
+    let (chunk, rest) = first_chunk(bytes)?;
+    let pattern = 0x2d30_302d_3030_3030;
+    let digits = fits(chunk, 0xfff0_f0ff_f0f0_f0f0, pattern, 0x0006_0600_0606_0606)?;
+    let pairs = paired(digits);
+    let year = pairs % 256 * 100 + pairs / 0x1_0000 % 256;
+    let month = pairs / 0x100_0000_0000 % 256;
+    Some(((year as u16, month as u8), rest))
+}
+
+/// Three times two digits with colons between them, as `23:20:50`, where all of them are there: the three numbers.
+#[inline(always)]
+pub fn clock(bytes: &[u8]) -> Option<((u8, u8, u8), &[u8])>
+    ensures { IfSome result (λ x. Chunks.IsClock bytes.now x.0.0 x.0.1 x.0.2 x.1.now) }
+{
+    let (chunk, rest) = first_chunk(bytes)?;
+    let pattern = 0x3030_3a30_303a_3030;
+    let digits = fits(chunk, 0xf0f0_fff0_f0ff_f0f0, pattern, 0x0606_0006_0600_0606)?;
+    let pairs = paired(digits);
+    let hour = pairs % 256;
+    let minute = pairs / 0x100_0000 % 256;
+    let second = pairs / 0x1_0000_0000_0000 % 256;
+    Some(((hour as u8, minute as u8, second as u8), rest))
+}
+
+// Eight digits, where all of them are there.
+#[inline(always)]
+fn eight_digits(bytes: &[u8]) -> Option<(u32, &[u8])>
+    ensures digits { IfSome result (λ x. Pieces.digits 8 bytes.now ≡ Some (x.0, x.1.now)) }
+    ensures bound { IfSome result (λ x. x.0 < 100_000_000) }
+{
+    let (chunk, rest) = first_chunk(bytes)?;
+    let pattern = 0x3030_3030_3030_3030;
+    let digits = fits(chunk, 0xf0f0_f0f0_f0f0_f0f0, pattern, 0x0606_0606_0606_0606)?;
+    let pairs = paired(digits);
+    let high = pairs % 256 * 100 + pairs / 0x1_0000 % 256;
+    let low = pairs / 0x1_0000_0000 % 256 * 100 + pairs / 0x1_0000_0000_0000 % 256;
+    Some(((high * 10_000 + low) as u32, rest))
+}
+
+// The first eight bytes, or all of them where they are fewer.
+#[inline(always)]
+fn chunk_of(bytes: &[u8]) -> Chunk
+    ensures { result ≡ Chunks.chunk (take 8 bytes.now) }
+{
+    match first_chunk(bytes) {
+        Some((chunk, _)) => chunk,
+        None => short_chunk(bytes),
+    }
+}
+
+// All bytes, fewer than eight.
+#[inline(always)]
+fn short_chunk(bytes: &[u8]) -> Chunk
+    requires { length bytes.now < 8 }
+    ensures { result ≡ Chunks.chunk bytes.now }
+{
+    let mut chunk = 0;
+    let mut at = bytes.len();
+    while at > 0 {
+        at -= 1;
+        chunk = chunk * 256 + u64::from(bytes[at]);
+    }
+    chunk
+}
+
+// How many of the eight bytes come before the first that has not the high half of a digit.
+#[inline(always)]
+#[tactic(auto, using(std::proofs::lemmas::Nat::trailing_le), unfolding(crate::specs::Chunks::likely_digits))]
+fn likely_digits(chunk: Chunk) -> usize
+    ensures value { result ≡ Chunks.likely_digits chunk }
+    ensures few { result ≤ 8 }
+{
+    let others = (chunk & 0xf0f0_f0f0_f0f0_f0f0) ^ 0x3030_3030_3030_3030;
+    others.trailing_zeros() as usize / 8
+}
+
+// Ones in the first bytes, for each number of them.
+static FIRST_BYTES: [Chunk; 9] = [
+    0,
+    0xff,
+    0xffff,
+    0xff_ffff,
+    0xffff_ffff,
+    0xff_ffff_ffff,
+    0xffff_ffff_ffff,
+    0xff_ffff_ffff_ffff,
+    0xffff_ffff_ffff_ffff,
+];
+
+// The digit zero in all bytes but the first, for each number of these.
+static ZEROS_BEHIND: [Chunk; 9] = [
+    0x3030_3030_3030_3030,
+    0x3030_3030_3030_3000,
+    0x3030_3030_3030_0000,
+    0x3030_3030_3000_0000,
+    0x3030_3030_0000_0000,
+    0x3030_3000_0000_0000,
+    0x3030_0000_0000_0000,
+    0x3000_0000_0000_0000,
+    0,
+];
+
+#[inline(always)]
+fn first_bytes(count: usize) -> Chunk
+    requires { count ≤ 8 }
+    ensures { result ≡ 2 ^ (8 * count) - 1 }
+{
+    FIRST_BYTES[count]
+}
+
+#[inline(always)]
+fn zeros_behind(count: usize) -> Chunk
+    requires { count ≤ 8 }
+    ensures { result ≡ Chunks.chunk (replicate (8 - count) digit_zero) * 2 ^ (8 * count) }
+{
+    ZEROS_BEHIND[count]
+}
+
+// The first bytes as a chunk, with the digit zero behind them.
+#[inline(always)]
+fn padded_chunk(bytes: &[u8], chunk: Chunk, count: usize) -> Chunk
+    requires chunk { chunk ≡ Chunks.chunk (take 8 bytes.now) }
+    requires few { count ≤ 8 }
+    requires within { count ≤ length bytes.now }
+    ensures { result ≡ Chunks.chunk (Chunks.padded count bytes.now) }
+{
+    (chunk & first_bytes(count)) + zeros_behind(count)
+}
+
+// The number of the first bytes with zeros behind them, eight digits in all, where each is a digit.
+#[inline(always)]
+fn padded_digits(bytes: &[u8], chunk: Chunk, count: usize) -> Option<u32>
+    requires chunk { chunk ≡ Chunks.chunk (take 8 bytes.now) }
+    requires few { count ≤ 8 }
+    requires within { count ≤ length bytes.now }
+    ensures digits { IfSome result
+        (λ v. Pieces.digits 8 (Chunks.padded count bytes.now) ≡ Some (v, [])) }
+    ensures bound { IfSome result (λ v. v < 100_000_000) }
+{
+    let chunk = padded_chunk(bytes, chunk, count);
+    let pattern = 0x3030_3030_3030_3030;
+    let digits = fits(chunk, 0xf0f0_f0f0_f0f0_f0f0, pattern, 0x0606_0606_0606_0606)?;
+    let pairs = paired(digits);
+    let high = pairs % 256 * 100 + pairs / 0x1_0000 % 256;
+    let low = pairs / 0x1_0000_0000 % 256 * 100 + pairs / 0x1_0000_0000_0000 % 256;
+    Some((high * 10_000 + low) as u32)
+}
+
+/// At most eight digits at the front, in one number with the digit zero behind them, the first one lowest, and how many
+/// they are: all that are there, where they are fewer than eight.
+#[inline(always)]
+pub fn digit_chunk(bytes: &[u8]) -> Option<(u64, usize)>
+    ensures { IfSome result (λ x. Chunks.IsDigitChunk bytes.now x.0 x.1) }
+{
+    let chunk = chunk_of(bytes);
+    let count = likely_digits(chunk);
+    if count == 0 {
+        return None;
+    }
+    // Each byte has the high half of a digit.
+    let digits = padded_chunk(bytes, chunk, count);
+    let sum = digits.wrapping_add(0x0606_0606_0606_0606);
+    if sum & 0xf0f0_f0f0_f0f0_f0f0 != 0x3030_3030_3030_3030 {
+        return None;
+    }
+    Some((digits, count))
+}
+
+// The nanoseconds of a fraction of at most eight digits, where they are all that are there.
+#[inline(always)]
+pub(crate) fn short_fraction(bytes: &[u8]) -> Option<(u32, &[u8])>
+    ensures fraction { IfSome result (λ x. Pieces.fraction bytes.now ≡ Some (x.0, x.1.now)) }
+    ensures bound { IfSome result (λ x. x.0 < 1_000_000_000) }
+{
+    let chunk = chunk_of(bytes);
+    let count = likely_digits(chunk);
+    if count == 0 || count > bytes.len() {
+        return None;
+    }
+    let value = padded_digits(bytes, chunk, count)?;
+    let rest = &bytes[count..];
+    match one_digit(rest) {
+        None => Some((value * 10, rest)),
+        Some(_) => None,
+    }
+}
+
+/// Nine digits, where all of them are there.
+#[tactic(auto, using(crate::proofs::Fixed::digits_nine))]
+#[inline(always)]
+pub fn nine_digits(bytes: &[u8]) -> Option<(u32, &[u8])>
+    ensures digits { IfSome result (λ x. Pieces.digits 9 bytes.now ≡ Some (x.0, x.1.now)) }
+    ensures bound { IfSome result (λ x. x.0 < 1_000_000_000) }
+{
+    let (high, rest) = eight_digits(bytes)?;
+    let (low, rest) = one_digit(rest)?;
+    Some((high * 10 + u32::from(low), rest))
+}

@@ -1,0 +1,91 @@
+//! Runs of digits.
+ghost use Rattle.std.specs.Prelude.{◌≡◌, ◌≤◌, ◌<◌, ◌^◌, IfSome, length};
+ghost use Rattle.std.specs.Str.Parse.{digits_value};
+ghost use Rattle.parsing_combinator.specs.Pieces as Pieces;
+ghost use Rattle.parsing_combinator.specs.Shape as Shape;
+
+use crate::fraction;
+
+// How many digits the bytes begin with.
+#[inline(always)]
+#[tactic(auto, using(crate::proofs::Decimal::digit_count_within))]
+pub(crate) fn leading_digits(bytes: &[u8]) -> usize
+    ensures count { result ≡ Pieces.digit_count bytes.now }
+    ensures within { result ≤ length bytes.now }
+{
+    bytes.iter().take_while(|b| b.is_ascii_digit()).count()
+}
+
+// The number that at most nine digits write.
+#[inline(always)]
+fn number(front: &[u8]) -> u32
+    requires short { length front.now ≤ 9 }
+    requires all { Pieces.digit_count front.now ≡ length front.now }
+    ensures value { result ≡ digits_value 10 front.now }
+    ensures bound { result < 10 ^ length front.now }
+{
+    let mut value = 0;
+    for b in front {
+        value = value * 10 + u32::from(*b - b'0');
+    }
+    value
+}
+
+/// `n` to `m` digits, as many as there are.
+#[tactic(auto, using(crate::proofs::Longest::taken_digits, crate::proofs::Longest::taken_bound, crate::proofs::Decimal::count_front))]
+pub fn digits_between(n: usize, m: usize, bytes: &[u8]) -> Option<(u32, &[u8])>
+    requires ordered { n ≤ m }
+    requires fits { m ≤ 9 }
+    ensures taken { Pieces.cut_view result ≡ Shape.taken (Shape.digits_between n m) bytes.now }
+    ensures bound { IfSome result (λ x. x.0 < 10 ^ m) }
+{
+    let count = leading_digits(bytes);
+    if count < n {
+        return None;
+    }
+    let (front, rest) = bytes.split_at(count.min(m));
+    Some((number(front), rest))
+}
+
+// How many spaces the bytes begin with.
+#[inline(always)]
+#[tactic(auto, using(crate::proofs::SpaceLemmas::space_count_within))]
+fn leading_spaces(bytes: &[u8]) -> usize
+    ensures count { result ≡ Shape.space_count bytes.now }
+    ensures within { result ≤ length bytes.now }
+{
+    bytes.iter().take_while(|b| **b == b' ').count()
+}
+
+/// Fewer than `n` spaces and then digits, `n` to `m` bytes in all.
+#[tactic(auto, using(crate::proofs::SpaceLemmas::taken_spaced, crate::proofs::Longest::below_power))]
+pub fn spaced_between(n: usize, m: usize, bytes: &[u8]) -> Option<(u32, &[u8])>
+    requires ordered { n ≤ m }
+    requires fits { m ≤ 9 }
+    ensures taken { Pieces.cut_view result ≡ Shape.taken (Shape.spaced_between n m) bytes.now }
+    ensures bound { IfSome result (λ x. x.0 < 10 ^ m) }
+{
+    let spaces = leading_spaces(bytes);
+    if spaces >= n {
+        return None;
+    }
+    let (_, rest) = bytes.split_at(spaces);
+    digits_between(n - spaces, m - spaces, rest)
+}
+
+/// `n` to `m` digits, as many as there are, as a fraction of a second in nanoseconds.
+#[tactic(auto, using(crate::proofs::Longest::taken_digits, crate::proofs::Decimal::count_front, crate::proofs::Longest::whole_fraction))]
+pub fn fraction_between(n: usize, m: usize, bytes: &[u8]) -> Option<(u32, &[u8])>
+    requires some { 1 ≤ n }
+    requires ordered { n ≤ m }
+    ensures taken { Pieces.cut_view result ≡ Shape.taken (Shape.fraction_between n m) bytes.now }
+    ensures bound { IfSome result (λ x. x.0 < 1_000_000_000) }
+{
+    let count = leading_digits(bytes);
+    if count < n {
+        return None;
+    }
+    let (front, rest) = bytes.split_at(count.min(m));
+    let (value, _) = fraction(front)?;
+    Some((value, rest))
+}

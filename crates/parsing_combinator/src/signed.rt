@@ -1,0 +1,115 @@
+//! Numbers behind a sign: whether it is a minus, and the number.
+ghost use Rattle.std.specs.Prelude.{◌≡◌, ◌≤◌, ◌<◌, ◌^◌, IfSome, if◌then◌else◌};
+ghost use Rattle.parsing_combinator.specs.Pieces as Pieces;
+ghost use Rattle.parsing_combinator.specs.Shape as Shape;
+ghost use Rattle.parsing_combinator.specs.Numbers as Numbers;
+
+use crate::padding::{padded, padded_four, padded_two};
+use crate::sign;
+use crate::wide::wide_digits;
+use description_date_modifiers::Padding;
+
+// The digits of a year behind its sign.
+#[tactic(auto, using(crate::proofs::Components::taken_padded))]
+fn signed_year(padding: Padding, extended: bool, bytes: &[u8]) -> Option<(u32, &[u8])>
+    ensures taken { Pieces.cut_view result
+        ≡ Shape.taken (Numbers.padded padding 4 (if extended then 6 else 4)) bytes.now }
+    ensures bound { IfSome result (λ x. x.0 < 1_000_000) }
+{
+    padded(padding, 4, if extended { 6 } else { 4 }, bytes)
+}
+
+/// A year: four digits, and where it is extended up to six behind a sign.
+#[inline(always)]
+#[tactic(auto, using(crate::proofs::Components::taken_year))]
+pub fn year(
+    padding: Padding,
+    mandatory: bool,
+    extended: bool,
+    bytes: &[u8],
+) -> Option<((bool, u32), &[u8])>
+    ensures taken { Pieces.cut_view result
+        ≡ Shape.taken (Numbers.year padding mandatory extended) bytes.now }
+    ensures bound { IfSome result (λ x. x.0.1 < 1_000_000) }
+{
+    match sign(bytes) {
+        Some((mark, rest)) => {
+            let (number, rest) = signed_year(padding, extended, rest)?;
+            Some(((mark == b'-', number), rest))
+        }
+        None if mandatory => None,
+        None => {
+            let (number, rest) = padded_four(padding, bytes)?;
+            Some(((false, number), rest))
+        }
+    }
+}
+
+/// A century: behind a sign two digits, and where it is extended up to four; without one at most
+/// two.
+#[tactic(auto, using(crate::proofs::Components::taken_century))]
+pub fn century(
+    padding: Padding,
+    mandatory: bool,
+    extended: bool,
+    bytes: &[u8],
+) -> Option<((bool, u32), &[u8])>
+    ensures taken { Pieces.cut_view result
+        ≡ Shape.taken (Numbers.century padding mandatory extended) bytes.now }
+    ensures bound { IfSome result (λ x. x.0.1 < 10_000) }
+{
+    match sign(bytes) {
+        Some((mark, rest)) => {
+            let (number, rest) = padded(padding, 2, if extended { 4 } else { 2 }, rest)?;
+            Some(((mark == b'-', number), rest))
+        }
+        None if mandatory => None,
+        None => {
+            let (number, rest) = padded(padding, 1, 2, bytes)?;
+            Some(((false, number), rest))
+        }
+    }
+}
+
+/// The hours of an offset, two digits wide, with a sign before them, or without one where it is not mandatory.
+#[inline(always)]
+#[tactic(auto, using(crate::proofs::Components::taken_offset_hour))]
+pub fn offset_hour(padding: Padding, mandatory: bool, bytes: &[u8]) -> Option<((bool, u8), &[u8])>
+    ensures taken { Pieces.cut_view result
+        ≡ Shape.taken (Numbers.offset_hour padding mandatory) bytes.now }
+    ensures bound { IfSome result (λ x. x.0.1 < 100) }
+{
+    match sign(bytes) {
+        Some((mark, rest)) => {
+            let (number, rest) = padded_two(padding, rest)?;
+            Some(((mark == b'-', number), rest))
+        }
+        None if mandatory => None,
+        None => {
+            let (number, rest) = padded_two(padding, bytes)?;
+            Some(((false, number), rest))
+        }
+    }
+}
+
+/// A Unix timestamp of at most so many digits, with a sign before them, or without one where it is not mandatory.
+#[tactic(auto, using(crate::proofs::Components::taken_timestamp))]
+pub fn timestamp(mandatory: bool, most: usize, bytes: &[u8]) -> Option<((bool, u128), &[u8])>
+    requires some { 1 ≤ most }
+    requires fits { most ≤ 23 }
+    ensures taken { Pieces.cut_view result
+        ≡ Shape.taken (Numbers.timestamp mandatory most) bytes.now }
+    ensures bound { IfSome result (λ x. x.0.1 < 10 ^ most) }
+{
+    match sign(bytes) {
+        Some((mark, rest)) => {
+            let (number, rest) = wide_digits(most, rest)?;
+            Some(((mark == b'-', number), rest))
+        }
+        None if mandatory => None,
+        None => {
+            let (number, rest) = wide_digits(most, bytes)?;
+            Some(((false, number), rest))
+        }
+    }
+}

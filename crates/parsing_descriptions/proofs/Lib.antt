@@ -1,4 +1,0 @@
-pub mod Alike
-pub mod Items
-pub mod InTurn
-pub mod Letters

@@ -1,5 +1,0 @@
-use Rattle.parsing_descriptions.proofs.Alike.{read_by_both}
-use Rattle.parsing_descriptions.proofs.laws.two_versions.Goals as goal
-
-pub returns : goal.returns
-returns c = read_by_both c.two_versions.ensures.same

@@ -1,4 +1,0 @@
-//! What descriptions beside one another read.
-#![tactic(auto)]
-
-pub mod laws;

@@ -1,0 +1,4 @@
+pub mod TwoFormats
+pub mod TwoRoads
+pub mod Joined
+pub mod TwoVersions

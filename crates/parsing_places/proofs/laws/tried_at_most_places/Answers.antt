@@ -1,8 +1,0 @@
-use Rattle.parsing_places.proofs.Tried.{tree_tried, in_turn_tried}
-use Rattle.parsing_places.proofs.laws.tried_at_most_places.Goals as goal
-
-pub returns-clause-items : goal.returns-clause-items
-returns-clause-items c = in_turn_tried
-
-pub returns-clause-tree : goal.returns-clause-tree
-returns-clause-tree c = tree_tried

@@ -1,3 +1,0 @@
-pub mod MonthEnd
-pub mod Resolution
-pub mod StandIn

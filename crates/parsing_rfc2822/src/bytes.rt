@@ -1,0 +1,67 @@
+//! Functions that pass bytes at the front, where they are there.
+ghost use Rattle.std.specs.Prelude.{◌≡◌, ◌<◌, ◌≤◌, ◌==◌, IfSome, length, option_map};
+ghost use Rattle.std.specs.List.{prefix_len};
+ghost use Rattle.parsing_rfc2822.specs.Skips as Skips;
+ghost use Rattle.parsing_rfc2822.specs.WhiteSpace as White;
+
+/// The byte `wanted`.
+#[tactic(auto, unfolding(crate::specs::Skips::byte_where))]
+#[inline(always)]
+pub(crate) fn byte(wanted: u8, bytes: &[u8]) -> Option<&[u8]>
+    ensures skips { option_map (λ r. r.now) result ≡ Skips.byte_where (λ c. c == wanted) bytes.now }
+    ensures shorter { IfSome result (λ r. length r.now < length bytes.now) }
+{
+    match bytes {
+        [b, rest @ ..] if *b == wanted => Some(rest),
+        _ => None,
+    }
+}
+
+// How many bytes `wanted` the bytes begin with.
+#[inline(always)]
+#[tactic(auto, using(crate::proofs::Many::count_within))]
+fn leading(wanted: u8, bytes: &[u8]) -> usize
+    ensures count { result ≡ prefix_len (λ c. c == wanted) bytes.now }
+    ensures within { result ≤ length bytes.now }
+{
+    bytes.iter().take_while(|b| **b == wanted).count()
+}
+
+// How many spaces and tabs the bytes begin with.
+#[inline(always)]
+#[tactic(auto, using(crate::proofs::Many::count_within))]
+fn leading_blanks(bytes: &[u8]) -> usize
+    ensures count { result ≡ prefix_len White.is_blank bytes.now }
+    ensures within { result ≤ length bytes.now }
+{
+    bytes
+        .iter()
+        .take_while(|b| **b == b' ' || **b == b'\t')
+        .count()
+}
+
+/// All bytes `wanted` that are there.
+#[tactic(auto, unfolding(crate::specs::Skips::past_all))]
+#[inline(always)]
+pub(crate) fn past_all(wanted: u8, bytes: &[u8]) -> &[u8]
+    ensures skips { result.now ≡ Skips.past_all (λ c. c == wanted) bytes.now }
+    ensures not_longer { length result.now ≤ length bytes.now }
+{
+    let (_, rest) = bytes.split_at(leading(wanted, bytes));
+    rest
+}
+
+/// All spaces and tabs that are there, at least one.
+#[tactic(auto, unfolding(crate::specs::Skips::past_some))]
+#[inline(always)]
+pub(crate) fn blanks(bytes: &[u8]) -> Option<&[u8]>
+    ensures skips { option_map (λ r. r.now) result ≡ Skips.past_some White.is_blank bytes.now }
+    ensures shorter { IfSome result (λ r. length r.now < length bytes.now) }
+{
+    let n = leading_blanks(bytes);
+    if n == 0 {
+        return None;
+    }
+    let (_, rest) = bytes.split_at(n);
+    Some(rest)
+}

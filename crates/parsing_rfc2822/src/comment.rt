@@ -1,0 +1,233 @@
+//! Comments, and the white space between them.
+ghost use Rattle.byte_names.specs.Bytes.{space};
+ghost use Rattle.std.specs.Prelude.{◌↔◌, IsSome, slice_index, true, ◌≡◌, ◌<◌, ◌≤◌, IfSome, Some, None, false, length, option_map};
+ghost use Rattle.parsing_rfc2822.specs.Skips as Skips;
+ghost use Rattle.parsing_rfc2822.specs.WhiteSpace as White;
+
+use crate::bytes::{byte, past_all};
+use crate::folding::folding_white_space;
+
+#[tactic(auto, unfolding(crate::specs::WhiteSpace::is_comment_text))]
+fn is_comment_text(byte: u8) -> bool
+    ensures { result ≡ White.is_comment_text byte }
+{
+    matches!(byte, 1..=8 | 11..=12 | 14..=31 | 33..=39 | 42..=91 | 93..=127)
+}
+
+#[tactic(auto, unfolding(crate::specs::WhiteSpace::is_quotable))]
+fn is_quotable(byte: u8) -> bool
+    ensures { result ≡ White.is_quotable byte }
+{
+    matches!(byte, 1..=9 | 11..=12 | 14..=127)
+}
+
+#[tactic(auto, unfolding(crate::specs::WhiteSpace::is_obsolete_text))]
+fn is_obsolete_text(byte: u8) -> bool
+    ensures { result ≡ White.is_obsolete_text byte }
+{
+    byte != b')' && (byte == 0 || is_quotable(byte))
+}
+
+#[tactic(auto, unfolding(crate::specs::Skips::byte_where))]
+fn text(bytes: &[u8]) -> Option<&[u8]>
+    ensures skips { option_map (λ r. r.now) result
+        ≡ Skips.byte_where White.is_comment_text bytes.now }
+    ensures shorter { IfSome result (λ r. length r.now < length bytes.now) }
+{
+    match bytes {
+        [b, rest @ ..] if is_comment_text(*b) => Some(rest),
+        _ => None,
+    }
+}
+
+#[tactic(auto, unfolding(crate::specs::Skips::byte_where))]
+fn quotable(bytes: &[u8]) -> Option<&[u8]>
+    ensures skips { option_map (λ r. r.now) result ≡ Skips.byte_where White.is_quotable bytes.now }
+    ensures shorter { IfSome result (λ r. length r.now < length bytes.now) }
+{
+    match bytes {
+        [b, rest @ ..] if is_quotable(*b) => Some(rest),
+        _ => None,
+    }
+}
+
+#[tactic(auto, unfolding(crate::specs::Skips::byte_where))]
+fn obsolete_text(bytes: &[u8]) -> Option<&[u8]>
+    ensures skips { option_map (λ r. r.now) result
+        ≡ Skips.byte_where White.is_obsolete_text bytes.now }
+    ensures shorter { IfSome result (λ r. length r.now < length bytes.now) }
+{
+    match bytes {
+        [b, rest @ ..] if is_obsolete_text(*b) => Some(rest),
+        _ => None,
+    }
+}
+
+// Line feeds, then carriage returns, none of them due.
+#[tactic(auto, unfolding(crate::specs::WhiteSpace::past_line_ends))]
+fn past_line_ends(bytes: &[u8]) -> &[u8]
+    ensures skips { result.now ≡ White.past_line_ends bytes.now }
+    ensures not_longer { length result.now ≤ length bytes.now }
+{
+    past_all(b'\r', past_all(b'\n', bytes))
+}
+
+#[tactic(auto, unfolding(crate::specs::WhiteSpace::obsolete_byte))]
+fn obsolete_byte(bytes: &[u8]) -> Option<&[u8]>
+    ensures skips { option_map (λ r. r.now) result ≡ White.obsolete_byte bytes.now }
+    ensures shorter { IfSome result (λ r. length r.now < length bytes.now) }
+{
+    let rest = obsolete_text(bytes)?;
+    Some(past_line_ends(rest))
+}
+
+// The obsolete text behind a backslash: it may be empty.
+#[tactic(auto, using(crate::proofs::WhiteSpaceLemmas::obsolete_step, crate::proofs::WhiteSpaceLemmas::obsolete_end), unfolding(crate::specs::WhiteSpace::past_obsolete_text))]
+fn past_obsolete_text(bytes: &[u8]) -> &[u8]
+    ensures skips { result.now ≡ White.past_obsolete_text bytes.now }
+    ensures not_longer { length result.now ≤ length bytes.now }
+{
+    let mut rest = past_line_ends(bytes);
+    while let Some(after) = obsolete_byte(rest) {
+        rest = after;
+    }
+    rest
+}
+
+// A backslash and what it quotes.
+#[tactic(auto, unfolding(crate::specs::WhiteSpace::quoted_pair, crate::specs::WhiteSpace::past_quoted))]
+fn quoted_pair(bytes: &[u8]) -> Option<&[u8]>
+    ensures skips { option_map (λ r. r.now) result ≡ White.quoted_pair bytes.now }
+    ensures shorter { IfSome result (λ r. length r.now < length bytes.now) }
+{
+    let rest = byte(b'\\', bytes)?;
+    match quotable(rest) {
+        Some(after) => Some(after),
+        None => Some(past_obsolete_text(rest)),
+    }
+}
+
+// A comment of at most so many levels.
+#[cycle(comments)]
+#[tactic(auto, using(crate::proofs::WhiteSpaceLemmas::comment_read, crate::proofs::WhiteSpaceLemmas::comment_not_open, crate::proofs::WhiteSpaceLemmas::comment_none))]
+fn comment(levels: u8, bytes: &[u8]) -> Option<&[u8]>
+    ensures skips { option_map (λ r. r.now) result ≡ White.comment levels bytes.now }
+    ensures shorter { IfSome result (λ r. length r.now < length bytes.now) }
+{
+    if levels == 0 {
+        return None;
+    }
+    let rest = byte(b'(', bytes)?;
+    byte(b')', contents(levels - 1, rest))
+}
+
+#[cycle(comments)]
+#[tactic(auto, unfolding(crate::specs::WhiteSpace::content))]
+fn content(levels: u8, bytes: &[u8]) -> Option<&[u8]>
+    ensures skips { option_map (λ r. r.now) result ≡ White.content levels bytes.now }
+    ensures shorter { IfSome result (λ r. length r.now < length bytes.now) }
+{
+    if let Some(rest) = folding_white_space(bytes) {
+        return Some(rest);
+    }
+    if let Some(rest) = text(bytes) {
+        return Some(rest);
+    }
+    if let Some(rest) = quoted_pair(bytes) {
+        return Some(rest);
+    }
+    comment(levels, bytes)
+}
+
+#[cycle(comments)]
+#[tactic(auto, using(crate::proofs::WhiteSpaceLemmas::contents_step, crate::proofs::WhiteSpaceLemmas::contents_end))]
+fn contents(levels: u8, bytes: &[u8]) -> &[u8]
+    ensures skips { result.now ≡ Skips.many (White.content levels) bytes.now }
+    ensures not_longer { length result.now ≤ length bytes.now }
+{
+    let mut rest = bytes;
+    while let Some(after) = content(levels, rest) {
+        rest = after;
+    }
+    rest
+}
+
+#[tactic(auto, unfolding(crate::specs::WhiteSpace::white_or_comment))]
+fn white_or_comment(bytes: &[u8]) -> Option<&[u8]>
+    ensures skips { option_map (λ r. r.now) result ≡ White.white_or_comment bytes.now }
+    ensures shorter { IfSome result (λ r. length r.now < length bytes.now) }
+{
+    if let Some(rest) = folding_white_space(bytes) {
+        return Some(rest);
+    }
+    comment(31, bytes)
+}
+
+#[tactic(auto, using(crate::proofs::WhiteSpaceLemmas::white_step, crate::proofs::WhiteSpaceLemmas::white_end))]
+fn past_white_and_comments(bytes: &[u8]) -> &[u8]
+    ensures skips { result.now ≡ Skips.many White.white_or_comment bytes.now }
+    ensures not_longer { length result.now ≤ length bytes.now }
+{
+    let mut rest = bytes;
+    while let Some(after) = white_or_comment(rest) {
+        rest = after;
+    }
+    rest
+}
+
+/// Whether white space or a comment may begin the bytes: where it is `false`, none does.
+#[tactic(auto, using(crate::proofs::WhiteSpaceLemmas::none_there, crate::proofs::WhiteSpaceLemmas::none_of_empty))]
+#[inline(always)]
+pub fn may_begin(bytes: &[u8]) -> bool
+    ensures absent { result ≡ false → White.comments_and_white_space bytes.now ≡ None }
+    ensures first { (result ≡ true)
+        ↔ ((0 < length bytes.now) × (slice_index bytes.now 0 ≤ White.left_parenthesis)) }
+{
+    match bytes {
+        [first, ..] => *first <= b'(',
+        [] => false,
+    }
+}
+
+/// What follows one space, where that is neither white space nor a comment: `None` says nothing.
+#[tactic(auto, using(crate::proofs::WhiteSpaceLemmas::one_space_there, crate::proofs::WhiteSpaceLemmas::folding_space_there))]
+#[inline(always)]
+pub fn one_space(bytes: &[u8]) -> Option<&[u8]>
+    ensures skips { IfSome result (λ r. White.comments_and_white_space bytes.now ≡ Some r.now) }
+    ensures folds { IfSome result (λ r. White.folding_white_space bytes.now ≡ Some r.now) }
+    ensures shorter { IfSome result (λ r. length r.now < length bytes.now) }
+    ensures there { IsSome result
+        ↔ ((slice_index bytes.now 0 ≡ space) × (White.left_parenthesis < slice_index bytes.now 1)) }
+{
+    match bytes {
+        [first, next, ..] if *first == b' ' && *next > b'(' => Some(&bytes[1..]),
+        _ => None,
+    }
+}
+
+#[cold]
+#[tactic(auto, unfolding(crate::specs::WhiteSpace::comments_and_white_space))]
+fn any_comments_and_white_space(bytes: &[u8]) -> Option<&[u8]>
+    ensures skips { option_map (λ r. r.now) result ≡ White.comments_and_white_space bytes.now }
+    ensures shorter { IfSome result (λ r. length r.now < length bytes.now) }
+{
+    let rest = white_or_comment(bytes)?;
+    Some(past_white_and_comments(rest))
+}
+
+/// Comments and folding white space: at least one of them, as many as there are.
+///
+/// Comments nest to at most 31 levels. One that can't be read to its end is none, and what stands before it ends there.
+#[inline(always)]
+pub fn comments_and_white_space(bytes: &[u8]) -> Option<&[u8]>
+    ensures skips { option_map (λ r. r.now) result ≡ White.comments_and_white_space bytes.now }
+    ensures shorter { IfSome result (λ r. length r.now < length bytes.now) }
+{
+    if !may_begin(bytes) {
+        return None;
+    }
+    if let Some(rest) = one_space(bytes) {
+        return Some(rest);
+    }
+    any_comments_and_white_space(bytes)
+}

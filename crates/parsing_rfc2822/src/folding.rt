@@ -1,0 +1,85 @@
+//! Folding white space.
+ghost use Rattle.std.specs.Prelude.{◌≡◌, ◌<◌, ◌≤◌, IfSome, length, option_map};
+ghost use Rattle.parsing_rfc2822.specs.Skips as Skips;
+ghost use Rattle.parsing_rfc2822.specs.WhiteSpace as White;
+
+use crate::bytes::{blanks, byte};
+
+// One byte of white space that does not go on.
+#[tactic(auto, unfolding(crate::specs::WhiteSpace::lone_white, crate::specs::Skips::byte_where))]
+#[inline(always)]
+fn lone_white(bytes: &[u8]) -> Option<&[u8]>
+    ensures skips { option_map (λ r. r.now) result ≡ White.lone_white bytes.now }
+    ensures shorter { IfSome result (λ r. length r.now < length bytes.now) }
+{
+    let [b, rest @ ..] = bytes else {
+        return None;
+    };
+    if !matches!(*b, b'\r' | b' ' | b'\t') {
+        return None;
+    }
+    match rest {
+        [next, ..] if matches!(*next, b'\n' | b'\r' | b' ' | b'\t') => None,
+        _ => Some(rest),
+    }
+}
+
+#[tactic(auto, unfolding(crate::specs::WhiteSpace::line_end))]
+fn line_end(bytes: &[u8]) -> Option<&[u8]>
+    ensures skips { option_map (λ r. r.now) result ≡ White.line_end bytes.now }
+    ensures shorter { IfSome result (λ r. length r.now < length bytes.now) }
+{
+    byte(b'\n', byte(b'\r', bytes)?)
+}
+
+// A line end, and blanks on the next line.
+#[tactic(auto, unfolding(crate::specs::WhiteSpace::folded_line))]
+fn folded_line(bytes: &[u8]) -> Option<&[u8]>
+    ensures skips { option_map (λ r. r.now) result ≡ White.folded_line bytes.now }
+    ensures shorter { IfSome result (λ r. length r.now < length bytes.now) }
+{
+    blanks(line_end(bytes)?)
+}
+
+// All folded lines that are there.
+#[tactic(auto, using(crate::proofs::WhiteSpaceLemmas::folded_step, crate::proofs::WhiteSpaceLemmas::folded_end))]
+fn folded_lines(bytes: &[u8]) -> &[u8]
+    ensures skips { result.now ≡ Skips.many White.folded_line bytes.now }
+    ensures not_longer { length result.now ≤ length bytes.now }
+{
+    let mut rest = bytes;
+    while let Some(after) = folded_line(rest) {
+        rest = after;
+    }
+    rest
+}
+
+// Blanks and folded lines, where each line end behind them is one of a folded line.
+#[tactic(auto, unfolding(crate::specs::WhiteSpace::folded_blanks, crate::specs::WhiteSpace::unless_line_end))]
+fn folded_blanks(bytes: &[u8]) -> Option<&[u8]>
+    ensures skips { option_map (λ r. r.now) result ≡ White.folded_blanks bytes.now }
+    ensures shorter { IfSome result (λ r. length r.now < length bytes.now) }
+{
+    let rest = folded_lines(blanks(bytes)?);
+    if line_end(rest).is_some() {
+        return None;
+    }
+    Some(rest)
+}
+
+/// Folding white space: one byte, or blanks with line ends between them.
+///
+/// A carriage return alone counts as white space. Blanks before a line end that no blank follows are none.
+#[tactic(auto, unfolding(crate::specs::WhiteSpace::folding_white_space))]
+pub fn folding_white_space(bytes: &[u8]) -> Option<&[u8]>
+    ensures skips { option_map (λ r. r.now) result ≡ White.folding_white_space bytes.now }
+    ensures shorter { IfSome result (λ r. length r.now < length bytes.now) }
+{
+    if let Some(rest) = lone_white(bytes) {
+        return Some(rest);
+    }
+    if let Some(rest) = folded_line(bytes) {
+        return Some(rest);
+    }
+    folded_blanks(bytes)
+}

@@ -1,5 +1,0 @@
-use Rattle.parsing_two_roads.proofs.Assumed.{two_formats}
-use Rattle.parsing_two_roads.proofs.laws.two_formats.Goals as goal
-
-pub returns : goal.returns
-returns c = λ bytes. two_formats bytes (c.two_roads_of_rfc3339.ensures bytes) (c.one_road_of_iso8601.ensures bytes)

@@ -1,2 +1,0 @@
-pub mod TwoFormats
-pub mod TwoRoads

@@ -1,0 +1,6 @@
+pub mod lemmas
+pub mod MonthEndLemmas
+pub mod NamedDayLemmas
+mod ConstructorLemmas
+mod DateLawLemmas
+mod LawLemmas

@@ -1,0 +1,9 @@
+pub mod MonthEnd
+pub mod Resolution
+pub mod StandIn
+pub mod NamedDay
+pub mod NamedDate
+pub mod DateLaws
+pub mod NamedTime
+pub mod NamedMoment
+pub mod Laws
