@@ -1,6 +1,7 @@
 //! The moment of a line, by the fast way or the exact one.
-ghost use Rattle.std.specs.Prelude.{◌≡◌, true, Ok, IfSome};
+ghost use Rattle.std.specs.Prelude.{◌≡◌, true, codes, Ok, Err, IfSome};
 ghost use Rattle.std.specs.Result.{result_ok};
+ghost use Rattle.parsing_combinator.specs.Fault.{component};
 ghost use Rattle.parsing_fields.specs.Moment.{moment_of};
 ghost use Rattle.instants_sources.specs.Grammar.{grammar_of};
 ghost use Rattle.instants_sources.specs.Grammar as grammar;
@@ -70,9 +71,9 @@ fn is_no_rfc2822(line: &[u8]) -> bool
     has_no_space(line) || begins_no_day(line)
 }
 
-// The same of RFC 3339.
+/// Whether the first bytes of a line show that RFC 3339 names no moment for it: `false` says nothing of the line.
 #[inline(always)]
-fn is_no_rfc3339(line: &[u8]) -> bool
+pub fn is_no_rfc3339(line: &[u8]) -> bool
     ensures { result ≡ true → NamesNothing grammar.Rfc3339 line.now }
 {
     two_roads_of_rfc3339();
@@ -92,6 +93,19 @@ impl<'a> Source<'a> {
             Source::Rfc2822 => is_no_rfc2822(line),
             Source::Rfc3339 => is_no_rfc3339(line),
             Source::Iso8601 => begins_no_part(line),
+        }
+    }
+
+    /// Whether a line has no year where this source wants one first, which is then its fault: `false` says nothing of the
+    /// line.
+    #[inline(always)]
+    pub fn has_no_year(&self, line: &[u8], assumed: Option<UtcOffset>) -> bool
+        ensures { result ≡ true
+            → named assumed (grammar_of self.now) line.now ≡ Err (component (codes "year")) }
+    {
+        match self {
+            Source::Rfc3339 => assumed.is_none() && !parsing_rfc3339::begins_with_year(line),
+            _ => false,
         }
     }
 

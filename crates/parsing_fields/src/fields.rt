@@ -53,10 +53,34 @@ impl Fields {
         ensures numbers { IfSome result
             (λ f. HaveNumbers f year month day minute second fraction offset) }
     {
+        if year > 9999 || minute >= 1440 || offset.unsigned_abs() > 1559 {
+            return None;
+        }
+        Fields::on_day(year, month, day, minute, second, fraction, offset)
+    }
+
+    /// The same, where only the day and the second can be out of range.
+    #[inline(always)]
+    pub fn on_day(
+        year: u16,
+        month: u8,
+        day: u8,
+        minute: u16,
+        second: u8,
+        fraction: Fraction,
+        offset: i16,
+    ) -> Option<Fields>
+        requires year { year ≤ 9999 }
+        requires minute { minute < 1440 }
+        requires offset { unsigned_abs offset ≤ 1559 }
+        ensures some { IsSome result ↔ NameFields year month day minute second offset }
+        ensures numbers { IfSome result
+            (λ f. HaveNumbers f year month day minute second fraction offset) }
+    {
         if month < 1 || month > 12 || !closed::has_day(i32::from(year), month, day) {
             return None;
         }
-        if year > 9999 || minute >= 1440 || second >= 60 || offset.unsigned_abs() > 1559 {
+        if second >= 60 {
             return None;
         }
         Some(Fields::of_numbers(year, month, day, minute, second, fraction, offset))

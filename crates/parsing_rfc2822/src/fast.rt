@@ -1,7 +1,7 @@
 //! The fast way: texts of the shape `Tue, 01 Jul 2003 10:52:37 +0200`.
 //!
 //! Each function gives up where a text has another shape, and then says nothing of it.
-ghost use Rattle.std.specs.Prelude.{◌≡◌, IfSome, Ok, Some, false};
+ghost use Rattle.std.specs.Prelude.{◌≡◌, ◌≤◌, IfSome, Ok, Some, false, unsigned_abs};
 ghost use Rattle.parsing_fields.specs.Moment.{moment_of};
 ghost use Rattle.parsing_rfc2822.specs.Direct.{direct};
 ghost use Rattle.parsing_rfc2822.specs.Fast.{IsAllZone};
@@ -74,7 +74,8 @@ fn fast_clock(bytes: &[u8]) -> Option<((u8, u8, u8), &[u8])>
 #[tactic(auto, unfolding(crate::specs::Reading::zone, crate::specs::Reading::signed_zone))]
 #[inline(always)]
 fn signed_zone(mark: u8, bytes: &[u8]) -> Option<i16>
-    ensures { IfSome result (IsAllZone (Reading.signed_zone false mark bytes.now)) }
+    ensures reads { IfSome result (IsAllZone (Reading.signed_zone false mark bytes.now)) }
+    ensures bound { IfSome result (λ o. unsigned_abs o ≤ 1559) }
 {
     let (hours, rest) = two_digits(bytes)?;
     let (minutes, rest) = two_digits(rest)?;
@@ -88,7 +89,8 @@ fn signed_zone(mark: u8, bytes: &[u8]) -> Option<i16>
 #[tactic(auto, unfolding(crate::specs::Reading::named_zone))]
 #[inline(always)]
 fn named_zone(bytes: &[u8]) -> Option<i16>
-    ensures { IfSome result (IsAllZone (Reading.named_zone bytes.now)) }
+    ensures reads { IfSome result (IsAllZone (Reading.named_zone bytes.now)) }
+    ensures bound { IfSome result (λ o. unsigned_abs o ≤ 1559) }
 {
     let (hours, rest) = zone_name(bytes)?;
     if !rest.is_empty() {
@@ -101,7 +103,8 @@ fn named_zone(bytes: &[u8]) -> Option<i16>
 #[tactic(auto, unfolding(crate::specs::Reading::spaced_zone, crate::specs::Reading::zone))]
 #[inline(always)]
 pub(crate) fn fast_zone(bytes: &[u8]) -> Option<i16>
-    ensures { IfSome result (IsAllZone (Reading.spaced_zone false bytes.now)) }
+    ensures reads { IfSome result (IsAllZone (Reading.spaced_zone false bytes.now)) }
+    ensures bound { IfSome result (λ o. unsigned_abs o ≤ 1559) }
 {
     let rest = one_space(bytes)?;
     if rest.len() != 5 && rest.len() != 3 {

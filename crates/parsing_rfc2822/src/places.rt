@@ -2,7 +2,7 @@
 //!
 //! Such a text has a weekday, and ends with 25 bytes from the last digit of its day on, or with 23 where a name of three
 //! letters is its zone.
-ghost use Rattle.std.specs.Prelude.{◌≡◌, ◌≤◌, ◌+◌, ◌*◌, IfSome, Ok, Some, true, false, drop, length, List, ℕ, Option};
+ghost use Rattle.std.specs.Prelude.{◌≡◌, ◌≤◌, ◌+◌, ◌*◌, IfSome, Ok, Some, true, false, drop, length, unsigned_abs, List, ℕ, Option};
 ghost use Rattle.calendar_count.specs.declared.weekday.Weekday.{Weekday};
 ghost use Rattle.parsing_fields.specs.Moment.{moment_of};
 ghost use Rattle.parsing_rfc2822.specs.Direct.{direct};
@@ -70,7 +70,8 @@ fn tens_of_day(input: &[u8], left: usize) -> Option<(u8, &[u8])>
 fn offset(text: &[u8]) -> Option<i16>
     requires shape { HasShape text.now }
     requires offset { HasOffset text.now }
-    ensures { IfSome result (IsAllZone (Reading.spaced_zone false (drop 19 text.now))) }
+    ensures reads { IfSome result (IsAllZone (Reading.spaced_zone false (drop 19 text.now))) }
+    ensures bound { IfSome result (λ o. unsigned_abs o ≤ 1559) }
 {
     let sign = text[20];
     if sign == b',' {
@@ -84,7 +85,8 @@ fn offset(text: &[u8]) -> Option<i16>
 #[inline(always)]
 fn year_and_month(text: &[u8]) -> Option<(u16, u8)>
     requires { HasShape text.now }
-    ensures { IfSome result (λ x. ReadsMonth text.now x.0 x.1) }
+    ensures reads { IfSome result (λ x. ReadsMonth text.now x.0 x.1) }
+    ensures year { IfSome result (λ x. x.0 ≤ 9999) }
 {
     let month = month_number(&text[1..])?;
     let year = four_digits_at(text, 6);
@@ -99,6 +101,7 @@ fn year_and_month(text: &[u8]) -> Option<(u16, u8)>
 fn fields_behind(day: u8, offset: i16, text: &[u8]) -> Option<Fields>
     requires shape { HasShape text.now }
     requires zone { IsAllZone (Reading.spaced_zone false (drop 19 text.now)) offset }
+    requires bound { unsigned_abs offset ≤ 1559 }
     ensures { IfSome result (λ fields. (input : List ℕ) (weekday : Option Weekday)
         → Reading.day false input ≡ Ok ((weekday, day), drop 1 text.now)
         → direct input ≡ Ok (moment_of fields)) }
@@ -106,7 +109,7 @@ fn fields_behind(day: u8, offset: i16, text: &[u8]) -> Option<Fields>
     let (year, month) = year_and_month(text)?;
     let (hour, minute, second) = clock_at(text, 11);
     let minute = minute_of_day(hour, minute)?;
-    Fields::new(year, month, day, minute, second, Fraction::new(0), offset)
+    Fields::on_day(year, month, day, minute, second, Fraction::new(0), offset)
 }
 
 /// The fields of a text with an offset in digits, where it has such places: `None` says nothing of the text.

@@ -1,5 +1,6 @@
 //! The moment that a text names.
-ghost use Rattle.std.specs.Prelude.{◌≡◌, ◌<◌, IfErr, IfSome, Ok};
+ghost use Rattle.std.specs.Prelude.{◌≡◌, ◌<◌, false, codes, Err, IfErr, IfSome, Ok};
+ghost use Rattle.parsing_combinator.specs.Fault.{component};
 ghost use Rattle.parsing_combinator.specs.FaultOf.{Gives, fault_of};
 ghost use Rattle.parsing_combinator.specs.ShortName.{HasShortName};
 ghost use Rattle.parsing_rfc3339.specs.Direct.{direct, moment_of};
@@ -55,7 +56,7 @@ pub fn read_fields(input: &[u8]) -> Option<Fields>
     };
     let offset = fast_offset(read.1)?;
     let minute_of_day = minute_of_day(hour, minute)?;
-    Fields::new(year, month, day, minute_of_day, second, read.0, offset)
+    Fields::on_day(year, month, day, minute_of_day, second, read.0, offset)
 }
 
 /// The moment that a text names, where the fast way finds one: `None` says nothing of the text.
@@ -78,6 +79,17 @@ fn read_pieces(input: &[u8]) -> Result<OffsetDateTime, Parse>
     resolved(parts, rest)
 }
 
+/// Whether a text begins with the four digits of a year. Where it does not, that is its first fault.
+#[inline(always)]
+pub fn begins_with_year(input: &[u8]) -> bool
+    ensures { result ≡ false → direct input.now ≡ Err (component (codes "year")) }
+{
+    match four_digits(input) {
+        Some(_) => true,
+        None => false,
+    }
+}
+
 /// The moment that a text of RFC 3339, section 5.6, names, with any one byte between date and time.
 ///
 /// The first fault counts: what can't be read, the offset's range, what follows, the ranges of date and time, and last
@@ -88,8 +100,8 @@ pub fn read_exact(input: &[u8]) -> Result<OffsetDateTime, Parse>
     ensures short_name { IfErr result (λ e. HasShortName (fault_of e)) }
 {
     // Most texts that are refused begin with no year.
-    let Some(_) = four_digits(input) else {
+    if !begins_with_year(input) {
         return Err(ParseFromDescription::InvalidComponent("year").into());
-    };
+    }
     read_pieces(input)
 }

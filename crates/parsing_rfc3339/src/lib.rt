@@ -8,6 +8,6 @@ mod places;
 mod reading;
 mod zone;
 
-pub use direct::{read_exact, read_fast, read_fields};
+pub use direct::{begins_with_year, read_exact, read_fast, read_fields};
 pub use parts::Rfc3339Parts;
 pub use reading::parse_prefix;

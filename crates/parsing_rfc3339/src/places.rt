@@ -27,7 +27,8 @@ pub(crate) fn has_shape(text: &[u8]) -> bool
 #[inline(always)]
 pub(crate) fn date(text: &[u8]) -> Option<(u16, u8, u8)>
     requires { HasShape text.now }
-    ensures { IfSome result (λ d. Reading.date false text.now ≡ Ok (d, drop 10 text.now)) }
+    ensures reads { IfSome result (λ d. Reading.date false text.now ≡ Ok (d, drop 10 text.now)) }
+    ensures year { IfSome result (λ d. d.0 ≤ 9999) }
 {
     let month = two_digits_at(text, 5);
     if month == 0 {

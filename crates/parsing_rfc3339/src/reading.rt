@@ -1,5 +1,5 @@
 //! Readings of the parts of a text.
-ghost use Rattle.std.specs.Prelude.{◌≡◌, ◌≤◌, ◌<◌, IfOk, IfErr, IfSome, Ok, true, false};
+ghost use Rattle.std.specs.Prelude.{◌≡◌, ◌≤◌, ◌<◌, IfOk, IfErr, IfSome, Ok, true, false, unsigned_abs};
 ghost use Rattle.parsing_combinator.specs.FaultOf.{Gives, reading_fault};
 ghost use Rattle.parsing_combinator.specs.Pieces.{rest_view};
 ghost use Rattle.parsing_combinator.specs.ShortName.{HasShortName};
@@ -141,7 +141,8 @@ fn offset(is_strict: bool, bytes: &[u8]) -> Result<(Zone, &[u8]), ParseFromDescr
 #[tactic(auto, unfolding(crate::specs::Reading::signed_offset))]
 #[inline(always)]
 fn fast_signed_offset(bytes: &[u8]) -> Option<i16>
-    ensures { IfSome result (IsAllOffset (Reading.signed_offset false bytes.now)) }
+    ensures reads { IfSome result (IsAllOffset (Reading.signed_offset false bytes.now)) }
+    ensures bound { IfSome result (λ o. unsigned_abs o ≤ 1559) }
 {
     let (mark, rest) = sign(bytes)?;
     let (hours, minutes) = hours_and_minutes(rest)?;
@@ -157,7 +158,8 @@ fn fast_signed_offset(bytes: &[u8]) -> Option<i16>
 #[tactic(auto, unfolding(crate::specs::Reading::offset))]
 #[inline(always)]
 pub(crate) fn fast_offset(bytes: &[u8]) -> Option<i16>
-    ensures { IfSome result (IsAllOffset (Reading.offset false bytes.now)) }
+    ensures reads { IfSome result (IsAllOffset (Reading.offset false bytes.now)) }
+    ensures bound { IfSome result (λ o. unsigned_abs o ≤ 1559) }
 {
     let Some(rest) = zulu(bytes) else {
         return fast_signed_offset(bytes);

@@ -195,6 +195,23 @@ impl Timeline<'_> {
         ensures room { length storage.new ≤ 63 }
         ensures never_long { storage.new ≢ codes "! long" }
     {
+        if self.first().has_no_year(line, self.assumed) {
+            LineFault::Component("year").write(storage);
+        } else {
+            self.write_by_first(line, storage);
+        }
+    }
+
+    // The same, read the exact way.
+    #[cold]
+    #[inline(never)]
+    fn write_by_first(&self, line: &[u8], storage: &mut Answer)
+        requires { result_ok (first_named (setting_of self.now).assumed
+            (setting_of self.now).sources line.now) ≡ None }
+        ensures bytes { storage.new ≡ answer_to (setting_of self.now) line.now }
+        ensures room { length storage.new ≤ 63 }
+        ensures never_long { storage.new ≢ codes "! long" }
+    {
         match self.first().read_exact(line, self.assumed) {
             Ok(named) => self.write_shown(named, storage),
             Err(fault) => LineFault::from(fault).write(storage),
@@ -203,8 +220,8 @@ impl Timeline<'_> {
 
     // Writes the answer to a line that the first source's first bytes rule out: the likely source is the first behind it that
     // they do not.
-    #[inline(always)]
-    fn write_behind(&self, line: &[u8], storage: &mut Answer)
+    #[inline(never)]
+    pub(super) fn write_behind(&self, line: &[u8], storage: &mut Answer)
         requires { NamesFrom (setting_of self.now) line.now 1 }
         ensures bytes { storage.new ≡ answer_to (setting_of self.now) line.now }
         ensures room { length storage.new ≤ 63 }

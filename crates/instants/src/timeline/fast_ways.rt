@@ -5,7 +5,7 @@ ghost use Rattle.instants.specs.Settings.{setting_of};
 
 use crate::timeline::Timeline;
 use instants_answers::Answer;
-use instants_sources::{Source, fast_iso8601, fast_rfc2822, fast_rfc3339};
+use instants_sources::{Source, fast_iso8601, fast_rfc2822, fast_rfc3339, is_no_rfc3339};
 use instants_stream::AnswersLines;
 
 /// A way to answer the lines of a timeline, by the kind of its first source. All answer alike: a run over a stream is compiled
@@ -18,7 +18,7 @@ pub(crate) trait AnswerWay {
         ensures never_long { storage.new ≢ codes "! long" };
 }
 
-/// Where RFC 3339 is tried first.
+/// Where RFC 3339 is tried first. One byte tells it from nearly all lines of the sources behind it.
 #[derive(Drop)]
 pub(crate) struct Rfc3339Way;
 
@@ -26,6 +26,10 @@ impl AnswerWay for Rfc3339Way {
     #[inline(always)]
     fn write_answer(&self, timeline: &Timeline, line: &[u8], storage: &mut Answer) {
         if let Source::Rfc3339 = timeline.first() {
+            if is_no_rfc3339(line) {
+                timeline.write_behind(line, storage);
+                return;
+            }
             if timeline.write_found(fast_rfc3339(line), storage) {
                 return;
             }

@@ -1,7 +1,7 @@
 use Rattle.parsing_rfc2822.proofs.PlaceLemmas.{zone_there}
 use Rattle.parsing_rfc2822.proofs.places.offset.Goals as goal
 
-pub returns : goal.returns
-returns c =
+pub returns-clause-reads : goal.returns-clause-reads
+returns-clause-reads c =
     let numbers = c.two_pairs_at-hours in
     zone_there c.args.text.now c.signed_minutes.result numbers.result.0 numbers.result.1 c.requires.shape c.requires.offset c.if-sign-eq44.false numbers.ensures.first numbers.ensures.second c.signed_minutes.ensures.value

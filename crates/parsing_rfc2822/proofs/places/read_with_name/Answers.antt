@@ -8,7 +8,7 @@ pub fields_behind-requires-clause-zone : goal.fields_behind-requires-clause-zone
 fields_behind-requires-clause-zone c =
     let o = c.in_ok-offset in
     let same : to_z w16 (of_z w16 o.offset) ≡ o.offset = omega (arith, ints) in
-    rw same (rw (take_rest c.in_ok-tens.text.now 19) at o.ensures)
+    rw same (rw (take_rest c.in_ok-tens.text.now 19) at o.ensures.reads)
 
 pub returns : goal.returns
 returns c =

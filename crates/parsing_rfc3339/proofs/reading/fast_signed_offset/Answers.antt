@@ -4,8 +4,8 @@ use Rattle.std.proofs.lemmas.Int.{ints}
 use Rattle.parsing_rfc3339.proofs.FastLemmas.{signed_read}
 use Rattle.parsing_rfc3339.proofs.reading.fast_signed_offset.Goals as goal
 
-pub returns : goal.returns
-returns c =
+pub returns-clause-reads : goal.returns-clause-reads
+returns-clause-reads c =
     let mark = c.in_ok-mark in
     let read = c.in_ok-hours in
     let o = c.offset_minutes.result in

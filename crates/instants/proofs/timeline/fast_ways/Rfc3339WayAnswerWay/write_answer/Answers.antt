@@ -1,8 +1,14 @@
 use Rattle.std.proofs.Common.{◌≡◌, ◌∷◌, rules, refl, drop}
 use Rattle.instants_sources.specs.Grammar as grammar
 use Rattle.instants.specs.Settings.{setting_of}
-use Rattle.instants.proofs.FirstNamed.{answered_at, answer_found}
+use Rattle.instants.proofs.FirstNamed.{answered_at, answer_found, names_from_next}
 use Rattle.instants.proofs.timeline.fast_ways.Rfc3339WayAnswerWay.write_answer.Goals as goal
+
+pub write_behind-requires : goal.write_behind-requires
+write_behind-requires c =
+    let setting = setting_of c.args.timeline.now in
+    let first : setting.sources ≡ grammar.Rfc3339 ∷ drop 1 setting.sources = rw c.in-Rfc3339.is at c.first.ensures in
+    names_from_next setting c.args.line.now 0 grammar.Rfc3339 refl first (c.is_no_rfc3339.ensures c.if-is_no_rfc3339.true setting.assumed)
 
 pub returns-then-write_found-clause-bytes : goal.returns-then-write_found-clause-bytes
 returns-then-write_found-clause-bytes c =
