@@ -15,6 +15,7 @@ use parsing_combinator::{Zone, any_byte, byte, four_digits, fraction, sign, two_
 use parsing_fields::{Fraction, offset_minutes};
 
 #[tactic(auto, unfolding(crate::specs::Reading::date))]
+#[inline(always)]
 fn date(is_strict: bool, bytes: &[u8]) -> Result<((u16, u8, u8), &[u8]), ParseFromDescription>
     ensures { Gives (λ x. (x.0, x.1.now)) reading_fault result (Reading.date is_strict bytes.now) }
 {
@@ -33,6 +34,7 @@ fn date(is_strict: bool, bytes: &[u8]) -> Result<((u16, u8, u8), &[u8]), ParseFr
 }
 
 #[tactic(auto, unfolding(crate::specs::Reading::clock))]
+#[inline(always)]
 fn clock(is_strict: bool, bytes: &[u8]) -> Result<((u8, u8, u8), &[u8]), ParseFromDescription>
     ensures { Gives (λ x. (x.0, x.1.now)) reading_fault result (Reading.clock is_strict bytes.now) }
 {
@@ -171,6 +173,7 @@ pub(crate) fn fast_offset(bytes: &[u8]) -> Option<i16>
 }
 
 #[tactic(auto, unfolding(crate::specs::Reading::rfc3339))]
+#[inline(always)]
 fn parts(is_strict: bool, bytes: &[u8]) -> Result<(Rfc3339Parts, &[u8]), ParseFromDescription>
     ensures gives { Gives (λ x. (x.0, x.1.now)) reading_fault result
         (Reading.rfc3339 is_strict bytes.now) }
@@ -199,6 +202,7 @@ fn parts(is_strict: bool, bytes: &[u8]) -> Result<(Rfc3339Parts, &[u8]), ParseFr
 /// The numbers at the front of the bytes, and the rest, piece by piece: RFC 3339, section 5.6.
 ///
 /// A strict reading refuses each number out of range where it stands. Each fault names the part that can't be read.
+#[inline(always)]
 pub fn parse_prefix(
     is_strict: bool,
     bytes: &[u8],
