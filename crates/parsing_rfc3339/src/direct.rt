@@ -68,7 +68,7 @@ pub fn read_fast(input: &[u8]) -> Option<OffsetDateTime>
     Some(fields.moment())
 }
 
-// The moment that a text names, or its first fault, piece by piece.
+// The moment that a text names, or its first fault.
 #[tactic(auto, unfolding(crate::specs::Direct::direct, crate::specs::Direct::moment))]
 #[cold]
 #[inline(never)]
@@ -99,9 +99,5 @@ pub fn read_exact(input: &[u8]) -> Result<OffsetDateTime, Parse>
     ensures gives { Gives (λ d. d) fault_of result (direct input.now) }
     ensures short_name { IfErr result (λ e. HasShortName (fault_of e)) }
 {
-    // Most texts that are refused begin with no year.
-    if !begins_with_year(input) {
-        return Err(ParseFromDescription::InvalidComponent("year").into());
-    }
     read_pieces(input)
 }
