@@ -71,24 +71,22 @@ fn is_named(day: Views) -> bool {
     ) == (day, told, [date; 3])
 }
 
+// The first days of all and of 1970, and the last of all, are constants.
+fn constants() -> [i32; 3] {
+    [
+        Date::MIN.to_julian_day(),
+        Date::UNIX_EPOCH.to_julian_day(),
+        Date::MAX.to_julian_day(),
+    ]
+}
+
 #[test]
 fn names_days(rt: HostRuntime) {
     for row in &DAYS {
         let day = *row;
         assert!(rt; is_named(day));
     }
-}
-
-// The first days of all and of 1970, and the last of all, are constants.
-#[test]
-fn has_constants(rt: HostRuntime) {
-    for (given, julian_day) in [
-        (Date::MIN, -363_521_074),
-        (Date::UNIX_EPOCH, 2_440_588),
-        (Date::MAX, 366_963_559),
-    ] {
-        assert!(rt; given.to_julian_day() == julian_day);
-    }
+    assert!(rt; constants() == [-363_521_074, 2_440_588, 366_963_559]);
 }
 
 // The week of ISO 8601, alone and with its year and day, and the Sundays and Mondays so far.
@@ -134,44 +132,51 @@ fn counts_weeks(rt: HostRuntime) {
     }
 }
 
-#[test]
-fn replaces_and_steps(rt: HostRuntime) {
-    let leap = date_of(2024, Month::February, 29);
+fn leap_day() -> Date {
+    date_of(2024, Month::February, 29)
+}
+
+fn replaced() -> [(i32, Month, u8); 4] {
+    let leap = leap_day();
+    [
+        answered(leap.replace_year(2020)).to_calendar_date(),
+        answered(leap.replace_month(Month::May)).to_calendar_date(),
+        answered(leap.replace_day(1)).to_calendar_date(),
+        answered(leap.replace_ordinal(366)).to_calendar_date(),
+    ]
+}
+
+static REPLACED: [(i32, Month, u8); 4] = [
+    (2020, Month::February, 29),
+    (2024, Month::May, 29),
+    (2024, Month::February, 1),
+    (2024, Month::December, 31),
+];
+
+// The leap day by a step from either side.
+fn stepped_to() -> [Option<Date>; 2] {
     let before = date_of(2024, Month::February, 28);
     let after = date_of(2024, Month::March, 1);
-    for (given, expected) in [
-        (
-            answered(leap.replace_year(2020)),
-            (2020, Month::February, 29),
-        ),
-        (
-            answered(leap.replace_month(Month::May)),
-            (2024, Month::May, 29),
-        ),
-        (answered(leap.replace_day(1)), (2024, Month::February, 1)),
-        (
-            answered(leap.replace_ordinal(366)),
-            (2024, Month::December, 31),
-        ),
-        (
-            before.next_day().unwrap_or(before),
-            (2024, Month::February, 29),
-        ),
-        (
-            after.previous_day().unwrap_or(after),
-            (2024, Month::February, 29),
-        ),
-    ] {
-        assert!(rt; given.to_calendar_date() == expected);
-    }
+    [before.next_day(), after.previous_day()]
+}
+
+fn are_in_order() -> [bool; 3] {
+    let before = date_of(2024, Month::February, 28);
+    let after = date_of(2024, Month::March, 1);
+    [
+        before < leap_day(),
+        leap_day() < after,
+        Date::MIN < Date::MAX,
+    ]
 }
 
 #[test]
-fn orders_days(rt: HostRuntime) {
-    let leap = date_of(2024, Month::February, 29);
-    let before = date_of(2024, Month::February, 28);
-    let after = date_of(2024, Month::March, 1);
-    assert!(rt; before < leap && leap < after && Date::MIN < Date::MAX);
+fn replaces_steps_and_orders(rt: HostRuntime) {
+    assert!(rt;
+        replaced() == REPLACED
+            && stepped_to() == [Some(leap_day()); 2]
+            && are_in_order() == [true; 3]
+    );
 }
 
 // The day so much later by each call, where the calendar has it.
@@ -190,25 +195,34 @@ fn earlier(day: Date, duration: SignedDuration) -> Option<[Date; 4]> {
     Some([earlier, day.saturating_sub(duration), moved, day - duration])
 }
 
-#[test]
-fn moves_by_durations(rt: HostRuntime) {
+fn is_moved(seconds: i64, sum: Date, difference: Date) -> bool {
+    let day = date_of(2021, Month::January, 1);
+    let duration = SignedDuration::seconds(seconds);
+    let given = (later(day, duration), earlier(day, duration));
+    given == (Some([sum; 4]), Some([difference; 4]))
+}
+
+fn are_moved() -> [bool; 4] {
     let day = date_of(2021, Month::January, 1);
     let before = date_of(2020, Month::December, 31);
-    for (seconds, sum, difference) in [
-        (-86_399, day, day),
-        (86_399, day, day),
-        (-86_400, before, date_of(2021, Month::January, 2)),
-        (
-            31_536_000,
-            date_of(2022, Month::January, 1),
-            date_of(2020, Month::January, 2),
-        ),
-    ] {
-        let duration = SignedDuration::seconds(seconds);
-        let given = (later(day, duration), earlier(day, duration));
-        assert!(rt; given == (Some([sum; 4]), Some([difference; 4])));
-    }
-    assert!(rt; (day - before, (before - day).whole_seconds()) == (SignedDuration::DAY, -86_400));
+    let year_later = date_of(2022, Month::January, 1);
+    [
+        is_moved(-86_399, day, day),
+        is_moved(86_399, day, day),
+        is_moved(-86_400, before, date_of(2021, Month::January, 2)),
+        is_moved(31_536_000, year_later, date_of(2020, Month::January, 2)),
+    ]
+}
+
+fn apart() -> (SignedDuration, i64) {
+    let day = date_of(2021, Month::January, 1);
+    let before = date_of(2020, Month::December, 31);
+    (day - before, (before - day).whole_seconds())
+}
+
+#[test]
+fn moves_by_durations(rt: HostRuntime) {
+    assert!(rt; are_moved() == [true; 4] && apart() == (SignedDuration::DAY, -86_400));
 }
 
 // What a map says of a day under its Julian day, and of one that it does not have.

@@ -9,32 +9,40 @@ pub fn sample() -> SignedDuration {
     SignedDuration::nanoseconds(-93_784_005_000_001)
 }
 
-#[test]
-fn counts_units(rt: HostRuntime) {
-    let day = SignedDuration::DAY;
-    let given = [
+// A week, and then a day in each unit.
+fn in_units() -> [SignedDuration; 5] {
+    [
         SignedDuration::weeks(1),
         SignedDuration::days(1),
         SignedDuration::hours(24),
         SignedDuration::minutes(1440),
         SignedDuration::seconds(86_400),
-    ];
-    assert!(rt; given == [SignedDuration::WEEK, day, day, day, day]);
+    ]
 }
 
-#[test]
-fn counts_fine_units(rt: HostRuntime) {
-    let day = SignedDuration::DAY;
-    let given = [
+// A day in each fine unit, and from a second more with nanoseconds that lead back.
+fn in_fine_units() -> [SignedDuration; 5] {
+    [
         SignedDuration::milliseconds(86_400_000),
         SignedDuration::microseconds(86_400_000_000),
         SignedDuration::nanoseconds(86_400_000_000_000),
         SignedDuration::nanoseconds_i128(86_400_000_000_000),
         SignedDuration::new(86_401, -1_000_000_000),
+    ]
+}
+
+#[test]
+fn counts_units(rt: HostRuntime) {
+    let day = SignedDuration::DAY;
+    let others = [
         SignedDuration::new(-93_784, -5_000_001),
         SignedDuration::default(),
     ];
-    assert!(rt; given == [day, day, day, day, day, sample(), SignedDuration::ZERO]);
+    assert!(rt;
+        in_units() == [SignedDuration::WEEK, day, day, day, day]
+            && in_fine_units() == [day; 5]
+            && others == [sample(), SignedDuration::ZERO]
+    );
 }
 
 // The whole weeks, days, hours, minutes and seconds.
@@ -85,97 +93,106 @@ fn signs(duration: SignedDuration) -> (bool, bool, bool) {
     )
 }
 
-const BACK: (bool, bool, bool) = (true, false, false);
-
-#[test]
-fn tells_signs(rt: HostRuntime) {
-    let (least, none, greatest) = (
-        SignedDuration::MIN,
-        SignedDuration::ZERO,
-        SignedDuration::MAX,
-    );
-    let given = [signs(sample()), signs(none), signs(greatest), signs(least)];
-    assert!(rt;
-        given == [BACK, (false, false, true), (false, true, false), BACK]
-            && least < sample()
-            && sample() < none
-    );
+fn all_signs() -> [(bool, bool, bool); 4] {
+    [
+        signs(sample()),
+        signs(SignedDuration::ZERO),
+        signs(SignedDuration::MAX),
+        signs(SignedDuration::MIN),
+    ]
 }
 
-#[test]
-fn tells_lengths(rt: HostRuntime) {
-    let (least, none, greatest) = (
-        SignedDuration::MIN,
-        SignedDuration::ZERO,
-        SignedDuration::MAX,
-    );
-    let lengths = [sample().abs(), none.abs(), greatest.abs(), least.abs()];
-    assert!(rt;
-        lengths
-            == [
-                SignedDuration::new(93_784, 5_000_001),
-                none,
-                greatest,
-                greatest
-            ]
-    );
+static SIGNS: [(bool, bool, bool); 4] = [
+    (true, false, false),
+    (false, false, true),
+    (false, true, false),
+    (true, false, false),
+];
+
+fn are_in_order() -> bool {
+    SignedDuration::MIN < sample() && sample() < SignedDuration::ZERO
 }
 
-#[test]
-fn tells_lengths_without_sign(rt: HostRuntime) {
-    let lengths = [
+fn lengths() -> [SignedDuration; 4] {
+    [
+        sample().abs(),
+        SignedDuration::ZERO.abs(),
+        SignedDuration::MAX.abs(),
+        SignedDuration::MIN.abs(),
+    ]
+}
+
+fn lengths_without_sign() -> [Duration; 4] {
+    [
         sample().unsigned_abs(),
         SignedDuration::ZERO.unsigned_abs(),
         SignedDuration::MAX.unsigned_abs(),
         SignedDuration::MIN.unsigned_abs(),
-    ];
-    let expected = [
-        Duration::new(93_784, 5_000_001),
-        Duration::new(0, 0),
-        Duration::new(9_223_372_036_854_775_807, 999_999_999),
-        Duration::new(9_223_372_036_854_775_808, 999_999_999),
-    ];
-    assert!(rt; lengths == expected);
+    ]
+}
+
+fn has_lengths() -> bool {
+    let length = SignedDuration::new(93_784, 5_000_001);
+    let greatest = SignedDuration::MAX;
+    lengths() == [length, SignedDuration::ZERO, greatest, greatest]
+}
+
+fn has_lengths_without_sign() -> bool {
+    lengths_without_sign()
+        == [
+            Duration::new(93_784, 5_000_001),
+            Duration::new(0, 0),
+            Duration::new(9_223_372_036_854_775_807, 999_999_999),
+            Duration::new(9_223_372_036_854_775_808, 999_999_999),
+        ]
 }
 
 #[test]
-fn refuses_what_is_no_duration(rt: HostRuntime) {
+fn tells_signs_and_lengths(rt: HostRuntime) {
+    let holds = [are_in_order(), has_lengths(), has_lengths_without_sign()];
+    assert!(rt; all_signs() == SIGNS && holds == [true; 3]);
+}
+
+fn refused() -> [Option<SignedDuration>; 6] {
     let (least, greatest) = (SignedDuration::MIN, SignedDuration::MAX);
-    let given = [
+    [
         greatest.checked_add(NANOSECOND),
         least.checked_sub(NANOSECOND),
         least.checked_neg(),
         greatest.checked_mul(2),
         least.checked_div(-1),
         greatest.checked_div(0),
-    ];
-    assert!(rt; given == [None; 6]);
+    ]
+}
+
+// A sum that is refused, and one that comes back.
+fn sums() -> [Option<SignedDuration>; 2] {
+    let (least, greatest) = (SignedDuration::MIN, SignedDuration::MAX);
+    [
+        SignedDuration::try_sum([greatest, NANOSECOND, least].iter().copied()),
+        SignedDuration::try_sum([greatest, least, NANOSECOND].iter().copied()),
+    ]
 }
 
 // The seconds of some overflow, and the whole does not.
-#[test]
-fn refuses_by_the_whole(rt: HostRuntime) {
+fn whole_fits() -> bool {
     let (least, greatest) = (SignedDuration::MIN, SignedDuration::MAX);
-    let back = SignedDuration::nanoseconds(-1);
     let given = [
-        SignedDuration::try_sum([greatest, NANOSECOND, least].iter().copied()),
-        SignedDuration::try_sum([greatest, least, NANOSECOND].iter().copied()),
-        back.checked_sub(SignedDuration::seconds(i64::MIN)),
+        SignedDuration::nanoseconds(-1).checked_sub(SignedDuration::seconds(i64::MIN)),
         least.checked_add(greatest),
         greatest.checked_neg(),
     ];
-    let expected = [
-        None,
-        Some(SignedDuration::new(-1, 1)),
-        Some(greatest),
-        Some(SignedDuration::seconds(-1)),
-        Some(SignedDuration::new(-9_223_372_036_854_775_807, -999_999_999)),
-    ];
-    assert!(rt; given == expected);
+    let turned = SignedDuration::new(-9_223_372_036_854_775_807, -999_999_999);
+    given == [greatest, SignedDuration::seconds(-1), turned].map(Some)
 }
 
 #[test]
-fn ends_at_the_ends(rt: HostRuntime) {
+fn refuses_by_the_whole(rt: HostRuntime) {
+    let sum = Some(SignedDuration::new(-1, 1));
+    assert!(rt; refused() == [None; 6] && sums() == [None, sum] && whole_fits());
+}
+
+fn ends_at_the_ends() -> bool {
     let (least, greatest) = (SignedDuration::MIN, SignedDuration::MAX);
     let given = [
         greatest.saturating_add(NANOSECOND),
@@ -183,15 +200,12 @@ fn ends_at_the_ends(rt: HostRuntime) {
         greatest.saturating_mul(-2),
         SignedDuration::nanoseconds(-1).saturating_sub(least),
     ];
-    assert!(rt; given == [greatest, least, least, greatest]);
+    given == [greatest, least, least, greatest]
 }
 
-#[test]
-fn adds_and_subtracts(rt: HostRuntime) {
-    let (second, sample) = (
-        SignedDuration::seconds(1),
-        SignedDuration::milliseconds(-1500),
-    );
+fn adds_and_subtracts() -> bool {
+    let second = SignedDuration::seconds(1);
+    let sample = SignedDuration::milliseconds(-1500);
     let (mut sum, mut difference) = (second, second);
     sum += sample;
     difference -= sample;
@@ -199,8 +213,11 @@ fn adds_and_subtracts(rt: HostRuntime) {
         SignedDuration::milliseconds(-500),
         SignedDuration::milliseconds(2500),
     );
-    assert!(rt;
-        [second + sample, second - sample, sum, difference] == [less, more, less, more]
-            && -sample == SignedDuration::milliseconds(1500)
-    );
+    [second + sample, second - sample, sum, difference] == [less, more, less, more]
+        && -sample == SignedDuration::milliseconds(1500)
+}
+
+#[test]
+fn adds_and_ends(rt: HostRuntime) {
+    assert!(rt; adds_and_subtracts() && ends_at_the_ends());
 }

@@ -4,30 +4,51 @@ use calendar::{
     Weekday, WeekdayIter,
 };
 
-#[test]
-fn months(rt: HostRuntime) {
-    let given = [
+fn months_led_to() -> [Month; 4] {
+    [
         Month::December.next(),
         Month::January.previous(),
         Month::March.nth_next(255),
         Month::June.nth_prev(255),
-    ];
-    assert!(rt;
-        given == [Month::January, Month::December, Month::June, Month::March]
-            && (u8::from(Month::September), Month::February.length(2024)) == (9, 29)
-            && Month::April < Month::August
-            && Month::October > Month::August
-    );
+    ]
+}
+
+static MONTHS_LED_TO: [Month; 4] = [Month::January, Month::December, Month::June, Month::March];
+
+fn months_tell_of_themselves() -> [bool; 6] {
+    let thirteenth = Month::try_from(13);
+    [
+        (u8::from(Month::September), Month::February.length(2024)) == (9, 29),
+        Month::April < Month::August,
+        Month::October > Month::August,
+        Month::try_from(2) == Ok(Month::February),
+        thirteenth == Err(ComponentRange::unconditional(ComponentName::Month)),
+        Month::try_from(0).is_err(),
+    ]
 }
 
 #[test]
-fn months_by_number(rt: HostRuntime) {
-    assert!(rt;
-        Month::try_from(2) == Ok(Month::February)
-            && Month::try_from(13) == Err(ComponentRange::unconditional(ComponentName::Month))
-            && Month::try_from(0).is_err()
-    );
+fn months(rt: HostRuntime) {
+    assert!(rt; months_led_to() == MONTHS_LED_TO && months_tell_of_themselves() == [true; 6]);
 }
+
+fn weekdays_led_to() -> [Weekday; 5] {
+    [
+        Weekday::from_number(2),
+        Weekday::Sunday.next(),
+        Weekday::Monday.previous(),
+        Weekday::Tuesday.nth_next(255),
+        Weekday::Friday.nth_prev(255),
+    ]
+}
+
+static WEEKDAYS_LED_TO: [Weekday; 5] = [
+    Weekday::Wednesday,
+    Weekday::Monday,
+    Weekday::Sunday,
+    Weekday::Friday,
+    Weekday::Tuesday,
+];
 
 fn numbers(weekday: Weekday) -> (u8, u8, u8, u8) {
     (
@@ -38,39 +59,19 @@ fn numbers(weekday: Weekday) -> (u8, u8, u8, u8) {
     )
 }
 
-#[test]
-fn weekdays(rt: HostRuntime) {
-    let given = [
-        Weekday::from_number(2),
-        Weekday::Sunday.next(),
-        Weekday::Monday.previous(),
-        Weekday::Tuesday.nth_next(255),
-        Weekday::Friday.nth_prev(255),
-    ];
-    assert!(rt;
-        given
-            == [
-                Weekday::Wednesday,
-                Weekday::Monday,
-                Weekday::Sunday,
-                Weekday::Friday,
-                Weekday::Tuesday
-            ]
-    );
+fn weekday_numbers() -> [(u8, u8, u8, u8); 3] {
+    [
+        numbers(Weekday::Monday),
+        numbers(Weekday::Saturday),
+        numbers(Weekday::Sunday),
+    ]
 }
 
-static NUMBERS: [(Weekday, (u8, u8, u8, u8)); 3] = [
-    (Weekday::Monday, (1, 0, 2, 1)),
-    (Weekday::Saturday, (6, 5, 7, 6)),
-    (Weekday::Sunday, (7, 6, 1, 0)),
-];
+static NUMBERS: [(u8, u8, u8, u8); 3] = [(1, 0, 2, 1), (6, 5, 7, 6), (7, 6, 1, 0)];
 
 #[test]
-fn numbers_weekdays(rt: HostRuntime) {
-    for row in &NUMBERS {
-        let (weekday, expected) = *row;
-        assert!(rt; numbers(weekday) == expected);
-    }
+fn weekdays(rt: HostRuntime) {
+    assert!(rt; weekdays_led_to() == WEEKDAYS_LED_TO && weekday_numbers() == NUMBERS);
 }
 
 type Named = (
@@ -102,103 +103,132 @@ static NAMES: [(&str, Named); 14] = [
     ("Mondays", NEITHER),
 ];
 
-#[test]
-fn names(rt: HostRuntime) {
-    for row in &NAMES {
-        let (text, expected) = *row;
-        assert!(rt; named(text) == expected);
-    }
+// Whether a row says what its text names.
+fn is_named(row: &(&str, Named)) -> bool {
+    named(row.0) == row.1
 }
 
 #[test]
-fn walks_months(rt: HostRuntime) {
+fn names(rt: HostRuntime) {
+    for row in &NAMES {
+        assert!(rt; is_named(row));
+    }
+}
+
+fn walked_months() -> [Option<Month>; 5] {
     let mut months = Month::iter_from(Month::November);
-    let given = [
+    [
         months.next(),
         months.next(),
         months.nth(25),
         months.next(),
         months.rev().next(),
-    ];
-    let expected = [
-        Month::November,
-        Month::December,
-        Month::February,
-        Month::March,
-        Month::April,
-    ];
-    assert!(rt; given == expected.map(Some));
+    ]
 }
 
-#[test]
-fn walks_months_back(rt: HostRuntime) {
+static WALKED_MONTHS: [Option<Month>; 5] = [
+    Some(Month::November),
+    Some(Month::December),
+    Some(Month::February),
+    Some(Month::March),
+    Some(Month::April),
+];
+
+fn months_walked_back() -> [Option<Month>; 4] {
     let mut turned = RevMonthIter::new(Month::April);
-    let given = [
+    [
         turned.next(),
         turned.nth(3),
         turned.rev().next(),
         RevMonthIter::new(Month::June).nth(1),
-    ];
-    let expected = [Month::April, Month::December, Month::November, Month::May];
-    assert!(rt; given == expected.map(Some));
+    ]
 }
 
+static MONTHS_WALKED_BACK: [Option<Month>; 4] = [
+    Some(Month::April),
+    Some(Month::December),
+    Some(Month::November),
+    Some(Month::May),
+];
+
 #[test]
-fn tells_of_all_months(rt: HostRuntime) {
-    let (first, last) = (Some(Month::January), Some(Month::December));
-    let ends = [
+fn walks_months(rt: HostRuntime) {
+    assert!(rt; walked_months() == WALKED_MONTHS && months_walked_back() == MONTHS_WALKED_BACK);
+}
+
+fn ends_of_all_months() -> [Option<Month>; 4] {
+    [
         MonthIter::new(Month::June).min(),
         RevMonthIter::new(Month::June).min(),
         MonthIter::new(Month::June).max(),
         RevMonthIter::new(Month::June).max(),
-    ];
-    let sorted = [
+    ]
+}
+
+static ENDS: [Option<Month>; 4] = [
+    Some(Month::January),
+    Some(Month::January),
+    Some(Month::December),
+    Some(Month::December),
+];
+
+fn are_sorted() -> [bool; 2] {
+    [
         MonthIter::new(Month::January).is_sorted(),
         RevMonthIter::new(Month::December).is_sorted(),
-    ];
-    assert!(rt; (ends, sorted) == ([first, first, last, last], [false; 2]));
+    ]
 }
 
-#[test]
-fn goes_round_the_year(rt: HostRuntime) {
-    let junes = MonthIter::new(Month::June)
+// How many Junes are among thirteen months from June on.
+fn junes() -> usize {
+    MonthIter::new(Month::June)
         .take(13)
-        .filter(|month| *month == Month::June);
-    assert!(rt; junes.count() == 2);
+        .filter(|month| *month == Month::June)
+        .count()
 }
 
 #[test]
-fn walks_weekdays(rt: HostRuntime) {
+fn tells_of_all_months(rt: HostRuntime) {
+    assert!(rt; ends_of_all_months() == ENDS && are_sorted() == [false; 2] && junes() == 2);
+}
+
+fn walked_weekdays() -> [Option<Weekday>; 4] {
     let mut weekdays = Weekday::iter_from(Weekday::Saturday);
-    let given = [
+    [
         weekdays.next(),
         weekdays.nth(8),
         weekdays.rev().next(),
         WeekdayIter::new(Weekday::Monday).nth(6),
-    ];
-    let expected = [
-        Weekday::Saturday,
-        Weekday::Monday,
-        Weekday::Tuesday,
-        Weekday::Sunday,
-    ];
-    assert!(rt; given == expected.map(Some));
+    ]
 }
 
-#[test]
-fn walks_weekdays_back(rt: HostRuntime) {
+static WALKED_WEEKDAYS: [Option<Weekday>; 4] = [
+    Some(Weekday::Saturday),
+    Some(Weekday::Monday),
+    Some(Weekday::Tuesday),
+    Some(Weekday::Sunday),
+];
+
+fn weekdays_walked_back() -> [Option<Weekday>; 4] {
     let mut turned = RevWeekdayIter::new(Weekday::Tuesday);
-    let given = [
+    [
         turned.next(),
         turned.nth(1),
         turned.rev().next(),
         RevWeekdayIter::new(Weekday::Monday).nth(1),
-    ];
-    let expected = [
-        Weekday::Tuesday,
-        Weekday::Sunday,
-        Weekday::Saturday,
-        Weekday::Sunday,
-    ];
-    assert!(rt; given == expected.map(Some));
+    ]
+}
+
+static WEEKDAYS_WALKED_BACK: [Option<Weekday>; 4] = [
+    Some(Weekday::Tuesday),
+    Some(Weekday::Sunday),
+    Some(Weekday::Saturday),
+    Some(Weekday::Sunday),
+];
+
+#[test]
+fn walks_weekdays(rt: HostRuntime) {
+    assert!(rt;
+        walked_weekdays() == WALKED_WEEKDAYS && weekdays_walked_back() == WEEKDAYS_WALKED_BACK
+    );
 }

@@ -16,13 +16,17 @@ static OFFSETS: [(i8, i8, i8, i32); 6] = [
     (0, 0, -1, -1),
 ];
 
+// Whether the parts make an offset of these seconds, which make it too.
+fn is_shifted(hours: i8, minutes: i8, seconds: i8, whole: i32) -> bool {
+    let offset = offset_of(hours, minutes, seconds);
+    offset.whole_seconds() == whole && UtcOffset::from_whole_seconds(whole) == Ok(offset)
+}
+
 #[test]
 fn shifts_offsets(rt: HostRuntime) {
     for row in &OFFSETS {
         let (hours, minutes, seconds, whole) = *row;
-        let offset = offset_of(hours, minutes, seconds);
-        assert!(rt; offset.whole_seconds() == whole);
-        assert!(rt; UtcOffset::from_whole_seconds(whole) == Ok(offset));
+        assert!(rt; is_shifted(hours, minutes, seconds, whole));
     }
 }
 
@@ -42,16 +46,22 @@ fn side(offset: UtcOffset) -> (bool, bool, bool) {
     (offset.is_positive(), offset.is_negative(), offset.is_utc())
 }
 
+fn are_told(offset: UtcOffset) -> [bool; 4] {
+    let sides = [side(offset), side(-offset), side(UtcOffset::UTC)];
+    [
+        parts(offset) == ((-1, -30, -5), -1, -90, -30, -5),
+        sides
+            == [
+                (false, true, false),
+                (true, false, false),
+                (false, false, true),
+            ],
+        (-offset).as_hms() == (1, 30, 5),
+        offset < UtcOffset::UTC,
+    ]
+}
+
 #[test]
 fn tells_parts_of_offsets(rt: HostRuntime) {
-    let offset = offset_of(-1, 30, 5);
-    assert!(rt; parts(offset) == ((-1, -30, -5), -1, -90, -30, -5));
-    for (given, expected) in [
-        (offset, (false, true, false)),
-        (-offset, (true, false, false)),
-        (UtcOffset::UTC, (false, false, true)),
-    ] {
-        assert!(rt; side(given) == expected);
-    }
-    assert!(rt; (-offset).as_hms() == (1, 30, 5) && offset < UtcOffset::UTC);
+    assert!(rt; are_told(offset_of(-1, 30, 5)) == [true; 4]);
 }

@@ -14,160 +14,199 @@ fn is_text(answer: Result<String, AllocError>, text: &str) -> bool {
     }
 }
 
-// The text, and the one for debugging.
-fn shown<T: fmt::Display + fmt::Debug + Drop>(
-    alloc: Global,
-    value: T,
-) -> Result<String, AllocError> {
-    format!(in alloc; "{value} {value:?}")
+// Whether a value has this text, and behind a space the same one for debugging.
+fn prints<T: fmt::Display + fmt::Debug + Drop>(alloc: Global, value: T, text: &str) -> bool {
+    is_text(format!(in alloc; "{value} {value:?}"), text)
 }
 
-// Whether each value has its text, with the one for debugging behind it.
-fn all_print<T: fmt::Display + fmt::Debug + Copy + Drop>(
-    alloc: Global,
-    rows: &[(T, &str)],
-) -> bool {
-    for (value, text) in rows {
-        if !is_text(shown(alloc, *value), text) {
-            return false;
-        }
-    }
-    true
+// The same of a day.
+fn prints_day(alloc: Global, year: i32, month: Month, day: u8, text: &str) -> bool {
+    prints(alloc, dates::date_of(year, month, day), text)
 }
 
-#[test]
-fn prints_dates(rt: HostRuntime) {
-    let rows = [
-        (
-            dates::date_of(2024, Month::June, 9),
-            "2024-06-09 2024-06-09",
-        ),
-        (
-            dates::date_of(0, Month::December, 31),
-            "0000-12-31 0000-12-31",
-        ),
-        (
-            dates::date_of(-1, Month::January, 1),
-            "-0001-01-01 -0001-01-01",
-        ),
-        (
-            dates::date_of(10_000, Month::January, 1),
+fn prints_days(alloc: Global) -> [bool; 5] {
+    [
+        prints_day(alloc, 2024, Month::June, 9, "2024-06-09 2024-06-09"),
+        prints_day(alloc, 0, Month::December, 31, "0000-12-31 0000-12-31"),
+        prints_day(alloc, -1, Month::January, 1, "-0001-01-01 -0001-01-01"),
+        prints_day(
+            alloc,
+            10_000,
+            Month::January,
+            1,
             "+10000-01-01 +10000-01-01",
         ),
-        (
-            dates::date_of(-999_999, Month::January, 1),
+        prints_day(
+            alloc,
+            -999_999,
+            Month::January,
+            1,
             "-999999-01-01 -999999-01-01",
         ),
-    ];
-    assert!(rt; all_print(rt.alloc(), &rows));
+    ]
 }
 
-#[test]
-fn prints_days_of_weeks(rt: HostRuntime) {
+fn prints_the_day_of_a_week(alloc: Global) -> bool {
     let saturday = dates::answered(Date::from_iso_week_date(9999, 52, Weekday::Saturday));
-    assert!(rt; is_text(saturday.to_string(rt.alloc()), "+10000-01-01"));
+    is_text(saturday.to_string(alloc), "+10000-01-01")
+}
+
+fn prints_times(alloc: Global) -> [bool; 4] {
+    let early = Time::from_seconds_nanoseconds(25_509, 1000);
+    let late = Time::from_seconds_nanoseconds(84_050, 520_000_000);
+    let last = Time::from_seconds_nanoseconds(86_399, 999_999_999);
+    [
+        prints(
+            alloc,
+            Time::from_seconds_nanoseconds(0, 0),
+            "0:00:00.0 0:00:00.0",
+        ),
+        prints(alloc, early, "7:05:09.000001 7:05:09.000001"),
+        prints(alloc, late, "23:20:50.52 23:20:50.52"),
+        prints(alloc, last, "23:59:59.999999999 23:59:59.999999999"),
+    ]
+}
+
+fn prints_offset(alloc: Global, seconds: i32, text: &str) -> bool {
+    match UtcOffset::from_whole_seconds(seconds) {
+        Ok(offset) => prints(alloc, offset, text),
+        Err(_) => false,
+    }
+}
+
+fn prints_offsets(alloc: Global) -> [bool; 3] {
+    [
+        prints_offset(alloc, 0, "+00:00:00 +00:00:00"),
+        prints_offset(alloc, -1805, "-00:30:05 -00:30:05"),
+        prints_offset(alloc, 93_599, "+25:59:59 +25:59:59"),
+    ]
 }
 
 #[test]
-fn prints_times(rt: HostRuntime) {
-    let rows = [
-        (Time::from_seconds_nanoseconds(0, 0), "0:00:00.0 0:00:00.0"),
-        (
-            Time::from_seconds_nanoseconds(25_509, 1000),
-            "7:05:09.000001 7:05:09.000001",
-        ),
-        (
-            Time::from_seconds_nanoseconds(84_050, 520_000_000),
-            "23:20:50.52 23:20:50.52",
-        ),
-        (
-            Time::from_seconds_nanoseconds(86_399, 999_999_999),
-            "23:59:59.999999999 23:59:59.999999999",
-        ),
-    ];
-    assert!(rt; all_print(rt.alloc(), &rows));
+fn prints_days_times_and_offsets(rt: HostRuntime) {
+    let alloc = rt.alloc();
+    assert!(rt; prints_days(alloc) == [true; 5] && prints_the_day_of_a_week(alloc));
+    assert!(rt; prints_times(alloc) == [true; 4] && prints_offsets(alloc) == [true; 3]);
 }
 
-fn offset_of(seconds: i32) -> UtcOffset {
-    UtcOffset::from_whole_seconds(seconds).unwrap_or(UtcOffset::UTC)
-}
-
-#[test]
-fn prints_offsets(rt: HostRuntime) {
-    let rows = [
-        (offset_of(0), "+00:00:00 +00:00:00"),
-        (offset_of(-1805), "-00:30:05 -00:30:05"),
-        (offset_of(93_599), "+25:59:59 +25:59:59"),
-    ];
-    assert!(rt; all_print(rt.alloc(), &rows));
-}
-
-#[test]
-fn prints_durations(rt: HostRuntime) {
-    let rows = [
-        (durations::sample(), "-1d2h3m4s5ms1ns -1d2h3m4s5ms1ns"),
-        (SignedDuration::ZERO, "0s 0s"),
-        (SignedDuration::WEEK, "7d 7d"),
-        (
+fn prints_durations(alloc: Global) -> [bool; 5] {
+    [
+        prints(
+            alloc,
+            durations::sample(),
+            "-1d2h3m4s5ms1ns -1d2h3m4s5ms1ns",
+        ),
+        prints(alloc, SignedDuration::ZERO, "0s 0s"),
+        prints(alloc, SignedDuration::WEEK, "7d 7d"),
+        prints(
+            alloc,
             SignedDuration::microseconds(-61_000_250),
             "-1m1s250µs -1m1s250µs",
         ),
-        (
+        prints(
+            alloc,
             SignedDuration::MAX,
             "106751991167300d15h30m7s999ms999µs999ns 106751991167300d15h30m7s999ms999µs999ns",
         ),
-    ];
-    assert!(rt; all_print(rt.alloc(), &rows));
+    ]
 }
 
-static MONTHS: [(Month, &str); 4] = [
-    (Month::January, "January January"),
-    (Month::May, "May May"),
-    (Month::September, "September September"),
-    (Month::December, "December December"),
-];
-
-static WEEKDAYS: [(Weekday, &str); 3] = [
-    (Weekday::Monday, "Monday Monday"),
-    (Weekday::Wednesday, "Wednesday Wednesday"),
-    (Weekday::Sunday, "Sunday Sunday"),
-];
-
-#[test]
-fn prints_months_and_weekdays(rt: HostRuntime) {
-    assert!(rt; all_print(rt.alloc(), &MONTHS) && all_print(rt.alloc(), &WEEKDAYS));
+fn prints_names(alloc: Global) -> [bool; 7] {
+    [
+        prints(alloc, Month::January, "January January"),
+        prints(alloc, Month::May, "May May"),
+        prints(alloc, Month::September, "September September"),
+        prints(alloc, Month::December, "December December"),
+        prints(alloc, Weekday::Monday, "Monday Monday"),
+        prints(alloc, Weekday::Wednesday, "Wednesday Wednesday"),
+        prints(alloc, Weekday::Sunday, "Sunday Sunday"),
+    ]
 }
 
 fn displays<T: fmt::Display + Drop>(alloc: Global, value: T, text: &str) -> bool {
     is_text(value.to_string(alloc), text)
 }
 
-#[test]
-fn prints_refusals(rt: HostRuntime) {
+fn prints_refusals(alloc: Global) -> [bool; 4] {
     let day = ComponentRange::conditional(ComponentName::Day);
     let julian_day = ComponentRange::unconditional(ComponentName::JulianDay);
-    assert!(rt;
+    [
         displays(
-            rt.alloc(),
+            alloc,
             day,
-            "day was not in range given values of other parameters"
-        ) && displays(rt.alloc(), julian_day, "julian_day was not in range")
-            && displays(
-                rt.alloc(),
-                ConversionRange,
-                "value out of range for the target type"
-            )
-            && displays(rt.alloc(), InvalidVariant, "value was not a valid variant")
-    );
+            "day was not in range given values of other parameters",
+        ),
+        displays(alloc, julian_day, "julian_day was not in range"),
+        displays(
+            alloc,
+            ConversionRange,
+            "value out of range for the target type",
+        ),
+        displays(alloc, InvalidVariant, "value was not a valid variant"),
+    ]
 }
 
-fn a_date_is_padded(alloc: Global) -> bool {
-    let day = dates::date_of(-44, Month::March, 15);
-    let answer = format!(in alloc; "[{day:13}|{day:<12}|{day:>12}|{day:*^14}|{day:3}]");
+#[test]
+fn prints_durations_names_and_refusals(rt: HostRuntime) {
+    let alloc = rt.alloc();
+    assert!(rt; prints_durations(alloc) == [true; 5] && prints_names(alloc) == [true; 7]);
+    assert!(rt; prints_refusals(alloc) == [true; 4]);
+}
+
+// Whether a value has this text under a width, to the left and to the right, amid stars, and under too small a width.
+fn is_padded<T: fmt::Display + Drop>(alloc: Global, value: T, text: &str) -> bool {
     is_text(
-        answer,
-        "[-0044-03-15  |-0044-03-15 | -0044-03-15|*-0044-03-15**|-0044-03-15]",
+        format!(in alloc; "[{value:14}|{value:<14}|{value:>14}|{value:*^14}|{value:2}]"),
+        text,
     )
+}
+
+fn days_and_times_are_padded(alloc: Global) -> [bool; 3] {
+    let day = dates::date_of(-44, Month::March, 15);
+    let time = Time::from_seconds_nanoseconds(25_500, 250_000_000);
+    let offset = UtcOffset::from_hms(-5, -30, 0).unwrap_or(UtcOffset::UTC);
+    [
+        is_padded(
+            alloc,
+            day,
+            "[-0044-03-15   |-0044-03-15   |   -0044-03-15|*-0044-03-15**|-0044-03-15]",
+        ),
+        is_padded(
+            alloc,
+            time,
+            "[7:05:00.25    |7:05:00.25    |    7:05:00.25|**7:05:00.25**|7:05:00.25]",
+        ),
+        is_padded(
+            alloc,
+            offset,
+            "[-05:30:00     |-05:30:00     |     -05:30:00|**-05:30:00***|-05:30:00]",
+        ),
+    ]
+}
+
+fn durations_and_names_are_padded(alloc: Global) -> [bool; 4] {
+    [
+        is_padded(
+            alloc,
+            SignedDuration::milliseconds(-1500),
+            "[-1s500ms      |-1s500ms      |      -1s500ms|***-1s500ms***|-1s500ms]",
+        ),
+        is_padded(
+            alloc,
+            SignedDuration::ZERO,
+            "[0s            |0s            |            0s|******0s******|0s]",
+        ),
+        is_padded(
+            alloc,
+            Month::May,
+            "[May           |May           |           May|*****May******|May]",
+        ),
+        is_padded(
+            alloc,
+            Weekday::Friday,
+            "[Friday        |Friday        |        Friday|****Friday****|Friday]",
+        ),
+    ]
 }
 
 static PADDED: [(i32, &str); 5] = [
@@ -178,7 +217,7 @@ static PADDED: [(i32, &str); 5] = [
     (100_000, " +100000-01-01"),
 ];
 
-fn dates_are_padded(alloc: Global) -> bool {
+fn years_are_padded(alloc: Global) -> bool {
     for (year, text) in &PADDED {
         let day = dates::date_of(*year, Month::January, 1);
         if !is_text(format!(in alloc; "{day:>14}"), text) {
@@ -188,90 +227,50 @@ fn dates_are_padded(alloc: Global) -> bool {
     true
 }
 
-fn a_time_is_padded(alloc: Global) -> bool {
-    let time = Time::from_seconds_nanoseconds(25_500, 250_000_000);
-    let answer = format!(in alloc; "[{time:12}|{time:>12}|{time:*^13}|{time:3}]");
-    is_text(
-        answer,
-        "[7:05:00.25  |  7:05:00.25|*7:05:00.25**|7:05:00.25]",
-    )
-}
-
-fn an_offset_is_padded(alloc: Global) -> bool {
-    let offset = UtcOffset::from_hms(-5, -30, 0).unwrap_or(UtcOffset::UTC);
-    let answer = format!(in alloc; "[{offset:11}|{offset:>11}|{offset:=^12}|{offset:9}]");
-    is_text(answer, "[-05:30:00  |  -05:30:00|=-05:30:00==|-05:30:00]")
-}
-
-fn durations_are_padded(alloc: Global) -> bool {
-    let (short, none) = (SignedDuration::milliseconds(-1500), SignedDuration::ZERO);
-    let answer = format!(in alloc; "[{short:9}|{short:>10}|{short:.^11}|{none:>4}|{none:2}]");
-    is_text(answer, "[-1s500ms |  -1s500ms|.-1s500ms..|  0s|0s]")
-}
-
 // A width counts characters, of which `µ` is one.
 fn the_longest_duration_is_padded(alloc: Global) -> bool {
     let least = SignedDuration::MIN;
-    let answer = format!(in alloc; "{least:*>42}");
-    is_text(answer, "**-106751991167300d15h30m8s999ms999µs999ns")
-}
-
-fn names_are_padded(alloc: Global) -> bool {
-    let (month, weekday) = (Month::May, Weekday::Friday);
-    let answer = format!(in alloc; "[{month:>5}|{weekday:*<8}|{month:^6}]");
-    is_text(answer, "[  May|Friday**| May  ]")
+    let answer = format!(in alloc; "{least:.>42}");
+    is_text(answer, "..-106751991167300d15h30m8s999ms999µs999ns")
 }
 
 #[test]
 fn prints_under_widths(rt: HostRuntime) {
     let alloc = rt.alloc();
-    let are_padded = [
-        a_date_is_padded(alloc),
-        dates_are_padded(alloc),
-        a_time_is_padded(alloc),
-        an_offset_is_padded(alloc),
-        durations_are_padded(alloc),
-        the_longest_duration_is_padded(alloc),
-        names_are_padded(alloc),
-    ];
-    assert!(rt; are_padded == [true; 7]);
+    assert!(rt; days_and_times_are_padded(alloc) == [true; 3]);
+    assert!(rt; durations_and_names_are_padded(alloc) == [true; 4]);
+    assert!(rt; years_are_padded(alloc) && the_longest_duration_is_padded(alloc));
 }
 
 fn debugs<T: fmt::Debug + Drop>(alloc: Global, value: T, text: &str) -> bool {
     is_text(format!(in alloc; "{value:?}"), text)
 }
 
+fn prints_walks_of_all(alloc: Global) -> [bool; 4] {
+    let (months, weekdays) = (
+        Month::iter_from(Month::May),
+        Weekday::iter_from(Weekday::Monday),
+    );
+    let months_back = RevMonthIter::new(Month::May);
+    let weekdays_back = RevWeekdayIter::new(Weekday::Monday);
+    [
+        debugs(alloc, months, "MonthIter { due: May }"),
+        debugs(alloc, months_back, "RevMonthIter { due: May }"),
+        debugs(alloc, weekdays, "WeekdayIter { due: Monday }"),
+        debugs(alloc, weekdays_back, "RevWeekdayIter { due: Monday }"),
+    ]
+}
+
+fn prints_a_walk_of_days(alloc: Global) -> bool {
+    let leap = dates::date_of(2024, Month::February, 29);
+    debugs(
+        alloc,
+        leap.iter_to(leap),
+        "DateIter { first: 365981444, len: 1 }",
+    )
+}
+
 #[test]
 fn prints_walks(rt: HostRuntime) {
-    let alloc = rt.alloc();
-    let leap = dates::date_of(2024, Month::February, 29);
-    let monday = Weekday::Monday;
-    let are_printed = [
-        debugs(
-            alloc,
-            leap.iter_to(leap),
-            "DateIter { first: 365981444, len: 1 }",
-        ),
-        debugs(
-            alloc,
-            Month::iter_from(Month::May),
-            "MonthIter { due: May }",
-        ),
-        debugs(
-            alloc,
-            RevMonthIter::new(Month::May),
-            "RevMonthIter { due: May }",
-        ),
-        debugs(
-            alloc,
-            Weekday::iter_from(monday),
-            "WeekdayIter { due: Monday }",
-        ),
-        debugs(
-            alloc,
-            RevWeekdayIter::new(monday),
-            "RevWeekdayIter { due: Monday }",
-        ),
-    ];
-    assert!(rt; are_printed == [true; 5]);
+    assert!(rt; prints_walks_of_all(rt.alloc()) == [true; 4] && prints_a_walk_of_days(rt.alloc()));
 }

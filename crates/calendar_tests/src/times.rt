@@ -23,8 +23,10 @@ fn together(
     )
 }
 
+type Parts = (u8, u8, u8, u16, u32, u32, u32, u64);
+
 // The parts of a time one by one.
-fn one_by_one(time: Time) -> (u8, u8, u8, u16, u32, u32, u32, u64) {
+fn one_by_one(time: Time) -> Parts {
     (
         time.hour(),
         time.minute(),
@@ -37,6 +39,34 @@ fn one_by_one(time: Time) -> (u8, u8, u8, u16, u32, u32, u32, u64) {
     )
 }
 
+static ONE_BY_ONE: [Parts; 2] = [
+    (
+        23,
+        20,
+        50,
+        123,
+        123_456,
+        123_456_789,
+        84_050,
+        84_050_123_456_789,
+    ),
+    (
+        23,
+        20,
+        50,
+        520,
+        520_000,
+        520_000_000,
+        84_050,
+        84_050_520_000_000,
+    ),
+];
+
+fn parts_one_by_one() -> [Parts; 2] {
+    let other = Time::from_seconds_nanoseconds(84_050, 520_000_000);
+    [one_by_one(sample()), one_by_one(other)]
+}
+
 #[test]
 fn tells_parts(rt: HostRuntime) {
     let expected = (
@@ -45,35 +75,7 @@ fn tells_parts(rt: HostRuntime) {
         (23, 20, 50, 123_456),
         (23, 20, 50, 123_456_789),
     );
-    assert!(rt; together(sample()) == expected);
-}
-
-#[test]
-fn tells_parts_one_by_one(rt: HostRuntime) {
-    let other = Time::from_seconds_nanoseconds(84_050, 520_000_000);
-    let expected = [
-        (
-            23,
-            20,
-            50,
-            123,
-            123_456,
-            123_456_789,
-            84_050,
-            84_050_123_456_789,
-        ),
-        (
-            23,
-            20,
-            50,
-            520,
-            520_000,
-            520_000_000,
-            84_050,
-            84_050_520_000_000,
-        ),
-    ];
-    assert!(rt; [one_by_one(sample()), one_by_one(other)] == expected);
+    assert!(rt; together(sample()) == expected && parts_one_by_one() == ONE_BY_ONE);
 }
 
 // The second of the day and the nanosecond past it.
@@ -89,69 +91,89 @@ fn answered(answer: Result<Time, ComponentRange>) -> (u32, u32) {
     }
 }
 
-#[test]
-fn builds_times(rt: HostRuntime) {
-    for (given, expected) in [
-        (
-            Time::from_hms_nano(23, 20, 50, 520_000_000),
-            (84_050, 520_000_000),
-        ),
-        (Time::from_hms_milli(23, 20, 50, 123), (84_050, 123_000_000)),
-        (
-            Time::from_hms_micro(23, 20, 50, 123_456),
-            (84_050, 123_456_000),
-        ),
-        (Time::from_hms(0, 0, 0), (0, 0)),
-        (Ok(Time::MIDNIGHT), (0, 0)),
-        (
-            Time::from_hms_nano(23, 59, 59, 999_999_999),
-            (86_399, 999_999_999),
-        ),
-        (Ok(Time::MAX), (86_399, 999_999_999)),
-    ] {
-        assert!(rt; answered(given) == expected);
-    }
+fn built() -> [(u32, u32); 7] {
+    [
+        answered(Time::from_hms_nano(23, 20, 50, 520_000_000)),
+        answered(Time::from_hms_nano(23, 59, 59, 999_999_999)),
+        answered(Time::from_hms_milli(23, 20, 50, 123)),
+        answered(Time::from_hms_micro(23, 20, 50, 123_456)),
+        answered(Time::from_hms(0, 0, 0)),
+        place(Time::MIDNIGHT),
+        place(Time::MAX),
+    ]
 }
 
-#[test]
-fn replaces_parts(rt: HostRuntime) {
+static BUILT: [(u32, u32); 7] = [
+    (84_050, 520_000_000),
+    (86_399, 999_999_999),
+    (84_050, 123_000_000),
+    (84_050, 123_456_000),
+    (0, 0),
+    (0, 0),
+    (86_399, 999_999_999),
+];
+
+fn replaced() -> [(u32, u32); 6] {
     let sample = sample();
-    for (given, expected) in [
-        (sample.replace_hour(1), (4850, 123_456_789)),
-        (sample.replace_minute(1), (82_910, 123_456_789)),
-        (sample.replace_second(1), (84_001, 123_456_789)),
-        (sample.replace_millisecond(1), (84_050, 1_000_000)),
-        (sample.replace_microsecond(1), (84_050, 1000)),
-        (sample.replace_nanosecond(1), (84_050, 1)),
-    ] {
-        assert!(rt; answered(given) == expected);
-    }
+    [
+        answered(sample.replace_hour(1)),
+        answered(sample.replace_minute(1)),
+        answered(sample.replace_second(1)),
+        answered(sample.replace_millisecond(1)),
+        answered(sample.replace_microsecond(1)),
+        answered(sample.replace_nanosecond(1)),
+    ]
 }
 
+static REPLACED: [(u32, u32); 6] = [
+    (4850, 123_456_789),
+    (82_910, 123_456_789),
+    (84_001, 123_456_789),
+    (84_050, 1_000_000),
+    (84_050, 1000),
+    (84_050, 1),
+];
+
 #[test]
-fn cuts_times(rt: HostRuntime) {
+fn builds_and_replaces(rt: HostRuntime) {
+    assert!(rt; built() == BUILT && replaced() == REPLACED);
+}
+
+fn cut() -> [(u32, u32); 5] {
     let sample = sample();
-    let given = [
+    [
         place(sample.truncate_to_hour()),
         place(sample.truncate_to_minute()),
         place(sample.truncate_to_second()),
         place(sample.truncate_to_millisecond()),
         place(sample.truncate_to_microsecond()),
-    ];
-    let expected = [
-        (82_800, 0),
-        (84_000, 0),
-        (84_050, 0),
-        (84_050, 123_000_000),
-        (84_050, 123_456_000),
-    ];
-    assert!(rt; given == expected && Time::MIDNIGHT < sample && sample < Time::MAX);
+    ]
+}
+
+static CUT: [(u32, u32); 5] = [
+    (82_800, 0),
+    (84_000, 0),
+    (84_050, 0),
+    (84_050, 123_000_000),
+    (84_050, 123_456_000),
+];
+
+fn are_in_order() -> bool {
+    Time::MIDNIGHT < sample() && sample() < Time::MAX
 }
 
 #[test]
-fn moves_round_the_clock(rt: HostRuntime) {
-    let (sample, hour) = (sample(), SignedDuration::HOUR);
-    let later = Time::from_seconds_nanoseconds(1250, 123_456_789);
+fn cuts_and_orders(rt: HostRuntime) {
+    assert!(rt; cut() == CUT && are_in_order());
+}
+
+// An hour after the sample.
+fn later() -> Time {
+    Time::from_seconds_nanoseconds(1250, 123_456_789)
+}
+
+fn moves_round_the_clock() -> bool {
+    let (sample, later, hour) = (sample(), later(), SignedDuration::HOUR);
     let mut moved = sample;
     moved += hour;
     let mut back = later;
@@ -163,37 +185,42 @@ fn moves_round_the_clock(rt: HostRuntime) {
         back,
         sample + SignedDuration::DAY,
     ];
-    assert!(rt; given == [later, later, sample, sample, sample]);
+    given == [later, later, sample, sample, sample]
 }
 
-#[test]
-fn counts_round_the_clock(rt: HostRuntime) {
-    let later = Time::from_seconds_nanoseconds(1250, 123_456_789);
+fn counts_round_the_clock() -> bool {
     let given = [
-        sample().duration_until(later),
-        later.duration_since(sample()),
-        later.duration_until(sample()),
-        later - sample(),
+        sample().duration_until(later()),
+        later().duration_since(sample()),
+        later().duration_until(sample()),
+        later() - sample(),
     ];
     let hour = SignedDuration::seconds(3600);
-    let (on, over) = (
-        SignedDuration::seconds(82_800),
-        SignedDuration::seconds(-82_800),
-    );
-    assert!(rt; given == [hour, hour, on, over]);
+    let on = SignedDuration::seconds(82_800);
+    let over = SignedDuration::seconds(-82_800);
+    given == [hour, hour, on, over]
 }
 
 #[test]
-fn moves_over_midnight(rt: HostRuntime) {
+fn goes_round_the_clock(rt: HostRuntime) {
+    assert!(rt; moves_round_the_clock() && counts_round_the_clock());
+}
+
+fn moved_over_midnight() -> [(DateAdjustment, Time); 5] {
     let (first, last) = (Time::MIDNIGHT, Time::MAX);
     let (on, back) = (SignedDuration::NANOSECOND, SignedDuration::nanoseconds(-1));
-    let given = [
+    [
         last.adjusting_add(on),
         last.adjusting_sub(back),
         first.adjusting_sub(on),
         first.adjusting_add(back),
         first.adjusting_add(SignedDuration::WEEK),
-    ];
+    ]
+}
+
+#[test]
+fn moves_over_midnight(rt: HostRuntime) {
+    let (first, last) = (Time::MIDNIGHT, Time::MAX);
     let expected = [
         (DateAdjustment::Next, first),
         (DateAdjustment::Next, first),
@@ -201,5 +228,5 @@ fn moves_over_midnight(rt: HostRuntime) {
         (DateAdjustment::Previous, last),
         (DateAdjustment::None, first),
     ];
-    assert!(rt; given == expected);
+    assert!(rt; moved_over_midnight() == expected);
 }

@@ -1,41 +1,50 @@
 //! Walks over days, and occurrences of a weekday.
 use crate::dates::date_of;
-use calendar::{Date, Month, RevMonthIter, RevWeekdayIter, Weekday};
-use std::test::Fail;
+use calendar::{Date, DateIter, Month, RevMonthIter, RevWeekdayIter, Weekday};
 
-#[test]
-fn walks_days_from_both_ends(rt: HostRuntime) {
-    let before = date_of(2024, Month::February, 28);
+// From 28 February 2024 to the day after the leap day.
+fn three_days() -> DateIter {
+    date_of(2024, Month::February, 28).iter_to(date_of(2024, Month::March, 1))
+}
+
+// The same days from the last to the first: no day.
+fn no_days() -> DateIter {
+    date_of(2024, Month::March, 1).iter_to(date_of(2024, Month::February, 28))
+}
+
+fn walks_from_both_ends() -> bool {
     let leap = date_of(2024, Month::February, 29);
     let after = date_of(2024, Month::March, 1);
-    let mut days = before.iter_to(after);
-    assert!(rt; days.len() == 3);
+    let mut days = three_days();
+    let len = days.len();
     let given = [days.nth(1), days.next(), days.next(), days.next_back()];
-    assert!(rt; given == [Some(leap), Some(after), None, None]);
+    len == 3 && given == [Some(leap), Some(after), None, None]
 }
 
-#[test]
-fn walks_days_back(rt: HostRuntime) {
+fn walks_back() -> bool {
     let before = date_of(2024, Month::February, 28);
     let after = date_of(2024, Month::March, 1);
-    let mut back = before.iter_to(after);
-    assert!(rt; back.size_hint() == (3, Some(3)));
+    let mut back = three_days();
+    let hint = back.size_hint();
     let given = [back.next_back(), back.nth_back(1), back.nth_back(0)];
-    assert!(rt; given == [Some(after), Some(before), None]);
+    hint == (3, Some(3)) && given == [Some(after), Some(before), None]
 }
 
-#[test]
-fn walks_days_to_an_end(rt: HostRuntime) {
+fn walked_to_an_end() -> [Option<Date>; 6] {
+    let before = date_of(2024, Month::February, 28);
+    [
+        before.iter_to(before).last(),
+        three_days().min(),
+        three_days().last(),
+        three_days().max(),
+        no_days().min(),
+        three_days().nth(usize::MAX),
+    ]
+}
+
+fn walks_to_an_end() -> bool {
     let before = date_of(2024, Month::February, 28);
     let after = date_of(2024, Month::March, 1);
-    let given = [
-        before.iter_to(before).last(),
-        before.iter_to(after).min(),
-        before.iter_to(after).last(),
-        before.iter_to(after).max(),
-        after.iter_to(before).min(),
-        before.iter_to(after).nth(usize::MAX),
-    ];
     let expected = [
         Some(before),
         Some(before),
@@ -44,28 +53,36 @@ fn walks_days_to_an_end(rt: HostRuntime) {
         None,
         None,
     ];
-    assert!(rt; given == expected);
+    walked_to_an_end() == expected
 }
 
-#[test]
-fn tells_of_days_left(rt: HostRuntime) {
-    let before = date_of(2024, Month::February, 28);
-    let after = date_of(2024, Month::March, 1);
+fn tells_of_days_left() -> bool {
     let given = [
-        before.iter_to(after).count(),
-        after.iter_to(before).count(),
+        three_days().count(),
+        no_days().count(),
         Date::MIN.iter_to(Date::MAX).len(),
     ];
-    assert!(rt; given == [3, 0, 730_484_634] && before.iter_to(after).is_sorted());
+    given == [3, 0, 730_484_634] && three_days().is_sorted()
 }
 
-#[test]
-fn passes_each_day_once(rt: HostRuntime) {
+fn passes_each_day_once() -> bool {
     let before = date_of(2024, Month::February, 28);
     let leap = date_of(2024, Month::February, 29);
     let after = date_of(2024, Month::March, 1);
     let leaps = before.iter_to(after).rev().filter(|day| *day == leap);
-    assert!(rt; leaps.count() == 1);
+    leaps.count() == 1
+}
+
+#[test]
+fn walks_days(rt: HostRuntime) {
+    let holds = [
+        walks_from_both_ends(),
+        walks_back(),
+        walks_to_an_end(),
+        tells_of_days_left(),
+        passes_each_day_once(),
+    ];
+    assert!(rt; holds == [true; 5]);
 }
 
 // The `n`th such weekday later and earlier, where it is in range, as both calls say.
@@ -95,16 +112,20 @@ static OCCURRENCES: [(Weekday, u8, u8, u8); 4] = [
     (Weekday::Sunday, 3, 21, 17),
 ];
 
+// Whether these are the days of a weekday after and before 1 January 2018, a Monday.
+fn is_found(weekday: Weekday, n: u8, day: u8, back: u8) -> bool {
+    let later = date_of(2018, Month::January, day);
+    let earlier = date_of(2017, Month::December, back);
+    let monday = date_of(2018, Month::January, 1);
+    nth_by_both(monday, weekday, n) == (Some(later), Some(earlier))
+}
+
 #[test]
 fn finds_weekdays(rt: HostRuntime) {
-    let monday = date_of(2018, Month::January, 1);
     for row in &OCCURRENCES {
         let (weekday, n, day, back) = *row;
-        let later = Some(date_of(2018, Month::January, day));
-        let earlier = Some(date_of(2017, Month::December, back));
-        assert!(rt; nth_by_both(monday, weekday, n) == (later, earlier));
+        assert!(rt; is_found(weekday, n, day, back));
     }
-    assert!(rt; nth_by_both(monday, Weekday::Friday, 0) == (None, None));
 }
 
 // The next such weekday and the last one, where they are in range, as both calls say.
@@ -126,42 +147,72 @@ fn next_by_both(day: Date, weekday: Weekday) -> (Option<Date>, Option<Date>) {
     }
 }
 
-#[test]
-fn finds_the_next_weekday(rt: HostRuntime) {
+fn finds_the_next_weekday() -> bool {
     let monday = date_of(2018, Month::January, 1);
     let later = Some(date_of(2018, Month::January, 8));
     let earlier = Some(date_of(2017, Month::December, 25));
-    assert!(rt; next_by_both(monday, Weekday::Monday) == (later, earlier));
+    next_by_both(monday, Weekday::Monday) == (later, earlier)
 }
+
+fn finds_no_weekday() -> bool {
+    let monday = date_of(2018, Month::January, 1);
+    nth_by_both(monday, Weekday::Friday, 0) == (None, None)
+}
+
+#[test]
+fn finds_the_next_weekday_and_none(rt: HostRuntime) {
+    assert!(rt; finds_the_next_weekday() && finds_no_weekday());
+}
+
+fn copied_days() -> Option<bool> {
+    let leap = date_of(2024, Month::February, 29);
+    let days = leap.iter_to(date_of(2024, Month::March, 2));
+    let mut later = days.clone().ok()?;
+    let second = later.nth(1);
+    let counts = (later.count(), days.count());
+    Some(second == Some(date_of(2024, Month::March, 1)) && counts == (1, 3))
+}
+
+// What a copy of a walk gives, and what the walk then does.
+type Copied<T> = Option<(Option<T>, Option<T>)>;
+
+fn copied_months() -> Copied<Month> {
+    let mut months = Month::iter_from(Month::May);
+    let copied = months.clone().ok()?.nth(1);
+    Some((copied, months.next()))
+}
+
+fn copied_months_back() -> Copied<Month> {
+    let mut months = RevMonthIter::new(Month::May);
+    let copied = months.clone().ok()?.nth(11);
+    Some((copied, months.next()))
+}
+
+fn copied_weekdays() -> Copied<Weekday> {
+    let mut weekdays = Weekday::iter_from(Weekday::Monday);
+    let copied = weekdays.clone().ok()?.nth(1);
+    Some((copied, weekdays.next()))
+}
+
+fn copied_weekdays_back() -> Copied<Weekday> {
+    let mut weekdays = RevWeekdayIter::new(Weekday::Monday);
+    let copied = weekdays.clone().ok()?.nth(6);
+    Some((copied, weekdays.next()))
+}
+
+static MONTHS: Copied<Month> = Some((Some(Month::June), Some(Month::May)));
+
+static WEEKDAYS: Copied<Weekday> = Some((Some(Weekday::Tuesday), Some(Weekday::Monday)));
 
 // A copy goes on from where its walk stands, and leaves the walk there.
 #[test]
-fn copies_walks(rt: HostRuntime) -> Result<(), Fail> {
-    let leap = date_of(2024, Month::February, 29);
-    let days = leap.iter_to(date_of(2024, Month::March, 2));
-    let mut later = days.clone()?;
-    assert!(rt; later.nth(1) == Some(date_of(2024, Month::March, 1)));
-    assert!(rt; (later.count(), days.count()) == (1, 3));
-    Ok(())
-}
-
-#[test]
-fn copies_endless_walks(rt: HostRuntime) -> Result<(), Fail> {
-    let mut months = Month::iter_from(Month::May);
-    let mut months_back = RevMonthIter::new(Month::May);
-    for (copied, due) in [
-        (months.clone()?.nth(1), months.next()),
-        (months_back.clone()?.nth(11), months_back.next()),
-    ] {
-        assert!(rt; (copied, due) == (Some(Month::June), Some(Month::May)));
-    }
-    let mut weekdays = Weekday::iter_from(Weekday::Monday);
-    let mut weekdays_back = RevWeekdayIter::new(Weekday::Monday);
-    for (copied, due) in [
-        (weekdays.clone()?.nth(1), weekdays.next()),
-        (weekdays_back.clone()?.nth(6), weekdays_back.next()),
-    ] {
-        assert!(rt; (copied, due) == (Some(Weekday::Tuesday), Some(Weekday::Monday)));
-    }
-    Ok(())
+fn copies_walks(rt: HostRuntime) {
+    let holds = [
+        copied_days() == Some(true),
+        copied_months() == MONTHS,
+        copied_months_back() == MONTHS,
+        copied_weekdays() == WEEKDAYS,
+        copied_weekdays_back() == WEEKDAYS,
+    ];
+    assert!(rt; holds == [true; 5]);
 }

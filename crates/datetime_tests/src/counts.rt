@@ -146,35 +146,41 @@ fn days_of_seconds_as_by_division(rt: HostRuntime) {
     }
 }
 
-#[test]
-fn known_days(rt: HostRuntime) {
-    let days = [
+fn known_days() -> [(i32, u8, u8); 4] {
+    [
         day_of_count(0),
         day_of_count(365_961_662),
         day_of_count(365_972_678),
         day_of_count(730_484_633),
-    ];
-    let wanted = [
-        (-999_999, 1, 1),
-        (1970, 1, 1),
-        (2000, 2, 29),
-        (999_999, 12, 31),
-    ];
-    assert!(rt; days == wanted);
+    ]
 }
 
-#[test]
-fn known_places(rt: HostRuntime) {
+static KNOWN_DAYS: [(i32, u8, u8); 4] = [
+    (-999_999, 1, 1),
+    (1970, 1, 1),
+    (2000, 2, 29),
+    (999_999, 12, 31),
+];
+
+fn known_places() -> bool {
     let given = (
         place_of_count(365_972_984),
         weekday_of_count(365_961_662),
         iso_week_of_count(365_980_291),
     );
-    let weeks = (
+    given == ((2000, 366), 3, (2020, 53))
+}
+
+fn known_weeks() -> (u8, u8) {
+    (
         sunday_week_of_count(365_981_444),
         monday_week_of_count(365_981_444),
-    );
-    assert!(rt; given == ((2000, 366), 3, (2020, 53)) && weeks == (8, 9));
+    )
+}
+
+#[test]
+fn known_days_and_places(rt: HostRuntime) {
+    assert!(rt; known_days() == KNOWN_DAYS && known_places() && known_weeks() == (8, 9));
 }
 
 // A year, a month and a day; an hour, a minute and a second.

@@ -3,21 +3,24 @@ use calendar::SignedDuration;
 use datetime::{signed_from_std, std_from_signed};
 use std::time::Duration;
 
-#[test]
-fn converts(rt: HostRuntime) {
+fn converts() -> bool {
     let (one, other) = (Duration::new(1, 500), SignedDuration::new(1, 500));
     let given = [
         std_from_signed(other),
         std_from_signed(SignedDuration::ZERO),
     ];
-    assert!(rt; signed_from_std(one) == Ok(other) && given == [Ok(one), Ok(Duration::ZERO)]);
+    signed_from_std(one) == Ok(other) && given == [Ok(one), Ok(Duration::ZERO)]
+}
+
+fn refuses() -> [bool; 3] {
+    [
+        signed_from_std(Duration::from_secs(9_223_372_036_854_775_807)).is_err(),
+        signed_from_std(Duration::from_secs(9_223_372_036_854_775_808)).is_err(),
+        std_from_signed(SignedDuration::nanoseconds(-1)).is_err(),
+    ]
 }
 
 #[test]
-fn refuses(rt: HostRuntime) {
-    assert!(rt;
-        signed_from_std(Duration::from_secs(9_223_372_036_854_775_807)).is_ok()
-            && signed_from_std(Duration::from_secs(9_223_372_036_854_775_808)).is_err()
-            && std_from_signed(SignedDuration::nanoseconds(-1)).is_err()
-    );
+fn converts_and_refuses(rt: HostRuntime) {
+    assert!(rt; converts() && refuses() == [false, true, true]);
 }

@@ -5,7 +5,7 @@ use crate::rows::{
     REPLACED, Step, TIME_VIEWS, after_the_last, before_the_first, date_of, east, evening, hash_of,
     leap_day, moved, refused, timestamp_of,
 };
-use calendar::{Month, SignedDuration, Time};
+use calendar::{Month, SignedDuration, Time, UtcOffset};
 use datetime::{OffsetDateTime, PlainDateTime, Timestamp, UtcDateTime, laws};
 use std::cmp::Ordering;
 use std::hash::Hash;
@@ -66,7 +66,7 @@ fn replaces<T: DateTime>(value: T) -> [bool; 3] {
 }
 
 #[test]
-fn shows_its_parts(rt: HostRuntime) {
+fn shows_and_replaces_parts(rt: HostRuntime) {
     let (plain, utc, timestamp, shown) = evenings();
     let views = [
         has_views(plain),
@@ -74,19 +74,13 @@ fn shows_its_parts(rt: HostRuntime) {
         has_views(timestamp),
         has_views(shown),
     ];
-    assert!(rt; views == [true; 4]);
-}
-
-#[test]
-fn replaces_parts(rt: HostRuntime) {
-    let (plain, utc, timestamp, shown) = evenings();
     let replaced = [
         replaces(plain),
         replaces(utc),
         replaces(timestamp),
         replaces(shown),
     ];
-    assert!(rt; replaced == [[true; 3]; 4]);
+    assert!(rt; views == [true; 4] && replaced == [[true; 3]; 4]);
 }
 
 fn is_moved<T: DateTime>(value: T) -> bool {
@@ -107,13 +101,6 @@ fn moves<T: DateTime>(value: T) -> [bool; 3] {
     ]
 }
 
-#[test]
-fn moves_by_durations(rt: HostRuntime) {
-    let (plain, utc, timestamp, shown) = evenings();
-    let moved = [moves(plain), moves(utc), moves(timestamp), moves(shown)];
-    assert!(rt; moved == [[true; 3]; 4]);
-}
-
 // From a value to the one a day later, and back.
 fn apart<T: DateTime>(value: T) -> (SignedDuration, SignedDuration) {
     let next = value.moved(Step::Add(SignedDuration::DAY)).unwrap_or(value);
@@ -121,10 +108,12 @@ fn apart<T: DateTime>(value: T) -> (SignedDuration, SignedDuration) {
 }
 
 #[test]
-fn tells_how_far_apart(rt: HostRuntime) {
+fn moves_by_durations(rt: HostRuntime) {
     let (plain, utc, timestamp, shown) = evenings();
+    let moved = [moves(plain), moves(utc), moves(timestamp), moves(shown)];
     let days = [apart(plain), apart(utc), apart(timestamp), apart(shown)];
-    assert!(rt; days == [(SignedDuration::DAY, SignedDuration::days(-1)); 4]);
+    let day_and_back = (SignedDuration::DAY, SignedDuration::days(-1));
+    assert!(rt; moved == [[true; 3]; 4] && days == [day_and_back; 4]);
 }
 
 fn ends_so<T: DateTime>(end: T, steps: [(Step, Option<Parts>); 4]) -> bool {
@@ -143,16 +132,14 @@ fn has_ends<T: DateTime>(first: T, last: T) -> bool {
         && ends_so(last, after_the_last())
 }
 
-#[test]
-fn ends_with_the_calendar(rt: HostRuntime) {
+fn have_ends() -> [bool; 4] {
     let [first, last] = laws::ends_of_wall_clocks();
-    let ends = [
+    [
         has_ends(first, last),
         has_ends(first.as_utc(), last.as_utc()),
         has_ends(Timestamp::MIN, Timestamp::MAX),
         has_ends(first.assume_offset(east()), last.assume_offset(east())),
-    ];
-    assert!(rt; ends == [true; 4]);
+    ]
 }
 
 fn is_itself<T: Ord + Hash + Copy + Drop>(value: T) -> bool {
@@ -170,50 +157,65 @@ fn is_before<T: Ord + Hash + Copy + Drop>(value: T, later: T) -> bool {
     order == (Ordering::Less, Some(Ordering::Greater)) && is_less(value, later) && is_itself(value)
 }
 
-#[test]
-fn compares(rt: HostRuntime) {
+fn are_ordered() -> [bool; 4] {
     let (plain, utc, timestamp, shown) = evenings();
     let later = Time::from_hms_nano(23, 59, 58, 123_456_790).unwrap_or(Time::MIDNIGHT);
-    let ordered = [
+    [
         is_before(plain, plain.replace_time(later)),
         is_before(utc, utc.replace_time(later)),
         is_before(timestamp, timestamp.replace_time(later)),
         is_before(shown, shown.replace_time(later)),
-    ];
-    assert!(rt; ordered == [true; 4]);
-}
-
-fn cut_plain(value: PlainDateTime) -> [PlainDateTime; 6] {
-    [
-        value.truncate_to_day(),
-        value.truncate_to_hour(),
-        value.truncate_to_minute(),
-        value.truncate_to_second(),
-        value.truncate_to_millisecond(),
-        value.truncate_to_microsecond(),
     ]
 }
 
-fn cut_utc(value: UtcDateTime) -> [UtcDateTime; 6] {
+#[test]
+fn ends_with_the_calendar_and_compares(rt: HostRuntime) {
+    assert!(rt; have_ends() == [true; 4] && are_ordered() == [true; 4]);
+}
+
+// What is shown of a value cut to each unit.
+type Cut = [(Parts, Option<UtcOffset>); 6];
+
+fn cut_plain(value: PlainDateTime) -> Cut {
     [
-        value.truncate_to_day(),
-        value.truncate_to_hour(),
-        value.truncate_to_minute(),
-        value.truncate_to_second(),
-        value.truncate_to_millisecond(),
-        value.truncate_to_microsecond(),
+        value.truncate_to_day().shown(),
+        value.truncate_to_hour().shown(),
+        value.truncate_to_minute().shown(),
+        value.truncate_to_second().shown(),
+        value.truncate_to_millisecond().shown(),
+        value.truncate_to_microsecond().shown(),
     ]
 }
 
-fn cut_shown(value: OffsetDateTime) -> [OffsetDateTime; 6] {
+fn cut_utc(value: UtcDateTime) -> Cut {
     [
-        value.truncate_to_day(),
-        value.truncate_to_hour(),
-        value.truncate_to_minute(),
-        value.truncate_to_second(),
-        value.truncate_to_millisecond(),
-        value.truncate_to_microsecond(),
+        value.truncate_to_day().shown(),
+        value.truncate_to_hour().shown(),
+        value.truncate_to_minute().shown(),
+        value.truncate_to_second().shown(),
+        value.truncate_to_millisecond().shown(),
+        value.truncate_to_microsecond().shown(),
     ]
+}
+
+fn cut_shown(value: OffsetDateTime) -> Cut {
+    [
+        value.truncate_to_day().shown(),
+        value.truncate_to_hour().shown(),
+        value.truncate_to_minute().shown(),
+        value.truncate_to_second().shown(),
+        value.truncate_to_millisecond().shown(),
+        value.truncate_to_microsecond().shown(),
+    ]
+}
+
+fn are_cut(values: &Cut, offset: Option<UtcOffset>) -> bool {
+    for i in 0..6 {
+        if values[i].0 != CUT[i] || values[i].1 != offset {
+            return false;
+        }
+    }
+    true
 }
 
 // Before 1970 too the units begin at whole numbers of the clock.
@@ -221,14 +223,10 @@ fn cut_shown(value: OffsetDateTime) -> [OffsetDateTime; 6] {
 fn cuts_to_units(rt: HostRuntime) {
     let date = date_of(1969, Month::December, 31);
     let (plain, utc, _, shown) = evenings();
-    let (plain, utc) = (
-        cut_plain(plain.replace_date(date)),
-        cut_utc(utc.replace_date(date)),
-    );
-    let shown = cut_shown(shown.replace_date(date));
-    for i in 0..6 {
-        let wanted = CUT[i];
-        let given = (plain[i].parts(), utc[i].parts(), shown[i].shown());
-        assert!(rt; given == (wanted, wanted, (wanted, Some(east()))));
-    }
+    let are_cut = [
+        are_cut(&cut_plain(plain.replace_date(date)), None),
+        are_cut(&cut_utc(utc.replace_date(date)), None),
+        are_cut(&cut_shown(shown.replace_date(date)), Some(east())),
+    ];
+    assert!(rt; are_cut == [true; 3]);
 }

@@ -4,7 +4,6 @@ use crate::rows::{EVENING, LEAP_DAY, east, evening, leap_day, refused, timestamp
 use calendar::{ComponentRange, Month, SignedDuration, UtcOffset};
 use datetime::{OffsetDateTime, PlainDateTime, Timestamp, UtcDateTime, laws};
 use std::cmp::Ordering;
-use std::process::Abort;
 
 // One instant in three types.
 type Instants = (Timestamp, UtcDateTime, OffsetDateTime);
@@ -17,19 +16,21 @@ fn leap_evening() -> Instants {
     (timestamp_of(1_709_251_198, 123_456_789), utc, shown)
 }
 
-#[test]
-fn converts(rt: HostRuntime) {
+fn converts() -> bool {
     let (timestamp, utc, _) = leap_evening();
-    let converted = (Timestamp::from(utc), UtcDateTime::from(timestamp));
-    assert!(rt; converted == (timestamp, utc));
+    (Timestamp::from(utc), UtcDateTime::from(timestamp)) == (timestamp, utc)
+}
+
+fn converts_to_offset_zero() -> bool {
+    let (timestamp, utc, shown) = leap_evening();
+    let at_zero = [OffsetDateTime::from(utc), OffsetDateTime::from(timestamp)];
+    at_zero == [shown; 2]
+        && at_zero.map(DateTime::shown) == [((LEAP_DAY, EVENING), Some(UtcOffset::UTC)); 2]
 }
 
 #[test]
-fn converts_to_offset_zero(rt: HostRuntime) {
-    let (timestamp, utc, shown) = leap_evening();
-    let at_zero = [OffsetDateTime::from(utc), OffsetDateTime::from(timestamp)];
-    let wanted = ((LEAP_DAY, EVENING), Some(UtcOffset::UTC));
-    assert!(rt; at_zero == [shown; 2] && [at_zero[0].shown(), at_zero[1].shown()] == [wanted; 2]);
+fn converts_instants(rt: HostRuntime) {
+    assert!(rt; converts() && converts_to_offset_zero());
 }
 
 // The first by each other type: equality both ways, and the order both ways.
@@ -77,15 +78,22 @@ fn same_later(later: Timestamp) -> Instants {
     (later, later.to_utc(), OffsetDateTime::from(later))
 }
 
+fn compares() -> [bool; 2] {
+    let later = same_later(timestamp_of(1_709_251_198, 123_456_790));
+    [
+        answers(leap_evening(), leap_evening()) == ([true; 6], [Ordering::Equal; 6]),
+        answers(leap_evening(), later) == ([false; 6], [Ordering::Less; 6]),
+    ]
+}
+
+fn subtracts() -> bool {
+    let second_later = same_later(timestamp_of(1_709_251_199, 123_456_789));
+    differences(leap_evening(), second_later) == [SignedDuration::SECOND; 6]
+}
+
 #[test]
 fn compares_and_subtracts(rt: HostRuntime) {
-    let later = same_later(timestamp_of(1_709_251_198, 123_456_790));
-    let second_later = same_later(timestamp_of(1_709_251_199, 123_456_789));
-    assert!(rt;
-        answers(leap_evening(), leap_evening()) == ([true; 6], [Ordering::Equal; 6])
-            && answers(leap_evening(), later) == ([false; 6], [Ordering::Less; 6])
-            && differences(leap_evening(), second_later) == [SignedDuration::SECOND; 6]
-    );
+    assert!(rt; compares() == [true; 2] && subtracts());
 }
 
 fn counted((timestamp, utc, _): Instants) -> (i64, i64, i128, i128, i64, i128) {
@@ -99,109 +107,115 @@ fn counted((timestamp, utc, _): Instants) -> (i64, i64, i128, i128, i64, i128) {
     )
 }
 
-#[test]
-fn counts_units(rt: HostRuntime) {
-    let wanted = (
-        1_709_251_198,
-        1_709_251_198_123,
-        1_709_251_198_123_456,
-        1_709_251_198_123_456_789,
-        1_709_251_198,
-        1_709_251_198_123_456_789,
-    );
-    assert!(rt; counted(leap_evening()) == wanted);
+static COUNTED: (i64, i64, i128, i128, i64, i128) = (
+    1_709_251_198,
+    1_709_251_198_123,
+    1_709_251_198_123_456,
+    1_709_251_198_123_456_789,
+    1_709_251_198,
+    1_709_251_198_123_456_789,
+);
+
+fn begins_in_1970() -> bool {
+    let [_, utc, _] = laws::constants_of_utc();
+    let [_, timestamp, _] = laws::constants_of_timestamps();
+    let shown = laws::epoch_at_offset_zero();
+    (utc.unix_timestamp_nanos(), timestamp.as_nanoseconds()) == (0, 0)
+        && (shown.unix_timestamp_nanos(), shown.offset()) == (0, UtcOffset::UTC)
 }
 
 #[test]
-fn begins_in_1970(rt: HostRuntime) {
-    let ([_, utc, _], [_, timestamp, _]) = (
-        laws::constants_of_utc(),
-        laws::constants_of_timestamps(),
-    );
-    let shown = laws::epoch_at_offset_zero();
-    assert!(rt;
-        (utc.unix_timestamp_nanos(), timestamp.as_nanoseconds()) == (0, 0)
-            && (shown.unix_timestamp_nanos(), shown.offset()) == (0, UtcOffset::UTC)
-    );
+fn counts_units_from_1970(rt: HostRuntime) {
+    assert!(rt; counted(leap_evening()) == COUNTED && begins_in_1970());
+}
+
+// Whether a refusal or a timestamp is that of 29 February 2024 with this nanosecond.
+fn is_made(counted: Result<Timestamp, ComponentRange>, nanosecond: u32) -> bool {
+    counted == Timestamp::new(1_709_251_198, nanosecond)
+}
+
+fn are_made_of_units() -> [bool; 4] {
+    [
+        is_made(Timestamp::from_seconds(1_709_251_198), 0),
+        is_made(Timestamp::from_milliseconds(1_709_251_198_123), 123_000_000),
+        is_made(
+            Timestamp::from_microseconds(1_709_251_198_123_456),
+            123_456_000,
+        ),
+        is_made(
+            Timestamp::from_nanoseconds(1_709_251_198_123_456_789),
+            123_456_789,
+        ),
+    ]
+}
+
+fn rounds_down_before_1970() -> [bool; 3] {
+    let value = Timestamp::from_milliseconds(-1).unwrap_or(Timestamp::MIN);
+    let nanosecond = Timestamp::from_nanoseconds(-1).unwrap_or(Timestamp::MIN);
+    [
+        value.parts() == ((1969, Month::December, 31), (23, 59, 59, 999_000_000)),
+        (value.as_seconds(), value.as_milliseconds()) == (-1, -1),
+        (nanosecond.as_milliseconds(), nanosecond.as_microseconds()) == (-1, -1),
+    ]
 }
 
 #[test]
 fn is_made_of_units(rt: HostRuntime) {
-    for (counted, nanosecond) in [
-        (Timestamp::from_seconds(1_709_251_198), 0),
-        (Timestamp::from_milliseconds(1_709_251_198_123), 123_000_000),
-        (
-            Timestamp::from_microseconds(1_709_251_198_123_456),
-            123_456_000,
-        ),
-        (
-            Timestamp::from_nanoseconds(1_709_251_198_123_456_789),
-            123_456_789,
-        ),
-    ] {
-        assert!(rt; counted == Timestamp::new(1_709_251_198, nanosecond));
-    }
+    assert!(rt; are_made_of_units() == [true; 4] && rounds_down_before_1970() == [true; 3]);
 }
 
+fn made(seconds: i64, nanosecond: u32) -> (&'static str, bool) {
+    refused(Timestamp::new(seconds, nanosecond))
+}
+
+// Refused as a timestamp.
+fn are_refused() -> [(&'static str, bool); 7] {
+    [
+        made(31_494_784_780_800, 0),
+        made(-31_619_087_596_801, 999_999_999),
+        made(31_494_784_780_800, 1_000_000_000),
+        refused(Timestamp::from_seconds(i64::MAX)),
+        refused(Timestamp::from_milliseconds(31_494_784_780_800_000)),
+        refused(Timestamp::from_microseconds(i128::MAX)),
+        refused(Timestamp::from_nanoseconds(i128::MIN)),
+    ]
+}
+
+fn are_refused_in_utc() -> [(&'static str, bool); 2] {
+    [
+        refused(UtcDateTime::from_unix_timestamp(31_494_784_780_800)),
+        refused(UtcDateTime::from_unix_timestamp_nanos(-31_619_087_596_800_000_000_001)),
+    ]
+}
+
+// A nanosecond that is too great is refused by its name.
 #[test]
-fn rounds_down_before_1970(rt: HostRuntime) {
-    let value = Timestamp::from_milliseconds(-1).unwrap_or(Timestamp::MIN);
-    let nanosecond = Timestamp::from_nanoseconds(-1).unwrap_or(Timestamp::MIN);
-    let eve = ((1969, Month::December, 31), (23, 59, 59, 999_000_000));
+fn refuses_what_is_out_of_range(rt: HostRuntime) {
+    let out_of_range = ("timestamp", false);
     assert!(rt;
-        value.parts() == eve
-            && (value.as_seconds(), value.as_milliseconds()) == (-1, -1)
-            && (nanosecond.as_milliseconds(), nanosecond.as_microseconds()) == (-1, -1)
+        are_refused() == [out_of_range; 7]
+            && are_refused_in_utc() == [out_of_range; 2]
+            && made(0, 1_000_000_000) == ("nanosecond", false)
     );
 }
 
-// Refused as a timestamp, but for the one whose nanoseconds alone are too many.
-#[test]
-fn refuses_what_is_out_of_range(rt: HostRuntime) {
-    let refusals: [Result<Timestamp, ComponentRange>; 7] = [
-        Timestamp::new(31_494_784_780_800, 0),
-        Timestamp::new(-31_619_087_596_801, 999_999_999),
-        Timestamp::new(31_494_784_780_800, 1_000_000_000),
-        Timestamp::from_seconds(i64::MAX),
-        Timestamp::from_milliseconds(31_494_784_780_800_000),
-        Timestamp::from_microseconds(i128::MAX),
-        Timestamp::from_nanoseconds(i128::MIN),
-    ];
-    for refusal in refusals {
-        assert!(rt; refused(refusal) == ("timestamp", false));
-    }
-    assert!(rt; refused(Timestamp::new(0, 1_000_000_000)) == ("nanosecond", false));
-}
-
-#[test]
-fn counts_from_1970_in_utc(rt: HostRuntime) {
+fn counts_in_utc() -> bool {
     let value = UtcDateTime::new(leap_day(), evening());
     let given = [
         UtcDateTime::from_unix_timestamp(1_709_251_198),
         UtcDateTime::from_unix_timestamp_nanos(1_709_251_198_123_456_789),
     ];
-    assert!(rt; given == [value.replace_nanosecond(0), Ok(value)]);
+    given == [value.replace_nanosecond(0), Ok(value)]
 }
 
-#[test]
-fn counts_before_1970_in_utc(rt: HostRuntime) {
+fn counts_before_1970_in_utc() -> bool {
     let before = UtcDateTime::from_unix_timestamp_nanos(-1).unwrap_or(Timestamp::MAX.to_utc());
-    assert!(rt; (before.unix_timestamp(), before.year()) == (-1, 1969));
+    (before.unix_timestamp(), before.year()) == (-1, 1969)
 }
 
 #[test]
-fn refuses_what_is_out_of_range_in_utc(rt: HostRuntime) {
-    let refusals = [
-        refused(UtcDateTime::from_unix_timestamp(31_494_784_780_800)),
-        refused(UtcDateTime::from_unix_timestamp_nanos(-31_619_087_596_800_000_000_001)),
-    ];
-    assert!(rt; refusals == [("timestamp", false); 2]);
-}
-
-// At half past five on the next day, where the offset is 5:30.
-fn check_elsewhere(rt: &impl Abort, shown: Option<OffsetDateTime>, east: UtcOffset) {
-    let next_morning = ((2024, Month::March, 1), (5, 29, 58, 123_456_789));
-    assert!(rt; shown.map(OffsetDateTime::shown) == Some((next_morning, Some(east))));
+fn counts_from_1970_in_utc(rt: HostRuntime) {
+    assert!(rt; counts_in_utc() && counts_before_1970_in_utc());
 }
 
 fn timestamp_at(value: Timestamp, offset: UtcOffset) -> Option<OffsetDateTime> {
@@ -214,38 +228,51 @@ fn utc_at(value: UtcDateTime, offset: UtcOffset) -> Option<OffsetDateTime> {
     Some(value.to_offset(offset))
 }
 
-#[test]
-fn is_shown_elsewhere(rt: HostRuntime) {
+fn shown_elsewhere(east: UtcOffset) -> [Option<OffsetDateTime>; 4] {
     let (value, utc, _) = leap_evening();
-    let east = east();
-    check_elsewhere(&rt, value.checked_to_offset(east), east);
-    check_elsewhere(&rt, utc.checked_to_offset(east), east);
-    check_elsewhere(&rt, timestamp_at(value, east), east);
-    check_elsewhere(&rt, utc_at(utc, east), east);
+    [
+        value.checked_to_offset(east),
+        utc.checked_to_offset(east),
+        timestamp_at(value, east),
+        utc_at(utc, east),
+    ]
 }
 
-#[test]
-fn is_shown_in_utc(rt: HostRuntime) {
+// At half past five on the next day, where the offset is 5:30.
+fn is_shown_elsewhere() -> bool {
+    let next_morning = ((2024, Month::March, 1), (5, 29, 58, 123_456_789));
+    let wanted = Some((next_morning, Some(east())));
+    shown_elsewhere(east()).map(|shown| shown.map(OffsetDateTime::shown)) == [wanted; 4]
+}
+
+fn is_shown_in_utc() -> [bool; 3] {
     let (value, _, _) = leap_evening();
-    let east = east();
     let last = Timestamp::MAX;
-    assert!(rt;
-        value.to_utc().parts() == (LEAP_DAY, EVENING)
-            && last.checked_to_offset(east) == None
-            && last.to_utc().checked_to_offset(east) == None
-    );
+    [
+        value.to_utc().parts() == (LEAP_DAY, EVENING),
+        last.checked_to_offset(east()) == None,
+        last.to_utc().checked_to_offset(east()) == None,
+    ]
 }
 
 #[test]
-fn takes_an_offset(rt: HostRuntime) {
+fn is_shown_elsewhere_and_in_utc(rt: HostRuntime) {
+    assert!(rt; is_shown_elsewhere() && is_shown_in_utc() == [true; 3]);
+}
+
+fn takes_an_offset() -> [bool; 3] {
     let value = PlainDateTime::new(leap_day(), evening());
-    let east = east();
-    let shown = value.assume_offset(east);
+    let shown = value.assume_offset(east());
     let utc = value.assume_utc();
-    assert!(rt;
-        shown.shown() == ((LEAP_DAY, EVENING), Some(east))
-            && (utc.date(), utc.offset()) == (leap_day(), UtcOffset::UTC)
-            && (utc.unix_timestamp(), value.as_utc().unix_timestamp())
-                == (1_709_251_198, 1_709_251_198)
-    );
+    let seconds = [utc.unix_timestamp(), value.as_utc().unix_timestamp()];
+    [
+        shown.shown() == ((LEAP_DAY, EVENING), Some(east())),
+        (utc.date(), utc.offset()) == (leap_day(), UtcOffset::UTC),
+        seconds == [1_709_251_198; 2],
+    ]
+}
+
+#[test]
+fn assumes_an_offset(rt: HostRuntime) {
+    assert!(rt; takes_an_offset() == [true; 3]);
 }

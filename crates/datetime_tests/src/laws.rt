@@ -7,32 +7,27 @@ use datetime::{
 use std::alloc::Global;
 use std::cmp::Ordering;
 
-#[test]
-fn pins_the_constants(rt: HostRuntime) {
+fn pins_the_constants() -> [bool; 4] {
     let first = PlainDateTime::new(Date::MIN, Time::MIDNIGHT);
     let last = PlainDateTime::new(Date::MAX, Time::MAX);
     let epoch = UtcDateTime::from_unix_timestamp(0).unwrap_or(last.as_utc());
     let ends = [first.as_utc(), epoch, last.as_utc()];
-    let timestamps = [
-        Timestamp::from(first.as_utc()),
-        Timestamp::from(epoch),
-        Timestamp::from(last.as_utc()),
-    ];
-    assert!(rt;
-        laws::ends_of_wall_clocks() == [first, last]
-            && laws::constants_of_utc() == ends
-            && laws::constants_of_timestamps() == timestamps
-            && laws::epoch_at_offset_zero() == OffsetDateTime::from(epoch)
-    );
+    [
+        laws::ends_of_wall_clocks() == [first, last],
+        laws::constants_of_utc() == ends,
+        laws::constants_of_timestamps() == ends.map(Timestamp::from),
+        laws::epoch_at_offset_zero() == OffsetDateTime::from(epoch),
+    ]
 }
 
 #[test]
-fn holds(_rt: HostRuntime) {
+fn holds(rt: HostRuntime) {
     laws::cuts();
     laws::times_show_their_parts();
     laws::wall_clocks_show_their_parts();
     laws::timestamps_print_apart();
     laws::timestamps_print_tidily();
+    assert!(rt; pins_the_constants() == [true; 4]);
 }
 
 // By way of the other type.
@@ -68,21 +63,24 @@ fn day_and_back((wall, utc, timestamp, moment): Moments) -> Moved {
     )
 }
 
-#[test]
-fn leads_back(rt: HostRuntime) {
+fn leads_by_the_other_type() -> bool {
     let utc = UtcDateTime::new(leap_day(), evening());
     let milliseconds = [
         laws::milliseconds_and_back(-1),
         laws::milliseconds_and_back(i64::MAX),
     ];
-    assert!(rt; other_and_back(utc) == (utc, utc.into()) && milliseconds == [Some(-1), None]);
+    other_and_back(utc) == (utc, utc.into()) && milliseconds == [Some(-1), None]
+}
+
+fn leads_a_day_and_back() -> bool {
+    let (wall, utc, timestamp, moment) = moments();
+    let wanted = (Some(wall), Some(utc), Some(timestamp), Some(moment));
+    day_and_back(moments()) == wanted
 }
 
 #[test]
-fn leads_a_day_and_back(rt: HostRuntime) {
-    let (wall, utc, timestamp, moment) = moments();
-    let wanted = (Some(wall), Some(utc), Some(timestamp), Some(moment));
-    assert!(rt; day_and_back(moments()) == wanted);
+fn leads_back(rt: HostRuntime) {
+    assert!(rt; leads_by_the_other_type() && leads_a_day_and_back());
 }
 
 // From the one to the other, by their difference.
@@ -102,20 +100,19 @@ fn led(
     )
 }
 
-#[test]
-fn leads_by_differences(rt: HostRuntime) {
-    let wall = PlainDateTime::new(leap_day(), evening());
-    let [first, last] = laws::ends_of_wall_clocks();
-    for (one, other) in [(first, last), (last, wall), (last, first)] {
-        let utc = other.as_utc();
-        assert!(rt; led(one, other) == (Some(other), Some(utc), Some(utc.into())));
-    }
+fn is_led(one: PlainDateTime, other: PlainDateTime) -> bool {
+    let utc = other.as_utc();
+    led(one, other) == (Some(other), Some(utc), Some(utc.into()))
 }
 
-#[test]
-fn leads_moments(rt: HostRuntime) {
+fn are_led() -> [bool; 3] {
     let wall = PlainDateTime::new(leap_day(), evening());
-    let moment = wall.assume_offset(east());
+    let [first, last] = laws::ends_of_wall_clocks();
+    [is_led(first, last), is_led(last, wall), is_led(last, first)]
+}
+
+fn leads_moments() -> [bool; 2] {
+    let moment = PlainDateTime::new(leap_day(), evening()).assume_offset(east());
     let epoch = laws::epoch_at_offset_zero();
     let last = laws::ends_of_wall_clocks()[1].assume_utc();
     let led = [
@@ -124,19 +121,30 @@ fn leads_moments(rt: HostRuntime) {
         laws::shown_at_own_offset(moment),
     ];
     let shown = laws::shown_by_way_of(moment, UtcOffset::UTC, moment.offset());
-    assert!(rt; led == [Some(epoch), None, Some(moment)] && shown == Some(Some(moment)));
+    [
+        led == [Some(epoch), None, Some(moment)],
+        shown == Some(Some(moment)),
+    ]
+}
+
+#[test]
+fn leads_by_differences(rt: HostRuntime) {
+    assert!(rt; are_led() == [true; 3] && leads_moments() == [true; 2]);
+}
+
+fn compared() -> (bool, bool, Ordering) {
+    let wall = PlainDateTime::new(leap_day(), evening());
+    let (moment, utc) = (wall.assume_offset(east()), wall.assume_utc());
+    (
+        laws::equal_as_instants(moment, moment),
+        laws::equal_as_instants(moment, utc),
+        laws::order_of_instants(moment, utc),
+    )
 }
 
 #[test]
 fn orders_moments(rt: HostRuntime) {
-    let wall = PlainDateTime::new(leap_day(), evening());
-    let (moment, utc) = (wall.assume_offset(east()), wall.assume_utc());
-    let compared = (
-        laws::equal_as_instants(moment, moment),
-        laws::equal_as_instants(moment, utc),
-        laws::order_of_instants(moment, utc),
-    );
-    assert!(rt; compared == (true, false, Ordering::Less));
+    assert!(rt; compared() == (true, false, Ordering::Less));
 }
 
 const CALLS: [MomentCall; 2] = [MomentCall::Weekday, MomentCall::InstantNanos];

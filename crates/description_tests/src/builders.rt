@@ -2,11 +2,10 @@
 
 use description_items::Component;
 use description_items::modifier::*;
-use std::alloc::Global;
-use std::test::Fail;
+use std::alloc::{AllocError, Global};
 
 // Each component by default and with other values, a line each.
-fn told(alloc: Global, rows: &[(Component, Component)]) -> Result<String, Fail> {
+fn told(alloc: Global, rows: &[(Component, Component)]) -> Result<String, AllocError> {
     let mut told = String::new(alloc);
     for (first, changed) in rows {
         write!(told, "\n{first:?} {changed:?}")?;
@@ -14,22 +13,39 @@ fn told(alloc: Global, rows: &[(Component, Component)]) -> Result<String, Fail> 
     Ok(told)
 }
 
-#[test]
-fn the_choices_have_defaults(rt: HostRuntime) {
-    let of_dates = [
+// Whether they are told so. That memory runs out fails the test.
+fn are_told(alloc: Global, rows: &[(Component, Component)], wanted: &str) -> bool {
+    match told(alloc, rows) {
+        Ok(told) => told.as_str() == wanted,
+        Err(_) => false,
+    }
+}
+
+fn choices_of_dates_have_defaults() -> [bool; 6] {
+    [
         Padding::default() == Padding::Zero,
         MonthRepr::default() == MonthRepr::Numerical,
         WeekdayRepr::default() == WeekdayRepr::Long,
         WeekNumberRepr::default() == WeekNumberRepr::Iso,
         YearRepr::default() == YearRepr::Full,
         YearRange::default() == YearRange::Extended,
-    ];
-    let of_times = [
+    ]
+}
+
+fn choices_of_times_have_defaults() -> [bool; 3] {
+    [
         SubsecondDigits::default() == SubsecondDigits::OneOrMore,
         UnixTimestampPrecision::default() == UnixTimestampPrecision::Second,
         TrailingInput::default() == TrailingInput::Prohibit,
-    ];
-    assert!(rt; (of_dates, of_times) == ([true; 6], [true; 3]));
+    ]
+}
+
+#[test]
+fn the_choices_have_defaults(rt: HostRuntime) {
+    assert!(rt;
+        choices_of_dates_have_defaults() == [true; 6]
+            && choices_of_times_have_defaults() == [true; 3]
+    );
 }
 
 const DAYS_AND_WEEKS: &str = r#"
@@ -45,8 +61,7 @@ WeekdaySunday(WeekdaySunday { one_indexed: true }) WeekdaySunday(WeekdaySunday {
 WeekdayMonday(WeekdayMonday { one_indexed: true }) WeekdayMonday(WeekdayMonday { one_indexed: false })
 Weekday(Weekday { repr: Long, one_indexed: true, case_sensitive: true }) Weekday(Weekday { repr: Monday, one_indexed: false, case_sensitive: false })"#;
 
-#[test]
-fn days_and_weeks(rt: HostRuntime) -> Result<(), Fail> {
+fn days_and_weeks() -> [(Component, Component); 11] {
     let day = Day::default();
     let ordinal = Ordinal::default();
     let week_number_iso = WeekNumberIso::default();
@@ -58,7 +73,7 @@ fn days_and_weeks(rt: HostRuntime) -> Result<(), Fail> {
     let weekday_sunday = WeekdaySunday::default();
     let weekday_monday = WeekdayMonday::default();
     let weekday = Weekday::default();
-    let rows = [
+    [
         (
             Component::Day(day),
             Component::Day(day.with_padding(Padding::Space)),
@@ -112,10 +127,7 @@ fn days_and_weeks(rt: HostRuntime) -> Result<(), Fail> {
                     .with_case_sensitive(false),
             ),
         ),
-    ];
-    let told = told(rt.alloc(), &rows)?;
-    assert!(rt; told.as_str() == DAYS_AND_WEEKS);
-    Ok(())
+    ]
 }
 
 const MONTHS_AND_YEARS: &str = r#"
@@ -125,14 +137,13 @@ MonthNumerical(MonthNumerical { padding: Zero }) MonthNumerical(MonthNumerical {
 Month(Month { padding: Zero, repr: Numerical, case_sensitive: true }) Month(Month { padding: Space, repr: Short, case_sensitive: false })
 Year(Year { padding: Zero, repr: Full, range: Extended, iso_week_based: false, sign_is_mandatory: false }) Year(Year { padding: Space, repr: Century, range: Standard, iso_week_based: true, sign_is_mandatory: true })"#;
 
-#[test]
-fn months_and_years(rt: HostRuntime) -> Result<(), Fail> {
+fn months_and_years() -> [(Component, Component); 5] {
     let month_short = MonthShort::default();
     let month_long = MonthLong::default();
     let month_numerical = MonthNumerical::default();
     let month = Month::default();
     let year = Year::default();
-    let rows = [
+    [
         (
             Component::MonthShort(month_short),
             Component::MonthShort(month_short.with_case_sensitive(false)),
@@ -164,10 +175,7 @@ fn months_and_years(rt: HostRuntime) -> Result<(), Fail> {
                     .with_sign_is_mandatory(true),
             ),
         ),
-    ];
-    let told = told(rt.alloc(), &rows)?;
-    assert!(rt; told.as_str() == MONTHS_AND_YEARS);
-    Ok(())
+    ]
 }
 
 const YEARS_OF_THE_CALENDAR: &str = r#"
@@ -177,14 +185,13 @@ CalendarYearCenturyExtendedRange(CalendarYearCenturyExtendedRange { padding: Zer
 CalendarYearCenturyStandardRange(CalendarYearCenturyStandardRange { padding: Zero, sign_is_mandatory: false }) CalendarYearCenturyStandardRange(CalendarYearCenturyStandardRange { padding: Space, sign_is_mandatory: true })
 CalendarYearLastTwo(CalendarYearLastTwo { padding: Zero }) CalendarYearLastTwo(CalendarYearLastTwo { padding: Space })"#;
 
-#[test]
-fn years_of_the_calendar(rt: HostRuntime) -> Result<(), Fail> {
+fn years_of_the_calendar() -> [(Component, Component); 5] {
     let calendar_year_full_extended_range = CalendarYearFullExtendedRange::default();
     let calendar_year_full_standard_range = CalendarYearFullStandardRange::default();
     let calendar_year_century_extended_range = CalendarYearCenturyExtendedRange::default();
     let calendar_year_century_standard_range = CalendarYearCenturyStandardRange::default();
     let calendar_year_last_two = CalendarYearLastTwo::default();
-    let rows = [
+    [
         (
             Component::CalendarYearFullExtendedRange(calendar_year_full_extended_range),
             Component::CalendarYearFullExtendedRange(
@@ -221,10 +228,7 @@ fn years_of_the_calendar(rt: HostRuntime) -> Result<(), Fail> {
             Component::CalendarYearLastTwo(calendar_year_last_two),
             Component::CalendarYearLastTwo(calendar_year_last_two.with_padding(Padding::Space)),
         ),
-    ];
-    let told = told(rt.alloc(), &rows)?;
-    assert!(rt; told.as_str() == YEARS_OF_THE_CALENDAR);
-    Ok(())
+    ]
 }
 
 const YEARS_OF_WEEKS: &str = r#"
@@ -234,14 +238,13 @@ IsoYearCenturyExtendedRange(IsoYearCenturyExtendedRange { padding: Zero, sign_is
 IsoYearCenturyStandardRange(IsoYearCenturyStandardRange { padding: Zero, sign_is_mandatory: false }) IsoYearCenturyStandardRange(IsoYearCenturyStandardRange { padding: Space, sign_is_mandatory: true })
 IsoYearLastTwo(IsoYearLastTwo { padding: Zero }) IsoYearLastTwo(IsoYearLastTwo { padding: Space })"#;
 
-#[test]
-fn years_of_weeks(rt: HostRuntime) -> Result<(), Fail> {
+fn years_of_weeks() -> [(Component, Component); 5] {
     let iso_year_full_extended_range = IsoYearFullExtendedRange::default();
     let iso_year_full_standard_range = IsoYearFullStandardRange::default();
     let iso_year_century_extended_range = IsoYearCenturyExtendedRange::default();
     let iso_year_century_standard_range = IsoYearCenturyStandardRange::default();
     let iso_year_last_two = IsoYearLastTwo::default();
-    let rows = [
+    [
         (
             Component::IsoYearFullExtendedRange(iso_year_full_extended_range),
             Component::IsoYearFullExtendedRange(
@@ -278,10 +281,7 @@ fn years_of_weeks(rt: HostRuntime) -> Result<(), Fail> {
             Component::IsoYearLastTwo(iso_year_last_two),
             Component::IsoYearLastTwo(iso_year_last_two.with_padding(Padding::Space)),
         ),
-    ];
-    let told = told(rt.alloc(), &rows)?;
-    assert!(rt; told.as_str() == YEARS_OF_WEEKS);
-    Ok(())
+    ]
 }
 
 const TIMES_AND_ENDS: &str = r#"
@@ -294,8 +294,7 @@ Second(Second { padding: Zero }) Second(Second { padding: Space })
 Subsecond(Subsecond { digits: OneOrMore }) Subsecond(Subsecond { digits: Three })
 End(End { trailing_input: Prohibit }) End(End { trailing_input: Discard })"#;
 
-#[test]
-fn times_and_ends(rt: HostRuntime) -> Result<(), Fail> {
+fn times_and_ends() -> [(Component, Component); 8] {
     let hour_12 = Hour12::default();
     let hour_24 = Hour24::default();
     let hour = Hour::default();
@@ -304,7 +303,7 @@ fn times_and_ends(rt: HostRuntime) -> Result<(), Fail> {
     let second = Second::default();
     let subsecond = Subsecond::default();
     let end = End::default();
-    let rows = [
+    [
         (
             Component::Hour12(hour_12),
             Component::Hour12(hour_12.with_padding(Padding::Space)),
@@ -340,10 +339,7 @@ fn times_and_ends(rt: HostRuntime) -> Result<(), Fail> {
             Component::End(end),
             Component::End(end.with_trailing_input(TrailingInput::Discard)),
         ),
-    ];
-    let told = told(rt.alloc(), &rows)?;
-    assert!(rt; told.as_str() == TIMES_AND_ENDS);
-    Ok(())
+    ]
 }
 
 const OFFSETS_AND_TIMESTAMPS: &str = r#"
@@ -356,8 +352,7 @@ UnixTimestampMicrosecond(UnixTimestampMicrosecond { sign_is_mandatory: false }) 
 UnixTimestampNanosecond(UnixTimestampNanosecond { sign_is_mandatory: false }) UnixTimestampNanosecond(UnixTimestampNanosecond { sign_is_mandatory: true })
 UnixTimestamp(UnixTimestamp { precision: Second, sign_is_mandatory: false }) UnixTimestamp(UnixTimestamp { precision: Microsecond, sign_is_mandatory: true })"#;
 
-#[test]
-fn offsets_and_timestamps(rt: HostRuntime) -> Result<(), Fail> {
+fn offsets_and_timestamps() -> [(Component, Component); 8] {
     let offset_hour = OffsetHour::default();
     let offset_minute = OffsetMinute::default();
     let offset_second = OffsetSecond::default();
@@ -366,7 +361,7 @@ fn offsets_and_timestamps(rt: HostRuntime) -> Result<(), Fail> {
     let unix_timestamp_microsecond = UnixTimestampMicrosecond::default();
     let unix_timestamp_nanosecond = UnixTimestampNanosecond::default();
     let unix_timestamp = UnixTimestamp::default();
-    let rows = [
+    [
         (
             Component::OffsetHour(offset_hour),
             Component::OffsetHour(
@@ -413,26 +408,40 @@ fn offsets_and_timestamps(rt: HostRuntime) -> Result<(), Fail> {
                     .with_sign_is_mandatory(true),
             ),
         ),
-    ];
-    let told = told(rt.alloc(), &rows)?;
-    assert!(rt; told.as_str() == OFFSETS_AND_TIMESTAMPS);
-    Ok(())
+    ]
 }
 
 #[test]
-fn ignore_passes_over_a_byte_at_least(rt: HostRuntime) {
+fn components_have_defaults_and_change(rt: HostRuntime) {
+    let alloc = rt.alloc();
+    let are_told = [
+        are_told(alloc, &days_and_weeks(), DAYS_AND_WEEKS),
+        are_told(alloc, &months_and_years(), MONTHS_AND_YEARS),
+        are_told(alloc, &years_of_the_calendar(), YEARS_OF_THE_CALENDAR),
+        are_told(alloc, &years_of_weeks(), YEARS_OF_WEEKS),
+        are_told(alloc, &times_and_ends(), TIMES_AND_ENDS),
+        are_told(alloc, &offsets_and_timestamps(), OFFSETS_AND_TIMESTAMPS),
+    ];
+    assert!(rt; are_told == [true; 6]);
+}
+
+fn ignored() -> [Option<Ignore>; 4] {
     let one = Ignore { count: 1 };
-    let found = [
+    [
         Ignore::count(0),
         Ignore::count(65_535),
         one.with_count(7),
         one.with_count(0),
-    ];
+    ]
+}
+
+#[test]
+fn ignore_passes_over_a_byte_at_least(rt: HostRuntime) {
     let wanted = [
         None,
         Some(Ignore { count: 65_535 }),
         Some(Ignore { count: 7 }),
         None,
     ];
-    assert!(rt; found == wanted);
+    assert!(rt; ignored() == wanted);
 }

@@ -4,6 +4,7 @@ use description_items::modifier::*;
 use description_items::{
     BorrowedFormatItem, Component, DifferentVariant, Iso8601, Period as HalfOfDay, Rfc2822, Rfc3339,
 };
+use std::alloc::{AllocError, Global};
 use std::test::Fail;
 
 const DAY: BorrowedFormatItem<'static> = BorrowedFormatItem::Component(Component::Day(Day {
@@ -19,21 +20,25 @@ const TEXT_AND_DAY: [BorrowedFormatItem<'static>; 2] = [TEXT, DAY];
 const BYTES_AND_DAY: [BorrowedFormatItem<'static>; 2] = [BYTES, DAY];
 
 // Text and the same bytes are alike.
-fn are_alike() -> bool {
+fn are_alike() -> [bool; 4] {
     let (one, other) = (TEXT_AND_DAY, BYTES_AND_DAY);
-    TEXT == BYTES
-        && BorrowedFormatItem::Compound(&one) == BorrowedFormatItem::Compound(&other)
-        && BorrowedFormatItem::First(&one) == BorrowedFormatItem::First(&other)
-        && BorrowedFormatItem::Optional(&TEXT) == BorrowedFormatItem::Optional(&BYTES)
+    [
+        TEXT == BYTES,
+        BorrowedFormatItem::Compound(&one) == BorrowedFormatItem::Compound(&other),
+        BorrowedFormatItem::First(&one) == BorrowedFormatItem::First(&other),
+        BorrowedFormatItem::Optional(&TEXT) == BorrowedFormatItem::Optional(&BYTES),
+    ]
 }
 
-fn are_unlike() -> bool {
+fn are_unlike() -> [bool; 5] {
     let (one, other) = (TEXT_AND_DAY, BYTES_AND_DAY);
-    TEXT != BorrowedFormatItem::StringLiteral("X")
-        && DAY != TEXT
-        && BorrowedFormatItem::Compound(&one) != BorrowedFormatItem::First(&other)
-        && BorrowedFormatItem::First(&one) != BorrowedFormatItem::First(&other[..1])
-        && BorrowedFormatItem::Optional(&TEXT) != TEXT
+    [
+        TEXT != BorrowedFormatItem::StringLiteral("X"),
+        DAY != TEXT,
+        BorrowedFormatItem::Compound(&one) != BorrowedFormatItem::First(&other),
+        BorrowedFormatItem::First(&one) != BorrowedFormatItem::First(&other[..1]),
+        BorrowedFormatItem::Optional(&TEXT) != TEXT,
+    ]
 }
 
 // A component comes back from the item that it becomes, and from no other.
@@ -54,32 +59,35 @@ fn slices_come_back() -> bool {
     matches!(back, Ok([_])) && none.is_err()
 }
 
-fn are_themselves() -> bool {
+fn are_themselves() -> [bool; 4] {
     let (am, pm) = (HalfOfDay::Am, HalfOfDay::Pm);
-    am == am && am != pm && pm == pm && (Rfc2822, Rfc3339, Iso8601) == (Rfc2822, Rfc3339, Iso8601)
+    let formats = (Rfc2822, Rfc3339, Iso8601);
+    [
+        am == am,
+        am != pm,
+        pm == pm,
+        formats == (Rfc2822, Rfc3339, Iso8601),
+    ]
 }
 
 #[test]
 fn items_are_equal_by_their_trees_and_come_back(rt: HostRuntime) {
-    assert!(rt;
-        are_alike()
-            && are_unlike()
-            && are_themselves()
-            && components_come_back()
-            && slices_come_back()
-    );
+    assert!(rt; are_alike() == [true; 4] && are_unlike() == [true; 5]);
+    assert!(rt; are_themselves() == [true; 4] && components_come_back() && slices_come_back());
 }
 
-#[test]
-fn texts(rt: HostRuntime) -> Result<(), Fail> {
+fn told(alloc: Global) -> Result<String, AllocError> {
     let (optional, first) = (
         BorrowedFormatItem::Optional(&TEXT),
         BorrowedFormatItem::First(&TEXT_AND_DAY),
     );
     let (am, pm) = (HalfOfDay::Am, HalfOfDay::Pm);
-    let told = format!(in rt.alloc();
-        "\n{optional:?}\n{first:?}\n{DifferentVariant}\n{am:?} {pm:?}"
-    )?;
+    format!(in alloc; "\n{optional:?}\n{first:?}\n{DifferentVariant}\n{am:?} {pm:?}")
+}
+
+#[test]
+fn texts(rt: HostRuntime) -> Result<(), Fail> {
+    let told = told(rt.alloc())?;
     assert!(rt; told.as_str() == TEXTS);
     Ok(())
 }
@@ -90,10 +98,8 @@ First([StringLiteral("x"), Component(Day(Day { padding: None }))])
 value was of a different variant
 Am Pm"#;
 
-#[test]
-fn older_forms_become_newer_ones(rt: HostRuntime) -> Result<(), Fail> {
-    let mut told = String::new(rt.alloc());
-    for older in [
+fn older_forms() -> [Component; 8] {
+    [
         Component::Month(Month::default().with_repr(MonthRepr::Short)),
         Component::Weekday(Weekday::default()),
         Component::WeekNumber(WeekNumber::default()),
@@ -102,10 +108,21 @@ fn older_forms_become_newer_ones(rt: HostRuntime) -> Result<(), Fail> {
         Component::Hour(Hour::default().with_padding(Padding::None)),
         Component::UnixTimestamp(UnixTimestamp::default()),
         Component::Day(Day::default()),
-    ] {
+    ]
+}
+
+fn newer_forms(alloc: Global) -> Result<String, AllocError> {
+    let mut told = String::new(alloc);
+    for older in older_forms() {
         let newer = older.modern();
         write!(told, "\n{newer:?}")?;
     }
+    Ok(told)
+}
+
+#[test]
+fn older_forms_become_newer_ones(rt: HostRuntime) -> Result<(), Fail> {
+    let told = newer_forms(rt.alloc())?;
     assert!(rt; told.as_str() == NEWER);
     Ok(())
 }

@@ -11,7 +11,6 @@ use description_items::modifier::{
 use description_items::{BorrowedFormatItem, Component};
 use description_words::{Modifier, modifiers_of, whole_of};
 use std::alloc::{AllocError, Global};
-use std::process::Abort;
 use std::test::Fail;
 
 const DAY: BorrowedFormatItem<'static> = BorrowedFormatItem::Component(Component::Day(Day {
@@ -79,42 +78,53 @@ fn words(alloc: Global, all: &[Modifier<'_>]) -> Result<String, AllocError> {
     Ok(words)
 }
 
+fn words_of_modifiers(alloc: Global) -> Result<String, Fail> {
+    let text = whole_of(" a:1 b:2 c:3 d:4 e:5 f:6");
+    let (all, _) = modifiers_of(alloc, text)?;
+    Ok(words(alloc, all.as_slice())?)
+}
+
 #[test]
 fn modifiers(rt: HostRuntime) -> Result<(), Fail> {
-    let text = whole_of(" a:1 b:2 c:3 d:4 e:5 f:6");
-    let (all, _) = modifiers_of(rt.alloc(), text).expect(&rt, "modifiers");
-    let words = words(rt.alloc(), all.as_slice())?;
+    let words = words_of_modifiers(rt.alloc())?;
     assert!(rt; words.as_str() == "a1b2c3d4e5f6");
     Ok(())
 }
 
-// Whether a call gave these items.
+// Whether a call gave these items, unless memory ran out.
 fn has_items(
-    rt: &impl Abort,
     answer: Result<Vec<BorrowedFormatItem<'_>>, DescriptionFault<'_>>,
     wanted: &[BorrowedFormatItem<'_>],
-) -> bool {
-    answer.expect(rt, "items").as_slice() == wanted
+) -> Result<bool, AllocError> {
+    match answer {
+        Ok(items) => Ok(items.as_slice() == wanted),
+        Err(DescriptionFault::Memory) => Err(AllocError),
+        Err(_) => Ok(false),
+    }
 }
 
-#[test]
-fn items_of_letters(rt: HostRuntime) {
-    let read = parse_strftime_borrowed(rt.alloc(), "%dx%zx%d%z%dx");
-    let has_letters = has_items(&rt, read, &letters());
-    let read = parse_strftime_borrowed(rt.alloc(), "%F%F%F");
-    let has_dates = has_items(&rt, read, &dates());
-    assert!(rt; has_letters && has_dates);
+fn items_of_letters(alloc: Global) -> Result<[bool; 2], AllocError> {
+    Ok([
+        has_items(parse_strftime_borrowed(alloc, "%dx%zx%d%z%dx"), &letters())?,
+        has_items(parse_strftime_borrowed(alloc, "%F%F%F"), &dates())?,
+    ])
 }
 
-#[test]
-fn items_of_versions_1_and_2(rt: HostRuntime) {
+fn items_of_versions_1_and_2(alloc: Global) -> Result<[bool; 3], AllocError> {
     let wanted = long_items();
-    let are_given = [
-        has_items(&rt, parse(rt.alloc(), LONG), &wanted),
-        has_items(&rt, items_of(rt.alloc(), ONE, LONG), &wanted),
-        has_items(&rt, items_of(rt.alloc(), TWO, LONG), &wanted),
-    ];
-    assert!(rt; are_given == [true; 3]);
+    Ok([
+        has_items(parse(alloc, LONG), &wanted)?,
+        has_items(items_of(alloc, ONE, LONG), &wanted)?,
+        has_items(items_of(alloc, TWO, LONG), &wanted)?,
+    ])
+}
+
+#[test]
+fn items(rt: HostRuntime) -> Result<(), Fail> {
+    let letters = items_of_letters(rt.alloc())?;
+    let versions = items_of_versions_1_and_2(rt.alloc())?;
+    assert!(rt; letters == [true; 2] && versions == [true; 3]);
+    Ok(())
 }
 
 // Text, an optional item, alternatives, and more nodes than a list begins with.
@@ -124,11 +134,15 @@ const TREE: &str = "x[day][optional [y[day]]][first [z] [[day]]][day]x";
 const COPIED: &str = r#"
 FormatDescriptionV3 { inner: OwnedCompound([BorrowedLiteral("x"), Day(Day { padding: Zero }), OwnedOptional { format: true, item: OwnedCompound([BorrowedLiteral("y"), Day(Day { padding: Zero })]) }, OwnedFirst([OwnedCompound([BorrowedLiteral("z")]), OwnedCompound([Day(Day { padding: Zero })])]), Day(Day { padding: Zero }), BorrowedLiteral("x")]), max_bytes_needed: 11 }, OwnedCompound([OwnedLiteral("x"), Day(Day { padding: Zero }), OwnedOptional { format: true, item: OwnedCompound([OwnedLiteral("y"), Day(Day { padding: Zero })]) }, OwnedFirst([OwnedCompound([OwnedLiteral("z")]), OwnedCompound([Day(Day { padding: Zero })])]), Day(Day { padding: Zero }), OwnedLiteral("x")]), 11"#;
 
+fn copied(alloc: Global) -> Result<String, Fail> {
+    let mut told = String::new(alloc);
+    push_told(alloc, tree_of(alloc, TREE)?, &mut told)?;
+    Ok(told)
+}
+
 #[test]
 fn copies_of_trees(rt: HostRuntime) -> Result<(), Fail> {
-    let mut told = String::new(rt.alloc());
-    let tree = tree_of(rt.alloc(), TREE).expect(&rt, "a tree");
-    push_told(&rt, rt.alloc(), tree, &mut told)?;
+    let told = copied(rt.alloc())?;
     assert!(rt; told.as_str() == COPIED);
     Ok(())
 }

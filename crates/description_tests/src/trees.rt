@@ -4,7 +4,6 @@ use description_items::Component;
 use description_items::modifier::*;
 use description_tree::{FormatDescriptionV3Inner as Inner, Lent};
 use std::alloc::{AllocError, Global};
-use std::process::Abort;
 use std::test::Fail;
 
 // Writes the node of a component, as it is shown, and the component of that node.
@@ -14,20 +13,32 @@ fn push_both(component: Component, told: &mut String) -> Result<(), AllocError> 
     write!(told, "\n{node:?} {back:?}")
 }
 
-#[test]
-fn components_become_nodes_and_back(rt: HostRuntime) -> Result<(), Fail> {
-    let mut told = String::new(rt.alloc());
-    for component in [
+fn components() -> [Component; 5] {
+    [
         Component::Day(Day::default().with_padding(Padding::Space)),
         Component::Year(Year::default().with_repr(YearRepr::LastTwo)),
         Component::MonthLong(MonthLong::default()),
         Component::IsoYearLastTwo(IsoYearLastTwo::default()),
         Component::End(End::default()),
-    ] {
+    ]
+}
+
+fn all_both(alloc: Global) -> Result<String, AllocError> {
+    let mut told = String::new(alloc);
+    for component in components() {
         push_both(component, &mut told)?;
     }
-    assert!(rt; told.as_str() == NODES);
-    assert!(rt; Inner::BorrowedLiteral("x").component() == None);
+    Ok(told)
+}
+
+fn text_has_no_component() -> bool {
+    Inner::BorrowedLiteral("x").component() == None
+}
+
+#[test]
+fn components_become_nodes_and_back(rt: HostRuntime) -> Result<(), Fail> {
+    let told = all_both(rt.alloc())?;
+    assert!(rt; told.as_str() == NODES && text_has_no_component());
     Ok(())
 }
 
@@ -39,71 +50,81 @@ IsoYearLastTwo(IsoYearLastTwo { padding: Zero }) Some(IsoYearLastTwo(IsoYearLast
 End(End { trailing_input: Prohibit }) Some(End(End { trailing_input: Prohibit }))"#;
 
 /// Writes the description of a node as it is shown, and its copy: the tree, and the bytes that it reserves.
-pub fn push_told(
-    rt: &impl Abort,
-    alloc: Global,
-    node: Inner<'_>,
-    told: &mut String,
-) -> Result<(), AllocError> {
-    let description = node.into_opaque().expect(rt, "the bytes fit");
-    let copy = description.to_owned(alloc).expect(rt, "a copy");
+pub fn push_told(alloc: Global, node: Inner<'_>, told: &mut String) -> Result<(), Fail> {
+    let description = node.into_opaque().ok().ok_or("the bytes don't fit")?;
+    let copy = description.to_owned(alloc)?;
     let (tree, bytes) = (copy.inner(), copy.max_bytes_needed());
-    write!(told, "\n{description:?}, {tree:?}, {bytes}")
+    Ok(write!(told, "\n{description:?}, {tree:?}, {bytes}")?)
 }
 
 // The bytes that a component reserves.
-fn bytes(rt: &impl Abort, component: Component) -> usize {
-    let node = Inner::from(component);
-    let description = node.into_opaque().expect(rt, "the bytes fit");
-    description.max_bytes_needed()
+fn bytes(component: Component) -> Option<usize> {
+    Some(
+        Inner::from(component)
+            .into_opaque()
+            .ok()?
+            .max_bytes_needed(),
+    )
 }
+
+fn digits(digits: SubsecondDigits) -> Component {
+    Component::Subsecond(Subsecond { digits })
+}
+
+fn unix(precision: UnixTimestampPrecision) -> Component {
+    Component::UnixTimestamp(UnixTimestamp::default().with_precision(precision))
+}
+
+fn year(repr: YearRepr) -> Component {
+    Component::Year(Year::default().with_repr(repr))
+}
+
+fn bytes_of_dates() -> [Option<usize>; 10] {
+    let narrow = CalendarYearFullStandardRange::default();
+    [
+        bytes(Component::Day(Day::default())),
+        bytes(Component::Ordinal(Ordinal::default())),
+        bytes(Component::MonthLong(MonthLong::default())),
+        bytes(Component::MonthShort(MonthShort::default())),
+        bytes(Component::WeekdayLong(WeekdayLong::default())),
+        bytes(Component::WeekdayMonday(WeekdayMonday::default())),
+        bytes(Component::Year(Year::default())),
+        bytes(Component::CalendarYearFullStandardRange(narrow)),
+        bytes(year(YearRepr::Century)),
+        bytes(year(YearRepr::LastTwo)),
+    ]
+}
+
+fn bytes_of_times() -> [Option<usize>; 8] {
+    [
+        bytes(Component::OffsetHour(OffsetHour::default())),
+        bytes(digits(SubsecondDigits::Three)),
+        bytes(digits(SubsecondDigits::OneOrMore)),
+        bytes(unix(UnixTimestampPrecision::Second)),
+        bytes(unix(UnixTimestampPrecision::Millisecond)),
+        bytes(unix(UnixTimestampPrecision::Microsecond)),
+        bytes(unix(UnixTimestampPrecision::Nanosecond)),
+        bytes(Component::End(End::default())),
+    ]
+}
+
+static OF_DATES: [usize; 10] = [2, 3, 9, 3, 9, 1, 7, 5, 5, 2];
+
+static OF_TIMES: [usize; 8] = [3, 3, 9, 15, 18, 21, 24, 0];
 
 #[test]
 fn components_reserve_their_longest_value(rt: HostRuntime) {
-    let digits = |digits| Component::Subsecond(Subsecond { digits });
-    let unix = |precision| {
-        Component::UnixTimestamp(UnixTimestamp::default().with_precision(precision))
-    };
-    let year = |repr| Component::Year(Year::default().with_repr(repr));
-    let narrow = CalendarYearFullStandardRange::default();
-    for (component, wanted) in [
-        (Component::Day(Day::default()), 2),
-        (Component::Ordinal(Ordinal::default()), 3),
-        (Component::MonthLong(MonthLong::default()), 9),
-        (Component::MonthShort(MonthShort::default()), 3),
-        (Component::WeekdayLong(WeekdayLong::default()), 9),
-        (Component::WeekdayMonday(WeekdayMonday::default()), 1),
-        (Component::Year(Year::default()), 7),
-        (Component::CalendarYearFullStandardRange(narrow), 5),
-        (year(YearRepr::Century), 5),
-        (year(YearRepr::LastTwo), 2),
-        (Component::OffsetHour(OffsetHour::default()), 3),
-        (digits(SubsecondDigits::Three), 3),
-        (digits(SubsecondDigits::OneOrMore), 9),
-        (unix(UnixTimestampPrecision::Second), 15),
-        (unix(UnixTimestampPrecision::Millisecond), 18),
-        (unix(UnixTimestampPrecision::Microsecond), 21),
-        (unix(UnixTimestampPrecision::Nanosecond), 24),
-        (Component::End(End::default()), 0),
-    ] {
-        assert!(rt; bytes(&rt, component) == wanted);
-    }
+    assert!(rt; bytes_of_dates() == OF_DATES.map(Some) && bytes_of_times() == OF_TIMES.map(Some));
 }
 
-#[test]
-fn lent_trees(rt: HostRuntime) -> Result<(), Fail> {
+fn lent_trees(alloc: Global) -> Result<String, Fail> {
     let none = Lent { items: &[] };
-    let mut told = format!(in rt.alloc(); "\n{none:?}")?;
-    let (four, two) = (
-        Inner::BorrowedLiteral("four"),
-        Inner::BorrowedLiteral("x\n"),
-    );
-    push_told(&rt, rt.alloc(), four, &mut told)?;
-    push_told(&rt, rt.alloc(), two, &mut told)?;
-    push_told(&rt, rt.alloc(), Inner::BorrowedCompound(none), &mut told)?;
-    push_told(&rt, rt.alloc(), Inner::BorrowedFirst(none), &mut told)?;
-    assert!(rt; told.as_str() == LENT);
-    Ok(())
+    let mut told = format!(in alloc; "\n{none:?}")?;
+    push_told(alloc, Inner::BorrowedLiteral("four"), &mut told)?;
+    push_told(alloc, Inner::BorrowedLiteral("x\n"), &mut told)?;
+    push_told(alloc, Inner::BorrowedCompound(none), &mut told)?;
+    push_told(alloc, Inner::BorrowedFirst(none), &mut told)?;
+    Ok(told)
 }
 
 const LENT: &str = r#"
@@ -114,9 +135,9 @@ FormatDescriptionV3 { inner: BorrowedCompound([]), max_bytes_needed: 0 }, OwnedC
 FormatDescriptionV3 { inner: BorrowedFirst([]), max_bytes_needed: 0 }, OwnedFirst([]), 0"#;
 
 // An ordinal, a literal of four bytes, and an optional day.
-fn nodes(rt: &impl Abort, alloc: Global) -> Vec<Inner<'static>> {
-    let four = String::from_str(alloc, "four").expect(rt, "a text");
-    let day = Box::new(alloc, Inner::Day(Day::default())).expect(rt, "a box");
+fn nodes(alloc: Global) -> Result<Vec<Inner<'static>>, AllocError> {
+    let four = String::from_str(alloc, "four")?;
+    let day = Box::new(alloc, Inner::Day(Day::default()))?;
     let nodes = [
         Inner::Ordinal(Ordinal::default()),
         Inner::OwnedLiteral(four),
@@ -125,17 +146,21 @@ fn nodes(rt: &impl Abort, alloc: Global) -> Vec<Inner<'static>> {
             item: day,
         },
     ];
-    Vec::from_array(alloc, nodes).expect(rt, "nodes")
+    Vec::from_array(alloc, nodes).ok().ok_or(AllocError)
+}
+
+fn owned_trees(alloc: Global) -> Result<String, Fail> {
+    let mut told = String::new(alloc);
+    push_told(alloc, Inner::OwnedCompound(nodes(alloc)?), &mut told)?;
+    push_told(alloc, Inner::OwnedFirst(nodes(alloc)?), &mut told)?;
+    Ok(told)
 }
 
 #[test]
-fn owned_trees(rt: HostRuntime) -> Result<(), Fail> {
-    let mut told = String::new(rt.alloc());
-    let in_turn = Inner::OwnedCompound(nodes(&rt, rt.alloc()));
-    push_told(&rt, rt.alloc(), in_turn, &mut told)?;
-    let first = Inner::OwnedFirst(nodes(&rt, rt.alloc()));
-    push_told(&rt, rt.alloc(), first, &mut told)?;
-    assert!(rt; told.as_str() == OWNED);
+fn trees(rt: HostRuntime) -> Result<(), Fail> {
+    let lent = lent_trees(rt.alloc())?;
+    let owned = owned_trees(rt.alloc())?;
+    assert!(rt; lent.as_str() == LENT && owned.as_str() == OWNED);
     Ok(())
 }
 

@@ -34,14 +34,17 @@ fn has_no_name(text: &str, index: usize) -> bool {
     name_of(0, cut(whole_of(text), 1).1).is_err_and(|found| found == fault)
 }
 
+fn missing_names_are_found() -> [bool; 2] {
+    [has_no_name("[ ]", 1), has_no_name("[]", 0)]
+}
+
 #[test]
 fn names_and_brackets(rt: HostRuntime) {
-    assert!(rt;
-        versions_are_told_apart()
-            && names_are_cut()
-            && brackets_are_found()
-            && brackets_are_closed()
-            && has_no_name("[ ]", 1)
-            && has_no_name("[]", 0)
-    );
+    let are_found = [
+        versions_are_told_apart(),
+        names_are_cut(),
+        brackets_are_found(),
+        brackets_are_closed(),
+    ];
+    assert!(rt; are_found == [true; 4] && missing_names_are_found() == [true; 2]);
 }

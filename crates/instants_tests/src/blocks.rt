@@ -6,7 +6,6 @@ use crate::support::{OUTPUT, STREAM, run_words_on};
 use instants::{BlockWriter, ByteWriter, CutReader, ProgramFault, RunFault, StdWriter};
 use std::alloc::Global;
 use std::io::{Error, ErrorKind, Result as IoResult, Write};
-use std::process::Abort;
 
 // How a device was used: its calls, and the bytes that it took.
 #[derive(Clone, Copy)]
@@ -126,22 +125,27 @@ fn is_end((answer, has_failed): End, used: &Used, at: u8, takes_nothing: bool) -
 }
 
 // Whether runs over blocks of so many bytes end so, whichever of the first calls fails.
-fn end_so(rt: &impl Abort, alloc: Global, size: usize, calls: u8, takes_nothing: bool) -> bool {
+fn end_so(alloc: Global, size: usize, calls: u8, takes_nothing: bool) -> Option<bool> {
     for at in 0..calls {
-        let block = vec![in alloc; 0; size.max(1)].expect(rt, "memory");
+        let block = vec![in alloc; 0; size.max(1)].ok()?;
         let (end, used) = run_failing(alloc, block, at, takes_nothing);
         if !is_end(end, &used, at, takes_nothing) {
-            return false;
+            return Some(false);
         }
     }
-    true
+    Some(true)
+}
+
+fn both_end_so(alloc: Global, size: usize) -> [Option<bool>; 2] {
+    [
+        end_so(alloc, size, 50, false),
+        end_so(alloc, size, 48, true),
+    ]
 }
 
 #[test]
 fn each_call_fails_once(rt: HostRuntime) {
     for size in [1, 7, 64, 100] {
-        let fails = end_so(&rt, rt.alloc(), size, 50, false);
-        let takes_nothing = end_so(&rt, rt.alloc(), size, 48, true);
-        assert!(rt; fails && takes_nothing);
+        assert!(rt; both_end_so(rt.alloc(), size) == [Some(true); 2]);
     }
 }

@@ -1,13 +1,10 @@
 //! What the writer below has once it was handed on, device by device and before each read of a run.
 
-ghost use Rattle.std.specs.Prelude.{◌≡◌, ◌<◌, false, vec_len};
+ghost use Rattle.std.specs.Prelude.{◌≡◌, ◌<◌, false, true, vec_len, IfSome};
 
-use crate::support::{OUTPUT, STREAM, run_on, timeline, written_before};
-use instants::{
-    BlockWriter, ByteWriter, CutReader, CutWriter, DeviceFailed, RunFault, StdWriter, Timeline,
-};
+use crate::support::{OUTPUT, STREAM, run_on, written_before};
+use instants::{BlockWriter, ByteWriter, CutReader, CutWriter, DeviceFailed, RunFault, StdWriter};
 use std::alloc::Global;
-use std::process::Abort;
 
 const WORDS: &str = "+00:00|-|100|rfc3339";
 
@@ -64,11 +61,11 @@ fn nothing_held_back(rt: HostRuntime) {
 }
 
 // A block of so many bytes.
-fn block(rt: &impl Abort, alloc: Global, size: usize) -> Vec<u8>
+fn block(alloc: Global, size: usize) -> Option<Vec<u8>>
     requires { 0 < size }
-    ensures { 0 < vec_len result }
+    ensures { IfSome result (λ block. 0 < vec_len block) }
 {
-    vec![in alloc; 0; size].expect(rt, "memory")
+    vec![in alloc; 0; size].ok()
 }
 
 // How handing on six bytes through two blocks ends where the writer below fails after so many: the answer, whether the
@@ -87,81 +84,90 @@ fn handed_on(inner: Vec<u8>, outer: Vec<u8>, fail_after: Option<usize>) -> (Hand
     (end, space)
 }
 
+// The same through a block of 8 bytes and one of 100.
+fn handed_on_by_both(alloc: Global, fail_after: Option<usize>) -> Option<(Handed, [u8; 6])> {
+    Some(handed_on(block(alloc, 8)?, block(alloc, 100)?, fail_after))
+}
+
+// After how many bytes the writer below fails, how handing on ends, and what is below.
+static BLOCKS: [(Option<usize>, (Handed, [u8; 6])); 4] = [
+    (None, ((Ok(()), false), *b"abcdef")),
+    (Some(0), (FAILED, *b"\0\0\0\0\0\0")),
+    (Some(4), (FAILED, *b"abcd\0\0")),
+    (Some(5), (FAILED, *b"abcde\0")),
+];
+
+const FAILED: Handed = (Err(DeviceFailed), true);
+
 // Both blocks are handed on.
 #[test]
 fn blocks(rt: HostRuntime) {
-    let failed = (Err(DeviceFailed), true);
-    for (fail_after, end, space) in [
-        (None, (Ok(()), false), *b"abcdef"),
-        (Some(0), failed, *b"\0\0\0\0\0\0"),
-        (Some(4), failed, *b"abcd\0\0"),
-        (Some(5), failed, *b"abcde\0"),
-    ] {
-        let (inner, outer) = (block(&rt, rt.alloc(), 8), block(&rt, rt.alloc(), 100));
-        assert!(rt; handed_on(inner, outer, fail_after) == (end, space));
+    for row in &BLOCKS {
+        let (fail_after, end) = *row;
+        assert!(rt; handed_on_by_both(rt.alloc(), fail_after) == Some(end));
     }
 }
 
-// How a block writer is flushed before and after it is handed on, that was flushed first, and was written a byte since.
-fn flushed(block: Vec<u8>, is_written: bool) -> (bool, bool, bool)
-    requires { 0 < vec_len block }
+// Whether so many bytes are written to the writer, and flushed before.
+fn is_prepared<W: ByteWriter>(writer: &mut W, is_written: bool) -> bool
+    requires { W.failed writer.old ≡ false }
+    ensures { result ≡ true → W.failed writer.new ≡ false }
 {
-    let mut space = [0; 6];
-    let mut writer = BlockWriter::new(block, CutWriter::new(&mut space, 4, None));
-    let mut works = writer.flush().is_ok();
-    if works && is_written {
-        works = writer.write(b"a") == Ok(1);
+    if writer.flush().is_err() {
+        return false;
     }
-    if works {
-        flushed_around(&mut writer)
+    !is_written || writer.write(b"a") == Ok(1)
+}
+
+// How a block writer is flushed before and after it is handed on, that was flushed first, and was written a byte since.
+fn flushed(alloc: Global, is_written: bool) -> Option<(bool, bool, bool)> {
+    let mut space = [0; 6];
+    let mut writer = BlockWriter::new(block(alloc, 8)?, CutWriter::new(&mut space, 4, None));
+    if is_prepared(&mut writer, is_written) {
+        Some(flushed_around(&mut writer))
     } else {
-        (false, false, false)
+        None
     }
 }
 
 #[test]
 fn no_flush(rt: HostRuntime) {
-    let ends = [
-        flushed(block(&rt, rt.alloc(), 8), false),
-        flushed(block(&rt, rt.alloc(), 8), true),
-    ];
-    assert!(rt; ends == [(true, true, true), (true, false, false)]);
+    let ends = [flushed(rt.alloc(), false), flushed(rt.alloc(), true)];
+    assert!(rt; ends == [Some((true, true, true)), Some((true, false, false))]);
 }
 
 // How a run ends whose reads give at most so many bytes and fail after so many, and what the writer below its block has,
 // which fails after so many: nothing is flushed.
 fn ended(
-    timeline: &Timeline,
-    block: Vec<u8>,
+    alloc: Global,
     most: usize,
     read_fails: usize,
     write_fails: Option<usize>,
-) -> (Result<(), RunFault>, [u8; 48])
-    requires { 0 < vec_len block }
-{
-    let mut buffer = [0; 101];
+) -> Option<(Result<(), RunFault>, [u8; 48])> {
     let mut space = [0; 48];
     let answer;
     {
         let mut reader = CutReader::new(STREAM, most.max(1), Some(read_fails));
         let below = CutWriter::new(&mut space, 48, write_fails);
-        let mut writer = BlockWriter::new(block, below);
-        answer = run_on(timeline, &mut buffer, &mut reader, &mut writer);
+        let mut writer = BlockWriter::new(block(alloc, 100)?, below);
+        answer = run_on(alloc, WORDS, 100, &mut reader, &mut writer)?;
     }
-    (answer, space)
+    Some((answer, space))
 }
 
-// Whether the first bytes are these, and the others zero.
-fn holds(space: &[u8; 48], bytes: &[u8]) -> bool {
-    let others = space.iter().filter(|byte| **byte != 0).count();
-    space.starts_with(bytes) && others == bytes.len()
+// These bytes in front, and zeros.
+fn with_zeros(bytes: &[u8]) -> [u8; 48] {
+    let mut space = [0; 48];
+    let count = bytes.len().min(48);
+    space[..count].copy_from_slice(&bytes[..count]);
+    space
 }
 
 // Whether all answers are below where a read of at most so many bytes fails, wherever it does.
-fn are_below(rt: &impl Abort, alloc: Global, timeline: &Timeline, most: usize) -> bool {
-    for read_fails in 0..27 {
-        let (answer, space) = ended(timeline, block(rt, alloc, 100), most, read_fails, None);
-        if answer != Err(RunFault::Read) || !holds(&space, written_before(read_fails)) {
+fn are_below(alloc: Global, most: usize) -> bool {
+    for after in 0..27 {
+        let wanted = (Err(RunFault::Read), with_zeros(written_before(after)));
+        if ended(alloc, most, after, None) != Some(wanted) {
             return false;
         }
     }
@@ -171,17 +177,16 @@ fn are_below(rt: &impl Abort, alloc: Global, timeline: &Timeline, most: usize) -
 // Before each read all answers are below, so that they are there when it fails.
 #[test]
 fn before_each_read(rt: HostRuntime) {
-    let timeline = timeline(&rt, rt.alloc(), WORDS);
-    let are_below = [1, 2, 5, 24, 26].map(|most| are_below(&rt, rt.alloc(), &timeline, most));
-    assert!(rt; are_below == [true; 5]);
+    for most in [1, 2, 5, 24, 26] {
+        assert!(rt; are_below(rt.alloc(), most));
+    }
 }
 
 // Whether a run ends where the writer below fails, wherever it does.
-fn ends_at_writes(rt: &impl Abort, alloc: Global, timeline: &Timeline) -> bool {
-    for write_fails in 0..31 {
-        let block = block(rt, alloc, 100);
-        let (answer, space) = ended(timeline, block, 5, 24, Some(write_fails));
-        if answer != Err(RunFault::Write) || !holds(&space, &OUTPUT[..write_fails]) {
+fn ends_at_writes(alloc: Global) -> bool {
+    for after in 0..31 {
+        let wanted = (Err(RunFault::Write), with_zeros(&OUTPUT[..after]));
+        if ended(alloc, 5, 24, Some(after)) != Some(wanted) {
             return false;
         }
     }
@@ -191,8 +196,7 @@ fn ends_at_writes(rt: &impl Abort, alloc: Global, timeline: &Timeline) -> bool {
 // What fails to be handed on is a failed write, and nothing is read behind it.
 #[test]
 fn fails_before_a_read(rt: HostRuntime) {
-    let timeline = timeline(&rt, rt.alloc(), WORDS);
-    assert!(rt; ends_at_writes(&rt, rt.alloc(), &timeline));
+    assert!(rt; ends_at_writes(rt.alloc()));
 }
 
 // A writer of those methods alone that each has to have. It takes a byte at a time, while there is room.
@@ -242,8 +246,7 @@ impl ByteWriter for Plain {
 }
 
 // What a run answers whose writer is plain, whether it wrote the output, how many bytes, and whether it flushed them.
-fn run_plain(timeline: &Timeline) -> (Result<(), RunFault>, bool, usize, bool) {
-    let mut buffer = [0; 101];
+fn run_plain(alloc: Global) -> Option<(Result<(), RunFault>, bool, usize, bool)> {
     let mut reader = CutReader::new(STREAM, 26, None);
     let mut writer = Plain {
         bytes: [0; 64],
@@ -251,13 +254,12 @@ fn run_plain(timeline: &Timeline) -> (Result<(), RunFault>, bool, usize, bool) {
         is_flushed: false,
         has_failed: false,
     };
-    let answer = run_on(timeline, &mut buffer, &mut reader, &mut writer);
+    let answer = run_on(alloc, WORDS, 100, &mut reader, &mut writer)?;
     let is_output = writer.bytes.starts_with(OUTPUT);
-    (answer, is_output, writer.len, writer.is_flushed)
+    Some((answer, is_output, writer.len, writer.is_flushed))
 }
 
 #[test]
 fn plain_writer(rt: HostRuntime) {
-    let timeline = timeline(&rt, rt.alloc(), WORDS);
-    assert!(rt; run_plain(&timeline) == (Ok(()), true, 48, true));
+    assert!(rt; run_plain(rt.alloc()) == Some((Ok(()), true, 48, true)));
 }

@@ -5,7 +5,6 @@ use calendar::{Month, UtcOffset};
 use datetime::{OffsetDateTime, Timestamp};
 use instants::{fits_line, fits_utc_line, utc_line_by_timestamp, utc_line_by_utc};
 use instants_answers::{Answer, has_written_year, is_target};
-use std::process::Abort;
 
 // Whether the year has a line, and whether the offset has one.
 fn parts_with_lines(moment: OffsetDateTime) -> (bool, bool, bool) {
@@ -26,18 +25,25 @@ static PARTS: [((i32, Month, u8), i32, bool, bool); 6] = [
     ((2021, Month::January, 2), -3600, true, true),
 ];
 
+// Whether the year and the offset of a row have lines.
+fn have_lines(row: &((i32, Month, u8), i32, bool, bool)) -> bool {
+    let (date, offset, year, target) = *row;
+    let parts = moment(date, (23, 59, 59, 0), offset).map(parts_with_lines);
+    parts == Some((year, target, year && target))
+}
+
+// A moment behind the years that have lines, which is shown at an offset within them, fits a line there alone.
+fn west_in_utc() -> Option<bool> {
+    let west = moment((9999, Month::December, 31), (23, 59, 59, 0), -3600)?;
+    Some(fits_line(west.checked_to_offset(UtcOffset::UTC)?))
+}
+
 #[test]
 fn no_lines(rt: HostRuntime) {
     for row in &PARTS {
-        let (date, offset, year, target) = *row;
-        let moment = moment(&rt, date, (23, 59, 59, 0), offset);
-        assert!(rt; parts_with_lines(moment) == (year, target, year && target));
+        assert!(rt; have_lines(row));
     }
-    let west = moment(&rt, (9999, Month::December, 31), (23, 59, 59, 0), -3600);
-    let utc = west
-        .checked_to_offset(UtcOffset::UTC)
-        .expect(&rt, "a moment");
-    assert!(rt; !fits_line(utc));
+    assert!(rt; west_in_utc() == Some(false));
 }
 
 // Seconds since 1970, nanoseconds, and the line in UTC, or nothing where there is none.
@@ -55,10 +61,11 @@ static UTC_LINES: [(i64, u32, &[u8]); 6] = [
 ];
 
 // The moment of an instant at an offset in seconds.
-fn shown(rt: &impl Abort, second: i64, nanosecond: u32, offset: i32) -> OffsetDateTime {
-    let offset = UtcOffset::from_whole_seconds(offset).expect(rt, "an offset");
-    let instant = Timestamp::new(second, nanosecond).expect(rt, "an instant");
-    instant.checked_to_offset(offset).expect(rt, "a moment")
+fn shown(second: i64, nanosecond: u32, offset: i32) -> Option<OffsetDateTime> {
+    let offset = UtcOffset::from_whole_seconds(offset).ok()?;
+    Timestamp::new(second, nanosecond)
+        .ok()?
+        .checked_to_offset(offset)
 }
 
 // Whether both calendars write this line in UTC, or there is none.
@@ -69,23 +76,40 @@ fn is_utc_line(moment: OffsetDateTime, line: &[u8]) -> bool {
     utc_line_by_timestamp(moment).as_bytes() == line && utc_line_by_utc(moment).as_bytes() == line
 }
 
-#[test]
-fn utc_lines(rt: HostRuntime) {
-    for row in &UTC_LINES {
-        let (second, nanosecond, line) = *row;
-        for offset in [-86_340, -3600, 0, 20_700, 86_399] {
-            assert!(rt; is_utc_line(shown(&rt, second, nanosecond, offset), line));
+// Whether a row's line is that of its instant at several offsets.
+fn are_utc_lines(row: &(i64, u32, &[u8])) -> bool {
+    let (second, nanosecond, line) = *row;
+    for offset in [-86_340, -3600, 0, 20_700, 86_399] {
+        match shown(second, nanosecond, offset) {
+            Some(moment) if is_utc_line(moment, line) => {}
+            _ => return false,
         }
     }
+    true
 }
 
 #[test]
-fn answers(rt: HostRuntime) {
+fn utc_lines(rt: HostRuntime) {
+    for row in &UTC_LINES {
+        assert!(rt; are_utc_lines(row));
+    }
+}
+
+fn bytes_of_answers() -> [bool; 3] {
     let mut answer = Answer::new();
     answer.push_bytes(b"! yea");
     answer.push(b'r');
     let copy = answer;
     let was_equal = copy == answer;
     answer.push(0);
-    assert!(rt; was_equal && copy != answer && copy.as_bytes() == b"! year".as_slice());
+    [
+        was_equal,
+        copy != answer,
+        copy.as_bytes() == b"! year".as_slice(),
+    ]
+}
+
+#[test]
+fn answers(rt: HostRuntime) {
+    assert!(rt; bytes_of_answers() == [true; 3]);
 }

@@ -5,7 +5,6 @@ use calendar::UtcOffset;
 use instants::{SourceText, Timeline};
 use instants_sources::Source;
 use std::alloc::{AllocError, Global};
-use std::process::Abort;
 
 // Words parted by bars, a line, and what is told of it: the Unix time that it names or why it has none, how many items are
 // tried on it, and all places. In the row with `Err(Year)` a moment that is not shown ends the list too. In the last two
@@ -36,54 +35,49 @@ fn told(alloc: Global, timeline: &Timeline, line: &str) -> Result<String, AllocE
     format!(in alloc; "{second:?} {tried} {}", timeline.places())
 }
 
-fn is_told_by(
-    rt: &impl Abort,
-    alloc: Global,
-    timeline: &Timeline,
-    line: &str,
-    wanted: &str,
-) -> bool {
-    let told = told(alloc, timeline, line).expect(rt, "memory");
-    told.as_str() == wanted
-}
-
 // Whether a row tells what is so.
-fn is_told(rt: &impl Abort, alloc: Global, row: &str) -> bool {
-    let (words, row) = row.split_once(" => ").expect(rt, "words");
-    let (line, wanted) = row.split_once(" => ").expect(rt, "a line");
-    let timeline = timeline(rt, alloc, words);
-    is_told_by(rt, alloc, &timeline, line, wanted)
+fn is_told(alloc: Global, row: &str) -> Option<bool> {
+    let (words, row) = row.split_once(" => ")?;
+    let (line, wanted) = row.split_once(" => ")?;
+    let timeline = timeline(alloc, words)?;
+    let told = told(alloc, &timeline, line).ok()?;
+    Some(told.as_str() == wanted)
 }
 
 #[test]
 fn timelines(rt: HostRuntime) {
     for row in ROWS.lines() {
-        assert!(rt; is_told(&rt, rt.alloc(), row));
+        assert!(rt; is_told(rt.alloc(), row) == Some(true));
     }
 }
 
 // Adds a part so many times.
-fn push(rt: &impl Abort, row: &mut String, part: &str, count: u8) {
+fn push(row: &mut String, part: &str, count: u8) -> Result<(), AllocError> {
     for _ in 0..count {
-        row.push_str(part).expect(rt, "memory");
+        row.push_str(part)?;
     }
+    Ok(())
 }
 
 // A row with 127 levels of what may be missing, around a literal.
-fn deep_row(rt: &impl Abort, alloc: Global) -> String {
+fn deep_row(alloc: Global) -> Result<String, AllocError> {
     let mut row = String::new(alloc);
-    push(rt, &mut row, "+00:00|-|100|v3|", 1);
-    push(rt, &mut row, "[optional [", 127);
-    push(rt, &mut row, "x", 1);
-    push(rt, &mut row, "]]", 127);
-    push(rt, &mut row, " =>  => Err(Insufficient) 256 256", 1);
-    row
+    push(&mut row, "+00:00|-|100|v3|", 1)?;
+    push(&mut row, "[optional [", 127)?;
+    push(&mut row, "x", 1)?;
+    push(&mut row, "]]", 127)?;
+    push(&mut row, " =>  => Err(Insufficient) 256 256", 1)?;
+    Ok(row)
+}
+
+fn deep_is_told(alloc: Global) -> Option<bool> {
+    let row = deep_row(alloc).ok()?;
+    is_told(alloc, row.as_str())
 }
 
 #[test]
 fn deep(rt: HostRuntime) {
-    let row = deep_row(&rt, rt.alloc());
-    assert!(rt; is_told(&rt, rt.alloc(), row.as_str()));
+    assert!(rt; deep_is_told(rt.alloc()) == Some(true));
 }
 
 // A source, a line, how many items it tries on it, and its places.
@@ -96,15 +90,15 @@ static SOURCES: [(SourceText<'static>, &[u8], u128, u128); 5] = [
 ];
 
 // What a source tries on a line, and its places.
-fn counts(rt: &impl Abort, alloc: Global, text: SourceText, line: &[u8]) -> (u128, u128) {
-    let source = Source::new(alloc, text).expect(rt, "a source");
-    (source.tried(line, &Some(UtcOffset::UTC)), source.places())
+fn counts(alloc: Global, text: SourceText, line: &[u8]) -> Option<(u128, u128)> {
+    let source = Source::new(alloc, text).ok()?;
+    Some((source.tried(line, &Some(UtcOffset::UTC)), source.places()))
 }
 
 #[test]
 fn sources(rt: HostRuntime) {
     for row in &SOURCES {
         let (text, line, tried, places) = *row;
-        assert!(rt; counts(&rt, rt.alloc(), text, line) == (tried, places));
+        assert!(rt; counts(rt.alloc(), text, line) == Some((tried, places)));
     }
 }

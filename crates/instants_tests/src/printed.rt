@@ -2,9 +2,10 @@
 
 use description::InvalidFormatDescription;
 use instants::{LineFault, NewFault, ProgramFault, RunFault, WordsFault};
+use std::alloc::{AllocError, Global};
 use std::test::Fail;
 
-const PROGRAM_FAULTS: [ProgramFault; 7] = [
+static PROGRAM_FAULTS: [ProgramFault<'static>; 7] = [
     ProgramFault::Words(WordsFault::Limit),
     ProgramFault::Words(WordsFault::Source(2)),
     ProgramFault::New(NewFault::Source {
@@ -17,14 +18,20 @@ const PROGRAM_FAULTS: [ProgramFault; 7] = [
     ProgramFault::Memory,
 ];
 
-#[test]
-fn faults_of_the_program(rt: HostRuntime) {
-    let mut told = String::new(rt.alloc());
-    for fault in PROGRAM_FAULTS {
-        let status = fault.status();
-        write!(told, "\n{fault:?}: {fault:>99} ({status})").expect(&rt, "memory");
+fn told(alloc: Global) -> Result<String, AllocError> {
+    let mut told = String::new(alloc);
+    for row in &PROGRAM_FAULTS {
+        let fault = *row;
+        write!(told, "\n{fault:?}: {fault:>99} ({})", fault.status())?;
     }
+    Ok(told)
+}
+
+#[test]
+fn faults_of_the_program(rt: HostRuntime) -> Result<(), Fail> {
+    let told = told(rt.alloc())?;
     assert!(rt; told.as_str() == PRINTED);
+    Ok(())
 }
 
 const PRINTED: &str = r#"
@@ -36,20 +43,26 @@ Run(Read): instants: reading failed (1)
 Run(Write): instants: writing failed (1)
 Memory: instants: out of memory (1)"#;
 
+static LINE_FAULTS: [LineFault; 7] = [
+    LineFault::Literal,
+    LineFault::Component("offset hour"),
+    LineFault::Trailing,
+    LineFault::Insufficient,
+    LineFault::Range("day"),
+    LineFault::Year,
+    LineFault::Long,
+];
+
+fn lines_told(alloc: Global) -> Result<String, AllocError> {
+    format!(in alloc; "{LINE_FAULTS:?}")
+}
+
 #[test]
 fn faults_of_lines(rt: HostRuntime) -> Result<(), Fail> {
-    let faults = [
-        LineFault::Literal,
-        LineFault::Component("offset hour"),
-        LineFault::Trailing,
-        LineFault::Insufficient,
-        LineFault::Range("day"),
-        LineFault::Year,
-        LineFault::Long,
-    ];
-    let told = format!(in rt.alloc(); "{faults:?}")?;
-    let printed =
-        r#"[Literal, Component("offset hour"), Trailing, Insufficient, Range("day"), Year, Long]"#;
-    assert!(rt; told.as_str() == printed);
+    let told = lines_told(rt.alloc())?;
+    assert!(rt; told.as_str() == LINES_PRINTED);
     Ok(())
 }
+
+const LINES_PRINTED: &str =
+    r#"[Literal, Component("offset hour"), Trailing, Insufficient, Range("day"), Year, Long]"#;

@@ -28,14 +28,16 @@ const READ: End = (Err(ProgramFault::Run(RunFault::Read)), true, 1);
 const WRITE: End = (Err(ProgramFault::Run(RunFault::Write)), true, 0);
 
 // After a read that failed the answers to whole lines are flushed. After all 48 bytes it is the flush that fails.
-#[test]
-fn failed_devices(rt: HostRuntime) {
-    let alloc = rt.alloc();
-    let ends = [
+fn failed_runs(alloc: Global) -> [End; 4] {
+    [
         failed_run(alloc, Some(0), None, b""),
         failed_run(alloc, Some(25), None, &OUTPUT[..31]),
         failed_run(alloc, None, Some(30), &OUTPUT[..30]),
         failed_run(alloc, None, Some(48), OUTPUT),
-    ];
-    assert!(rt; ends == [READ, READ, WRITE, WRITE]);
+    ]
+}
+
+#[test]
+fn failed_devices(rt: HostRuntime) {
+    assert!(rt; failed_runs(rt.alloc()) == [READ, READ, WRITE, WRITE]);
 }

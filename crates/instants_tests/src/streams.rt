@@ -80,20 +80,28 @@ static STREAMS: [(usize, &[u8], &[u8]); 5] = [
     (1, b"", b""),
 ];
 
+// Whether all runs over a row's stream end with its output, with reads of at most so many bytes.
+fn end_well(row: &(usize, &[u8], &[u8]), read: usize) -> bool {
+    let (limit, stream, output) = *row;
+    for write in [1, 5, 48, 100] {
+        let cut = Cut {
+            limit,
+            read,
+            write,
+            ..WHOLE
+        };
+        if ended(stream, cut, output) != wanted_end(Ok(())) {
+            return false;
+        }
+    }
+    true
+}
+
 #[test]
 fn reads_of_every_size(rt: HostRuntime) {
     for row in &STREAMS {
-        let (limit, stream, output) = *row;
         for read in 1..27 {
-            for write in [1, 5, 48, 100] {
-                let cut = Cut {
-                    limit,
-                    read,
-                    write,
-                    ..WHOLE
-                };
-                assert!(rt; ended(stream, cut, output) == wanted_end(Ok(())));
-            }
+            assert!(rt; end_well(row, read));
         }
     }
 }
@@ -110,28 +118,32 @@ fn end_so(cut: Cut, fault: RunFault, output: &[u8]) -> bool {
     true
 }
 
+// Whether runs end so whose reads fail after so many bytes.
+fn reads_end_so(limit: usize, after: usize, write_fails: Option<usize>, output: &[u8]) -> bool {
+    let cut = Cut {
+        limit,
+        read_fails: Some(after),
+        write_fails,
+        ..WHOLE
+    };
+    end_so(cut, RunFault::Read, output)
+}
+
+// The same of a line that is longer than the limit, and of devices that both fail.
+fn others_end_so() -> [bool; 3] {
+    [
+        reads_end_so(22, 23, None, b""),
+        reads_end_so(22, 24, None, b"! long\n"),
+        reads_end_so(100, 0, Some(0), b""),
+    ]
+}
+
 #[test]
 fn reads_fail(rt: HostRuntime) {
     for after in 0..27 {
-        let cut = Cut {
-            read_fails: Some(after),
-            ..WHOLE
-        };
-        assert!(rt; end_so(cut, RunFault::Read, written_before(after)));
+        assert!(rt; reads_end_so(100, after, None, written_before(after)));
     }
-    for (limit, after, write_fails, output) in [
-        (22, 23, None, b"".as_slice()),
-        (22, 24, None, b"! long\n".as_slice()),
-        (100, 0, Some(0), b"".as_slice()),
-    ] {
-        let cut = Cut {
-            limit,
-            read_fails: Some(after),
-            write_fails,
-            ..WHOLE
-        };
-        assert!(rt; end_so(cut, RunFault::Read, output));
-    }
+    assert!(rt; others_end_so() == [true; 3]);
 }
 
 // After all 48 bytes it is the flush that fails.
@@ -164,8 +176,8 @@ fn writes_take_nothing(rt: HostRuntime) {
     }
 }
 
-#[test]
-fn two_reads(rt: HostRuntime) {
+// What a run over one line answers, and how many reads it makes.
+fn run_line() -> (Result<(), RunFault>, u8) {
     let mut buffer = [0; 101];
     let mut space = [0; 100];
     let mut reader = Counting {
@@ -174,5 +186,10 @@ fn two_reads(rt: HostRuntime) {
     };
     let mut writer = CutWriter::new(&mut space, 100, None);
     let answer = run_lines(&ByLength, 100, &mut buffer, &mut reader, &mut writer);
-    assert!(rt; (answer, reader.reads) == (Ok(()), 2));
+    (answer, reader.reads)
+}
+
+#[test]
+fn two_reads(rt: HostRuntime) {
+    assert!(rt; run_line() == (Ok(()), 2));
 }

@@ -1,6 +1,6 @@
 //! Streams, devices and ends of runs that several tests use.
 
-ghost use Rattle.std.specs.Prelude.{◌≡◌, ◌≤◌, false, length};
+ghost use Rattle.std.specs.Prelude.{◌≡◌, false};
 
 use calendar::{Date, Month, Time, UtcOffset};
 use datetime::OffsetDateTime;
@@ -10,7 +10,6 @@ use instants::{
 };
 use std::alloc::Global;
 use std::io::{Result as IoResult, Write};
-use std::process::Abort;
 
 /// Two lines.
 pub const STREAM: &[u8; 26] = b"1985-04-12T23:20:50.52Z\nx\n";
@@ -58,32 +57,28 @@ pub fn written_before(read_fails: usize) -> &'static [u8] {
     }
 }
 
-/// A moment by its year, month, day, second of the day, nanosecond, and offset in seconds.
+/// A moment by its year, month, day, hour, minute, second, nanosecond, and offset in seconds, where there is one.
 pub fn moment(
-    rt: &impl Abort,
     date: (i32, Month, u8),
     time: (u8, u8, u8, u32),
     offset: i32,
-) -> OffsetDateTime {
-    let date = Date::from_calendar_date(date.0, date.1, date.2).expect(rt, "a date");
-    let time = Time::from_hms_nano(time.0, time.1, time.2, time.3).expect(rt, "a time");
-    let offset = UtcOffset::from_whole_seconds(offset).expect(rt, "an offset");
-    OffsetDateTime::new_in_offset(date, time, offset)
+) -> Option<OffsetDateTime> {
+    let date = Date::from_calendar_date(date.0, date.1, date.2).ok()?;
+    let time = Time::from_hms_nano(time.0, time.1, time.2, time.3).ok()?;
+    let offset = UtcOffset::from_whole_seconds(offset).ok()?;
+    Some(OffsetDateTime::new_in_offset(date, time, offset))
 }
 
 // What is parted by bars.
-fn parted<'a>(rt: &impl Abort, alloc: Global, words: &'a str) -> Vec<&'a str> {
-    let mut parts = Vec::new(alloc);
-    parts.extend(words.split('|')).expect(rt, "memory");
-    parts
+fn parted<'a>(alloc: Global, words: &'a str) -> Option<Vec<&'a str>> {
+    words.split('|').collect(alloc).ok()
 }
 
 /// The timeline that words ask for, which are parted by bars.
-pub fn timeline<'a>(rt: &impl Abort, alloc: Global, words: &'a str) -> Timeline<'a> {
-    let parts = parted(rt, alloc, words);
-    let said = read_words(alloc, parts.as_slice()).expect(rt, "words");
-    let sources = said.sources.as_slice();
-    Timeline::new(alloc, sources, said.target, said.assumed).expect(rt, "a timeline")
+pub fn timeline<'a>(alloc: Global, words: &'a str) -> Option<Timeline<'a>> {
+    let parts = parted(alloc, words)?;
+    let said = read_words(alloc, parts.as_slice()).ok()?;
+    Timeline::new(alloc, said.sources.as_slice(), said.target, said.assumed).ok()
 }
 
 /// A run of words on these devices, whatever they are: of its promises the tests need none.
@@ -99,18 +94,25 @@ pub fn run_words_on<'a, R: ByteReader, W: ByteWriter>(
     run_words(alloc, words, reader, writer)
 }
 
-/// The same of a timeline.
+/// The same by the timeline that words ask for, which are parted by bars, with lines of at most so many bytes.
 pub fn run_on<R: ByteReader, W: ByteWriter>(
-    timeline: &Timeline,
-    buffer: &mut [u8],
+    alloc: Global,
+    words: &str,
+    limit: usize,
     reader: &mut R,
     writer: &mut W,
-) -> Result<(), RunFault>
-    requires room { 2 ≤ length buffer.old }
+) -> Option<Result<(), RunFault>>
     requires reader { R.failed reader.old ≡ false }
     requires writer { W.failed writer.old ≡ false }
 {
-    run(timeline, buffer, reader, writer)
+    let timeline = timeline(alloc, words)?;
+    let mut buffer = [0; 101];
+    Some(run(
+        &timeline,
+        &mut buffer[..=limit.clamp(1, 100)],
+        reader,
+        writer,
+    ))
 }
 
 /// A writer of std that takes so many bytes, one at a time, and then none.
