@@ -1,5 +1,5 @@
 -- Instants by their whole seconds, rounded down, and the nanoseconds after them.
-use Rattle.std.proofs.Common.{◌≡◌, ℕ, ◌+◌, ◌*◌, ◌%◌, ◌<◌, ℤ, pos, ◌+ℤ◌, ◌-ℤ◌, ◌*ℤ◌, arith}
+use Rattle.std.proofs.Common.{◌≡◌, ℕ, ◌+◌, ◌*◌, ◌%◌, ◌<◌, ◌↔◌, ℤ, pos, ◌+ℤ◌, ◌-ℤ◌, ◌*ℤ◌, subst, sym, arith}
 use Rattle.std.specs.Int.{int_div_euclid, int_rem_euclid}
 use Rattle.std.specs.Prelude.{int_div, int_rem}
 use Rattle.std.proofs.lemmas.Int.{quot-rem}
@@ -40,6 +40,13 @@ second_within seconds nanosecond h within = (omega (arith, signed, within), omeg
 
 pub within_second : (seconds : ℤ) (nanosecond : ℕ) → nanosecond < second_nanos → IsUnixSecond seconds → IsWallClock (seconds *ℤ pos second_nanos +ℤ pos nanosecond)
 within_second seconds nanosecond h within = (omega (arith, signed, within), omega (arith, signed, within))
+
+-- what holds where the calendar has the second holds where it has the instant
+pub where_within : (T : Type 0) (seconds : ℤ) (nanosecond : ℕ) (instant : ℤ) → (T ↔ (IsUnixSecond seconds × (nanosecond < second_nanos))) → seconds *ℤ pos second_nanos +ℤ pos nanosecond ≡ instant → nanosecond < second_nanos → (T ↔ IsWallClock instant)
+where_within T seconds nanosecond instant within is h = (
+  λ t. subst IsWallClock is (within_second seconds nanosecond h (within.0 t).0),
+  λ w. within.1 (second_within seconds nanosecond h (subst IsWallClock (sym is) w), h),
+)
 
 -- a duration by its whole seconds and the nanoseconds past them
 pub duration_whole : (d : ℤ) → int_div d (pos second_nanos) *ℤ pos second_nanos +ℤ int_rem d (pos second_nanos) ≡ d

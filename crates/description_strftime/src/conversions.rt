@@ -85,10 +85,11 @@ fn letter<'a>(
             index: start,
         });
     };
-    match spelled_by(flag, *first) {
-        Some(spelled) => Ok((spelled, cut(here, 1).1)),
-        None => Err(refusal(*first, here)),
-    }
+    let Some(spelled) = spelled_by(flag, *first) else {
+        return Err(refusal(*first, here));
+    };
+    let (_, rest) = cut(here, 1);
+    Ok((spelled, rest))
 }
 
 // The flag at the front, and what follows it.
