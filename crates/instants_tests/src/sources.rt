@@ -3,7 +3,7 @@
 use calendar::UtcOffset;
 use datetime::OffsetDateTime;
 use instants::SourceText;
-use instants_sources::{Source, fast_iso8601, fast_rfc2822, fast_rfc3339};
+use instants_sources::{Source, fast_iso8601, fast_rfc2822, fast_rfc3339, is_no_rfc3339};
 use parsing_fields::Fields;
 use std::alloc::{AllocError, Global};
 
@@ -156,4 +156,29 @@ fn fast_ways_of_sources(rt: HostRuntime) {
         let (text, line, wanted) = *row;
         assert!(rt; fast(rt.alloc(), text, line) == Some(wanted));
     }
+}
+
+// Whether a line's beginning shows that it is none of RFC 3339, and that RFC 3339's, and RFC 2822's, first fault is a year.
+fn shown(line: &[u8]) -> (bool, bool, bool) {
+    let (rfc3339, rfc2822) = (Source::Rfc3339, Source::Rfc2822);
+    (
+        is_no_rfc3339(line),
+        rfc3339.has_no_year(line, None),
+        rfc2822.has_no_year(line, None),
+    )
+}
+
+fn all_shown() -> [(bool, bool, bool); 4] {
+    [
+        shown(b"1970-01-01T00:00:01Z"),
+        shown(b"Thu, 01 Jan 1970 00:00:01 +0000"),
+        shown(b"1970"),
+        shown(b""),
+    ]
+}
+
+#[test]
+fn beginnings(rt: HostRuntime) {
+    let none = (true, true, false);
+    assert!(rt; all_shown() == [(false, false, false), none, (true, false, false), none]);
 }
