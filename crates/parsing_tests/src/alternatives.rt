@@ -4,7 +4,6 @@ use crate::support::is_same;
 use description::modifier::{Day, Hour24, Minute, Padding};
 use description::{BorrowedFormatItem, Component};
 use parsing::{Items, Parsable, Parse, ParseFromDescription, Parsed, places_of_items};
-use std::test::Fail;
 
 const DAY: BorrowedFormatItem<'static> = BorrowedFormatItem::Component(Component::Day(Day {
     padding: Padding::Zero,
@@ -57,60 +56,83 @@ fn is_answer<P: Parsable>(item: &P, input: &[u8], record: &Parsed, wanted: Count
 const LITERAL: ParseFromDescription = ParseFromDescription::InvalidLiteral;
 
 // Bytes, text and nothing.
-#[test]
-fn literals(rt: HostRuntime) {
+fn literals_are_read() -> [bool; 4] {
     let none = Parsed::new();
     let byte = BorrowedFormatItem::Literal(b"\x80");
     let letter = BorrowedFormatItem::StringLiteral("x");
     let nothing = BorrowedFormatItem::Compound(&[]);
-    let answers = [
+    [
         is_answer(&byte, b"\x80\xff", &none, (Ok(1), 1)),
         is_answer(&byte, b"\x81", &none, (Err(LITERAL.into()), 1)),
         is_answer(&letter, b"x", &none, (Ok(0), 1)),
         is_answer(&nothing, b"x", &none, (Ok(1), 1)),
-    ];
-    assert!(rt; answers == [true; 4]);
+    ]
 }
 
-#[test]
-fn items_in_turn(rt: HostRuntime) -> Result<(), Fail> {
+fn items_are_read_in_turn() -> Option<[bool; 4]> {
     let none = Parsed::new();
-    let read = none.with_hour_24(23).ok_or("an hour")?;
-    let time = read.with_minute(20).ok_or("a minute")?;
+    let time = none.with_hour_24(23)?.with_minute(20)?;
     let clock = [HOUR, COLON, MINUTE];
     let in_turn = BorrowedFormatItem::Compound(&clock);
     let may_be_clock = BorrowedFormatItem::Optional(&in_turn);
-    let answers = [
+    Some([
         is_answer(&in_turn, b"23:20", &time, (Ok(0), 4)),
         is_answer(&in_turn, b"23-20", &none, (Err(LITERAL.into()), 3)),
         is_answer(&Items(&clock), b"23:20", &time, (Ok(0), 3)),
         is_answer(&may_be_clock, b"23-20", &none, (Ok(5), 4)),
-    ];
-    assert!(rt; answers == [true; 4]);
-    Ok(())
+    ])
 }
 
 #[test]
-fn alternatives(rt: HostRuntime) -> Result<(), Fail> {
-    let hour = Err(ParseFromDescription::InvalidComponent("hour").into());
+fn literals_and_items_in_turn(rt: HostRuntime) {
+    assert!(rt; literals_are_read() == [true; 4] && items_are_read_in_turn() == Some([true; 4]));
+}
+
+fn what_may_be_missing_is_read() -> Option<[bool; 3]> {
     let none = Parsed::new();
-    let day = none.with_day(5).ok_or("a day")?;
-    let clock = [HOUR, COLON, MINUTE];
-    let either = [BorrowedFormatItem::Compound(&clock), DAY];
-    let first = BorrowedFormatItem::First(&either);
+    let day = none.with_day(5)?;
     let day_alone = DAY;
     let may_be_day = BorrowedFormatItem::Optional(&day_alone);
-    let none_of = BorrowedFormatItem::First(&[]);
-    let answers = [
+    Some([
         is_answer(&DAY, b"05x", &day, (Ok(1), 1)),
         is_answer(&may_be_day, b"05", &day, (Ok(0), 2)),
         is_answer(&may_be_day, b"x", &none, (Ok(1), 2)),
+    ])
+}
+
+fn alternatives_are_read() -> Option<bool> {
+    let hour = Err(ParseFromDescription::InvalidComponent("hour").into());
+    let none = Parsed::new();
+    let day = none.with_day(5)?;
+    let clock = [HOUR, COLON, MINUTE];
+    let either = [BorrowedFormatItem::Compound(&clock), DAY];
+    let first = BorrowedFormatItem::First(&either);
+    let none_of = BorrowedFormatItem::First(&[]);
+    let answers = [
         is_answer(&first, b"05-", &day, (Ok(1), 5)),
         is_answer(&first, b"x", &none, (hour, 4)),
         is_answer(&none_of, b"x", &none, (Ok(1), 1)),
     ];
-    assert!(rt; answers == [true; 6] && places_of_items(&[first, may_be_day]) == 8);
-    Ok(())
+    Some(answers == [true; 3])
+}
+
+// The places of alternatives and of what may be missing.
+fn places() -> u128 {
+    let clock = [HOUR, COLON, MINUTE];
+    let either = [BorrowedFormatItem::Compound(&clock), DAY];
+    let day_alone = DAY;
+    let first = BorrowedFormatItem::First(&either);
+    let may_be_day = BorrowedFormatItem::Optional(&day_alone);
+    places_of_items(&[first, may_be_day])
+}
+
+#[test]
+fn alternatives(rt: HostRuntime) {
+    assert!(rt;
+        what_may_be_missing_is_read() == Some([true; 3])
+            && alternatives_are_read() == Some(true)
+            && places() == 8
+    );
 }
 
 // What the calls of the record itself leave, or `None` where one answers otherwise than it should.
@@ -119,20 +141,28 @@ fn calls_of_the_record() -> Option<Parsed> {
     let hour = Component::Hour24(Hour24::default());
     let wrong = [BorrowedFormatItem::Component(hour), DAY];
     let right = [BorrowedFormatItem::StringLiteral("-"), DAY];
-    let holds = Parsed::parse_literal(b"ab", b"a") == Ok(b"b".as_slice())
-        && Parsed::parse_literal(b"ab", b"b").is_err()
-        && parsed.parse_item(b"05", &DAY) == Ok(b"".as_slice())
-        && parsed.parse_component(b"23x", hour) == Ok(b"x".as_slice())
-        && parsed.parse_items(b"2200", &wrong).is_err()
-        && parsed.parse_items(b"-31", &right) == Ok(b"".as_slice());
-    if holds { Some(parsed) } else { None }
+    let holds = [
+        Parsed::parse_literal(b"ab", b"a") == Ok(b"b".as_slice()),
+        Parsed::parse_literal(b"ab", b"b").is_err(),
+        parsed.parse_item(b"05", &DAY) == Ok(b"".as_slice()),
+        parsed.parse_component(b"23x", hour) == Ok(b"x".as_slice()),
+        parsed.parse_items(b"2200", &wrong).is_err(),
+        parsed.parse_items(b"-31", &right) == Ok(b"".as_slice()),
+    ];
+    if holds == [true; 6] {
+        Some(parsed)
+    } else {
+        None
+    }
+}
+
+fn calls_leave_their_fields() -> Option<bool> {
+    let parsed = calls_of_the_record()?;
+    let wanted = Parsed::new().with_day(31)?.with_hour_24(23)?;
+    Some(is_same(&parsed, &wanted))
 }
 
 #[test]
-fn record(rt: HostRuntime) -> Result<(), Fail> {
-    let parsed = calls_of_the_record().ok_or("another answer")?;
-    let day = Parsed::new().with_day(31).ok_or("a day")?;
-    let wanted = day.with_hour_24(23).ok_or("an hour")?;
-    assert!(rt; is_same(&parsed, &wanted));
-    Ok(())
+fn record(rt: HostRuntime) {
+    assert!(rt; calls_leave_their_fields() == Some(true));
 }

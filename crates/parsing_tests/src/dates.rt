@@ -55,43 +55,52 @@ fn named(parts: &DateParts) -> Result<(i32, u8, u8), TryFromParsed> {
     Ok((day.year(), u8::from(day.month()), day.day()))
 }
 
-#[test]
-fn years(rt: HostRuntime) {
-    for (parts, wanted) in [
-        (NO_YEAR, None),
-        (of_year(-5), Some(-5)),
-        (of_century(20, false, 21), Some(2021)),
-        // `-0005` and `-0105`: the last two digits lead backwards
-        (of_century(0, true, 5), Some(-5)),
-        (of_century(-1, true, 5), Some(-105)),
-        (of_century(9999, false, 99), Some(999_999)),
-        (
-            YearParts {
-                last_two: None,
-                ..of_century(20, false, 21)
-            },
-            None,
-        ),
-        // a year that is there goes before its century
-        (
-            YearParts {
-                year: Some(7),
-                ..of_century(20, false, 21)
-            },
-            Some(7),
-        ),
-    ] {
-        assert!(rt; year(&parts) == wanted);
-    }
+// `-0005` and `-0105` are among them: the last two digits lead backwards.
+fn named_years() -> [Option<i32>; 8] {
+    let century_alone = YearParts {
+        last_two: None,
+        ..of_century(20, false, 21)
+    };
+    // a year that is there goes before its century
+    let year_and_century = YearParts {
+        year: Some(7),
+        ..of_century(20, false, 21)
+    };
+    [
+        year(&NO_YEAR),
+        year(&of_year(-5)),
+        year(&of_century(20, false, 21)),
+        year(&of_century(0, true, 5)),
+        year(&of_century(-1, true, 5)),
+        year(&of_century(9999, false, 99)),
+        year(&century_alone),
+        year(&year_and_century),
+    ]
 }
 
-// Each group goes before those after it.
+static YEARS: [Option<i32>; 8] = [
+    None,
+    Some(-5),
+    Some(2021),
+    Some(-5),
+    Some(-105),
+    Some(999_999),
+    None,
+    Some(7),
+];
+
 #[test]
-fn groups(rt: HostRuntime) {
-    let year = of_year(2018);
+fn years(rt: HostRuntime) {
+    assert!(rt; named_years() == YEARS);
+}
+
+type Named = Result<(i32, u8, u8), TryFromParsed>;
+
+// Each group goes before those after it.
+fn named_by_groups() -> [Named; 5] {
     let whole = DateParts {
-        year,
-        iso_year: year,
+        year: of_year(2018),
+        iso_year: of_year(2018),
         ordinal: Some(32),
         month: Some(Month::March),
         day: Some(4),
@@ -116,106 +125,115 @@ fn groups(rt: HostRuntime) {
         sunday_week: None,
         ..by_sunday_week
     };
-    for (parts, wanted) in [
-        (NOTHING, Err(TryFromParsed::InsufficientInformation)),
-        (
-            DateParts { year, ..NOTHING },
-            Err(TryFromParsed::InsufficientInformation),
-        ),
-        (whole, Ok((2018, 2, 1))),
-        (by_day, Ok((2018, 3, 4))),
-        (by_iso_week, Ok((2018, 1, 1))),
-        (by_sunday_week, Ok((2018, 1, 15))),
-        (by_monday_week, Ok((2018, 1, 22))),
-    ] {
-        assert!(rt; named(&parts) == wanted);
-    }
+    [whole, by_day, by_iso_week, by_sunday_week, by_monday_week].map(|parts| named(&parts))
+}
+
+static GROUPS: [Named; 5] = [
+    Ok((2018, 2, 1)),
+    Ok((2018, 3, 4)),
+    Ok((2018, 1, 1)),
+    Ok((2018, 1, 15)),
+    Ok((2018, 1, 22)),
+];
+
+fn named_by_little() -> [Named; 2] {
+    let year = DateParts {
+        year: of_year(2018),
+        ..NOTHING
+    };
+    [named(&NOTHING), named(&year)]
 }
 
 #[test]
-fn refusals(rt: HostRuntime) {
+fn groups(rt: HostRuntime) {
+    let too_little = Err(TryFromParsed::InsufficientInformation);
+    assert!(rt; named_by_groups() == GROUPS && named_by_little() == [too_little; 2]);
+}
+
+fn refused_days() -> bool {
     let day = DateParts {
         year: of_year(2021),
         month: Some(Month::February),
         day: Some(30),
         ..NOTHING
     };
+    let ordinal = DateParts {
+        ordinal: Some(366),
+        ..day
+    };
+    named(&day) == Err(conditional(ComponentName::Day))
+        && named(&ordinal) == Err(conditional(ComponentName::Ordinal))
+}
+
+fn refused_weeks() -> bool {
     let last_week = DateParts {
         iso_year: of_year(999_999),
         iso_week: Some(52),
         weekday: Some(Weekday::Friday),
         ..NOTHING
     };
+    let past = DateParts {
+        weekday: Some(Weekday::Saturday),
+        ..last_week
+    };
+    named(&last_week) == Ok((999_999, 12, 31))
+        && named(&past) == Err(conditional(ComponentName::Week))
+}
+
+fn refused_sundays() -> bool {
     let sunday = DateParts {
         year: of_year(2018),
         sunday_week: Some(1),
         weekday: Some(Weekday::Monday),
         ..NOTHING
     };
-    for (parts, wanted) in [
-        (day, Err(conditional(ComponentName::Day))),
-        (
-            DateParts {
-                ordinal: Some(366),
-                ..day
-            },
-            Err(conditional(ComponentName::Ordinal)),
-        ),
-        (last_week, Ok((999_999, 12, 31))),
-        (
-            DateParts {
-                weekday: Some(Weekday::Saturday),
-                ..last_week
-            },
-            Err(conditional(ComponentName::Week)),
-        ),
-        (sunday, Ok((2018, 1, 8))),
-        (
-            DateParts {
-                sunday_week: Some(0),
-                weekday: Some(Weekday::Sunday),
-                ..sunday
-            },
-            Err(conditional(ComponentName::Ordinal)),
-        ),
-        (
-            DateParts {
-                year: of_year(1_000_000),
-                ..sunday
-            },
-            Err(unconditional(ComponentName::Year)),
-        ),
-    ] {
-        assert!(rt; named(&parts) == wanted);
-    }
+    let before = DateParts {
+        sunday_week: Some(0),
+        weekday: Some(Weekday::Sunday),
+        ..sunday
+    };
+    let no_year = DateParts {
+        year: of_year(1_000_000),
+        ..sunday
+    };
+    named(&sunday) == Ok((2018, 1, 8))
+        && named(&before) == Err(conditional(ComponentName::Ordinal))
+        && named(&no_year) == Err(unconditional(ComponentName::Year))
+}
+
+#[test]
+fn refusals(rt: HostRuntime) {
+    assert!(rt; [refused_days(), refused_weeks(), refused_sundays()] == [true; 3]);
 }
 
 // 12 April 1985 was a Friday, the 102nd day of its year.
+fn days_found(ordinal: u16, day: u8, iso_week: u8, week: u8) -> [Option<Date>; 5] {
+    [
+        named_day::ordinal_date(1985, ordinal).ok(),
+        named_day::calendar_date(1985, Month::April, day).ok(),
+        named_day::iso_week_date(1985, iso_week, Weekday::Friday).ok(),
+        named_day::sunday_week_date(1985, week, Weekday::Friday).ok(),
+        named_day::monday_week_date(1985, week, Weekday::Friday).ok(),
+    ]
+}
+
 #[test]
 fn named_days(rt: HostRuntime) -> Result<(), Fail> {
     let wanted = Date::from_calendar_date(1985, Month::April, 12)?;
-    for read in [
-        named_day::ordinal_date(1985, 102),
-        named_day::calendar_date(1985, Month::April, 12),
-        named_day::iso_week_date(1985, 15, Weekday::Friday),
-        named_day::sunday_week_date(1985, 14, Weekday::Friday),
-        named_day::monday_week_date(1985, 14, Weekday::Friday),
-    ] {
-        assert!(rt; read == Ok(wanted));
-    }
-    for refused in [
-        named_day::ordinal_date(1985, 366),
-        named_day::calendar_date(1985, Month::April, 31),
-        named_day::iso_week_date(1985, 53, Weekday::Friday),
-        named_day::sunday_week_date(1985, 53, Weekday::Friday),
-        named_day::monday_week_date(1985, 53, Weekday::Friday),
-    ] {
-        assert!(rt; refused.is_err());
-    }
+    assert!(rt; days_found(102, 12, 15, 14) == [Some(wanted); 5]);
+    assert!(rt; days_found(366, 31, 53, 53) == [None; 5]);
     Ok(())
 }
 
-// The week's number and the weekday lead back to each day.
+// Whether the numbers of the weeks and the weekday lead back to a day.
+fn leads_back(day: Date) -> [bool; 2] {
+    let (year, weekday) = (day.year(), day.weekday());
+    [
+        named_day::sunday_week_date(year, day.sunday_based_week(), weekday) == Ok(day),
+        named_day::monday_week_date(year, day.monday_based_week(), weekday) == Ok(day),
+    ]
+}
+
 #[test]
 fn weeks(rt: HostRuntime) {
     for start in [
@@ -224,14 +242,7 @@ fn weeks(rt: HostRuntime) {
         Date::MAX.count() - 3000,
     ] {
         for count in start..start + 3001 {
-            let day = Date::from_count(count);
-            let (year, weekday) = (day.year(), day.weekday());
-            assert!(rt;
-                named_day::sunday_week_date(year, day.sunday_based_week(), weekday) == Ok(day)
-            );
-            assert!(rt;
-                named_day::monday_week_date(year, day.monday_based_week(), weekday) == Ok(day)
-            );
+            assert!(rt; leads_back(Date::from_count(count)) == [true; 2]);
         }
     }
 }

@@ -3,6 +3,7 @@
 use calendar::{ComponentName, ComponentRange, ConversionRange, InvalidVariant};
 use description::{DifferentVariant, InvalidFormatDescription};
 use parsing::{Error, Parse, ParseFromDescription, TryFromParsed};
+use std::alloc::{AllocError, Global};
 use std::test::Fail;
 
 const UNREAD: ParseFromDescription = ParseFromDescription::InvalidComponent("offset hour");
@@ -45,34 +46,52 @@ fn kinds(error: Error<'static>) -> [bool; 8] {
     ]
 }
 
-#[test]
-fn refusals_come_back(rt: HostRuntime) {
+// The two kinds of a reading are given back as one, the third and the fourth.
+fn kind_of(place: usize) -> [bool; 8] {
+    let mut wanted = [false; 8];
+    wanted[place % 8] = true;
+    wanted[7] = place != 2 && place != 3;
+    wanted
+}
+
+fn refusals_come_back() -> bool {
     for (place, error) in all().into_iter().enumerate() {
-        let mut wanted = [false; 8];
-        wanted[place] = true;
-        // the two kinds of a reading are given back as one
-        wanted[7] = place != 2 && place != 3;
-        assert!(rt; kinds(error) == wanted);
+        if kinds(error) != kind_of(place) {
+            return false;
+        }
     }
-    for parse in [Parse::from(unresolved()), Parse::from(UNREAD)] {
-        let error = Error::from(parse);
-        assert!(rt; Parse::try_from(error) == Ok(parse));
-    }
+    true
+}
+
+fn comes_back(parse: Parse) -> bool {
+    Parse::try_from(Error::from(parse)) == Ok(parse)
 }
 
 #[test]
-fn refusals_of_readings_come_back(rt: HostRuntime) {
+fn refusals(rt: HostRuntime) {
+    let readings = [
+        comes_back(Parse::from(unresolved())),
+        comes_back(Parse::from(UNREAD)),
+    ];
+    assert!(rt; refusals_come_back() && readings == [true; 2]);
+}
+
+fn readings_come_back() -> [bool; 6] {
     let (bytes, record) = (Parse::from(UNREAD), Parse::from(unresolved()));
     let little = TryFromParsed::InsufficientInformation;
-    let are_told = [
+    [
         ParseFromDescription::try_from(bytes) == Ok(UNREAD),
         ParseFromDescription::try_from(record) == Err(DifferentVariant),
         TryFromParsed::try_from(record) == Ok(unresolved()),
         TryFromParsed::try_from(bytes) == Err(DifferentVariant),
         ComponentRange::try_from(unresolved()) == Ok(range()),
         ComponentRange::try_from(little) == Err(DifferentVariant),
-    ];
-    assert!(rt; are_told == [true; 6]);
+    ]
+}
+
+#[test]
+fn refusals_of_readings(rt: HostRuntime) {
+    assert!(rt; readings_come_back() == [true; 6]);
 }
 
 // Refusals of readings, and of what they say.
@@ -87,16 +106,21 @@ fn readings() -> [Parse; 6] {
     ]
 }
 
-#[test]
-fn texts(rt: HostRuntime) -> Result<(), Fail> {
-    let mut told = String::new(rt.alloc());
+fn told(alloc: Global) -> Result<String, AllocError> {
+    let mut told = String::new(alloc);
     for error in all() {
         write!(told, "\n{error}")?;
     }
     for fault in readings() {
         write!(told, "\n{fault}")?;
     }
-    assert_eq!(rt; told.as_str(), TEXTS);
+    Ok(told)
+}
+
+#[test]
+fn texts(rt: HostRuntime) -> Result<(), Fail> {
+    let told = told(rt.alloc())?;
+    assert!(rt; told.as_str() == TEXTS);
     Ok(())
 }
 

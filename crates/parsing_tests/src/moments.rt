@@ -9,7 +9,6 @@ use parsing_values::{
     DateParts, MomentParts, OffsetParts, TimeParts, YearParts, hour, offset, offset_date_time,
     plain_date_time, time, timestamp, utc_date_time,
 };
-use std::test::Fail;
 
 const NO_YEAR: YearParts = YearParts {
     year: None,
@@ -99,87 +98,135 @@ fn instants(parts: &MomentParts, offset: &OffsetParts) -> Read {
     )
 }
 
-#[test]
-fn hours(rt: HostRuntime) {
-    for (parts, wanted) in [
-        (NO_TIME, None),
-        (half(12, false), Some(0)),
-        (half(12, true), Some(12)),
-        (half(11, true), Some(23)),
-        (
-            TimeParts {
-                hour_24: Some(3),
-                ..half(11, true)
-            },
-            Some(3),
-        ),
-        (
-            TimeParts {
-                hour_12_is_pm: None,
-                ..half(11, true)
-            },
-            None,
-        ),
-    ] {
-        assert!(rt; hour(&parts) == wanted);
-    }
+fn named_hours() -> [Option<u8>; 6] {
+    let both = TimeParts {
+        hour_24: Some(3),
+        ..half(11, true)
+    };
+    let no_half = TimeParts {
+        hour_12_is_pm: None,
+        ..half(11, true)
+    };
+    [
+        hour(&NO_TIME),
+        hour(&half(12, false)),
+        hour(&half(12, true)),
+        hour(&half(11, true)),
+        hour(&both),
+        hour(&no_half),
+    ]
 }
 
+static HOURS: [Option<u8>; 6] = [None, Some(0), Some(12), Some(23), Some(3), None];
+
 #[test]
-fn times(rt: HostRuntime) -> Result<(), Fail> {
+fn hours(rt: HostRuntime) {
+    assert!(rt; named_hours() == HOURS);
+}
+
+// The hour, the minute, the second and the nanosecond.
+type Clock = Result<(u8, u8, u8, u32), TryFromParsed>;
+
+fn named_time(leap: bool, parts: TimeParts) -> Clock {
+    time(leap, &parts).map(Time::as_hms_nano)
+}
+
+fn named_times() -> [Clock; 4] {
     let whole = TimeParts {
         subsecond: Some(7),
         ..at(3, 4, 5)
     };
+    [
+        named_time(false, half(11, true)),
+        named_time(false, whole),
+        named_time(false, at(3, 4, 60)),
+        named_time(true, at(3, 4, 60)),
+    ]
+}
+
+const END: (u8, u8, u8, u32) = (3, 4, 59, 999_999_999);
+
+fn wanted_times() -> [Clock; 4] {
+    [
+        Ok((23, 0, 0, 0)),
+        Ok((3, 4, 5, 7)),
+        Err(refused(ComponentName::Second)),
+        Ok(END),
+    ]
+}
+
+fn are_permitted() -> bool {
+    permitted_time(true, 3, 4, 60, 0).map(Time::as_hms_nano) == Ok(END)
+        && permitted_time(false, 3, 4, 60, 0).is_err()
+}
+
+fn times_of_little() -> [Clock; 3] {
     let no_minute = TimeParts {
         minute: None,
-        ..whole
+        ..at(3, 4, 5)
     };
     let no_second = TimeParts {
         second: None,
-        ..whole
+        subsecond: Some(7),
+        ..at(3, 4, 5)
     };
-    let end = Time::from_hms_nano(3, 4, 59, 999_999_999)?;
-    for (leap, parts, wanted) in [
-        (false, NO_TIME, Err(TOO_LITTLE)),
-        (false, half(11, true), Ok(Time::from_hms(23, 0, 0)?)),
-        (false, whole, Ok(Time::from_hms_nano(3, 4, 5, 7)?)),
-        (false, no_minute, Err(TOO_LITTLE)),
-        (false, no_second, Err(TOO_LITTLE)),
-        (false, at(3, 4, 60), Err(refused(ComponentName::Second))),
-        (true, at(3, 4, 60), Ok(end)),
-    ] {
-        assert!(rt; time(leap, &parts) == wanted);
-    }
+    [
+        named_time(false, NO_TIME),
+        named_time(false, no_minute),
+        named_time(false, no_second),
+    ]
+}
+
+#[test]
+fn times(rt: HostRuntime) {
     assert!(rt;
-        permitted_time(true, 3, 4, 60, 0) == Ok(end) && permitted_time(false, 3, 4, 60, 0).is_err()
+        named_times() == wanted_times()
+            && times_of_little() == [Err(TOO_LITTLE); 3]
+            && are_permitted()
     );
-    Ok(())
+}
+
+// The seconds of the offset that parts name.
+fn named_offset(
+    hour: Option<i8>,
+    minute: Option<i8>,
+    second: Option<i8>,
+) -> Result<i32, TryFromParsed> {
+    let parts = OffsetParts {
+        hour,
+        minute,
+        second,
+    };
+    offset(&parts).map(UtcOffset::whole_seconds)
+}
+
+fn named_offsets() -> [Result<i32, TryFromParsed>; 6] {
+    [
+        named_offset(None, None, None),
+        named_offset(None, Some(30), None),
+        named_offset(Some(0), Some(-30), None),
+        named_offset(Some(-5), Some(30), Some(1)),
+        named_offset(Some(5), None, Some(1)),
+        named_offset(Some(26), None, None),
+    ]
 }
 
 #[test]
 fn offsets(rt: HostRuntime) {
-    for (hour, minute, second, wanted) in [
-        (None, None, None, Err(TOO_LITTLE)),
-        (None, Some(30), None, Err(TOO_LITTLE)),
-        (Some(0), Some(-30), None, Ok(-1800)),
-        (Some(-5), Some(30), Some(1), Ok(-19_801)),
-        (Some(5), None, Some(1), Ok(18_000)),
-        (Some(26), None, None, Err(refused(ComponentName::Hours))),
-    ] {
-        let parts = OffsetParts {
-            hour,
-            minute,
-            second,
-        };
-        assert!(rt; offset(&parts).map(UtcOffset::whole_seconds) == wanted);
-    }
+    let wanted = [
+        Err(TOO_LITTLE),
+        Err(TOO_LITTLE),
+        Ok(-1800),
+        Ok(-19_801),
+        Ok(18_000),
+        Err(refused(ComponentName::Hours)),
+    ];
+    assert!(rt; named_offsets() == wanted);
 }
 
-#[test]
-fn unix_nanoseconds(rt: HostRuntime) -> Result<(), Fail> {
-    // `-1.25`
-    let parts = MomentParts {
+// `-1.25`
+fn before_1970() -> MomentParts {
+    MomentParts {
         date: on_day(2021, Month::February, 30),
         time: TimeParts {
             subsecond: Some(250_000_000),
@@ -187,104 +234,133 @@ fn unix_nanoseconds(rt: HostRuntime) -> Result<(), Fail> {
         },
         leap_second_is_permitted: false,
         unix_nanoseconds: Some(-1_000_000_000),
-    };
-    let day = Date::from_calendar_date(1969, Month::December, 31)?;
-    let wall = PlainDateTime::new(day, Time::from_hms_nano(23, 59, 59, 250_000_000)?);
-    let instant = Timestamp::from_seconds(-1)?;
-    let read = instants(&parts, &ahead(5));
-    assert!(rt;
-        read == (Ok(wall.assume_utc()), Ok(wall.as_utc()), Ok(instant))
-            && read.0.map(OffsetDateTime::offset) == Ok(UtcOffset::UTC)
-    );
-    Ok(())
+    }
+}
+
+// The wall clock of a date and a time of day, where there are both.
+fn wall_clock(
+    date: Result<Date, ComponentRange>,
+    time: Result<Time, ComponentRange>,
+) -> Option<PlainDateTime> {
+    Some(PlainDateTime::new(date.ok()?, time.ok()?))
+}
+
+fn unix_nanoseconds_are_read() -> Option<bool> {
+    let day = Date::from_calendar_date(1969, Month::December, 31);
+    let wall = wall_clock(day, Time::from_hms_nano(23, 59, 59, 250_000_000))?;
+    let instant = Timestamp::from_seconds(-1).ok()?;
+    let read = instants(&before_1970(), &ahead(5));
+    let is_in_utc = read.0.map(OffsetDateTime::offset) == Ok(UtcOffset::UTC);
+    Some(read == (Ok(wall.assume_utc()), Ok(wall.as_utc()), Ok(instant)) && is_in_utc)
 }
 
 #[test]
-fn ends_of_the_calendar(rt: HostRuntime) -> Result<(), Fail> {
-    let last = MomentParts {
+fn unix_nanoseconds(rt: HostRuntime) {
+    assert!(rt; unix_nanoseconds_are_read() == Some(true));
+}
+
+// The last second of the calendar.
+fn last() -> MomentParts {
+    MomentParts {
         date: on_day(999_999, Month::December, 31),
         time: at(23, 59, 59),
         leap_second_is_permitted: false,
         unix_nanoseconds: None,
-    };
-    let wall = PlainDateTime::new(Date::MAX, Time::from_hms(23, 59, 59)?);
-    // a leap second with no day in UTC
-    let leap = MomentParts {
+    }
+}
+
+// A leap second with no day in UTC.
+fn leap_at_the_end() -> MomentParts {
+    MomentParts {
         time: at(23, 59, 60),
         leap_second_is_permitted: true,
-        ..last
-    };
-    let year = refused(ComponentName::Year);
-    for (parts, offset, moment, utc) in [
-        (
-            last,
-            ahead(-1),
-            Ok(wall.assume_offset(UtcOffset::from_hms(-1, 0, 0)?)),
-            Err(year),
-        ),
-        (leap, ahead(-1), Err(refused_second()), Err(year)),
-        (last, NO_OFFSET, Err(TOO_LITTLE), Ok(wall.as_utc())),
-    ] {
-        assert!(rt; instants(&parts, &offset) == (moment, utc, Err(TOO_LITTLE)));
+        ..last()
     }
-    Ok(())
+}
+
+fn the_calendar_ends() -> Option<[bool; 3]> {
+    let wall = wall_clock(Ok(Date::MAX), Time::from_hms(23, 59, 59))?;
+    let behind = wall.assume_offset(UtcOffset::from_hms(-1, 0, 0).ok()?);
+    let year = refused(ComponentName::Year);
+    let (shown, in_utc) = (instants(&last(), &ahead(-1)), instants(&last(), &NO_OFFSET));
+    Some([
+        shown == (Ok(behind), Err(year), Err(TOO_LITTLE)),
+        in_utc == (Err(TOO_LITTLE), Ok(wall.as_utc()), Err(TOO_LITTLE)),
+        instants(&leap_at_the_end(), &ahead(-1))
+            == (Err(refused_second()), Err(year), Err(TOO_LITTLE)),
+    ])
 }
 
 #[test]
-fn leap_seconds(rt: HostRuntime) -> Result<(), Fail> {
-    // 1990-12-31T15:59:60-08:00
-    let leap = MomentParts {
-        date: on_day(1990, Month::December, 31),
-        time: at(15, 59, 60),
+fn ends_of_the_calendar(rt: HostRuntime) {
+    assert!(rt; the_calendar_ends() == Some([true; 3]));
+}
+
+// The parts of a day in 1990 and a clock, where a leap second is permitted.
+fn in_1990(month: Month, day: u8, time: TimeParts) -> MomentParts {
+    MomentParts {
+        date: on_day(1990, month, day),
+        time,
         leap_second_is_permitted: true,
         unix_nanoseconds: None,
-    };
-    let day = Date::from_calendar_date(1990, Month::December, 31)?;
+    }
+}
+
+// 1990-12-31T15:59:60-08:00
+fn leap_second_is_read() -> Option<[bool; 3]> {
+    let day = Date::from_calendar_date(1990, Month::December, 31).ok()?;
     let utc = UtcDateTime::new(day, Time::MAX);
+    let leap = in_1990(Month::December, 31, at(15, 59, 60));
     let (moment, read, instant) = instants(&leap, &ahead(-8));
-    assert!(rt; moment.map(OffsetDateTime::unix_timestamp_nanos) == Ok(utc.unix_timestamp_nanos()));
-    assert!(rt; read == Ok(utc));
-    assert!(rt; instant == Ok(utc.into()));
-    let shown = MomentParts {
-        time: at(23, 59, 60),
-        ..leap
-    };
+    Some([
+        moment.map(OffsetDateTime::unix_timestamp_nanos) == Ok(utc.unix_timestamp_nanos()),
+        read == Ok(utc),
+        instant == Ok(utc.into()),
+    ])
+}
+
+// Whether the moments with these parts are refused so, and there is too little for an instant.
+fn is_refused(parts: MomentParts, offset: OffsetParts, fault: TryFromParsed) -> bool {
+    instants(&parts, &offset) == (Err(fault), Err(fault), Err(TOO_LITTLE))
+}
+
+// Beside two leap seconds that are none: the first refusal counts.
+fn are_refused() -> [bool; 5] {
+    let leap = in_1990(Month::December, 31, at(15, 59, 60));
+    let shown = in_1990(Month::December, 31, at(23, 59, 60));
     let forbidden = MomentParts {
         leap_second_is_permitted: false,
         ..leap
     };
-    // the first refusal counts
-    let no_day = MomentParts {
-        date: on_day(1990, Month::February, 29),
-        time: at(24, 0, 0),
-        ..leap
-    };
-    let no_hour = MomentParts {
-        date: leap.date,
-        ..no_day
-    };
+    let no_day = in_1990(Month::February, 29, at(24, 0, 0));
+    let no_hour = in_1990(Month::December, 31, at(24, 0, 0));
     let wrong_day = ComponentRange::conditional(ComponentName::Day).into();
-    for (parts, offset, fault) in [
-        (shown, ahead(-8), refused_second()),
-        (forbidden, ahead(-8), refused(ComponentName::Second)),
-        (no_day, ahead(26), wrong_day),
-        (no_hour, ahead(26), refused(ComponentName::Hour)),
-        (leap, ahead(26), refused(ComponentName::Hours)),
-    ] {
-        assert!(rt; instants(&parts, &offset) == (Err(fault), Err(fault), Err(TOO_LITTLE)));
-    }
-    Ok(())
+    [
+        is_refused(shown, ahead(-8), refused_second()),
+        is_refused(forbidden, ahead(-8), refused(ComponentName::Second)),
+        is_refused(no_day, ahead(26), wrong_day),
+        is_refused(no_hour, ahead(26), refused(ComponentName::Hour)),
+        is_refused(leap, ahead(26), refused(ComponentName::Hours)),
+    ]
 }
 
 #[test]
-fn walls(rt: HostRuntime) -> Result<(), Fail> {
-    let day = Date::from_calendar_date(1985, Month::April, 12)?;
+fn leap_seconds(rt: HostRuntime) {
+    assert!(rt; leap_second_is_read() == Some([true; 3]) && are_refused() == [true; 5]);
+}
+
+fn walls_are_read() -> Option<[bool; 2]> {
+    let day = Date::from_calendar_date(1985, Month::April, 12);
+    let wall = wall_clock(day, Time::from_hms(23, 20, 50))?;
     let parts = on_day(1985, Month::April, 12);
-    assert!(rt;
-        plain_date_time(false, &parts, &at(23, 20, 50))
-            == Ok(PlainDateTime::new(day, Time::from_hms(23, 20, 50)?))
-            && plain_date_time(false, &parts, &at(23, 20, 60))
-                == Err(refused(ComponentName::Second))
-    );
-    Ok(())
+    let no_second = Err(refused(ComponentName::Second));
+    Some([
+        plain_date_time(false, &parts, &at(23, 20, 50)) == Ok(wall),
+        plain_date_time(false, &parts, &at(23, 20, 60)) == no_second,
+    ])
+}
+
+#[test]
+fn walls(rt: HostRuntime) {
+    assert!(rt; walls_are_read() == Some([true; 2]));
 }
