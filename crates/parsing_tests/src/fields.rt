@@ -18,7 +18,7 @@ const HALF: Option<(i64, u32)> = Some((1_609_553_045, 500_000_000));
 // 2021-01-02T02:04:05Z.
 const WHOLE: Option<(i64, u32)> = Some((1_609_553_045, 0));
 
-fn moments() -> [Option<(i64, u32)>; 4] {
+fn moments() -> [Option<(i64, u32)>; 6] {
     let half = Fraction::new(500_000_000);
     let none = Fraction::new(0);
     [
@@ -26,6 +26,8 @@ fn moments() -> [Option<(i64, u32)>; 4] {
         instant(Fields::new(2000, 2, 29, 0, 0, none, 0)),
         instant(Fields::new(2021, 2, 29, 0, 0, none, 0)),
         instant(Fields::new(2021, 1, 2, 184, 60, none, 0)),
+        instant(Fields::on_day(2021, 1, 2, 184, 5, half, 60)),
+        instant(Fields::on_day(2021, 2, 29, 0, 0, none, 0)),
     ]
 }
 
@@ -39,7 +41,7 @@ fn minutes() -> [bool; 2] {
 
 #[test]
 fn moments_and_minutes(rt: HostRuntime) {
-    let wanted = [HALF, Some((951_782_400, 0)), None, None];
+    let wanted = [HALF, Some((951_782_400, 0)), None, None, HALF, None];
     assert!(rt; moments() == wanted && minutes() == [true; 2]);
 }
 
@@ -85,9 +87,16 @@ fn formats() -> [Option<(i64, u32)>; 5] {
     ]
 }
 
+fn years() -> [bool; 2] {
+    [
+        parsing_rfc3339::begins_with_year(b"2021-01"),
+        parsing_rfc3339::begins_with_year(b"202-01"),
+    ]
+}
+
 #[test]
 fn fields_of_formats(rt: HostRuntime) {
-    assert!(rt; formats() == [HALF, WHOLE, HALF, HALF, None]);
+    assert!(rt; formats() == [HALF, WHOLE, HALF, HALF, None] && years() == [true, false]);
 }
 
 // What a plan reads of a line.
