@@ -1,11 +1,10 @@
 //! Lines compare as bytes as their instants, and are read again as themselves.
 
-ghost use Rattle.std.specs.Prelude.{IfSome};
+ghost use Rattle.std.specs.Prelude.{◌<◌, length, IfSome};
 ghost use Rattle.calendar.specs.UtcOffset.{IsClockOffset};
 
 use crate::support::moment;
 use calendar::{Month, UtcOffset};
-use datetime::OffsetDateTime;
 use instants::laws::{
     appended, difference, difference_added, embedding, fixed_point, joined_streams,
     lines_read_again as reread, order_of_lines, two_targets,
@@ -13,6 +12,7 @@ use instants::laws::{
 use instants::{Answer, SourceText, Timeline, fits_line, rfc3339_line};
 use instants_answers::is_target;
 use std::alloc::Global;
+use std::process::Abort;
 
 // Year ends, the last days of months, and both ends of the years that are shown.
 static DAYS: [(i32, Month, u8); 10] = [
@@ -48,32 +48,26 @@ static TARGETS: [i16; 4] = [-1439, 0, 330, 1439];
 type Answered = (Answer, i128, Answer);
 
 // A target of so many minutes.
-fn target(minutes: i16) -> Option<UtcOffset>
-    ensures { IfSome result IsClockOffset }
+fn target(rt: &impl Abort, minutes: i16) -> UtcOffset
+    ensures { IsClockOffset result }
 {
-    let offset = UtcOffset::from_whole_seconds(i32::from(minutes) * 60).ok()?;
-    if is_target(offset) {
-        Some(offset)
-    } else {
-        None
-    }
+    let offset = UtcOffset::from_whole_seconds(i32::from(minutes) * 60).expect(rt, "an offset");
+    assert!(rt; is_target(offset));
+    offset
 }
 
 fn timeline_of(
+    rt: &impl Abort,
     alloc: Global,
-    source: SourceText<'static>,
+    sources: &[SourceText<'static>],
     target: UtcOffset,
     assumed: Option<UtcOffset>,
-) -> Option<Timeline<'static>>
+) -> Timeline<'static>
+    requires sources { 0 < length sources.now }
     requires target { IsClockOffset target }
     requires assumed { IfSome assumed IsClockOffset }
 {
-    Timeline::new(alloc, &[source], target, assumed).ok()
-}
-
-// The timeline of RFC 3339 with a target of so many minutes.
-fn rfc3339_timeline(alloc: Global, minutes: i16) -> Option<Timeline<'static>> {
-    timeline_of(alloc, SourceText::Rfc3339, target(minutes)?, None)
+    Timeline::new(alloc, sources, target, assumed).expect(rt, "a timeline")
 }
 
 // The answer to a line, where it is a moment's.
@@ -84,41 +78,30 @@ fn answer_line(timeline: &Timeline, line: Answer) -> Option<Answered> {
     }
 }
 
-// Adds the answer to the line of a moment, which it has.
-fn answer_moment(
-    timeline: &Timeline,
-    moment: OffsetDateTime,
-    answers: &mut Vec<Answered>,
-) -> Option<()> {
-    if !fits_line(moment) {
-        return None;
-    }
-    if let Some(answer) = answer_line(timeline, rfc3339_line(moment)) {
-        answers.push(answer).ok()?;
-    }
-    Some(())
-}
-
-// The same of a day's lines, written at all offsets.
+// Answers to a day's lines, written at all offsets.
 fn answer_day(
+    rt: &impl Abort,
     timeline: &Timeline,
     day: (i32, Month, u8),
     answers: &mut Vec<Answered>,
-) -> Option<()> {
+) {
     for time in &TIMES {
         for minutes in &OFFSETS {
-            answer_moment(timeline, moment(day, *time, *minutes * 60)?, answers)?;
+            let moment = moment(day, *time, *minutes * 60).expect(rt, "a moment");
+            assert!(rt; fits_line(moment));
+            if let Some(answer) = answer_line(timeline, rfc3339_line(moment)) {
+                answers.push(answer).expect(rt, "memory");
+            }
         }
     }
-    Some(())
 }
 
-fn answer_days(alloc: Global, timeline: &Timeline) -> Option<Vec<Answered>> {
+fn answer_days(rt: &impl Abort, alloc: Global, timeline: &Timeline) -> Vec<Answered> {
     let mut answers = Vec::new(alloc);
     for day in &DAYS {
-        answer_day(timeline, *day, &mut answers)?;
+        answer_day(rt, timeline, *day, &mut answers);
     }
-    Some(answers)
+    answers
 }
 
 // Whether answers that were sorted as bytes are in the order of their instants, and equal where these are.
@@ -132,19 +115,19 @@ fn are_in_order(answers: &[Answered]) -> bool {
 }
 
 // Whether there are many answers at a target, and they are in order once they are sorted as bytes.
-fn are_sorted(alloc: Global, minutes: i16) -> Option<bool> {
-    let mut answers = answer_days(alloc, &rfc3339_timeline(alloc, minutes)?)?;
-    answers
-        .sort_by(|one, other| one.0.as_bytes().cmp(other.0.as_bytes()))
-        .ok()?;
-    Some(answers.len() > 500 && are_in_order(answers.as_slice()))
+fn are_sorted(rt: &impl Abort, alloc: Global, minutes: i16) -> bool {
+    let target = target(rt, minutes);
+    let timeline = timeline_of(rt, alloc, &[SourceText::Rfc3339], target, None);
+    let mut answers = answer_days(rt, alloc, &timeline);
+    let sorted = answers.sort_by(|one, other| one.0.as_bytes().cmp(other.0.as_bytes()));
+    sorted.is_ok() && answers.len() > 500 && are_in_order(answers.as_slice())
 }
 
 #[test]
 fn sorted_answers(rt: HostRuntime) {
     for row in &TARGETS {
         let minutes = *row;
-        assert!(rt; are_sorted(rt.alloc(), minutes) == Some(true));
+        assert!(rt; are_sorted(&rt, rt.alloc(), minutes));
     }
 }
 
@@ -174,58 +157,59 @@ fn are_read_again(
     true
 }
 
-// A timeline of a source with this target and, where one is assumed, the other's offset.
-fn timeline_that_reads_again(
-    alloc: Global,
-    source: SourceText<'static>,
-    is_assumed: bool,
-    minutes: i16,
-) -> Option<Timeline<'static>> {
-    let assumed = if is_assumed {
-        Some(target(1439)?)
+// The offset of the other target, where one is assumed.
+fn assumed(rt: &impl Abort, is_assumed: bool) -> Option<UtcOffset>
+    ensures { IfSome result IsClockOffset }
+{
+    if is_assumed {
+        Some(target(rt, 1439))
     } else {
         None
-    };
-    timeline_of(alloc, source, target(minutes)?, assumed)
+    }
 }
 
-// The same of this source for timelines with both targets, with or without an offset to assume.
+// The same of these sources for timelines with both targets, with or without an offset to assume.
 fn all_read_again(
+    rt: &impl Abort,
     alloc: Global,
-    source: SourceText<'static>,
+    sources: &[SourceText<'static>],
     is_assumed: bool,
     from_lines: &Timeline,
     answers: &[Answered],
-) -> Option<bool> {
-    let again = timeline_that_reads_again(alloc, source, is_assumed, -1439)?;
-    let from_answers = timeline_that_reads_again(alloc, source, is_assumed, 1439)?;
-    Some(are_read_again(&again, from_lines, &from_answers, answers))
+) -> bool
+    requires { 0 < length sources.now }
+{
+    let (here, assumed_here) = (target(rt, -1439), assumed(rt, is_assumed));
+    let again = timeline_of(rt, alloc, sources, here, assumed_here);
+    let (other, assumed_there) = (target(rt, 1439), assumed(rt, is_assumed));
+    let from_answers = timeline_of(rt, alloc, sources, other, assumed_there);
+    are_read_again(&again, from_lines, &from_answers, answers)
 }
 
 // The same of each source that reads the answers, with and without an offset to assume.
 fn each_reads_again(
+    rt: &impl Abort,
     alloc: Global,
     from_lines: &Timeline,
     answers: &[Answered],
-) -> Option<[bool; 4]> {
-    Some([
-        all_read_again(alloc, SourceText::Rfc3339, false, from_lines, answers)?,
-        all_read_again(alloc, SourceText::Rfc3339, true, from_lines, answers)?,
-        all_read_again(alloc, SourceText::Iso8601, false, from_lines, answers)?,
-        all_read_again(alloc, SourceText::Iso8601, true, from_lines, answers)?,
-    ])
-}
-
-// The same of the answers to all lines.
-fn lines_are_read_again(alloc: Global) -> Option<[bool; 4]> {
-    let answers = answer_days(alloc, &rfc3339_timeline(alloc, -1439)?)?;
-    let from_lines = rfc3339_timeline(alloc, 1439)?;
-    each_reads_again(alloc, &from_lines, answers.as_slice())
+) -> [bool; 4] {
+    let (rfc3339, iso8601) = ([SourceText::Rfc3339], [SourceText::Iso8601]);
+    [
+        all_read_again(rt, alloc, &rfc3339, false, from_lines, answers),
+        all_read_again(rt, alloc, &rfc3339, true, from_lines, answers),
+        all_read_again(rt, alloc, &iso8601, false, from_lines, answers),
+        all_read_again(rt, alloc, &iso8601, true, from_lines, answers),
+    ]
 }
 
 #[test]
 fn lines_read_again(rt: HostRuntime) {
-    assert!(rt; lines_are_read_again(rt.alloc()) == Some([true; 4]));
+    let (here, other) = (target(&rt, -1439), target(&rt, 1439));
+    let here = timeline_of(&rt, rt.alloc(), &[SourceText::Rfc3339], here, None);
+    let answers = answer_days(&rt, rt.alloc(), &here);
+    let from_lines = timeline_of(&rt, rt.alloc(), &[SourceText::Rfc3339], other, None);
+    let read_again = each_reads_again(&rt, rt.alloc(), &from_lines, answers.as_slice());
+    assert!(rt; read_again == [true; 4]);
 }
 
 // Where adding the difference of two places to the one leads, and back.
@@ -239,12 +223,6 @@ fn led_by_difference(timeline: &Timeline, one: &[u8], other: &[u8]) -> Option<[b
     }
 }
 
-fn difference_leads(alloc: Global) -> Option<[bool; 2]> {
-    let timeline = rfc3339_timeline(alloc, -30)?;
-    let (first, last) = (b"0000-01-01T00:30:00Z", b"9999-12-31T23:59:59.999999999Z");
-    led_by_difference(&timeline, first, last)
-}
-
 // But for the last one the laws are contracts: nothing is answered.
 #[test]
 fn laws(rt: HostRuntime) {
@@ -256,5 +234,8 @@ fn laws(rt: HostRuntime) {
     order_of_lines();
     reread();
     difference();
-    assert!(rt; difference_leads(rt.alloc()) == Some([true; 2]));
+    let target = target(&rt, -30);
+    let timeline = timeline_of(&rt, rt.alloc(), &[SourceText::Rfc3339], target, None);
+    let (first, last) = (b"0000-01-01T00:30:00Z", b"9999-12-31T23:59:59.999999999Z");
+    assert!(rt; led_by_difference(&timeline, first, last) == Some([true; 2]));
 }

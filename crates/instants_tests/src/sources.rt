@@ -6,6 +6,7 @@ use instants::SourceText;
 use instants_sources::{Source, fast_iso8601, fast_rfc2822, fast_rfc3339, is_no_rfc3339};
 use parsing_fields::Fields;
 use std::alloc::{AllocError, Global};
+use std::process::Abort;
 
 // A source, and lines with what is told of each: the Unix time that it names with an offset of an hour assumed, by the
 // exact way and by the fast one, and whether its first bytes rule it out.
@@ -60,29 +61,38 @@ fn told(
 }
 
 // Whether what is told of a row's line is what stands behind it.
-fn is_told(alloc: Global, source: &Source, row: &str, hour: UtcOffset) -> Option<bool> {
-    let (line, wanted) = row.split_once(" => ")?;
-    let told = told(alloc, source, line.as_bytes(), hour).ok()?;
-    Some(told.as_str() == wanted)
+fn is_told(rt: &impl Abort, alloc: Global, source: &Source, row: &str, hour: UtcOffset) -> bool {
+    let (line, wanted) = row.split_once(" => ").expect(rt, "a row");
+    let told = told(alloc, source, line.as_bytes(), hour).expect(rt, "memory");
+    told.as_str() == wanted
 }
 
-// The same of all rows.
-fn are_told(alloc: Global, text: SourceText, rows: &str) -> Option<bool> {
-    let source = Source::new(alloc, text).ok()?;
-    let hour = UtcOffset::from_hms(1, 0, 0).ok()?;
+fn are_told(rt: &impl Abort, alloc: Global, source: &Source, rows: &str, hour: UtcOffset) -> bool {
     for row in rows.lines() {
-        if !is_told(alloc, &source, row, hour)? {
-            return Some(false);
+        if !is_told(rt, alloc, source, row, hour) {
+            return false;
         }
     }
-    Some(true)
+    true
+}
+
+fn are_told_by(
+    rt: &impl Abort,
+    alloc: Global,
+    text: SourceText,
+    rows: &str,
+    hour: UtcOffset,
+) -> bool {
+    let source = Source::new(alloc, text).expect(rt, "a source");
+    are_told(rt, alloc, &source, rows, hour)
 }
 
 #[test]
 fn moments(rt: HostRuntime) {
+    let hour = UtcOffset::from_hms(1, 0, 0).expect(&rt, "an offset");
     for row in &CASES {
         let (text, rows) = *row;
-        assert!(rt; are_told(rt.alloc(), text, rows) == Some(true));
+        assert!(rt; are_told_by(&rt, rt.alloc(), text, rows, hour));
     }
 }
 
@@ -90,32 +100,21 @@ fn second_of(fields: Option<Fields>) -> Option<i64> {
     Some(fields?.moment().unix_timestamp())
 }
 
-// The second that the fast way of ISO 8601 names.
-fn iso8601(line: &[u8]) -> Option<i64> {
-    second_of(fast_iso8601(line))
-}
-
-fn seconds() -> [Option<i64>; 5] {
-    [
-        iso8601(b"1970-01-01T00:00:01Z"),
-        iso8601(b"1970-01-01T01:00:01.123456789+01:00"),
-        iso8601(b"19700101T000001,123456789Z"),
-        second_of(fast_rfc3339(b"1970-01-01T00:00:01Z")),
-        second_of(fast_rfc2822(b"Thu, 01 Jan 1970 00:00:01 +0000")),
-    ]
-}
-
-fn no_seconds() -> [Option<i64>; 3] {
-    [
-        iso8601(b"1970-01-01T00:00:01z"),
-        iso8601(b"1970-01-01 00:00:01Z"),
-        iso8601(b"1970-01-01T00:00:01.9999999999Z"),
-    ]
-}
-
 #[test]
 fn fast_ways(rt: HostRuntime) {
-    assert!(rt; seconds() == [Some(1); 5] && no_seconds() == [None; 3]);
+    let seconds = [
+        second_of(fast_iso8601(b"1970-01-01T00:00:01Z")),
+        second_of(fast_iso8601(b"1970-01-01T01:00:01.123456789+01:00")),
+        second_of(fast_iso8601(b"19700101T000001,123456789Z")),
+        second_of(fast_rfc3339(b"1970-01-01T00:00:01Z")),
+        second_of(fast_rfc2822(b"Thu, 01 Jan 1970 00:00:01 +0000")),
+    ];
+    let none = [
+        second_of(fast_iso8601(b"1970-01-01T00:00:01z")),
+        second_of(fast_iso8601(b"1970-01-01 00:00:01Z")),
+        second_of(fast_iso8601(b"1970-01-01T00:00:01.9999999999Z")),
+    ];
+    assert!(rt; seconds == [Some(1); 5] && none == [None; 3]);
 }
 
 // A source, a line, and the Unix time that it names for it by the fast way, with an offset of an hour assumed.
@@ -143,18 +142,24 @@ static FAST: [(SourceText<'static>, &[u8], Option<i64>); 5] = [
     ),
 ];
 
-// The Unix time that a source names for a line by the fast way, or nothing.
-fn fast(alloc: Global, text: SourceText, line: &[u8]) -> Option<Option<i64>> {
-    let source = Source::new(alloc, text).ok()?;
-    let hour = UtcOffset::from_hms(1, 0, 0).ok()?;
-    Some(second_of(source.read_fast(line, Some(hour))))
+// The Unix time that a source names for a line by the fast way.
+fn fast(
+    rt: &impl Abort,
+    alloc: Global,
+    text: SourceText,
+    line: &[u8],
+    hour: UtcOffset,
+) -> Option<i64> {
+    let source = Source::new(alloc, text).expect(rt, "a source");
+    second_of(source.read_fast(line, Some(hour)))
 }
 
 #[test]
 fn fast_ways_of_sources(rt: HostRuntime) {
+    let hour = UtcOffset::from_hms(1, 0, 0).expect(&rt, "an offset");
     for row in &FAST {
         let (text, line, wanted) = *row;
-        assert!(rt; fast(rt.alloc(), text, line) == Some(wanted));
+        assert!(rt; fast(&rt, rt.alloc(), text, line, hour) == wanted);
     }
 }
 
