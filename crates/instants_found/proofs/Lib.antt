@@ -1,0 +1,4 @@
+pub mod Trimmed
+pub mod Steps
+pub mod First
+pub mod Wholly
