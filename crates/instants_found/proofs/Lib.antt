@@ -1,3 +1,4 @@
+pub mod NoFront
 pub mod Trimmed
 pub mod Steps
 pub mod First

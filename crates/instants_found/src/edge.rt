@@ -2,9 +2,9 @@
 ghost use Rattle.std.specs.Prelude.{◌≡◌, ◌≤◌, ◌+◌, length, get_or};
 ghost use Rattle.instants_found.specs.Edge as Edge;
 
-// The byte at a place, and 0 where the line has none.
+/// The byte at a place, and 0 where the line has none.
 #[inline(always)]
-fn byte_at(line: &[u8], place: usize) -> u8
+pub(crate) fn byte_at(line: &[u8], place: usize) -> u8
     ensures { result ≡ get_or line.now place 0 }
 {
     match line.get(place) {
