@@ -1,7 +1,8 @@
 -- What the search finds is the first date of the line.
-use Rattle.std.proofs.Common.{◌≡◌, ◌⊎◌, inl, inr, ◌<◌, ◌+◌, ℕ, zero, suc, Bool, true, false, List, [], ◌∷◌, length, drop, Option, Some, None, refl, sym, ◌∙◌, ap, subst, ℤ, arith}
+use Rattle.std.proofs.Common.{◌≡◌, ◌⊎◌, inl, inr, ◌<◌, ◌+◌, ℕ, zero, suc, Bool, true, false, List, [], ◌∷◌, length, drop, Option, Some, None, unwrap_or, refl, sym, ◌∙◌, ap, subst, ℤ, arith}
 use Rattle.std.specs.Prelude.{slice_get, if◌then◌else◌}
 use Rattle.std.specs.Option.{option_or}
+use Rattle.std.proofs.lemmas.Bool.{cases_lt}
 use Rattle.datetime_wall.specs.Wall.{Shown}
 use Rattle.instants_sources.specs.Grammar.{Grammar}
 use Rattle.instants_found.specs.Edge.{is_edge}
@@ -228,3 +229,53 @@ of_search assumed sources line (Some date) e =
 pub is_found : (assumed : Option ℤ) (sources : List Grammar) (line : List ℕ) → IsFound assumed sources line (found assumed sources line)
 unfolding found
 is_found assumed sources line = of_search assumed sources line (from_place assumed sources line 0 line) refl
+
+-- ---- there is one first date
+
+not_less : (a b : ℕ) → (a < b → ⊥) → (b < a → ⊥) → a ≡ b
+not_less a b over under =
+    elim (cases_lt a b) [
+      | inl lt ↦ absurd (over lt)
+      | inr le ↦ elim (cases_lt b a) [ inl lt ↦ absurd (under lt) | inr other ↦ omega (arith, le, other) ]
+    ]
+
+same_date : (a b : Found) → a.start ≡ b.start → a.end ≡ b.end → a.source ≡ b.source → a.moment ≡ b.moment → a ≡ b
+same_date a b start end source moment =
+    ap (λ (n : ℕ). record { start = n; end = a.end; source = a.source; moment = a.moment }) start
+    ∙ ap (λ (n : ℕ). record { start = b.start; end = n; source = a.source; moment = a.moment }) end
+    ∙ ap (λ (n : ℕ). record { start = b.start; end = b.end; source = n; moment = a.moment }) source
+    ∙ ap (λ (m : Shown). record { start = b.start; end = b.end; source = b.source; moment = m }) moment
+
+same_parts : (m n : Shown) (x y : List ℕ) (o p : Option (Shown × List ℕ)) → o ≡ p → o ≡ Some (m, x) → p ≡ Some (n, y) → (m ≡ n) × (x ≡ y)
+same_parts m n x y o p e of_o of_p =
+    let both : Some (m, x) ≡ Some (n, y) = sym of_o ∙ e ∙ of_p in
+    (ap (λ (q : Option (Shown × List ℕ)). (unwrap_or q (m, x)).0) both, ap (λ (q : Option (Shown × List ℕ)). (unwrap_or q (m, x)).1) both)
+
+same_fronts : (assumed : Option ℤ) (line : List ℕ) (a b : Found) (one other : Grammar) (here there : List ℕ) → a.start ≡ b.start → a.source ≡ b.source → one ≡ other
+    → front_named assumed one (drop a.start line) ≡ Some (a.moment, here) → front_named assumed other (drop b.start line) ≡ Some (b.moment, there)
+    → a.end ≡ a.start + front_length (drop a.start line) here → b.end ≡ b.start + front_length (drop b.start line) there → a ≡ b
+same_fronts assumed line a b one other here there start source grammar front_a front_b end_a end_b =
+    let read : front_named assumed one (drop a.start line) ≡ front_named assumed other (drop b.start line) =
+    ap (λ (g : Grammar). front_named assumed g (drop a.start line)) grammar ∙ ap (λ (n : ℕ). front_named assumed other (drop n line)) start in
+    let parts = same_parts a.moment b.moment here there (front_named assumed one (drop a.start line)) (front_named assumed other (drop b.start line)) read front_a front_b in
+    let moment : a.moment ≡ b.moment = parts.0 in
+    let behind : here ≡ there = parts.1 in
+    let ends : a.end ≡ b.end = end_a ∙ ap (λ (n : ℕ). n + front_length (drop n line) here) start ∙ ap (λ (left : List ℕ). b.start + front_length (drop b.start line) left) behind ∙ sym end_b in
+    same_date a b start ends source moment
+
+one_first : (assumed : Option ℤ) (sources : List Grammar) (line : List ℕ) (a b : Found) → IsFirst assumed sources line a → IsFirst assumed sources line b → a ≡ b
+one_first assumed sources line a b is_a is_b =
+    let start : a.start ≡ b.start = not_less a.start b.start (λ lt. is_b.least a is_a.here lt) (λ lt. is_a.least b is_b.here lt) in
+    let source : a.source ≡ b.source = not_less a.source b.source (λ lt. is_b.first a is_a.here start lt) (λ lt. is_a.first b is_b.here (sym start) lt) in
+    let alike : Some is_a.here.grammar ≡ Some is_b.here.grammar = sym is_a.here.source ∙ ap (λ (n : ℕ). slice_get sources n) source ∙ is_b.here.source in
+    let grammar : is_a.here.grammar ≡ is_b.here.grammar = cc in
+    same_fronts assumed line a b is_a.here.grammar is_b.here.grammar is_a.here.behind is_b.here.behind start source grammar is_a.here.front is_b.here.front is_a.here.end is_b.here.end
+
+one_found : (assumed : Option ℤ) (sources : List Grammar) (line : List ℕ) (a b : Option Found) → IsFound assumed sources line a → IsFound assumed sources line b → a ≡ b
+one_found assumed sources line None None is_a is_b = refl
+one_found assumed sources line None (Some b) is_a is_b = absurd (is_a b is_b.here)
+one_found assumed sources line (Some a) None is_a is_b = absurd (is_b a is_a.here)
+one_found assumed sources line (Some a) (Some b) is_a is_b = ap (λ (date : Found). Some date) (one_first assumed sources line a b is_a is_b)
+
+pub is_only : (assumed : Option ℤ) (sources : List Grammar) (line : List ℕ) (other : Option Found) → IsFound assumed sources line other → other ≡ found assumed sources line
+is_only assumed sources line other is = one_found assumed sources line other (found assumed sources line) is (is_found assumed sources line)

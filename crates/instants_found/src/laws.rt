@@ -6,6 +6,7 @@ ghost use Rattle.instants_sources.specs.Named.{named};
 ghost use Rattle.instants_found.specs.Front.{may_begin, trimmed_length};
 ghost use Rattle.instants_found.specs.Found.{found};
 ghost use Rattle.instants_found.specs.IsFound.{IsFound};
+ghost use Rattle.instants_found.specs.declared.found.Found.{Found};
 
 use parsing_laws::two_roads::{two_roads_of_rfc2822, two_roads_of_rfc3339};
 
@@ -14,6 +15,12 @@ use parsing_laws::two_roads::{two_roads_of_rfc2822, two_roads_of_rfc3339};
 pub fn first_date()
     ensures { (assumed : Option ℤ) (sources : List Grammar) (line : List ℕ) →
         IsFound assumed sources line (found assumed sources line) }
+{}
+
+/// Only what is found is so.
+pub fn one_first_date()
+    ensures { (assumed : Option ℤ) (sources : List Grammar) (line : List ℕ) (other : Option Found) →
+        IsFound assumed sources line other → other ≡ found assumed sources line }
 {}
 
 /// A line for which its one source names a moment is found whole, with that moment, but for white space at its end. A line
