@@ -1,5 +1,5 @@
 //! The first date of a line.
-ghost use Rattle.std.specs.Prelude.{◌≡◌, ◌<◌, ◌≤◌, length, map};
+ghost use Rattle.std.specs.Prelude.{◌≡◌, ◌<◌, ◌≤◌, length, map, IfSome};
 ghost use Rattle.instants_sources.specs.Grammar.{grammar_of};
 ghost use Rattle.instants_found.specs.Front.{front_length};
 ghost use Rattle.instants_found.specs.Found.{date_at, by_sources, at_place, found};
@@ -30,7 +30,10 @@ fn date_at(
     number: usize,
 ) -> Option<Found>
     requires { start < length line.now }
-    ensures { result ≡ date_at assumed.now line.now start number (grammar_of source.now) }
+    ensures found { result ≡ date_at assumed.now line.now start number (grammar_of source.now) }
+    ensures ordered { IfSome result (λ date. date.start ≤ date.end) }
+    ensures within { IfSome result (λ date. date.end ≤ length line.now) }
+    ensures source { IfSome result (λ date. date.source ≡ number) }
 {
     let bytes = &line[start..];
     let Some((moment, rest)) = read_front(source, bytes, *assumed) else {
@@ -56,8 +59,11 @@ fn by_sources(
     start: usize,
 ) -> Option<Found>
     requires { start < length line.now }
-    ensures { result
+    ensures found { result
         ≡ by_sources assumed.now line.now start 0 (map grammar_of sources.now) }
+    ensures ordered { IfSome result (λ date. date.start ≤ date.end) }
+    ensures within { IfSome result (λ date. date.end ≤ length line.now) }
+    ensures source { IfSome result (λ date. date.source < length sources.now) }
 {
     for number in 0..sources.len() {
         if let Some(date) = date_at(&sources[number], assumed, line, start, number) {
@@ -76,7 +82,10 @@ fn at_place(
     start: usize,
 ) -> Option<Found>
     requires { start < length line.now }
-    ensures { result ≡ at_place assumed.now (map grammar_of sources.now) line.now start }
+    ensures found { result ≡ at_place assumed.now (map grammar_of sources.now) line.now start }
+    ensures ordered { IfSome result (λ date. date.start ≤ date.end) }
+    ensures within { IfSome result (λ date. date.end ≤ length line.now) }
+    ensures source { IfSome result (λ date. date.source < length sources.now) }
 {
     if is_edge(line, start) {
         by_sources(sources, assumed, line, start)
@@ -91,7 +100,10 @@ fn at_place(
 /// A date is not part of a word of letters of ASCII and digits: none begins or ends within one, nor beside a point
 /// between a digit and the date. White space that a source reads at the end of its front is not part of the date.
 pub fn find(sources: &[Source<'_>], assumed: Option<UtcOffset>, line: &[u8]) -> Option<Found>
-    ensures { result ≡ found assumed (map grammar_of sources.now) line.now }
+    ensures found { result ≡ found assumed (map grammar_of sources.now) line.now }
+    ensures ordered { IfSome result (λ date. date.start ≤ date.end) }
+    ensures within { IfSome result (λ date. date.end ≤ length line.now) }
+    ensures source { IfSome result (λ date. date.source < length sources.now) }
 {
     for start in 0..line.len() {
         if let Some(date) = at_place(sources, &assumed, line, start) {

@@ -11,7 +11,7 @@ use std::process::Abort;
 type Told = Option<(usize, usize, usize, i64)>;
 
 // Words parted by bars, a line, and what is found in it.
-static ROWS: [(&str, &str, Told); 24] = [
+static ROWS: [(&str, &str, Told); 25] = [
     (
         "+00:00|-|100|strftime|%d/%b/%Y:%H:%M:%S %z",
         "127.0.0.1 - - [10/Oct/2000:13:55:36 -0700] \"GET / HTTP/1.0\" 200",
@@ -115,6 +115,12 @@ static ROWS: [(&str, &str, Told); 24] = [
         "+00:00|+01:00|100|iso8601",
         "20210102T030405 2 errors",
         Some((0, 15, 0, 1_609_553_045)),
+    ),
+    // A mark of a fraction without digits is no part of a time.
+    (
+        "+00:00|+01:00|100|iso8601",
+        "20210102T030405, 2 errors",
+        None,
     ),
 ];
 
