@@ -38,7 +38,8 @@ impl<'a> DescribedItems<'a> {
         }
     }
 
-    pub(crate) fn items(&self) -> &[BorrowedFormatItem<'a>]
+    /// The items, in the order in which they read.
+    pub fn items(&self) -> &[BorrowedFormatItem<'a>]
         ensures { result.now ≡ self.now.items.items }
     {
         &self.items
@@ -58,7 +59,7 @@ impl<'a> DescribedItems<'a> {
 
     /// Whether the first bytes of a line show that the items don't read it.
     #[inline(always)]
-    pub(crate) fn cannot_match(&self, line: &[u8]) -> bool
+    pub fn cannot_match(&self, line: &[u8]) -> bool
         ensures { result ≡ true → (r : Record)
             → result_ok
             (reading_of_all reads_component (listed (trees self.now.items.items)) r line.now)
@@ -90,7 +91,8 @@ impl<'a> DescribedTree<'a> {
         }
     }
 
-    pub(crate) fn tree(&self) -> &FormatDescriptionV3<'a>
+    /// The tree.
+    pub fn tree(&self) -> &FormatDescriptionV3<'a>
         ensures { result.now ≡ self.now.tree }
     {
         &self.tree
@@ -110,7 +112,7 @@ impl<'a> DescribedTree<'a> {
 
     /// Whether the first bytes of a line show that the tree doesn't read it.
     #[inline(always)]
-    pub(crate) fn cannot_match(&self, line: &[u8]) -> bool
+    pub fn cannot_match(&self, line: &[u8]) -> bool
         ensures { result ≡ true → (r : Record)
             → result_ok (reading reads_component_v3 (v3_tree self.now.tree) r line.now) ≡ None }
     {

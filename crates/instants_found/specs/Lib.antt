@@ -1,0 +1,4 @@
+pub mod Edge
+pub mod Front
+pub mod Found
+pub mod IsFound
