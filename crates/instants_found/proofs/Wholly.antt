@@ -1,8 +1,8 @@
 -- A line that is read whole is found whole.
-use Rattle.std.proofs.Common.{◌≡◌, ◌<◌, ◌-◌, ◌+◌, ◌==◌, ℕ, Bool, true, false, cond, List, [], ◌∷◌, length, get_or, take, drop, Option, Some, None, Result, Ok, Err, refl, sym, ◌∙◌, ap, subst, inl, inr, ℤ, arith}
-use Rattle.std.specs.Prelude.{◌&&◌, ◌||◌, reverse}
-use Rattle.std.specs.Char.{is_ascii_alphanumeric, is_ascii_whitespace, is_ascii_digit}
-use Rattle.std.specs.List.{suffix_len, prefix_len}
+use Rattle.std.proofs.Common.{◌≡◌, ◌<◌, ◌-◌, ◌+◌, ◌==◌, ℕ, true, false, List, [], ◌∷◌, length, get_or, take, Option, Some, None, Result, Ok, Err, refl, sym, ◌∙◌, ap, subst, inl, inr, ℤ, arith}
+use Rattle.std.specs.Prelude.{reverse}
+use Rattle.std.specs.Char.{is_ascii_alphanumeric, is_ascii_whitespace}
+use Rattle.std.specs.List.{suffix_len}
 use Rattle.std.specs.Result.{result_ok}
 use Rattle.std.proofs.lemmas.Bool.{cases_lt}
 use Rattle.std.proofs.lemmas.Bool.Decides.{nat_tests}
@@ -10,7 +10,6 @@ use Rattle.std.proofs.lemmas.List.{get_or-reverse, get_or_past, take_all}
 use Rattle.std.proofs.lemmas.List.Sums.{prefix_len_passes, suffix_len-le-length}
 use Rattle.byte_names.specs.Bytes.{dot}
 use Rattle.datetime_wall.specs.Wall.{Shown}
-use Rattle.description_items.specs.Tree.{listed}
 use Rattle.parsing_combinator.specs.Fault.{Fault}
 use Rattle.parsing_components.specs.Component.{reads_component_v3}
 use Rattle.parsing_record.specs.Meaning.{Answer, Meaning, meaning}

@@ -1,5 +1,5 @@
 -- The date that is found in a line.
-use Rattle.std.specs.Prelude.{ℕ, ◌+◌, List, [], ◌∷◌, length, drop, Option, Some, None, if◌then◌else◌, ℤ}
+use Rattle.std.specs.Prelude.{ℕ, ◌+◌, List, [], ◌∷◌, drop, Option, Some, None, if◌then◌else◌, ℤ}
 use Rattle.std.specs.Option.{option_or}
 use Rattle.datetime_wall.specs.Wall.{Shown}
 use Rattle.instants_sources.specs.Grammar.{Grammar}

@@ -1,5 +1,5 @@
 -- The moment that a front of bytes names by a source, and what stands behind that front.
-use Rattle.std.specs.Prelude.{ℕ, ◌-◌, Bool, true, List, length, take, get_or, Option, Some, None, Result, Ok, Err, option_map, if◌then◌else◌, ℤ}
+use Rattle.std.specs.Prelude.{ℕ, ◌-◌, Bool, true, List, length, take, get_or, Option, None, Ok, Err, option_map, if◌then◌else◌, ℤ}
 use Rattle.std.specs.Char.{is_ascii_alphanumeric, is_ascii_whitespace}
 use Rattle.std.specs.List.{suffix_len}
 use Rattle.std.specs.Result.{result_ok}

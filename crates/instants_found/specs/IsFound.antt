@@ -1,6 +1,5 @@
 -- What the date that is found has to do with all dates of the line.
 use Rattle.std.specs.Prelude.{◌≡◌, ◌<◌, ◌+◌, ℕ, true, List, length, drop, Option, Some, None, slice_get, ℤ}
-use Rattle.datetime_wall.specs.Wall.{Shown}
 use Rattle.instants_sources.specs.Grammar.{Grammar}
 use Rattle.instants_found.specs.Edge.{is_edge}
 use Rattle.instants_found.specs.Front.{front_named, front_length}
