@@ -13,6 +13,7 @@ and the bounds are at the pace of the run that the first of these tables told of
 import argparse
 import collections
 import datetime
+import hashlib
 import os
 import pathlib
 import re
@@ -94,28 +95,29 @@ def run_gate(command):
     return status, last, used.ru_utime + used.ru_stime, time.monotonic() - began, parts
 
 
+def sum_of(crate):
+    """Returns a short sum of all that the prover reads of a crate."""
+    files = sorted(it for part in SOURCES for it in (ROOT / "crates" / crate / part).rglob("*") if it.is_file())
+    found = hashlib.sha256()
+    for file in files:
+        found.update(f"{file.relative_to(ROOT)} {file.stat().st_size}\n".encode() + file.read_bytes())
+    return found.hexdigest()[:8]
+
+
 def table_of(parts, total):
     """Returns the table's lines, the dearest crate first."""
     crates = sorted({crate for crate, _ in parts}, key=lambda it: -sum(parts[it, part] for part in PARTS))
-    lines = ["| crate | proof | tests | edits | files of edits | together |", "|---|---|---|---|---|---|"]
+    lines = ["| crate | proof | tests | edits | files of edits | together | sources |", "|---|---|---|---|---|---|---|"]
     for crate in crates:
         seconds = [parts[crate, it] for it in PARTS]
         files = len(list((ROOT / "crates" / crate / "must-fail").glob("*.edit")))
-        lines.append(f"| `{crate}` | {' | '.join(f'{it:.0f}' for it in seconds)} | {files} | {sum(seconds):.0f} |")
+        lines.append(f"| `{crate}` | {' | '.join(f'{it:.0f}' for it in seconds)} | {files} | {sum(seconds):.0f} | {sum_of(crate)} |")
     sums = [sum(parts[crate, it] for crate in crates) for it in PARTS]
     files = len(list((ROOT / "crates").glob("*/must-fail/*.edit")))
-    lines.append(f"| all crates | {' | '.join(f'{it:.0f}' for it in sums)} | {files} | {sum(sums):.0f} |")
-    lines.append(f"| other | | | | | {total - sum(sums):.0f} |")
-    lines.append(f"| the gate | | | | | {total:.0f} |")
+    lines.append(f"| all crates | {' | '.join(f'{it:.0f}' for it in sums)} | {files} | {sum(sums):.0f} | |")
+    lines.append(f"| other | | | | | {total - sum(sums):.0f} | |")
+    lines.append(f"| the gate | | | | | {total:.0f} | |")
     return lines
-
-
-def crates_since(commit):
-    """Returns the crates whose sources differ from a commit's; none where git does not know it."""
-    how = {"cwd": ROOT, "capture_output": True, "text": True}
-    changed = subprocess.run(["git", "diff", "--name-only", commit, "--", "crates"], **how)
-    paths = [it.split("/") for it in changed.stdout.split()]
-    return {it[1] for it in paths if it[2] in SOURCES} if changed.returncode == 0 else None
 
 
 def pace_of(before, parts):
@@ -123,11 +125,9 @@ def pace_of(before, parts):
     that are the same as they were then: the run that paces count from, the pace, and a sentence. None where there are none.
     Where that text compares its own run with an earlier one, paces are multiplied."""
     commit = re.search(r"commit (\w+)", before)
-    changed = crates_since(commit[1]) if commit else None
-    if changed is None:
-        return None
-    then = {name: int(seconds) for name, seconds in re.findall(r"^\| `(\w+)` \| (\d+) \|", before, re.M)}
-    same = [it for it in then if it not in changed and parts[it, "proof"]]
+    rows = re.findall(r"^\| `(\w+)` \| (\d+) \|.* ([0-9a-f]{8}) \|$", before, re.M)
+    then = {name: int(seconds) for name, seconds, _ in rows}
+    same = [name for name, _, told in rows if parts[name, "proof"] and told == sum_of(name)]
     was, now = sum(then[it] for it in same), sum(parts[it, "proof"] for it in same)
     if not was:
         return None
@@ -161,7 +161,7 @@ def text_of(lines, bounds, last, total, wall):
     commit = subprocess.run(["git", "rev-parse", "--short", "HEAD"], cwd=ROOT, capture_output=True, text=True, check=True).stdout.strip()
     head = f"""# Where the gate's time goes
 
-Processor seconds of one `rt ci`, crate by crate, written by `tools/gate_times.py --write`: the proof from nothing, the proof and build of the tests, and the must-fail edits; where a crate has more than one file of them, the first proves the crate once more. The bounds are {BOUND} processor minutes for everything and {CRATE_BOUND} for a crate, each at the pace of the run of 44ade0a, with which all later runs are compared.
+Processor seconds of one `rt ci`, crate by crate, written by `tools/gate_times.py --write`: the proof from nothing, the proof and build of the tests, and the must-fail edits; where a crate has more than one file of them, the first proves the crate once more. The last column is a short sum of the crate's sources, by which a later run knows those that are as they were. The bounds are {BOUND} processor minutes for everything and {CRATE_BOUND} for a crate, each at the pace of the run of 44ade0a, with which all later runs are compared.
 
 {datetime.date.today()}, commit {commit}, {kit}: `{last}` after {wall / 60:.0f} minutes on {processors} processors (load {load:.1f} at the end), {total / 60:.0f} processor minutes.
 """
