@@ -1,8 +1,9 @@
 //! The answers to lines that stand in memory.
-ghost use Rattle.std.specs.Prelude.{◌≡◌, ◌≢◌, ◌<◌, ◌++◌, ◌↔◌, List, [], ℕ, map, length, take, drop, Some, Ok, Err, true, false, IsTrue, IsOk, IfOk, IfErr, IfSome, OnOk};
+ghost use Rattle.std.specs.Prelude.{◌≡◌, ◌≢◌, ◌<◌, ◌≤◌, ◌*◌, ◌++◌, ◌↔◌, List, [], ℕ, map, length, take, drop, Some, Ok, Err, true, false, IsTrue, IsOk, IfOk, IfErr, IfSome, OnOk};
 ghost use Rattle.std.specs.Io.KnownBytes.{Consumes, Appends};
 ghost use Rattle.instants_devices.specs.Told.{AppendsFront};
 ghost use Rattle.instants_stream.specs.Answers.{output, due};
+ghost use Rattle.instants_stream.specs.Lines.{lines};
 ghost use Rattle.instants_stream.specs.declared.run.RunFault.{RunFault};
 ghost use Rattle.instants_words.specs.declared.fault.WordsFault.{WordsFault};
 ghost use Rattle.instants_words.specs.declared.words.Words.{Words};
@@ -19,6 +20,9 @@ use crate::space_writer::{Space, SpaceWriter};
 use instants::{ByteReader, ByteWriter, ProgramFault, run_words};
 use std::alloc::Global;
 use std::marker::{Brand, PhantomData};
+
+/// Room that always suffices for a line's answer and the line feed behind it.
+pub const LINE_ROOM: usize = 36;
 
 /// Answers each line of the input as the program's words say, each answer followed by a line feed, into the front of the
 /// output. How many bytes the answers have.
@@ -39,6 +43,11 @@ pub fn answer_lines<'a>(
     ensures write { result ≡ Err (ProgramFault.Run RunFault.Write) → (bytes : List ℕ)
         × IsOutputFor (map (λ word. word.now) words.now) input.now bytes
         × (length output.old < length bytes) × (output.new ≡ take (length output.old) bytes) }
+    // So it does not come where there is room for `LINE_ROOM` bytes a line, or a byte of the input.
+    ensures line_room { LINE_ROOM * length (lines input.now) ≤ length output.old
+        → result ≢ Err (ProgramFault.Run RunFault.Write) }
+    ensures byte_room { LINE_ROOM * length input.now ≤ length output.old
+        → result ≢ Err (ProgramFault.Run RunFault.Write) }
     // No read fails.
     ensures read { result ≢ Err (ProgramFault.Run RunFault.Read) }
     // Words that are wrong are refused, whatever the input.

@@ -18,4 +18,4 @@ mod run_end;
 mod space_reader;
 mod space_writer;
 
-pub use answers::answer_lines;
+pub use answers::{LINE_ROOM, answer_lines};

@@ -16,7 +16,7 @@ returns-in-Ok-clause-ok g c =
     let within : writer.len ≤ length space = writer.flushed (rw c.in-Ok.is at c.answer_on.ensures.flushed) in
     let behind : drop writer.len space ≡ drop writer.len c.args.output.now = writer.behind ∙ ap (drop writer.len) (sym c.requires.before) in (
       bytes,
-      record { said = said; is_said = is_said; setting = setting; asks = asks; is_output = refl },
+      record { said = said; is_said = is_said; setting = setting; asks = asks; is_output = refl {a = bytes} },
       held_len space c.args.output.now bytes writer.past writer.len within behind held,
       held_space space c.args.output.now bytes writer.past writer.len within behind held,
     )
@@ -33,7 +33,7 @@ returns-in-Err-clause-write g c = λ e.
     let full = writer.failed (c.answer_on.ensures.write_failed ended) in
     let size : length space ≡ length c.args.output.now = writer.size ∙ ap length (sym c.requires.before) in (
       bytes,
-      record { said = said; is_said = is_said; setting = setting; asks = asks; is_output = refl },
+      record { said = said; is_said = is_said; setting = setting; asks = asks; is_output = refl {a = bytes} },
       rw (← size) (is_longer space bytes front rest more writer.past writer.len full held all),
       rw (← size) (is_front space bytes front rest more writer.past writer.len full held all),
     )
