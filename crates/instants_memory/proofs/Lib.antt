@@ -1,0 +1,4 @@
+pub mod Filling
+pub mod Due
+pub mod Short
+pub mod Room

@@ -1,0 +1,21 @@
+//! The program `instants` over memory: lines out of one slice, answers into another.
+//!
+//! ```
+//! let mut output = [0; 100];
+//! let words = ["+00:00", "-", "100", "rfc3339"];
+//! let len = answer_lines(alloc, &words, b"2021-01-02T04:04:05+01:00\n", &mut output)?;
+//! assert!(rt; &output[..len] == b"2021-01-02T03:04:05.000000000Z\n".as_slice());
+//! ```
+//!
+//! - `answer_lines` does what the program does between its words and its end. It takes the words as `run_words` does, and
+//!   its faults are those of `ProgramFault`; of these `Write` says that the output is too short.
+//! - `laws` has what follows for an input that is answered block by block.
+#![tactic(auto)]
+
+mod answers;
+pub mod laws;
+mod run_end;
+mod space_reader;
+mod space_writer;
+
+pub use answers::{LINE_ROOM, answer_lines};
