@@ -15,6 +15,8 @@ mod first_bytes;
 #[cfg(test)]
 mod handing_on;
 #[cfg(test)]
+mod in_memory;
+#[cfg(test)]
 mod lines;
 #[cfg(test)]
 mod memory;
