@@ -13,22 +13,8 @@ use crate::edge::byte_at;
 use calendar::UtcOffset;
 use datetime_types::OffsetDateTime;
 use description_items::{Iso8601, Rfc2822, Rfc3339};
-use instants_sources::{DescribedItems, DescribedTree, Source};
-use parsing_record::Parsed;
+use instants_sources::{DescribedItems, DescribedTree, Source, starting};
 use parsing_trait::{Items, Parsable};
-
-// A record that holds the hour and the minute of the assumed offset, or nothing.
-#[inline(always)]
-fn beginning(assumed: Option<UtcOffset>) -> Parsed
-    ensures { result ≡ Tried.beginning assumed }
-{
-    let mut parsed = Parsed::new();
-    if let Some(offset) = assumed {
-        parsed.set_offset_hour(offset.whole_hours());
-        parsed.set_offset_minute_signed(offset.minutes_past_hour());
-    }
-    parsed
-}
 
 // The moment of the record that a front of the bytes sets, and what stands behind it. The record lies here from the start,
 // so that it is not copied.
@@ -42,7 +28,7 @@ fn read_by<'b, F: Parsable>(
         ≡ front_of (meaning (F.reading format.now) (Tried.beginning assumed) bytes.now) }
     ensures end { IfSome result (λ x. EndsWith bytes.now x.1.now) }
 {
-    let mut parsed = beginning(assumed);
+    let mut parsed = starting(assumed);
     match format.parse_into(bytes, &mut parsed) {
         Ok(rest) => match parsed.offset_date_time() {
             Ok(moment) => Some((moment, rest)),

@@ -10,4 +10,4 @@ mod source;
 
 pub use described::{DescribedItems, DescribedTree};
 pub use moment::{fast_iso8601, fast_rfc2822, fast_rfc3339, is_no_rfc3339};
-pub use source::Source;
+pub use source::{Source, starting};

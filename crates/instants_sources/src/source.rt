@@ -124,9 +124,9 @@ fn described<'a>(
     }
 }
 
-// A record that holds the hour and the minute of the assumed offset, or nothing.
+/// The record that a reading begins with: it holds the hour and the minute of the assumed offset, or nothing.
 #[inline(always)]
-pub(crate) fn starting(assumed: Option<UtcOffset>) -> Parsed
+pub fn starting(assumed: Option<UtcOffset>) -> Parsed
     ensures { result ≡ starting (defaults_of assumed) }
 {
     let mut parsed = Parsed::new();
