@@ -28,6 +28,7 @@ pub(crate) fn one_or_two_digits(bytes: &[u8]) -> Option<(u8, &[u8])>
 
 // The comma behind a weekday.
 #[tactic(auto, unfolding(crate::specs::Reading::named_day))]
+#[inline(always)]
 fn named_day(day: Weekday, bytes: &[u8]) -> Result<(Option<Weekday>, &[u8]), ParseFromDescription>
     ensures { Gives (λ x. (x.0, x.1.now)) reading_fault result (Reading.named_day day bytes.now) }
 {
@@ -36,6 +37,7 @@ fn named_day(day: Weekday, bytes: &[u8]) -> Result<(Option<Weekday>, &[u8]), Par
 }
 
 #[tactic(auto, unfolding(crate::specs::Reading::optional_weekday))]
+#[inline(always)]
 fn optional_weekday(bytes: &[u8]) -> Result<(Option<Weekday>, &[u8]), ParseFromDescription>
     ensures { Gives (λ x. (x.0, x.1.now)) reading_fault result
         (Reading.optional_weekday bytes.now) }
@@ -47,6 +49,7 @@ fn optional_weekday(bytes: &[u8]) -> Result<(Option<Weekday>, &[u8]), ParseFromD
 }
 
 #[tactic(auto, unfolding(crate::specs::Reading::day))]
+#[inline(always)]
 fn day(
     is_strict: bool,
     bytes: &[u8],
@@ -95,6 +98,7 @@ fn year(bytes: &[u8]) -> Result<(u16, &[u8]), ParseFromDescription>
 }
 
 #[tactic(auto, unfolding(crate::specs::Reading::month_and_year))]
+#[inline(always)]
 fn month_and_year(bytes: &[u8]) -> Result<((Month, u16), &[u8]), ParseFromDescription>
     ensures { Gives (λ x. (x.0, x.1.now)) reading_fault result (Reading.month_and_year bytes.now) }
 {
@@ -106,6 +110,7 @@ fn month_and_year(bytes: &[u8]) -> Result<((Month, u16), &[u8]), ParseFromDescri
 }
 
 #[tactic(auto, unfolding(crate::specs::Reading::hour_and_minute))]
+#[inline(always)]
 fn hour_and_minute(is_strict: bool, bytes: &[u8]) -> Result<((u8, u8), &[u8]), ParseFromDescription>
     ensures { Gives (λ x. (x.0, x.1.now)) reading_fault result
         (Reading.hour_and_minute is_strict bytes.now) }
@@ -123,6 +128,7 @@ fn hour_and_minute(is_strict: bool, bytes: &[u8]) -> Result<((u8, u8), &[u8]), P
 }
 
 #[tactic(auto, unfolding(crate::specs::Reading::due_second))]
+#[inline(always)]
 fn due_second(is_strict: bool, bytes: &[u8]) -> Result<(Option<u8>, &[u8]), ParseFromDescription>
     ensures { Gives (λ x. (x.0, x.1.now)) reading_fault result
         (Reading.due_second is_strict bytes.now) }
@@ -135,6 +141,7 @@ fn due_second(is_strict: bool, bytes: &[u8]) -> Result<(Option<u8>, &[u8]), Pars
 }
 
 #[tactic(auto, unfolding(crate::specs::Reading::second))]
+#[inline(always)]
 fn second(is_strict: bool, bytes: &[u8]) -> Result<(Option<u8>, &[u8]), ParseFromDescription>
     ensures { Gives (λ x. (x.0, x.1.now)) reading_fault result
         (Reading.second is_strict bytes.now) }
@@ -146,6 +153,7 @@ fn second(is_strict: bool, bytes: &[u8]) -> Result<(Option<u8>, &[u8]), ParseFro
 }
 
 #[tactic(auto, unfolding(crate::specs::Reading::clock))]
+#[inline(always)]
 fn clock(
     is_strict: bool,
     bytes: &[u8],
@@ -159,6 +167,7 @@ fn clock(
 
 // Hours and minutes behind a sign, both under it.
 #[tactic(auto, unfolding(crate::specs::Reading::signed_zone))]
+#[inline(always)]
 fn signed_zone(
     is_strict: bool,
     mark: u8,
@@ -187,6 +196,7 @@ fn signed_zone(
 }
 
 #[tactic(auto, unfolding(crate::specs::Reading::named_zone))]
+#[inline(always)]
 fn named_zone(bytes: &[u8]) -> Result<(Zone, &[u8]), ParseFromDescription>
     ensures gives { Gives (λ x. (x.0, x.1.now)) reading_fault result
         (Reading.named_zone bytes.now) }
@@ -204,6 +214,7 @@ fn named_zone(bytes: &[u8]) -> Result<(Zone, &[u8]), ParseFromDescription>
 }
 
 #[tactic(auto, unfolding(crate::specs::Reading::zone))]
+#[inline(always)]
 fn zone(is_strict: bool, bytes: &[u8]) -> Result<(Zone, &[u8]), ParseFromDescription>
     ensures gives { Gives (λ x. (x.0, x.1.now)) reading_fault result
         (Reading.zone is_strict bytes.now) }
@@ -217,6 +228,7 @@ fn zone(is_strict: bool, bytes: &[u8]) -> Result<(Zone, &[u8]), ParseFromDescrip
 }
 
 #[tactic(auto, unfolding(crate::specs::Reading::spaced_zone))]
+#[inline(always)]
 fn spaced_zone(is_strict: bool, bytes: &[u8]) -> Result<(Zone, &[u8]), ParseFromDescription>
     ensures gives { Gives (λ x. (x.0, x.1.now)) reading_fault result
         (Reading.spaced_zone is_strict bytes.now) }
@@ -229,6 +241,7 @@ fn spaced_zone(is_strict: bool, bytes: &[u8]) -> Result<(Zone, &[u8]), ParseFrom
 }
 
 #[tactic(auto, unfolding(crate::specs::Reading::rfc2822))]
+#[inline(always)]
 fn parts(is_strict: bool, bytes: &[u8]) -> Result<(Rfc2822Parts, &[u8]), ParseFromDescription>
     ensures gives { Gives (λ x. (x.0, x.1.now)) reading_fault result
         (Reading.rfc2822 is_strict bytes.now) }
@@ -256,6 +269,7 @@ fn parts(is_strict: bool, bytes: &[u8]) -> Result<(Rfc2822Parts, &[u8]), ParseFr
 ///
 /// A strict reading refuses each number out of range where it stands. Each fault names the part that can't be read; one
 /// of a zone is the offset hour's, or behind a sign that of its minutes.
+#[inline(always)]
 pub fn parse_prefix(
     is_strict: bool,
     bytes: &[u8],

@@ -1,5 +1,5 @@
 //! The answers of a timeline to lines.
-ghost use Rattle.std.specs.Prelude.{◌≡◌, ◌≢◌, ◌<◌, ◌≤◌, ◌+◌, codes, drop, length, map, true, false, None, Ok};
+ghost use Rattle.std.specs.Prelude.{◌≡◌, ◌≢◌, ◌<◌, ◌≤◌, codes, length, map, true, false, None, Ok};
 ghost use Rattle.std.specs.Option.{option_map};
 ghost use Rattle.std.specs.Result.{result_ok};
 ghost use Rattle.parsing_fields.specs.Moment.{moment_of};
@@ -18,8 +18,9 @@ use instants_sources::{Source, fast_iso8601, fast_rfc2822, fast_rfc3339};
 use parsing_fields::Fields;
 
 impl Timeline<'_> {
-    // Writes a moment as it is shown at the target, or that its year there is not written.
-    #[inline(always)]
+    // Writes a moment as it is shown at the target, or that its year there is not written. A call of its own, since few are
+    // read the exact way.
+    #[inline(never)]
     fn write_shown(&self, named: OffsetDateTime, storage: &mut Answer)
         ensures bytes { storage.new ≡
             place_text (shown_or_refused (setting_of self.now).target (Ok named)) }
@@ -186,6 +187,22 @@ impl Timeline<'_> {
         false
     }
 
+    // The same, where the sources before a place name no moment. Mostly the first bytes rule out all behind it.
+    #[inline(always)]
+    fn write_from(&self, place: usize, line: &[u8], storage: &mut Answer) -> bool
+        requires { NamesFrom (setting_of self.now) line.now place }
+        ensures answer { result ≡ true → IsAnswerOf (setting_of self.now) (result_ok
+            (first_named (setting_of self.now).assumed (setting_of self.now).sources line.now))
+            storage.new }
+        ensures none { result ≡ false → result_ok (first_named (setting_of self.now).assumed
+            (setting_of self.now).sources line.now) ≡ None }
+    {
+        match self.likely(place, line) {
+            Some((likely, _)) => self.write_by_any(self.sources_from(likely), line, storage),
+            None => false,
+        }
+    }
+
     // Writes the answer to a line for which no source names a moment: the first one's fault.
     #[inline(never)]
     fn write_first_fault(&self, line: &[u8], storage: &mut Answer)
@@ -196,7 +213,7 @@ impl Timeline<'_> {
         ensures never_long { storage.new ≢ codes "! long" }
     {
         if self.first().has_no_year(line, self.assumed) {
-            LineFault::Component("year").write(storage);
+            LineFault::Component("year").put(storage);
         } else {
             self.write_by_first(line, storage);
         }
@@ -227,7 +244,7 @@ impl Timeline<'_> {
         ensures room { length storage.new ≤ 63 }
         ensures never_long { storage.new ≢ codes "! long" }
     {
-        let Some((place, source)) = self.likely(line) else {
+        let Some((place, source)) = self.likely(1, line) else {
             self.write_first_fault(line, storage);
             return;
         };
@@ -253,19 +270,19 @@ impl Timeline<'_> {
 
     // Writes the answer to a line for which the sources before a place name no moment, and of which the fast way of the one
     // there says nothing.
+    #[cold]
     #[inline(never)]
-    fn write_exact(&self, place: usize, line: &[u8], storage: &mut Answer)
+    pub(super) fn write_exact(&self, place: usize, line: &[u8], storage: &mut Answer)
         requires place { place < length (setting_of self.now).sources }
         requires from { NamesFrom (setting_of self.now) line.now place }
         ensures bytes { storage.new ≡ answer_to (setting_of self.now) line.now }
         ensures room { length storage.new ≤ 63 }
         ensures never_long { storage.new ≢ codes "! long" }
     {
-        let sources = self.sources.as_slice();
-        match sources[place].read_exact(line, self.assumed) {
+        match self.source_at(place).read_exact(line, self.assumed) {
             Ok(named) => self.write_shown(named, storage),
             Err(fault) => {
-                if self.write_by_any(behind(sources, place), line, storage) {
+                if self.write_from(place + 1, line, storage) {
                     return;
                 }
                 if place == 0 {
@@ -289,14 +306,4 @@ impl Timeline<'_> {
         }
         answer
     }
-}
-
-// The sources behind a place.
-#[inline(always)]
-#[tactic(auto, using(std::proofs::lemmas::List::take_rest))]
-fn behind<'a, 'b>(sources: &'a [Source<'b>], place: usize) -> &'a [Source<'b>]
-    requires { place < length sources.now }
-    ensures { result.now ≡ drop (place + 1) sources.now }
-{
-    &sources[place + 1..]
 }
