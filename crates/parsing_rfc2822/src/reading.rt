@@ -110,7 +110,6 @@ fn month_and_year(bytes: &[u8]) -> Result<((Month, u16), &[u8]), ParseFromDescri
 }
 
 #[tactic(auto, unfolding(crate::specs::Reading::hour_and_minute))]
-#[inline(always)]
 fn hour_and_minute(is_strict: bool, bytes: &[u8]) -> Result<((u8, u8), &[u8]), ParseFromDescription>
     ensures { Gives (λ x. (x.0, x.1.now)) reading_fault result
         (Reading.hour_and_minute is_strict bytes.now) }
@@ -128,7 +127,6 @@ fn hour_and_minute(is_strict: bool, bytes: &[u8]) -> Result<((u8, u8), &[u8]), P
 }
 
 #[tactic(auto, unfolding(crate::specs::Reading::due_second))]
-#[inline(always)]
 fn due_second(is_strict: bool, bytes: &[u8]) -> Result<(Option<u8>, &[u8]), ParseFromDescription>
     ensures { Gives (λ x. (x.0, x.1.now)) reading_fault result
         (Reading.due_second is_strict bytes.now) }
@@ -141,7 +139,6 @@ fn due_second(is_strict: bool, bytes: &[u8]) -> Result<(Option<u8>, &[u8]), Pars
 }
 
 #[tactic(auto, unfolding(crate::specs::Reading::second))]
-#[inline(always)]
 fn second(is_strict: bool, bytes: &[u8]) -> Result<(Option<u8>, &[u8]), ParseFromDescription>
     ensures { Gives (λ x. (x.0, x.1.now)) reading_fault result
         (Reading.second is_strict bytes.now) }
@@ -153,7 +150,6 @@ fn second(is_strict: bool, bytes: &[u8]) -> Result<(Option<u8>, &[u8]), ParseFro
 }
 
 #[tactic(auto, unfolding(crate::specs::Reading::clock))]
-#[inline(always)]
 fn clock(
     is_strict: bool,
     bytes: &[u8],
@@ -167,7 +163,6 @@ fn clock(
 
 // Hours and minutes behind a sign, both under it.
 #[tactic(auto, unfolding(crate::specs::Reading::signed_zone))]
-#[inline(always)]
 fn signed_zone(
     is_strict: bool,
     mark: u8,
@@ -196,7 +191,6 @@ fn signed_zone(
 }
 
 #[tactic(auto, unfolding(crate::specs::Reading::named_zone))]
-#[inline(always)]
 fn named_zone(bytes: &[u8]) -> Result<(Zone, &[u8]), ParseFromDescription>
     ensures gives { Gives (λ x. (x.0, x.1.now)) reading_fault result
         (Reading.named_zone bytes.now) }
@@ -214,7 +208,6 @@ fn named_zone(bytes: &[u8]) -> Result<(Zone, &[u8]), ParseFromDescription>
 }
 
 #[tactic(auto, unfolding(crate::specs::Reading::zone))]
-#[inline(always)]
 fn zone(is_strict: bool, bytes: &[u8]) -> Result<(Zone, &[u8]), ParseFromDescription>
     ensures gives { Gives (λ x. (x.0, x.1.now)) reading_fault result
         (Reading.zone is_strict bytes.now) }
@@ -228,7 +221,6 @@ fn zone(is_strict: bool, bytes: &[u8]) -> Result<(Zone, &[u8]), ParseFromDescrip
 }
 
 #[tactic(auto, unfolding(crate::specs::Reading::spaced_zone))]
-#[inline(always)]
 fn spaced_zone(is_strict: bool, bytes: &[u8]) -> Result<(Zone, &[u8]), ParseFromDescription>
     ensures gives { Gives (λ x. (x.0, x.1.now)) reading_fault result
         (Reading.spaced_zone is_strict bytes.now) }

@@ -31,7 +31,7 @@ impl AnswerWay for Rfc3339Way {
                 return;
             }
             if !timeline.write_found(fast_rfc3339(line), storage) {
-                timeline.write_exact(0, line, storage);
+                timeline.write_exact_rfc3339(line, storage);
             }
             return;
         }
