@@ -207,7 +207,7 @@ impl Timeline<'_> {
     }
 
     // Writes the answer to a line for which no source names a moment: the first one's fault.
-    #[inline(never)]
+    #[inline(always)]
     fn write_first_fault(&self, line: &[u8], storage: &mut Answer)
         requires { result_ok (first_named (setting_of self.now).assumed
             (setting_of self.now).sources line.now) ≡ None }
