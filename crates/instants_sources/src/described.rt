@@ -1,11 +1,11 @@
 //! Descriptions, with the bytes that their lines begin with, and a plan where all parts have fixed widths.
-ghost use Rattle.std.specs.Prelude.{◌≡◌, true, None, IfSome};
+ghost use Rattle.std.specs.Prelude.{◌≡◌, true, false, None, IfSome};
 ghost use Rattle.std.specs.Option.{ForSome};
 ghost use Rattle.std.specs.Result.{result_ok};
 ghost use Rattle.description_items.specs.Tree.{listed, trees};
 ghost use Rattle.description_tree.specs.Description.{v3_tree};
 ghost use Rattle.parsing_components.specs.Component.{reads_component, reads_component_v3};
-ghost use Rattle.parsing_first_bytes.specs.FirstBytes.{AreOf};
+ghost use Rattle.parsing_first_bytes.specs.FirstBytes.{AreOf, IsRefusedAt};
 ghost use Rattle.parsing_plan.specs.Plan.{IsPlanOf};
 ghost use Rattle.parsing_record.specs.Reads.{reading, reading_of_all};
 ghost use Rattle.parsing_record.specs.Record.{Record};
@@ -67,6 +67,14 @@ impl<'a> DescribedItems<'a> {
     {
         self.first_bytes.rule_out(line)
     }
+
+    /// Whether a line that the items read can begin with a byte: `true` says nothing of the line.
+    pub fn can_begin(&self, byte: u8) -> bool
+        ensures { result ≡ false → IsRefusedAt
+            (reading_of_all reads_component (listed (trees self.now.items.items))) 0 byte }
+    {
+        self.first_bytes.can_begin(byte)
+    }
 }
 
 /// A tree of version 3 that reads a line.
@@ -117,5 +125,13 @@ impl<'a> DescribedTree<'a> {
             → result_ok (reading reads_component_v3 (v3_tree self.now.tree) r line.now) ≡ None }
     {
         self.first_bytes.rule_out(line)
+    }
+
+    /// Whether a line that the tree reads can begin with a byte: `true` says nothing of the line.
+    pub fn can_begin(&self, byte: u8) -> bool
+        ensures { result ≡ false
+            → IsRefusedAt (reading reads_component_v3 (v3_tree self.now.tree)) 0 byte }
+    {
+        self.first_bytes.can_begin(byte)
     }
 }
