@@ -3,3 +3,6 @@ pub mod Trimmed
 pub mod Steps
 pub mod First
 pub mod Wholly
+pub mod LaneLemmas
+pub mod NoStart
+pub mod NoDates
