@@ -85,13 +85,16 @@ fn read_rfc2822(bytes: &[u8], assumed: Option<UtcOffset>) -> Option<(OffsetDateT
     read_by(&Rfc2822, bytes, assumed)
 }
 
-// The same of RFC 3339, where the bytes begin with a digit.
+// The same of RFC 3339, where the bytes begin with a digit and have a hyphen behind a year.
 #[tactic(auto, using(crate::proofs::NoFront::no_digit), unfolding(crate::specs::Front::front_named))]
 fn read_rfc3339(bytes: &[u8], assumed: Option<UtcOffset>) -> Option<(OffsetDateTime, &[u8])>
     ensures front { option_map (λ x. (x.0, x.1.now)) result
         ≡ front_named assumed grammar.Rfc3339 bytes.now }
     ensures end { IfSome result (λ x. EndsWith bytes.now x.1.now) }
 {
+    if byte_at(bytes, 4) != b'-' {
+        return None;
+    }
     if !byte_at(bytes, 0).is_ascii_digit() {
         return None;
     }
