@@ -6,12 +6,16 @@ ghost use Rattle.description_items.specs.Tree.{listed, trees};
 ghost use Rattle.description_tree.specs.Description.{v3_tree};
 ghost use Rattle.parsing_components.specs.Component.{reads_component, reads_component_v3};
 ghost use Rattle.parsing_first_bytes.specs.FirstBytes.{AreOf, IsRefusedAt};
-ghost use Rattle.parsing_plan.specs.Plan.{IsPlanOf};
+ghost use Rattle.parsing_combinator.specs.Tame.{EndsWith};
+ghost use Rattle.parsing_fields.specs.Moment.{moment_of};
+ghost use Rattle.parsing_plan.specs.Plan.{IsPlanOf, NamesFront};
 ghost use Rattle.parsing_record.specs.Reads.{reading, reading_of_all};
 ghost use Rattle.parsing_record.specs.Record.{Record};
 
+use calendar::UtcOffset;
 use description_items::BorrowedFormatItem;
 use description_tree::FormatDescriptionV3;
+use parsing_fields::Fields;
 use parsing_first_bytes::FirstBytes;
 use parsing_plan::Plan;
 
@@ -28,6 +32,8 @@ pub struct DescribedItems<'a> {
 }
 
 impl<'a> DescribedItems<'a> {
+    ghost use Rattle.instants_sources.specs.Tried.{beginning};
+
     pub(crate) fn new(items: Vec<BorrowedFormatItem<'a>>) -> DescribedItems<'a>
         ensures { result.items ≡ items.entry }
     {
@@ -53,6 +59,25 @@ impl<'a> DescribedItems<'a> {
     {
         match &self.plan {
             Some(plan) => Some(plan),
+            None => None,
+        }
+    }
+
+    /// The fields of a front of a line that the items read, where a plan finds them, with an offset assumed or none, and
+    /// what stands behind that front: `None` says nothing of the line.
+    #[inline(always)]
+    pub fn read_front<'l>(
+        &self,
+        line: &'l [u8],
+        assumed: Option<UtcOffset>,
+    ) -> Option<(Fields, &'l [u8])>
+        ensures front { IfSome result (λ x. NamesFront
+            (reading_of_all reads_component (listed (trees self.now.items.items)))
+            (beginning assumed) line.now x.1.now (moment_of x.0)) }
+        ensures end { IfSome result (λ x. EndsWith line.now x.1.now) }
+    {
+        match self.plan() {
+            Some(plan) => plan.read_front(line, assumed),
             None => None,
         }
     }
@@ -89,6 +114,8 @@ pub struct DescribedTree<'a> {
 }
 
 impl<'a> DescribedTree<'a> {
+    ghost use Rattle.instants_sources.specs.Tried.{beginning};
+
     pub(crate) fn new(tree: FormatDescriptionV3<'a>) -> DescribedTree<'a>
         ensures { result.tree ≡ tree.entry }
     {
@@ -114,6 +141,25 @@ impl<'a> DescribedTree<'a> {
     {
         match &self.plan {
             Some(plan) => Some(plan),
+            None => None,
+        }
+    }
+
+    /// The fields of a front of a line that the tree reads, where a plan finds them, with an offset assumed or none, and
+    /// what stands behind that front: `None` says nothing of the line.
+    #[inline(always)]
+    pub fn read_front<'l>(
+        &self,
+        line: &'l [u8],
+        assumed: Option<UtcOffset>,
+    ) -> Option<(Fields, &'l [u8])>
+        ensures front { IfSome result (λ x. NamesFront
+            (reading reads_component_v3 (v3_tree self.now.tree))
+            (beginning assumed) line.now x.1.now (moment_of x.0)) }
+        ensures end { IfSome result (λ x. EndsWith line.now x.1.now) }
+    {
+        match self.plan() {
+            Some(plan) => plan.read_front(line, assumed),
             None => None,
         }
     }
