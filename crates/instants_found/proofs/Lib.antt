@@ -1,3 +1,4 @@
+pub mod NamedFront
 pub mod NoFront
 pub mod Trimmed
 pub mod Steps
