@@ -48,6 +48,8 @@ GREATEST = "1048576"
 WARNINGS = ["-std=c11", "-Wall", "-Wextra", "-Werror"]
 SANITIZERS = ["-g", "-O1", "-fsanitize=address,undefined", "-fno-sanitize-recover=all"]
 VALGRIND = ["valgrind", "--quiet", "--error-exitcode=99", "--leak-check=full", "--errors-for-leak-kinds=all"]
+# (Rust's standard output keeps its buffer to the end)
+VALGRIND_OF_RUST = [*VALGRIND[:-1], "--errors-for-leak-kinds=definite,indirect,possible"]
 # Lines for valgrind through SQLite, where each is a call of its own.
 FEW = 2_000
 WRONG_WORDS = (
@@ -151,7 +153,7 @@ def try_rust(library):
     if tell_run("Rust: its example compiles", ["cargo", "build", "--quiet", "--offline", "--release", "--example", "answer"], **how):
         answer = built / "release" / "examples" / "answer"
         library.tell_alike("Rust", [answer])
-        status, said, wrong = ran([*VALGRIND, answer, *WORDS], library.input)
+        status, said, wrong = ran([*VALGRIND_OF_RUST, answer, *WORDS], library.input)
         tell_same("Rust, under valgrind", said if status == 0 else wrong, library.answers)
 
 

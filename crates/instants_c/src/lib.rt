@@ -54,8 +54,7 @@ pub extern "C" fn instants_answer_lines(
     ensures line_room { LINE_ROOM * length (lines input.now) ≤ length output.old
         → result ≢ 0 → (written.new ≡ 0) × (output.new ≡ output.old) }
     // So are as many for each line feed, and once more.
-    ensures feed_room {
-        LINE_ROOM * (count_by (λ b. b == line_feed) input.now + 1) ≤ length output.old
+    ensures feed_room { LINE_ROOM * (count_by (λ b. b == line_feed) input.now + 1) ≤ length output.old
         → result ≢ 0 → (written.new ≡ 0) × (output.new ≡ output.old) }
 {
     match texts::answer_lines(alloc, words, input, output) {
