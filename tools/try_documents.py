@@ -190,7 +190,9 @@ def main():
     words = argparse.ArgumentParser(description=__doc__, formatter_class=argparse.RawDescriptionHelpFormatter)
     words.add_argument("files", nargs="*", metavar="FILE", help="from the top of the repository")
     given = words.parse_args()
-    missing = [it for it in (PROGRAM, CHECK, LIBRARY) if not it.exists()]
+    texts = "".join((ROOT / it).read_text() for it in given.files or DOCUMENTS)
+    named = [PROGRAM, *(it for it in (CHECK, LIBRARY) if str(it.parent.relative_to(ROOT)) in texts)]
+    missing = [it for it in named if not it.exists()]
     if missing:
         words.error(f"{missing[0].relative_to(ROOT)} is not built")
     count = 0

@@ -46,13 +46,10 @@ def answers(lines, *, target, sources, assumed="-", limit=None):
     The target, the assumed offset, the limit and the sources are the program's words. Without a limit no line is too long,
     but for one of more than 1,048,576 bytes.
     """
-    read = [line.encode(errors="surrogateescape") if isinstance(line, str) else bytes(line) for line in lines]
-    read = [line.removesuffix(b"\n") for line in read]
-    if any(b"\n" in line for line in read):
-        raise ValueError("a line has a line feed within it")
+    stream = _stream(list(lines))
     if limit is None:
-        limit = min(max(map(len, read), default=1) or 1, GREATEST_LIMIT)
-    written = answer_bytes(b"".join(line + b"\n" for line in read), [target, assumed, str(limit), *sources])
+        limit = min(max(len(stream), 1), GREATEST_LIMIT)
+    written = answer_bytes(stream, [target, assumed, str(limit), *sources])
     return written.decode("ascii").split("\n")[:-1]
 
 
@@ -71,6 +68,24 @@ def answer_bytes(stream, words):
         # (there is room enough)
         raise MemoryError(_sentence(text) or "instants: out of memory")
     return bytes(memoryview(output)[: written.value])
+
+
+def _stream(lines):
+    """Returns the bytes of lines, each with a line feed behind it."""
+    if not lines:
+        return b""
+    try:
+        # (as most lists of lines are: texts, and no line feed in any)
+        stream = "\n".join([*lines, ""]).encode(errors="surrogateescape")
+    except TypeError:
+        stream = b""
+    if stream.count(b"\n") == len(lines):
+        return stream
+    read = [line.encode(errors="surrogateescape") if isinstance(line, str) else bytes(line) for line in lines]
+    read = [line.removesuffix(b"\n") for line in read]
+    if any(b"\n" in line for line in read):
+        raise ValueError("a line has a line feed within it")
+    return b"".join(line + b"\n" for line in read)
 
 
 def _sentence(text):
