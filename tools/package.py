@@ -36,7 +36,7 @@ from program import ROOT, Program
 
 PACKAGING = ROOT / "packaging"
 # What of the documents is for those who use the program or the library.
-DOCUMENTS = ("README.md", "LICENSE", "docs/GUIDE.md", "docs/FORMATS.md", "docs/DESCRIPTIONS.md", "docs/LIBRARIES.md", "docs/CLAIMS.md",
+DOCUMENTS = ("README.md", "docs/GUIDE.md", "docs/FORMATS.md", "docs/DESCRIPTIONS.md", "docs/LIBRARIES.md", "docs/CLAIMS.md",
              "docs/DIFFERENCES.md", "docs/SPEED.md")
 PAGES = ("instants.1", "instants-descriptions.7")
 LIBDIR = "/usr/lib/x86_64-linux-gnu"
@@ -102,7 +102,8 @@ def lay_out(top):
     for name in PAGES:
         put(ROOT / "docs" / name, top / "man" / name)
     for name in DOCUMENTS:
-        put(ROOT / name, top / "doc" / pathlib.Path(name).name)
+        put(ROOT / name, top / "doc" / name)
+    put(ROOT / "LICENSE", top / "LICENSE")
 
 
 def settle(top, commit):
@@ -201,7 +202,7 @@ def try_installed(what, root, prefix, libdir):
     ran = subprocess.run(command, input=LINE, capture_output=True, check=False)
     tell(f"{what}: the program answers", ran.returncode == 0 and ran.stdout == ANSWER, f"{ran}")
     page = pathlib.Path("share/man/man1/instants.1" + (".gz" if prefix == "/usr" else ""))
-    for it in (page, "share/doc/instants/GUIDE.md", "share/bash-completion/completions/instants"):
+    for it in (page, "share/doc/instants/docs/GUIDE.md", "share/bash-completion/completions/instants"):
         tell(f"{what}: {it}", (root / prefix[1:] / it).is_file())
     places = dict(os.environ, PKG_CONFIG_SYSROOT_DIR=str(root), PKG_CONFIG_LIBDIR=f"{root}{libdir}/pkgconfig")
     # (what is the system's own folder there is none here)
