@@ -60,7 +60,7 @@ extern "C" {
  *
  * INSTANTS_OK: `*written` bytes are written, and those behind them are as they were.
  * INSTANTS_FAILED: where `*written` is 0 nothing is written; else the output is full, and has the beginning of the answers,
- * which are longer. With INSTANTS_ROOM bytes it never is too short.
+ * which are longer; with no room at all that is no byte. INSTANTS_ROOM bytes are never too few.
  * INSTANTS_REFUSED: `*written` is 0, and nothing is written. `instants_sentence` says what is refused.
  */
 uint8_t instants_answer_lines(const uint8_t *words, size_t words_len, const uint8_t *input, size_t input_len,
