@@ -15,11 +15,11 @@ def uses():
 
 
 class Program:
-    """A program, by the name of its crate and the name that it goes by."""
+    """A program, or what else is made of a crate: by the name of the crate, the name that it goes by, and that of its file."""
 
-    def __init__(self, crate, name):
+    def __init__(self, crate, name, made=None):
         self.crate, self.name = crate, name
-        self.file = ROOT / "crates" / crate / "out" / crate
+        self.file = ROOT / "crates" / crate / "out" / (made or crate)
 
     def say(self, text):
         print(f"{self.name}: {text}", file=sys.stderr, flush=True)
