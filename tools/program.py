@@ -15,10 +15,10 @@ def uses():
 
 
 class Program:
-    """A program, by the name of its crate and the name that it goes by."""
+    """A program, by the name of its crate and the name that it goes by, and whether what it writes has each line in it."""
 
-    def __init__(self, crate, name):
-        self.crate, self.name = crate, name
+    def __init__(self, crate, name, repeats_lines=False):
+        self.crate, self.name, self.repeats_lines = crate, name, repeats_lines
         self.file = ROOT / "crates" / crate / "out" / crate
 
     def say(self, text):
