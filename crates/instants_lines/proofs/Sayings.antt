@@ -72,8 +72,8 @@ module _ (setting : Setting) (line : List ℕ) (sources : List Source) (place : 
   says_more = (
     all_said setting line (1 + length (map grammar_of (take place sources))) (map grammar_of (drop place sources)),
     ap (λ (some : List Source). all_said setting line 1 (map grammar_of some)) (sym (take-append-drop place sources))
-    ∙ ap (all_said setting line 1) (map-append grammar_of (take place sources) (drop place sources))
-    ∙ all_said-append setting line 1 (map grammar_of (take place sources)) (map grammar_of (drop place sources)),
+        ∙ ap (all_said setting line 1) (map-append grammar_of (take place sources) (drop place sources))
+        ∙ all_said-append setting line 1 (map grammar_of (take place sources)) (map grammar_of (drop place sources)),
   )
 
   pub says_all : length sources ≤ place → said_before setting line sources place ≡ all_said setting line 1 (map grammar_of sources)

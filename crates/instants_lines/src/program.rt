@@ -86,7 +86,14 @@ pub fn run_words<'a, R: ByteReader, W: ByteWriter>(
     let (mode, said) = read_mode_words(alloc, words)?;
     let timeline = Timeline::new(alloc, said.sources.as_slice(), said.target, said.assumed)?;
     let mut buffer = vec![in alloc; 0; said.limit + BLOCK]?;
-    run_and_flush(mode, &timeline, said.limit, buffer.as_mut_slice(), reader, writer)?;
+    run_and_flush(
+        mode,
+        &timeline,
+        said.limit,
+        buffer.as_mut_slice(),
+        reader,
+        writer,
+    )?;
     Ok(())
 }
 

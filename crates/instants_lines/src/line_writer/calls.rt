@@ -49,7 +49,7 @@ impl<'a, 'b> LineWriter<'a, 'b> {
     fn keep(&mut self, key: Answer)
         requires { length key ≤ 63 }
         ensures key { going_of self.new ≡ record (going_of self.old) {
-            key = key_below (going_of self.old).mode (going_of self.old).key key
+          key = key_below (going_of self.old).mode (going_of self.old).key key;
         } }
     {
         if self.mode == Mode::Carry {
@@ -67,8 +67,8 @@ impl<'a, 'b> LineWriter<'a, 'b> {
         ensures written { OnOk result (Appends (W.held writer.old) (W.held writer.new)
             ((key_of_line (going_of self.old) line.now ++ tab ∷ line.now) ++ line_feed ∷ [])) }
         ensures next { OnOk result (going_of self.new ≡ record (going_of self.old) {
-            key = key_below (going_of self.old).mode (going_of self.old).key
-                (key_of_line (going_of self.old) line.now)
+          key = key_below (going_of self.old).mode (going_of self.old).key
+              (key_of_line (going_of self.old) line.now);
         }) }
         ensures ok { OnOk result (W.failed writer.new ≡ W.failed writer.old) }
         ensures front { OnErr result (AppendsFront (W.held writer.old) (W.held writer.new)
@@ -81,11 +81,7 @@ impl<'a, 'b> LineWriter<'a, 'b> {
     }
 
     // Writes a line with the date-time in place of its date.
-    fn write_replaced<W: ByteWriter>(
-        &self,
-        line: &[u8],
-        writer: &mut W,
-    ) -> Result<(), DeviceFailed>
+    fn write_replaced<W: ByteWriter>(&self, line: &[u8], writer: &mut W) -> Result<(), DeviceFailed>
         requires { W.failed writer.old ≡ false }
         ensures written { OnOk result (Appends (W.held writer.old) (W.held writer.new)
             (replaced (going_of self.now).setting line.now ++ line_feed ∷ [])) }
