@@ -23,7 +23,7 @@ in_year : (b : Bool) (a : Shown) (r : Result Shown Refusal) → r ≡ (if b then
 in_year true a r e h = (refl, e)
 in_year false a r e h = let never : false ≡ true = rw e at h in absurd cc
 
-shown_in : (target i : ℤ) (o : Option Shown) → shown_at target i ≡ o → IsOk (in_written_years o) → (a : Shown) × Shows target i (place_text (in_written_years o)) a
+pub shown_in : (target i : ℤ) (o : Option Shown) → shown_at target i ≡ o → IsOk (in_written_years o) → (a : Shown) × Shows target i (place_text (in_written_years o)) a
 shown_in target i None e h = let never : false ≡ true = h in absurd cc
 shown_in target i (Some a) e h =
     let is = in_year (has_written_year a) a (in_written_years (Some a)) refl h in

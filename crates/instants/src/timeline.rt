@@ -7,6 +7,7 @@ ghost use Rattle.instants.specs.Tried.{places_of};
 mod answers;
 mod calls;
 mod fast_ways;
+mod parts;
 mod places;
 
 use calendar::UtcOffset;

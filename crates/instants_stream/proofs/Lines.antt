@@ -1,11 +1,11 @@
 -- Lemmas on the parts of bytes between line feeds.
 use Rattle.std.proofs.Common.{◌≡◌, ◌==◌, ℕ, suc, ◌+◌, ◌<◌, ◌⊎◌, Bool, true, false, cond, List, [], ◌∷◌, ◌++◌, length, refl, ap, ◌∙◌, inl, inr, arith, append_assoc, append-nil}
-use Rattle.std.specs.List.{slice_split, onto_first, flat_map}
+use Rattle.std.specs.List.{slice_split, onto_first}
 use Rattle.std.proofs.lemmas.List.Splits.{slice_split_none, slice_split_at, length-slice_split}
 use Rattle.std.proofs.lemmas.List.Elements.{All-nil, All-cons}
 use Rattle.std.proofs.lemmas.List.Concat.{flat_map-append}
 use Rattle.instants_stream.specs.Lines.{HasNoLineFeed, but_last, last, if_nonempty, parts, whole_lines, last_part, lines}
-use Rattle.instants_stream.specs.Answers.{answered, output, owed}
+use Rattle.instants_stream.specs.Answers.{answered, output}
 
 -- the bytes in front of the first part
 abbrev pub glue : List ℕ → List (List ℕ) → List (List ℕ)
@@ -112,36 +112,6 @@ last_part_none s (inr w) = ap last_part w.1 ∙ last_part-line w.0 [] (All-nil (
 pub output-append : (answer : List ℕ → List ℕ) (limit : ℕ) (s t : List ℕ) → last_part s ≡ [] → output answer limit (s ++ t) ≡ output answer limit s ++ output answer limit t
 unfolding output
 output-append answer limit s t h = rw (lines-append s t h) (flat_map-append (answered answer limit) (lines s) (lines t))
-
--- what was owed, once a piece with no line feed was read
-pub owed-piece : (answer : List ℕ → List ℕ) (limit : ℕ) (s piece : List ℕ) → HasNoLineFeed piece → owed answer limit (s ++ piece) ≡ owed answer limit s
-unfolding owed
-owed-piece answer limit s piece h = rw (whole_lines-piece s piece h) refl
-
--- what was owed, once such a piece and a line feed were read
-pub owed-line : (answer : List ℕ → List ℕ) (limit : ℕ) (s piece : List ℕ) → HasNoLineFeed piece → owed answer limit (s ++ (piece ++ 10 ∷ [])) ≡ owed answer limit s ++ answered answer limit (last_part s ++ piece)
-unfolding owed
-owed-line answer limit s piece h =
-    rw (whole_lines-line s piece h, flat_map-append (answered answer limit) (whole_lines s) ((last_part s ++ piece) ∷ []), append-nil) refl
-
--- at the end of the stream its last part is answered, unless it is empty
-pub output_at_end : (answer : List ℕ → List ℕ) (limit : ℕ) (s : List ℕ) → last_part s ≡ [] → output answer limit s ≡ owed answer limit s
-unfolding output owed lines
-output_at_end answer limit s h = rw (h, append-nil) refl
-
-answered_rest : (answer : List ℕ → List ℕ) (limit : ℕ) (p : List ℕ) → 0 < length p → flat_map (answered answer limit) (if_nonempty p) ≡ answered answer limit p
-answered_rest answer limit [] h = absurd (omega arith)
-answered_rest answer limit (b ∷ p) h = append-nil (answered answer limit (b ∷ p))
-
-pub output_with_rest : (answer : List ℕ → List ℕ) (limit : ℕ) (s : List ℕ) → 0 < length (last_part s) → output answer limit s ≡ owed answer limit s ++ answered answer limit (last_part s)
-unfolding output owed lines
-output_with_rest answer limit s h =
-    flat_map-append (answered answer limit) (whole_lines s) (if_nonempty (last_part s)) ∙ ap (λ (xs : List ℕ). flat_map (answered answer limit) (whole_lines s) ++ xs) (answered_rest answer limit (last_part s) h)
-
--- the output is what is owed, and maybe one answer more
-pub output_extends : (answer : List ℕ → List ℕ) (limit : ℕ) (s : List ℕ) → (more : List ℕ) × (output answer limit s ≡ owed answer limit s ++ more)
-unfolding output owed lines
-output_extends answer limit s = (flat_map (answered answer limit) (if_nonempty (last_part s)), flat_map-append (answered answer limit) (whole_lines s) (if_nonempty (last_part s)))
 
 -- no bytes have no lines
 pub whole_lines_none : whole_lines [] ≡ []

@@ -1,5 +1,5 @@
 -- What is written for a stream of bytes. The answer to a line is a function of its bytes.
-use Rattle.std.specs.Prelude.{ℕ, Bool, ◌||◌, Option, None, Some, List, [], ◌∷◌, ◌++◌, length, nat_lt, if◌then◌else◌, codes}
+use Rattle.std.specs.Prelude.{ℕ, Bool, Option, None, Some, List, [], ◌∷◌, ◌++◌, length, nat_lt, if◌then◌else◌, codes}
 use Rattle.std.specs.List.{flat_map}
 use Rattle.byte_names.specs.Bytes.{line_feed}
 use Rattle.instants_stream.specs.Lines.{lines, whole_lines}
@@ -25,9 +25,3 @@ abbrev pub due : (List ℕ → List ℕ) → ℕ → List ℕ → Option (List �
 due answer limit bytes (Some (b ∷ left)) = owed answer limit bytes
 due answer limit bytes (Some []) = output answer limit bytes
 due answer limit bytes None = output answer limit bytes
-
--- what is written for lines whose bytes are at hand, where the first is maybe known to be too long with what came before
-unfoldable pub answers_to : (List ℕ → List ℕ) → ℕ → Bool → List (List ℕ) → List ℕ
-answers_to answer limit is_long [] = []
-answers_to answer limit is_long (line ∷ others) =
-    answer_or_long answer (is_long || nat_lt limit (length line)) line ++ flat_map (answered answer limit) others

@@ -1,2 +1,4 @@
 pub mod Lines
 pub mod Answers
+pub mod Steps
+pub mod Answering

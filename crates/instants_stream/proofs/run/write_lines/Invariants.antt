@@ -1,15 +1,16 @@
 use Rattle.std.proofs.Common.{◌≡◌, ◌-◌, ◌≤◌, ◌<◌, false, length, take, drop}
 use Rattle.instants_stream.specs.Lines.{HasNoLineFeed}
 use Rattle.instants_stream.proofs.Progress.{Progress}
-use Rattle.instants_stream.proofs.run.run_lines.Given as goal
+use Rattle.instants_stream.proofs.run.write_lines.Given as goal
 
-abbrev pub invariant-loop-storage : goal.invariant-loop-storage
-invariant-loop-storage g l =
+abbrev pub invariant-loop-limit : goal.invariant-loop-limit
+invariant-loop-limit g l =
     let left = g.R.ByteReader.left in
     let held = g.W.ByteWriter.held in
+    let state = g.S.WritesLines.state in
     let line = take (l.filled - l.start) (drop l.start l.buffer) in
     record {
-      progress : Progress (g.A.AnswersLines.answer l.answers) l.limit (left l.fn.reader) (left l.reader) (held l.fn.writer) (held l.writer) line l.is_long;
+      progress : Progress g.S.WritesLines.State g.S.WritesLines.steps (state l.fn.steps) (state l.steps) l.limit (left l.fn.reader) (left l.reader) (held l.fn.writer) (held l.writer) line l.is_long;
       free : HasNoLineFeed line;
       size : length l.buffer ≡ length l.fn.buffer;
       room : l.limit < length l.fn.buffer;
@@ -20,5 +21,5 @@ invariant-loop-storage g l =
       writer_works : g.W.ByteWriter.failed l.writer ≡ false;
     }
 
-abbrev pub decreases-loop-storage : goal.decreases-loop-storage
-decreases-loop-storage g l = g.R.ByteReader.reads_left l.reader
+abbrev pub decreases-loop-limit : goal.decreases-loop-limit
+decreases-loop-limit g l = g.R.ByteReader.reads_left l.reader

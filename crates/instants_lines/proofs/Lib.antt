@@ -1,0 +1,7 @@
+pub mod Outside
+pub mod Sayings
+pub mod Decimals
+pub mod Wholly
+pub mod Keys
+pub mod Joined
+pub mod Fronts

@@ -1,0 +1,35 @@
+use Rattle.std.proofs.Common.{◌≡◌, ◌+◌, ◌++◌, map, refl, sym, ap, ◌∙◌, subst, arith}
+use Rattle.std.proofs.KnownBytes.{Appends-nil, Appends-trans}
+use Rattle.std.proofs.lemmas.Result.{err_from_is_err_and}
+use Rattle.instants_devices.specs.Told.{AppendsFront}
+use Rattle.instants_devices.proofs.Told.{AppendsFront-after, AppendsFront-more}
+use Rattle.instants_sources.specs.Grammar.{grammar_of}
+use Rattle.instants.specs.Settings.{setting_of}
+use Rattle.instants_lines.specs.Explained.{all_said}
+use Rattle.instants_lines.proofs.Sayings.{said_before, says, says_more}
+use Rattle.instants_lines.proofs.explained.write_all_said.Goals as goal
+
+pub loop-place-init : goal.loop-place-init
+unfolding all_said
+loop-place-init g c = record { written = Appends-nil _; works = refl }
+
+pub loop-place-preserved : goal.loop-place-preserved
+loop-place-preserved g c =
+    let i = c.loop-place.invariant in
+    record {
+      written = rw (says (setting_of c.args.timeline.now) c.args.line.now c.sources-sources.result.now c.loop-place.place c.index-sources-place.result (omega arith) c.index-sources-place.is)
+          (Appends-trans _ _ _ _ _ i.written c.in_ok-write_said.ensures.written);
+      works = c.in_ok-write_said.ensures.ok ∙ i.works;
+    }
+
+pub returns-in_err-write_said-clause-front : goal.returns-in_err-write_said-clause-front
+returns-in_err-write_said-clause-front g c =
+    let p = err_from_is_err_and c.from_residual.result c.from_residual.ensures.1 in
+    let setting = setting_of c.args.timeline.now in
+    let sources = c.sources-sources.result.now in
+    let place = c.loop-place.place in
+    let all = says_more setting c.args.line.now sources (place + 1) in
+    let wrote : AppendsFront (g.W.ByteWriter.held c.args.writer.now) (g.W.ByteWriter.held c.write_said.new.writer) (said_before setting c.args.line.now sources (place + 1)) =
+    rw (says setting c.args.line.now sources place c.index-sources-place.result (omega arith) c.index-sources-place.is) (AppendsFront-after _ _ _ _ _ c.loop-place.invariant.written c.in_err-write_said.ensures.front) in
+    let whole : all_said setting c.args.line.now 1 setting.sources ≡ said_before setting c.args.line.now sources (place + 1) ++ all.0 = ap (all_said setting c.args.line.now 1) (sym c.sources-sources.ensures) ∙ all.1 in
+    rw (p.1, whole) (AppendsFront-more _ _ _ all.0 wrote)

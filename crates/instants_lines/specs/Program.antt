@@ -1,0 +1,50 @@
+-- What the program does between its words and its end.
+use Rattle.std.specs.Prelude.{◌≡◌, ℕ, List, Ok, ⊤}
+use Rattle.instants_words.specs.declared.fault.WordsFault.TheVariants as words
+use Rattle.instants_words.specs.declared.words.Words.{Words}
+use Rattle.instants.specs.Place.{Setting}
+use Rattle.instants.specs.Program.{Asks}
+use Rattle.instants.specs.declared.new_fault.NewFault.TheVariants as new
+use Rattle.instants_lines.specs.Going.{Going, beginning}
+use Rattle.instants_lines.specs.Words.{mode_words_said}
+use Rattle.instants_lines.specs.declared.mode.Mode.{Mode}
+use Rattle.instants_lines.specs.declared.lines_fault.LinesFault.{LinesFault}
+use Rattle.instants_lines.specs.declared.lines_fault.LinesFault.TheVariants as lines
+
+-- the words ask for this beginning, and for this limit of a line
+pub record AsksFor (words : List (List ℕ)) (going : Going) (limit : ℕ) : Type 0 where
+  pub mode : Mode
+  pub said : Words
+  pub is_said : mode_words_said words ≡ Ok (mode, said)
+  pub setting : Setting
+  pub asks : Asks said setting
+  pub begins : going ≡ beginning mode setting
+  pub limit_is : limit ≡ said.limit
+
+-- a fault that comes before anything is read or written
+abbrev pub IsBeforeRun : LinesFault → Type 0
+IsBeforeRun (lines.Run fault) = ⊥
+IsBeforeRun _ = ⊤
+
+-- the words are wrong
+abbrev pub IsOfWords : LinesFault → Type 0
+IsOfWords lines.UnknownMode = ⊤
+IsOfWords (lines.Words words.Memory) = ⊥
+IsOfWords (lines.Words _) = ⊤
+IsOfWords _ = ⊥
+
+-- a fault that reading words can have
+abbrev pub IsSaidOfWords : LinesFault → Type 0
+IsSaidOfWords lines.UnknownMode = ⊤
+IsSaidOfWords (lines.Words fault) = ⊤
+IsSaidOfWords _ = ⊥
+
+-- memory ran out
+abbrev pub IsMemory : LinesFault → Type 0
+IsMemory lines.UnknownMode = ⊥
+IsMemory (lines.Words words.Memory) = ⊤
+IsMemory (lines.Words _) = ⊥
+IsMemory (lines.Run fault) = ⊥
+IsMemory (lines.New new.Memory) = ⊤
+IsMemory (lines.New (new.Source place fault)) = ⊥
+IsMemory lines.Memory = ⊤

@@ -1,0 +1,93 @@
+//! Laws of what is written, each the contract of a function.
+ghost use Rattle.std.specs.Prelude.{◌≡◌, ◌<◌, ◌≤◌, ◌↔◌, ◌⊎◌, ◌+◌, ℕ, true, List, [], ◌∷◌, ◌++◌, Some, None, Ok, Err, length, take, drop, IsOk};
+ghost use Rattle.std.specs.Ordering.{nat_cmp, int_cmp};
+ghost use Rattle.std.specs.Cmp.Lexicographic.{slice_cmp};
+ghost use Rattle.byte_names.specs.Bytes.{line_feed};
+ghost use Rattle.datetime_wall.specs.Wall.{Shown, instant};
+ghost use Rattle.instants_answers.specs.Text.{moment_text};
+ghost use Rattle.instants_found.specs.declared.found.Found.{Found};
+ghost use Rattle.instants_found.specs.Front.{may_begin, trimmed_length};
+ghost use Rattle.instants_sources.specs.Grammar.{Grammar};
+ghost use Rattle.instants_sources.specs.Named.{named};
+ghost use Rattle.instants_stream.specs.Lines.{lines};
+ghost use Rattle.instants_stream.specs.Steps.{output};
+ghost use Rattle.instants.specs.Place.{Setting, place_of, answer_to};
+ghost use Rattle.instants.specs.Refusal.{Refusal};
+ghost use Rattle.instants_lines.specs.Dates.{date_in, place_of_date, key_of_date, replaced};
+ghost use Rattle.instants_lines.specs.Going.{Going, key_of_line, beginning, lines_steps};
+ghost use Rattle.instants_lines.specs.declared.mode.Mode.TheVariants.{Carry};
+
+use parsing_laws::two_roads::{two_roads_of_rfc2822, two_roads_of_rfc3339};
+
+/// What stands before and behind the date of a line is unchanged where it is replaced, and between them stands the
+/// date-time, if its year is written. All other lines stay.
+pub fn outside_unchanged()
+    ensures outside { (setting : Setting) (line : List ℕ) (date : Found)
+        → date_in setting line ≡ Some date → (text : List ℕ)
+        × (replaced setting line ≡ take date.start line ++ (text ++ drop date.end line)) }
+    ensures written { (setting : Setting) (line : List ℕ) (date : Found) (moment : Shown)
+        → date_in setting line ≡ Some date → place_of_date setting date ≡ Ok moment
+        → replaced setting line
+        ≡ take date.start line ++ (moment_text moment ++ drop date.end line) }
+    ensures unwritten { (setting : Setting) (line : List ℕ) (date : Found) (refusal : Refusal)
+        → date_in setting line ≡ Some date → place_of_date setting date ≡ Err refusal
+        → replaced setting line ≡ line }
+    ensures undated { (setting : Setting) (line : List ℕ)
+        → date_in setting line ≡ None → replaced setting line ≡ line }
+{}
+
+/// A line for which its one source names a moment has its answer as its key, and where that is a date-time it stands in
+/// place of all of the line but for white space at its end. A line of RFC 2822 has to begin with its weekday or its day for
+/// it.
+pub fn whole_line()
+    ensures key { (going : Going) (grammar : Grammar) (line : List ℕ) (moment : Shown)
+        → going.setting.sources ≡ grammar ∷ []
+        → named going.setting.assumed grammar line ≡ Ok moment → 0 < length line
+        → may_begin grammar line ≡ true
+        → key_of_line going line ≡ answer_to going.setting line }
+    ensures replaced { (setting : Setting) (grammar : Grammar) (line : List ℕ)
+        (moment shown : Shown)
+        → setting.sources ≡ grammar ∷ [] → named setting.assumed grammar line ≡ Ok moment
+        → 0 < length line → may_begin grammar line ≡ true
+        → place_of setting line ≡ Ok shown
+        → replaced setting line ≡ moment_text shown ++ drop (trimmed_length line) line }
+{
+    two_roads_of_rfc3339();
+    two_roads_of_rfc2822();
+}
+
+/// Keys that are date-times at one target, from whatever sources and with whatever offset assumed, are ordered as bytes
+/// exactly as the instants that the dates name, and are equal exactly where these are.
+pub fn order_of_keys()
+    ensures order { (one other : Setting) (date another : Found) → one.target ≡ other.target
+        → IsOk (place_of_date one date) → IsOk (place_of_date other another)
+        → slice_cmp nat_cmp (key_of_date one date) (key_of_date other another)
+        ≡ int_cmp (instant date.moment) (instant another.moment) }
+    ensures equality { (one other : Setting) (date another : Found) → one.target ≡ other.target
+        → IsOk (place_of_date one date) → IsOk (place_of_date other another)
+        → (key_of_date one date ≡ key_of_date other another)
+        ↔ (instant date.moment ≡ instant another.moment) }
+{}
+
+/// In mode `carry` the output of two streams joined is their outputs joined, where the first is empty or ends in a line
+/// feed and the second begins with a line that has a date.
+pub fn joined_streams()
+    ensures { (setting : Setting) (limit : ℕ) (first second line : List ℕ) (others : List (List ℕ))
+        (date : Found)
+        → ((first ≡ []) ⊎ ((front : List ℕ) × (first ≡ front ++ line_feed ∷ [])))
+        → lines second ≡ line ∷ others → length line ≤ limit → date_in setting line ≡ Some date
+        → output lines_steps (beginning Carry setting) limit (first ++ second)
+        ≡ output lines_steps (beginning Carry setting) limit first
+        ++ output lines_steps (beginning Carry setting) limit second }
+{}
+
+/// Replacing twice is replacing once, where the first date of the written line is the date-time that was written, and
+/// names the same instant there.
+pub fn replaced_twice()
+    ensures { (setting : Setting) (line : List ℕ) (date again : Found) (moment : Shown)
+        → date_in setting line ≡ Some date → place_of_date setting date ≡ Ok moment
+        → date_in setting (replaced setting line) ≡ Some again
+        → again.start ≡ date.start → again.end ≡ date.start + length (moment_text moment)
+        → instant again.moment ≡ instant date.moment
+        → replaced setting (replaced setting line) ≡ replaced setting line }
+{}

@@ -1,0 +1,180 @@
+//! What is written for lines one after another.
+ghost use Rattle.std.specs.Prelude.{◌≡◌, ◌≤◌, [], ◌∷◌, ◌++◌, codes, length, take, drop, true, false, IfSome, IfNone, OnOk, OnErr};
+ghost use Rattle.std.specs.Io.KnownBytes.{Appends};
+ghost use Rattle.byte_names.specs.Bytes.{tab, line_feed};
+ghost use Rattle.instants_devices.specs.Told.{AppendsFront};
+ghost use Rattle.instants.specs.Settings.{setting_of};
+ghost use Rattle.instants_lines.specs.Dates.{date_in, replaced};
+ghost use Rattle.instants_lines.specs.Going.{beginning, key_of_line, key_below};
+ghost use Rattle.instants_lines.specs.Writing.{going_of};
+
+use crate::explained::write_explained;
+use crate::line_writer::LineWriter;
+use crate::mode::Mode;
+use crate::parts::write_parts;
+use instants::Timeline;
+use instants_answers::{Answer, rfc3339_line};
+use instants_devices::{ByteWriter, DeviceFailed};
+use instants_found::{Found, find};
+use instants_stream::WritesLines;
+
+impl<'a, 'b> LineWriter<'a, 'b> {
+    /// At the beginning a line without a date takes `! none`.
+    pub(crate) fn new(mode: Mode, timeline: &'a Timeline<'b>) -> LineWriter<'a, 'b>
+        ensures { going_of result ≡ beginning mode (setting_of timeline.now) }
+    {
+        let mut key = Answer::new();
+        key.push_bytes(b"! none");
+        LineWriter {
+            mode,
+            timeline,
+            key,
+        }
+    }
+
+    // The key of a line.
+    #[tactic(auto, unfolding(crate::specs::Going::key_of_line, crate::specs::Dates::place_of_date))]
+    fn key_of(&self, line: &[u8]) -> Answer
+        ensures key { result ≡ key_of_line (going_of self.now) line.now }
+        ensures room { length result ≤ 63 }
+    {
+        match date_in(self.timeline, line) {
+            Some(date) => self.timeline.answer_moment(date.moment),
+            None => self.key,
+        }
+    }
+
+    // Keeps the key of a line, where the lines below it take it.
+    #[inline(always)]
+    fn keep(&mut self, key: Answer)
+        requires { length key ≤ 63 }
+        ensures key { going_of self.new ≡ record (going_of self.old) {
+          key = key_below (going_of self.old).mode (going_of self.old).key key;
+        } }
+    {
+        if self.mode == Mode::Carry {
+            self.key = key;
+        }
+    }
+
+    // Writes a line behind its key and a tab.
+    fn write_keyed<W: ByteWriter>(
+        &mut self,
+        line: &[u8],
+        writer: &mut W,
+    ) -> Result<(), DeviceFailed>
+        requires { W.failed writer.old ≡ false }
+        ensures written { OnOk result (Appends (W.held writer.old) (W.held writer.new)
+            ((key_of_line (going_of self.old) line.now ++ tab ∷ line.now) ++ line_feed ∷ [])) }
+        ensures next { OnOk result (going_of self.new ≡ record (going_of self.old) {
+          key = key_below (going_of self.old).mode (going_of self.old).key
+              (key_of_line (going_of self.old) line.now);
+        }) }
+        ensures ok { OnOk result (W.failed writer.new ≡ W.failed writer.old) }
+        ensures front { OnErr result (AppendsFront (W.held writer.old) (W.held writer.new)
+            ((key_of_line (going_of self.old) line.now ++ tab ∷ line.now) ++ line_feed ∷ [])) }
+        ensures err { OnErr result (W.failed writer.new ≡ true) }
+    {
+        let key = self.key_of(line);
+        self.keep(key);
+        write_parts(writer, key.as_bytes(), b"\t", line)
+    }
+
+    // Writes a line with the date-time in place of its date.
+    fn write_replaced<W: ByteWriter>(&self, line: &[u8], writer: &mut W) -> Result<(), DeviceFailed>
+        requires { W.failed writer.old ≡ false }
+        ensures written { OnOk result (Appends (W.held writer.old) (W.held writer.new)
+            (replaced (going_of self.now).setting line.now ++ line_feed ∷ [])) }
+        ensures ok { OnOk result (W.failed writer.new ≡ W.failed writer.old) }
+        ensures front { OnErr result (AppendsFront (W.held writer.old) (W.held writer.new)
+            (replaced (going_of self.now).setting line.now ++ line_feed ∷ [])) }
+        ensures err { OnErr result (W.failed writer.new ≡ true) }
+    {
+        let Some((start, end, text)) = date_time(self.timeline, line) else {
+            return write_parts(writer, b"", b"", line);
+        };
+        write_parts(writer, &line[..start], text.as_bytes(), &line[end..])
+    }
+}
+
+// The first date of a line.
+#[inline(always)]
+fn date_in(timeline: &Timeline, line: &[u8]) -> Option<Found>
+    ensures found { result ≡ date_in (setting_of timeline.now) line.now }
+    ensures ordered { IfSome result (λ date. date.start ≤ date.end) }
+    ensures within { IfSome result (λ date. date.end ≤ length line.now) }
+{
+    find(timeline.sources(), timeline.assumed(), line)
+}
+
+// The places where the date of a line begins and ends, and the date-time in place of it, where that is written.
+#[tactic(auto, using(crate::proofs::Outside::written, crate::proofs::Outside::unwritten, crate::proofs::Outside::undated), unfolding(crate::specs::Dates::place_of_date))]
+fn date_time(timeline: &Timeline, line: &[u8]) -> Option<(usize, usize, Answer)>
+    ensures some { IfSome result (λ x. replaced (setting_of timeline.now) line.now
+        ≡ take x.0 line.now ++ (x.2 ++ drop x.1 line.now)) }
+    ensures none { IfNone result (replaced (setting_of timeline.now) line.now ≡ line.now) }
+    ensures ordered { IfSome result (λ x. x.0 ≤ x.1) }
+    ensures within { IfSome result (λ x. x.1 ≤ length line.now) }
+{
+    let Some(date) = date_in(timeline, line) else {
+        return None;
+    };
+    let Some(moment) = timeline.at_target(date.moment) else {
+        return None;
+    };
+    Some((date.start, date.end, rfc3339_line(moment)))
+}
+
+// Writes that a line is too long, and a line feed.
+#[cold]
+#[inline(never)]
+fn write_long<W: ByteWriter>(writer: &mut W) -> Result<(), DeviceFailed>
+    requires { W.failed writer.old ≡ false }
+    ensures written { OnOk result (Appends (W.held writer.old) (W.held writer.new)
+        (codes "! long" ++ line_feed ∷ [])) }
+    ensures ok { OnOk result (W.failed writer.new ≡ W.failed writer.old) }
+    ensures front { OnErr result (AppendsFront (W.held writer.old) (W.held writer.new)
+        (codes "! long" ++ line_feed ∷ [])) }
+    ensures err { OnErr result (W.failed writer.new ≡ true) }
+{
+    writer.write_all(b"! long\n")
+}
+
+impl WritesLines for LineWriter<'_, '_> {
+    ghost use Rattle.instants_lines.specs.Going.{Going, lines_steps};
+    ghost use Rattle.instants_lines.specs.Writing.{going_of};
+
+    ghost State = { Going };
+
+    ghost state = { λ w. going_of w };
+
+    ghost steps = { lines_steps };
+
+    #[inline(always)]
+    fn write_line<W: ByteWriter>(
+        &mut self,
+        line: &[u8],
+        is_long: bool,
+        writer: &mut W,
+    ) -> Result<(), DeviceFailed> {
+        if is_long {
+            return write_long(writer);
+        }
+        match self.mode {
+            Mode::Key | Mode::Carry => self.write_keyed(line, writer),
+            Mode::Replace => self.write_replaced(line, writer),
+            Mode::Explain => write_explained(self.timeline, line, writer),
+        }
+    }
+
+    #[cold]
+    #[inline(never)]
+    fn write_last_line<W: ByteWriter>(
+        &mut self,
+        line: &[u8],
+        is_long: bool,
+        writer: &mut W,
+    ) -> Result<(), DeviceFailed> {
+        self.write_line(line, is_long, writer)
+    }
+}

@@ -1,0 +1,34 @@
+//! What is written for a line.
+ghost use Rattle.std.specs.Prelude.{◌≡◌};
+ghost use Rattle.instants_lines.specs.Modes.{mode_said};
+
+/// What is written for a line.
+#[derive(Clone, Copy, Debug, PartialEq, Eq)]
+pub enum Mode {
+    /// The line behind the key of its first date: the date-time at the target, and a tab.
+    Key,
+    /// The same, but a line without a date takes the key of the last line above that has one.
+    Carry,
+    /// The line with the date-time in place of its first date.
+    Replace,
+    /// What the sources say of the line, each of which reads it as a whole: the number of the first that names a moment and
+    /// its answer, and where none does each number with its fault.
+    Explain,
+}
+
+/// The mode of this name.
+pub(crate) fn mode_named(word: &str) -> Option<Mode>
+    ensures { result ≡ mode_said word.now }
+{
+    if word == "key" {
+        Some(Mode::Key)
+    } else if word == "carry" {
+        Some(Mode::Carry)
+    } else if word == "replace" {
+        Some(Mode::Replace)
+    } else if word == "explain" {
+        Some(Mode::Explain)
+    } else {
+        None
+    }
+}

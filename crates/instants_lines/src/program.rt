@@ -1,0 +1,170 @@
+//! The program between its words and its end.
+ghost use Rattle.std.specs.Prelude.{◌≡◌, ◌≢◌, ◌<◌, ◌↔◌, ℕ, false, true, List, [], length, map, Some, Ok, Err, IsOk, IsTrue, IfSome, IfErr, OnOk};
+ghost use Rattle.std.specs.Io.KnownBytes.{Consumes, Appends};
+ghost use Rattle.instants_devices.specs.Told.{ConsumesOrUntold, AppendsFront};
+ghost use Rattle.instants_stream.specs.Steps.{output, owed, due};
+ghost use Rattle.instants_words.specs.declared.words.Words.{Words};
+ghost use Rattle.instants.specs.Program.{WritesWhileItWorks};
+ghost use Rattle.instants.specs.Settings.{setting_of};
+ghost use Rattle.instants.specs.Sources.{IsRefusal};
+ghost use Rattle.instants.specs.declared.new_fault.NewFault.{NewFault};
+ghost use Rattle.instants_lines.specs.Going.{Going, beginning, lines_steps};
+ghost use Rattle.instants_lines.specs.Program.{AsksFor, IsBeforeRun, IsMemory, IsOfWords};
+ghost use Rattle.instants_lines.specs.Words.{mode_words_said};
+ghost use Rattle.instants_lines.specs.declared.lines_fault.LinesFault.{LinesFault};
+ghost use Rattle.instants_lines.specs.declared.mode.Mode.{Mode};
+
+use crate::line_writer::LineWriter;
+use crate::lines_fault::LinesFault;
+use crate::mode::Mode;
+use crate::words::read_mode_words;
+use instants::{ByteReader, ByteWriter, RunFault, Timeline};
+use instants_stream::write_lines;
+use std::alloc::Global;
+
+// Bytes that are read at once where they are there, beside those of a line.
+const BLOCK: usize = 65_536;
+
+/// Writes for each line that the reader gives what the words say, hands it on before each read, and flushes the writer at
+/// the end.
+///
+/// The words are `MODE TARGET ASSUMED LIMIT SOURCE...`, where `MODE` is `key`, `carry`, `replace` or `explain`, and the others are
+/// those of `instants`. They are all looked at, and all memory is taken, before anything is read. The first device that
+/// fails ends the run; after a failed read what was written is flushed.
+pub fn run_words<'a, R: ByteReader, W: ByteWriter>(
+    alloc: Global,
+    words: &[&'a str],
+    reader: &mut R,
+    writer: &mut W,
+) -> Result<(), LinesFault<'a>>
+    requires reader { R.failed reader.old ≡ false }
+    requires writer { W.failed writer.old ≡ false }
+    // All that the reader had was read, and exactly the output that the words ask for was written.
+    ensures ok { OnOk result ((going : Going) × (limit : ℕ)
+        × AsksFor (map (λ word. word.now) words.now) going limit
+        × IfSome (R.left reader.old) (λ stream. (R.left reader.new ≡ Some [])
+        × Appends (W.held writer.old) (W.held writer.new)
+        (output lines_steps going limit stream))) }
+    ensures flushed { OnOk result (W.flushed writer.new ≡ true) }
+    // Words that are wrong are refused, whatever the devices have.
+    ensures refused { (fault : LinesFault)
+        → mode_words_said (map (λ word. word.now) words.now) ≡ Err fault
+        → result ≡ Err fault }
+    // No others are refused as wrong.
+    ensures only_wrong { IfErr result (λ fault. IsOfWords fault
+        → mode_words_said (map (λ word. word.now) words.now) ≡ Err fault) }
+    // A source that is no description is refused by its place and its fault; it is the first such one.
+    ensures new { (fault : NewFault) → result ≡ Err (LinesFault.New fault)
+        → (mode : Mode) × (said : Words)
+        × (mode_words_said (map (λ word. word.now) words.now) ≡ Ok (mode, said))
+        × IsRefusal said.sources fault }
+    ensures memory { IfErr result (λ fault.
+        IsMemory fault → IsOk (mode_words_said (map (λ word. word.now) words.now))) }
+    ensures before { IfErr result (λ fault.
+        IsBeforeRun fault → (reader.new ≡ reader.old) × (writer.new ≡ writer.old)) }
+    // What is written is exactly that for the lines whose line feed was read, as far as the writer works.
+    ensures read { result ≡ Err (LinesFault.Run RunFault.Read) → (going : Going) × (limit : ℕ)
+        × AsksFor (map (λ word. word.now) words.now) going limit
+        × (read : List ℕ) × ConsumesOrUntold (R.left reader.old) (R.left reader.new) read
+        × WritesWhileItWorks (W.held writer.old) (W.held writer.new) (W.failed writer.new)
+        (owed lines_steps going limit read) }
+    ensures read_flushed { result ≡ Err (LinesFault.Run RunFault.Read)
+        → W.failed writer.new ≡ false → W.flushed writer.new ≡ true }
+    // A beginning of what there is to write for the lines whose line feed or end was read is written.
+    ensures write { result ≡ Err (LinesFault.Run RunFault.Write) → (going : Going) × (limit : ℕ)
+        × AsksFor (map (λ word. word.now) words.now) going limit
+        × (read : List ℕ) × Consumes (R.left reader.old) (R.left reader.new) read
+        × AppendsFront (W.held writer.old) (W.held writer.new)
+        (due lines_steps going limit read (R.left reader.new)) }
+    // A fault is one of the device that it names.
+    ensures read_failed { IsTrue (R.failed reader.new)
+        ↔ (result ≡ Err (LinesFault.Run RunFault.Read)) }
+    ensures write_failed { result ≡ Err (LinesFault.Run RunFault.Write)
+        → W.failed writer.new ≡ true }
+    ensures works { OnOk result (W.failed writer.new ≡ false) }
+{
+    let (mode, said) = read_mode_words(alloc, words)?;
+    let timeline = Timeline::new(alloc, said.sources.as_slice(), said.target, said.assumed)?;
+    let mut buffer = vec![in alloc; 0; said.limit + BLOCK]?;
+    run_and_flush(
+        mode,
+        &timeline,
+        said.limit,
+        buffer.as_mut_slice(),
+        reader,
+        writer,
+    )?;
+    Ok(())
+}
+
+// Writes for each line, and flushes what was written also where a read failed.
+fn run_and_flush<R: ByteReader, W: ByteWriter>(
+    mode: Mode,
+    timeline: &Timeline,
+    limit: usize,
+    buffer: &mut [u8],
+    reader: &mut R,
+    writer: &mut W,
+) -> Result<(), RunFault>
+    requires room { limit < length buffer.old }
+    requires reader { R.failed reader.old ≡ false }
+    requires writer { W.failed writer.old ≡ false }
+    ensures ok { OnOk result (IfSome (R.left reader.old) (λ stream. (R.left reader.new ≡ Some [])
+        × Appends (W.held writer.old) (W.held writer.new)
+        (output lines_steps (beginning mode (setting_of timeline.now)) limit stream))) }
+    ensures flushed { OnOk result (W.flushed writer.new ≡ true) }
+    ensures read { result ≡ Err RunFault.Read → (read : List ℕ)
+        × ConsumesOrUntold (R.left reader.old) (R.left reader.new) read
+        × WritesWhileItWorks (W.held writer.old) (W.held writer.new) (W.failed writer.new)
+        (owed lines_steps (beginning mode (setting_of timeline.now)) limit read) }
+    ensures read_flushed { result ≡ Err RunFault.Read
+        → W.failed writer.new ≡ false → W.flushed writer.new ≡ true }
+    ensures write { result ≡ Err RunFault.Write → (read : List ℕ)
+        × Consumes (R.left reader.old) (R.left reader.new) read
+        × AppendsFront (W.held writer.old) (W.held writer.new)
+        (due lines_steps (beginning mode (setting_of timeline.now)) limit read
+        (R.left reader.new)) }
+    ensures read_failed { IsTrue (R.failed reader.new) ↔ (result ≡ Err RunFault.Read) }
+    ensures write_failed { result ≡ Err RunFault.Write → W.failed writer.new ≡ true }
+    ensures works { OnOk result (W.failed writer.new ≡ false) }
+{
+    let answered = run_in_mode(mode, timeline, limit, buffer, reader, writer);
+    if answered == Err(RunFault::Read) && !writer.has_failed() {
+        // The read stays the fault.
+        let _ = writer.flush();
+    }
+    answered
+}
+
+// Writes for each line. A function of its own, in which the reader, the writer and the buffer are known to lie apart.
+#[inline(never)]
+fn run_in_mode<R: ByteReader, W: ByteWriter>(
+    mode: Mode,
+    timeline: &Timeline,
+    limit: usize,
+    buffer: &mut [u8],
+    reader: &mut R,
+    writer: &mut W,
+) -> Result<(), RunFault>
+    requires room { limit < length buffer.old }
+    requires reader { R.failed reader.old ≡ false }
+    requires writer { W.failed writer.old ≡ false }
+    ensures ok { OnOk result (IfSome (R.left reader.old) (λ stream. (R.left reader.new ≡ Some [])
+        × Appends (W.held writer.old) (W.held writer.new)
+        (output lines_steps (beginning mode (setting_of timeline.now)) limit stream))) }
+    ensures flushed { OnOk result (W.flushed writer.new ≡ true) }
+    ensures read { result ≡ Err RunFault.Read → (read : List ℕ)
+        × ConsumesOrUntold (R.left reader.old) (R.left reader.new) read
+        × Appends (W.held writer.old) (W.held writer.new)
+        (owed lines_steps (beginning mode (setting_of timeline.now)) limit read) }
+    ensures write { result ≡ Err RunFault.Write → (read : List ℕ)
+        × Consumes (R.left reader.old) (R.left reader.new) read
+        × AppendsFront (W.held writer.old) (W.held writer.new)
+        (due lines_steps (beginning mode (setting_of timeline.now)) limit read
+        (R.left reader.new)) }
+    ensures read_failed { IsTrue (R.failed reader.new) ↔ (result ≡ Err RunFault.Read) }
+    ensures write_failed { IsTrue (W.failed writer.new) ↔ (result ≡ Err RunFault.Write) }
+{
+    let mut lines = LineWriter::new(mode, timeline);
+    write_lines(&mut lines, limit, buffer, reader, writer)
+}

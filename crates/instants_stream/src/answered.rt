@@ -1,0 +1,172 @@
+//! The run where each line is answered by itself.
+ghost use Rattle.std.specs.Prelude.{◌≡◌, ◌<◌, ◌≤◌, ◌↔◌, ℕ, true, false, List, [], ◌∷◌, ◌++◌, codes, length, Some, Err, IsTrue, IfSome, OnOk, OnErr};
+ghost use Rattle.std.specs.Io.KnownBytes.{Consumes, Appends};
+ghost use Rattle.byte_names.specs.Bytes.{line_feed};
+ghost use Rattle.instants_devices.specs.Told.{ConsumesOrUntold, AppendsFront};
+ghost use Rattle.instants_stream.specs.Answers.{output, owed, due, answer_or_long};
+
+use crate::answers_lines::AnswersLines;
+use crate::run::{RunFault, write_lines};
+use crate::search::LINE_FEED;
+use crate::writes_lines::WritesLines;
+use instants_answers::Answer;
+use instants_devices::{ByteReader, ByteWriter, DeviceFailed};
+
+// Writes that a line is too long, and a line feed.
+#[cold]
+#[inline(never)]
+fn write_long<W: ByteWriter>(writer: &mut W) -> Result<(), DeviceFailed>
+    requires { W.failed writer.old ≡ false }
+    ensures written { OnOk result (Appends (W.held writer.old) (W.held writer.new)
+        (codes "! long" ++ line_feed ∷ [])) }
+    ensures ok { OnOk result (W.failed writer.new ≡ W.failed writer.old) }
+    ensures front { OnErr result (AppendsFront (W.held writer.old) (W.held writer.new)
+        (codes "! long" ++ line_feed ∷ [])) }
+    ensures err { OnErr result (W.failed writer.new ≡ true) }
+{
+    writer.write_all(b"! long\n")
+}
+
+// Writes the answer to a line, or that it is too long, and a line feed.
+#[inline(always)]
+#[tactic(auto, unfolding(crate::specs::Answers::answer_or_long))]
+fn write_answer_or_long<A: AnswersLines, W: ByteWriter>(
+    answers: &A,
+    line: &[u8],
+    is_long: bool,
+    storage: &mut Answer,
+    writer: &mut W,
+) -> Result<(), DeviceFailed>
+    requires { W.failed writer.old ≡ false }
+    ensures written { OnOk result (Appends (W.held writer.old) (W.held writer.new)
+        (answer_or_long (A.answer answers.now) is_long line.now)) }
+    ensures ok { OnOk result (W.failed writer.new ≡ W.failed writer.old) }
+    ensures front { OnErr result (AppendsFront (W.held writer.old) (W.held writer.new)
+        (answer_or_long (A.answer answers.now) is_long line.now)) }
+    ensures err { OnErr result (W.failed writer.new ≡ true) }
+{
+    if is_long {
+        return write_long(writer);
+    }
+    answers.write_answer(line, storage);
+    storage.push(LINE_FEED);
+    let (bytes, len) = storage.padded();
+    writer.write_front(bytes, len)
+}
+
+// The same for a last line, which no line feed ends.
+#[cold]
+#[inline(never)]
+#[tactic(auto, unfolding(crate::specs::Answers::answer_or_long))]
+fn write_last_answer_or_long<A: AnswersLines, W: ByteWriter>(
+    answers: &A,
+    line: &[u8],
+    is_long: bool,
+    writer: &mut W,
+) -> Result<(), DeviceFailed>
+    requires { W.failed writer.old ≡ false }
+    ensures written { OnOk result (Appends (W.held writer.old) (W.held writer.new)
+        (answer_or_long (A.answer answers.now) is_long line.now)) }
+    ensures ok { OnOk result (W.failed writer.new ≡ W.failed writer.old) }
+    ensures front { OnErr result (AppendsFront (W.held writer.old) (W.held writer.new)
+        (answer_or_long (A.answer answers.now) is_long line.now)) }
+    ensures err { OnErr result (W.failed writer.new ≡ true) }
+{
+    if is_long {
+        return write_long(writer);
+    }
+    let mut answer = answers.answer_line(line);
+    answer.push(LINE_FEED);
+    writer.write_all(answer.as_bytes())
+}
+
+// What answers lines, and the storage of an answer.
+#[derive(Drop)]
+struct Answering<'a, A> {
+    answers: &'a A,
+    storage: Answer,
+}
+
+impl<'a, A: AnswersLines> Answering<'a, A> {
+    #[inline(always)]
+    fn new(answers: &'a A) -> Answering<'a, A>
+        ensures { result.answers.now ≡ answers.now }
+    {
+        Answering {
+            answers,
+            storage: Answer::new(),
+        }
+    }
+}
+
+impl<A: AnswersLines> WritesLines for Answering<'_, A> {
+    ghost use Rattle.std.specs.Prelude.{ℕ, List};
+    ghost use Rattle.instants_stream.specs.Answering.{answering};
+
+    ghost State = { List ℕ → List ℕ };
+
+    ghost state = { λ s. A.answer s.answers.now };
+
+    ghost steps = { answering };
+
+    #[inline(always)]
+    #[tactic(auto, unfolding(crate::specs::Answers::answer_or_long))]
+    fn write_line<W: ByteWriter>(
+        &mut self,
+        line: &[u8],
+        is_long: bool,
+        writer: &mut W,
+    ) -> Result<(), DeviceFailed> {
+        write_answer_or_long(self.answers, line, is_long, &mut self.storage, writer)
+    }
+
+    #[inline(always)]
+    #[tactic(auto, unfolding(crate::specs::Answers::answer_or_long))]
+    fn write_last_line<W: ByteWriter>(
+        &mut self,
+        line: &[u8],
+        is_long: bool,
+        writer: &mut W,
+    ) -> Result<(), DeviceFailed> {
+        write_last_answer_or_long(self.answers, line, is_long, writer)
+    }
+}
+
+/// Writes the answer to each line that the reader gives, and a line feed behind each answer.
+///
+/// A line with more bytes than the limit is answered `! long`. The buffer is longer than the limit.
+/// What is answered is handed on before each read, and the writer is flushed once, before `Ok`. A reader or a writer
+/// that failed isn't tried again.
+// A function of its own, in which the reader, the writer and the buffer are known to lie apart.
+#[inline(never)]
+pub fn run_lines<A: AnswersLines, R: ByteReader, W: ByteWriter>(
+    answers: &A,
+    limit: usize,
+    buffer: &mut [u8],
+    reader: &mut R,
+    writer: &mut W,
+) -> Result<(), RunFault>
+    requires room { limit < length buffer.old }
+    requires reader { R.failed reader.old ≡ false }
+    requires writer { W.failed writer.old ≡ false }
+    // All that the reader had was read, and exactly its output was written.
+    ensures ok { OnOk result (IfSome (R.left reader.old) (λ stream. (R.left reader.new ≡ Some [])
+        × Appends (W.held writer.old) (W.held writer.new)
+        (output (A.answer answers.now) limit stream))) }
+    ensures flushed { OnOk result (W.flushed writer.new ≡ true) }
+    // Exactly the lines whose line feed was read are answered.
+    ensures read { result ≡ Err RunFault.Read → (read : List ℕ)
+        × ConsumesOrUntold (R.left reader.old) (R.left reader.new) read
+        × Appends (W.held writer.old) (W.held writer.new)
+        (owed (A.answer answers.now) limit read) }
+    // A front of what is due is written.
+    ensures write { result ≡ Err RunFault.Write → (read : List ℕ)
+        × Consumes (R.left reader.old) (R.left reader.new) read
+        × AppendsFront (W.held writer.old) (W.held writer.new)
+        (due (A.answer answers.now) limit read (R.left reader.new)) }
+    // A fault is one of the device that it names.
+    ensures read_failed { IsTrue (R.failed reader.new) ↔ (result ≡ Err RunFault.Read) }
+    ensures write_failed { IsTrue (W.failed writer.new) ↔ (result ≡ Err RunFault.Write) }
+{
+    write_lines(&mut Answering::new(answers), limit, buffer, reader, writer)
+}
