@@ -6,7 +6,7 @@
 The packages of Debian: binutils gcc cargo rustc librust-time-dev python3 python3-ciso8601 python3-dateutil libsqlite3-dev sqlite3.
 The library is the one that was built last (`tools/build_library.py` builds it).
 
-Each cell is how many nanoseconds of processor time a line takes, the least of some rounds, in calls of one line, of 100 and of
+Each cell is how many nanoseconds of processor time a line takes, in the quickest of some rounds, in calls of one line, of 100 and of
 all 100,000. The lines are of RFC 3339 (`bench/lines.py`), the target is UTC. A call looks at the words, takes memory and gives
 it back, so a call of one line is mostly that; for the row of three sources a description of strftime is read too, each time.
 The crate `time`, `ciso8601` and `python-dateutil` read line by line, whatever a call has; they are measured once. In SQLite
@@ -63,7 +63,7 @@ def of_sqlite(room, file, count):
         return float(re.search(r"user (\S+)", said)[1]) + float(re.search(r"sys (\S+)", said)[1])
 
     call = "instant('+00:00', 'rfc3339', line)"
-    return min(taken(call) - taken("line") for _ in range(3)) / count * 1e9
+    return (min(taken(call) for _ in range(9)) - min(taken("line") for _ in range(9))) / count * 1e9
 
 
 def rows(room, file, count):

@@ -51,7 +51,7 @@ def join(proved, room):
     """Makes both libraries in the folder room of the archive that was proved."""
     run(["ld", "-r", "-o", "instants.o", "--whole-archive", proved, "--no-whole-archive", library_of_kit()], room)
     run(["objcopy", *(f"--keep-global-symbol={it}" for it in CALLS), "instants.o"], room)
-    run(["objcopy", "--strip-debug", "--strip-unneeded", "instants.o"], room)
+    run(["objcopy", "--strip-unneeded", "--remove-section=.comment", "instants.o"], room)
     run(["ar", "rcsD", ARCHIVE, "instants.o"], room)
     shared = ["-shared", "-Wl,--build-id=none", f"-Wl,-soname,{SHARED}", "-Wl,-z,relro,-z,now"]
     run(["gcc", *shared, "-o", SHARED, "instants.o"], room)

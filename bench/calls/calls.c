@@ -11,7 +11,9 @@
 #include <string.h>
 #include <time.h>
 
-enum { ROUNDS = 7 };
+/* Rounds at least, and nanoseconds in all. */
+enum { ROUNDS = 3 };
+static const double BUDGET = 3e9;
 
 static double now(void)
 {
@@ -84,10 +86,11 @@ int main(int count, char **arguments)
         lines += input[at] == '\n';
     struct run run = {(const uint8_t *)words, strlen(words), input, NULL, 0, malloc(INSTANTS_ROOM(lines_a_call)), INSTANTS_ROOM(lines_a_call)};
     run.places = cuts(input, len, lines_a_call, &run.count);
-    double least = run.output && run.places ? answer_all(&run) : -1;
-    for (int round = 1; least >= 0 && round < ROUNDS; round++) {
+    double least = run.output && run.places ? answer_all(&run) : -1, spent = least;
+    for (int round = 1; least >= 0 && (round < ROUNDS || spent < BUDGET); round++) {
         double taken = answer_all(&run);
         least = taken < least ? taken : least;
+        spent += taken;
     }
     printf("%.1f\n", least / (double)lines);
     return least < 0;
