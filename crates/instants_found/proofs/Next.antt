@@ -8,10 +8,10 @@ use Rattle.std.proofs.lemmas.Nat.{shr-shr}
 use Rattle.std.proofs.lemmas.Nat.Bits.{bit_at-zero, bit_at-trailing_zeros}
 use Rattle.instants_sources.specs.Grammar.{Grammar}
 use Rattle.instants_found.specs.Found.{date_at, by_sources, at_place, found}
-use Rattle.instants_found.specs.Starts.{AreStarts, AreRight, HasNoDate, HasNoFront, IsNext, MarkPlaces, mark}
+use Rattle.instants_found.specs.Starts.{AreStarts, AreRight, HasNoDate, HasNoFront, IsNext, MarkPlaces, common, mark}
 use Rattle.instants_found.specs.declared.found.Found.{Found}
 use Rattle.instants_found.specs.declared.start_lanes.StartLanes.{StartLanes}
-use Rattle.instants_found.proofs.NoDates.{if_edge, none_at_all, none_more, none_here, unmarked_none, none_given_to}
+use Rattle.instants_found.proofs.NoDates.{if_edge, none_at_all, none_more, none_here, none_starts, no_start, unmarked_none, none_given_to}
 use Rattle.instants_found.proofs.Steps.{GiveFromPlace, place_has, places_end}
 
 -- ---- fronts that are ruled out
@@ -82,6 +82,27 @@ module _ (assumed : Option ℤ) (sources : List Grammar) (line : List ℕ) where
       let moved : bit_at (bits / 2 ^ n / 2 ^ 1) k ≡ bit_at bits (n + 1 + k) = ap (λ (m : ℕ). bit_at m k) (shr-shr bits n 1) ∙ ap (λ (m : ℕ). m % 2) (shr-shr bits (n + 1) k) in
       let P : ℕ → Type 0 = λ j. at_place assumed sources line j ≡ None in
       subst P place (marks (n + 1 + k) (omega (arith, lt)) (sym moved ∙ none))
+
+  -- the bits behind so many
+  pub marks_later : (from to bits n : ℕ) → MarkPlaces assumed sources line from to bits → MarkPlaces assumed sources line (from + n) to (bits / 2 ^ n)
+  marks_later from to bits n marks = λ k lt none.
+      let place : from + (n + k) ≡ from + n + k = omega arith in
+      let moved : bit_at (bits / 2 ^ n) k ≡ bit_at bits (n + k) = ap (λ (m : ℕ). m % 2) (shr-shr bits n k) in
+      let P : ℕ → Type 0 = λ j. at_place assumed sources line j ≡ None in
+      subst P place (marks (n + k) (omega (arith, lt)) (sym moved ∙ none))
+
+  -- no date begins at bytes of which none is a start
+  pub none_of_starts : (starts : List Bool) (lanes : StartLanes) (at : ℕ) → AreStarts sources starts → AreRight starts lanes → ((k : ℕ) → get_or line k 0 < 256)
+      → ((k : ℕ) → k < 16 → common lanes.any (get_or line (at + k) 0) ≡ 0) → HasNoDate assumed sources line at (at + 16)
+  none_of_starts starts lanes at are right few none = λ place low high.
+      let there : at + (place - at) ≡ place = omega (arith, low) in
+      let P : ℕ → Type 0 = λ k. common lanes.any (get_or line k 0) ≡ 0 in
+      let here : common lanes.any (get_or line place 0) ≡ 0 = subst P there (none (place - at) (omega (arith, low, high))) in
+      none_starts assumed sources starts line place are (no_start starts lanes (get_or line place 0) (right (get_or line place 0) (few place)) here)
+
+  -- a part of places without a date
+  pub none_later : (from mid to : ℕ) → from ≤ mid → HasNoDate assumed sources line from to → HasNoDate assumed sources line mid to
+  none_later from mid to le none = λ place low high. none place (omega (arith, le, low)) high
 
   -- the bits of the marks of so many bytes
   pub marks_of : (starts : List Bool) (lanes : StartLanes) (at bits : ℕ) → AreStarts sources starts → AreRight starts lanes → 0 < at → ((k : ℕ) → get_or line k 0 < 256)

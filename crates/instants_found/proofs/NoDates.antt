@@ -53,11 +53,11 @@ absent starts set_has byte covers none =
       | false ↦ λ e. e
     ] refl
 
+pub no_start : (starts : List Bool) (lanes : StartLanes) (byte : ℕ) → AreRightAt starts lanes byte → common lanes.any byte ≡ 0 → get_or starts byte true ≡ false
+no_start starts lanes byte right none = absent starts (has lanes.any byte) byte right.any (rw none refl)
+
 -- a byte that isn't marked is no start, or stands inside a word
 module _ (starts : List Bool) (lanes : StartLanes) (before here : ℕ) (right_before : AreRightAt starts lanes before) (right : AreRightAt starts lanes here) where
-  behind_none : common lanes.any here ≡ 0 → get_or starts here true ≡ false
-  behind_none none = absent starts (has lanes.any here) here right.any (rw none refl)
-
   is_word : (common lanes.word before == 0) ≡ false → is_ascii_alphanumeric before ≡ true
   is_word some =
       elim (is_ascii_alphanumeric before) as (λ b. is_ascii_alphanumeric before ≡ b → is_ascii_alphanumeric before ≡ true) [
@@ -84,7 +84,7 @@ unmarked_none assumed sources starts lanes line start are right some few_before 
     let at_before : AreRightAt starts lanes before = right before few_before in
     let at_here : AreRightAt starts lanes here = right here few in
     elim (common lanes.word before == 0) as (λ b. (common lanes.word before == 0) ≡ b → at_place assumed sources line start ≡ None) [
-      | true ↦ λ e. none_starts assumed sources starts line start are (behind_none starts lanes before here at_before at_here (if_zero (common lanes.word before == 0) (common lanes.any here) (common lanes.apart here) e none))
+      | true ↦ λ e. none_starts assumed sources starts line start are (no_start starts lanes here at_here (if_zero (common lanes.word before == 0) (common lanes.any here) (common lanes.apart here) e none))
       | false ↦ λ e.
           elim (is_ascii_alphanumeric here) as (λ b. is_ascii_alphanumeric here ≡ b → at_place assumed sources line start ≡ None) [
             | true ↦ λ word. none_inside assumed sources line start (no_edge line start some (is_word starts lanes before here at_before at_here e) word)

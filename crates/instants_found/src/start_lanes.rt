@@ -16,7 +16,7 @@ pub(crate) struct StartLanes {
 }
 
 impl StartLanes {
-    ghost use Rattle.instants_found.specs.Starts.{AreRight, AreRightAt, mark};
+    ghost use Rattle.instants_found.specs.Starts.{AreRight, AreRightAt, common, mark};
 
     /// The sets for these bytes, if they are right.
     pub(crate) fn of(starts: &[bool; 256]) -> Option<StartLanes>
@@ -66,6 +66,16 @@ impl StartLanes {
             return false;
         }
         !is_start || (self.any.has(byte) && self.apart.has(byte))
+    }
+
+    /// Whether none of the 16 bytes from a place on is one at which a date can begin.
+    #[inline(always)]
+    pub(crate) fn has_none(&self, line: &[u8], at: usize) -> bool
+        requires { at + LANES ≤ length line.now }
+        ensures { result ≡ true → (k : ℕ) → k < LANES →
+            common self.now.any (get_or line.now (at + k) 0) ≡ 0 }
+    {
+        bits_of(self.any.marks(load(line, at))) == 0
     }
 
     /// A bit for each of the 16 bytes from a place on, which is 0 only where no date begins at the byte.

@@ -158,10 +158,10 @@ impl<'a> DescribedTree<'a> {
             (beginning assumed) line.now x.1.now (moment_of x.0)) }
         ensures end { IfSome result (λ x. EndsWith line.now x.1.now) }
     {
-        match self.plan() {
-            Some(plan) => plan.read_front(line, assumed),
-            None => None,
-        }
+        let Some(plan) = self.plan() else {
+            return None;
+        };
+        plan.read_front(line, assumed)
     }
 
     /// Whether the first bytes of a line show that the tree doesn't read it.

@@ -131,10 +131,27 @@ impl<'a> Finder<'a> {
         None
     }
 
-    // The first date behind the first byte of a line, looked for sixteen bytes at a time.
+    // The same of sixteen bytes from a place on, of which the first ones do not count.
+    #[inline(always)]
+    fn by_block(&self, lanes: &StartLanes, line: &[u8], start: usize, from: usize) -> Option<Found>
+        requires some { 0 < start }
+        requires ordered { (start ≤ from) × (from ≤ start + LANES) }
+        requires within { start + LANES ≤ length line.now }
+        requires lanes { AreRight self.now.starts lanes.now }
+        ensures none { IfNone result (HasNoDate (assumed_of self.now) (sources_of self.now)
+            line.now from (start + LANES)) }
+        ensures next { IfSome result
+            (IsNext (assumed_of self.now) (sources_of self.now) line.now from) }
+    {
+        let marks = lanes.marks(line, start) >> (from - start) as u32;
+        self.by_marks(line, from, start + LANES, marks)
+    }
+
+    // The first date behind the first byte of a line, looked for sixteen bytes at a time: the last sixteen may begin before
+    // the end of those before them.
     #[inline(always)]
     fn by_lanes(&self, lanes: &StartLanes, line: &[u8]) -> Option<Found>
-        requires some { 0 < length line.now }
+        requires some { LANES < length line.now }
         requires lanes { AreRight self.now.starts lanes.now }
         ensures none { IfNone result
             (HasNoDate (assumed_of self.now) (sources_of self.now) line.now 1 (length line.now)) }
@@ -142,17 +159,21 @@ impl<'a> Finder<'a> {
             (IsNext (assumed_of self.now) (sources_of self.now) line.now 1) }
     {
         let mut at = 1;
-        while line.len() - at >= LANES {
-            let marks = lanes.marks(line, at);
-            if let Some(date) = self.by_marks(line, at, at + LANES, marks) {
+        while at < line.len() {
+            let from = at;
+            let start = from.min(line.len() - LANES);
+            at = start + LANES;
+            if lanes.has_none(line, start) {
+                continue;
+            }
+            if let Some(date) = self.by_block(lanes, line, start, from) {
                 return Some(date);
             }
-            at += LANES;
         }
-        self.by_bytes(line, at, line.len())
+        None
     }
 
-    // The first date from a place of a line on.
+    // The first date of a line.
     #[inline(always)]
     fn next(&self, line: &[u8]) -> Option<Found>
         ensures none { IfNone result
@@ -163,10 +184,10 @@ impl<'a> Finder<'a> {
         let Some(lanes) = &self.lanes else {
             return self.by_bytes(line, 0, line.len());
         };
-        if line.is_empty() {
-            return None;
+        if line.len() <= LANES {
+            return self.by_bytes(line, 0, line.len());
         }
-        if let Some(date) = self.by_bytes(line, 0, 1) {
+        if let Some(date) = self.date_at(line, 0) {
             return Some(date);
         }
         self.by_lanes(lanes, line)
