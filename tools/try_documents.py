@@ -10,7 +10,7 @@ command with nothing behind it prints nothing. Standard output and standard erro
 
 Each section, from a heading to the next one of whatever level, has a folder of its own, in which its examples run in
 order, each in a shell `sh` of its own: files pass from one example to the next, and nothing else. At first the folder
-has two links and no more: `instants`, to the built program, and `crates`, to those of the repository. Commands are looked
+has three links and no more: `instants` and `instants-lines`, to the built programs, and `crates`, to those of the repository. Commands are looked
 for in it before all others.
 
 A table of Markdown whose head has the columns `line` and `answer` is of examples too: a row's line is piped into the program
@@ -40,9 +40,10 @@ import sys
 import tempfile
 
 ROOT = pathlib.Path(__file__).resolve().parent.parent
-DOCUMENTS = ("README.md", "docs/GUIDE.md", "docs/DESCRIPTIONS.md", "docs/FORMATS.md", "docs/instants.1")
+DOCUMENTS = ("README.md", "docs/GUIDE.md", "docs/DESCRIPTIONS.md", "docs/FORMATS.md", "docs/instants.1", "docs/instants-lines.1")
 PAGES = ("calendar", "datetime", "description", "parsing", "instants")
 PROGRAM = ROOT / "crates" / "instants_program" / "out" / "instants_program"
+LINES_PROGRAM = ROOT / "crates" / "instants_lines_program" / "out" / "instants_lines_program"
 CHECK = ROOT / "crates" / "description_check" / "out" / "description_check"
 # The tools that say whether a page is as the sources have it.
 CHECKS = (("description_page.py", "--check"), ("described_words.py",), ("calls_page.py", "--check"), ("believed_files.py", "--check"))
@@ -139,6 +140,7 @@ def try_section(name, examples):
     differ = []
     with tempfile.TemporaryDirectory(prefix="documents-") as folder:
         os.symlink(PROGRAM, pathlib.Path(folder, "instants"))
+        os.symlink(LINES_PROGRAM, pathlib.Path(folder, "instants-lines"))
         os.symlink(ROOT / "crates", pathlib.Path(folder, "crates"))
         for it in examples:
             printed = printed_by("\n".join(it.command), folder)
