@@ -10,8 +10,8 @@ command with nothing behind it prints nothing. Standard output and standard erro
 
 Each section, from a heading to the next one of whatever level, has a folder of its own, in which its examples run in
 order, each in a shell `sh` of its own: files pass from one example to the next, and nothing else. At first the folder
-has links and no more: `instants`, to the built program, and `crates`, `bindings` and `include`, to those of the repository.
-Commands are looked for in it before all others.
+has links and no more: `instants` and `instants-lines`, to the built programs, and `crates`, `bindings` and `include`, to those
+of the repository. Commands are looked for in it before all others.
 
 A table of Markdown whose head has the columns `line` and `answer` is of examples too: a row's line is piped into the program
 with the row's `words`, or with `+00:00 +00:00 100` and the row's `example`, and what it prints is the row's answer. Rows
@@ -41,9 +41,18 @@ import sys
 import tempfile
 
 ROOT = pathlib.Path(__file__).resolve().parent.parent
-DOCUMENTS = ("README.md", "docs/GUIDE.md", "docs/LIBRARIES.md", "docs/DESCRIPTIONS.md", "docs/FORMATS.md", "docs/instants.1")
+DOCUMENTS = (
+    "README.md",
+    "docs/GUIDE.md",
+    "docs/LIBRARIES.md",
+    "docs/DESCRIPTIONS.md",
+    "docs/FORMATS.md",
+    "docs/instants.1",
+    "docs/instants-lines.1",
+)
 PAGES = ("calendar", "datetime", "description", "parsing", "instants")
 PROGRAM = ROOT / "crates" / "instants_program" / "out" / "instants_program"
+LINES_PROGRAM = ROOT / "crates" / "instants_lines_program" / "out" / "instants_lines_program"
 CHECK = ROOT / "crates" / "description_check" / "out" / "description_check"
 LIBRARY = ROOT / "crates" / "instants_c" / "out" / "libinstants.a"
 # The tools that say whether a page is as the sources have it.
@@ -141,6 +150,7 @@ def try_section(name, examples):
     differ = []
     with tempfile.TemporaryDirectory(prefix="documents-") as folder:
         os.symlink(PROGRAM, pathlib.Path(folder, "instants"))
+        os.symlink(LINES_PROGRAM, pathlib.Path(folder, "instants-lines"))
         for it in ("crates", "bindings", "include"):
             os.symlink(ROOT / it, pathlib.Path(folder, it))
         for it in examples:

@@ -1,10 +1,11 @@
 #!/usr/bin/env python3
 """Tries whether the proved program answers each line as soon as its line feed is there, before the next line is written.
 
-    tools/try_live.py [PROGRAM]
+    tools/try_live.py [--lines] [PROGRAM]
 
-PROGRAM is the one that was built last (`./instants --build` builds it), unless another is named. It is started with pipes for
-its input and its output, and asked for one line after the other:
+PROGRAM is the one that was built last (`./instants --build` builds it), unless another is named; with --lines it is that of
+`instants-lines`, in mode `carry`. It is started with pipes for its input and its output, and asked for one line after the
+other:
 
 - a hundred lines, each written when the answer to the last one is there;
 - lines in two pieces: nothing is answered before the second one;
@@ -23,8 +24,9 @@ import sys
 import time
 
 ROOT = pathlib.Path(__file__).resolve().parent.parent
-PROGRAM = ROOT / "crates" / "instants_program" / "out" / "instants_program"
 WORDS = ["+00:00", "-", "100", "rfc3339"]
+# The option's programs: the crate, the words, and what stands behind a date-time in what is written.
+PROGRAMS = {False: ("instants_program", WORDS, lambda line: b""), True: ("instants_lines_program", ["carry", *WORDS], lambda line: b"\t" + line)}
 # How long an answer may take, and how long it is seen that none comes, in seconds.
 PATIENCE, SILENCE = 10, 0.2
 PIECES = 10
@@ -42,8 +44,9 @@ def tell(what, is_well, why=""):
 class Live:
     """The program at work, its standard input and output in our hands."""
 
-    def __init__(self, program):
-        self.program = subprocess.Popen([program, *WORDS], stdin=subprocess.PIPE, stdout=subprocess.PIPE, bufsize=0)
+    def __init__(self, program, words, behind):
+        self.behind = behind
+        self.program = subprocess.Popen([program, *words], stdin=subprocess.PIPE, stdout=subprocess.PIPE, bufsize=0)
 
     def write(self, text):
         self.program.stdin.write(text)
@@ -81,19 +84,20 @@ class Live:
         self.program.wait()
 
 
-def line_and_answer(at):
+def line_and_answer(live, at):
     moment = f"2021-01-02T{at // 60 % 24:02}:{at % 60:02}:05"
-    return f"{moment}Z\n".encode(), f"{moment}.000000000Z\n".encode()
+    line = f"{moment}Z".encode()
+    return line + b"\n", f"{moment}.000000000Z".encode() + live.behind(line) + b"\n"
 
 
 def try_lines(live):
     """Tries one line after the other; after one that is not answered none is tried."""
-    return all(live.answers(f"line {at + 1}", *line_and_answer(at)) for at in range(100))
+    return all(live.answers(f"line {at + 1}", *line_and_answer(live, at)) for at in range(100))
 
 
 def try_pieces(live):
     for at in range(PIECES):
-        line, answer = line_and_answer(at)
+        line, answer = line_and_answer(live, at)
         cut = 1 + at * (len(line) - 2) // (PIECES - 1)
         live.write(line[:cut])
         tell(f"a line cut at {cut}", live.read(1, SILENCE) == b"", "it is answered before its line feed")
@@ -103,7 +107,7 @@ def try_pieces(live):
 
 
 def try_several(live):
-    both = [line_and_answer(at) for at in (7, 8)]
+    both = [line_and_answer(live, at) for at in (7, 8)]
     live.answers("two lines at once", *(b"".join(it) for it in zip(*both)))
     for piece in (b"9" * 60, b"9" * 60):
         live.write(piece)
@@ -112,15 +116,18 @@ def try_several(live):
 
 
 def main(words):
-    program = pathlib.Path(words[0]).resolve() if words else PROGRAM
+    is_lines = words[:1] == ["--lines"]
+    crate, said, behind = PROGRAMS[is_lines]
+    named = words[int(is_lines) :]
+    program = pathlib.Path(named[0]).resolve() if named else ROOT / "crates" / crate / "out" / crate
     if not program.is_file():
         print(f"{program} is not built")
         return 1
-    live = Live(program)
+    live = Live(program, said, behind)
     try:
         if try_lines(live) and try_pieces(live):
             try_several(live)
-            line, answer = line_and_answer(9)
+            line, answer = line_and_answer(live, 9)
             live.end("the last line", line[:-1], answer)
     except BrokenPipeError:
         tell("the program reads on", False)

@@ -7,10 +7,36 @@ use Rattle.instants_stream.proofs.Written.{output-append}
 use Rattle.instants_found.specs.declared.found.Found.{Found}
 use Rattle.instants.specs.Place.{Setting}
 use Rattle.instants_lines.specs.Dates.{date_in, key_or, key_of_date}
-use Rattle.instants_lines.specs.Going.{Going, key_of_line, below, lines_steps, beginning}
-use Rattle.instants_lines.specs.declared.mode.Mode.TheVariants.{Carry}
+use Rattle.instants_lines.specs.Going.{Going, key_of_line, key_below, lines_steps}
+use Rattle.instants_lines.specs.declared.mode.Mode.TheVariants.{Key, Carry, Replace, Explain}
+use Rattle.instants_lines.specs.declared.mode.Mode.{Mode}
 
--- carrying on with a key
+-- ---- modes that keep nothing
+
+abbrev pub going_on : Mode → Setting → List ℕ → Going
+going_on mode setting key = record { mode = mode; setting = setting; key = key }
+
+stays : (mode : Mode) → (mode ≡ Carry → ⊥) → (key above : List ℕ) → key_below mode key above ≡ key
+stays Key other key above = refl
+stays Carry other key above = absurd (other refl)
+stays Replace other key above = refl
+stays Explain other key above = refl
+
+stays_behind : (mode : Mode) → (mode ≡ Carry → ⊥) → (setting : Setting) (key : List ℕ) (some : List (Option (List ℕ))) → behind lines_steps (going_on mode setting key) some ≡ going_on mode setting key
+unfolding behind
+stays_behind mode other setting key [] = refl
+stays_behind mode other setting key (None ∷ others) = stays_behind mode other setting key others
+stays_behind mode other setting key (Some line ∷ others) =
+    ap (λ (k : List ℕ). behind lines_steps (going_on mode setting k) others) (stays mode other key (key_of_line (going_on mode setting key) line)) ∙ stays_behind mode other setting key others
+
+pub joined_others : (mode : Mode) → (mode ≡ Carry → ⊥) → (setting : Setting) (limit : ℕ) (key first second : List ℕ) → last_part first ≡ []
+    → output lines_steps (going_on mode setting key) limit (first ++ second) ≡ output lines_steps (going_on mode setting key) limit first ++ output lines_steps (going_on mode setting key) limit second
+joined_others mode other setting limit key first second ended =
+    output-append Going lines_steps (going_on mode setting key) limit first second ended
+    ∙ ap (λ (going : Going). output lines_steps (going_on mode setting key) limit first ++ output lines_steps going limit second) (stays_behind mode other setting key (map (seen limit) (lines first)))
+
+-- ---- carrying on with a key
+
 abbrev pub carrying : Setting → List ℕ → Going
 carrying setting key = record { mode = Carry; setting = setting; key = key }
 

@@ -1,5 +1,5 @@
 -- Keys are ordered as instants.
-use Rattle.std.proofs.Common.{◌≡◌, ℕ, List, refl, sym, ap, ◌∙◌, ℤ}
+use Rattle.std.proofs.Common.{◌≡◌, refl, sym, ap, ◌∙◌}
 use Rattle.std.specs.Prelude.{◌↔◌, IsOk}
 use Rattle.std.specs.Ordering.{int_cmp}
 use Rattle.datetime_wall.specs.Wall.{Shown, instant, shown_at}

@@ -4,4 +4,4 @@ pub mod Decimals
 pub mod Wholly
 pub mod Keys
 pub mod Joined
-pub mod Fronts
+pub mod Explaining

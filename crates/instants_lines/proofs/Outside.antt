@@ -1,9 +1,8 @@
 -- What stands beside a date that is replaced.
-use Rattle.std.proofs.Common.{◌≡◌, ℕ, ◌+◌, ◌-◌, ◌≤◌, List, ◌++◌, length, take, drop, Option, None, Some, Result, Ok, Err, refl, sym, ap, ◌∙◌, subst, arith, take-append-drop, append_assoc, length-append}
-use Rattle.std.proofs.lemmas.List.{take-append-le, drop-append-le, drop-drop, length-take-le, take_at, drop_at}
+use Rattle.std.proofs.Common.{◌≡◌, ℕ, ◌+◌, ◌-◌, ◌≤◌, List, ◌++◌, length, take, drop, None, Some, Result, Ok, Err, refl, sym, ap, ◌∙◌, subst, arith, take-append-drop, append_assoc, length-append}
+use Rattle.std.proofs.lemmas.List.{drop-drop, length-take-le, take_at, drop_at}
 use Rattle.datetime_wall.specs.Wall.{Shown, instant, shown_at}
 use Rattle.instants_answers.specs.Text.{moment_text}
-use Rattle.instants_found.specs.Found.{found}
 use Rattle.instants_found.specs.IsFound.{IsFound, IsFirst}
 use Rattle.instants_found.specs.declared.found.Found.{Found}
 use Rattle.instants_found.proofs.First.{is_found}

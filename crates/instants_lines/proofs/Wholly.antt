@@ -1,5 +1,5 @@
 -- A line that is a date for its only source.
-use Rattle.std.proofs.Common.{◌≡◌, ℕ, ◌<◌, true, List, [], ◌∷◌, ◌++◌, length, take, drop, Option, Some, Result, Ok, Err, refl, sym, ap, ◌∙◌, ℤ}
+use Rattle.std.proofs.Common.{◌≡◌, ℕ, List, [], ◌∷◌, ◌++◌, drop, Option, Some, Ok, refl, sym, ap, ◌∙◌, ℤ}
 use Rattle.datetime_wall.specs.Wall.{Shown}
 use Rattle.instants_answers.specs.Text.{moment_text}
 use Rattle.instants_found.specs.Front.{trimmed_length}
@@ -8,7 +8,7 @@ use Rattle.instants_sources.specs.Grammar.{Grammar}
 use Rattle.instants_sources.specs.Named.{named}
 use Rattle.instants.specs.Place.{Setting, first_named, shown_or_refused, place_of, place_text, answer_to}
 use Rattle.instants_found.specs.declared.found.Found.{Found}
-use Rattle.instants_lines.specs.Dates.{date_in, place_of_date, key_of_date, key_or, with_date, replaced}
+use Rattle.instants_lines.specs.Dates.{date_in, place_of_date, key_of_date, key_or, replaced}
 use Rattle.instants_lines.proofs.Outside.{written}
 
 -- the whole of a line

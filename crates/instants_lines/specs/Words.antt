@@ -1,5 +1,5 @@
 -- What the words of the program say: a mode, and behind it what the words of `instants` say.
-use Rattle.std.specs.Prelude.{◌≡◌, ℕ, List, [], ◌∷◌, Option, None, Some, Result, Ok, Err}
+use Rattle.std.specs.Prelude.{ℕ, List, [], ◌∷◌, Option, None, Some, Result, Ok, Err}
 use Rattle.instants_words.specs.Words.{words_said}
 use Rattle.instants_words.specs.declared.fault.WordsFault.{WordsFault}
 use Rattle.instants_words.specs.declared.fault.WordsFault.TheVariants.{Usage}

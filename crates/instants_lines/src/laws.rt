@@ -1,8 +1,8 @@
 //! Laws of what is written, each the contract of a function.
-ghost use Rattle.std.specs.Prelude.{◌≡◌, ◌<◌, ◌≤◌, ◌↔◌, ◌⊎◌, ◌+◌, ℕ, true, List, [], ◌∷◌, ◌++◌, Some, None, Ok, Err, length, take, drop, IsOk};
+ghost use Rattle.std.specs.Prelude.{◌≡◌, ◌<◌, ◌≤◌, ◌↔◌, ◌⊎◌, ◌+◌, ℕ, true, List, [], ◌∷◌, ◌++◌, Some, None, Ok, Err, length, take, drop, decimal, IsOk};
 ghost use Rattle.std.specs.Ordering.{nat_cmp, int_cmp};
 ghost use Rattle.std.specs.Cmp.Lexicographic.{slice_cmp};
-ghost use Rattle.byte_names.specs.Bytes.{line_feed};
+ghost use Rattle.byte_names.specs.Bytes.{tab, line_feed};
 ghost use Rattle.datetime_wall.specs.Wall.{Shown, instant};
 ghost use Rattle.instants_answers.specs.Text.{moment_text};
 ghost use Rattle.instants_found.specs.declared.found.Found.{Found};
@@ -11,10 +11,12 @@ ghost use Rattle.instants_sources.specs.Grammar.{Grammar};
 ghost use Rattle.instants_sources.specs.Named.{named};
 ghost use Rattle.instants_stream.specs.Lines.{lines};
 ghost use Rattle.instants_stream.specs.Steps.{output};
-ghost use Rattle.instants.specs.Place.{Setting, place_of, answer_to};
+ghost use Rattle.instants.specs.Place.{Setting, first_named, place_of, answer_to};
 ghost use Rattle.instants.specs.Refusal.{Refusal};
 ghost use Rattle.instants_lines.specs.Dates.{date_in, place_of_date, key_of_date, replaced};
+ghost use Rattle.instants_lines.specs.Explained.{explained};
 ghost use Rattle.instants_lines.specs.Going.{Going, key_of_line, beginning, lines_steps};
+ghost use Rattle.instants_lines.specs.declared.mode.Mode.{Mode};
 ghost use Rattle.instants_lines.specs.declared.mode.Mode.TheVariants.{Carry};
 
 use parsing_laws::two_roads::{two_roads_of_rfc2822, two_roads_of_rfc3339};
@@ -70,15 +72,29 @@ pub fn order_of_keys()
 {}
 
 /// In mode `carry` the output of two streams joined is their outputs joined, where the first is empty or ends in a line
-/// feed and the second begins with a line that has a date.
+/// feed and the second begins with a line that has a date. In the other modes it is so whatever the second begins with.
 pub fn joined_streams()
-    ensures { (setting : Setting) (limit : ℕ) (first second line : List ℕ) (others : List (List ℕ))
+    ensures others { (mode : Mode) (setting : Setting) (limit : ℕ) (first second : List ℕ)
+        → (mode ≡ Carry → ⊥)
+        → ((first ≡ []) ⊎ ((front : List ℕ) × (first ≡ front ++ line_feed ∷ [])))
+        → output lines_steps (beginning mode setting) limit (first ++ second)
+        ≡ output lines_steps (beginning mode setting) limit first
+        ++ output lines_steps (beginning mode setting) limit second }
+    ensures carry { (setting : Setting) (limit : ℕ) (first second line : List ℕ) (others : List (List ℕ))
         (date : Found)
         → ((first ≡ []) ⊎ ((front : List ℕ) × (first ≡ front ++ line_feed ∷ [])))
         → lines second ≡ line ∷ others → length line ≤ limit → date_in setting line ≡ Some date
         → output lines_steps (beginning Carry setting) limit (first ++ second)
         ≡ output lines_steps (beginning Carry setting) limit first
         ++ output lines_steps (beginning Carry setting) limit second }
+{}
+
+/// Where a source names a moment for a line, mode `explain` gives its number and the answer of `instants` to the line.
+pub fn explained_answer()
+    ensures { (setting : Setting) (line : List ℕ) (moment : Shown)
+        → first_named setting.assumed setting.sources line ≡ Ok moment
+        → (number : ℕ)
+        × (explained setting line ≡ (decimal number ++ tab ∷ []) ++ answer_to setting line) }
 {}
 
 /// Replacing twice is replacing once, where the first date of the written line is the date-time that was written, and

@@ -35,7 +35,7 @@ static ROWS: [(&str, &[u8], &[u8]); 5] = [
         "explain|+00:00|-|40|rfc3339|rfc2822|strftime|%s",
         b"1\nx\n2021-01-02T03:04:05Z\n9999-12-31T23:59:59-01:00",
         b"3\t1970-01-01T00:00:01.000000000Z\n\
-          1\t! component year\t2\t! component day\t3\t! component unix timestamp\n\
+          1\t! component year\t2\t! component day\t3\t! component unix_timestamp\n\
           1\t2021-01-02T03:04:05.000000000Z\n1\t! year\n",
     ),
 ];
@@ -158,7 +158,7 @@ static FAULTS: [(&str, u8, &str); 4] = [
     (
         "key|+00:00|-|100|rfc3339|strftime|%!",
         2,
-        "instants-lines: source 2: invalid component at byte index 1",
+        "instants-lines: source 2: invalid component name `!` at byte index 1",
     ),
 ];
 

@@ -1,9 +1,8 @@
-use Rattle.std.proofs.Common.{◌≡◌, ◌+◌, ◌++◌, map, refl, sym, ap, ◌∙◌, subst, arith}
+use Rattle.std.proofs.Common.{◌≡◌, ◌+◌, ◌++◌, refl, sym, ap, ◌∙◌, arith}
 use Rattle.std.proofs.KnownBytes.{Appends-nil, Appends-trans}
 use Rattle.std.proofs.lemmas.Result.{err_from_is_err_and}
 use Rattle.instants_devices.specs.Told.{AppendsFront}
 use Rattle.instants_devices.proofs.Told.{AppendsFront-after, AppendsFront-more}
-use Rattle.instants_sources.specs.Grammar.{grammar_of}
 use Rattle.instants.specs.Settings.{setting_of}
 use Rattle.instants_lines.specs.Explained.{all_said}
 use Rattle.instants_lines.proofs.Sayings.{said_before, says, says_more}

@@ -1,4 +1,3 @@
-use Rattle.std.proofs.Common.{ap, sym, ◌∙◌, ◌++◌, drop}
 use Rattle.instants_found.proofs.Wholly.{found_whole}
 use Rattle.instants_lines.specs.Going.{key_of_line}
 use Rattle.instants_lines.proofs.Wholly.{key_alone, replaced_alone}
