@@ -107,8 +107,7 @@ impl<'a> Finder<'a> {
     fn by_marks(&self, line: &[u8], from: usize, to: usize, marks: u64) -> Option<Found>
         requires ordered { from ≤ to }
         requires within { to ≤ length line.now }
-        requires marks {
-            MarkPlaces (assumed_of self.now) (sources_of self.now) line.now from to marks }
+        requires marks { MarkPlaces (assumed_of self.now) (sources_of self.now) line.now from to marks }
         ensures none { IfNone result
             (HasNoDate (assumed_of self.now) (sources_of self.now) line.now from to) }
         ensures next { IfSome result
