@@ -348,7 +348,11 @@ pub(crate) fn split_fields(
 
 // The fields of a line that has the layout of a plan at its front.
 #[inline(always)]
-pub(crate) fn layout_fields(plan: &Places, line: &[u8], assumed: Option<UtcOffset>) -> Option<Fields>
+pub(crate) fn layout_fields(
+    plan: &Places,
+    line: &[u8],
+    assumed: Option<UtcOffset>,
+) -> Option<Fields>
     requires { Fits plan.now.layout plan.now.bounds line.now }
     ensures { (m : Meaning) → IsLayoutOf m plan.now.layout
         → IfSome result (λ f. NamesFront m (beginning assumed) line.now
