@@ -24,12 +24,12 @@ no_digit r [] e = refl
 no_digit r (c ∷ rest) e = rw e refl
 
 -- .. and has a hyphen behind its year
-no_hyphen : (bytes : List ℕ) (n : ℕ) → eqb (get_or bytes n 0) hyphen ≡ false → byte hyphen (drop n bytes) ≡ None
+pub no_byte : (b : ℕ) (bytes : List ℕ) (n : ℕ) → eqb (get_or bytes n 0) b ≡ false → byte b (drop n bytes) ≡ None
 unfolding skip_of
-no_hyphen [] zero e = refl
-no_hyphen [] (suc n) e = refl
-no_hyphen (c ∷ rest) zero e = rw e refl
-no_hyphen (c ∷ rest) (suc n) e = no_hyphen rest n e
+no_byte b [] zero e = refl
+no_byte b [] (suc n) e = refl
+no_byte b (c ∷ rest) zero e = rw e refl
+no_byte b (c ∷ rest) (suc n) e = no_byte b rest n e
 
 date_refused : (is_strict : Bool) (bytes : List ℕ) → byte hyphen (drop 4 bytes) ≡ None → (fault : Fault) × (rfc3339.date is_strict bytes ≡ Err fault)
 unfolding rfc3339.date digits
@@ -41,4 +41,4 @@ date_refused is_strict bytes e =
 
 pub hyphen_due : (r : Record) (bytes : List ℕ) → eqb (get_or bytes 4 0) hyphen ≡ false → front_of (reads_rfc3339 r bytes) ≡ None
 unfolding reads_rfc3339 rfc3339.rfc3339
-hyphen_due r bytes e = let refused = date_refused true bytes (no_hyphen bytes 4 e) in rw refused.1 refl
+hyphen_due r bytes e = let refused = date_refused true bytes (no_byte hyphen bytes 4 e) in rw refused.1 refl

@@ -1,5 +1,5 @@
 -- Bytes at which no date of a source begins.
-use Rattle.std.proofs.Common.{◌≡◌, ◌≤◌, ◌||◌, ◌==◌, ℕ, Bool, true, false, cond, eqb, leb, List, [], ◌∷◌, length, get_or, Option, None, Ok, Err, refl, arith}
+use Rattle.std.proofs.Common.{◌≡◌, ◌≤◌, ◌||◌, ◌==◌, ℕ, Bool, true, false, cond, eqb, leb, List, [], ◌∷◌, length, get_or, take, drop, Option, None, Some, Ok, Err, refl, sym, ap, arith}
 use Rattle.std.specs.Prelude.{codes, option_map, if◌then◌else◌}
 use Rattle.std.specs.Result.{result_ok}
 use Rattle.std.specs.Char.{is_ascii_digit, is_ascii_alphanumeric, to_ascii_lowercase}
@@ -8,7 +8,7 @@ use Rattle.byte_names.specs.Bytes.{plus, hyphen, upper_z}
 use Rattle.calendar_count.specs.declared.weekday.Weekday.{Weekday}
 use Rattle.description_items.specs.Tree.{Tree, listed}
 use Rattle.parsing_combinator.specs.Fault.{component}
-use Rattle.parsing_combinator.specs.Pieces.{digits, byte_of, skip_of}
+use Rattle.parsing_combinator.specs.Pieces.{byte, digits, byte_of, skip_of}
 use Rattle.parsing_components.specs.Component.{reads_component, reads_component_v3}
 use Rattle.parsing_first_bytes.specs.FirstBytes.{IsRefusedAt}
 use Rattle.parsing_iso8601.specs.declared.kind.Kind.TheVariants.{Unknown}
@@ -28,7 +28,7 @@ use Rattle.instants_sources.specs.Tried.{beginning}
 use Rattle.instants_sources.proofs.RuledOut.{part_due_of_nothing}
 use Rattle.instants_found.specs.Front.{front_named}
 use Rattle.instants_found.specs.Starts.{CannotBegin, HasNoFront, begins_day, begins_part}
-use Rattle.instants_found.proofs.NoFront.{none_front, no_digit, hyphen_due}
+use Rattle.instants_found.proofs.NoFront.{none_front, no_digit, no_byte, hyphen_due}
 
 -- ---- descriptions
 
@@ -141,3 +141,30 @@ tree_no_front tree bytes refused = λ assumed. none_front (reading reads_compone
 pub year_no_front : (bytes : List ℕ) → eqb (get_or bytes 4 0) hyphen ≡ false → HasNoFront bytes Rfc3339
 unfolding front_named
 year_no_front bytes other = λ assumed. hyphen_due (beginning assumed) bytes other
+
+-- a weekday takes three letters
+named_rest : (b : Bool) (o : Option Weekday) (left : List ℕ) (x : Weekday × List ℕ) → cond {A = Option (Weekday × List ℕ)} b (option_map (λ w. (w, left)) o) None ≡ Some x → x.1 ≡ left
+named_rest true (Some w) left x e = let same : (w, left) ≡ x = cc in sym (ap (λ (p : Weekday × List ℕ). p.1) same)
+named_rest true None left x e = absurd cc
+named_rest false o left x e = absurd cc
+
+weekday_rest : (bytes : List ℕ) (x : Weekday × List ℕ) → weekday bytes ≡ Some x → x.1 ≡ drop 3 bytes
+unfolding weekday
+weekday_rest bytes x e = named_rest (leb 3 (length bytes)) (weekday_of (take 3 bytes)) (drop 3 bytes) x e
+
+no_comma : (c : ℕ) (rest : List ℕ) (r : Record) (x : Weekday × List ℕ) → 41 ≤ c → weekday (c ∷ rest) ≡ Some x → byte rfc2822.comma x.1 ≡ None → result_ok (reads_rfc2822 r (c ∷ rest)) ≡ None
+unfolding reads_rfc2822 rfc2822.rfc2822 rfc2822.day rfc2822.optional_weekday rfc2822.named_day
+no_comma c rest r x h name none = rw (none_at c rest h, name, none) refl
+
+comma_due : (bytes : List ℕ) (r : Record) → is_ascii_alphanumeric (get_or bytes 0 0) ≡ true → is_ascii_digit (get_or bytes 0 0) ≡ false → eqb (get_or bytes 3 0) rfc2822.comma ≡ false → result_ok (reads_rfc2822 r bytes) ≡ None
+comma_due [] r word digit none = absurd cc
+comma_due (c ∷ rest) r word digit none =
+    elim (weekday (c ∷ rest)) as (λ o. weekday (c ∷ rest) ≡ o → result_ok (reads_rfc2822 r (c ∷ rest)) ≡ None) [
+      | None ↦ λ e. no_day c rest r (above c word) digit e
+      | Some x ↦ λ e. no_comma c rest r x (above c word) e (rw (weekday_rest (c ∷ rest) x e) (no_byte rfc2822.comma (c ∷ rest) 3 none))
+    ] refl
+
+pub comma_no_front : (bytes : List ℕ) → is_ascii_digit (get_or bytes 0 0) ≡ false → eqb (get_or bytes 3 0) rfc2822.comma ≡ false → HasNoFront bytes Rfc2822
+unfolding front_named
+comma_no_front bytes digit none = λ assumed.
+    where_so (is_ascii_alphanumeric (get_or bytes 0 0)) _ (λ word. none_front (reads_rfc2822 (beginning assumed) bytes) (comma_due bytes (beginning assumed) word digit none))

@@ -108,6 +108,18 @@ fn read_rfc3339(bytes: &[u8], assumed: Option<UtcOffset>) -> Option<(OffsetDateT
     read_by(&Rfc3339, bytes, assumed)
 }
 
+// Whether the first bytes show that none of them is a date of RFC 2822: no day begins it, and no comma stands behind three
+// letters.
+#[inline(always)]
+fn is_no_rfc2822(bytes: &[u8]) -> bool
+    ensures { result ≡ true → HasNoFront bytes.now grammar.Rfc2822 }
+{
+    if byte_at(bytes, 0).is_ascii_digit() {
+        return false;
+    }
+    byte_at(bytes, 3) != b','
+}
+
 /// Whether the first bytes show that no front of them names a moment by a source, whatever offset is assumed: `false` says
 /// nothing of them.
 #[inline(always)]
@@ -118,7 +130,8 @@ pub(crate) fn rules_out(source: &Source<'_>, bytes: &[u8]) -> bool
         Source::Items(described) => described.cannot_match(bytes),
         Source::V3(described) => described.cannot_match(bytes),
         Source::Rfc3339 => byte_at(bytes, 4) != b'-',
-        Source::Rfc2822 | Source::Iso8601 => false,
+        Source::Rfc2822 => is_no_rfc2822(bytes),
+        Source::Iso8601 => false,
     }
 }
 

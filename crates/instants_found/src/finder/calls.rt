@@ -3,7 +3,7 @@ ghost use Rattle.std.specs.Prelude.{◌≡◌, ◌<◌, ◌≤◌, ◌+◌, leng
 ghost use Rattle.instants_sources.specs.Grammar.{grammar_of};
 ghost use Rattle.instants_found.specs.Found.{at_place, found};
 ghost use Rattle.instants_found.specs.Finder.{assumed_of, sources_of};
-ghost use Rattle.instants_found.specs.Starts.{AreRight, HasNoDate, IsNext, MarkPlaces};
+ghost use Rattle.instants_found.specs.Starts.{AreRight, HasNoDate, MarkPlaces};
 
 use crate::edge::is_edge;
 use crate::finder::Finder;
@@ -54,64 +54,58 @@ impl<'a> Finder<'a> {
         self.starts[usize::from(line[place])] && is_edge(line, place)
     }
 
-    // The date that begins at a place.
+    // The same, where what stands there is looked at too.
     #[inline(always)]
-    fn date_from(&self, line: &[u8], start: usize) -> Option<Found>
+    fn may_begin(&self, line: &[u8], start: usize) -> bool
         requires { start < length line.now }
-        ensures found { result ≡ at_place (assumed_of self.now) (sources_of self.now) line.now start }
-        ensures ordered { IfSome result (λ date. date.start ≤ date.end) }
-        ensures within { IfSome result (λ date. date.end ≤ length line.now) }
-        ensures source { IfSome result (λ date. date.source < length (sources_of self.now)) }
+        ensures { result ≡ false
+            → at_place (assumed_of self.now) (sources_of self.now) line.now start ≡ None }
     {
-        if !may_read(self.sources.as_slice(), behind(line, start)) {
-            return None;
-        }
-        at_place(self.sources.as_slice(), &self.assumed, line, start)
+        may_read(self.sources.as_slice(), behind(line, start))
     }
 
-    // The same, where its first byte is looked at first.
+    // Both.
     #[inline(always)]
-    fn date_at(&self, line: &[u8], start: usize) -> Option<Found>
+    fn has_start(&self, line: &[u8], start: usize) -> bool
         requires { start < length line.now }
-        ensures found { result ≡ at_place (assumed_of self.now) (sources_of self.now) line.now start }
-        ensures ordered { IfSome result (λ date. date.start ≤ date.end) }
-        ensures within { IfSome result (λ date. date.end ≤ length line.now) }
-        ensures source { IfSome result (λ date. date.source < length (sources_of self.now)) }
+        ensures { result ≡ false
+            → at_place (assumed_of self.now) (sources_of self.now) line.now start ≡ None }
     {
         if !self.can_start(line, start) {
-            return None;
+            return false;
         }
-        self.date_from(line, start)
+        self.may_begin(line, start)
     }
 
-    // The first date from a place up to another, looked for byte by byte.
+    // The first place behind one at which a date can begin, looked for byte by byte.
     #[inline(never)]
-    fn by_bytes(&self, line: &[u8], from: usize, to: usize) -> Option<Found>
-        requires ordered { from ≤ to }
-        requires within { to ≤ length line.now }
+    fn by_bytes(&self, line: &[u8], from: usize) -> Option<usize>
+        requires { from ≤ length line.now }
         ensures none { IfNone result
-            (HasNoDate (assumed_of self.now) (sources_of self.now) line.now from to) }
-        ensures next { IfSome result
-            (IsNext (assumed_of self.now) (sources_of self.now) line.now from) }
+            (HasNoDate (assumed_of self.now) (sources_of self.now) line.now from (length line.now)) }
+        ensures within { IfSome result (λ start. (from ≤ start) × (start < length line.now)) }
+        ensures passed { IfSome result
+            (HasNoDate (assumed_of self.now) (sources_of self.now) line.now from) }
     {
-        for place in from..to {
-            if let Some(date) = self.date_at(line, place) {
-                return Some(date);
+        for place in from..line.len() {
+            if self.has_start(line, place) {
+                return Some(place);
             }
         }
         None
     }
 
-    // The same where the places have bits, of which only those are 0 at whose places no date begins.
+    // The same up to another place, where the places have bits, of which only those are 0 at whose places no date begins.
     #[inline(always)]
-    fn by_marks(&self, line: &[u8], from: usize, to: usize, marks: u64) -> Option<Found>
+    fn by_marks(&self, line: &[u8], from: usize, to: usize, marks: u64) -> Option<usize>
         requires ordered { from ≤ to }
         requires within { to ≤ length line.now }
         requires marks { MarkPlaces (assumed_of self.now) (sources_of self.now) line.now from to marks }
         ensures none { IfNone result
             (HasNoDate (assumed_of self.now) (sources_of self.now) line.now from to) }
-        ensures next { IfSome result
-            (IsNext (assumed_of self.now) (sources_of self.now) line.now from) }
+        ensures within { IfSome result (λ start. (from ≤ start) × (start < to)) }
+        ensures passed { IfSome result
+            (HasNoDate (assumed_of self.now) (sources_of self.now) line.now from) }
     {
         let mut at = from;
         let mut left = marks;
@@ -121,8 +115,8 @@ impl<'a> Finder<'a> {
                 return None;
             }
             let start = at + behind as usize;
-            if let Some(date) = self.date_from(line, start) {
-                return Some(date);
+            if self.may_begin(line, start) {
+                return Some(start);
             }
             left = (left >> behind) >> 1u32;
             at = start + 1;
@@ -132,64 +126,72 @@ impl<'a> Finder<'a> {
 
     // The same of sixteen bytes from a place on, of which the first ones do not count.
     #[inline(always)]
-    fn by_block(&self, lanes: &StartLanes, line: &[u8], start: usize, from: usize) -> Option<Found>
+    fn by_block(&self, lanes: &StartLanes, line: &[u8], start: usize, from: usize) -> Option<usize>
         requires some { 0 < start }
         requires ordered { (start ≤ from) × (from ≤ start + LANES) }
         requires within { start + LANES ≤ length line.now }
         requires lanes { AreRight self.now.starts lanes.now }
         ensures none { IfNone result (HasNoDate (assumed_of self.now) (sources_of self.now)
             line.now from (start + LANES)) }
-        ensures next { IfSome result
-            (IsNext (assumed_of self.now) (sources_of self.now) line.now from) }
+        ensures within { IfSome result (λ place. (from ≤ place) × (place < start + LANES)) }
+        ensures passed { IfSome result
+            (HasNoDate (assumed_of self.now) (sources_of self.now) line.now from) }
     {
         let marks = lanes.marks(line, start) >> (from - start) as u32;
         self.by_marks(line, from, start + LANES, marks)
     }
 
-    // The first date behind the first byte of a line, looked for sixteen bytes at a time: the last sixteen may begin before
-    // the end of those before them.
-    #[inline(always)]
-    fn by_lanes(&self, lanes: &StartLanes, line: &[u8]) -> Option<Found>
+    // The first place behind one at which a date can begin, looked for sixteen bytes at a time: the last sixteen may begin
+    // before the end of those before them.
+    #[inline(never)]
+    fn by_lanes(&self, lanes: &StartLanes, line: &[u8], from: usize) -> Option<usize>
         requires some { LANES < length line.now }
+        requires within { (0 < from) × (from ≤ length line.now) }
         requires lanes { AreRight self.now.starts lanes.now }
         ensures none { IfNone result
-            (HasNoDate (assumed_of self.now) (sources_of self.now) line.now 1 (length line.now)) }
-        ensures next { IfSome result
-            (IsNext (assumed_of self.now) (sources_of self.now) line.now 1) }
+            (HasNoDate (assumed_of self.now) (sources_of self.now) line.now from (length line.now)) }
+        ensures within { IfSome result (λ start. (from ≤ start) × (start < length line.now)) }
+        ensures passed { IfSome result
+            (HasNoDate (assumed_of self.now) (sources_of self.now) line.now from) }
     {
-        let mut at = 1;
+        let mut at = from;
         while at < line.len() {
-            let from = at;
-            let start = from.min(line.len() - LANES);
+            let behind = at;
+            let start = behind.min(line.len() - LANES);
             at = start + LANES;
             if lanes.has_none(line, start) {
                 continue;
             }
-            if let Some(date) = self.by_block(lanes, line, start, from) {
-                return Some(date);
+            if let Some(place) = self.by_block(lanes, line, start, behind) {
+                return Some(place);
             }
         }
         None
     }
 
-    // The first date of a line.
+    // The first place from one on at which a date can begin.
     #[inline(always)]
-    fn next(&self, line: &[u8]) -> Option<Found>
+    fn next_start(&self, line: &[u8], from: usize) -> Option<usize>
+        requires { from ≤ length line.now }
         ensures none { IfNone result
-            (HasNoDate (assumed_of self.now) (sources_of self.now) line.now 0 (length line.now)) }
-        ensures next { IfSome result
-            (IsNext (assumed_of self.now) (sources_of self.now) line.now 0) }
+            (HasNoDate (assumed_of self.now) (sources_of self.now) line.now from (length line.now)) }
+        ensures within { IfSome result (λ start. (from ≤ start) × (start < length line.now)) }
+        ensures passed { IfSome result
+            (HasNoDate (assumed_of self.now) (sources_of self.now) line.now from) }
     {
         let Some(lanes) = &self.lanes else {
-            return self.by_bytes(line, 0, line.len());
+            return self.by_bytes(line, from);
         };
         if line.len() <= LANES {
-            return self.by_bytes(line, 0, line.len());
+            return self.by_bytes(line, from);
         }
-        if let Some(date) = self.date_at(line, 0) {
-            return Some(date);
+        if from > 0 {
+            return self.by_lanes(lanes, line, from);
         }
-        self.by_lanes(lanes, line)
+        if self.has_start(line, 0) {
+            return Some(0);
+        }
+        self.by_lanes(lanes, line, 1)
     }
 
     /// The first date of a line, as `find` finds it.
@@ -199,6 +201,13 @@ impl<'a> Finder<'a> {
         ensures within { IfSome result (λ date. date.end ≤ length line.now) }
         ensures source { IfSome result (λ date. date.source < length (sources_of self.now)) }
     {
-        self.next(line)
+        let mut from = 0;
+        while let Some(start) = self.next_start(line, from) {
+            if let Some(date) = at_place(self.sources.as_slice(), &self.assumed, line, start) {
+                return Some(date);
+            }
+            from = start + 1;
+        }
+        None
     }
 }

@@ -12,3 +12,6 @@ returns-in-V3 c = λ e. rw c.in-V3.is (tree_no_front (v3_tree c.in-V3.described.
 
 pub returns-in-Rfc3339 : goal.returns-in-Rfc3339
 returns-in-Rfc3339 c = λ e. rw c.in-Rfc3339.is (year_no_front c.args.bytes.now (rw c.byte_at.ensures at (not_true _ e)))
+
+pub returns-in-Rfc2822 : goal.returns-in-Rfc2822
+returns-in-Rfc2822 c = λ e. rw c.in-Rfc2822.is (c.is_no_rfc2822.ensures e)

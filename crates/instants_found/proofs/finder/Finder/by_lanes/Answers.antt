@@ -15,5 +15,5 @@ loop-at-preserved-then-has_none c =
     record {
       low = omega (arith, c.min-start.ensures);
       high = omega (arith, c.min-start.ensures);
-      passed = none_more assumed sources line 1 at (start + 16) c.loop-at.invariant.passed (none_later assumed sources line start at (start + 16) (omega (arith, c.min-start.ensures)) block);
+      passed = none_more assumed sources line c.args.from at (start + 16) c.loop-at.invariant.passed (none_later assumed sources line start at (start + 16) (omega (arith, c.min-start.ensures)) block);
     }

@@ -5,7 +5,7 @@ use Rattle.instants_found.proofs.finder.Finder.by_lanes.Given as goal
 
 -- no date begins at the places so far
 abbrev pub invariant-loop-at : goal.invariant-loop-at
-invariant-loop-at l = record { low : 1 ≤ l.at; high : l.at ≤ length l.line; passed : HasNoDate (assumed_of l.self) (sources_of l.self) l.line 1 l.at }
+invariant-loop-at l = record { low : l.from ≤ l.at; high : l.at ≤ length l.line; passed : HasNoDate (assumed_of l.self) (sources_of l.self) l.line l.from l.at }
 
 abbrev pub decreases-loop-at : goal.decreases-loop-at
 decreases-loop-at l = length l.line - l.at
