@@ -1,9 +1,9 @@
 #!/usr/bin/env python3
-"""Makes the lines of the benchmark: the same ones each time, of eleven kinds.
+"""Makes the lines of the benchmark: the same ones each time, of fourteen kinds.
 
     bench/lines.py FOLDER [LINES]
 
-Writes eleven files of LINES lines (1000000 if left out) to the folder:
+Writes fourteen files of LINES lines (1000000 if left out) to the folder:
 
     rfc3339.txt   RFC 3339: `Z` or a numeric offset, a fraction of 0 to 9 digits
     iso8601.txt   ISO 8601: calendar, week and ordinal dates, extended and basic, a fraction of 0 to 9 digits
@@ -17,6 +17,12 @@ Writes eleven files of LINES lines (1000000 if left out) to the folder:
     unix.txt      seconds since 1970-01-01, as `1057049557`
     unix_ms.txt   milliseconds since then, as `1057049557123`
     asctime.txt   `Tue Jul  1 10:52:37 2003`
+
+and three of whole lines of logs, in which dates are looked for:
+
+    access.txt    a web server's access log in the combined format, the time in the fourth field, some 200 bytes a line
+    dateless.txt  messages with words, numbers, paths and addresses, and no date
+    trace.txt     Python's traces, without a date
 
 All years are 1950 to 2099. Each file has a seed of its own, and a short file is the beginning of a long one.
 """
@@ -131,6 +137,62 @@ def asctime(rng):
     return f"{DAYS[day.weekday()]} {MONTHS[day.month - 1]} {day.day:2} {time} {day.year}"
 
 
+PATHS = ["/", "/index.html", "/api/v1/users/48213/orders", "/static/js/app.3f9c2b71.js", "/img/logo-2x.png",
+         "/search?q=time+zones&page=2", "/docs/2.14.1/reference.html", "/wp-login.php"]
+AGENTS = ["Mozilla/5.0 (X11; Linux x86_64) AppleWebKit/537.36 (KHTML, like Gecko) Chrome/119.0.0.0 Safari/537.36",
+          "Mozilla/5.0 (Windows NT 10.0; Win64; x64; rv:109.0) Gecko/20100101 Firefox/118.0",
+          "Mozilla/5.0 (compatible; Googlebot/2.1; +http://www.google.com/bot.html)"]
+
+
+def address(rng):
+    """Returns a network address."""
+    return ".".join(str(rng.randrange(256)) for _ in range(4))
+
+
+def access(rng):
+    """Returns a line of an access log in the combined format."""
+    request = f"{rng.choice(['GET', 'GET', 'GET', 'POST'])} {rng.choice(PATHS)} HTTP/1.1"
+    answer = f"{rng.choice([200, 200, 200, 304, 404, 500])} {rng.randrange(60_000)}"
+    referrer = f"https://www.example.org{rng.choice(PATHS)}" if rng.random() < 0.6 else "-"
+    return f'{address(rng)} - - [{log(rng)}] "{request}" {answer} "{referrer}" "{rng.choice(AGENTS)}"'
+
+
+WORDS = """accepted answer batch cache client closed config connection deleted failed from handler host index job
+loaded message opened pool queue read request retry row sent server session skipped socket started table thread timeout
+to user value worker write""".split()
+
+
+def dateless(rng):
+    """Returns a message without a date."""
+    parts = []
+    for _ in range(rng.randint(6, 16)):
+        kind = rng.randrange(10)
+        if kind == 0:
+            parts.append(str(rng.randrange(10 ** rng.randint(1, 6))))
+        elif kind == 1:
+            parts.append(f"{rng.choice(WORDS)}={rng.randrange(1000)}ms")
+        elif kind == 2:
+            parts.append(f"{address(rng)}:{rng.randrange(65536)}")
+        elif kind == 3:
+            parts.append(f"/var/lib/{rng.choice(WORDS)}/{rng.choice(WORDS)}-{rng.randrange(100)}.db")
+        else:
+            parts.append(rng.choice(WORDS))
+    return f"{rng.choice(['INFO', 'WARN', 'ERROR'])} " + " ".join(parts)
+
+
+def trace(rng):
+    """Returns a line of a trace of Python."""
+    kind = rng.randrange(8)
+    if kind == 0:
+        return "Traceback (most recent call last):"
+    if kind == 1:
+        return f"{rng.choice(['ValueError', 'KeyError', 'TimeoutError'])}: {rng.choice(WORDS)} {rng.choice(WORDS)} {rng.randrange(100)}"
+    if kind < 5:
+        package = f"/srv/app/venv/lib/python3.11/site-packages/{rng.choice(WORDS)}/{rng.choice(WORDS)}.py"
+        return f'  File "{package}", line {rng.randrange(1, 2000)}, in {rng.choice(WORDS)}_{rng.choice(WORDS)}'
+    return f"    {rng.choice(WORDS)} = self.{rng.choice(WORDS)}({rng.choice(WORDS)}, timeout={rng.randrange(60)})"
+
+
 def garbage(rng):
     """Returns a line that names no moment, but for those with `!` in place of `T`, which some programs read."""
     kind = rng.randrange(6)
@@ -158,7 +220,7 @@ def mixed(rng):
     return log(rng) if share < 0.9 else garbage(rng)
 
 
-FILES = (rfc3339, iso8601, rfc2822, mixed, log, postgres, python, syslog, unix, unix_ms, asctime)
+FILES = (rfc3339, iso8601, rfc2822, mixed, log, postgres, python, syslog, unix, unix_ms, asctime, access, dateless, trace)
 
 
 def write(folder, count):

@@ -29,8 +29,9 @@ from program import PARTS, ROOT, Program, uses
 RUN = ("args", "stdin", "stdout", "status")
 # What is known before the first crate is proved: for so many seconds the pace is that of docs/GATE.md.
 FOREKNOWN = 300
-# How long a proof takes that docs/GATE.md does not tell of, and from which on one of the longest chain gets a run of its own.
-USUAL, LONG = 100, 180
+# How long a proof takes that docs/GATE.md does not tell of, and from which part of all proofs on one of the longest chain gets
+# a run of its own.
+USUAL, LARGE = 100, 0.03
 
 
 class BuildFailed(Exception):
@@ -112,7 +113,7 @@ def prove(program, room):
 
 def known_times():
     """Returns how many seconds each crate's proof took for docs/GATE.md."""
-    rows = re.findall(r"^\| `(\w+)` \| (\d+) \|", (ROOT / "docs" / "GATE.md").read_text(), re.M)
+    rows = re.findall(r"^\| `(\w+)` \| (\d+)\*? \|", (ROOT / "docs" / "GATE.md").read_text(), re.M)
     return {name: int(seconds) for name, seconds in rows}
 
 
@@ -129,10 +130,11 @@ def longest_chain(program):
 def hurrying(program, room):
     """Proves the longest chain meanwhile, up to each of its long proofs in turn."""
     known, is_over = known_times(), threading.Event()
+    least = LARGE * sum(known.get(it, USUAL) for it in program.crates())
 
     def hurry():
         for crate in longest_chain(program):
-            if known.get(crate, USUAL) < LONG:
+            if known.get(crate, USUAL) < least:
                 continue
             how = {"cwd": room, "stdin": subprocess.DEVNULL, "stdout": subprocess.DEVNULL, "stderr": subprocess.DEVNULL}
             with subprocess.Popen(["rt", "ci", crate], preexec_fn=ended_with_caller(), **how) as ran:

@@ -40,6 +40,8 @@ def escaped(text):
 def quoted(text):
     """Returns text as the argument of a macro."""
     text = escaped(text).replace('"', r"\(dq")
+    # (a word as %A is a macro's name)
+    text = rf"\&{text}" if text.startswith("%") else text
     # (a mark at the end would be taken for one behind the argument)
     return f'"{text}{chr(92)}&"' if text[-1:] in ".,:;)]?!" else f'"{text}"'
 

@@ -8,6 +8,10 @@ What a process takes is read from /proc while it runs, so it works on Linux; wha
 under `other`, as are rt itself and the programs that it runs. Machines differ, and so does one machine from day to day:
 the proofs of the crates that have not changed since the run in docs/GATE.md tell how this run's pace compares with that one's,
 and the bounds are at the pace of the run that the first of these tables told of.
+
+`rt ci` keeps what it passed on a machine, so a run may do little of the work. What it did not do of a crate whose sources
+are as they were is told as it took in the run of docs/GATE.md, at this run's pace, and marked by a star: the table, the sum
+and the bounds are those of a run from nothing.
 """
 
 import argparse
@@ -104,14 +108,15 @@ def sum_of(crate):
     return found.hexdigest()[:8]
 
 
-def table_of(parts, total):
-    """Returns the table's lines, the dearest crate first."""
+def table_of(parts, total, kept):
+    """Returns the table's lines, the dearest crate first. A star stands behind what this run did not do."""
     crates = sorted({crate for crate, _ in parts}, key=lambda it: -sum(parts[it, part] for part in PARTS))
     lines = ["| crate | proof | tests | edits | files of edits | together | sources |", "|---|---|---|---|---|---|---|"]
     for crate in crates:
         seconds = [parts[crate, it] for it in PARTS]
-        files = len(list((ROOT / "crates" / crate / "must-fail").glob("*.edit")))
-        lines.append(f"| `{crate}` | {' | '.join(f'{it:.0f}' for it in seconds)} | {files} | {sum(seconds):.0f} | {sum_of(crate)} |")
+        told = " | ".join(f"{parts[crate, it]:.0f}{'*' * ((crate, it) in kept)}" for it in PARTS)
+        files = len(edits_of(crate))
+        lines.append(f"| `{crate}` | {told} | {files} | {sum(seconds):.0f} | {sum_of(crate)} |")
     sums = [sum(parts[crate, it] for crate in crates) for it in PARTS]
     files = len(list((ROOT / "crates").glob("*/must-fail/*.edit")))
     lines.append(f"| all crates | {' | '.join(f'{it:.0f}' for it in sums)} | {files} | {sum(sums):.0f} | |")
@@ -120,15 +125,37 @@ def table_of(parts, total):
     return lines
 
 
+def edits_of(crate):
+    """Returns the crate's files of edits that the gate tries."""
+    return list((ROOT / "crates" / crate / "must-fail").glob("*.edit"))
+
+
+def rows_of(text):
+    """Returns the rows of a text of GATE.md: a crate's seconds for each part, and the sum of its sources."""
+    rows = re.findall(r"^\| `(\w+)` \| (\d+)\*? \| (\d+)\*? \| (\d+)\*? \|.* ([0-9a-f]{8}) \|$", text, re.M)
+    return {name: (dict(zip(PARTS, map(int, seconds))), told) for name, *seconds, told in rows}
+
+
+def kept_of(before, parts, times):
+    """Returns what this run did not do of the crates whose sources are as they were, so many times as long as it took then."""
+    listed = {it.partition(":")[0] for it in (ROOT / "crates.txt").read_text().split("\n")}
+    return {
+        (name, part): seconds[part] * times
+        for name, (seconds, told) in rows_of(before).items()
+        if name in listed and told == sum_of(name)
+        for part in PARTS
+        if seconds[part] and not parts[name, part] and (part != "edits" or edits_of(name))
+    }
+
+
 def pace_of(before, parts):
     """Returns how this run's pace compares with that of the run that a text of GATE.md tells of, by the proofs of the crates
     that are the same as they were then: the run that paces count from, the pace, and a sentence. None where there are none.
     Where that text compares its own run with an earlier one, paces are multiplied."""
     commit = re.search(r"commit (\w+)", before)
-    rows = re.findall(r"^\| `(\w+)` \| (\d+) \|.* ([0-9a-f]{8}) \|$", before, re.M)
-    then = {name: int(seconds) for name, seconds, _ in rows}
-    same = [name for name, _, told in rows if parts[name, "proof"] and told == sum_of(name)]
-    was, now = sum(then[it] for it in same), sum(parts[it, "proof"] for it in same)
+    rows = rows_of(before)
+    same = [name for name, (_, told) in rows.items() if parts[name, "proof"] and told == sum_of(name)]
+    was, now = sum(rows[it][0]["proof"] for it in same), sum(parts[it, "proof"] for it in same)
     if not was:
         return None
     earlier = re.search(r"^Pace: ([\d.]+) times as long as the run of (\w+)", before, re.M)
@@ -137,12 +164,12 @@ def pace_of(before, parts):
         f"Pace: {pace:.2f} times as long as the run of {first}, by the proofs of the {len(same)} crates whose sources are as they were "
         f"at {commit[1]} ({was} s in that commit's run, {now:.0f} s in this one)."
     )
-    return first, pace, told
+    return first, pace, told, now / was
 
 
 def bounds_told(parts, total, pace):
     """Returns the sentences on the bounds, at the pace of the first run where this run's is known."""
-    first, times, told = pace or ("this run", 1.0, "Pace: not known, since no crate is as it was.")
+    first, times, told, _ = pace or ("this run", 1.0, "Pace: not known, since no crate is as it was.", 1.0)
     minutes = total / times / 60
     crates = {crate for crate, _ in parts}
     dear = {it: sum(parts[it, part] for part in PARTS) / times / 60 for it in crates}
@@ -150,20 +177,22 @@ def bounds_told(parts, total, pace):
     longest = max(dear, key=dear.get, default="none")
     found = ", ".join(f"`{it}` {dear[it]:.1f}" for it in over)
     return (
-        f"{told} At the pace of {first} this run takes {minutes:.0f} processor minutes, {'within' if minutes <= BOUND else 'over'} the "
+        f"{told} At the pace of {first} a run from nothing takes {minutes:.0f} processor minutes, {'within' if minutes <= BOUND else 'over'} the "
         f"bound of {BOUND}. " + (f"Over the bound of {CRATE_BOUND} minutes are {found}." if over else f"No crate is over {CRATE_BOUND} minutes, the longest is `{longest}` with {dear.get(longest, 0):.1f}.")
     )
 
 
-def text_of(lines, bounds, last, total, wall):
+def text_of(lines, bounds, last, total, wall, kept):
     processors, load = len(os.sched_getaffinity(0)), os.getloadavg()[2]
     kit = subprocess.run(["rt", "version"], capture_output=True, text=True, check=True).stdout.strip()
     commit = subprocess.run(["git", "rev-parse", "--short", "HEAD"], cwd=ROOT, capture_output=True, text=True, check=True).stdout.strip()
+    some = sum(kept.values()) / 60
+    stars = f" What is marked by a star was kept from earlier runs on this machine: {some:.0f} processor minutes more, told as they took in the run before, at this run's pace." if kept else ""
     head = f"""# Where the gate's time goes
 
 Processor seconds of one `rt ci`, crate by crate, written by `tools/gate_times.py --write`: the proof from nothing, the proof and build of the tests, and the must-fail edits; where a crate has more than one file of them, the first proves the crate once more. The last column is a short sum of the crate's sources, by which a later run knows those that are as they were. The bounds are {BOUND} processor minutes for everything and {CRATE_BOUND} for a crate, each at the pace of the run of 44ade0a, with which all later runs are compared.
 
-{datetime.date.today()}, commit {commit}, {kit}: `{last}` after {wall / 60:.0f} minutes on {processors} processors (load {load:.1f} at the end), {total / 60:.0f} processor minutes.
+{datetime.date.today()}, commit {commit}, {kit}: `{last}` after {wall / 60:.0f} minutes on {processors} processors (load {load:.1f} at the end), {total / 60:.0f} processor minutes.{stars}
 """
     return head + "\n" + bounds + "\n\n" + "\n".join(lines) + "\n"
 
@@ -176,8 +205,11 @@ def main():
     status, last, total, wall, parts = run_gate(given.command)
     try:
         before = TABLE.read_text() if TABLE.exists() else ""
-        bounds = bounds_told(parts, total, pace_of(before, parts))
-        text = text_of(table_of(parts, total), bounds, last, total, wall)
+        pace = pace_of(before, parts)
+        kept = kept_of(before, parts, pace[-1] if pace else 1.0)
+        parts.update(kept)
+        whole = total + sum(kept.values())
+        text = text_of(table_of(parts, whole, kept), bounds_told(parts, whole, pace), last, total, wall, kept)
     except (OSError, ValueError, subprocess.SubprocessError) as fault:
         # What the gate says counts also where its times can't be told.
         print(f"gate_times.py: {fault}\n{last}")

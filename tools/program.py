@@ -15,11 +15,12 @@ def uses():
 
 
 class Program:
-    """A program, by the name of its crate and the name that it goes by, and whether what it writes has each line in it."""
+    """A program, or what else is made of a crate: by the name of the crate, the name that it goes by, and that of its file; and
+    whether what it writes has each line in it."""
 
-    def __init__(self, crate, name, repeats_lines=False):
+    def __init__(self, crate, name, made=None, repeats_lines=False):
         self.crate, self.name, self.repeats_lines = crate, name, repeats_lines
-        self.file = ROOT / "crates" / crate / "out" / crate
+        self.file = ROOT / "crates" / crate / "out" / (made or crate)
 
     def say(self, text):
         print(f"{self.name}: {text}", file=sys.stderr, flush=True)

@@ -10,8 +10,8 @@ command with nothing behind it prints nothing. Standard output and standard erro
 
 Each section, from a heading to the next one of whatever level, has a folder of its own, in which its examples run in
 order, each in a shell `sh` of its own: files pass from one example to the next, and nothing else. At first the folder
-has three links and no more: `instants` and `instants-lines`, to the built programs, and `crates`, to those of the repository. Commands are looked
-for in it before all others.
+has links and no more: `instants` and `instants-lines`, to the built programs, and `crates`, `bindings` and `include`, to those
+of the repository. Commands are looked for in it before all others.
 
 A table of Markdown whose head has the columns `line` and `answer` is of examples too: a row's line is piped into the program
 with the row's `words`, or with `+00:00 +00:00 100` and the row's `example`, and what it prints is the row's answer. Rows
@@ -25,8 +25,9 @@ behind the other in the file `src/page.rt` of the family's tests, which the gate
 
 With no FILE it also asks the tools that write pages from the sources, or compare one with them, whether each is current.
 
-What is run are the programs as they were built last; `./instants --build` and `tools/build_program.py description_check`
-build them. It prints each example that differs, and ends with status 1 if there is any.
+What is run are the programs and the library as they were built last; `./instants --build`, `tools/build_program.py
+description_check` and `tools/build_library.py` build them. Calls from other languages need gcc, cargo and sqlite3. It prints
+each example that differs, and ends with status 1 if there is any.
 """
 
 import argparse
@@ -40,11 +41,20 @@ import sys
 import tempfile
 
 ROOT = pathlib.Path(__file__).resolve().parent.parent
-DOCUMENTS = ("README.md", "docs/GUIDE.md", "docs/DESCRIPTIONS.md", "docs/FORMATS.md", "docs/instants.1", "docs/instants-lines.1")
+DOCUMENTS = (
+    "README.md",
+    "docs/GUIDE.md",
+    "docs/LIBRARIES.md",
+    "docs/DESCRIPTIONS.md",
+    "docs/FORMATS.md",
+    "docs/instants.1",
+    "docs/instants-lines.1",
+)
 PAGES = ("calendar", "datetime", "description", "parsing", "instants")
 PROGRAM = ROOT / "crates" / "instants_program" / "out" / "instants_program"
 LINES_PROGRAM = ROOT / "crates" / "instants_lines_program" / "out" / "instants_lines_program"
 CHECK = ROOT / "crates" / "description_check" / "out" / "description_check"
+LIBRARY = ROOT / "crates" / "instants_c" / "out" / "libinstants.a"
 # The tools that say whether a page is as the sources have it.
 CHECKS = (("description_page.py", "--check"), ("described_words.py",), ("calls_page.py", "--check"), ("believed_files.py", "--check"))
 SECONDS = 60
@@ -141,7 +151,8 @@ def try_section(name, examples):
     with tempfile.TemporaryDirectory(prefix="documents-") as folder:
         os.symlink(PROGRAM, pathlib.Path(folder, "instants"))
         os.symlink(LINES_PROGRAM, pathlib.Path(folder, "instants-lines"))
-        os.symlink(ROOT / "crates", pathlib.Path(folder, "crates"))
+        for it in ("crates", "bindings", "include"):
+            os.symlink(ROOT / it, pathlib.Path(folder, it))
         for it in examples:
             printed = printed_by("\n".join(it.command), folder)
             due = "".join(line + "\n" for line in it.due).encode()
@@ -189,7 +200,9 @@ def main():
     words = argparse.ArgumentParser(description=__doc__, formatter_class=argparse.RawDescriptionHelpFormatter)
     words.add_argument("files", nargs="*", metavar="FILE", help="from the top of the repository")
     given = words.parse_args()
-    missing = [it for it in (PROGRAM, CHECK) if not it.exists()]
+    texts = "".join((ROOT / it).read_text() for it in given.files or DOCUMENTS)
+    named = [PROGRAM, *(it for it in (CHECK, LIBRARY) if str(it.parent.relative_to(ROOT)) in texts)]
+    missing = [it for it in named if not it.exists()]
     if missing:
         words.error(f"{missing[0].relative_to(ROOT)} is not built")
     count = 0

@@ -57,7 +57,7 @@ ok_of (Ok x) m e = ap (λ (o : Option Shown). Ok (unwrap_or o x)) e
 ok_of (Err f) m e = absurd cc
 
 -- an answer for the moment that is named first
-answered : (setting : Setting) (line bytes : List ℕ) → IsAnswerOf setting (result_ok (first_named setting.assumed setting.sources line)) bytes → bytes ≡ answer_to setting line
+pub answered : (setting : Setting) (line bytes : List ℕ) → IsAnswerOf setting (result_ok (first_named setting.assumed setting.sources line)) bytes → bytes ≡ answer_to setting line
 unfolding answer_to place_of
 answered setting line bytes a = rw (ok_of (first_named setting.assumed setting.sources line) a.moment a.is) a.text
 

@@ -26,9 +26,9 @@ pub enum LineFault {
 impl LineFault {
     ghost use Rattle.instants.specs.Refusal.{IsShort, long, refusal_said, refusal_text};
 
-    // Writes what stands for a line in place of a date-time.
-    #[cold]
-    pub(crate) fn write(self, answer: &mut Answer)
+    // Puts what stands for a line in place of a date-time.
+    #[inline(always)]
+    pub(crate) fn put(self, answer: &mut Answer)
         requires short { IsShort (refusal_said self) }
         requires not_long { refusal_said self ≢ long }
         ensures bytes { answer.new ≡ refusal_text (refusal_said self) }
@@ -51,6 +51,19 @@ impl LineFault {
             LineFault::Year => answer.push_bytes(b"! year"),
             LineFault::Long => answer.push_bytes(b"! long"),
         }
+    }
+
+    // The same as a call, for faults that are not known when it is compiled.
+    #[cold]
+    #[inline(never)]
+    pub(crate) fn write(self, answer: &mut Answer)
+        requires short { IsShort (refusal_said self) }
+        requires not_long { refusal_said self ≢ long }
+        ensures bytes { answer.new ≡ refusal_text (refusal_said self) }
+        ensures room { length answer.new ≤ 63 }
+        ensures never_long { answer.new ≢ codes "! long" }
+    {
+        self.put(answer);
     }
 }
 

@@ -73,9 +73,9 @@ fn by_sources(
     None
 }
 
-// The date that begins at a place, where it isn't inside a word.
+/// The date that begins at a place, where it isn't inside a word.
 #[tactic(auto, unfolding(crate::specs::Found::at_place))]
-fn at_place(
+pub(crate) fn at_place(
     sources: &[Source<'_>],
     assumed: &Option<UtcOffset>,
     line: &[u8],

@@ -43,16 +43,19 @@ fn read_by<'b, F: Parsable>(
 fn read_items<'b>(
     described: &DescribedItems<'_>,
     bytes: &'b [u8],
-    assumed: Option<UtcOffset>,
+    assumed: &Option<UtcOffset>,
 ) -> Option<(OffsetDateTime, &'b [u8])>
     ensures front { option_map (λ x. (x.0, x.1.now)) result
-        ≡ front_named assumed (grammar.Items (trees described.now.items.items)) bytes.now }
+        ≡ front_named assumed.now (grammar.Items (trees described.now.items.items)) bytes.now }
     ensures end { IfSome result (λ x. EndsWith bytes.now x.1.now) }
 {
     if described.cannot_match(bytes) {
         return None;
     }
-    read_by(&Items(described.items()), bytes, assumed)
+    if let Some((fields, rest)) = described.read_front(bytes, *assumed) {
+        return Some((fields.moment(), rest));
+    }
+    read_by(&Items(described.items()), bytes, *assumed)
 }
 
 // The same of a description's tree.
@@ -60,16 +63,19 @@ fn read_items<'b>(
 fn read_tree<'b>(
     described: &DescribedTree<'_>,
     bytes: &'b [u8],
-    assumed: Option<UtcOffset>,
+    assumed: &Option<UtcOffset>,
 ) -> Option<(OffsetDateTime, &'b [u8])>
     ensures front { option_map (λ x. (x.0, x.1.now)) result
-        ≡ front_named assumed (grammar.V3 (v3_tree described.now.tree)) bytes.now }
+        ≡ front_named assumed.now (grammar.V3 (v3_tree described.now.tree)) bytes.now }
     ensures end { IfSome result (λ x. EndsWith bytes.now x.1.now) }
 {
     if described.cannot_match(bytes) {
         return None;
     }
-    read_by(described.tree(), bytes, assumed)
+    if let Some((fields, rest)) = described.read_front(bytes, *assumed) {
+        return Some((fields.moment(), rest));
+    }
+    read_by(described.tree(), bytes, *assumed)
 }
 
 // The same of RFC 2822, where the bytes begin with a weekday or a day.
@@ -85,13 +91,16 @@ fn read_rfc2822(bytes: &[u8], assumed: Option<UtcOffset>) -> Option<(OffsetDateT
     read_by(&Rfc2822, bytes, assumed)
 }
 
-// The same of RFC 3339, where the bytes begin with a digit.
+// The same of RFC 3339, where the bytes begin with a digit and have a hyphen behind a year.
 #[tactic(auto, using(crate::proofs::NoFront::no_digit), unfolding(crate::specs::Front::front_named))]
 fn read_rfc3339(bytes: &[u8], assumed: Option<UtcOffset>) -> Option<(OffsetDateTime, &[u8])>
     ensures front { option_map (λ x. (x.0, x.1.now)) result
         ≡ front_named assumed grammar.Rfc3339 bytes.now }
     ensures end { IfSome result (λ x. EndsWith bytes.now x.1.now) }
 {
+    if byte_at(bytes, 4) != b'-' {
+        return None;
+    }
     if !byte_at(bytes, 0).is_ascii_digit() {
         return None;
     }
@@ -113,8 +122,8 @@ pub fn read_front<'b>(
     ensures end { IfSome result (λ x. EndsWith bytes.now x.1.now) }
 {
     match source {
-        Source::Items(described) => read_items(described, bytes, assumed),
-        Source::V3(described) => read_tree(described, bytes, assumed),
+        Source::Items(described) => read_items(described, bytes, &assumed),
+        Source::V3(described) => read_tree(described, bytes, &assumed),
         Source::Rfc2822 => read_rfc2822(bytes, assumed),
         Source::Rfc3339 => read_rfc3339(bytes, assumed),
         Source::Iso8601 => read_by(&Iso8601, bytes, assumed),

@@ -1,12 +1,18 @@
 //! Dates inside lines: the first one that a source reads, and where it stands.
 #![tactic(auto)]
 
+mod byte_set;
 mod edge;
+mod finder;
 mod finding;
 mod found;
 mod front;
+mod lanes;
 pub mod laws;
+mod start_lanes;
+mod starts;
 
+pub use finder::Finder;
 pub use finding::find;
 pub use found::Found;
 pub use front::read_front;

@@ -1,4 +1,5 @@
 pub mod Filling
 pub mod Due
+pub mod OneSetting
 pub mod Short
 pub mod Room

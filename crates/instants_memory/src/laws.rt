@@ -3,11 +3,17 @@ ghost use Rattle.std.specs.Prelude.{◌≡◌, ◌⊎◌, ◌∷◌, ◌++◌, [
 ghost use Rattle.byte_names.specs.Bytes.{line_feed};
 ghost use Rattle.instants_memory.specs.OutputFor.{IsOutputFor};
 
+/// Words and an input have one output.
+pub fn one_output()
+    ensures { (words : List (List ℕ)) (input one other : List ℕ)
+        → IsOutputFor words input one → IsOutputFor words input other → one ≡ other }
+{}
+
 /// Where a block is empty or ends in a line feed, its output and that of the bytes behind it, one after the other, are the
-/// output of both together, as the words mean the same setting each time.
+/// output of both together.
 pub fn joined_blocks()
     ensures { (words : List (List ℕ)) (first second one other : List ℕ)
         → ((first ≡ []) ⊎ ((front : List ℕ) × (first ≡ front ++ line_feed ∷ [])))
-        → (a : IsOutputFor words first one) → (b : IsOutputFor words second other)
-        → a.setting ≡ b.setting → IsOutputFor words (first ++ second) (one ++ other) }
+        → IsOutputFor words first one → IsOutputFor words second other
+        → IsOutputFor words (first ++ second) (one ++ other) }
 {}

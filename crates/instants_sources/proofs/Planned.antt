@@ -15,7 +15,7 @@ use Rattle.instants_sources.specs.Grammar.{Grammar, Items, V3, Rfc2822, Rfc3339,
 use Rattle.instants_sources.specs.Named.{defaults_of, named}
 use Rattle.instants_sources.specs.Planned.{IsPlanned}
 
-beginning_of : (assumed : Option ℤ) → starting (defaults_of assumed) ≡ beginning assumed
+pub beginning_of : (assumed : Option ℤ) → starting (defaults_of assumed) ≡ beginning assumed
 beginning_of None = refl
 beginning_of (Some offset) = refl
 

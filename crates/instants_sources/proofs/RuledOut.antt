@@ -1,16 +1,16 @@
 -- Lines that a format can't have written.
-use Rattle.std.proofs.Common.{◌≡◌, ℕ, ◌+◌, ◌<◌, ◌≤◌, zero, suc, ◌-◌, ◌*◌, Bool, true, false, cond, eqb, leb, List, [], ◌∷◌, length, get_or, drop, Option, Some, None, Ok, Err, nat_le, refl, ◌∙◌, arith}
-use Rattle.std.specs.Prelude.{codes, option_map, not, nat_lt}
+use Rattle.std.proofs.Common.{◌≡◌, ℕ, ◌+◌, ◌<◌, ◌≤◌, zero, suc, ◌-◌, ◌*◌, ◌&&◌, Bool, true, false, cond, eqb, leb, List, [], ◌∷◌, length, get_or, take, drop, Option, Some, None, Ok, Err, nat_le, refl, ◌∙◌, arith}
+use Rattle.std.specs.Prelude.{codes, option_map, not}
 use Rattle.std.specs.Result.{result_ok}
 use Rattle.std.specs.Char.{is_ascii_digit, to_ascii_lowercase}
-use Rattle.std.proofs.lemmas.Bool.{le-leb, ne_eqb}
+use Rattle.std.proofs.lemmas.Bool.{le-leb}
 use Rattle.std.proofs.lemmas.Bool.Decides.{nat_tests}
 use Rattle.calendar_count.specs.declared.weekday.Weekday.{Weekday}
 use Rattle.byte_names.specs.Bytes.{hyphen, plus}
 use Rattle.parsing_combinator.specs.Fault.{Fault, literal, component}
 use Rattle.parsing_combinator.specs.Pieces.{digits, digit_count, byte, byte_of, skip_of}
 use Rattle.parsing_combinator.proofs.Decimal.{digit_here}
-use Rattle.parsing_combinator.proofs.Fixed.{digits_two}
+use Rattle.parsing_combinator.proofs.Fixed.{digits_one, digits_two, some_if}
 use Rattle.parsing_record.specs.Record.{Record}
 use Rattle.parsing_staged.specs.Staged.{reads_iso8601}
 use Rattle.parsing_iso8601.specs.declared.kind.Kind.TheVariants.{Unknown}
@@ -28,12 +28,12 @@ use Rattle.parsing_rfc2822.proofs.WhiteSpaceLemmas.{none_at, none_of_nothing}
 
 -- ---- RFC 3339: a hyphen is due behind four digits
 
-no_hyphen : (bytes : List ℕ) (n : ℕ) → eqb (get_or bytes n 0) hyphen ≡ false → byte hyphen (drop n bytes) ≡ None
+no_byte : (wanted : ℕ) (bytes : List ℕ) (n : ℕ) → eqb (get_or bytes n 0) wanted ≡ false → byte wanted (drop n bytes) ≡ None
 unfolding skip_of
-no_hyphen [] zero e = refl
-no_hyphen [] (suc n) e = refl
-no_hyphen (c ∷ rest) zero e = rw e refl
-no_hyphen (c ∷ rest) (suc n) e = no_hyphen rest n e
+no_byte wanted [] zero e = refl
+no_byte wanted [] (suc n) e = refl
+no_byte wanted (c ∷ rest) zero e = rw e refl
+no_byte wanted (c ∷ rest) (suc n) e = no_byte wanted rest n e
 
 date_refused : (bytes : List ℕ) → byte hyphen (drop 4 bytes) ≡ None → (fault : Fault) × (rfc3339.date false bytes ≡ Err fault)
 unfolding rfc3339.date digits
@@ -45,7 +45,7 @@ date_refused bytes e =
 
 pub hyphen_due : (bytes : List ℕ) → eqb (get_or bytes 4 0) hyphen ≡ false → result_ok (rfc3339_direct.direct bytes) ≡ None
 unfolding rfc3339_direct.direct rfc3339_direct.moment rfc3339.rfc3339
-hyphen_due bytes e = let refused = date_refused bytes (no_hyphen bytes 4 e) in rw refused.1 refl
+hyphen_due bytes e = let refused = date_refused bytes (no_byte hyphen bytes 4 e) in rw refused.1 refl
 
 short_get : (bytes : List ℕ) (n : ℕ) → length bytes ≤ n → get_or bytes n 0 ≡ 0
 short_get [] n h = refl
@@ -76,6 +76,16 @@ no_weekday : (c d e : ℕ) (rest : List ℕ) → c ≤ 57 → weekday (c ∷ d �
 unfolding weekday
 no_weekday c d e rest le = no_named (leb 3 (length (c ∷ d ∷ e ∷ rest))) (weekday_of (c ∷ d ∷ e ∷ [])) rest (no_name c d e le)
 
+unnamed : (c : ℕ) (rest : List ℕ) → ((d e : ℕ) → weekday_of (c ∷ d ∷ e ∷ []) ≡ None) → weekday (c ∷ rest) ≡ None
+unfolding weekday
+unnamed c [] none = refl
+unnamed c (d ∷ []) none = refl
+unnamed c (d ∷ e ∷ rest) none = no_named (leb 3 (length (c ∷ d ∷ e ∷ rest))) (weekday_of (c ∷ d ∷ e ∷ [])) rest (none d e)
+
+no_two : (more : Bool) (v : ℕ) (rest : List ℕ) → some_if (more && false) v rest ≡ None
+no_two true v rest = refl
+no_two false v rest = refl
+
 day_read : (c d e : ℕ) (rest : List ℕ) → is_ascii_digit c ≡ true → is_ascii_digit d ≡ true
     → rfc2822.day false (c ∷ d ∷ e ∷ rest) ≡ Ok ((None, (c - 48) * 10 + (d - 48)), e ∷ rest)
 unfolding rfc2822.day rfc2822.optional_weekday rfc2822.one_or_two_digits
@@ -90,6 +100,17 @@ month_refused : (e : ℕ) (rest : List ℕ) → 41 ≤ e → rfc2822.month_and_y
 unfolding rfc2822.month_and_year
 month_refused e rest h = rw (none_at e rest h) refl
 
+one_day_read : (c d : ℕ) (rest : List ℕ) → is_ascii_digit c ≡ true → is_ascii_digit d ≡ false
+    → rfc2822.day false (c ∷ d ∷ rest) ≡ Ok ((None, c - 48), d ∷ rest)
+unfolding rfc2822.day rfc2822.optional_weekday rfc2822.one_or_two_digits
+one_day_read c d rest hc hd =
+    let bounds = digit_bounds c hc in
+    let none = none_at c (d ∷ rest) (omega (arith, bounds.0)) in
+    let there : nat_le 1 (length (c ∷ d ∷ rest)) ≡ true = le-leb 1 (length (c ∷ d ∷ rest)) (omega arith) in
+    let two : digits 2 (c ∷ d ∷ rest) ≡ None = digits_two (c ∷ d ∷ rest) ∙ rw (hc, hd) (no_two (nat_le 2 (length (c ∷ d ∷ rest))) _ _) in
+    let one : digits 1 (c ∷ d ∷ rest) ≡ Some (c - 48, d ∷ rest) = digits_one (c ∷ d ∷ rest) ∙ rw (there, hc) refl in
+    rw (none, unnamed c (d ∷ rest) (λ e f. no_name c e f bounds.1), two, one) refl
+
 pub space_due : (bytes : List ℕ) → 3 ≤ length bytes → is_ascii_digit (get_or bytes 0 0) ≡ true → is_ascii_digit (get_or bytes 1 0) ≡ true → 41 ≤ get_or bytes 2 0
     → result_ok (rfc2822_direct.direct bytes) ≡ None
 unfolding rfc2822_direct.direct rfc2822_direct.moment rfc2822.rfc2822
@@ -97,6 +118,13 @@ space_due [] le hc hd he = absurd (omega (arith, le))
 space_due (c ∷ []) le hc hd he = absurd (omega (arith, le))
 space_due (c ∷ d ∷ []) le hc hd he = absurd (omega (arith, le))
 space_due (c ∷ d ∷ e ∷ rest) le hc hd he = rw (day_read c d e rest hc hd, month_refused e rest he) refl
+
+pub space_due_of_one : (bytes : List ℕ) → 3 ≤ length bytes → is_ascii_digit (get_or bytes 0 0) ≡ true → is_ascii_digit (get_or bytes 1 0) ≡ false → 41 ≤ get_or bytes 1 0
+    → result_ok (rfc2822_direct.direct bytes) ≡ None
+unfolding rfc2822_direct.direct rfc2822_direct.moment rfc2822.rfc2822
+space_due_of_one [] le hc hd h = absurd (omega (arith, le))
+space_due_of_one (c ∷ []) le hc hd h = absurd (omega (arith, le))
+space_due_of_one (c ∷ d ∷ rest) le hc hd h = rw (one_day_read c d rest hc hd, month_refused d rest h) refl
 
 -- ---- a first byte behind the digits begins no number
 
@@ -106,39 +134,27 @@ no_digit c h = elim (is_ascii_digit c) as (λ b. is_ascii_digit c ≡ b → is_a
   | false ↦ λ t. t
 ] refl
 
--- RFC 2822: a number is due where no weekday stands
+-- RFC 2822: a comma is due behind a weekday, and a number where none stands
 
-no_day : (c : ℕ) (rest : List ℕ) → 57 < c → weekday (c ∷ rest) ≡ None → result_ok (rfc2822_direct.direct (c ∷ rest)) ≡ None
-unfolding rfc2822_direct.direct rfc2822_direct.moment rfc2822.rfc2822 rfc2822.day rfc2822.optional_weekday rfc2822.one_or_two_digits digits
-no_day c rest h unnamed = rw (none_at c rest (omega (arith, h)), unnamed, no_digit c h) refl
+no_day : (c : ℕ) (rest : List ℕ) → 57 < c → byte rfc2822.comma (drop 3 (c ∷ rest)) ≡ None → (fault : Fault) × (rfc2822.day false (c ∷ rest) ≡ Err fault)
+unfolding rfc2822.day rfc2822.optional_weekday rfc2822.named_day rfc2822.one_or_two_digits digits weekday
+no_day c rest h e =
+    let none = none_at c rest (omega (arith, h)) in
+    elim (nat_le 3 (length (c ∷ rest))) as (λ b. nat_le 3 (length (c ∷ rest)) ≡ b → (fault : Fault) × (rfc2822.day false (c ∷ rest) ≡ Err fault)) [
+      | true ↦ λ l. elim (weekday_of (take 3 (c ∷ rest))) as (λ o. weekday_of (take 3 (c ∷ rest)) ≡ o → (fault : Fault) × (rfc2822.day false (c ∷ rest) ≡ Err fault)) [
+        | Some w ↦ λ t. (literal, rw (none, l, t, e) refl)
+        | None ↦ λ t. (component (codes "day"), rw (none, l, t, no_digit c h) refl)
+      ] refl
+      | false ↦ λ l. (component (codes "day"), rw (none, l, no_digit c h) refl)
+    ] refl
 
-unnamed : (c : ℕ) (rest : List ℕ) → ((d e : ℕ) → weekday_of (c ∷ d ∷ e ∷ []) ≡ None) → weekday (c ∷ rest) ≡ None
-unfolding weekday
-unnamed c [] none = refl
-unnamed c (d ∷ []) none = refl
-unnamed c (d ∷ e ∷ rest) none = no_named (leb 3 (length (c ∷ d ∷ e ∷ rest))) (weekday_of (c ∷ d ∷ e ∷ [])) rest (none d e)
+pub day_due : (bytes : List ℕ) → 57 < get_or bytes 0 0 → eqb (get_or bytes 3 0) rfc2822.comma ≡ false → result_ok (rfc2822_direct.direct bytes) ≡ None
+unfolding rfc2822_direct.direct rfc2822_direct.moment rfc2822.rfc2822
+day_due [] h e = absurd (omega (arith, h))
+day_due (c ∷ rest) h e = let refused = no_day c rest h (no_byte rfc2822.comma (c ∷ rest) 3 e) in rw refused.1 refl
 
-other_letter : (c upper lower : ℕ) → lower ≡ upper + 32 → (c ≡ upper → ⊥) → (c ≡ lower → ⊥) → eqb (to_ascii_lowercase c) lower ≡ false
-other_letter c upper lower e u l = go (nat_lt c 65) (nat_lt c 91)
-  where
-    same : eqb c lower ≡ false
-    same = ne_eqb c lower l
-
-    moved : eqb (c + 32) lower ≡ false
-    moved = ne_eqb (c + 32) lower (λ h. u (omega (arith, h, e)))
-
-    go : (a b : Bool) → eqb (cond a c (cond b (c + 32) c)) lower ≡ false
-    go true b = same
-    go false true = moved
-    go false false = same
-
-pub day_due : (bytes : List ℕ) → 1 ≤ length bytes → 57 < get_or bytes 0 0
-    → (get_or bytes 0 0 ≡ 70 → ⊥) → (get_or bytes 0 0 ≡ 102 → ⊥) → (get_or bytes 0 0 ≡ 77 → ⊥) → (get_or bytes 0 0 ≡ 109 → ⊥) → (get_or bytes 0 0 ≡ 83 → ⊥)
-    → (get_or bytes 0 0 ≡ 115 → ⊥) → (get_or bytes 0 0 ≡ 84 → ⊥) → (get_or bytes 0 0 ≡ 116 → ⊥) → (get_or bytes 0 0 ≡ 87 → ⊥) → (get_or bytes 0 0 ≡ 119 → ⊥)
-    → result_ok (rfc2822_direct.direct bytes) ≡ None
-day_due [] le h F f M m S s T t W w = absurd (omega (arith, le))
-day_due (c ∷ rest) le h F f M m S s T t W w =
-    no_day c rest h (unnamed c rest (λ d e. other_name c d e (other_letter c 70 102 refl F f) (other_letter c 77 109 refl M m) (other_letter c 83 115 refl S s) (other_letter c 84 116 refl T t) (other_letter c 87 119 refl W w)))
+pub day_due_of_few : (bytes : List ℕ) → length bytes ≤ 3 → 57 < get_or bytes 0 0 → result_ok (rfc2822_direct.direct bytes) ≡ None
+day_due_of_few bytes le h = day_due bytes h (rw (short_get bytes 3 le) refl)
 
 pub day_due_of_nothing : (bytes : List ℕ) → length bytes < 1 → result_ok (rfc2822_direct.direct bytes) ≡ None
 unfolding rfc2822_direct.direct rfc2822_direct.moment rfc2822.rfc2822 rfc2822.day rfc2822.optional_weekday rfc2822.one_or_two_digits digits weekday

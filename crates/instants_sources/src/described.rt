@@ -1,17 +1,21 @@
 //! Descriptions, with the bytes that their lines begin with, and a plan where all parts have fixed widths.
-ghost use Rattle.std.specs.Prelude.{◌≡◌, true, None, IfSome};
+ghost use Rattle.std.specs.Prelude.{◌≡◌, true, false, None, IfSome};
 ghost use Rattle.std.specs.Option.{ForSome};
 ghost use Rattle.std.specs.Result.{result_ok};
 ghost use Rattle.description_items.specs.Tree.{listed, trees};
 ghost use Rattle.description_tree.specs.Description.{v3_tree};
 ghost use Rattle.parsing_components.specs.Component.{reads_component, reads_component_v3};
-ghost use Rattle.parsing_first_bytes.specs.FirstBytes.{AreOf};
-ghost use Rattle.parsing_plan.specs.Plan.{IsPlanOf};
+ghost use Rattle.parsing_first_bytes.specs.FirstBytes.{AreOf, IsRefusedAt};
+ghost use Rattle.parsing_combinator.specs.Tame.{EndsWith};
+ghost use Rattle.parsing_fields.specs.Moment.{moment_of};
+ghost use Rattle.parsing_plan.specs.Plan.{IsPlanOf, NamesFront};
 ghost use Rattle.parsing_record.specs.Reads.{reading, reading_of_all};
 ghost use Rattle.parsing_record.specs.Record.{Record};
 
+use calendar::UtcOffset;
 use description_items::BorrowedFormatItem;
 use description_tree::FormatDescriptionV3;
+use parsing_fields::Fields;
 use parsing_first_bytes::FirstBytes;
 use parsing_plan::Plan;
 
@@ -28,6 +32,8 @@ pub struct DescribedItems<'a> {
 }
 
 impl<'a> DescribedItems<'a> {
+    ghost use Rattle.instants_sources.specs.Tried.{beginning};
+
     pub(crate) fn new(items: Vec<BorrowedFormatItem<'a>>) -> DescribedItems<'a>
         ensures { result.items ≡ items.entry }
     {
@@ -57,6 +63,25 @@ impl<'a> DescribedItems<'a> {
         }
     }
 
+    /// The fields of a front of a line that the items read, where a plan finds them, with an offset assumed or none, and
+    /// what stands behind that front: `None` says nothing of the line.
+    #[inline(always)]
+    pub fn read_front<'l>(
+        &self,
+        line: &'l [u8],
+        assumed: Option<UtcOffset>,
+    ) -> Option<(Fields, &'l [u8])>
+        ensures front { IfSome result (λ x. NamesFront
+            (reading_of_all reads_component (listed (trees self.now.items.items)))
+            (beginning assumed) line.now x.1.now (moment_of x.0)) }
+        ensures end { IfSome result (λ x. EndsWith line.now x.1.now) }
+    {
+        match self.plan() {
+            Some(plan) => plan.read_front(line, assumed),
+            None => None,
+        }
+    }
+
     /// Whether the first bytes of a line show that the items don't read it.
     #[inline(always)]
     pub fn cannot_match(&self, line: &[u8]) -> bool
@@ -66,6 +91,14 @@ impl<'a> DescribedItems<'a> {
             ≡ None }
     {
         self.first_bytes.rule_out(line)
+    }
+
+    /// Whether a line that the items read can begin with a byte: `true` says nothing of the line.
+    pub fn can_begin(&self, byte: u8) -> bool
+        ensures { result ≡ false → IsRefusedAt
+            (reading_of_all reads_component (listed (trees self.now.items.items))) 0 byte }
+    {
+        self.first_bytes.can_begin(byte)
     }
 }
 
@@ -81,6 +114,8 @@ pub struct DescribedTree<'a> {
 }
 
 impl<'a> DescribedTree<'a> {
+    ghost use Rattle.instants_sources.specs.Tried.{beginning};
+
     pub(crate) fn new(tree: FormatDescriptionV3<'a>) -> DescribedTree<'a>
         ensures { result.tree ≡ tree.entry }
     {
@@ -110,6 +145,25 @@ impl<'a> DescribedTree<'a> {
         }
     }
 
+    /// The fields of a front of a line that the tree reads, where a plan finds them, with an offset assumed or none, and
+    /// what stands behind that front: `None` says nothing of the line.
+    #[inline(always)]
+    pub fn read_front<'l>(
+        &self,
+        line: &'l [u8],
+        assumed: Option<UtcOffset>,
+    ) -> Option<(Fields, &'l [u8])>
+        ensures front { IfSome result (λ x. NamesFront
+            (reading reads_component_v3 (v3_tree self.now.tree))
+            (beginning assumed) line.now x.1.now (moment_of x.0)) }
+        ensures end { IfSome result (λ x. EndsWith line.now x.1.now) }
+    {
+        match self.plan() {
+            Some(plan) => plan.read_front(line, assumed),
+            None => None,
+        }
+    }
+
     /// Whether the first bytes of a line show that the tree doesn't read it.
     #[inline(always)]
     pub fn cannot_match(&self, line: &[u8]) -> bool
@@ -117,5 +171,13 @@ impl<'a> DescribedTree<'a> {
             → result_ok (reading reads_component_v3 (v3_tree self.now.tree) r line.now) ≡ None }
     {
         self.first_bytes.rule_out(line)
+    }
+
+    /// Whether a line that the tree reads can begin with a byte: `true` says nothing of the line.
+    pub fn can_begin(&self, byte: u8) -> bool
+        ensures { result ≡ false
+            → IsRefusedAt (reading reads_component_v3 (v3_tree self.now.tree)) 0 byte }
+    {
+        self.first_bytes.can_begin(byte)
     }
 }

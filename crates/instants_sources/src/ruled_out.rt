@@ -17,38 +17,33 @@ pub(crate) fn has_no_hyphen(line: &[u8]) -> bool
     line[4] != b'-'
 }
 
-/// Whether neither white space nor a comment stands behind two digits that begin a line, so that RFC 2822 names no moment
-/// for it.
+/// Whether neither white space nor a comment stands behind the one digit or the two that begin a line, so that RFC 2822 names
+/// no moment for it.
 #[inline(always)]
 pub(crate) fn has_no_space(line: &[u8]) -> bool
     ensures { result ≡ true → result_ok (rfc2822.direct line.now) ≡ None }
 {
-    if line.len() < 3 {
+    if line.len() < 3 || !line[0].is_ascii_digit() {
         return false;
     }
-    line[0].is_ascii_digit() && line[1].is_ascii_digit() && line[2] > b'('
+    if line[1].is_ascii_digit() {
+        line[2] > b'('
+    } else {
+        line[1] > b'('
+    }
 }
 
-/// Whether a line is empty or begins behind the digits, and with no first letter of a weekday, so that RFC 2822 names no
-/// moment for it.
+/// Whether a line is empty, or begins behind the digits and with no comma behind three bytes, as one stands behind a weekday,
+/// so that RFC 2822 names no moment for it.
 #[inline(always)]
 pub(crate) fn begins_no_day(line: &[u8]) -> bool
     ensures { result ≡ true → result_ok (rfc2822.direct line.now) ≡ None }
 {
-    let [first, ..] = line else {
-        return true;
-    };
-    let first = *first;
-    if first <= b'9' {
-        return false;
+    match line {
+        [first, _, _, behind, ..] => *first > b'9' && *behind != b',',
+        [first, ..] => *first > b'9',
+        [] => true,
     }
-    if first == b'F' || first == b'M' || first == b'S' || first == b'T' || first == b'W' {
-        return false;
-    }
-    if first == b'f' || first == b'm' || first == b's' || first == b't' || first == b'w' {
-        return false;
-    }
-    true
 }
 
 /// Whether a line is empty or begins behind the digits, and with neither a `T` nor a `Z`, so that ISO 8601 reads no part

@@ -2,7 +2,7 @@
 
 use calendar::UtcOffset;
 use instants::read_words;
-use instants_found::{find, read_front};
+use instants_found::{Finder, Found, find, read_front};
 use instants_sources::Source;
 use std::alloc::Global;
 use std::process::Abort;
@@ -11,7 +11,7 @@ use std::process::Abort;
 type Told = Option<(usize, usize, usize, i64)>;
 
 // Words parted by bars, a line, and what is found in it.
-static ROWS: [(&str, &str, Told); 25] = [
+static ROWS: [(&str, &str, Told); 31] = [
     (
         "+00:00|-|100|strftime|%d/%b/%Y:%H:%M:%S %z",
         "127.0.0.1 - - [10/Oct/2000:13:55:36 -0700] \"GET / HTTP/1.0\" 200",
@@ -122,6 +122,37 @@ static ROWS: [(&str, &str, Told); 25] = [
         "20210102T030405, 2 errors",
         None,
     ),
+    // Far behind the beginning, at the end of sixteen bytes, at the beginning of the next ones, and behind them.
+    (
+        "+00:00|-|100|rfc3339",
+        "0123456789abcde 2021-01-02T03:04:05Z 2022-01-02T03:04:05Z",
+        Some((16, 36, 0, 1_609_556_645)),
+    ),
+    (
+        "+00:00|-|100|rfc3339|iso8601",
+        "0123456789abcdef 2021-01-02T03:04:05Z",
+        Some((17, 37, 0, 1_609_556_645)),
+    ),
+    (
+        "+00:00|-|100|rfc2822|v3|[year]-[month]-[day]T[hour]:[minute]:[second]Z",
+        "of 12 lines 3456 were read at Tomorrow, Friday, (Sat, 02 Jan 2021 03:04:06 +0000)",
+        Some((49, 80, 0, 1_609_556_646)),
+    ),
+    (
+        "+00:00|-|100|strftime|(%FT%T%z",
+        "0123456789abcdefghijklmnopqrstuvwxyz(2021-01-02T03:04:05+0100",
+        Some((36, 61, 0, 1_609_553_045)),
+    ),
+    (
+        "+00:00|+00:00|100|strftime|%b %e %Y %T",
+        "Januaries and Octobers, Mayday, june 31 and May  1: 012 Jan  2 2021 03:04:05",
+        Some((56, 76, 0, 1_609_556_645)),
+    ),
+    (
+        "+00:00|-|100|rfc3339|iso8601|rfc2822",
+        "1 22 333 4444-55-66 T Z +1 -2 Monday 7 8 9 Tue, 10 x11 y-12-13",
+        None,
+    ),
 ];
 
 // The sources that words ask for, which are parted by bars, and the offset that they assume.
@@ -141,15 +172,22 @@ fn sources<'a>(
     (sources, said.assumed)
 }
 
-fn told(sources: &[Source], assumed: Option<UtcOffset>, line: &str) -> Told {
-    let date = find(sources, assumed, line.as_bytes())?;
+fn told(date: Option<Found>) -> Told {
+    let date = date?;
     let second = date.moment.unix_timestamp();
     Some((date.start, date.end, date.source, second))
 }
 
+// Whether this is found, by the sources as they are and by a finder that has them.
 fn is_told(rt: &impl Abort, alloc: Global, words: &str, line: &str, wanted: Told) -> bool {
     let (sources, assumed) = sources(rt, alloc, words);
-    told(sources.as_slice(), assumed, line) == wanted
+    let count = sources.len();
+    let found = told(find(sources.as_slice(), assumed, line.as_bytes()));
+    let finder = Finder::new(sources, assumed);
+    finder.sources().len() == count
+        && finder.assumed() == assumed
+        && found == wanted
+        && told(finder.find(line.as_bytes())) == wanted
 }
 
 #[test]

@@ -84,15 +84,21 @@ v3 [hour]:[minute] => 01:00 => is not
 v3 [optional [x]]y => y => is not
 v3 [optional [x]]y => z => is not";
 
+// Whether they rule a line out. They do where no line can begin as it does.
+fn rule_out(bytes: &FirstBytes, line: &[u8]) -> bool {
+    let first = line.first().copied().unwrap_or(0);
+    bytes.rule_out(line) || !bytes.can_begin(first)
+}
+
 fn by_letters(alloc: Global, text: &str, line: &[u8]) -> Option<bool> {
     let items = parse_strftime_borrowed(alloc, text).ok()?;
-    Some(FirstBytes::of_items(&items).rule_out(line))
+    Some(rule_out(&FirstBytes::of_items(&items), line))
 }
 
 fn by(description: &Description, line: &[u8]) -> bool {
     match description {
-        Description::Items(items) => FirstBytes::of_items(items).rule_out(line),
-        Description::V3(description) => FirstBytes::of_description(description).rule_out(line),
+        Description::Items(items) => rule_out(&FirstBytes::of_items(items), line),
+        Description::V3(description) => rule_out(&FirstBytes::of_description(description), line),
     }
 }
 

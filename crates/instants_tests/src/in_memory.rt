@@ -11,8 +11,9 @@ static NO_WORDS: [&str; 1] = ["+00:00"];
 
 const INPUT: &[u8] = b"2021-01-02T04:04:05+01:00\n";
 
-// How many bytes the answer has, or the status, and the room behind it: that of a line, as the law of blocks allows.
+// How many bytes the answer has, or the status, and the room behind it: that of a line, as the laws allow.
 fn answered(alloc: Global, words: &[&str]) -> (Result<usize, u8>, [u8; LINE_ROOM]) {
+    laws::one_output();
     laws::joined_blocks();
     let mut output = [b'.'; LINE_ROOM];
     let answer = answer_lines(alloc, words, INPUT, &mut output);

@@ -3,7 +3,7 @@
 use calendar::UtcOffset;
 use datetime::OffsetDateTime;
 use instants::SourceText;
-use instants_sources::{Source, fast_iso8601, fast_rfc2822, fast_rfc3339, is_no_rfc3339};
+use instants_sources::{Source, fast_iso8601, fast_rfc2822, fast_rfc3339, is_no_rfc3339, starting};
 use parsing_fields::Fields;
 use std::alloc::{AllocError, Global};
 use std::process::Abort;
@@ -23,8 +23,9 @@ static CASES: [(SourceText<'static>, &str); 6] = [
         "01 Jan 1970 00:00:01 Z => Some(1) Some(1) false
 1 Jan 1970 00:00 GMT => Some(0) Some(0) false
 01/Jan/1970:00:00:01 Z => None None true
-Jan => None None true
-Fri => None None false
+1/2 => None None true
+Jan, => None None false
+Fri => None None true
  => None None true",
     ),
     (
@@ -182,8 +183,19 @@ fn all_shown() -> [(bool, bool, bool); 4] {
     ]
 }
 
+// The hours of an offset that a reading begins with.
+fn assumed_hours() -> [Option<i8>; 2] {
+    [
+        starting(UtcOffset::from_hms(1, 30, 0).ok()).offset_hour(),
+        starting(None).offset_hour(),
+    ]
+}
+
 #[test]
 fn beginnings(rt: HostRuntime) {
     let none = (true, true, false);
-    assert!(rt; all_shown() == [(false, false, false), none, (true, false, false), none]);
+    assert!(rt;
+        all_shown() == [(false, false, false), none, (true, false, false), none]
+            && assumed_hours() == [Some(1), None]
+    );
 }

@@ -1,5 +1,5 @@
 //! The bytes that can stand at the first places of a line.
-ghost use Rattle.std.specs.Prelude.{◌≡◌, get_or, map};
+ghost use Rattle.std.specs.Prelude.{◌≡◌, ℕ, true, false, List, get_or, map};
 ghost use Rattle.description_items.specs.Tree.{trees, listed};
 ghost use Rattle.description_tree.specs.Description.{v3_tree};
 ghost use Rattle.parsing_components.specs.Component.{reads_component, reads_component_v3};
@@ -87,6 +87,15 @@ impl FirstBytes {
             && self.second[byte_at(line, 1)]
             && self.third[byte_at(line, 2)]
             && self.fourth[byte_at(line, 3)])
+    }
+
+    /// Whether a line that is read can begin with a byte: `true` says nothing of the line.
+    #[tactic(auto, unfolding(crate::specs::FirstBytes::rule_out))]
+    pub fn can_begin(&self, byte: u8) -> bool
+        ensures { result ≡ false
+            → (line : List ℕ) → get_or line 0 0 ≡ byte → rule_out self.now line ≡ true }
+    {
+        self.first[usize::from(byte)]
     }
 }
 

@@ -1,9 +1,8 @@
 -- The moment of a line that has the layout of a plan.
 use Rattle.std.proofs.Common.{◌≡◌, ◌≤◌, ◌<◌, ◌+◌, ◌*◌, ◌∙◌, ℕ, false, List, [], length, drop, Option, Some, None, Ok, refl, ap, arith, pos, ℤ}
-use Rattle.std.specs.Prelude.{IsSome, ◌*ℤ◌}
+use Rattle.std.specs.Prelude.{IsSome, IfSome, ◌*ℤ◌}
 use Rattle.std.specs.Option.{unwrap_or}
 use Rattle.std.specs.Int.{is_in_range}
-use Rattle.std.proofs.lemmas.List.{drop_all}
 use Rattle.calendar_count.specs.Calendar.{is_year}
 use Rattle.calendar_count.specs.Month.{month_number}
 use Rattle.calendar_count.specs.declared.weekday.Weekday.{Weekday}
@@ -31,7 +30,7 @@ use Rattle.parsing_slots.specs.Slot.{Values}
 use Rattle.parsing_plan.specs.Layout.{HasText, Says, read_or, with_values}
 use Rattle.parsing_plan.specs.Parts.{SaysDate, SaysClock, SaysFraction, SaysOffset}
 use Rattle.parsing_plan.specs.Bounds.{IsFront, HasNoClock}
-use Rattle.parsing_plan.specs.Plan.{IsLayoutOf, IsSplitOf, beginning}
+use Rattle.parsing_plan.specs.Plan.{IsLayoutOf, IsSplitOf, NamesFront, beginning}
 
 -- ---- the record
 
@@ -106,18 +105,29 @@ moment_there l line assumed year month day minute second fraction offset d t n o
     let in_fraction : unwrap_or r.subsecond 0 ≡ fraction = ap (λ (x : Option ℕ). unwrap_or (read_or l.subsecond (Some n.nanosecond) x) 0) (none_before assumed) ∙ n.fraction_is in
     ap (λ (x : Record). moment_named x) same ∙ dated l v w r (day_of_fields f) (time_of_fields f) fraction (pos 60 *ℤ f.offset) (bare_or assumed (read_or l.subsecond (Some n.nanosecond) (beginning assumed).subsecond)) in_fraction in_day in_time in_offset ∙ ap (λ (x : Shown). Ok x) (moment_is f)
 
+-- a front that is all of the line is read as a whole
 pub whole_is : (m : Meaning) (defaults : Option Record) (line : List ℕ) (r : Record) → m (starting defaults) line ≡ Ok (r, []) → whole m defaults line ≡ Ok r
 unfolding whole
 whole_is m defaults line r e = rw e refl
 
-pub line_read : (l : Layout) (line : List ℕ) (assumed : Option ℤ) (year month day minute second fraction : ℕ) (offset : ℤ) → HasText l line → length line ≡ l.length → SaysDate l line year month day → SaysClock l line minute second → SaysFraction l line fraction → SaysOffset l line assumed offset
-    → (f : Fields) → fraction < 1_000_000_000 → HaveNumbers f year month day minute second fraction offset → (m : Meaning) (defaults : Option Record) → IsLayoutOf m l → starting defaults ≡ beginning assumed → names moment_named (whole m defaults line) ≡ Ok (moment_of f)
-line_read l line assumed year month day minute second fraction offset text long d t s o f bound n m defaults plan start =
+whole_named : (m : Meaning) (defaults : Option Record) (line rest : List ℕ) (assumed : Option ℤ) (moment : Shown) → rest ≡ [] → starting defaults ≡ beginning assumed → NamesFront m (beginning assumed) line rest moment → names moment_named (whole m defaults line) ≡ Ok moment
+whole_named m defaults line rest assumed moment nothing start front =
+    let all : m (starting defaults) line ≡ Ok (front.set, []) = rw (start, ← nothing) front.reads in
+    rw (whole_is m defaults line front.set all) front.names
+
+pub if_whole_named : (m : Meaning) (defaults : Option Record) (line rest : List ℕ) (assumed : Option ℤ) (o : Option Fields) → rest ≡ [] → starting defaults ≡ beginning assumed → IfSome o (λ f. NamesFront m (beginning assumed) line rest (moment_of f)) → IfSome o (λ f. names moment_named (whole m defaults line) ≡ Ok (moment_of f))
+if_whole_named m defaults line rest assumed None nothing start front = tt
+if_whole_named m defaults line rest assumed (Some f) nothing start front = whole_named m defaults line rest assumed (moment_of f) nothing start front
+
+pub line_read : (l : Layout) (line : List ℕ) (assumed : Option ℤ) (year month day minute second fraction : ℕ) (offset : ℤ) → HasText l line → l.length ≤ length line → SaysDate l line year month day → SaysClock l line minute second → SaysFraction l line fraction → SaysOffset l line assumed offset
+    → (f : Fields) → fraction < 1_000_000_000 → HaveNumbers f year month day minute second fraction offset → (m : Meaning) → IsLayoutOf m l → NamesFront m (beginning assumed) line (drop l.length line) (moment_of f)
+line_read l line assumed year month day minute second fraction offset text long d t s o f bound n m plan =
     let v : Values = values_of l line assumed year month day minute second fraction offset d t s o in
-    let nothing : drop l.length line ≡ [] = drop_all l.length line (omega (arith, long)) in
-    let read = was_read (m (starting defaults) line) _ (plan line v (omega (arith, long)) (all_says l line assumed year month day minute second fraction offset d t s o text) (starting defaults)) in
-    let all : m (starting defaults) line ≡ Ok (with_values l v (beginning assumed), []) = rw (← start, ← nothing) read in
-    rw (whole_is m defaults line (with_values l v (beginning assumed)) all) (moment_there l line assumed year month day minute second fraction offset d t s o f bound n)
+    record {
+      set = with_values l v (beginning assumed);
+      reads = was_read (m (beginning assumed) line) _ (plan line v long (all_says l line assumed year month day minute second fraction offset d t s o text) (beginning assumed));
+      names = moment_there l line assumed year month day minute second fraction offset d t s o f bound n;
+    }
 
 -- ---- the line with a fraction
 
@@ -151,11 +161,12 @@ split_moment front line rest assumed back year month day minute second nanosecon
     let in_offset : offset_named (filled back v w r) ≡ Ok (pos 60 *ℤ f.offset) = rw n.same_offset o.offset_is in
     ap (λ (x : Record). moment_named x) same ∙ dated back v w r (day_of_fields f) (time_of_fields f) nanosecond (pos 60 *ℤ f.offset) (bare_fraction assumed nanosecond) refl in_day in_time in_offset ∙ ap (λ (x : Shown). Ok x) (moment_is f)
 
-pub split_read : (front back : Layout) (line rest : List ℕ) (assumed : Option ℤ) (year month day minute second nanosecond : ℕ) (offset : ℤ) → IsFront front → HasNoClock back → front.length ≤ length line → HasText front line → taken (fraction_between 1 32) (drop front.length line) ≡ Some (nanosecond, rest) → nanosecond < 1_000_000_000 → length rest ≡ back.length → HasText back rest → SaysDate front line year month day → SaysClock front line minute second → SaysOffset back rest assumed offset
-    → (f : Fields) → HaveNumbers f year month day minute second nanosecond offset → (m : Meaning) (defaults : Option Record) → IsSplitOf m front back → starting defaults ≡ beginning assumed → names moment_named (whole m defaults line) ≡ Ok (moment_of f)
-split_read front back line rest assumed year month day minute second nanosecond offset none clock fits text fraction bound long back_text d t o f n m defaults plan start =
+pub split_read : (front back : Layout) (line rest : List ℕ) (assumed : Option ℤ) (year month day minute second nanosecond : ℕ) (offset : ℤ) → IsFront front → HasNoClock back → front.length ≤ length line → HasText front line → taken (fraction_between 1 32) (drop front.length line) ≡ Some (nanosecond, rest) → nanosecond < 1_000_000_000 → back.length ≤ length rest → HasText back rest → SaysDate front line year month day → SaysClock front line minute second → SaysOffset back rest assumed offset
+    → (f : Fields) → HaveNumbers f year month day minute second nanosecond offset → (m : Meaning) → IsSplitOf m front back → NamesFront m (beginning assumed) line (drop back.length rest) (moment_of f)
+split_read front back line rest assumed year month day minute second nanosecond offset none clock fits text fraction bound long back_text d t o f n m plan =
     let v : Values = split_values front back line rest assumed year month day minute second offset d t o in
-    let nothing : drop back.length rest ≡ [] = drop_all back.length rest (omega (arith, long)) in
-    let read = was_read (m (starting defaults) line) _ (plan line v nanosecond rest fits (front_says front line rest assumed back year month day minute second offset d t o none text) fraction (omega (arith, long)) (back_says front line rest assumed back year month day minute second offset d t o clock back_text) (starting defaults)) in
-    let all : m (starting defaults) line ≡ Ok (with_values back v (record (with_values front v (beginning assumed)) { subsecond = Some nanosecond }), []) = rw (← start, ← nothing) read in
-    rw (whole_is m defaults line (with_values back v (record (with_values front v (beginning assumed)) { subsecond = Some nanosecond })) all) (split_moment front line rest assumed back year month day minute second nanosecond offset d t o f none clock bound n)
+    record {
+      set = with_values back v (record (with_values front v (beginning assumed)) { subsecond = Some nanosecond });
+      reads = was_read (m (beginning assumed) line) _ (plan line v nanosecond rest fits (front_says front line rest assumed back year month day minute second offset d t o none text) fraction long (back_says front line rest assumed back year month day minute second offset d t o clock back_text) (beginning assumed));
+      names = split_moment front line rest assumed back year month day minute second nanosecond offset d t o f none clock bound n;
+    }

@@ -1,5 +1,5 @@
 -- What stands at a place of a line, by what its pieces cut off there.
-use Rattle.std.proofs.Common.{bit_and, ◌≡◌, ◌≤◌, ◌<◌, ◌+◌, ◌-◌, ◌*◌, ◌%◌, ◌∙◌, ◌==◌, ◌||◌, ◌&&◌, inl, inr, ℕ, Bool, true, false, List, [], ◌∷◌, take, drop, length, get_or, min, leb, Option, Some, None, Ok, refl, sym, ap, arith, pos}
+use Rattle.std.proofs.Common.{bit_and, ◌≡◌, ◌≤◌, ◌<◌, ◌+◌, ◌-◌, ◌*◌, ◌%◌, ◌∙◌, ◌==◌, ◌||◌, ◌&&◌, inl, inr, ℕ, Bool, true, false, List, [], ◌∷◌, take, drop, length, get_or, min, leb, Option, Some, None, Ok, refl, sym, ap, subst, arith, pos}
 use Rattle.std.specs.Prelude.{nat_le, ◌⊎◌, nat_lt, IsTrue, IfSome, option_map, if◌then◌else◌, ℤ, ◌*ℤ◌}
 use Rattle.std.specs.Int.{is_in_range}
 use Rattle.std.proofs.lemmas.Nat.{and_mask}
@@ -18,6 +18,8 @@ use Rattle.parsing_combinator.specs.Pieces.{fraction, digit_run, nanoseconds_of,
 use Rattle.parsing_values.specs.Resolution.{signed_offset_of}
 use Rattle.parsing_values.proofs.lemmas.Ranges.{offset_ranges}
 use Rattle.parsing_combinator.specs.Shape.{taken, fraction_between, spaced_between, is_space}
+use Rattle.parsing_combinator.specs.Tame.{EndsWith}
+use Rattle.parsing_combinator.proofs.lemmas.Tame.{dropped, joined}
 use Rattle.parsing_combinator.specs.Numbers.{offset_hour}
 use Rattle.parsing_combinator.specs.Names.{named, found, begins, short_months, short_weekdays}
 use Rattle.parsing_combinator.proofs.Components.{taken_offset_hour, taken_padded_exactly}
@@ -283,6 +285,13 @@ fraction_ended line rest place count n e few long =
     let left : length (drop place line) - length rest ≡ count = omega (arith, length-drop place line) in
     let is : rest ≡ drop (place + count) line = fraction_rest (drop place line) rest n e ∙ ap (λ (k : ℕ). drop k (drop place line)) left ∙ drop-drop count place line in
     fraction_taken (drop place line) rest n e few ∙ ap (λ (xs : List ℕ). Some (n, xs)) is
+
+pub fraction_ends : (line rest : List ℕ) (place k n : ℕ) → fraction (drop place line) ≡ Some (n, rest) → EndsWith line (drop k rest)
+fraction_ends line rest place k n e =
+    let bytes : List ℕ = drop place line in
+    let is : drop (length bytes - length rest) bytes ≡ rest = sym (fraction_rest bytes rest n e) in
+    let ends : EndsWith bytes rest = subst (EndsWith bytes) is (dropped (length bytes - length rest) bytes) in
+    joined line bytes (drop k rest) (dropped place line) (joined bytes rest (drop k rest) ends (dropped k rest))
 
 -- ---- what stands behind a fraction
 

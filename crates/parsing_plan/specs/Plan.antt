@@ -1,10 +1,12 @@
 -- Plans, and the items that they stand for.
-use Rattle.std.specs.Prelude.{◌≡◌, ◌≤◌, ℕ, List, drop, length, Some}
+use Rattle.std.specs.Prelude.{◌≡◌, ◌≤◌, ℕ, List, drop, length, Some, Ok}
 use Rattle.std.specs.Result.{result_ok}
 use Rattle.std.specs.Option.{ForSome, ForNone}
+use Rattle.datetime_wall.specs.Wall.{Shown}
 use Rattle.parsing_combinator.specs.Shape.{taken, fraction_between}
 use Rattle.parsing_record.specs.Meaning.{Meaning}
 use Rattle.parsing_record.specs.Record.{Record}
+use Rattle.parsing_record.specs.Whole.{moment_named}
 use Rattle.parsing_slots.specs.Slot.{Values}
 use Rattle.parsing_plan.specs.Layout.{Says, with_values}
 use Rattle.parsing_plan.specs.declared.layout.Layout.{Layout}
@@ -29,3 +31,9 @@ ArePlacesOf m places = ForNone places.back (IsLayoutOf m places.layout) × ForSo
 -- the items read as the plan says
 abbrev pub IsPlanOf : Meaning → Plan → Type 0
 IsPlanOf m plan = ForSome plan.places (ArePlacesOf m) × ForSome plan.unix (λ unix. IsUnixOf m unix.finer)
+
+-- the items read a front of the line from a record, leave this rest, and the record that they set names this moment
+pub record NamesFront (m : Meaning) (r : Record) (line rest : List ℕ) (moment : Shown) : Type 0 where
+  pub set : Record
+  pub reads : m r line ≡ Ok (set, rest)
+  pub names : moment_named set ≡ Ok moment

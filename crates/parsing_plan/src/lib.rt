@@ -6,6 +6,7 @@ mod items;
 mod layout;
 mod plan;
 mod read;
+mod readings;
 mod tail;
 mod unix;
 

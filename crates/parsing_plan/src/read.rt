@@ -1,4 +1,4 @@
-//! The fields of a line, by the places of its parts.
+//! The fields of a front of a line, by the places of its parts.
 ghost use Rattle.std.specs.Prelude.{◌≡◌, ◌<◌, ◌≤◌, ◌+◌, ◌-◌, ◌*◌, ◌==◌, ◌||◌, ◌*ℤ◌, pos, Ok, Some, None, true, false, drop, get_or, length, unsigned_abs, IfSome, Option};
 ghost use Rattle.std.specs.Option.{ForSome, ForNone};
 ghost use Rattle.calendar_count.specs.Calendar.{IsDay};
@@ -6,16 +6,15 @@ ghost use Rattle.parsing_combinator.specs.Pieces.{digits};
 ghost use Rattle.parsing_combinator.specs.Shape.{taken, fraction_between};
 ghost use Rattle.parsing_fields.specs.Moment.{moment_of};
 ghost use Rattle.parsing_record.specs.Meaning.{Meaning};
-ghost use Rattle.parsing_record.specs.Record.{Record};
-ghost use Rattle.parsing_record.specs.Whole.{whole, names, moment_named, offset_named, starting};
+ghost use Rattle.parsing_record.specs.Whole.{offset_named};
 ghost use Rattle.parsing_plan.specs.Bounds.{HasPair, HasSixty, HasSpaced, HasNoOffset, HasOffset, IsFront};
 ghost use Rattle.parsing_plan.specs.Parts.{Fits, IsNameOf, IsWeekdayNameOf, WritesAt, WritesDay, WritesOffset, SaysMonth, SaysWeekday, SaysDate, SaysClock, SaysFraction, SaysOffset};
 ghost use Rattle.parsing_plan.specs.Beginning.{beginning};
-ghost use Rattle.parsing_plan.specs.Plan.{ArePlacesOf, IsPlanOf, IsSplitOf};
+ghost use Rattle.parsing_plan.specs.Plan.{IsLayoutOf, IsSplitOf, NamesFront};
 
-use crate::bounds::{Bounds, LANES, from};
+use crate::bounds::{Bounds, from};
 use crate::layout::Layout;
-use crate::plan::{Back, OffsetPlaces, Places, Plan};
+use crate::plan::{Back, OffsetPlaces, Places};
 use calendar::{Month, UtcOffset, Weekday};
 use calendar_count::closed;
 use parsing_fields::{Fields, Fraction, offset_minutes};
@@ -283,7 +282,7 @@ fn offset(
 
 // The fraction of the digits from a place on, so many, at most nine, behind which no digit stands.
 #[inline(always)]
-fn fraction_at(line: &[u8], place: usize, count: usize) -> Option<Fraction>
+pub(crate) fn fraction_at(line: &[u8], place: usize, count: usize) -> Option<Fraction>
     requires some { 0 < count }
     requires room { 8 ≤ place }
     requires within { place + count ≤ length line.now }
@@ -321,81 +320,47 @@ fn fraction(plan: &Places, line: &[u8]) -> Option<Fraction>
     }
 }
 
-// Whether what stands behind a fraction lies within its bounds.
+// The fields of a line that has a fraction of a second behind the layout of a plan, and then what follows one.
 #[inline(always)]
-fn has_back(back: &Back, line: &[u8], place: usize) -> bool
-    requires { place + back.now.layout.length ≡ length line.now }
-    ensures { result ≡ true → Fits back.now.layout back.now.bounds (drop place line.now) }
+pub(crate) fn split_fields(
+    plan: &Places,
+    back: &Back,
+    line: &[u8],
+    fraction: Fraction,
+    rest: &[u8],
+    assumed: Option<UtcOffset>,
+) -> Option<Fields>
+    requires front { IsFront plan.now.layout }
+    requires fits { Fits plan.now.layout plan.now.bounds line.now }
+    requires fraction { taken (fraction_between 1 32) (drop plan.now.layout.length line.now)
+        ≡ Some (fraction, rest.now) }
+    requires bound { fraction < 1_000_000_000 }
+    requires behind { Fits back.now.layout back.now.bounds rest.now }
+    ensures { (m : Meaning) → IsSplitOf m plan.now.layout back.now.layout
+        → IfSome result (λ f. NamesFront m (beginning assumed) line.now
+        (drop back.now.layout.length rest.now) (moment_of f)) }
 {
-    match &back.tail {
-        Some(tail) if line.len() >= LANES => tail.has(line),
-        _ => back.bounds.has(from(line, place), back.layout.length),
-    }
-}
-
-// The fields of a line that has a fraction of a second: its digits are all that the rest of its length leaves.
-#[inline(always)]
-fn read_split(plan: &Places, back: &Back, line: &[u8], assumed: Option<UtcOffset>) -> Option<Fields>
-    requires { IsFront plan.now.layout }
-    ensures { (m : Meaning) (defaults : Option Record)
-        → IsSplitOf m plan.now.layout back.now.layout → starting defaults ≡ beginning assumed
-        → IfSome result (λ f. names moment_named (whole m defaults line.now) ≡ Ok (moment_of f)) }
-{
-    let length = plan.layout.length;
-    if line.len() <= length || line.len() - length <= back.layout.length {
-        return None;
-    }
-    let place = line.len() - back.layout.length;
-    if !plan.bounds.has(line, length) || !has_back(back, line, place) {
-        return None;
-    }
     let (year, month, day) = date(plan, line)?;
     let (minute, second) = clock(plan, line)?;
-    let fraction = fraction_at(line, length, place - length)?;
-    let rest = from(line, place);
     let offset = offset(&back.layout, &back.bounds, back.offset, rest, assumed)?;
     Some(Fields::of_numbers(year, month, day, minute, second, fraction, offset))
 }
 
-impl Places {
-    // The fields of a line, with an offset assumed or none.
-    #[inline(always)]
-    fn read(&self, line: &[u8], assumed: Option<UtcOffset>) -> Option<Fields>
-        ensures { (m : Meaning) (defaults : Option Record) → ArePlacesOf m self.now
-            → starting defaults ≡ beginning assumed
-            → IfSome result
-            (λ f. names moment_named (whole m defaults line.now) ≡ Ok (moment_of f)) }
-    {
-        if let Some(back) = &self.back {
-            return read_split(self, back, line, assumed);
-        }
-        if line.len() != self.layout.length || !self.bounds.has(line, line.len()) {
-            return None;
-        }
-        let (year, month, day) = date(self, line)?;
-        let (minute, second) = clock(self, line)?;
-        let fraction = fraction(self, line)?;
-        let offset = offset(&self.layout, &self.bounds, self.offset, line, assumed)?;
-        Some(Fields::of_numbers(year, month, day, minute, second, fraction, offset))
-    }
-}
-
-impl Plan {
-    /// The fields of a line that the plan finds, with an offset assumed or none, which counts only where the line has
-    /// none: what the items of the plan read of the whole line names their moment. `None` says nothing of the line.
-    #[inline(always)]
-    pub fn read(&self, line: &[u8], assumed: Option<UtcOffset>) -> Option<Fields>
-        ensures { (m : Meaning) (defaults : Option Record) → IsPlanOf m self.now
-            → starting defaults ≡ beginning assumed
-            → IfSome result
-            (λ f. names moment_named (whole m defaults line.now) ≡ Ok (moment_of f)) }
-    {
-        if let Some(places) = &self.places {
-            return places.read(line, assumed);
-        }
-        if let Some(unix) = &self.unix {
-            return unix.read(line);
-        }
-        None
-    }
+// The fields of a line that has the layout of a plan at its front.
+#[inline(always)]
+pub(crate) fn layout_fields(
+    plan: &Places,
+    line: &[u8],
+    assumed: Option<UtcOffset>,
+) -> Option<Fields>
+    requires { Fits plan.now.layout plan.now.bounds line.now }
+    ensures { (m : Meaning) → IsLayoutOf m plan.now.layout
+        → IfSome result (λ f. NamesFront m (beginning assumed) line.now
+        (drop plan.now.layout.length line.now) (moment_of f)) }
+{
+    let (year, month, day) = date(plan, line)?;
+    let (minute, second) = clock(plan, line)?;
+    let fraction = fraction(plan, line)?;
+    let offset = offset(&plan.layout, &plan.bounds, plan.offset, line, assumed)?;
+    Some(Fields::of_numbers(year, month, day, minute, second, fraction, offset))
 }

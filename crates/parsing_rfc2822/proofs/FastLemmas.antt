@@ -14,7 +14,7 @@ use Rattle.parsing_rfc2822.specs.Skips.{rest_or, byte_where}
 use Rattle.parsing_rfc2822.specs.WhiteSpace.{comments_and_white_space}
 use Rattle.parsing_rfc2822.proofs.WhiteSpaceLemmas.{none_at, none_of_empty}
 use Rattle.parsing_rfc2822.specs.Names.{weekday, weekday_of}
-use Rattle.parsing_rfc2822.specs.Reading.{spaced_colon, hour_and_minute, due_second, second, clock, day, month_and_year, zone, signed_zone, named_zone, spaced_zone, rfc2822}
+use Rattle.parsing_rfc2822.specs.Reading.{optional_weekday, one_or_two_digits, spaced_colon, hour_and_minute, due_second, second, clock, day, month_and_year, zone, signed_zone, named_zone, spaced_zone, rfc2822}
 use Rattle.calendar.specs.Time.{time_of}
 use Rattle.calendar_count.specs.Month.{month_number}
 use Rattle.calendar_count.specs.declared.month.Month.{Month}
@@ -117,6 +117,13 @@ some_of (Some x) h = refl
 -- where a function reads a digit there is no weekday
 pub no_weekday : (result : Option (ℕ × Bor (List ℕ))) (bytes : List ℕ) → cut_view result ≡ digits 1 bytes → is_some result ≡ true → weekday bytes ≡ None
 no_weekday result bytes e h = weekday_unless (cut_view result) bytes e (some_of result h)
+
+-- a day that nothing stands before
+pub day_alone : (result : Option (ℕ × Bor (List ℕ))) (bytes : List ℕ) → comments_and_white_space bytes ≡ None → weekday bytes ≡ None → cut_view result ≡ one_or_two_digits bytes
+    → IfSome result (λ x. day false bytes ≡ Ok ((None, x.0), x.1.now))
+unfolding day optional_weekday
+day_alone None bytes free unnamed cut = tt
+day_alone (Some x) bytes free unnamed cut = rw (free, unnamed, ← cut) refl
 
 -- ---- a text whose pieces are read one after another
 

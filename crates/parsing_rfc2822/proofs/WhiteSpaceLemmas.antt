@@ -166,6 +166,15 @@ pub none_there : (bytes : List ℕ) → 1 ≤ length bytes → 40 < get_or bytes
 none_there [] le h = absurd (omega arith)
 none_there (c ∷ rest) le h = none_at c rest (omega arith)
 
+pub white_none_of_empty : (bytes : List ℕ) → length bytes ≡ 0 → white_or_comment bytes ≡ None
+unfolding white_or_comment folding_white_space lone_white folded_line line_end folded_blanks past_some byte_where comment
+white_none_of_empty [] e = refl
+white_none_of_empty (c ∷ rest) e = absurd (omega arith)
+
+pub white_none_there : (bytes : List ℕ) → 1 ≤ length bytes → 40 < get_or bytes 0 0 → white_or_comment bytes ≡ None
+white_none_there [] le h = absurd (omega arith)
+white_none_there (c ∷ rest) le h = white_none c rest (omega arith)
+
 folding_space : (c : ℕ) (rest : List ℕ) → 41 ≤ c → folding_white_space (32 ∷ c ∷ rest) ≡ Some (c ∷ rest)
 unfolding folding_white_space lone_white byte_where
 folding_space c rest h =

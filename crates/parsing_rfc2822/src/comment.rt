@@ -157,6 +157,9 @@ fn white_or_comment(bytes: &[u8]) -> Option<&[u8]>
     ensures skips { option_map (λ r. r.now) result ≡ White.white_or_comment bytes.now }
     ensures shorter { IfSome result (λ r. length r.now < length bytes.now) }
 {
+    if !may_begin(bytes) {
+        return None;
+    }
     if let Some(rest) = folding_white_space(bytes) {
         return Some(rest);
     }
@@ -176,10 +179,11 @@ fn past_white_and_comments(bytes: &[u8]) -> &[u8]
 }
 
 /// Whether white space or a comment may begin the bytes: where it is `false`, none does.
-#[tactic(auto, using(crate::proofs::WhiteSpaceLemmas::none_there, crate::proofs::WhiteSpaceLemmas::none_of_empty))]
+#[tactic(auto, using(crate::proofs::WhiteSpaceLemmas::none_there, crate::proofs::WhiteSpaceLemmas::none_of_empty, crate::proofs::WhiteSpaceLemmas::white_none_there, crate::proofs::WhiteSpaceLemmas::white_none_of_empty))]
 #[inline(always)]
 pub fn may_begin(bytes: &[u8]) -> bool
     ensures absent { result ≡ false → White.comments_and_white_space bytes.now ≡ None }
+    ensures neither { result ≡ false → White.white_or_comment bytes.now ≡ None }
     ensures first { (result ≡ true)
         ↔ ((0 < length bytes.now) × (slice_index bytes.now 0 ≤ White.left_parenthesis)) }
 {

@@ -41,17 +41,26 @@ pub fn read_fast(input: &[u8]) -> Option<OffsetDateTime>
     Some(fields.moment())
 }
 
+// The moment that a text names, or its first fault.
+#[tactic(auto, unfolding(crate::specs::Direct::direct, crate::specs::Direct::moment))]
+#[cold]
+#[inline(never)]
+fn read_pieces(input: &[u8]) -> Result<OffsetDateTime, Parse>
+    ensures { Gives (λ d. d) fault_of result (direct input.now) }
+{
+    let (parts, rest) = parse_prefix(false, input)?;
+    resolved(parts, rest)
+}
+
 /// The moment that a text of RFC 2822, section 3.3, names, with the obsolete years and zones of its section 4.3.
 ///
 /// The first fault counts: what can't be read, what follows, the ranges of date, time and offset, and last whether a
 /// second 60 can be a leap second. The weekday is read and has no effect. It reads piece by piece; `read_fast` finds
 /// most moments sooner.
-#[tactic(auto, unfolding(crate::specs::Direct::direct, crate::specs::Direct::moment))]
-#[cold]
+#[inline(always)]
 pub fn read_exact(input: &[u8]) -> Result<OffsetDateTime, Parse>
     ensures gives { Gives (λ d. d) fault_of result (direct input.now) }
     ensures short_name { IfErr result (λ e. HasShortName (fault_of e)) }
 {
-    let (parts, rest) = parse_prefix(false, input)?;
-    resolved(parts, rest)
+    read_pieces(input)
 }

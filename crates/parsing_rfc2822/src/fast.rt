@@ -1,47 +1,30 @@
 //! The fast way: texts of the shape `Tue, 01 Jul 2003 10:52:37 +0200`.
 //!
 //! Each function gives up where a text has another shape, and then says nothing of it.
-ghost use Rattle.std.specs.Prelude.{◌≡◌, ◌≤◌, IfSome, Ok, Some, false, unsigned_abs};
+ghost use Rattle.std.specs.Prelude.{◌≡◌, ◌≤◌, IfSome, Ok, Some, None, false, unsigned_abs};
 ghost use Rattle.parsing_fields.specs.Moment.{moment_of};
 ghost use Rattle.parsing_rfc2822.specs.Direct.{direct};
 ghost use Rattle.parsing_rfc2822.specs.Fast.{IsAllZone};
 ghost use Rattle.parsing_rfc2822.specs.Reading as Reading;
 
-use crate::names::{month, weekday, zone_name};
+use crate::names::{month, zone_name};
 use crate::places::{read_with_name, read_with_offset};
 use crate::reading::one_or_two_digits;
 use crate::{may_begin, one_space};
-use calendar_count::{Month, Weekday};
+use calendar_count::Month;
 use parsing_combinator::{byte, four_digits, one_digit, sign, two_digits};
 use parsing_fields::{Fields, Fraction, minute_of_day, signed_minutes};
 
-// `Tue, `, or nothing before a digit.
-#[tactic(auto, unfolding(crate::specs::Reading::optional_weekday, crate::specs::Reading::named_day))]
+// `01`, with no weekday before it.
+#[tactic(auto, unfolding(crate::specs::Reading::day, crate::specs::Reading::optional_weekday))]
 #[inline(always)]
-fn fast_weekday(bytes: &[u8]) -> Option<(Option<Weekday>, &[u8])>
-    ensures { IfSome result (λ x. Reading.optional_weekday bytes.now ≡ Ok (x.0, x.1.now)) }
+fn fast_day(bytes: &[u8]) -> Option<(u8, &[u8])>
+    ensures { IfSome result (λ x. Reading.day false bytes.now ≡ Ok ((None, x.0), x.1.now)) }
 {
-    if one_digit(bytes).is_some() {
-        return Some((None, bytes));
-    }
-    let (weekday, rest) = weekday(bytes)?;
-    let rest = byte(b',', rest)?;
-    let rest = one_space(rest)?;
-    Some((Some(weekday), rest))
-}
-
-// `Tue, 01`, or `01`.
-#[tactic(auto, unfolding(crate::specs::Reading::day))]
-#[inline(always)]
-fn fast_day(bytes: &[u8]) -> Option<((Option<Weekday>, u8), &[u8])>
-    ensures { IfSome result (λ x. Reading.day false bytes.now ≡ Ok (x.0, x.1.now)) }
-{
-    if may_begin(bytes) {
+    if may_begin(bytes) || one_digit(bytes).is_none() {
         return None;
     }
-    let (weekday, rest) = fast_weekday(bytes)?;
-    let (day, rest) = one_or_two_digits(rest)?;
-    Some(((weekday, day), rest))
+    one_or_two_digits(bytes)
 }
 
 // ` Jul 2003 `.
@@ -119,12 +102,12 @@ pub(crate) fn fast_zone(bytes: &[u8]) -> Option<i16>
 // The bytes of ` Jul 2003 10:52:37 GMT`: behind its day no text of this shape has fewer.
 const SHORTEST: usize = 22;
 
-// The fields of a text, by its parts one after another.
+// The fields of a text without a weekday, by its parts one after another.
 #[inline(always)]
 fn read_by_parts(input: &[u8]) -> Option<Fields>
     ensures { IfSome result (λ fields. direct input.now ≡ Ok (moment_of fields)) }
 {
-    let ((_, day), rest) = fast_day(input)?;
+    let (day, rest) = fast_day(input)?;
     if rest.len() < SHORTEST {
         return None;
     }

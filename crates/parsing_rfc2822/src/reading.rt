@@ -28,6 +28,7 @@ pub(crate) fn one_or_two_digits(bytes: &[u8]) -> Option<(u8, &[u8])>
 
 // The comma behind a weekday.
 #[tactic(auto, unfolding(crate::specs::Reading::named_day))]
+#[inline(always)]
 fn named_day(day: Weekday, bytes: &[u8]) -> Result<(Option<Weekday>, &[u8]), ParseFromDescription>
     ensures { Gives (λ x. (x.0, x.1.now)) reading_fault result (Reading.named_day day bytes.now) }
 {
@@ -36,6 +37,7 @@ fn named_day(day: Weekday, bytes: &[u8]) -> Result<(Option<Weekday>, &[u8]), Par
 }
 
 #[tactic(auto, unfolding(crate::specs::Reading::optional_weekday))]
+#[inline(always)]
 fn optional_weekday(bytes: &[u8]) -> Result<(Option<Weekday>, &[u8]), ParseFromDescription>
     ensures { Gives (λ x. (x.0, x.1.now)) reading_fault result
         (Reading.optional_weekday bytes.now) }
@@ -47,6 +49,7 @@ fn optional_weekday(bytes: &[u8]) -> Result<(Option<Weekday>, &[u8]), ParseFromD
 }
 
 #[tactic(auto, unfolding(crate::specs::Reading::day))]
+#[inline(always)]
 fn day(
     is_strict: bool,
     bytes: &[u8],
@@ -95,6 +98,7 @@ fn year(bytes: &[u8]) -> Result<(u16, &[u8]), ParseFromDescription>
 }
 
 #[tactic(auto, unfolding(crate::specs::Reading::month_and_year))]
+#[inline(always)]
 fn month_and_year(bytes: &[u8]) -> Result<((Month, u16), &[u8]), ParseFromDescription>
     ensures { Gives (λ x. (x.0, x.1.now)) reading_fault result (Reading.month_and_year bytes.now) }
 {
@@ -229,6 +233,7 @@ fn spaced_zone(is_strict: bool, bytes: &[u8]) -> Result<(Zone, &[u8]), ParseFrom
 }
 
 #[tactic(auto, unfolding(crate::specs::Reading::rfc2822))]
+#[inline(always)]
 fn parts(is_strict: bool, bytes: &[u8]) -> Result<(Rfc2822Parts, &[u8]), ParseFromDescription>
     ensures gives { Gives (λ x. (x.0, x.1.now)) reading_fault result
         (Reading.rfc2822 is_strict bytes.now) }
@@ -256,6 +261,7 @@ fn parts(is_strict: bool, bytes: &[u8]) -> Result<(Rfc2822Parts, &[u8]), ParseFr
 ///
 /// A strict reading refuses each number out of range where it stands. Each fault names the part that can't be read; one
 /// of a zone is the offset hour's, or behind a sign that of its minutes.
+#[inline(always)]
 pub fn parse_prefix(
     is_strict: bool,
     bytes: &[u8],

@@ -1,12 +1,14 @@
 //! The answers of a timeline to lines.
-ghost use Rattle.std.specs.Prelude.{◌≡◌, ◌≢◌, ◌<◌, ◌≤◌, ◌+◌, codes, drop, length, map, true, false, None, Ok};
+ghost use Rattle.std.specs.Prelude.{◌≡◌, ◌≢◌, ◌<◌, ◌≤◌, ◌∷◌, codes, drop, length, map, true, false, None, Ok};
 ghost use Rattle.std.specs.Option.{option_map};
 ghost use Rattle.std.specs.Result.{result_ok};
+ghost use Rattle.parsing_combinator.specs.FaultOf.{fault_of};
+ghost use Rattle.parsing_combinator.specs.ShortName.{HasShortName};
 ghost use Rattle.parsing_fields.specs.Moment.{moment_of};
 ghost use Rattle.instants_sources.specs.Grammar.{grammar_of};
 ghost use Rattle.instants_sources.specs.Grammar as grammar;
 ghost use Rattle.instants_sources.specs.Named.{named};
-ghost use Rattle.instants.specs.FirstNamed.{IsAnswerOf, NamesFrom};
+ghost use Rattle.instants.specs.FirstNamed.{IsAnswerOf, IsFaultAt, NamesFrom};
 ghost use Rattle.instants.specs.Place.{first_named, place_text, shown_or_refused, answer_to};
 ghost use Rattle.instants.specs.Settings.{setting_of};
 
@@ -15,11 +17,13 @@ use crate::timeline::Timeline;
 use datetime_types::OffsetDateTime;
 use instants_answers::{Answer, write_fields, write_line};
 use instants_sources::{Source, fast_iso8601, fast_rfc2822, fast_rfc3339};
+use parsing_combinator::Parse;
 use parsing_fields::Fields;
 
 impl Timeline<'_> {
-    // Writes a moment as it is shown at the target, or that its year there is not written.
-    #[inline(always)]
+    // Writes a moment as it is shown at the target, or that its year there is not written. A call of its own, since few are
+    // read the exact way.
+    #[inline(never)]
     fn write_shown(&self, named: OffsetDateTime, storage: &mut Answer)
         ensures bytes { storage.new ≡
             place_text (shown_or_refused (setting_of self.now).target (Ok named)) }
@@ -186,8 +190,24 @@ impl Timeline<'_> {
         false
     }
 
+    // The same, where the sources before a place name no moment. Mostly the first bytes rule out all behind it.
+    #[inline(always)]
+    fn write_from(&self, place: usize, line: &[u8], storage: &mut Answer) -> bool
+        requires { NamesFrom (setting_of self.now) line.now place }
+        ensures answer { result ≡ true → IsAnswerOf (setting_of self.now) (result_ok
+            (first_named (setting_of self.now).assumed (setting_of self.now).sources line.now))
+            storage.new }
+        ensures none { result ≡ false → result_ok (first_named (setting_of self.now).assumed
+            (setting_of self.now).sources line.now) ≡ None }
+    {
+        match self.likely(place, line) {
+            Some((likely, _)) => self.write_by_any(self.sources_from(likely), line, storage),
+            None => false,
+        }
+    }
+
     // Writes the answer to a line for which no source names a moment: the first one's fault.
-    #[inline(never)]
+    #[inline(always)]
     fn write_first_fault(&self, line: &[u8], storage: &mut Answer)
         requires { result_ok (first_named (setting_of self.now).assumed
             (setting_of self.now).sources line.now) ≡ None }
@@ -196,7 +216,7 @@ impl Timeline<'_> {
         ensures never_long { storage.new ≢ codes "! long" }
     {
         if self.first().has_no_year(line, self.assumed) {
-            LineFault::Component("year").write(storage);
+            LineFault::Component("year").put(storage);
         } else {
             self.write_by_first(line, storage);
         }
@@ -227,7 +247,7 @@ impl Timeline<'_> {
         ensures room { length storage.new ≤ 63 }
         ensures never_long { storage.new ≢ codes "! long" }
     {
-        let Some((place, source)) = self.likely(line) else {
+        let Some((place, source)) = self.likely(1, line) else {
             self.write_first_fault(line, storage);
             return;
         };
@@ -251,29 +271,61 @@ impl Timeline<'_> {
         }
     }
 
+    // Writes the answer to a line for which the sources before a place name no moment, and in which the one there finds this
+    // fault.
+    #[inline(always)]
+    fn write_refused(&self, place: usize, fault: Parse, line: &[u8], storage: &mut Answer)
+        requires from { NamesFrom (setting_of self.now) line.now place }
+        requires fault { IsFaultAt (setting_of self.now) line.now place (fault_of fault) }
+        requires short { HasShortName (fault_of fault) }
+        ensures bytes { storage.new ≡ answer_to (setting_of self.now) line.now }
+        ensures room { length storage.new ≤ 63 }
+        ensures never_long { storage.new ≢ codes "! long" }
+    {
+        if self.write_from(place + 1, line, storage) {
+            return;
+        }
+        if place == 0 {
+            LineFault::from(fault).write(storage);
+        } else {
+            self.write_first_fault(line, storage);
+        }
+    }
+
     // Writes the answer to a line for which the sources before a place name no moment, and of which the fast way of the one
     // there says nothing.
+    #[cold]
     #[inline(never)]
-    fn write_exact(&self, place: usize, line: &[u8], storage: &mut Answer)
+    pub(super) fn write_exact(&self, place: usize, line: &[u8], storage: &mut Answer)
         requires place { place < length (setting_of self.now).sources }
         requires from { NamesFrom (setting_of self.now) line.now place }
         ensures bytes { storage.new ≡ answer_to (setting_of self.now) line.now }
         ensures room { length storage.new ≤ 63 }
         ensures never_long { storage.new ≢ codes "! long" }
     {
-        let sources = self.sources.as_slice();
-        match sources[place].read_exact(line, self.assumed) {
+        match self.source_at(place).read_exact(line, self.assumed) {
             Ok(named) => self.write_shown(named, storage),
-            Err(fault) => {
-                if self.write_by_any(behind(sources, place), line, storage) {
-                    return;
-                }
-                if place == 0 {
-                    LineFault::from(fault).write(storage);
-                } else {
-                    self.write_first_fault(line, storage);
-                }
-            }
+            Err(fault) => self.write_refused(place, fault, line, storage),
+        }
+    }
+
+    // The same at the first place, where the source there is RFC 3339: most lines with a fault of their own come this way.
+    #[cold]
+    #[inline(never)]
+    pub(super) fn write_exact_rfc3339(&self, line: &[u8], storage: &mut Answer)
+        requires { (setting_of self.now).sources
+            ≡ grammar.Rfc3339 ∷ drop 1 (setting_of self.now).sources }
+        ensures bytes { storage.new ≡ answer_to (setting_of self.now) line.now }
+        ensures room { length storage.new ≤ 63 }
+        ensures never_long { storage.new ≢ codes "! long" }
+    {
+        if self.assumed.is_some() {
+            self.write_exact(0, line, storage);
+            return;
+        }
+        match parsing_rfc3339::read_exact(line) {
+            Ok(named) => self.write_shown(named, storage),
+            Err(fault) => self.write_refused(0, fault, line, storage),
         }
     }
 
@@ -289,14 +341,4 @@ impl Timeline<'_> {
         }
         answer
     }
-}
-
-// The sources behind a place.
-#[inline(always)]
-#[tactic(auto, using(std::proofs::lemmas::List::take_rest))]
-fn behind<'a, 'b>(sources: &'a [Source<'b>], place: usize) -> &'a [Source<'b>]
-    requires { place < length sources.now }
-    ensures { result.now ≡ drop (place + 1) sources.now }
-{
-    &sources[place + 1..]
 }

@@ -70,15 +70,34 @@ impl<'a> Timeline<'a> {
         &self.sources.as_slice()[0]
     }
 
+    // The source at a place.
+    #[inline(always)]
+    pub(super) fn source_at(&self, place: usize) -> &Source<'a>
+        requires { place < length (setting_of self.now).sources }
+        ensures { drop place (setting_of self.now).sources
+            ≡ grammar_of result.now ∷ drop (place + 1) (setting_of self.now).sources }
+    {
+        &self.sources.as_slice()[place]
+    }
+
+    // The sources from a place on.
+    #[inline(always)]
+    pub(super) fn sources_from(&self, place: usize) -> &[Source<'a>]
+        requires { place ≤ length (setting_of self.now).sources }
+        ensures { map grammar_of result.now ≡ drop place (setting_of self.now).sources }
+    {
+        &self.sources.as_slice()[place..]
+    }
+
     // Whether there are sources behind the first one.
     pub(crate) fn has_others(&self) -> bool {
         self.sources.len() > 1
     }
 
-    // The first source behind the first one that the first bytes of a line do not rule out, and its place.
+    // The first source from a place on that the first bytes of a line do not rule out, and its place.
     #[inline(always)]
-    pub(super) fn likely(&self, line: &[u8]) -> Option<(usize, &Source<'a>)>
-        requires { NamesFrom (setting_of self.now) line.now 1 }
+    pub(super) fn likely(&self, from: usize, line: &[u8]) -> Option<(usize, &Source<'a>)>
+        requires { NamesFrom (setting_of self.now) line.now from }
         ensures within { IfSome result (λ x. x.0 < length (setting_of self.now).sources) }
         ensures from { IfSome result (λ x. NamesFrom (setting_of self.now) line.now x.0) }
         ensures source { IfSome result (λ x. drop x.0 (setting_of self.now).sources
@@ -87,7 +106,7 @@ impl<'a> Timeline<'a> {
             (setting_of self.now).sources line.now) ≡ None) }
     {
         let sources = self.sources.as_slice();
-        let mut place = 1;
+        let mut place = from;
         while place < sources.len() {
             let source = &sources[place];
             if !source.cannot_match(line) {

@@ -30,9 +30,10 @@ impl AnswerWay for Rfc3339Way {
                 timeline.write_behind(line, storage);
                 return;
             }
-            if timeline.write_found(fast_rfc3339(line), storage) {
-                return;
+            if !timeline.write_found(fast_rfc3339(line), storage) {
+                timeline.write_exact_rfc3339(line, storage);
             }
+            return;
         }
         timeline.write_rest(line, storage);
     }

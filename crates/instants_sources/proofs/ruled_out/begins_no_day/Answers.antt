@@ -1,8 +1,13 @@
-use Rattle.instants_sources.proofs.RuledOut.{day_due, day_due_of_nothing}
+use Rattle.std.proofs.Common.{nat_eq, slice_index_or, arith}
+use Rattle.std.proofs.lemmas.Bool.{ltb-true}
+use Rattle.instants_sources.proofs.RuledOut.{day_due, day_due_of_few, day_due_of_nothing, not_true}
 use Rattle.instants_sources.proofs.ruled_out.begins_no_day.Goals as goal
 
-pub returns : goal.returns
-returns c = λ e. day_due c.args.line.now c.in-len1-up.len_at_least c.if-first-le57.false c.if-first-eq70.false c.if-first-eq102.false c.if-first-eq77.false c.if-first-eq109.false c.if-first-eq83.false c.if-first-eq115.false c.if-first-eq84.false c.if-first-eq116.false c.if-first-eq87.false c.if-first-eq119.false
+pub returns-in-empty : goal.returns-in-empty
+returns-in-empty c = λ e. day_due_of_nothing c.args.line.now c.in-empty.len_below
 
-pub returns-in_default : goal.returns-in_default
-returns-in_default c = λ e. day_due_of_nothing c.args.line.now c.in_default.len_below
+pub returns-in-len1-up : goal.returns-in-len1-up
+returns-in-len1-up c = λ e. day_due_of_few c.args.line.now (omega (arith, c.in-len1-up.len_below)) (ltb-true 57 (slice_index_or c.args.line.now 0 0) e)
+
+pub returns-then-first-gt57 : goal.returns-then-first-gt57
+returns-then-first-gt57 c = λ e. day_due c.args.line.now c.if-first-gt57.true (not_true (nat_eq (slice_index_or c.args.line.now 3 0) 44) e)

@@ -1,4 +1,4 @@
-use Rattle.std.proofs.Common.{◌≡◌, Ok, rules, arith, w16, to_z, of_z}
+use Rattle.std.proofs.Common.{◌≡◌, None, Ok, rules, arith, w16, to_z, of_z}
 use Rattle.std.proofs.lemmas.Int.{ints}
 use Rattle.parsing_fields.specs.declared.fields.Fields.{Fields}
 use Rattle.parsing_fields.specs.Moment as Moment
@@ -18,4 +18,4 @@ returns c =
     let range = k.ensures.some.0 (search rules) in
     let same : to_z w16 (of_z w16 o.offset) ≡ o.offset = omega (arith, ints) in
     of_fields (λ (f : Fields). HaveNumbers f m.year c.number-month.result d.day k.minute_of_day t.second c.new-fraction.result o.offset) (λ (f : Fields). direct c.args.input.now ≡ Ok (Moment.moment_of f)) c.new.result (rw same at c.new.ensures.numbers)
-    (λ f h. fields_read f c.args.input.now d.rest.now m.rest.now t.rest.now (d.field-0-0-0, d.day) (m.month, m.year) t.hour t.minute t.second o.offset d.ensures m.ensures t.ensures o.ensures.reads (rw (k.ensures.value, c.number-month.ensures.value, c.new-fraction.ensures) at h) range.0 range.1)
+    (λ f h. fields_read f c.args.input.now d.rest.now m.rest.now t.rest.now (None, d.day) (m.month, m.year) t.hour t.minute t.second o.offset d.ensures m.ensures t.ensures o.ensures.reads (rw (k.ensures.value, c.number-month.ensures.value, c.new-fraction.ensures) at h) range.0 range.1)

@@ -10,9 +10,9 @@ write_behind-requires c =
     let first : setting.sources ≡ grammar.Rfc3339 ∷ drop 1 setting.sources = rw c.in-Rfc3339.is at c.first.ensures in
     names_from_next setting c.args.line.now 0 grammar.Rfc3339 refl first (c.is_no_rfc3339.ensures c.if-is_no_rfc3339.true setting.assumed)
 
-pub returns-then-write_found-clause-bytes : goal.returns-then-write_found-clause-bytes
-returns-then-write_found-clause-bytes c =
+pub returns-else-not-write_found-clause-bytes : goal.returns-else-not-write_found-clause-bytes
+returns-else-not-write_found-clause-bytes c =
     let setting = setting_of c.args.timeline.now in
     let first : setting.sources ≡ grammar.Rfc3339 ∷ drop 1 setting.sources = rw c.in-Rfc3339.is at c.first.ensures in
-    let found = answer_found setting c.fast_rfc3339.result grammar.Rfc3339 c.args.line.now _ (search rules) (c.write_found.ensures c.if-write_found.true) in
+    let found = answer_found setting c.fast_rfc3339.result grammar.Rfc3339 c.args.line.now _ (search rules) (c.write_found.ensures c.if-not-write_found.false) in
     answered_at setting c.args.line.now _ 0 grammar.Rfc3339 (drop 1 setting.sources) refl first found

@@ -1,7 +1,7 @@
 use Rattle.std.proofs.Common.{arith}
 use Rattle.std.proofs.lemmas.List.{length-drop}
 use Rattle.parsing_plan.proofs.Lanes.{end_within}
-use Rattle.parsing_plan.proofs.read.has_back.Goals as goal
+use Rattle.parsing_plan.proofs.readings.has_back.Goals as goal
 
 pub returns-in-Some : goal.returns-in-Some
 returns-in-Some c = λ e.

@@ -1,0 +1,94 @@
+/*
+ * calls FILE LINES WORD..: answers a file of lines again and again by calls of so many lines each, and prints the nanoseconds
+ * that a line takes, the least of the rounds.
+ */
+#define _POSIX_C_SOURCE 199309L
+
+#include <instants.h>
+
+#include <stdio.h>
+#include <stdlib.h>
+#include <string.h>
+#include <time.h>
+
+enum { ROUNDS = 7 };
+
+static double now(void)
+{
+    struct timespec at;
+    clock_gettime(CLOCK_PROCESS_CPUTIME_ID, &at);
+    return (double)at.tv_sec * 1e9 + (double)at.tv_nsec;
+}
+
+/* The first so many bytes of a file. */
+static uint8_t *read_file(const char *name, size_t *len)
+{
+    FILE *file = fopen(name, "rb");
+    if (!file || fseek(file, 0, SEEK_END))
+        return NULL;
+    *len = (size_t)ftell(file);
+    rewind(file);
+    uint8_t *bytes = malloc(*len + 1);
+    if (!bytes || fread(bytes, 1, *len, file) != *len)
+        return NULL;
+    fclose(file);
+    return bytes;
+}
+
+/* The places behind each so many lines, and behind the last one; how many there are goes into `count`. */
+static size_t *cuts(const uint8_t *bytes, size_t len, size_t lines, size_t *count)
+{
+    size_t *places = malloc((len + 1) * sizeof *places), feeds = 0;
+    *count = 0;
+    for (size_t at = 0; places && at < len; at++) {
+        feeds += bytes[at] == '\n';
+        if (bytes[at] == '\n' && (feeds % lines == 0 || at + 1 == len))
+            places[(*count)++] = at + 1;
+    }
+    return places;
+}
+
+struct run {
+    const uint8_t *words;
+    size_t words_len;
+    const uint8_t *input;
+    const size_t *places;
+    size_t count;
+    uint8_t *output;
+    size_t room;
+};
+
+/* The nanoseconds that all calls take, or a negative number where one fails. */
+static double answer_all(const struct run *run)
+{
+    double began = now();
+    for (size_t at = 0, start = 0; at < run->count; start = run->places[at++]) {
+        size_t written;
+        if (instants_answer_lines(run->words, run->words_len, run->input + start, run->places[at] - start, run->output, run->room,
+                                  &written))
+            return -1;
+    }
+    return now() - began;
+}
+
+int main(int count, char **arguments)
+{
+    static char words[4096];
+    size_t len, lines = 0, lines_a_call = count > 3 ? strtoul(arguments[2], NULL, 10) : 0;
+    uint8_t *input = lines_a_call ? read_file(arguments[1], &len) : NULL;
+    if (!input)
+        return 2;
+    for (int at = 3; at < count; at++)
+        snprintf(words + strlen(words), sizeof words - strlen(words), "%s%s", at > 3 ? "\n" : "", arguments[at]);
+    for (size_t at = 0; at < len; at++)
+        lines += input[at] == '\n';
+    struct run run = {(const uint8_t *)words, strlen(words), input, NULL, 0, malloc(INSTANTS_ROOM(lines_a_call)), INSTANTS_ROOM(lines_a_call)};
+    run.places = cuts(input, len, lines_a_call, &run.count);
+    double least = run.output && run.places ? answer_all(&run) : -1;
+    for (int round = 1; least >= 0 && round < ROUNDS; round++) {
+        double taken = answer_all(&run);
+        least = taken < least ? taken : least;
+    }
+    printf("%.1f\n", least / (double)lines);
+    return least < 0;
+}

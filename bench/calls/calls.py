@@ -1,0 +1,59 @@
+"""calls.py FILE LINES CALL WORD..: answers a file of lines by calls of Python of so many lines each, and prints the nanoseconds
+that a line takes, the least of the rounds.
+
+CALL is `answer_bytes` or `answers` of the module `instants`, or `ciso8601` or `dateutil`, which read RFC 3339 and no words:
+each line's moment is read, moved to UTC and written with six digits of a fraction, which is all that they keep.
+"""
+
+import sys
+import time
+
+ROUNDS = 5
+
+
+def moved(parse):
+    """Returns a call that answers lines by a function that reads one."""
+    from datetime import timezone
+
+    def answer(lines):
+        return [parse(line).astimezone(timezone.utc).isoformat(timespec="microseconds") for line in lines]
+
+    return answer
+
+
+def call_named(name, words):
+    """Returns the call of this name, over a list of texts."""
+    if name == "ciso8601":
+        import ciso8601
+
+        return moved(ciso8601.parse_datetime)
+    if name == "dateutil":
+        from dateutil import parser
+
+        return moved(parser.isoparse)
+    import instants
+
+    if name == "answers":
+        target, assumed, limit, *sources = words
+        return lambda lines: instants.answers(lines, target=target, assumed=assumed, limit=int(limit), sources=sources)
+    return lambda lines: instants.answer_bytes(lines, words)
+
+
+def main(file, count, name, *words):
+    with open(file, encoding="ascii") as read:
+        lines = read.read().split("\n")[:-1]
+    pieces = [lines[at : at + int(count)] for at in range(0, len(lines), int(count))]
+    if name == "answer_bytes":
+        pieces = ["".join(line + "\n" for line in piece).encode() for piece in pieces]
+    call, least = call_named(name, words), None
+    for _ in range(ROUNDS):
+        began = time.process_time_ns()
+        for piece in pieces:
+            call(piece)
+        taken = time.process_time_ns() - began
+        least = taken if least is None else min(taken, least)
+    print(f"{least / len(lines):.1f}")
+
+
+if __name__ == "__main__":
+    main(*sys.argv[1:])

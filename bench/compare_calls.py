@@ -1,0 +1,106 @@
+#!/usr/bin/env python3
+"""Measures calls of the library from C, Python and SQLite beside other libraries, and prints a table.
+
+    bench/compare_calls.py [--lines N]
+
+The packages of Debian: binutils gcc cargo rustc librust-time-dev python3 python3-ciso8601 python3-dateutil libsqlite3-dev sqlite3.
+The library is the one that was built last (`tools/build_library.py` builds it).
+
+Each cell is how many nanoseconds of processor time a line takes, the least of some rounds, in calls of one line, of 100 and of
+all 100,000. The lines are of RFC 3339 (`bench/lines.py`), the target is UTC. A call looks at the words, takes memory and gives
+it back, so a call of one line is mostly that; for the row of three sources a description of strftime is read too, each time.
+The crate `time`, `ciso8601` and `python-dateutil` read line by line, whatever a call has; they are measured once. In SQLite
+each row is a call.
+"""
+
+import argparse
+import os
+import pathlib
+import re
+import shutil
+import subprocess
+import sys
+import tempfile
+import time
+
+import lines as bench_lines
+from compare_programs import machine, registry
+
+BENCH = pathlib.Path(__file__).resolve().parent
+ROOT = BENCH.parent
+OUT = ROOT / "crates" / "instants_c" / "out"
+# Debian's own, which has the modules of Debian's packages.
+PYTHON = "/usr/bin/python3"
+COUNTS = (1, 100, 100_000)
+ALONE = ["+00:00", "-", "100", "rfc3339"]
+THREE = [*ALONE, "rfc2822", "strftime", "%d/%b/%Y:%H:%M:%S %z"]
+
+
+def printed(command, **how):
+    """Returns the number that a command prints."""
+    return float(subprocess.run(command, stdout=subprocess.PIPE, check=True, text=True, **how).stdout)
+
+
+def build(room):
+    """Builds what is measured in a folder."""
+    flags = ["gcc", "-std=c11", "-O2", f"-I{ROOT / 'include'}"]
+    subprocess.run([*flags, "-o", room / "calls", BENCH / "calls" / "calls.c", OUT / "libinstants.a"], check=True)
+    extension = ROOT / "bindings" / "sqlite" / "instant.c"
+    subprocess.run([*flags, "-fPIC", "-shared", "-o", room / "instant.so", extension, OUT / "libinstants.a"], check=True)
+    copy = room / "rust"
+    shutil.copytree(BENCH / "calls" / "rust", copy)
+    (copy / ".cargo").mkdir()
+    config = f'[source.crates-io]\nreplace-with = "debian"\n[source.debian]\ndirectory = "{registry()}"\n'
+    (copy / ".cargo" / "config.toml").write_text(config)
+    subprocess.run(["cargo", "build", "--release", "--quiet", "--offline"], cwd=copy, check=True)
+
+
+def of_sqlite(room, file, count):
+    """Returns the nanoseconds that a row takes in SQLite, less those of a query without the function."""
+    def taken(call):
+        script = f".load {room}/instant\nCREATE TABLE lines (line TEXT);\n.import {file} lines\n.timer on\nSELECT count({call}) FROM lines;\n"
+        said = subprocess.run(["sqlite3", "-batch", ":memory:"], input=script, stdout=subprocess.PIPE, text=True, check=True).stdout
+        return float(re.search(r"user (\S+)", said)[1]) + float(re.search(r"sys (\S+)", said)[1])
+
+    call = "instant('+00:00', 'rfc3339', line)"
+    return min(taken(call) - taken("line") for _ in range(3)) / count * 1e9
+
+
+def rows(room, file, count):
+    """Returns the rows: a title and a cell for each length of a call."""
+    places = dict(os.environ, INSTANTS_LIBRARY=str(OUT / "libinstants.so.0"), PYTHONPATH=str(ROOT / "bindings" / "python"))
+    in_c = lambda words: [printed([room / "calls", file, str(min(it, count)), *words]) for it in COUNTS]
+    in_python = lambda name, counts: [printed([PYTHON, "-B", BENCH / "calls" / "calls.py", file, str(min(it, count)), name, *ALONE], env=places) for it in counts]
+    rust = printed([room / "rust" / "target" / "release" / "calls", file])
+    return [
+        ("C: `instants_answer_lines`, RFC 3339 alone", in_c(ALONE)),
+        ("C: the same, three sources", in_c(THREE)),
+        ("Rust: the crate `time` 0.3.9, `parse`, `to_offset`, `format_into`", [rust] * 3),
+        ("Python: `answer_bytes`", in_python("answer_bytes", COUNTS)),
+        ("Python: `answers`", in_python("answers", COUNTS)),
+        ("Python: `ciso8601`, `astimezone`, `isoformat`", in_python("ciso8601", COUNTS[2:]) * 3),
+        ("Python: `python-dateutil`, `isoparse`, `astimezone`, `isoformat`", in_python("dateutil", COUNTS[2:]) * 3),
+        ("SQLite: `instant('+00:00', 'rfc3339', line)`", [of_sqlite(room, file, count), None, None]),
+    ]
+
+
+def main():
+    words = argparse.ArgumentParser(description=__doc__, formatter_class=argparse.RawDescriptionHelpFormatter)
+    words.add_argument("--lines", type=int, default=100_000)
+    given = words.parse_args()
+    if not (OUT / "libinstants.a").exists():
+        sys.exit("compare_calls.py: the library is not built; tools/build_library.py builds it")
+    with tempfile.TemporaryDirectory(prefix="calls-") as folder:
+        room = pathlib.Path(folder)
+        build(room)
+        bench_lines.write(room / "lines", given.lines)
+        found = rows(room, room / "lines" / "rfc3339.txt", given.lines)
+    date = time.strftime("%Y-%m-%d %H:%M UTC", time.gmtime())
+    print(f"{date}, {machine()}, load {os.getloadavg()[0]:.1f}, {given.lines:,} lines, nanoseconds a line:\n")
+    print("| call | 1 line | 100 lines | 100,000 lines |\n|---|---|---|---|")
+    for title, cells in found:
+        print(f"| {title} | {' | '.join('–' if it is None else f'{it:,.0f}' for it in cells)} |")
+
+
+if __name__ == "__main__":
+    main()

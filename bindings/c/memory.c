@@ -1,0 +1,97 @@
+/*
+ * Refuses each allocation of a call in turn, and sees that the call ends with INSTANTS_FAILED, writes nothing and gives back
+ * what it took. Link it with `-Wl,--wrap=malloc,--wrap=realloc,--wrap=free`. Ends with status 1 where something failed.
+ */
+#include <instants.h>
+
+#include <stdbool.h>
+#include <stdio.h>
+#include <string.h>
+
+void *__real_malloc(size_t size);
+void *__real_realloc(void *block, size_t size);
+void __real_free(void *block);
+void *__wrap_malloc(size_t size);
+void *__wrap_realloc(void *block, size_t size);
+void __wrap_free(void *block);
+
+/* Allocations that are granted yet, and blocks that are not given back. */
+static long granted = 0;
+static long held = 0;
+
+void *__wrap_malloc(size_t size)
+{
+    if (granted-- <= 0)
+        return NULL;
+    held++;
+    return __real_malloc(size);
+}
+
+void *__wrap_realloc(void *block, size_t size)
+{
+    if (granted-- <= 0)
+        return NULL;
+    if (!block)
+        held++;
+    return __real_realloc(block, size);
+}
+
+void __wrap_free(void *block)
+{
+    if (block)
+        held--;
+    __real_free(block);
+}
+
+static const char words[] = "+00:00\n-\n100\nrfc3339\nv3\n[year]-[month]-[day] [hour]:[minute]:[second] [offset_hour sign:mandatory]\nstrftime\n%c";
+static const char input[] = "2021-01-02T04:04:05+01:00\n";
+
+/* Whether a call with so many allocations ends as it should; is_done tells whether they were enough. */
+static bool is_well(long allocations, bool *is_done)
+{
+    uint8_t output[100];
+    size_t written = 12345;
+    memset(output, '.', sizeof output);
+    granted = allocations;
+    uint8_t status = instants_answer_lines((const uint8_t *)words, strlen(words), (const uint8_t *)input, strlen(input), output,
+                                           sizeof output, &written);
+    *is_done = status == INSTANTS_OK;
+    if (held != 0)
+        return false;
+    return *is_done ? written == 31 : status == INSTANTS_FAILED && written == 0 && output[0] == '.';
+}
+
+/* The same of the call for a sentence, which is told in any case. */
+static bool is_told(long allocations, bool *is_done)
+{
+    static const char refused[] = "+00:00\n-\n100\nv1\n[x]", memory[] = "instants: out of memory";
+    uint8_t output[200];
+    size_t len = 12345;
+    granted = allocations;
+    uint8_t status = instants_sentence((const uint8_t *)refused, strlen(refused), output, sizeof output, &len);
+    *is_done = status == INSTANTS_REFUSED;
+    if (held != 0)
+        return false;
+    return *is_done || (status == INSTANTS_FAILED && len == strlen(memory) && !memcmp(output, memory, len));
+}
+
+static bool try_each(const char *what, bool (*call)(long, bool *))
+{
+    bool is_done = false;
+    long at = 0;
+    for (; !is_done; at++) {
+        if (!call(at, &is_done)) {
+            printf("FAILED: %s with %ld allocations, %ld blocks held\n", what, at, held);
+            return false;
+        }
+    }
+    printf("%s: each of %ld allocations refused\n", what, at - 1);
+    return at > 1;
+}
+
+int main(void)
+{
+    bool answers = try_each("lines", is_well);
+    bool sentences = try_each("a sentence", is_told);
+    return !(answers && sentences);
+}

@@ -1,0 +1,115 @@
+//! The program `instants` for C: a static library. `include/instants.h` declares its calls, and says what a caller keeps to.
+//!
+//! Words stand in one text, with a line feed between them. Nothing is kept from call to call, and all memory that a call
+//! takes, from the C library, is given back before it ends.
+#![tactic(auto)]
+
+ghost use Rattle.std.specs.Prelude.{◌≡◌, ◌≢◌, ◌<◌, ◌≤◌, ◌+◌, ◌*◌, ◌++◌, ◌==◌, ◌⊎◌, ℕ, List, length, take, drop, count_by, Ok};
+ghost use Rattle.byte_names.specs.Bytes.{line_feed};
+ghost use Rattle.instants_stream.specs.Lines.{lines, parts};
+ghost use Rattle.instants_stream.specs.declared.run.RunFault.{RunFault};
+ghost use Rattle.instants_words.specs.declared.words.Words.{Words};
+ghost use Rattle.instants_words.specs.Words.{words_said};
+ghost use Rattle.instants.specs.Place.{Setting};
+ghost use Rattle.instants.specs.Program.{Asks, IsBeforeRun};
+ghost use Rattle.instants.specs.ProgramText.{sentence, status_of};
+ghost use Rattle.instants.specs.declared.program_fault.ProgramFault.{ProgramFault};
+ghost use Rattle.instants_memory.specs.OutputFor.{IsOutputFor};
+ghost use Rattle.instants_c.specs.Refused.{IsCutShort, IsRefusedAs};
+
+mod sentences;
+#[cfg(test)]
+mod tests;
+mod texts;
+
+use instants::ProgramFault;
+use instants_memory::LINE_ROOM;
+use std::alloc::Global;
+
+// Major, minor and patch, two digits each.
+const VERSION: u32 = 100;
+
+/// Answers each line of the input as the words say, each answer followed by a line feed, into the front of the output. The
+/// result is the program's status, and `written` has how many bytes were written.
+#[unsafe(no_mangle)]
+#[tactic(auto, using(crate::proofs::Feeds::lines_by_feeds))]
+pub extern "C" fn instants_answer_lines(
+    alloc: Global,
+    words: &[u8],
+    input: &[u8],
+    output: &mut [u8],
+    written: &mut usize,
+) -> u8
+    ensures status { result ≤ 2 }
+    // Exactly the output that the words ask for is written, and what lies behind it stays.
+    ensures ok { result ≡ 0 → (bytes : List ℕ) × IsOutputFor (parts words.now) input.now bytes
+        × (written.new ≡ length bytes) × (output.new ≡ bytes ++ drop (length bytes) output.old) }
+    // Else nothing is written, or the answers are longer than the output, which is full of their beginning.
+    ensures failed { result ≡ 1 → ((written.new ≡ 0) × (output.new ≡ output.old))
+        ⊎ IsCutShort (parts words.now) input.now output.old output.new written.new }
+    // The words are wrong, or the first source that is no description is refused.
+    ensures wrong { result ≡ 2 → (fault : ProgramFault) × IsRefusedAs (parts words.now) fault
+        × (status_of fault ≡ 2) × (written.new ≡ 0) × (output.new ≡ output.old) }
+    // `LINE_ROOM` bytes a line are room enough.
+    ensures line_room { LINE_ROOM * length (lines input.now) ≤ length output.old
+        → result ≢ 0 → (written.new ≡ 0) × (output.new ≡ output.old) }
+    // So are as many for each line feed, and once more.
+    ensures feed_room { LINE_ROOM * (count_by (λ b. b == line_feed) input.now + 1) ≤ length output.old
+        → result ≢ 0 → (written.new ≡ 0) × (output.new ≡ output.old) }
+{
+    match texts::answer_lines(alloc, words, input, output) {
+        Ok(len) => {
+            *written = len;
+            0
+        }
+        Err(fault) => {
+            *written = written_before(&fault, output.len());
+            fault.status()
+        }
+    }
+}
+
+// How many bytes are written where a fault ends a call: the whole room, where it ends the run.
+fn written_before(fault: &ProgramFault, room: usize) -> usize
+    ensures run { (ended : RunFault) → fault.now ≡ ProgramFault.Run ended → result ≡ room }
+    ensures before { IsBeforeRun fault.now → result ≡ 0 }
+{
+    match fault {
+        ProgramFault::Run(_) => room,
+        _ => 0,
+    }
+}
+
+/// Looks at the words as a call that answers lines does before the first one, and writes the sentence of what is refused, as
+/// much as there is room for. The result is the program's status, and `length` has how many bytes the whole sentence has.
+#[unsafe(no_mangle)]
+pub extern "C" fn instants_sentence(
+    alloc: Global,
+    words: &[u8],
+    output: &mut [u8],
+    len: &mut usize,
+) -> u8
+    // The words are accepted, and nothing is said.
+    ensures accepted { result ≡ 0 → (said : Words) × (words_said (parts words.now) ≡ Ok said)
+        × (setting : Setting) × Asks said setting × (len.new ≡ 0) × (output.new ≡ output.old) }
+    ensures refused { result ≢ 0 → (fault : ProgramFault) × IsRefusedAs (parts words.now) fault
+        × (result ≡ status_of fault) × (len.new ≡ length (sentence fault))
+        × (output.new ≡ take (length output.old) (sentence fault)
+        ++ drop (length (sentence fault)) output.old) }
+{
+    match texts::answer_lines(alloc, words, &[], &mut []) {
+        Ok(_) => {
+            *len = 0;
+            0
+        }
+        Err(fault) => sentences::write(alloc, fault, output, len),
+    }
+}
+
+/// The version: ten thousand times the major one, a hundred times the minor one, and the patch.
+#[unsafe(no_mangle)]
+pub extern "C" fn instants_version() -> u32
+    ensures { result ≡ 100 }
+{
+    VERSION
+}

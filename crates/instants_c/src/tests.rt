@@ -1,0 +1,31 @@
+//! The calls, on their happy path and where words are wrong.
+
+use crate::{instants_answer_lines, instants_sentence, instants_version};
+use std::alloc::Global;
+
+// The status of a line, how many bytes are written, and the room.
+fn answered(alloc: Global, words: &[u8]) -> (u8, usize, [u8; 36]) {
+    let (mut output, mut written) = ([b'.'; 36], 0);
+    let input = b"2021-01-02T04:04:05+01:00\n";
+    let status = instants_answer_lines(alloc, words, input, &mut output, &mut written);
+    (status, written, output)
+}
+
+// The status of words, the length of the sentence, and its beginning.
+fn told(alloc: Global, words: &[u8]) -> (u8, usize, [u8; 15]) {
+    let (mut output, mut len) = ([b'.'; 15], 0);
+    let status = instants_sentence(alloc, words, &mut output, &mut len);
+    (status, len, output)
+}
+
+#[test]
+fn calls(rt: HostRuntime) {
+    let words = b"+00:00\n-\n100\nrfc3339";
+    assert!(rt;
+        answered(rt.alloc(), words) == (0, 31, *b"2021-01-02T03:04:05.000000000Z\n.....")
+            && answered(rt.alloc(), b"+00:00\n-\n100") == (2, 0, [b'.'; 36])
+            && told(rt.alloc(), words) == (0, 0, [b'.'; 15])
+            && told(rt.alloc(), b"+00:00\n-\n100") == (2, 56, *b"instants: usage")
+            && instants_version() == 100
+    );
+}

@@ -1,0 +1,44 @@
+//! Words that stand in one text.
+ghost use Rattle.std.specs.Prelude.{◌≡◌, ◌≢◌, ◌<◌, ◌≤◌, ◌*◌, ◌++◌, ℕ, List, map, length, take, drop, Err, IfOk, IfErr};
+ghost use Rattle.instants_stream.specs.Lines.{lines, parts};
+ghost use Rattle.instants_stream.specs.declared.run.RunFault.{RunFault};
+ghost use Rattle.instants.specs.Program.{IsBeforeRun};
+ghost use Rattle.instants_memory.specs.OutputFor.{IsOutputFor};
+ghost use Rattle.instants_c.specs.Refused.{IsRefusedAs};
+
+use instants::ProgramFault;
+use instants_memory::LINE_ROOM;
+use std::alloc::{AllocError, Global};
+
+// The words between line feeds.
+fn words_of(alloc: Global, text: &str) -> Result<Vec<&str>, AllocError>
+    ensures { IfOk result (λ words. map (λ word. word.now) words.items ≡ parts text.now) }
+{
+    text.split('\n').collect(alloc)
+}
+
+/// Answers lines as `instants_memory::answer_lines` does, by words with a line feed between them. Words that are not UTF-8
+/// are not to be had, as for the program.
+pub(crate) fn answer_lines<'a>(
+    alloc: Global,
+    words: &'a [u8],
+    input: &[u8],
+    output: &mut [u8],
+) -> Result<usize, ProgramFault<'a>>
+    ensures ok { IfOk result (λ len. (bytes : List ℕ) × IsOutputFor (parts words.now) input.now bytes
+        × (len ≡ length bytes) × (output.new ≡ bytes ++ drop len output.old)) }
+    ensures write { result ≡ Err (ProgramFault.Run RunFault.Write) → (bytes : List ℕ)
+        × IsOutputFor (parts words.now) input.now bytes
+        × (length output.old < length bytes) × (output.new ≡ take (length output.old) bytes) }
+    ensures line_room { LINE_ROOM * length (lines input.now) ≤ length output.old
+        → result ≢ Err (ProgramFault.Run RunFault.Write) }
+    ensures read { result ≢ Err (ProgramFault.Run RunFault.Read) }
+    ensures refused { IfErr result (λ fault. IsBeforeRun fault
+        → IsRefusedAs (parts words.now) fault × (output.new ≡ output.old)) }
+{
+    let Ok(text) = str::from_utf8(words) else {
+        return Err(ProgramFault::Memory);
+    };
+    let words = words_of(alloc, text)?;
+    instants_memory::answer_lines(alloc, words.as_slice(), input, output)
+}

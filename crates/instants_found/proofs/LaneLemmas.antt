@@ -1,0 +1,118 @@
+-- What the operations on vectors of 16 bytes hold at each lane.
+use Rattle.std.proofs.Common.{◌≡◌, ◌≢◌, ℕ, suc, ◌+◌, ◌-◌, ◌*◌, ◌<◌, ◌==◌, Bool, true, false, not, cond, List, [], ◌∷◌, length, get_or, take, map, replicate, Option, Some, None, refl, sym, ap, ◌∙◌, arith, w8}
+use Rattle.std.specs.Prelude.{IfSome, IfNone}
+use Rattle.std.specs.List.{prefix_len}
+use Rattle.std.specs.Simd.Lanes.{zip2, sel_l, mask_l}
+use Rattle.std.proofs.lemmas.Simd.{length-zip2, get_or-zip2, get_or-replicate, length-sel_l, get_or-sel_l, length-swz_l, get_or-swz_l_below, swz_l, SwzOk, SwzOk-from_below, Each1-from_get_or, leading_from_mask_l, trailing_mask_l}
+use Rattle.std.proofs.lemmas.Bool.Decides.{nat_tests}
+use Rattle.std.proofs.lemmas.List.{get_or-take}
+use Rattle.std.proofs.lemmas.List.Sums.{prefix_len_passes}
+use Rattle.instants_found.specs.Lanes.{HasLanes}
+use Rattle.instants_found.specs.Starts.{common, mark}
+use Rattle.instants_found.specs.declared.start_lanes.StartLanes.{StartLanes}
+use lib.Count.{count_trailing_zeros}
+
+-- an operator on two vectors
+pub HasLanes-zip2 : (f : ℕ → ℕ → ℕ) (a b : List ℕ) → length a ≡ 16 → length b ≡ 16 → HasLanes (zip2 f a b) (λ k. f (get_or a k 0) (get_or b k 0))
+HasLanes-zip2 f a b p q = record {
+  long = length-zip2 f a b (p ∙ sym q) ∙ p;
+  each = λ k l. get_or-zip2 f a b k 0 0 0 (omega arith) (omega arith);
+}
+
+-- an operator on a vector and a splat
+pub HasLanes-splat : (f : ℕ → ℕ → ℕ) (a : List ℕ) (x : ℕ) → length a ≡ 16 → HasLanes (zip2 f a (replicate 16 x)) (λ k. f (get_or a k 0) x)
+HasLanes-splat f a x p =
+    let h = HasLanes-zip2 f a (replicate 16 x) p refl in
+    record { long = h.long; each = λ k l. h.each k l ∙ ap (f (get_or a k 0)) (get_or-replicate 16 k x 0 l) }
+
+module _ (js : List ℕ) (f : ℕ → ℕ) (h : HasLanes js f) (small : (k : ℕ) → k < 16 → f k < 16) where
+  -- places below 16 may be looked up
+  pub SwzOk-halves : SwzOk w8 16 16 0 js
+  SwzOk-halves =
+      let long = h.long in
+      SwzOk-from_below w8 16 1 16 0 js refl (omega arith) (Each1-from_get_or (λ j. j < 16) js 0 (λ i l. omega (arith, h.each i (omega arith), small i (omega arith))))
+
+  -- what the look-up gives
+  pub HasLanes-look_up : (table : List ℕ) → HasLanes (swz_l w8 16 (take 16 table) 0 js) (λ k. get_or table (f k) 0)
+  HasLanes-look_up table =
+      let long = h.long in
+      record {
+        long = length-swz_l w8 16 (take 16 table) 0 js ∙ long;
+        each = λ k l.
+            let e = h.each k l in
+            let below = small k l in
+            get_or-swz_l_below w8 16 (take 16 table) 0 js k (omega arith) (omega arith) ∙ ap (λ j. get_or (take 16 table) j 0) (omega arith) ∙ get_or-take 16 table (f k) 0 below;
+      }
+
+-- a choice of two vectors by the comparison of a third with 0
+pub HasLanes-chosen : (t a b : List ℕ) → length t ≡ 16 → length a ≡ 16 → length b ≡ 16
+    → HasLanes (sel_l (zip2 (λ x y. x == y) t (replicate 16 0)) a b) (λ k. cond (get_or t k 0 == 0) (get_or a k 0) (get_or b k 0))
+HasLanes-chosen t a b p q r =
+    let test : List Bool = zip2 (λ x y. x == y) t (replicate 16 0) in
+    let long : length test ≡ 16 = length-zip2 (λ x y. x == y) t (replicate 16 0) p ∙ p in
+    record {
+      long = length-sel_l test a b (long ∙ sym q) (long ∙ sym r) ∙ long;
+      each = λ k l.
+          get_or-sel_l test a b k 0 (omega arith) (omega arith) (omega arith)
+          ∙ ap (λ (c : Bool). cond c (get_or a k 0) (get_or b k 0)) (get_or-zip2 (λ x y. x == y) t (replicate 16 0) k 0 0 false (omega arith) l ∙ ap (λ (y : ℕ). get_or t k 0 == y) (get_or-replicate 16 k 0 0 l));
+    }
+
+-- ---- the first lane that isn't 0
+
+abbrev pub marked : ℕ → Bool
+marked x = not (x == 0)
+
+unmarked : (x : ℕ) → not (marked x) ≡ true → x ≡ 0
+unmarked x h = grind (arith, nat_tests)
+
+-- a step of the count: the test of one lane, the bits of the others and how many of them come before
+counted : (b : Bool) (mask before all : ℕ) → 0 < cond b 1 0 + 2 * mask → (0 < mask → before < all) → cond (not b) (1 + before) 0 < suc all
+counted true mask before all some below = omega arith
+counted false mask before all some below = omega (arith, below (omega arith))
+
+-- where a bit is set, some lane is marked
+stops_within : (xs : List ℕ) → 0 < mask_l (map marked xs) → prefix_len (λ x. not (marked x)) xs < length xs
+stops_within [] some = absurd (omega arith)
+stops_within (x ∷ xs) some = counted (marked x) (mask_l (map marked xs)) (prefix_len (λ x. not (marked x)) xs) (length xs) some (stops_within xs)
+
+module _ (v : List ℕ) (long : length v ≡ 16) (m : ℕ) (mask : m ≡ mask_l (map marked v)) where
+  passed : (k : ℕ) → k < prefix_len (λ x. not (marked x)) v → get_or v k 0 ≡ 0
+  passed k lt = unmarked (get_or v k 0) (prefix_len_passes (λ x. not (marked x)) v k 0 lt)
+
+  pub none_marked : m ≡ 0 → (k : ℕ) → k < 16 → get_or v k 0 ≡ 0
+  none_marked none k lt = passed k (omega (arith, leading_from_mask_l marked v (sym mask ∙ none)))
+
+  lowest : m ≢ 0 → count_trailing_zeros 64 m ≡ prefix_len (λ x. not (marked x)) v
+  lowest some = rw mask (trailing_mask_l marked 64 v (omega arith) (omega (arith, mask, some)))
+
+  pub lowest_within : m ≢ 0 → count_trailing_zeros 64 m < 16
+  lowest_within some = omega (arith, lowest some, stops_within v (omega (arith, mask, some)))
+
+  pub before_marked : m ≢ 0 → (k : ℕ) → k < count_trailing_zeros 64 m → get_or v k 0 ≡ 0
+  before_marked some k lt = passed k (omega (arith, lowest some))
+
+-- ---- the marks of the bytes of a line
+
+-- what each lane of the marks is
+pub marks_are : (lanes : StartLanes) (line here prev before any apart marks : List ℕ) (at : ℕ) → 0 < at → HasLanes here (λ k. get_or line (at + k) 0) → HasLanes prev (λ k. get_or line (at - 1 + k) 0)
+    → HasLanes before (λ k. common lanes.word (get_or prev k 0)) → HasLanes any (λ k. common lanes.any (get_or here k 0)) → HasLanes apart (λ k. common lanes.apart (get_or here k 0))
+    → HasLanes marks (λ k. cond (get_or before k 0 == 0) (get_or any k 0) (get_or apart k 0)) → (k : ℕ) → k < 16 → get_or marks k 0 ≡ mark lanes (get_or line (at + k - 1) 0) (get_or line (at + k) 0)
+marks_are lanes line here prev before any apart marks at some is_here is_prev is_before is_any is_apart is_marks k lt =
+    let place : at - 1 + k ≡ at + k - 1 = omega (arith, some) in
+    let b : get_or before k 0 ≡ common lanes.word (get_or line (at + k - 1) 0) =
+    is_before.each k lt ∙ ap (common lanes.word) (is_prev.each k lt) ∙ ap (λ (n : ℕ). common lanes.word (get_or line n 0)) place in
+    let a : get_or any k 0 ≡ common lanes.any (get_or line (at + k) 0) = is_any.each k lt ∙ ap (common lanes.any) (is_here.each k lt) in
+    let p : get_or apart k 0 ≡ common lanes.apart (get_or line (at + k) 0) = is_apart.each k lt ∙ ap (common lanes.apart) (is_here.each k lt) in
+    is_marks.each k lt ∙ ap (λ (n : ℕ). cond (n == 0) (get_or any k 0) (get_or apart k 0)) b
+    ∙ ap (λ (n : ℕ). cond (common lanes.word (get_or line (at + k - 1) 0) == 0) n (get_or apart k 0)) a
+    ∙ ap (λ (n : ℕ). cond (common lanes.word (get_or line (at + k - 1) 0) == 0) (common lanes.any (get_or line (at + k) 0)) n) p
+
+-- ---- what is said of an answer
+
+pub if_none : {A : Type 0} (o : Option A) (P Q : Type 0) → (P → Q) → IfNone o P → IfNone o Q
+if_none None P Q f h = f h
+if_none (Some x) P Q f h = tt
+
+pub if_both : (o : Option ℕ) (P Q R : ℕ → Type 0) → ((n : ℕ) → P n → Q n → R n) → IfSome o P → IfSome o Q → IfSome o R
+if_both None P Q R f g h = tt
+if_both (Some n) P Q R f g h = f n g h

@@ -1,0 +1,129 @@
+-- Bytes at which no date of a source begins.
+use Rattle.std.proofs.Common.{◌≡◌, ◌≤◌, ◌||◌, ◌==◌, ℕ, Bool, true, false, cond, eqb, leb, List, [], ◌∷◌, length, get_or, Option, None, Ok, Err, refl, arith}
+use Rattle.std.specs.Prelude.{codes, option_map, if◌then◌else◌}
+use Rattle.std.specs.Result.{result_ok}
+use Rattle.std.specs.Char.{is_ascii_digit, is_ascii_alphanumeric, to_ascii_lowercase}
+use Rattle.std.proofs.lemmas.Bool.Decides.{nat_tests}
+use Rattle.byte_names.specs.Bytes.{plus, hyphen, upper_z}
+use Rattle.calendar_count.specs.declared.weekday.Weekday.{Weekday}
+use Rattle.description_items.specs.Tree.{Tree, listed}
+use Rattle.parsing_combinator.specs.Fault.{component}
+use Rattle.parsing_combinator.specs.Pieces.{digits, byte_of, skip_of}
+use Rattle.parsing_components.specs.Component.{reads_component, reads_component_v3}
+use Rattle.parsing_first_bytes.specs.FirstBytes.{IsRefusedAt}
+use Rattle.parsing_iso8601.specs.declared.kind.Kind.TheVariants.{Unknown}
+use Rattle.parsing_iso8601.specs.Reading as iso8601
+use Rattle.parsing_iso8601.specs.Dates as iso8601_dates
+use Rattle.parsing_iso8601.specs.Times as iso8601_times
+use Rattle.parsing_iso8601.specs.Offsets as iso8601_offsets
+use Rattle.parsing_iso8601.specs.Numbers as iso8601_numbers
+use Rattle.parsing_record.specs.Reads.{reading, reading_of_all}
+use Rattle.parsing_record.specs.Record.{Record}
+use Rattle.parsing_rfc2822.specs.Reading as rfc2822
+use Rattle.parsing_rfc2822.specs.Names.{weekday, weekday_of}
+use Rattle.parsing_rfc2822.proofs.WhiteSpaceLemmas.{none_at}
+use Rattle.parsing_staged.specs.Staged.{reads_rfc2822, reads_iso8601}
+use Rattle.instants_sources.specs.Grammar.{Items, V3, Rfc2822, Rfc3339, Iso8601}
+use Rattle.instants_sources.specs.Tried.{beginning}
+use Rattle.instants_sources.proofs.RuledOut.{part_due_of_nothing}
+use Rattle.instants_found.specs.Front.{front_named}
+use Rattle.instants_found.specs.Starts.{CannotBegin, begins_day, begins_part}
+use Rattle.instants_found.proofs.NoFront.{none_front, no_digit}
+
+-- ---- descriptions
+
+pub items_cannot : (items : List Tree) (byte : ℕ) → IsRefusedAt (reading_of_all reads_component (listed items)) 0 byte → CannotBegin byte (Items items)
+unfolding front_named
+items_cannot items byte refused = λ assumed bytes at. none_front (reading_of_all reads_component (listed items) (beginning assumed) bytes) (refused bytes at (beginning assumed))
+
+pub tree_cannot : (tree : Tree) (byte : ℕ) → IsRefusedAt (reading reads_component_v3 tree) 0 byte → CannotBegin byte (V3 tree)
+unfolding front_named
+tree_cannot tree byte refused = λ assumed bytes at. none_front (reading reads_component_v3 tree (beginning assumed) bytes) (refused bytes at (beginning assumed))
+
+-- ---- RFC 3339
+
+pub year_cannot : (byte : ℕ) → is_ascii_digit byte ≡ false → CannotBegin byte Rfc3339
+unfolding front_named
+year_cannot byte none = λ assumed bytes at. no_digit (beginning assumed) bytes (rw at none)
+
+-- ---- RFC 2822
+
+neither : (a b : Bool) → (a || b) ≡ false → (a ≡ false) × (b ≡ false)
+neither true b e = absurd cc
+neither false b e = (refl, e)
+
+other_name : (c d e : ℕ) → eqb (to_ascii_lowercase c) 102 ≡ false → eqb (to_ascii_lowercase c) 109 ≡ false → eqb (to_ascii_lowercase c) 115 ≡ false
+    → eqb (to_ascii_lowercase c) 116 ≡ false → eqb (to_ascii_lowercase c) 119 ≡ false → weekday_of (c ∷ d ∷ e ∷ []) ≡ None
+unfolding weekday_of
+other_name c d e f m s t w = rw (m, t, w, f, s) refl
+
+no_named : (b : Bool) (o : Option Weekday) (rest : List ℕ) → o ≡ None → cond {A = Option (Weekday × List ℕ)} b (option_map (λ x. (x, rest)) o) None ≡ None
+no_named true o rest e = rw e refl
+no_named false o rest e = refl
+
+unnamed : (c : ℕ) (rest : List ℕ) → ((d e : ℕ) → weekday_of (c ∷ d ∷ e ∷ []) ≡ None) → weekday (c ∷ rest) ≡ None
+unfolding weekday
+unnamed c [] none = refl
+unnamed c (d ∷ []) none = refl
+unnamed c (d ∷ e ∷ rest) none = no_named (leb 3 (length (c ∷ d ∷ e ∷ rest))) (weekday_of (c ∷ d ∷ e ∷ [])) rest (none d e)
+
+no_day : (c : ℕ) (rest : List ℕ) (r : Record) → 41 ≤ c → is_ascii_digit c ≡ false → weekday (c ∷ rest) ≡ None → result_ok (reads_rfc2822 r (c ∷ rest)) ≡ None
+unfolding reads_rfc2822 rfc2822.rfc2822 rfc2822.day rfc2822.optional_weekday rfc2822.one_or_two_digits digits
+no_day c rest r h digit name = rw (none_at c rest h, name, digit) refl
+
+above : (c : ℕ) → is_ascii_alphanumeric c ≡ true → 41 ≤ c
+above c e = grind (arith, nat_tests)
+
+day_refused : (bytes : List ℕ) (r : Record) → is_ascii_alphanumeric (get_or bytes 0 0) ≡ true → begins_day (get_or bytes 0 0) ≡ false → result_ok (reads_rfc2822 r bytes) ≡ None
+day_refused [] r word none = absurd cc
+day_refused (c ∷ rest) r word none =
+    let w = neither ((((is_ascii_digit c || to_ascii_lowercase c == 102) || to_ascii_lowercase c == 109) || to_ascii_lowercase c == 115) || to_ascii_lowercase c == 116) (to_ascii_lowercase c == 119) none in
+    let t = neither (((is_ascii_digit c || to_ascii_lowercase c == 102) || to_ascii_lowercase c == 109) || to_ascii_lowercase c == 115) (to_ascii_lowercase c == 116) w.0 in
+    let s = neither ((is_ascii_digit c || to_ascii_lowercase c == 102) || to_ascii_lowercase c == 109) (to_ascii_lowercase c == 115) t.0 in
+    let m = neither (is_ascii_digit c || to_ascii_lowercase c == 102) (to_ascii_lowercase c == 109) s.0 in
+    let f = neither (is_ascii_digit c) (to_ascii_lowercase c == 102) m.0 in
+    no_day c rest r (above c word) f.0 (unnamed c rest (λ d e. other_name c d e f.1 m.1 s.1 t.1 w.1))
+
+where_so : {A : Type 0} (b : Bool) (x : Option A) → (b ≡ true → x ≡ None) → (if b then x else None) ≡ None
+where_so true x h = h refl
+where_so false x h = refl
+
+pub day_cannot : (byte : ℕ) → begins_day byte ≡ false → CannotBegin byte Rfc2822
+unfolding front_named
+day_cannot byte none = λ assumed bytes at.
+    where_so (is_ascii_alphanumeric (get_or bytes 0 0)) _ (λ word. none_front (reads_rfc2822 (beginning assumed) bytes) (day_refused bytes (beginning assumed) word (rw at none)))
+
+-- ---- ISO 8601
+
+no_year : (c : ℕ) (rest : List ℕ) → is_ascii_digit c ≡ false → eqb c plus ≡ false → eqb c hyphen ≡ false → iso8601_numbers.year (c ∷ rest) ≡ None
+unfolding iso8601_numbers.year iso8601_numbers.plain_year byte_of digits
+no_year c rest d p h = rw (p, h, d) refl
+
+no_date : (c : ℕ) (rest : List ℕ) → is_ascii_digit c ≡ false → eqb c plus ≡ false → eqb c hyphen ≡ false → iso8601.dated (c ∷ rest) ≡ Ok ((Err (component (codes "year")), Unknown), c ∷ rest)
+unfolding iso8601.dated iso8601_dates.year_and_kind
+no_date c rest d p h = rw (no_year c rest d p h) refl
+
+no_time : (c : ℕ) (rest : List ℕ) → is_ascii_digit c ≡ false → eqb c 84 ≡ false → iso8601_times.time Unknown false (c ∷ rest) ≡ None
+unfolding iso8601_times.time iso8601_times.designator iso8601_numbers.number skip_of digits
+no_time c rest d t = rw (t, d) refl
+
+no_offset : (c : ℕ) (rest : List ℕ) → eqb c plus ≡ false → eqb c hyphen ≡ false → eqb c 90 ≡ false → iso8601_offsets.offset Unknown (c ∷ rest) ≡ None
+unfolding iso8601_offsets.offset iso8601_offsets.signed_offset byte_of skip_of
+no_offset c rest p h z = rw (z, p, h) refl
+
+no_part : (c : ℕ) (rest : List ℕ) (r : Record) → is_ascii_digit c ≡ false → eqb c plus ≡ false → eqb c hyphen ≡ false → eqb c 84 ≡ false → eqb c 90 ≡ false → result_ok (reads_iso8601 r (c ∷ rest)) ≡ None
+unfolding reads_iso8601 iso8601.iso8601
+no_part c rest r d p h t z = rw (no_date c rest d p h, no_time c rest d t, no_offset c rest p h z) refl
+
+part_refused : (bytes : List ℕ) (r : Record) → begins_part (get_or bytes 0 0) ≡ false → result_ok (reads_iso8601 r bytes) ≡ None
+part_refused [] r none = part_due_of_nothing [] r (omega arith)
+part_refused (c ∷ rest) r none =
+    let z = neither (((is_ascii_digit c || c == plus) || c == hyphen) || c == 84) (c == upper_z) none in
+    let t = neither ((is_ascii_digit c || c == plus) || c == hyphen) (c == 84) z.0 in
+    let h = neither (is_ascii_digit c || c == plus) (c == hyphen) t.0 in
+    let p = neither (is_ascii_digit c) (c == plus) h.0 in
+    no_part c rest r p.0 p.1 h.1 t.1 z.1
+
+pub part_cannot : (byte : ℕ) → begins_part byte ≡ false → CannotBegin byte Iso8601
+unfolding front_named
+part_cannot byte none = λ assumed bytes at. none_front (reads_iso8601 (beginning assumed) bytes) (part_refused bytes (beginning assumed) (rw at none))

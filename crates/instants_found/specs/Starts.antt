@@ -1,0 +1,53 @@
+-- Where no date begins.
+use Rattle.std.specs.Prelude.{◌≡◌, ◌<◌, ◌≤◌, ◌==◌, ◌||◌, ◌/◌, ◌%◌, ℕ, Bool, true, false, not, List, get_or, Option, None, All, bit_and, ℤ, if◌then◌else◌}
+use Rattle.std.specs.Char.{is_ascii_digit, is_ascii_alphanumeric, to_ascii_lowercase}
+use Rattle.byte_names.specs.Bytes.{plus, hyphen, upper_z}
+use Rattle.instants_sources.specs.Grammar.{Grammar}
+use Rattle.instants_found.specs.Front.{front_named}
+use Rattle.instants_found.specs.Found.{at_place}
+use Rattle.instants_found.specs.declared.byte_set.ByteSet.{ByteSet}
+use Rattle.instants_found.specs.declared.start_lanes.StartLanes.{StartLanes}
+
+-- a date of RFC 2822 begins with a digit or, in any case, with the first letter of a weekday's name
+abbrev pub begins_day : ℕ → Bool
+begins_day byte = ((((is_ascii_digit byte || to_ascii_lowercase byte == 102) || to_ascii_lowercase byte == 109) || to_ascii_lowercase byte == 115) || to_ascii_lowercase byte == 116) || to_ascii_lowercase byte == 119
+
+-- one of ISO 8601 with a digit, a sign or a designator, `T` or `Z`
+abbrev pub begins_part : ℕ → Bool
+begins_part byte = (((is_ascii_digit byte || byte == plus) || byte == hyphen) || byte == 84) || byte == upper_z
+
+-- no front that a source reads begins with this byte
+abbrev pub CannotBegin : ℕ → Grammar → Type 0
+CannotBegin byte grammar = (assumed : Option ℤ) (bytes : List ℕ) → get_or bytes 0 0 ≡ byte → front_named assumed grammar bytes ≡ None
+
+-- .. and that holds of each source
+abbrev pub NoneBegins : List Grammar → ℕ → Type 0
+NoneBegins sources byte = All (CannotBegin byte) sources
+
+-- what is marked in a table are all bytes at which a front of a source can begin
+abbrev pub AreStarts : List Grammar → List Bool → Type 0
+AreStarts sources starts = (byte : ℕ) → get_or starts byte true ≡ false → NoneBegins sources byte
+
+-- no date begins at the places of a line from one up to another
+abbrev pub HasNoDate : Option ℤ → List Grammar → List ℕ → ℕ → ℕ → Type 0
+HasNoDate assumed sources line from to = (place : ℕ) → from ≤ place → place < to → at_place assumed sources line place ≡ None
+
+-- what two tables have in common for the halves of a byte, which is 0 for bytes that aren't in the set
+abbrev pub common : ByteSet → ℕ → ℕ
+common set byte = bit_and (get_or set.low (byte % 16) 0) (get_or set.high (byte / 16) 0)
+
+abbrev pub has : ByteSet → ℕ → Bool
+has set byte = not (common set byte == 0)
+
+-- the sets have a byte where they have to: it is a start, or one that is no letter and no digit; and no other byte than letters and digits is part of a word
+pub record AreRightAt (starts : List Bool) (lanes : StartLanes) (byte : ℕ) : Type 0 where
+  pub any : get_or starts byte true ≡ true → has lanes.any byte ≡ true
+  pub apart : get_or starts byte true ≡ true → is_ascii_alphanumeric byte ≡ false → has lanes.apart byte ≡ true
+  pub word : is_ascii_alphanumeric byte ≡ false → has lanes.word byte ≡ false
+
+abbrev pub AreRight : List Bool → StartLanes → Type 0
+AreRight starts lanes = (byte : ℕ) → byte < 256 → AreRightAt starts lanes byte
+
+-- the mark of a byte behind another, which is 0 where no date begins at it
+abbrev pub mark : StartLanes → ℕ → ℕ → ℕ
+mark lanes before here = if common lanes.word before == 0 then common lanes.any here else common lanes.apart here

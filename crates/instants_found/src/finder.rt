@@ -1,0 +1,24 @@
+//! A search for dates that is made ready once.
+ghost use Rattle.std.specs.Prelude.{◌≡◌, map};
+ghost use Rattle.std.specs.Option.{ForSome};
+ghost use Rattle.instants_sources.specs.Grammar.{grammar_of};
+ghost use Rattle.instants_found.specs.Starts.{AreRight, AreStarts};
+
+mod calls;
+
+use crate::start_lanes::StartLanes;
+use calendar::UtcOffset;
+use instants_sources::Source;
+
+/// Finds the first date of a line by its sources, with an offset assumed or none. Places at which none can begin are
+/// passed sixteen at a time.
+#[derive(Drop)]
+pub struct Finder<'a> {
+    pub(crate) sources: Vec<Source<'a>>,
+    pub(crate) assumed: Option<UtcOffset>,
+    // The bytes at which a date can begin.
+    pub(crate) starts: [bool; 256],
+    pub(crate) lanes: Option<StartLanes>,
+    ghost starts_are: { AreStarts (map grammar_of sources.items) starts },
+    ghost lanes_are: { ForSome lanes (AreRight starts) },
+}

@@ -1,0 +1,86 @@
+//! The places of a line at which a date can begin, sixteen at a time.
+ghost use Rattle.std.specs.Prelude.{◌≡◌, ◌<◌, ◌≤◌, ◌+◌, ◌-◌, ℕ, true, length, get_or, IfSome, IfNone};
+
+use crate::byte_set::ByteSet;
+use crate::lanes::{LANES, first_marked, load, where_zero};
+
+/// The bytes at which a date can begin: any of them, and those that may stand behind a letter or a digit, as they are no
+/// letters and no digits themselves.
+#[derive(Clone, Copy)]
+pub(crate) struct StartLanes {
+    pub(crate) any: ByteSet,
+    pub(crate) apart: ByteSet,
+    /// Letters of ASCII and digits.
+    pub(crate) word: ByteSet,
+}
+
+impl StartLanes {
+    ghost use Rattle.instants_found.specs.Starts.{AreRight, AreRightAt, mark};
+
+    /// The sets for these bytes, if they are right.
+    pub(crate) fn of(starts: &[bool; 256]) -> Option<StartLanes>
+        ensures { IfSome result (AreRight starts.now) }
+    {
+        let mut word = [false; 256];
+        let mut apart = *starts;
+        for byte in 0..=255u8 {
+            if byte.is_ascii_alphanumeric() {
+                word[usize::from(byte)] = true;
+                apart[usize::from(byte)] = false;
+            }
+        }
+        let lanes = StartLanes {
+            any: ByteSet::of(starts),
+            apart: ByteSet::of(&apart),
+            word: ByteSet::of(&word),
+        };
+        if lanes.are_right(starts) {
+            Some(lanes)
+        } else {
+            None
+        }
+    }
+
+    // Whether the sets are right for each byte.
+    fn are_right(&self, starts: &[bool; 256]) -> bool
+        ensures { result ≡ true → AreRight starts.now self.now }
+    {
+        for byte in 0..256usize {
+            if !self.are_right_at(starts, byte as u8) {
+                return false;
+            }
+        }
+        true
+    }
+
+    // Whether they are right for a byte.
+    fn are_right_at(&self, starts: &[bool; 256], byte: u8) -> bool
+        ensures { result ≡ true → AreRightAt starts.now self.now byte }
+    {
+        let is_start = starts[usize::from(byte)];
+        if byte.is_ascii_alphanumeric() {
+            return !is_start || self.any.has(byte);
+        }
+        if self.word.has(byte) {
+            return false;
+        }
+        !is_start || (self.any.has(byte) && self.apart.has(byte))
+    }
+
+    /// The first of the 16 bytes from a place on that is marked.
+    #[inline(always)]
+    pub(crate) fn first(&self, line: &[u8], at: usize) -> Option<usize>
+        requires behind { 0 < at }
+        requires room { at + LANES ≤ length line.now }
+        ensures none { IfNone result ((k : ℕ) → k < LANES →
+            mark self.now (get_or line.now (at + k - 1) 0) (get_or line.now (at + k) 0) ≡ 0) }
+        ensures within { IfSome result (λ n. n < LANES) }
+        ensures before { IfSome result (λ n. (k : ℕ) → k < n →
+            mark self.now (get_or line.now (at + k - 1) 0) (get_or line.now (at + k) 0) ≡ 0) }
+    {
+        let here = load(line, at);
+        let before = self.word.marks(load(line, at - 1));
+        let marks = where_zero(before, self.any.marks(here), self.apart.marks(here));
+        first_marked(marks)
+    }
+}

@@ -1,0 +1,29 @@
+# Completion of the words of instants(1): TARGET ASSUMED LIMIT SOURCE...
+
+_instants()
+{
+    local word=${COMP_WORDS[COMP_CWORD]} before=${COMP_WORDS[COMP_CWORD - 1]}
+    local place=$COMP_CWORD words=
+    # (an offset has a colon, at which bash may cut words)
+    if declare -F _get_comp_words_by_ref > /dev/null; then
+        _get_comp_words_by_ref -n : -c word -p before -i place
+    fi
+    case $place in
+        1) words='+00:00 -00:00' ;;
+        2) words='- +00:00' ;;
+        3) words='100 1048576' ;;
+        *)
+            case $before in
+                # a description stands here
+                v1 | v2 | v3 | strftime) ;;
+                *) words='rfc3339 rfc2822 iso8601 v1 v2 v3 strftime' ;;
+            esac
+            ;;
+    esac
+    mapfile -t COMPREPLY < <(compgen -W "$words" -- "$word")
+    if declare -F __ltrim_colon_completions > /dev/null; then
+        __ltrim_colon_completions "$word"
+    fi
+}
+
+complete -F _instants instants
