@@ -1,16 +1,13 @@
 -- What the operations on vectors of 16 bytes hold at each lane.
 use Rattle.std.proofs.Common.{◌≡◌, ◌≢◌, ℕ, suc, ◌+◌, ◌-◌, ◌*◌, ◌<◌, ◌==◌, Bool, true, false, not, cond, List, [], ◌∷◌, length, get_or, take, map, replicate, Option, Some, None, refl, sym, ap, ◌∙◌, arith, w8}
-use Rattle.std.specs.Prelude.{IfSome, IfNone}
-use Rattle.std.specs.List.{prefix_len}
+use Rattle.std.specs.Int.{bit_at}
 use Rattle.std.specs.Simd.Lanes.{zip2, sel_l, mask_l}
-use Rattle.std.proofs.lemmas.Simd.{length-zip2, get_or-zip2, get_or-replicate, length-sel_l, get_or-sel_l, length-swz_l, get_or-swz_l_below, swz_l, SwzOk, SwzOk-from_below, Each1-from_get_or, leading_from_mask_l, trailing_mask_l}
-use Rattle.std.proofs.lemmas.Bool.Decides.{nat_tests}
-use Rattle.std.proofs.lemmas.List.{get_or-take}
-use Rattle.std.proofs.lemmas.List.Sums.{prefix_len_passes}
+use Rattle.std.proofs.lemmas.Simd.{length-zip2, get_or-zip2, get_or-replicate, length-sel_l, get_or-sel_l, length-swz_l, get_or-swz_l_below, swz_l, SwzOk, SwzOk-from_below, Each1-from_get_or, bit_mask_l}
+use Rattle.std.proofs.lemmas.Bool.{eqb-true}
+use Rattle.std.proofs.lemmas.List.{get_or-map, get_or-take}
 use Rattle.instants_found.specs.Lanes.{HasLanes}
 use Rattle.instants_found.specs.Starts.{common, mark}
 use Rattle.instants_found.specs.declared.start_lanes.StartLanes.{StartLanes}
-use lib.Count.{count_trailing_zeros}
 
 -- an operator on two vectors
 pub HasLanes-zip2 : (f : ℕ → ℕ → ℕ) (a b : List ℕ) → length a ≡ 16 → length b ≡ 16 → HasLanes (zip2 f a b) (λ k. f (get_or a k 0) (get_or b k 0))
@@ -57,39 +54,19 @@ HasLanes-chosen t a b p q r =
           ∙ ap (λ (c : Bool). cond c (get_or a k 0) (get_or b k 0)) (get_or-zip2 (λ x y. x == y) t (replicate 16 0) k 0 0 false (omega arith) l ∙ ap (λ (y : ℕ). get_or t k 0 == y) (get_or-replicate 16 k 0 0 l));
     }
 
--- ---- the first lane that isn't 0
+-- ---- bits of lanes
 
 abbrev pub marked : ℕ → Bool
 marked x = not (x == 0)
 
-unmarked : (x : ℕ) → not (marked x) ≡ true → x ≡ 0
-unmarked x h = grind (arith, nat_tests)
+zero_where : (x : ℕ) (b : Bool) → (x == 0) ≡ b → cond {A = ℕ} (not b) 1 0 ≡ 0 → x ≡ 0
+zero_where x true e h = eqb-true x 0 e
+zero_where x false e h = absurd (omega (arith, h))
 
--- a step of the count: the test of one lane, the bits of the others and how many of them come before
-counted : (b : Bool) (mask before all : ℕ) → 0 < cond b 1 0 + 2 * mask → (0 < mask → before < all) → cond (not b) (1 + before) 0 < suc all
-counted true mask before all some below = omega arith
-counted false mask before all some below = omega (arith, below (omega arith))
-
--- where a bit is set, some lane is marked
-stops_within : (xs : List ℕ) → 0 < mask_l (map marked xs) → prefix_len (λ x. not (marked x)) xs < length xs
-stops_within [] some = absurd (omega arith)
-stops_within (x ∷ xs) some = counted (marked x) (mask_l (map marked xs)) (prefix_len (λ x. not (marked x)) xs) (length xs) some (stops_within xs)
-
-module _ (v : List ℕ) (long : length v ≡ 16) (m : ℕ) (mask : m ≡ mask_l (map marked v)) where
-  passed : (k : ℕ) → k < prefix_len (λ x. not (marked x)) v → get_or v k 0 ≡ 0
-  passed k lt = unmarked (get_or v k 0) (prefix_len_passes (λ x. not (marked x)) v k 0 lt)
-
-  pub none_marked : m ≡ 0 → (k : ℕ) → k < 16 → get_or v k 0 ≡ 0
-  none_marked none k lt = passed k (omega (arith, leading_from_mask_l marked v (sym mask ∙ none)))
-
-  lowest : m ≢ 0 → count_trailing_zeros 64 m ≡ prefix_len (λ x. not (marked x)) v
-  lowest some = rw mask (trailing_mask_l marked 64 v (omega arith) (omega (arith, mask, some)))
-
-  pub lowest_within : m ≢ 0 → count_trailing_zeros 64 m < 16
-  lowest_within some = omega (arith, lowest some, stops_within v (omega (arith, mask, some)))
-
-  pub before_marked : m ≢ 0 → (k : ℕ) → k < count_trailing_zeros 64 m → get_or v k 0 ≡ 0
-  before_marked some k lt = passed k (omega (arith, lowest some))
+pub bits_marked : (v : List ℕ) → length v ≡ 16 → (m : ℕ) → m ≡ mask_l (map marked v) → (k : ℕ) → k < 16 → bit_at m k ≡ 0 → get_or v k 0 ≡ 0
+bits_marked v long m mask k lt none =
+    let bit : bit_at m k ≡ cond (marked (get_or v k 0)) 1 0 = rw mask (bit_mask_l (map marked v) k ∙ ap (λ (b : Bool). cond {A = ℕ} b 1 0) (get_or-map marked v k 0 false (omega (arith, long, lt)))) in
+    zero_where (get_or v k 0) (get_or v k 0 == 0) refl (sym bit ∙ none)
 
 -- ---- the marks of the bytes of a line
 
@@ -106,13 +83,3 @@ marks_are lanes line here prev before any apart marks at some is_here is_prev is
     is_marks.each k lt ∙ ap (λ (n : ℕ). cond (n == 0) (get_or any k 0) (get_or apart k 0)) b
     ∙ ap (λ (n : ℕ). cond (common lanes.word (get_or line (at + k - 1) 0) == 0) n (get_or apart k 0)) a
     ∙ ap (λ (n : ℕ). cond (common lanes.word (get_or line (at + k - 1) 0) == 0) (common lanes.any (get_or line (at + k) 0)) n) p
-
--- ---- what is said of an answer
-
-pub if_none : {A : Type 0} (o : Option A) (P Q : Type 0) → (P → Q) → IfNone o P → IfNone o Q
-if_none None P Q f h = f h
-if_none (Some x) P Q f h = tt
-
-pub if_both : (o : Option ℕ) (P Q R : ℕ → Type 0) → ((n : ℕ) → P n → Q n → R n) → IfSome o P → IfSome o Q → IfSome o R
-if_both None P Q R f g h = tt
-if_both (Some n) P Q R f g h = f n g h

@@ -7,3 +7,4 @@ pub mod Wholly
 pub mod LaneLemmas
 pub mod NoStart
 pub mod NoDates
+pub mod Next

@@ -20,7 +20,7 @@ none_read assumed line start number [] byte at none = refl
 none_read assumed line start number (grammar ∷ others) byte at none =
     rw (All-head (CannotBegin byte) grammar others none assumed (drop start line) at) (none_read assumed line start (number + 1) others byte at (All-tail (CannotBegin byte) grammar others none))
 
-if_edge : {A : Type 0} (b : Bool) (x : Option A) → (b ≡ true → x ≡ None) → (if b then x else None) ≡ None
+pub if_edge : {A : Type 0} (b : Bool) (x : Option A) → (b ≡ true → x ≡ None) → (if b then x else None) ≡ None
 if_edge true x h = h refl
 if_edge false x h = refl
 
@@ -102,14 +102,6 @@ none_more assumed sources line from mid to first second = λ place low high. eli
 
 pub none_here : (assumed : Option ℤ) (sources : List Grammar) (line : List ℕ) (from : ℕ) → at_place assumed sources line from ≡ None → HasNoDate assumed sources line from (from + 1)
 none_here assumed sources line from none = λ place low high. let same : from ≡ place = omega (arith, low, high) in let P : ℕ → Type 0 = λ n. at_place assumed sources line n ≡ None in subst P same none
-
--- none of so many bytes that stand from a place on is marked
-pub none_marked_from : (assumed : Option ℤ) (sources : List Grammar) (starts : List Bool) (lanes : StartLanes) (line : List ℕ) (from count : ℕ) → AreStarts sources starts → AreRight starts lanes → 0 < from → ((k : ℕ) → get_or line k 0 < 256)
-    → ((k : ℕ) → k < count → mark lanes (get_or line (from + k - 1) 0) (get_or line (from + k) 0) ≡ 0) → HasNoDate assumed sources line from (from + count)
-none_marked_from assumed sources starts lanes line from count are right some few none = λ place low high.
-    let there : from + (place - from) ≡ place = omega (arith, low) in
-    let none_there = rw there at (none (place - from) (omega (arith, low, high))) in
-    unmarked_none assumed sources starts lanes line place are right (omega (arith, low, some)) (few (place - 1)) (few place) none_there
 
 -- the places behind them give what all give
 pub none_given : (assumed : Option ℤ) (sources : List Grammar) (line : List ℕ) (from count : ℕ) → from + count ≤ length line → HasNoDate assumed sources line from (from + count) → GiveFromPlace assumed sources line from → GiveFromPlace assumed sources line (from + count)

@@ -27,8 +27,8 @@ use Rattle.instants_sources.specs.Grammar.{Items, V3, Rfc2822, Rfc3339, Iso8601}
 use Rattle.instants_sources.specs.Tried.{beginning}
 use Rattle.instants_sources.proofs.RuledOut.{part_due_of_nothing}
 use Rattle.instants_found.specs.Front.{front_named}
-use Rattle.instants_found.specs.Starts.{CannotBegin, begins_day, begins_part}
-use Rattle.instants_found.proofs.NoFront.{none_front, no_digit}
+use Rattle.instants_found.specs.Starts.{CannotBegin, HasNoFront, begins_day, begins_part}
+use Rattle.instants_found.proofs.NoFront.{none_front, no_digit, hyphen_due}
 
 -- ---- descriptions
 
@@ -127,3 +127,17 @@ part_refused (c ∷ rest) r none =
 pub part_cannot : (byte : ℕ) → begins_part byte ≡ false → CannotBegin byte Iso8601
 unfolding front_named
 part_cannot byte none = λ assumed bytes at. none_front (reads_iso8601 (beginning assumed) bytes) (part_refused bytes (beginning assumed) (rw at none))
+
+-- ---- fronts that the first bytes rule out
+
+pub items_no_front : (items : List Tree) (bytes : List ℕ) → ((r : Record) → result_ok (reading_of_all reads_component (listed items) r bytes) ≡ None) → HasNoFront bytes (Items items)
+unfolding front_named
+items_no_front items bytes refused = λ assumed. none_front (reading_of_all reads_component (listed items) (beginning assumed) bytes) (refused (beginning assumed))
+
+pub tree_no_front : (tree : Tree) (bytes : List ℕ) → ((r : Record) → result_ok (reading reads_component_v3 tree r bytes) ≡ None) → HasNoFront bytes (V3 tree)
+unfolding front_named
+tree_no_front tree bytes refused = λ assumed. none_front (reading reads_component_v3 tree (beginning assumed) bytes) (refused (beginning assumed))
+
+pub year_no_front : (bytes : List ℕ) → eqb (get_or bytes 4 0) hyphen ≡ false → HasNoFront bytes Rfc3339
+unfolding front_named
+year_no_front bytes other = λ assumed. hyphen_due (beginning assumed) bytes other

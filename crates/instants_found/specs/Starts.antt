@@ -1,10 +1,12 @@
 -- Where no date begins.
-use Rattle.std.specs.Prelude.{◌≡◌, ◌<◌, ◌≤◌, ◌==◌, ◌||◌, ◌/◌, ◌%◌, ℕ, Bool, true, false, not, List, get_or, Option, None, All, bit_and, ℤ, if◌then◌else◌}
+use Rattle.std.specs.Prelude.{◌≡◌, ◌<◌, ◌≤◌, ◌==◌, ◌||◌, ◌+◌, ◌/◌, ◌%◌, ℕ, Bool, true, false, not, List, length, get_or, Option, None, Some, All, bit_and, ℤ, if◌then◌else◌}
+use Rattle.std.specs.Int.{bit_at}
 use Rattle.std.specs.Char.{is_ascii_digit, is_ascii_alphanumeric, to_ascii_lowercase}
 use Rattle.byte_names.specs.Bytes.{plus, hyphen, upper_z}
 use Rattle.instants_sources.specs.Grammar.{Grammar}
 use Rattle.instants_found.specs.Front.{front_named}
 use Rattle.instants_found.specs.Found.{at_place}
+use Rattle.instants_found.specs.declared.found.Found.{Found}
 use Rattle.instants_found.specs.declared.byte_set.ByteSet.{ByteSet}
 use Rattle.instants_found.specs.declared.start_lanes.StartLanes.{StartLanes}
 
@@ -20,7 +22,11 @@ begins_part byte = (((is_ascii_digit byte || byte == plus) || byte == hyphen) ||
 abbrev pub CannotBegin : ℕ → Grammar → Type 0
 CannotBegin byte grammar = (assumed : Option ℤ) (bytes : List ℕ) → get_or bytes 0 0 ≡ byte → front_named assumed grammar bytes ≡ None
 
--- .. and that holds of each source
+-- no front of these bytes names a moment by a source, whatever offset is assumed
+abbrev pub HasNoFront : List ℕ → Grammar → Type 0
+HasNoFront bytes grammar = (assumed : Option ℤ) → front_named assumed grammar bytes ≡ None
+
+-- no front that one of the sources reads begins with this byte
 abbrev pub NoneBegins : List Grammar → ℕ → Type 0
 NoneBegins sources byte = All (CannotBegin byte) sources
 
@@ -31,6 +37,21 @@ AreStarts sources starts = (byte : ℕ) → get_or starts byte true ≡ false �
 -- no date begins at the places of a line from one up to another
 abbrev pub HasNoDate : Option ℤ → List Grammar → List ℕ → ℕ → ℕ → Type 0
 HasNoDate assumed sources line from to = (place : ℕ) → from ≤ place → place < to → at_place assumed sources line place ≡ None
+
+-- the first date from a place of a line on, where it begins, and that it is within the line and of one of the sources
+pub record IsNext (assumed : Option ℤ) (sources : List Grammar) (line : List ℕ) (from : ℕ) (date : Found) : Type 0 where
+  pub start : ℕ
+  pub low : from ≤ start
+  pub within : start < length line
+  pub passed : HasNoDate assumed sources line from start
+  pub has : at_place assumed sources line start ≡ Some date
+  pub ordered : date.start ≤ date.end
+  pub inside : date.end ≤ length line
+  pub source : date.source < length sources
+
+-- of so many bits, one for each place of a line from one up to another, only those are 0 at whose places no date begins
+abbrev pub MarkPlaces : Option ℤ → List Grammar → List ℕ → ℕ → ℕ → ℕ → Type 0
+MarkPlaces assumed sources line from to bits = (k : ℕ) → from + k < to → bit_at bits k ≡ 0 → at_place assumed sources line (from + k) ≡ None
 
 -- what two tables have in common for the halves of a byte, which is 0 for bytes that aren't in the set
 abbrev pub common : ByteSet → ℕ → ℕ

@@ -1,12 +1,13 @@
 //! The first date of a line.
-ghost use Rattle.std.specs.Prelude.{◌≡◌, ◌<◌, ◌≤◌, length, map, IfSome};
+ghost use Rattle.std.specs.Prelude.{◌≡◌, ◌<◌, ◌≤◌, All, false, drop, length, map, IfSome};
 ghost use Rattle.instants_sources.specs.Grammar.{grammar_of};
 ghost use Rattle.instants_found.specs.Front.{front_length};
 ghost use Rattle.instants_found.specs.Found.{date_at, by_sources, at_place, found};
+ghost use Rattle.instants_found.specs.Starts.{HasNoFront};
 
 use crate::edge::is_edge;
 use crate::found::Found;
-use crate::front::read_front;
+use crate::front::{read_front, rules_out};
 use calendar::UtcOffset;
 use instants_sources::Source;
 
@@ -73,7 +74,31 @@ fn by_sources(
     None
 }
 
+/// The bytes from a place on.
+#[inline(always)]
+#[tactic(auto, using(std::proofs::lemmas::List::take_rest))]
+pub(crate) fn behind(line: &[u8], start: usize) -> &[u8]
+    requires { start ≤ length line.now }
+    ensures { result.now ≡ drop start line.now }
+{
+    &line[start..]
+}
+
+/// Whether the bytes may have a front that some source reads: `false` says that they have none.
+#[inline(always)]
+pub(crate) fn may_read(sources: &[Source<'_>], bytes: &[u8]) -> bool
+    ensures { result ≡ false → All (HasNoFront bytes.now) (map grammar_of sources.now) }
+{
+    for number in 0..sources.len() {
+        if !rules_out(&sources[number], bytes) {
+            return true;
+        }
+    }
+    false
+}
+
 /// The date that begins at a place, where it isn't inside a word.
+#[inline(never)]
 #[tactic(auto, unfolding(crate::specs::Found::at_place))]
 pub(crate) fn at_place(
     sources: &[Source<'_>],

@@ -1,5 +1,5 @@
 //! The front of bytes that a source reads.
-ghost use Rattle.std.specs.Prelude.{◌≡◌, option_map, IfSome};
+ghost use Rattle.std.specs.Prelude.{◌≡◌, true, option_map, IfSome};
 ghost use Rattle.description_items.specs.Tree.{trees};
 ghost use Rattle.description_tree.specs.Description.{v3_tree};
 ghost use Rattle.parsing_combinator.specs.Tame.{EndsWith};
@@ -8,6 +8,7 @@ ghost use Rattle.instants_sources.specs.Grammar.{grammar_of};
 ghost use Rattle.instants_sources.specs.Grammar as grammar;
 ghost use Rattle.instants_sources.specs.Tried as Tried;
 ghost use Rattle.instants_found.specs.Front.{front_named, front_of};
+ghost use Rattle.instants_found.specs.Starts.{HasNoFront};
 
 use crate::edge::byte_at;
 use calendar::UtcOffset;
@@ -105,6 +106,20 @@ fn read_rfc3339(bytes: &[u8], assumed: Option<UtcOffset>) -> Option<(OffsetDateT
         return None;
     }
     read_by(&Rfc3339, bytes, assumed)
+}
+
+/// Whether the first bytes show that no front of them names a moment by a source, whatever offset is assumed: `false` says
+/// nothing of them.
+#[inline(always)]
+pub(crate) fn rules_out(source: &Source<'_>, bytes: &[u8]) -> bool
+    ensures { result ≡ true → HasNoFront bytes.now (grammar_of source.now) }
+{
+    match source {
+        Source::Items(described) => described.cannot_match(bytes),
+        Source::V3(described) => described.cannot_match(bytes),
+        Source::Rfc3339 => byte_at(bytes, 4) != b'-',
+        Source::Rfc2822 | Source::Iso8601 => false,
+    }
 }
 
 /// The moment that a front of the bytes names by a source, with an offset assumed or none, and what stands behind that

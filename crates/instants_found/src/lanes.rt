@@ -1,5 +1,6 @@
 //! Vectors of 16 bytes, lane by lane.
-ghost use Rattle.std.specs.Prelude.{◌≡◌, ◌<◌, ◌≤◌, ◌==◌, ◌+◌, ◌/◌, ◌%◌, ℕ, bit_and, if◌then◌else◌, length, slice_index, IfSome, IfNone};
+ghost use Rattle.std.specs.Prelude.{◌≡◌, ◌<◌, ◌≤◌, ◌==◌, ◌+◌, ◌/◌, ◌%◌, ℕ, bit_and, if◌then◌else◌, length, slice_index};
+ghost use Rattle.std.specs.Int.{bit_at};
 ghost use Rattle.instants_found.specs.Lanes.{HasLanes};
 
 use std::simd::prelude::*;
@@ -48,16 +49,10 @@ pub(crate) fn where_zero(third: u8x16, one: u8x16, other: u8x16) -> u8x16
     third.simd_eq(u8x16::splat(0)).select(one, other)
 }
 
-/// The first lane that isn't 0.
+/// A bit for each lane, which is 0 only where the lane is.
 #[inline(always)]
-pub(crate) fn first_marked(marks: u8x16) -> Option<usize>
-    ensures none { IfNone result ((k : ℕ) → k < LANES → slice_index marks k ≡ 0) }
-    ensures within { IfSome result (λ n. n < LANES) }
-    ensures before { IfSome result (λ n. (k : ℕ) → k < n → slice_index marks k ≡ 0) }
+pub(crate) fn bits_of(marks: u8x16) -> u64
+    ensures { (k : ℕ) → k < LANES → bit_at result k ≡ 0 → slice_index marks k ≡ 0 }
 {
-    let places = marks.simd_ne(u8x16::splat(0)).to_bitmask();
-    if places == 0 {
-        return None;
-    }
-    Some(places.trailing_zeros() as usize)
+    marks.simd_ne(u8x16::splat(0)).to_bitmask()
 }

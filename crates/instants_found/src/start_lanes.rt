@@ -1,8 +1,9 @@
 //! The places of a line at which a date can begin, sixteen at a time.
-ghost use Rattle.std.specs.Prelude.{◌≡◌, ◌<◌, ◌≤◌, ◌+◌, ◌-◌, ℕ, true, length, get_or, IfSome, IfNone};
+ghost use Rattle.std.specs.Prelude.{◌≡◌, ◌<◌, ◌≤◌, ◌+◌, ◌-◌, ℕ, true, length, get_or, IfSome};
+ghost use Rattle.std.specs.Int.{bit_at};
 
 use crate::byte_set::ByteSet;
-use crate::lanes::{LANES, first_marked, load, where_zero};
+use crate::lanes::{LANES, bits_of, load, where_zero};
 
 /// The bytes at which a date can begin: any of them, and those that may stand behind a letter or a digit, as they are no
 /// letters and no digits themselves.
@@ -67,20 +68,17 @@ impl StartLanes {
         !is_start || (self.any.has(byte) && self.apart.has(byte))
     }
 
-    /// The first of the 16 bytes from a place on that is marked.
+    /// A bit for each of the 16 bytes from a place on, which is 0 only where no date begins at the byte.
     #[inline(always)]
-    pub(crate) fn first(&self, line: &[u8], at: usize) -> Option<usize>
+    pub(crate) fn marks(&self, line: &[u8], at: usize) -> u64
         requires behind { 0 < at }
         requires room { at + LANES ≤ length line.now }
-        ensures none { IfNone result ((k : ℕ) → k < LANES →
-            mark self.now (get_or line.now (at + k - 1) 0) (get_or line.now (at + k) 0) ≡ 0) }
-        ensures within { IfSome result (λ n. n < LANES) }
-        ensures before { IfSome result (λ n. (k : ℕ) → k < n →
-            mark self.now (get_or line.now (at + k - 1) 0) (get_or line.now (at + k) 0) ≡ 0) }
+        ensures { (k : ℕ) → k < LANES → bit_at result k ≡ 0 →
+            mark self.now (get_or line.now (at + k - 1) 0) (get_or line.now (at + k) 0) ≡ 0 }
     {
         let here = load(line, at);
         let before = self.word.marks(load(line, at - 1));
         let marks = where_zero(before, self.any.marks(here), self.apart.marks(here));
-        first_marked(marks)
+        bits_of(marks)
     }
 }

@@ -1,6 +1,6 @@
 use Rattle.instants_found.specs.Finder.{assumed_of, sources_of}
 use Rattle.instants_found.specs.Starts.{HasNoDate}
-use Rattle.instants_found.proofs.finder.Finder.next_by_bytes.Given as goal
+use Rattle.instants_found.proofs.finder.Finder.by_bytes.Given as goal
 
 -- no date begins at the places so far
 abbrev pub invariant-loop-place : goal.invariant-loop-place

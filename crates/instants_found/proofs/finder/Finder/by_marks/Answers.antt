@@ -1,0 +1,53 @@
+use Rattle.std.proofs.Common.{◌≡◌, ℕ, ◌+◌, ◌-◌, subst, w64, arith}
+use Rattle.std.specs.Int.{trailing_zeros}
+use Rattle.instants_found.specs.Finder.{assumed_of, sources_of}
+use Rattle.instants_found.specs.Starts.{HasNoDate}
+use Rattle.instants_found.proofs.NoDates.{none_more}
+use Rattle.instants_found.proofs.Next.{next_at, none_at_more, marks_passed, marks_ended, marks_behind}
+use Rattle.instants_found.proofs.finder.Finder.by_marks.Goals as goal
+
+pub returns-then-behind-to-clause-none : goal.returns-then-behind-to-clause-none
+returns-then-behind-to-clause-none c =
+    let assumed = assumed_of c.args.self.now in
+    let sources = sources_of c.args.self.now in
+    let line = c.args.line.now in
+    let l = c.loop-left in
+    let none = marks_passed assumed sources line l.at c.args.to l.left (c.args.to - l.at) l.invariant.marks (omega arith) (omega arith) (omega arith) (omega arith) in
+    let end : l.at + (c.args.to - l.at) ≡ c.args.to = omega arith in
+    none_more assumed sources line c.args.from l.at c.args.to l.invariant.passed (subst (HasNoDate assumed sources line l.at) end none)
+
+pub returns-in-Some-clause-next : goal.returns-in-Some-clause-next
+returns-in-Some-clause-next c =
+    let assumed = assumed_of c.args.self.now in
+    let sources = sources_of c.args.self.now in
+    let line = c.args.line.now in
+    let l = c.loop-left in
+    let behind : ℕ = trailing_zeros w64 l.left in
+    let none = marks_passed assumed sources line l.at c.args.to l.left behind l.invariant.marks (omega arith) (omega arith) (omega arith) (omega arith) in
+    let passed = none_more assumed sources line c.args.from l.at (l.at + behind) l.invariant.passed none in
+    let date = c.in-Some in
+    next_at assumed sources line c.args.from (l.at + behind) date.date (omega arith) (omega arith) passed date.ensures.found date.ensures.ordered date.ensures.within date.ensures.source
+
+pub loop-left-preserved : goal.loop-left-preserved
+loop-left-preserved c =
+    let assumed = assumed_of c.args.self.now in
+    let sources = sources_of c.args.self.now in
+    let line = c.args.line.now in
+    let l = c.loop-left in
+    let behind : ℕ = trailing_zeros w64 l.left in
+    let none = marks_passed assumed sources line l.at c.args.to l.left behind l.invariant.marks (omega arith) (omega arith) (omega arith) (omega arith) in
+    let passed = none_more assumed sources line c.args.from l.at (l.at + behind) l.invariant.passed none in
+    record {
+      low = omega arith;
+      high = omega arith;
+      passed = none_at_more assumed sources line c.args.from (l.at + behind) passed c.in_default.ensures.found;
+      marks = marks_behind assumed sources line l.at c.args.to l.left behind l.invariant.marks;
+    }
+
+pub returns-clause-none : goal.returns-clause-none
+returns-clause-none c =
+    let assumed = assumed_of c.args.self.now in
+    let sources = sources_of c.args.self.now in
+    let line = c.args.line.now in
+    let l = c.loop-left in
+    none_more assumed sources line c.args.from l.at c.args.to l.invariant.passed (marks_ended assumed sources line l.at c.args.to l.left l.invariant.marks (omega arith))
