@@ -7,8 +7,8 @@ ghost use Rattle.instants_sources.specs.Grammar.{grammar_of};
 ghost use Rattle.instants_lines.specs.Showing.{setting_in};
 ghost use Rattle.instants_lines.specs.Explained.{text_by, said_by, answer_by, first_answer, parted, all_said, explained};
 
-use crate::parts::{write_parts, write_three};
 use crate::date_sources::DateSources;
+use crate::parts::{write_parts, write_three};
 use instants_answers::Answer;
 use instants_devices::{ByteWriter, DeviceFailed};
 use instants_sources::Source;

@@ -3,8 +3,8 @@ ghost use Rattle.std.specs.Prelude.{◌≤◌, length};
 
 mod calls;
 
-use crate::mode::Mode;
 use crate::date_sources::DateSources;
+use crate::mode::Mode;
 use instants_answers::Answer;
 
 /// Writes lines in a mode, by their dates. It keeps the key that a line without a date takes.

@@ -8,11 +8,11 @@ ghost use Rattle.instants_lines.specs.Dates.{replaced};
 ghost use Rattle.instants_lines.specs.Going.{beginning, key_of_line, key_below};
 ghost use Rattle.instants_lines.specs.Writing.{going_of};
 
+use crate::date_sources::DateSources;
 use crate::explained::write_explained;
 use crate::line_writer::LineWriter;
 use crate::mode::Mode;
 use crate::parts::write_parts;
-use crate::date_sources::DateSources;
 use instants_answers::{Answer, rfc3339_line};
 use instants_devices::{ByteWriter, DeviceFailed};
 use instants_stream::WritesLines;
@@ -24,11 +24,7 @@ impl<'a, 'b> LineWriter<'a, 'b> {
     {
         let mut key = Answer::new();
         key.push_bytes(b"! none");
-        LineWriter {
-            mode,
-            dates,
-            key,
-        }
+        LineWriter { mode, dates, key }
     }
 
     // The key of a line.

@@ -1,4 +1,4 @@
-use Rattle.std.proofs.Common.{refl, ◌∙◌}
+use Rattle.std.proofs.Common.{refl}
 use Rattle.instants_lines.specs.Going.{beginning}
 use Rattle.instants_lines.specs.Showing.{setting_in}
 use Rattle.instants_lines.proofs.program.run_words.Goals as goal
