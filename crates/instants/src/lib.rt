@@ -21,6 +21,7 @@
 //!   over memory.
 //! - `read_words` reads the words of the program `instants`, and `run_words` is all that it does between its words
 //!   and its end. `ProgramFault` has the sentence and the status.
+//! - `shown_at`, `answer_moment` and `answer_by` show a moment, and answer a line by one source, as a timeline does.
 //! - `rfc3339_line` writes a moment as a line. It asks for a year from 0 to 9999 and an offset of whole minutes
 //!   within 23:59, as `fits_line` tests.
 //! - `laws` has what follows from the contracts. A call of a law hands it to a proof.
@@ -32,6 +33,7 @@ mod new_fault;
 mod program;
 mod program_fault;
 mod runs;
+mod shown;
 mod timeline;
 
 pub use instants_answers::{
@@ -48,4 +50,5 @@ pub use new_fault::NewFault;
 pub use program::run_words;
 pub use program_fault::ProgramFault;
 pub use runs::run;
+pub use shown::{answer_by, answer_moment, shown_at};
 pub use timeline::Timeline;

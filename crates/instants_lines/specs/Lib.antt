@@ -2,6 +2,7 @@ pub mod Modes
 pub mod Dates
 pub mod Explained
 pub mod Going
+pub mod Showing
 pub mod Writing
 pub mod Words
 pub mod ProgramText

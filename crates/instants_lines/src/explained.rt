@@ -4,11 +4,11 @@ ghost use Rattle.std.specs.Io.KnownBytes.{Appends};
 ghost use Rattle.byte_names.specs.Bytes.{tab, line_feed};
 ghost use Rattle.instants_devices.specs.Told.{AppendsFront};
 ghost use Rattle.instants_sources.specs.Grammar.{grammar_of};
-ghost use Rattle.instants.specs.Settings.{setting_of};
+ghost use Rattle.instants_lines.specs.Showing.{setting_in};
 ghost use Rattle.instants_lines.specs.Explained.{text_by, said_by, answer_by, first_answer, parted, all_said, explained};
 
+use crate::date_sources::DateSources;
 use crate::parts::{write_parts, write_three};
-use instants::Timeline;
 use instants_answers::Answer;
 use instants_devices::{ByteWriter, DeviceFailed};
 use instants_sources::Source;
@@ -47,10 +47,10 @@ fn before(number: usize) -> &'static [u8]
 
 // The answer of a source to a line, or its fault.
 #[tactic(auto, unfolding(crate::specs::Explained::text_by))]
-fn text_by(timeline: &Timeline, source: &Source<'_>, line: &[u8]) -> Answer
-    ensures { result ≡ text_by (setting_of timeline.now) line.now (grammar_of source.now) }
+fn text_by(dates: &DateSources<'_>, source: &Source<'_>, line: &[u8]) -> Answer
+    ensures { result ≡ text_by (setting_in dates.now) line.now (grammar_of source.now) }
 {
-    match timeline.answer_by(source, line) {
+    match dates.answer_by(source, line) {
         Ok(answer) => answer,
         Err(fault) => fault,
     }
@@ -59,28 +59,28 @@ fn text_by(timeline: &Timeline, source: &Source<'_>, line: &[u8]) -> Answer
 // The answer of a source to a line for which it names a moment, and the source's number.
 #[tactic(auto, unfolding(crate::specs::Explained::text_by, crate::specs::Explained::said_by, crate::specs::Explained::answer_by))]
 fn answer_by(
-    timeline: &Timeline,
+    dates: &DateSources<'_>,
     source: &Source<'_>,
     number: usize,
     line: &[u8],
 ) -> Option<(usize, Answer)>
     ensures { option_map (λ x. (decimal x.0 ++ tab ∷ []) ++ x.1) result
-        ≡ answer_by (setting_of timeline.now) line.now number (grammar_of source.now) }
+        ≡ answer_by (setting_in dates.now) line.now number (grammar_of source.now) }
 {
-    match timeline.answer_by(source, line) {
+    match dates.answer_by(source, line) {
         Ok(answer) => Some((number, answer)),
         Err(_) => None,
     }
 }
 
 // The same of the first source that names one.
-fn first_answer(timeline: &Timeline, line: &[u8]) -> Option<(usize, Answer)>
+fn first_answer(dates: &DateSources<'_>, line: &[u8]) -> Option<(usize, Answer)>
     ensures { option_map (λ x. (decimal x.0 ++ tab ∷ []) ++ x.1) result ≡ first_answer
-        (setting_of timeline.now) line.now 1 (setting_of timeline.now).sources }
+        (setting_in dates.now) line.now 1 (setting_in dates.now).sources }
 {
-    let sources = timeline.sources();
+    let sources = dates.sources();
     for place in 0..sources.len() {
-        if let Some(answer) = answer_by(timeline, &sources[place], place + 1, line) {
+        if let Some(answer) = answer_by(dates, &sources[place], place + 1, line) {
             return Some(answer);
         }
     }
@@ -90,7 +90,7 @@ fn first_answer(timeline: &Timeline, line: &[u8]) -> Option<(usize, Answer)>
 // Writes what a source says.
 #[tactic(auto, unfolding(crate::specs::Explained::said_by))]
 fn write_said<W: ByteWriter>(
-    timeline: &Timeline,
+    dates: &DateSources<'_>,
     source: &Source<'_>,
     number: usize,
     line: &[u8],
@@ -99,14 +99,14 @@ fn write_said<W: ByteWriter>(
     requires { W.failed writer.old ≡ false }
     ensures written { OnOk result (Appends (W.held writer.old) (W.held writer.new)
         (parted number
-        ++ said_by (setting_of timeline.now) line.now number (grammar_of source.now))) }
+        ++ said_by (setting_in dates.now) line.now number (grammar_of source.now))) }
     ensures ok { OnOk result (W.failed writer.new ≡ W.failed writer.old) }
     ensures front { OnErr result (AppendsFront (W.held writer.old) (W.held writer.new)
         (parted number
-        ++ said_by (setting_of timeline.now) line.now number (grammar_of source.now))) }
+        ++ said_by (setting_in dates.now) line.now number (grammar_of source.now))) }
     ensures err { OnErr result (W.failed writer.new ≡ true) }
 {
-    let text = text_by(timeline, source, line);
+    let text = text_by(dates, source, line);
     write_three(
         writer,
         before(number),
@@ -117,62 +117,62 @@ fn write_said<W: ByteWriter>(
 
 // Writes what all sources say, one after another.
 fn write_all_said<W: ByteWriter>(
-    timeline: &Timeline,
+    dates: &DateSources<'_>,
     line: &[u8],
     writer: &mut W,
 ) -> Result<(), DeviceFailed>
     requires { W.failed writer.old ≡ false }
     ensures written { OnOk result (Appends (W.held writer.old) (W.held writer.new)
-        (all_said (setting_of timeline.now) line.now 1 (setting_of timeline.now).sources)) }
+        (all_said (setting_in dates.now) line.now 1 (setting_in dates.now).sources)) }
     ensures ok { OnOk result (W.failed writer.new ≡ W.failed writer.old) }
     ensures front { OnErr result (AppendsFront (W.held writer.old) (W.held writer.new)
-        (all_said (setting_of timeline.now) line.now 1 (setting_of timeline.now).sources)) }
+        (all_said (setting_in dates.now) line.now 1 (setting_in dates.now).sources)) }
     ensures err { OnErr result (W.failed writer.new ≡ true) }
 {
-    let sources = timeline.sources();
+    let sources = dates.sources();
     for place in 0..sources.len() {
-        write_said(timeline, &sources[place], place + 1, line, writer)?;
+        write_said(dates, &sources[place], place + 1, line, writer)?;
     }
     Ok(())
 }
 
 // The same, and a line feed.
 fn write_all_said_line<W: ByteWriter>(
-    timeline: &Timeline,
+    dates: &DateSources<'_>,
     line: &[u8],
     writer: &mut W,
 ) -> Result<(), DeviceFailed>
     requires { W.failed writer.old ≡ false }
     ensures written { OnOk result (Appends (W.held writer.old) (W.held writer.new)
-        (all_said (setting_of timeline.now) line.now 1 (setting_of timeline.now).sources
+        (all_said (setting_in dates.now) line.now 1 (setting_in dates.now).sources
         ++ line_feed ∷ [])) }
     ensures ok { OnOk result (W.failed writer.new ≡ W.failed writer.old) }
     ensures front { OnErr result (AppendsFront (W.held writer.old) (W.held writer.new)
-        (all_said (setting_of timeline.now) line.now 1 (setting_of timeline.now).sources
+        (all_said (setting_in dates.now) line.now 1 (setting_in dates.now).sources
         ++ line_feed ∷ [])) }
     ensures err { OnErr result (W.failed writer.new ≡ true) }
 {
-    write_all_said(timeline, line, writer)?;
+    write_all_said(dates, line, writer)?;
     writer.write_all(b"\n")
 }
 
 /// Writes what the sources say of a line, and a line feed.
 #[tactic(auto, unfolding(crate::specs::Explained::explained))]
 pub(crate) fn write_explained<W: ByteWriter>(
-    timeline: &Timeline,
+    dates: &DateSources<'_>,
     line: &[u8],
     writer: &mut W,
 ) -> Result<(), DeviceFailed>
     requires { W.failed writer.old ≡ false }
     ensures written { OnOk result (Appends (W.held writer.old) (W.held writer.new)
-        (explained (setting_of timeline.now) line.now ++ line_feed ∷ [])) }
+        (explained (setting_in dates.now) line.now ++ line_feed ∷ [])) }
     ensures ok { OnOk result (W.failed writer.new ≡ W.failed writer.old) }
     ensures front { OnErr result (AppendsFront (W.held writer.old) (W.held writer.new)
-        (explained (setting_of timeline.now) line.now ++ line_feed ∷ [])) }
+        (explained (setting_in dates.now) line.now ++ line_feed ∷ [])) }
     ensures err { OnErr result (W.failed writer.new ≡ true) }
 {
-    if let Some((number, answer)) = first_answer(timeline, line) {
+    if let Some((number, answer)) = first_answer(dates, line) {
         return write_parts(writer, b"", numbered(number).as_bytes(), answer.as_bytes());
     }
-    write_all_said_line(timeline, line, writer)
+    write_all_said_line(dates, line, writer)
 }

@@ -12,6 +12,7 @@
 //! - `laws` has what follows from the contracts. A call of a law hands it to a proof.
 #![tactic(auto)]
 
+mod date_sources;
 mod explained;
 pub mod laws;
 mod line_writer;

@@ -3,15 +3,15 @@ ghost use Rattle.std.specs.Prelude.{◌≤◌, length};
 
 mod calls;
 
+use crate::date_sources::DateSources;
 use crate::mode::Mode;
-use instants::Timeline;
 use instants_answers::Answer;
 
-/// Writes lines in a mode, by a timeline. It keeps the key that a line without a date takes.
+/// Writes lines in a mode, by their dates. It keeps the key that a line without a date takes.
 #[derive(Drop)]
 pub(crate) struct LineWriter<'a, 'b> {
     mode: Mode,
-    timeline: &'a Timeline<'b>,
+    dates: &'a DateSources<'b>,
     key: Answer,
     // There is room for a tab behind it.
     ghost room: { length key ≤ 63 },

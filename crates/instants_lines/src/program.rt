@@ -5,7 +5,7 @@ ghost use Rattle.instants_devices.specs.Told.{ConsumesOrUntold, AppendsFront};
 ghost use Rattle.instants_stream.specs.Steps.{output, owed, due};
 ghost use Rattle.instants_words.specs.declared.words.Words.{Words};
 ghost use Rattle.instants.specs.Program.{WritesWhileItWorks};
-ghost use Rattle.instants.specs.Settings.{setting_of};
+ghost use Rattle.instants_lines.specs.Showing.{setting_in};
 ghost use Rattle.instants.specs.Sources.{IsRefusal};
 ghost use Rattle.instants.specs.declared.new_fault.NewFault.{NewFault};
 ghost use Rattle.instants_lines.specs.Going.{Going, beginning, lines_steps};
@@ -14,6 +14,7 @@ ghost use Rattle.instants_lines.specs.Words.{mode_words_said};
 ghost use Rattle.instants_lines.specs.declared.lines_fault.LinesFault.{LinesFault};
 ghost use Rattle.instants_lines.specs.declared.mode.Mode.{Mode};
 
+use crate::date_sources::DateSources;
 use crate::line_writer::LineWriter;
 use crate::lines_fault::LinesFault;
 use crate::mode::Mode;
@@ -85,10 +86,11 @@ pub fn run_words<'a, R: ByteReader, W: ByteWriter>(
 {
     let (mode, said) = read_mode_words(alloc, words)?;
     let timeline = Timeline::new(alloc, said.sources.as_slice(), said.target, said.assumed)?;
+    let dates = DateSources::new(timeline.into_sources(), said.target, said.assumed);
     let mut buffer = vec![in alloc; 0; said.limit + BLOCK]?;
     run_and_flush(
         mode,
-        &timeline,
+        &dates,
         said.limit,
         buffer.as_mut_slice(),
         reader,
@@ -100,7 +102,7 @@ pub fn run_words<'a, R: ByteReader, W: ByteWriter>(
 // Writes for each line, and flushes what was written also where a read failed.
 fn run_and_flush<R: ByteReader, W: ByteWriter>(
     mode: Mode,
-    timeline: &Timeline,
+    dates: &DateSources<'_>,
     limit: usize,
     buffer: &mut [u8],
     reader: &mut R,
@@ -111,24 +113,24 @@ fn run_and_flush<R: ByteReader, W: ByteWriter>(
     requires writer { W.failed writer.old ≡ false }
     ensures ok { OnOk result (IfSome (R.left reader.old) (λ stream. (R.left reader.new ≡ Some [])
         × Appends (W.held writer.old) (W.held writer.new)
-        (output lines_steps (beginning mode (setting_of timeline.now)) limit stream))) }
+        (output lines_steps (beginning mode (setting_in dates.now)) limit stream))) }
     ensures flushed { OnOk result (W.flushed writer.new ≡ true) }
     ensures read { result ≡ Err RunFault.Read → (read : List ℕ)
         × ConsumesOrUntold (R.left reader.old) (R.left reader.new) read
         × WritesWhileItWorks (W.held writer.old) (W.held writer.new) (W.failed writer.new)
-        (owed lines_steps (beginning mode (setting_of timeline.now)) limit read) }
+        (owed lines_steps (beginning mode (setting_in dates.now)) limit read) }
     ensures read_flushed { result ≡ Err RunFault.Read
         → W.failed writer.new ≡ false → W.flushed writer.new ≡ true }
     ensures write { result ≡ Err RunFault.Write → (read : List ℕ)
         × Consumes (R.left reader.old) (R.left reader.new) read
         × AppendsFront (W.held writer.old) (W.held writer.new)
-        (due lines_steps (beginning mode (setting_of timeline.now)) limit read
+        (due lines_steps (beginning mode (setting_in dates.now)) limit read
         (R.left reader.new)) }
     ensures read_failed { IsTrue (R.failed reader.new) ↔ (result ≡ Err RunFault.Read) }
     ensures write_failed { result ≡ Err RunFault.Write → W.failed writer.new ≡ true }
     ensures works { OnOk result (W.failed writer.new ≡ false) }
 {
-    let answered = run_in_mode(mode, timeline, limit, buffer, reader, writer);
+    let answered = run_in_mode(mode, dates, limit, buffer, reader, writer);
     if answered == Err(RunFault::Read) && !writer.has_failed() {
         // The read stays the fault.
         let _ = writer.flush();
@@ -140,7 +142,7 @@ fn run_and_flush<R: ByteReader, W: ByteWriter>(
 #[inline(never)]
 fn run_in_mode<R: ByteReader, W: ByteWriter>(
     mode: Mode,
-    timeline: &Timeline,
+    dates: &DateSources<'_>,
     limit: usize,
     buffer: &mut [u8],
     reader: &mut R,
@@ -151,20 +153,20 @@ fn run_in_mode<R: ByteReader, W: ByteWriter>(
     requires writer { W.failed writer.old ≡ false }
     ensures ok { OnOk result (IfSome (R.left reader.old) (λ stream. (R.left reader.new ≡ Some [])
         × Appends (W.held writer.old) (W.held writer.new)
-        (output lines_steps (beginning mode (setting_of timeline.now)) limit stream))) }
+        (output lines_steps (beginning mode (setting_in dates.now)) limit stream))) }
     ensures flushed { OnOk result (W.flushed writer.new ≡ true) }
     ensures read { result ≡ Err RunFault.Read → (read : List ℕ)
         × ConsumesOrUntold (R.left reader.old) (R.left reader.new) read
         × Appends (W.held writer.old) (W.held writer.new)
-        (owed lines_steps (beginning mode (setting_of timeline.now)) limit read) }
+        (owed lines_steps (beginning mode (setting_in dates.now)) limit read) }
     ensures write { result ≡ Err RunFault.Write → (read : List ℕ)
         × Consumes (R.left reader.old) (R.left reader.new) read
         × AppendsFront (W.held writer.old) (W.held writer.new)
-        (due lines_steps (beginning mode (setting_of timeline.now)) limit read
+        (due lines_steps (beginning mode (setting_in dates.now)) limit read
         (R.left reader.new)) }
     ensures read_failed { IsTrue (R.failed reader.new) ↔ (result ≡ Err RunFault.Read) }
     ensures write_failed { IsTrue (W.failed writer.new) ↔ (result ≡ Err RunFault.Write) }
 {
-    let mut lines = LineWriter::new(mode, timeline);
+    let mut lines = LineWriter::new(mode, dates);
     write_lines(&mut lines, limit, buffer, reader, writer)
 }

@@ -3,33 +3,28 @@ ghost use Rattle.std.specs.Prelude.{◌≡◌, ◌≤◌, [], ◌∷◌, ◌++�
 ghost use Rattle.std.specs.Io.KnownBytes.{Appends};
 ghost use Rattle.byte_names.specs.Bytes.{tab, line_feed};
 ghost use Rattle.instants_devices.specs.Told.{AppendsFront};
-ghost use Rattle.instants.specs.Settings.{setting_of};
-ghost use Rattle.instants_lines.specs.Dates.{date_in, replaced};
+ghost use Rattle.instants_lines.specs.Showing.{setting_in};
+ghost use Rattle.instants_lines.specs.Dates.{replaced};
 ghost use Rattle.instants_lines.specs.Going.{beginning, key_of_line, key_below};
 ghost use Rattle.instants_lines.specs.Writing.{going_of};
 
+use crate::date_sources::DateSources;
 use crate::explained::write_explained;
 use crate::line_writer::LineWriter;
 use crate::mode::Mode;
 use crate::parts::write_parts;
-use instants::Timeline;
 use instants_answers::{Answer, rfc3339_line};
 use instants_devices::{ByteWriter, DeviceFailed};
-use instants_found::{Found, find};
 use instants_stream::WritesLines;
 
 impl<'a, 'b> LineWriter<'a, 'b> {
     /// At the beginning a line without a date takes `! none`.
-    pub(crate) fn new(mode: Mode, timeline: &'a Timeline<'b>) -> LineWriter<'a, 'b>
-        ensures { going_of result ≡ beginning mode (setting_of timeline.now) }
+    pub(crate) fn new(mode: Mode, dates: &'a DateSources<'b>) -> LineWriter<'a, 'b>
+        ensures { going_of result ≡ beginning mode (setting_in dates.now) }
     {
         let mut key = Answer::new();
         key.push_bytes(b"! none");
-        LineWriter {
-            mode,
-            timeline,
-            key,
-        }
+        LineWriter { mode, dates, key }
     }
 
     // The key of a line.
@@ -38,8 +33,8 @@ impl<'a, 'b> LineWriter<'a, 'b> {
         ensures key { result ≡ key_of_line (going_of self.now) line.now }
         ensures room { length result ≤ 63 }
     {
-        match date_in(self.timeline, line) {
-            Some(date) => self.timeline.answer_moment(date.moment),
+        match self.dates.date_in(line) {
+            Some(date) => self.dates.answer_moment(date.moment),
             None => self.key,
         }
     }
@@ -90,36 +85,26 @@ impl<'a, 'b> LineWriter<'a, 'b> {
             (replaced (going_of self.now).setting line.now ++ line_feed ∷ [])) }
         ensures err { OnErr result (W.failed writer.new ≡ true) }
     {
-        let Some((start, end, text)) = date_time(self.timeline, line) else {
+        let Some((start, end, text)) = date_time(self.dates, line) else {
             return write_parts(writer, b"", b"", line);
         };
         write_parts(writer, &line[..start], text.as_bytes(), &line[end..])
     }
 }
 
-// The first date of a line.
-#[inline(always)]
-fn date_in(timeline: &Timeline, line: &[u8]) -> Option<Found>
-    ensures found { result ≡ date_in (setting_of timeline.now) line.now }
-    ensures ordered { IfSome result (λ date. date.start ≤ date.end) }
-    ensures within { IfSome result (λ date. date.end ≤ length line.now) }
-{
-    find(timeline.sources(), timeline.assumed(), line)
-}
-
 // The places where the date of a line begins and ends, and the date-time in place of it, where that is written.
 #[tactic(auto, using(crate::proofs::Outside::written, crate::proofs::Outside::unwritten, crate::proofs::Outside::undated), unfolding(crate::specs::Dates::place_of_date))]
-fn date_time(timeline: &Timeline, line: &[u8]) -> Option<(usize, usize, Answer)>
-    ensures some { IfSome result (λ x. replaced (setting_of timeline.now) line.now
+fn date_time(dates: &DateSources<'_>, line: &[u8]) -> Option<(usize, usize, Answer)>
+    ensures some { IfSome result (λ x. replaced (setting_in dates.now) line.now
         ≡ take x.0 line.now ++ (x.2 ++ drop x.1 line.now)) }
-    ensures none { IfNone result (replaced (setting_of timeline.now) line.now ≡ line.now) }
+    ensures none { IfNone result (replaced (setting_in dates.now) line.now ≡ line.now) }
     ensures ordered { IfSome result (λ x. x.0 ≤ x.1) }
     ensures within { IfSome result (λ x. x.1 ≤ length line.now) }
 {
-    let Some(date) = date_in(timeline, line) else {
+    let Some(date) = dates.date_in(line) else {
         return None;
     };
-    let Some(moment) = timeline.at_target(date.moment) else {
+    let Some(moment) = dates.at_target(date.moment) else {
         return None;
     };
     Some((date.start, date.end, rfc3339_line(moment)))
@@ -163,7 +148,7 @@ impl WritesLines for LineWriter<'_, '_> {
         match self.mode {
             Mode::Key | Mode::Carry => self.write_keyed(line, writer),
             Mode::Replace => self.write_replaced(line, writer),
-            Mode::Explain => write_explained(self.timeline, line, writer),
+            Mode::Explain => write_explained(self.dates, line, writer),
         }
     }
 

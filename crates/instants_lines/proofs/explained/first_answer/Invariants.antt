@@ -1,7 +1,7 @@
-use Rattle.instants.specs.Settings.{setting_of}
+use Rattle.instants_lines.specs.Showing.{setting_in}
 use Rattle.instants_lines.proofs.Sayings.{AnswerFrom}
 use Rattle.instants_lines.proofs.explained.first_answer.Given as goal
 
 -- the sources so far name no moment
 abbrev pub invariant-loop-place : goal.invariant-loop-place
-invariant-loop-place l = AnswerFrom (setting_of l.timeline) l.line l.sources l.place
+invariant-loop-place l = AnswerFrom (setting_in l.dates) l.line l.sources l.place

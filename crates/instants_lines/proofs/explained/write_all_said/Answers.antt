@@ -3,7 +3,7 @@ use Rattle.std.proofs.KnownBytes.{Appends-nil, Appends-trans}
 use Rattle.std.proofs.lemmas.Result.{err_from_is_err_and}
 use Rattle.instants_devices.specs.Told.{AppendsFront}
 use Rattle.instants_devices.proofs.Told.{AppendsFront-after, AppendsFront-more}
-use Rattle.instants.specs.Settings.{setting_of}
+use Rattle.instants_lines.specs.Showing.{setting_in}
 use Rattle.instants_lines.specs.Explained.{all_said}
 use Rattle.instants_lines.proofs.Sayings.{said_before, says, says_more}
 use Rattle.instants_lines.proofs.explained.write_all_said.Goals as goal
@@ -16,7 +16,7 @@ pub loop-place-preserved : goal.loop-place-preserved
 loop-place-preserved g c =
     let i = c.loop-place.invariant in
     record {
-      written = rw (says (setting_of c.args.timeline.now) c.args.line.now c.sources-sources.result.now c.loop-place.place c.index-sources-place.result (omega arith) c.index-sources-place.is)
+      written = rw (says (setting_in c.args.dates.now) c.args.line.now c.sources-sources.result.now c.loop-place.place c.index-sources-place.result (omega arith) c.index-sources-place.is)
           (Appends-trans _ _ _ _ _ i.written c.in_ok-write_said.ensures.written);
       works = c.in_ok-write_said.ensures.ok ∙ i.works;
     }
@@ -24,7 +24,7 @@ loop-place-preserved g c =
 pub returns-in_err-write_said-clause-front : goal.returns-in_err-write_said-clause-front
 returns-in_err-write_said-clause-front g c =
     let p = err_from_is_err_and c.from_residual.result c.from_residual.ensures.1 in
-    let setting = setting_of c.args.timeline.now in
+    let setting = setting_in c.args.dates.now in
     let sources = c.sources-sources.result.now in
     let place = c.loop-place.place in
     let all = says_more setting c.args.line.now sources (place + 1) in

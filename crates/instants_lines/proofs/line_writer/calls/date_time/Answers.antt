@@ -1,6 +1,6 @@
 use Rattle.std.proofs.Common.{sym}
 use Rattle.instants.specs.Refusal.{year}
-use Rattle.instants.specs.Settings.{setting_of}
+use Rattle.instants_lines.specs.Showing.{setting_in}
 use Rattle.instants_lines.specs.Dates.{place_of_date}
 use Rattle.instants_lines.proofs.Outside.{unwritten}
 use Rattle.instants_lines.proofs.line_writer.calls.date_time.Goals as goal
@@ -8,4 +8,4 @@ use Rattle.instants_lines.proofs.line_writer.calls.date_time.Goals as goal
 pub returns-in_default-at_target-clause-none : goal.returns-in_default-at_target-clause-none
 unfolding place_of_date
 returns-in_default-at_target-clause-none c =
-    unwritten (setting_of c.args.timeline.now) c.args.line.now c.in-Some.date year (sym c.in-Some.ensures.found) (sym c.in_default-at_target.ensures.shown)
+    unwritten (setting_in c.args.dates.now) c.args.line.now c.in-Some.date year (sym c.in-Some.ensures.found) (sym c.in_default-at_target.ensures.shown)

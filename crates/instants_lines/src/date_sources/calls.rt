@@ -1,0 +1,90 @@
+//! The dates of lines, and what one source says of a line.
+ghost use Rattle.std.specs.Prelude.{◌≡◌, ◌≤◌, ◌↔◌, length, map, Ok, IsOk, IfOk, IfErr, IfSome};
+ghost use Rattle.std.specs.Option.{ok_or};
+ghost use Rattle.calendar.specs.UtcOffset.{IsClockOffset};
+ghost use Rattle.instants_answers.specs.Text.{FitsLine};
+ghost use Rattle.instants_sources.specs.Grammar.{grammar_of};
+ghost use Rattle.instants_sources.specs.Named.{named};
+ghost use Rattle.instants.specs.Place.{place_text, shown_or_refused};
+ghost use Rattle.instants.specs.Refusal.{year};
+ghost use Rattle.instants_lines.specs.Dates.{date_in};
+ghost use Rattle.instants_lines.specs.Showing.{setting_in};
+
+use crate::date_sources::DateSources;
+use calendar::UtcOffset;
+use datetime_types::OffsetDateTime;
+use instants::{answer_by, answer_moment, shown_at};
+use instants_answers::{Answer, Target};
+use instants_found::{Finder, Found};
+use instants_sources::Source;
+
+impl<'a> DateSources<'a> {
+    /// Looks for these sources, in order. The target has whole minutes, within 23:59.
+    pub(crate) fn new(
+        sources: Vec<Source<'a>>,
+        target: UtcOffset,
+        assumed: Option<UtcOffset>,
+    ) -> DateSources<'a>
+        requires { IsClockOffset target }
+        ensures sources { (setting_in result).sources ≡ map grammar_of sources.entry.items }
+        ensures target { (setting_in result).target ≡ target }
+        ensures assumed { (setting_in result).assumed ≡ assumed }
+    {
+        DateSources {
+            finder: Finder::new(sources, assumed),
+            target: Target::new(target),
+        }
+    }
+
+    /// The sources, in order.
+    #[inline(always)]
+    pub(crate) fn sources(&self) -> &[Source<'a>]
+        ensures { map grammar_of result.now ≡ (setting_in self.now).sources }
+    {
+        self.finder.sources()
+    }
+
+    /// The first date of a line.
+    #[inline(always)]
+    pub(crate) fn date_in(&self, line: &[u8]) -> Option<Found>
+        ensures found { result ≡ date_in (setting_in self.now) line.now }
+        ensures ordered { IfSome result (λ date. date.start ≤ date.end) }
+        ensures within { IfSome result (λ date. date.end ≤ length line.now) }
+    {
+        self.finder.find(line)
+    }
+
+    /// A moment as it is shown at the target, if its year there is 0 to 9999.
+    #[inline(always)]
+    pub(crate) fn at_target(&self, moment: OffsetDateTime) -> Option<OffsetDateTime>
+        ensures shown { ok_or result year ≡
+            shown_or_refused (setting_in self.now).target (Ok moment) }
+        ensures fits { IfSome result FitsLine }
+    {
+        shown_at(self.target, moment)
+    }
+
+    /// A moment as an answer: its date-time at the target, or `! year`.
+    #[inline(always)]
+    pub(crate) fn answer_moment(&self, moment: OffsetDateTime) -> Answer
+        ensures bytes { result ≡
+            place_text (shown_or_refused (setting_in self.now).target (Ok moment)) }
+        ensures room { length result ≤ 63 }
+    {
+        answer_moment(self.target, moment)
+    }
+
+    /// What one source says of a line alone: the answer to it where the source names a moment for it, and else its fault.
+    pub(crate) fn answer_by(&self, source: &Source<'_>, line: &[u8]) -> Result<Answer, Answer>
+        ensures names { (IsOk result)
+            ↔ (IsOk (named (setting_in self.now).assumed (grammar_of source.now) line.now)) }
+        ensures answer { IfOk result (λ answer. answer ≡ place_text (shown_or_refused
+            (setting_in self.now).target
+            (named (setting_in self.now).assumed (grammar_of source.now) line.now))) }
+        ensures fault { IfErr result (λ text. text ≡ place_text (shown_or_refused
+            (setting_in self.now).target
+            (named (setting_in self.now).assumed (grammar_of source.now) line.now))) }
+    {
+        answer_by(source, line, self.finder.assumed(), self.target)
+    }
+}
