@@ -1,18 +1,15 @@
 -- Places at which no date begins, by bits and by what stands there.
-use Rattle.std.proofs.Common.{◌≡◌, ◌<◌, ◌≤◌, ◌+◌, ◌-◌, ◌/◌, ◌^◌, ℕ, Bool, ◌%◌, List, [], ◌∷◌, length, get_or, drop, Option, Some, None, refl, sym, ◌∙◌, ap, subst, inl, inr, arith, w64, ℤ}
-use Rattle.std.specs.Prelude.{All, IfSome, IfNone}
+use Rattle.std.proofs.Common.{◌≡◌, ◌<◌, ◌≤◌, ◌+◌, ◌-◌, ◌/◌, ◌^◌, ℕ, Bool, ◌%◌, List, [], ◌∷◌, get_or, drop, Option, None, refl, sym, ◌∙◌, ap, subst, arith, w64, ℤ}
+use Rattle.std.specs.Prelude.{All}
 use Rattle.std.specs.Int.{bit_at, trailing_zeros}
-use Rattle.std.proofs.lemmas.Bool.{cases_lt}
 use Rattle.std.proofs.lemmas.List.Elements.{All-head, All-tail}
 use Rattle.std.proofs.lemmas.Nat.{shr-shr}
 use Rattle.std.proofs.lemmas.Nat.Bits.{bit_at-zero, bit_at-trailing_zeros}
 use Rattle.instants_sources.specs.Grammar.{Grammar}
-use Rattle.instants_found.specs.Found.{date_at, by_sources, at_place, found}
+use Rattle.instants_found.specs.Found.{date_at, by_sources, at_place}
 use Rattle.instants_found.specs.Starts.{AreStarts, AreRight, HasNoDate, HasNoFront, MarkPlaces, common, mark}
-use Rattle.instants_found.specs.declared.found.Found.{Found}
 use Rattle.instants_found.specs.declared.start_lanes.StartLanes.{StartLanes}
-use Rattle.instants_found.proofs.NoDates.{if_edge, none_at_all, none_more, none_here, none_starts, no_start, unmarked_none, none_given_to}
-use Rattle.instants_found.proofs.Steps.{GiveFromPlace, place_has, places_end}
+use Rattle.instants_found.proofs.NoDates.{if_edge, none_more, none_here, none_starts, no_start, unmarked_none}
 
 -- ---- fronts that are ruled out
 
