@@ -5,8 +5,6 @@
 #[cfg(test)]
 mod blocks;
 #[cfg(test)]
-mod dated_lines;
-#[cfg(test)]
 mod dates_in_lines;
 #[cfg(test)]
 mod devices;
