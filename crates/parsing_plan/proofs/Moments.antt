@@ -1,5 +1,5 @@
 -- The moment of a line that has the layout of a plan.
-use Rattle.std.proofs.Common.{◌≡◌, ◌≤◌, ◌<◌, ◌+◌, ◌*◌, ◌∙◌, ℕ, false, List, [], length, drop, Option, Some, None, Ok, refl, ap, arith, pos, ℤ}
+use Rattle.std.proofs.Common.{◌≡◌, ◌≤◌, ◌<◌, ◌+◌, ◌*◌, ◌∙◌, ℕ, false, List, [], length, drop, Option, Some, None, Ok, refl, ap, pos, ℤ}
 use Rattle.std.specs.Prelude.{IsSome, IfSome, ◌*ℤ◌}
 use Rattle.std.specs.Option.{unwrap_or}
 use Rattle.std.specs.Int.{is_in_range}
@@ -110,7 +110,7 @@ pub whole_is : (m : Meaning) (defaults : Option Record) (line : List ℕ) (r : R
 unfolding whole
 whole_is m defaults line r e = rw e refl
 
-whole_named : (m : Meaning) (defaults : Option Record) (line rest : List ℕ) (assumed : Option ℤ) (moment : Shown) → rest ≡ [] → starting defaults ≡ beginning assumed → NamesFront m (beginning assumed) line rest moment → names moment_named (whole m defaults line) ≡ Ok moment
+pub whole_named : (m : Meaning) (defaults : Option Record) (line rest : List ℕ) (assumed : Option ℤ) (moment : Shown) → rest ≡ [] → starting defaults ≡ beginning assumed → NamesFront m (beginning assumed) line rest moment → names moment_named (whole m defaults line) ≡ Ok moment
 whole_named m defaults line rest assumed moment nothing start front =
     let all : m (starting defaults) line ≡ Ok (front.set, []) = rw (start, ← nothing) front.reads in
     rw (whole_is m defaults line front.set all) front.names

@@ -182,7 +182,7 @@ fn has_day(year: u16, month: u8, day: u8) -> bool
 
 // The year, the month and the day of a line that has the layout of a plan.
 #[inline(always)]
-fn date(plan: &Places, line: &[u8]) -> Option<(u16, u8, u8)>
+pub(crate) fn date(plan: &Places, line: &[u8]) -> Option<(u16, u8, u8)>
     requires { Fits plan.now.layout plan.now.bounds line.now }
     ensures says { IfSome result (λ d. SaysDate plan.now.layout line.now d.0 d.1 d.2) }
     ensures day { IfSome result (λ d. IsDay (pos d.0) d.1 d.2) }
@@ -202,7 +202,7 @@ fn date(plan: &Places, line: &[u8]) -> Option<(u16, u8, u8)>
 
 // The minute of the day, and the second.
 #[inline(always)]
-fn clock(plan: &Places, line: &[u8]) -> Option<(u16, u8)>
+pub(crate) fn clock(plan: &Places, line: &[u8]) -> Option<(u16, u8)>
     requires { Fits plan.now.layout plan.now.bounds line.now }
     ensures says { IfSome result (λ t. SaysClock plan.now.layout line.now t.0 t.1) }
     ensures minute { IfSome result (λ t. t.0 < 1440) }
@@ -258,7 +258,7 @@ fn assumed_minutes(offset: UtcOffset) -> i16
 
 // The minutes of the offset, of the line or else of the one that is assumed.
 #[inline(always)]
-fn offset(
+pub(crate) fn offset(
     layout: &Layout,
     bounds: &Bounds,
     places: Option<OffsetPlaces>,
@@ -306,7 +306,7 @@ pub(crate) fn fraction_at(line: &[u8], place: usize, count: usize) -> Option<Fra
 
 // The fraction of a second, of which the digits are there, where it has a place.
 #[inline(always)]
-fn fraction(plan: &Places, line: &[u8]) -> Option<Fraction>
+pub(crate) fn fraction(plan: &Places, line: &[u8]) -> Option<Fraction>
     requires { Fits plan.now.layout plan.now.bounds line.now }
     ensures says { IfSome result (SaysFraction plan.now.layout line.now) }
     ensures bound { IfSome result (λ f. f < 1_000_000_000) }
