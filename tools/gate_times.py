@@ -156,9 +156,12 @@ def pace_of(before, parts):
     rows = rows_of(before)
     same = [name for name, (_, told) in rows.items() if parts[name, "proof"] and told == sum_of(name)]
     was, now = sum(rows[it][0]["proof"] for it in same), sum(parts[it, "proof"] for it in same)
+    earlier = re.search(r"^Pace: (?:that of the run before, )?([\d.]+) times as long as the run of (\w+)", before, re.M)
+    if not was and rows and earlier:
+        # (nothing was proved anew)
+        return earlier[2], float(earlier[1]), f"Pace: that of the run before, {earlier[1]} times as long as the run of {earlier[2]}.", 1.0
     if not was:
         return None
-    earlier = re.search(r"^Pace: ([\d.]+) times as long as the run of (\w+)", before, re.M)
     first, pace = (earlier[2], float(earlier[1]) * now / was) if earlier else (commit[1], now / was)
     told = (
         f"Pace: {pace:.2f} times as long as the run of {first}, by the proofs of the {len(same)} crates whose sources are as they were "
