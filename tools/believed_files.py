@@ -15,7 +15,7 @@ import sys
 ROOT = pathlib.Path(__file__).resolve().parent.parent
 CRATES, PAGE = ROOT / "crates", ROOT / "docs" / "CLAIMS.md"
 BEGIN, END = "<!-- tools/believed_files.py begins -->", "<!-- tools/believed_files.py ends -->"
-LAYERS = {"instants": "lines and answers", "parsing": "reading", "description": "descriptions", "datetime": "date-times", "calendar": "calendar", "byte_names": "bytes"}
+LAYERS = {"instants": "lines and answers", "parsing": "reading", "description": "descriptions", "datetime": "date-times", "calendar": "calendar", "base": "bytes"}
 WORD = r"[^\s(){}\[\].,;=:λ→]+(?:\.[^\s(){}\[\].,;=:λ→]+)*|◌[^\s(){},;]*◌"
 
 
@@ -54,7 +54,7 @@ def definitions_in(file):
         if head:
             body = [it for it in block.split("\n") if it.strip() and not it.startswith(("infix", "prefix", "postfix"))]
             found[head[1]] = body
-            # (the variants of a data type and the fields of a record go with it)
+            # (the base of a data type and the fields of a record go with it)
             for name in re.findall(r"^  (?:pub )?(\S+) :", "\n".join(body), re.M):
                 found.setdefault(name, [])
                 found[name] = found[name] or body

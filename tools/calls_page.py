@@ -21,7 +21,7 @@ MODULES = {
     "calendar::laws::durations": ("calendar_spans/src/laws.rt",),
     "calendar::laws::times": ("calendar_clock/src/laws.rt",),
     "datetime::laws": ("datetime/src/laws.rt",),
-    "description::laws": ("description_laws/src/lib.rt",),
+    "description::laws": ("description/src/lib.rt",),
     "description::strftime_laws": ("description_strftime/src/laws.rt",),
     "parsing::laws": ("parsing/src/laws.rt", "parsing_laws/src/node_laws.rt"),
     "instants::laws": ("instants/src/laws.rt", "instants_answers/src/laws.rt", "instants_stream/src/laws.rt"),

@@ -2,7 +2,7 @@
 use Rattle.std.specs.Prelude.{ℕ, ◌+◌, ◌*◌, ◌/◌, ◌%◌, nat_lt, if◌then◌else◌, Result, Ok, Err, List, ◌∷◌, ◌++◌, ℤ, pos, unsigned_abs}
 use Rattle.std.specs.Int.{int_rem_euclid}
 use Rattle.std.specs.Fmt.{decimal}
-use Rattle.byte_names.specs.Bytes.{dot, colon}
+use Rattle.base.specs.Bytes.{dot, colon}
 use Rattle.calendar_count.specs.declared.component_range.ComponentName.TheVariants.{Hour, Minute, Second, Millisecond, Microsecond, Nanosecond}
 use Rattle.calendar_count.specs.declared.component_range.ComponentRange.{ComponentRange}
 use Rattle.calendar_count.specs.ComponentRange.{out_of_range}

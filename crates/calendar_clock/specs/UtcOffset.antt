@@ -1,6 +1,6 @@
 -- Offsets from UTC, each its whole seconds, above 0 where local time is ahead of UTC.
 use Rattle.std.specs.Prelude.{◌≡◌, ℕ, zero, suc, ◌/◌, ◌%◌, ◌≤◌, nat_lt, if◌then◌else◌, Result, Ok, Err, List, ◌∷◌, ◌++◌, ℤ, pos, negsuc, neg_ℤ, ◌+ℤ◌, ◌*ℤ◌, ◌≤ℤ◌, unsigned_abs, int_lt}
-use Rattle.byte_names.specs.Bytes.{plus, hyphen, colon}
+use Rattle.base.specs.Bytes.{plus, hyphen, colon}
 use Rattle.calendar_count.specs.declared.component_range.ComponentName.TheVariants.{Hours, Minutes, Seconds}
 use Rattle.calendar_count.specs.declared.component_range.ComponentRange.{ComponentRange}
 use Rattle.calendar_count.specs.ComponentRange.{out_of_range}

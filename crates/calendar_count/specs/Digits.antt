@@ -1,7 +1,7 @@
 -- Numbers written with a fixed number of digits.
 use Rattle.std.specs.Prelude.{ℕ, ◌+◌, ◌/◌, ◌%◌, ◌==◌, if◌then◌else◌, List, [], ◌∷◌, ◌++◌}
 use Rattle.std.specs.List.{list_all}
-use Rattle.byte_names.specs.Bytes.{digit_zero}
+use Rattle.base.specs.Bytes.{digit_zero}
 
 -- the digits of a number below a hundred, below a thousand, and below a thousand million
 abbrev pub two_digits : ℕ → List ℕ

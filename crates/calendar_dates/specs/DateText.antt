@@ -1,7 +1,7 @@
 -- The text of a date, as ISO 8601 writes it, with more digits of the year from 10000 on.
 use Rattle.std.specs.Prelude.{ℕ, suc, ◌/◌, ◌%◌, nat_lt, if◌then◌else◌, List, ◌∷◌, ◌++◌, ℤ, pos, negsuc}
 use Rattle.std.specs.Fmt.{decimal}
-use Rattle.byte_names.specs.Bytes.{plus, hyphen}
+use Rattle.base.specs.Bytes.{plus, hyphen}
 use Rattle.calendar_count.specs.Calendar.{YearMonthDay, day_at}
 use Rattle.calendar_count.specs.Digits.{two_digits}
 

@@ -1,6 +1,6 @@
 -- Laws of date-times, over their definitions.
 use Rattle.std.specs.Prelude.{◌≡◌, ℕ, ◌<◌, ◌*◌, ◌⊎◌, ℤ, pos, ◌*ℤ◌, ◌≤ℤ◌, Ok, List, [], ◌∷◌, ◌++◌, codes}
-use Rattle.byte_names.specs.Bytes.{dot, digit_zero}
+use Rattle.base.specs.Bytes.{dot, digit_zero}
 use Rattle.calendar.specs.Time.{micro_nanos, milli_nanos, second_nanos, minute_nanos, hour_nanos, day_nanos, hour_at, minute_at, second_at, millisecond_at, microsecond_at, nanosecond_at, time_of, time_of_milli, time_of_micro}
 use Rattle.datetime_wall.specs.Wall.{wall_clock, day_of, nanosecond_of, cut_to}
 

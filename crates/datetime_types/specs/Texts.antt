@@ -1,7 +1,7 @@
 -- The texts of date-times.
 use Rattle.std.specs.Prelude.{ℕ, ◌/◌, ◌%◌, ◌==◌, if◌then◌else◌, List, [], ◌∷◌, ◌++◌, codes, ℤ, pos, unsigned_abs, int_lt}
 use Rattle.std.specs.Fmt.{decimal}
-use Rattle.byte_names.specs.Bytes.{space, dot}
+use Rattle.base.specs.Bytes.{space, dot}
 use Rattle.calendar_count.specs.Digits.{nine_digits, without_zeros}
 use Rattle.calendar.specs.DateText.{date_text}
 use Rattle.calendar.specs.Time.{time_text}

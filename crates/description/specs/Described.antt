@@ -1,12 +1,12 @@
 -- What is made of a text, as a tree.
 use Rattle.std.specs.Prelude.{ℕ, Bool, true, false, List, Result, Ok}
 use Rattle.std.specs.Global.{Vec}
-use Rattle.description_faults.specs.Fault.{Fault}
-use Rattle.description_faults.specs.Answer.{◌>>=◌}
+use Rattle.description_lexer.specs.Fault.{Fault}
+use Rattle.description_lexer.specs.Answer.{◌>>=◌}
 use Rattle.description_items.specs.declared.item.BorrowedFormatItem.{BorrowedFormatItem}
 use Rattle.description_items.specs.Forms.{are_of_text}
 use Rattle.description_items.specs.Tree.{Tree, trees}
-use Rattle.description_words.specs.declared.version.DescriptionVersion.{DescriptionVersion}
+use Rattle.description_lexer.specs.declared.version.DescriptionVersion.{DescriptionVersion}
 use Rattle.description_tree.specs.Description.{v3_node, v3_tree}
 use Rattle.description_tree.specs.Forms.{is_read}
 use Rattle.description_grammar.specs.Reading.{read_items}

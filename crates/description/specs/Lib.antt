@@ -1,1 +1,3 @@
 pub mod Described
+pub mod Laws
+pub mod Versions

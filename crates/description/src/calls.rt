@@ -1,22 +1,21 @@
 //! Descriptions from their texts.
 
 ghost use Rattle.std.specs.Prelude.{◌≡◌, true, false, Ok, Err, IfOk};
-ghost use Rattle.description_faults.specs.Fault.{Fault};
-ghost use Rattle.description_faults.specs.Answer.{Gives};
+ghost use Rattle.description_lexer.specs.Fault.{Fault};
+ghost use Rattle.description_lexer.specs.Answer.{Gives};
 ghost use Rattle.description_items.specs.Forms.{are_of_text};
 ghost use Rattle.description_items.specs.Tree.{Tree};
-ghost use Rattle.description_words.specs.declared.version.DescriptionVersion.TheVariants.{One, Three};
-ghost use Rattle.description_words.specs.Version.{is_three};
+ghost use Rattle.description_lexer.specs.declared.version.DescriptionVersion.TheVariants.{One, Three};
+ghost use Rattle.description_lexer.specs.Version.{is_three};
 ghost use Rattle.description_grammar.specs.Spelling.{SpellsTree};
 ghost use Rattle.description_grammar.specs.Faulty.{Faulty};
 ghost use Rattle.description_grammar.specs.Outcomes.{Outcome};
 ghost use Rattle.description.specs.Described.{items_tree, described, has_tree, is_as_read, read_joined};
 
 use crate::described::Description;
-use description_faults::DescriptionFault;
 use description_grammar::{items_of, tree_of};
 use description_items::BorrowedFormatItem;
-use description_words::DescriptionVersion;
+use description_lexer::{DescriptionFault, DescriptionVersion};
 use std::alloc::Global;
 
 /// The items of a description of version 1.

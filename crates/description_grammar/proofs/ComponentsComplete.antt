@@ -3,13 +3,13 @@ use Rattle.std.proofs.Common.{◌≡◌, ℕ, ◌+◌, List, [], ◌∷◌, ◌+
 use Rattle.std.specs.List.{prefix_len}
 use Rattle.std.proofs.lemmas.List.{length-append}
 use Rattle.std.proofs.lemmas.Bool.Decides.{nat_tests}
-use Rattle.byte_names.specs.Bytes.{left_bracket, right_bracket}
-use Rattle.description_faults.specs.Fault.{Fault, MissingComponentName}
-use Rattle.description_faults.specs.Answer.{◌>>=◌}
+use Rattle.base.specs.Bytes.{left_bracket, right_bracket}
+use Rattle.description_lexer.specs.Fault.{Fault, MissingComponentName}
+use Rattle.description_lexer.specs.Answer.{◌>>=◌}
 use Rattle.description_items.specs.declared.component.Component.{Component}
-use Rattle.description_words.specs.declared.version.DescriptionVersion.{DescriptionVersion}
-use Rattle.description_words.specs.Text.{Rest, is_space, is_word_byte, run, past, after}
-use Rattle.description_words.specs.Words.{Modifier, has_word, begins, name_at, closed_at}
+use Rattle.description_lexer.specs.declared.version.DescriptionVersion.{DescriptionVersion}
+use Rattle.description_lexer.specs.Text.{Rest, is_space, is_word_byte, run, past, after}
+use Rattle.description_lexer.specs.Words.{Modifier, has_word, begins, name_at, closed_at}
 use Rattle.description_tables.specs.Component.{component_of}
 use Rattle.description_grammar.specs.Reading.{component_from}
 use Rattle.description_grammar.specs.Heads.{Each, Stops, IsWord, SpellsHead}

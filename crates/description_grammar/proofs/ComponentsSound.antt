@@ -3,14 +3,14 @@ use Rattle.std.proofs.Common.{◌≡◌, ℕ, zero, suc, ◌+◌, List, [], ◌�
 use Rattle.std.specs.List.{prefix_len}
 use Rattle.std.proofs.lemmas.List.{length-append}
 use Rattle.std.proofs.lemmas.List.Folds.{length-prefix_len}
-use Rattle.byte_names.specs.Bytes.{left_bracket, right_bracket}
-use Rattle.description_faults.specs.Fault.{Fault, MissingComponentName}
-use Rattle.description_faults.specs.Answer.{◌>>=◌}
+use Rattle.base.specs.Bytes.{left_bracket, right_bracket}
+use Rattle.description_lexer.specs.Fault.{Fault, MissingComponentName}
+use Rattle.description_lexer.specs.Answer.{◌>>=◌}
 use Rattle.description_items.specs.declared.component.Component.{Component}
-use Rattle.description_words.specs.declared.version.DescriptionVersion.{DescriptionVersion}
-use Rattle.description_words.specs.Text.{Rest, is_space, is_word_byte, run, past, after}
-use Rattle.description_words.specs.Words.{Modifier, has_word, begins, name_at, modifiers_at, closed_at}
-use Rattle.description_words.proofs.Readings.{bind_ok, ok_is, not_ok, chosen, bind_err, made_err, err_is, not_err}
+use Rattle.description_lexer.specs.declared.version.DescriptionVersion.{DescriptionVersion}
+use Rattle.description_lexer.specs.Text.{Rest, is_space, is_word_byte, run, past, after}
+use Rattle.description_lexer.specs.Words.{Modifier, has_word, begins, name_at, modifiers_at, closed_at}
+use Rattle.description_lexer.proofs.Readings.{bind_ok, ok_is, not_ok, chosen, bind_err, made_err, err_is, not_err}
 use Rattle.description_tables.specs.Component.{component_of}
 use Rattle.description_grammar.specs.Reading.{component_from}
 use Rattle.description_grammar.specs.Heads.{Each, Stops, IsWord, SpellsModifiers, is_nesting, SpellsHead, SpellsComponent}

@@ -3,17 +3,17 @@ use Rattle.std.proofs.Common.{◌≡◌, ℕ, zero, suc, ◌+◌, List, [], ◌�
 use Rattle.std.specs.Prelude.{codes, ◌&&◌}
 use Rattle.std.proofs.lemmas.List.{append-nil}
 use Rattle.std.proofs.lemmas.Bool.{eqb-true}
-use Rattle.byte_names.specs.Bytes.{left_bracket, right_bracket}
-use Rattle.description_faults.specs.Fault.{Fault, UnclosedOpeningBracket}
-use Rattle.description_faults.specs.Answer.{◌>>=◌}
+use Rattle.base.specs.Bytes.{left_bracket, right_bracket}
+use Rattle.description_lexer.specs.Fault.{Fault, UnclosedOpeningBracket}
+use Rattle.description_lexer.specs.Answer.{◌>>=◌}
 use Rattle.description_items.specs.declared.component.Component.{Component}
 use Rattle.description_items.specs.Tree.{Tree, Part, Compound, Optional, Trees, none, also, listed}
-use Rattle.description_words.specs.declared.version.DescriptionVersion.{DescriptionVersion}
-use Rattle.description_words.specs.declared.version.DescriptionVersion.TheVariants.{One, Two, Three}
-use Rattle.description_words.specs.Version.{is_three}
-use Rattle.description_words.specs.Text.{Rest, is_space, is_word_byte, is_plain, past, after}
-use Rattle.description_words.specs.Many.{many}
-use Rattle.description_words.specs.Words.{Modifier, is_named, begins, name_at, closed_at}
+use Rattle.description_lexer.specs.declared.version.DescriptionVersion.{DescriptionVersion}
+use Rattle.description_lexer.specs.declared.version.DescriptionVersion.TheVariants.{One, Two, Three}
+use Rattle.description_lexer.specs.Version.{is_three}
+use Rattle.description_lexer.specs.Text.{Rest, is_space, is_word_byte, is_plain, past, after}
+use Rattle.description_lexer.specs.Many.{many}
+use Rattle.description_lexer.specs.Words.{Modifier, is_named, begins, name_at, closed_at}
 use Rattle.description_grammar.specs.Reading.{doubled_at, component_from, unsupported_at, optional_at, no_bracket, first_at, bracket_at, element_at, is_end, nested_at, read_items}
 use Rattle.description_grammar.specs.Heads.{Stops, SpellsHead}
 use Rattle.description_grammar.specs.Spelling.{SpellsItems, SpellsAlternatives}
@@ -21,7 +21,7 @@ use Rattle.description_grammar.specs.Faulty.{Wrong, IsSingle, LacksName, BadEsca
 use Rattle.description_grammar.proofs.Results.{cond_false, and_false, neither, either_not, not_zero}
 use Rattle.description_grammar.proofs.Runs.{at_index, word_stops, space_first}
 use Rattle.description_grammar.proofs.Takes.{stops_91}
-use Rattle.description_words.proofs.Steps.{steps_many, steps_failing}
+use Rattle.description_lexer.proofs.Steps.{steps_many, steps_failing}
 use Rattle.description_grammar.proofs.TextsSound.{RefusesText, bad_escape_again}
 use Rattle.description_grammar.proofs.ComponentsComplete.{no_name_again, begins_head, bad_word_refused, unclosed_refused, nothing_refused}
 use Rattle.description_grammar.proofs.Nesting.{Reader, nesting_at}

@@ -3,15 +3,15 @@ use Rattle.std.proofs.Common.{◌≡◌, ℕ, zero, suc, ◌<◌, List, [], ◌�
 use Rattle.std.specs.Prelude.{codes, ◌&&◌, ◌||◌}
 use Rattle.std.proofs.lemmas.List.{append-nil, nil_from_length}
 use Rattle.std.proofs.lemmas.Bool.{eqb-true}
-use Rattle.byte_names.specs.Bytes.{left_bracket, right_bracket}
-use Rattle.description_faults.specs.Fault.{Fault}
-use Rattle.description_faults.specs.Answer.{◌>>=◌}
+use Rattle.base.specs.Bytes.{left_bracket, right_bracket}
+use Rattle.description_lexer.specs.Fault.{Fault}
+use Rattle.description_lexer.specs.Answer.{◌>>=◌}
 use Rattle.description_items.specs.Tree.{Tree, Literal, Part, Compound, Optional, First, listed}
-use Rattle.description_words.specs.declared.version.DescriptionVersion.{DescriptionVersion}
-use Rattle.description_words.specs.Text.{Rest, is_space, run, past, after, whole}
-use Rattle.description_words.specs.Many.{many}
-use Rattle.description_words.specs.Words.{is_named, begins, name_at, closed_at}
-use Rattle.description_words.proofs.Readings.{bind_ok, ok_is, not_ok, chosen}
+use Rattle.description_lexer.specs.declared.version.DescriptionVersion.{DescriptionVersion}
+use Rattle.description_lexer.specs.Text.{Rest, is_space, run, past, after, whole}
+use Rattle.description_lexer.specs.Many.{many}
+use Rattle.description_lexer.specs.Words.{is_named, begins, name_at, closed_at}
+use Rattle.description_lexer.proofs.Readings.{bind_ok, ok_is, not_ok, chosen}
 use Rattle.description_grammar.specs.Reading.{doubled_at, text_at, component_from, Nester, optional_at, no_bracket, first_at, bracket_at, literal_or, element_at, is_end, nested_at, read_items}
 use Rattle.description_grammar.proofs.Shorter.{nested_lt, item_lt}
 use Rattle.description_grammar.specs.Heads.{Stops}
@@ -20,7 +20,7 @@ use Rattle.description_grammar.specs.Faulty.{IsOne, AreSome}
 use Rattle.description_grammar.proofs.Results.{neither, either_not, above, flip_false, flip_true}
 use Rattle.description_grammar.proofs.Runs.{each_run, stops_past}
 use Rattle.description_grammar.proofs.Takes.{Takes, takes_then, takes_run, takes_byte, stops_91, closed_takes}
-use Rattle.description_words.proofs.Steps.{Steps, Shortens, many_steps}
+use Rattle.description_lexer.proofs.Steps.{Steps, Shortens, many_steps}
 use Rattle.description_grammar.proofs.TextsSound.{text_front, TakesText, text_takes, doubled_takes}
 use Rattle.description_grammar.proofs.ComponentsSound.{TakesName, name_takes, component_takes}
 use Rattle.description_grammar.proofs.Nesting.{TakesInside, TakesNesting, nesting_takes}

@@ -3,23 +3,23 @@ use Rattle.std.proofs.Common.{◌≡◌, ℕ, zero, suc, ◌+◌, ◌<◌, List,
 use Rattle.std.specs.Prelude.{codes, ◌&&◌, ◌||◌}
 use Rattle.std.proofs.lemmas.List.{length-append, append-nil}
 use Rattle.std.proofs.lemmas.Bool.{eqb-true}
-use Rattle.byte_names.specs.Bytes.{left_bracket, right_bracket}
-use Rattle.description_faults.specs.Fault.{Fault}
-use Rattle.description_faults.specs.Answer.{◌>>=◌}
+use Rattle.base.specs.Bytes.{left_bracket, right_bracket}
+use Rattle.description_lexer.specs.Fault.{Fault}
+use Rattle.description_lexer.specs.Answer.{◌>>=◌}
 use Rattle.description_items.specs.declared.component.Component.{Component}
 use Rattle.description_items.specs.Tree.{Tree, Literal, Part, Compound, Optional, First, Trees, none, also, listed}
-use Rattle.description_words.specs.declared.version.DescriptionVersion.{DescriptionVersion}
-use Rattle.description_words.specs.declared.version.DescriptionVersion.TheVariants.{One, Two, Three}
-use Rattle.description_words.specs.Version.{is_one, is_three}
-use Rattle.description_words.specs.Text.{Rest, is_space, is_plain, past, after}
-use Rattle.description_words.specs.Words.{is_named, begins, name_at, closed_at}
+use Rattle.description_lexer.specs.declared.version.DescriptionVersion.{DescriptionVersion}
+use Rattle.description_lexer.specs.declared.version.DescriptionVersion.TheVariants.{One, Two, Three}
+use Rattle.description_lexer.specs.Version.{is_one, is_three}
+use Rattle.description_lexer.specs.Text.{Rest, is_space, is_plain, past, after}
+use Rattle.description_lexer.specs.Words.{is_named, begins, name_at, closed_at}
 use Rattle.description_grammar.specs.Reading.{doubled_at, unsupported_at, supported, optional_at, no_bracket, first_at, bracket_at, element_at, is_end, nested_at, read_items}
 use Rattle.description_grammar.specs.Heads.{Stops, SpellsComponent, SpellsNesting}
 use Rattle.description_grammar.specs.Spelling.{SpellsItems, SpellsItem, SpellsNested, SpellsAlternatives, Spells}
 use Rattle.description_grammar.proofs.Results.{cond_true, cond_false, and_false, neither, either_not, not_zero}
 use Rattle.description_grammar.proofs.Runs.{at_index, same_index, past_is, word_stops}
 use Rattle.description_grammar.proofs.Takes.{stops_91, closed_again}
-use Rattle.description_words.proofs.Steps.{Steps, steps_many}
+use Rattle.description_lexer.proofs.Steps.{Steps, steps_many}
 use Rattle.description_grammar.proofs.TextsSound.{SpellsText, text_more, text_some, BeginsText, text_again}
 use Rattle.description_grammar.proofs.Meaning.{MeansAt, component_at}
 use Rattle.description_grammar.proofs.ComponentsComplete.{begins_head, component_again}

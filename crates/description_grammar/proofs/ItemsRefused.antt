@@ -3,23 +3,23 @@ use Rattle.std.proofs.Common.{◌≡◌, ℕ, zero, suc, List, [], ◌∷◌, �
 use Rattle.std.specs.Prelude.{codes, ◌&&◌, ◌||◌}
 use Rattle.std.proofs.lemmas.List.{append-nil, nil_from_length}
 use Rattle.std.proofs.lemmas.Bool.{eqb-true}
-use Rattle.byte_names.specs.Bytes.{left_bracket, right_bracket}
-use Rattle.description_faults.specs.Fault.{Fault}
-use Rattle.description_faults.specs.Answer.{◌>>=◌}
+use Rattle.base.specs.Bytes.{left_bracket, right_bracket}
+use Rattle.description_lexer.specs.Fault.{Fault}
+use Rattle.description_lexer.specs.Answer.{◌>>=◌}
 use Rattle.description_items.specs.Tree.{Tree, Literal, Part, Compound, Optional, listed}
-use Rattle.description_words.specs.declared.version.DescriptionVersion.{DescriptionVersion}
-use Rattle.description_words.specs.declared.version.DescriptionVersion.TheVariants.{One, Two, Three}
-use Rattle.description_words.specs.Text.{Rest, is_space, run, past, after, whole}
-use Rattle.description_words.specs.Many.{many}
-use Rattle.description_words.specs.Words.{is_named, begins, name_at, closed_at}
-use Rattle.description_words.proofs.Readings.{chosen, bind_err, made_err, err_is, not_err}
+use Rattle.description_lexer.specs.declared.version.DescriptionVersion.{DescriptionVersion}
+use Rattle.description_lexer.specs.declared.version.DescriptionVersion.TheVariants.{One, Two, Three}
+use Rattle.description_lexer.specs.Text.{Rest, is_space, run, past, after, whole}
+use Rattle.description_lexer.specs.Many.{many}
+use Rattle.description_lexer.specs.Words.{is_named, begins, name_at, closed_at}
+use Rattle.description_lexer.proofs.Readings.{chosen, bind_err, made_err, err_is, not_err}
 use Rattle.description_grammar.specs.Reading.{doubled_at, text_at, component_from, optional_at, no_bracket, first_at, bracket_at, literal_or, element_at, is_end, nested_at, read_items}
 use Rattle.description_grammar.specs.Spelling.{SpellsItems}
 use Rattle.description_grammar.specs.Faulty.{IsSingle, IsOne, AreSome, IsNothing, AreBefore, BadOptional, BadFirst, BadItem, FaultyItems, FaultyNested, Faulty}
 use Rattle.description_grammar.proofs.Results.{either_not, flip_false}
 use Rattle.description_grammar.proofs.Runs.{each_run, stops_past}
 use Rattle.description_grammar.proofs.Takes.{stops_91, begins_cons, closed_refused}
-use Rattle.description_words.proofs.Steps.{many_steps, many_failing, Failing}
+use Rattle.description_lexer.proofs.Steps.{many_steps, many_failing, Failing}
 use Rattle.description_grammar.proofs.TextsSound.{text_refused}
 use Rattle.description_grammar.proofs.ComponentsSound.{TakesName, name_takes, name_refused, component_refused}
 use Rattle.description_grammar.proofs.Nesting.{RefusesInside, nesting_refused}

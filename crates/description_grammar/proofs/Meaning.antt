@@ -1,15 +1,15 @@
 -- Where a component stands does not change what it means.
 use Rattle.std.proofs.Common.{◌≡◌, ℕ, ◌+◌, List, [], ◌∷◌, ◌++◌, length, Option, Some, None, Result, Ok, Err, not, cond, refl, subst, ◌∙◌, inl, inr}
 use Rattle.std.specs.Prelude.{◌&&◌, codes}
-use Rattle.byte_names.specs.Bytes.{right_bracket}
-use Rattle.description_faults.specs.Fault.{Fault, InvalidComponentName, MissingRequiredModifier, DuplicateModifier, InvalidModifierCombination}
-use Rattle.description_faults.specs.Answer.{◌>>=◌}
+use Rattle.base.specs.Bytes.{right_bracket}
+use Rattle.description_lexer.specs.Fault.{Fault, InvalidComponentName, MissingRequiredModifier, DuplicateModifier, InvalidModifierCombination}
+use Rattle.description_lexer.specs.Answer.{◌>>=◌}
 use Rattle.description_items.specs.declared.component.Component.{Component}
-use Rattle.description_words.specs.declared.version.DescriptionVersion.{DescriptionVersion}
-use Rattle.description_words.specs.Version.{is_three}
-use Rattle.description_words.specs.Text.{Rest}
-use Rattle.description_words.specs.Words.{Modifier}
-use Rattle.description_words.proofs.Readings.{bind_ok, not_ok, chosen, and_then_ok}
+use Rattle.description_lexer.specs.declared.version.DescriptionVersion.{DescriptionVersion}
+use Rattle.description_lexer.specs.Version.{is_three}
+use Rattle.description_lexer.specs.Text.{Rest}
+use Rattle.description_lexer.specs.Words.{Modifier}
+use Rattle.description_lexer.proofs.Readings.{bind_ok, not_ok, chosen, and_then_ok}
 use Rattle.description_tables.specs.declared.names.Name.{Name}
 use Rattle.description_tables.specs.declared.keys.Key.{Key}
 use Rattle.description_tables.specs.declared.chosen.Chosen.{Chosen}

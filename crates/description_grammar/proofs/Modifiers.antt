@@ -6,19 +6,19 @@ use Rattle.std.proofs.lemmas.List.Folds.{length-prefix_len}
 use Rattle.std.proofs.lemmas.List.Sums.{prefix_len-le-length}
 use Rattle.std.proofs.lemmas.Bool.{eqb-true}
 use Rattle.std.proofs.lemmas.Bool.Decides.{nat_tests}
-use Rattle.byte_names.specs.Bytes.{colon}
-use Rattle.description_faults.specs.Fault.{Fault, InvalidModifier}
-use Rattle.description_words.specs.Text.{Rest, is_space, is_word_byte, is_no_colon, run, past, after}
-use Rattle.description_words.specs.Many.{many}
-use Rattle.description_words.specs.Words.{Modifier, has_word, modifier_in, modifier_at, no_modifier, modifiers_at}
-use Rattle.description_words.proofs.Readings.{bind_ok, ok_is, made_err}
-use Rattle.description_words.proofs.Shorter.{modifier_lt}
+use Rattle.base.specs.Bytes.{colon}
+use Rattle.description_lexer.specs.Fault.{Fault, InvalidModifier}
+use Rattle.description_lexer.specs.Text.{Rest, is_space, is_word_byte, is_no_colon, run, past, after}
+use Rattle.description_lexer.specs.Many.{many}
+use Rattle.description_lexer.specs.Words.{Modifier, has_word, modifier_in, modifier_at, no_modifier, modifiers_at}
+use Rattle.description_lexer.proofs.Readings.{bind_ok, ok_is, made_err}
+use Rattle.description_lexer.proofs.Shorter.{modifier_lt}
 use Rattle.description_grammar.specs.Heads.{Each, Stops, IsWord, SpellsModifier, SpellsModifiers}
 use Rattle.description_grammar.specs.Faulty.{BadWord}
 use Rattle.description_grammar.proofs.Results.{three_ok, three_err, lt_of, above, flip_false, flip_true}
 use Rattle.description_grammar.proofs.Runs.{each_run, each_of_take, each_of_drop, each_whole, stops_past, stops_from_none, none_from_stops, past_index}
 use Rattle.description_grammar.proofs.Takes.{Takes, takes_then, takes_run}
-use Rattle.description_words.proofs.Steps.{Steps, many_steps, many_failing, Failing}
+use Rattle.description_lexer.proofs.Steps.{Steps, many_steps, many_failing, Failing}
 
 -- ---- one modifier
 

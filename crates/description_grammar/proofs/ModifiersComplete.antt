@@ -2,17 +2,17 @@
 use Rattle.std.proofs.Common.{◌≡◌, ℕ, suc, ◌+◌, ◌<◌, List, [], ◌∷◌, ◌++◌, length, drop, Result, Ok, Err, true, false, eqb, refl, sym, ap, subst, ◌∙◌, append_assoc, arith, inl, inr}
 use Rattle.std.specs.List.{prefix_len}
 use Rattle.std.proofs.lemmas.List.{length-append, append-nil, take_at}
-use Rattle.byte_names.specs.Bytes.{colon}
-use Rattle.description_faults.specs.Fault.{Fault, InvalidModifier}
-use Rattle.description_faults.specs.Answer.{◌>>=◌}
-use Rattle.description_words.specs.Text.{Rest, is_space, is_word_byte, is_no_colon, run, past}
-use Rattle.description_words.specs.Words.{Modifier, has_word, modifier_in, modifier_at, no_modifier, modifiers_at}
-use Rattle.description_words.proofs.Shorter.{modifier_lt}
+use Rattle.base.specs.Bytes.{colon}
+use Rattle.description_lexer.specs.Fault.{Fault, InvalidModifier}
+use Rattle.description_lexer.specs.Answer.{◌>>=◌}
+use Rattle.description_lexer.specs.Text.{Rest, is_space, is_word_byte, is_no_colon, run, past}
+use Rattle.description_lexer.specs.Words.{Modifier, has_word, modifier_in, modifier_at, no_modifier, modifiers_at}
+use Rattle.description_lexer.proofs.Shorter.{modifier_lt}
 use Rattle.description_grammar.specs.Heads.{Each, Stops, IsWord, SpellsModifiers}
 use Rattle.description_grammar.specs.Faulty.{BadWord}
 use Rattle.description_grammar.proofs.Results.{differs, not_zero, eqb_same}
 use Rattle.description_grammar.proofs.Runs.{at_index, same_index, each_append, run_again, run_is, past_is, space_stops, word_stops, space_first}
-use Rattle.description_words.proofs.Steps.{Steps, steps_many, steps_failing}
+use Rattle.description_lexer.proofs.Steps.{Steps, steps_many, steps_failing}
 
 -- ---- one word
 

@@ -4,15 +4,15 @@ use Rattle.std.specs.Prelude.{codes}
 use Rattle.std.proofs.lemmas.List.{length-append}
 use Rattle.std.proofs.lemmas.List.Folds.{length-prefix_len}
 use Rattle.std.proofs.lemmas.Bool.{eqb-true}
-use Rattle.byte_names.specs.Bytes.{left_bracket, right_bracket}
-use Rattle.description_faults.specs.Fault.{Fault, Expected}
-use Rattle.description_faults.specs.Answer.{◌>>=◌}
+use Rattle.base.specs.Bytes.{left_bracket, right_bracket}
+use Rattle.description_lexer.specs.Fault.{Fault, Expected}
+use Rattle.description_lexer.specs.Answer.{◌>>=◌}
 use Rattle.description_items.specs.Tree.{Tree}
-use Rattle.description_words.specs.declared.version.DescriptionVersion.{DescriptionVersion}
-use Rattle.description_words.specs.Version.{is_three}
-use Rattle.description_words.specs.Text.{Rest, is_space, run, past, after}
-use Rattle.description_words.specs.Words.{is_named, begins, closed_at}
-use Rattle.description_words.proofs.Readings.{bind_ok, ok_is, not_ok, chosen, bind_err, err_is, not_err}
+use Rattle.description_lexer.specs.declared.version.DescriptionVersion.{DescriptionVersion}
+use Rattle.description_lexer.specs.Version.{is_three}
+use Rattle.description_lexer.specs.Text.{Rest, is_space, run, past, after}
+use Rattle.description_lexer.specs.Words.{is_named, begins, closed_at}
+use Rattle.description_lexer.proofs.Readings.{bind_ok, ok_is, not_ok, chosen, bind_err, err_is, not_err}
 use Rattle.description_grammar.specs.Reading.{is_same, opened_at, unsupported_at, supported}
 use Rattle.description_grammar.specs.Heads.{Each, Stops, SpellsOpening, SpellsNesting}
 use Rattle.description_grammar.specs.Faulty.{Wrong, LacksSpace, LacksBracket, BadNesting}

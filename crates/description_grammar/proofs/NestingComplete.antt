@@ -4,14 +4,14 @@ use Rattle.std.specs.Prelude.{codes}
 use Rattle.std.specs.Str.{str_to_ascii_lowercase}
 use Rattle.std.proofs.lemmas.List.{length-append}
 use Rattle.std.proofs.lemmas.Cmp.{nat_list_eq_equiv}
-use Rattle.byte_names.specs.Bytes.{left_bracket, right_bracket}
-use Rattle.description_faults.specs.Fault.{Fault, Expected, UnclosedOpeningBracket}
-use Rattle.description_faults.specs.Answer.{◌>>=◌}
+use Rattle.base.specs.Bytes.{left_bracket, right_bracket}
+use Rattle.description_lexer.specs.Fault.{Fault, Expected, UnclosedOpeningBracket}
+use Rattle.description_lexer.specs.Answer.{◌>>=◌}
 use Rattle.description_items.specs.Tree.{Tree}
-use Rattle.description_words.specs.declared.version.DescriptionVersion.{DescriptionVersion}
-use Rattle.description_words.specs.declared.version.DescriptionVersion.TheVariants.{One, Two, Three}
-use Rattle.description_words.specs.Text.{Rest, is_space, is_word_byte, past, after}
-use Rattle.description_words.specs.Words.{is_named, begins, name_at, closed_at}
+use Rattle.description_lexer.specs.declared.version.DescriptionVersion.{DescriptionVersion}
+use Rattle.description_lexer.specs.declared.version.DescriptionVersion.TheVariants.{One, Two, Three}
+use Rattle.description_lexer.specs.Text.{Rest, is_space, is_word_byte, past, after}
+use Rattle.description_lexer.specs.Words.{is_named, begins, name_at, closed_at}
 use Rattle.description_grammar.specs.Reading.{is_same, opened_at, supported}
 use Rattle.description_grammar.specs.Heads.{Each, Stops, IsWord, SpellsOpening}
 use Rattle.description_grammar.proofs.Results.{cond_true, cond_false, differs, eqb_same}

@@ -1,13 +1,13 @@
 -- One text has one outcome.
 use Rattle.std.proofs.Common.{◌≡◌, ℕ, List, Result, Ok, Err, false, refl, sym, ap, subst, ◌∙◌, inl, inr, ◌⊎◌}
-use Rattle.description_faults.specs.Fault.{Fault, fault_of}
-use Rattle.description_faults.specs.Answer.{◌>>=◌, Gives}
-use Rattle.description_faults.specs.declared.description_fault.DescriptionFault.{DescriptionFault}
-use Rattle.description_faults.specs.declared.description_fault.DescriptionFault.TheVariants as errors
+use Rattle.description_lexer.specs.Fault.{Fault, fault_of}
+use Rattle.description_lexer.specs.Answer.{◌>>=◌, Gives}
+use Rattle.description_lexer.specs.declared.description_fault.DescriptionFault.{DescriptionFault}
+use Rattle.description_lexer.specs.declared.description_fault.DescriptionFault.TheVariants as errors
 use Rattle.description_items.specs.Tree.{Tree, Literal, Part, Compound, Optional, First, Trees}
-use Rattle.description_words.specs.declared.version.DescriptionVersion.{DescriptionVersion}
-use Rattle.description_words.specs.declared.version.DescriptionVersion.TheVariants.{Three}
-use Rattle.description_words.proofs.Readings.{bind_ok, ok_is, made_err, err_is, not_err}
+use Rattle.description_lexer.specs.declared.version.DescriptionVersion.{DescriptionVersion}
+use Rattle.description_lexer.specs.declared.version.DescriptionVersion.TheVariants.{Three}
+use Rattle.description_lexer.proofs.Readings.{bind_ok, ok_is, made_err, err_is, not_err}
 use Rattle.description_grammar.specs.Reading.{read_items, read_tree}
 use Rattle.description_grammar.specs.Spelling.{SpellsItems, Spells, SpellsTree}
 use Rattle.description_grammar.specs.Faulty.{Faulty}

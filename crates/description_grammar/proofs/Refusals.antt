@@ -1,18 +1,18 @@
 -- Versions 1 and 2 answer no nested item.
 use Rattle.std.proofs.Common.{◌≡◌, ℕ, List, suc, length, subst, Result, Ok, true, false, refl}
 use Rattle.std.specs.Prelude.{codes}
-use Rattle.description_faults.specs.Fault.{Fault}
-use Rattle.description_faults.specs.declared.description_fault.DescriptionFault.{DescriptionFault}
-use Rattle.description_faults.specs.declared.description_fault.DescriptionFault.TheVariants as errors
-use Rattle.description_faults.specs.Answer.{◌>>=◌, Fails}
+use Rattle.description_lexer.specs.Fault.{Fault}
+use Rattle.description_lexer.specs.declared.description_fault.DescriptionFault.{DescriptionFault}
+use Rattle.description_lexer.specs.declared.description_fault.DescriptionFault.TheVariants as errors
+use Rattle.description_lexer.specs.Answer.{◌>>=◌, Fails}
 use Rattle.description_items.specs.Tree.{Tree, Optional, First, Compound, listed}
-use Rattle.description_words.specs.declared.version.DescriptionVersion.{DescriptionVersion}
-use Rattle.description_words.specs.declared.version.DescriptionVersion.TheVariants.{Three}
-use Rattle.description_words.specs.Version.{is_three}
-use Rattle.description_words.specs.Text.{Rest, whole}
-use Rattle.description_words.specs.Many.{many}
-use Rattle.description_words.specs.Words.{closed_at}
-use Rattle.description_words.proofs.Readings.{bind_ok, not_ok}
+use Rattle.description_lexer.specs.declared.version.DescriptionVersion.{DescriptionVersion}
+use Rattle.description_lexer.specs.declared.version.DescriptionVersion.TheVariants.{Three}
+use Rattle.description_lexer.specs.Version.{is_three}
+use Rattle.description_lexer.specs.Text.{Rest, whole}
+use Rattle.description_lexer.specs.Many.{many}
+use Rattle.description_lexer.specs.Words.{closed_at}
+use Rattle.description_lexer.proofs.Readings.{bind_ok, not_ok}
 use Rattle.description_grammar.specs.Reading.{Nester, opened_at, unsupported_at, supported, optional_at, no_bracket, first_at, is_end, element_at, nested_at, read_items, read_tree}
 
 unsupported : (v : DescriptionVersion) (bracket : ℕ) (t : Tree) (rest : Rest) (x : Tree × Rest) → is_three v ≡ false → supported v bracket t rest ≡ Ok x → ⊥

@@ -2,8 +2,8 @@
 use Rattle.std.proofs.Common.{◌≡◌, ℕ, ◌≤◌, ◌<◌, Ok, Err, Bool, true, false, not, cond, eqb, refl, arith, inl, inr, ◌⊎◌}
 use Rattle.std.specs.Prelude.{◌||◌, ◌&&◌}
 use Rattle.std.proofs.lemmas.Bool.Decides.{nat_tests}
-use Rattle.description_faults.specs.Fault.{Fault}
-use Rattle.description_words.proofs.Readings.{err_is, not_err}
+use Rattle.description_lexer.specs.Fault.{Fault}
+use Rattle.description_lexer.proofs.Readings.{err_is, not_err}
 
 pub three_ok : {A : Type 0} (a b c : Bool) (d e f : Fault) (x y : A) → cond a (Err d) (cond b (Err e) (cond c (Err f) (Ok x))) ≡ Ok y → (a ≡ false) × (b ≡ false) × (c ≡ false) × (x ≡ y)
 three_ok true b c d e f x y h = absurd cc

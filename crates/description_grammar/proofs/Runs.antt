@@ -4,9 +4,9 @@ use Rattle.std.specs.List.{prefix_len}
 use Rattle.std.proofs.lemmas.List.{take-append-drop, take_at, drop_at}
 use Rattle.std.proofs.lemmas.List.Folds.{length-prefix_len}
 use Rattle.std.proofs.lemmas.Bool.Decides.{nat_tests}
-use Rattle.description_words.specs.Text.{Rest, is_space, is_word_byte, run, past}
+use Rattle.description_lexer.specs.Text.{Rest, is_space, is_word_byte, run, past}
 use Rattle.description_grammar.specs.Heads.{Each, Stops}
-pub use Rattle.description_words.proofs.Fronts.{which, each_run, stops_past, run_again}
+pub use Rattle.description_lexer.proofs.Fronts.{which, each_run, stops_past, run_again}
 
 -- the parts of a run again
 pub run_is : (p : ℕ → Bool) (at : ℕ) (xs rest : List ℕ) → Each p xs → Stops p rest → run p (record { index = at; text = xs ++ rest }) ≡ record { index = at; text = xs }

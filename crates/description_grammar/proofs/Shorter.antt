@@ -4,19 +4,19 @@ use Rattle.std.specs.Prelude.{codes, ◌&&◌, ◌==◌}
 use Rattle.std.specs.List.{prefix_len}
 use Rattle.std.proofs.lemmas.List.{length-drop}
 use Rattle.std.proofs.lemmas.Bool.Decides.{nat_tests}
-use Rattle.byte_names.specs.Bytes.{left_bracket, backslash, right_bracket}
-use Rattle.description_faults.specs.Fault.{Fault, Expected, MissingComponentName, UnclosedOpeningBracket}
-use Rattle.description_faults.specs.Answer.{◌>>=◌}
+use Rattle.base.specs.Bytes.{left_bracket, backslash, right_bracket}
+use Rattle.description_lexer.specs.Fault.{Fault, Expected, MissingComponentName, UnclosedOpeningBracket}
+use Rattle.description_lexer.specs.Answer.{◌>>=◌}
 use Rattle.description_items.specs.Tree.{Tree, Literal, Part, Compound, Optional, First, listed}
 use Rattle.description_items.specs.declared.component.Component.{Component}
-use Rattle.description_words.specs.declared.version.DescriptionVersion.{DescriptionVersion}
-use Rattle.description_words.specs.Version.{is_one, is_three}
-use Rattle.description_words.specs.Text.{Rest, is_space, is_word_byte, run, past, after}
-use Rattle.description_words.specs.Many.{many}
-use Rattle.description_words.specs.Words.{Modifier, has_word, is_named, begins, no_modifier, modifier_at, modifiers_at, name_at, closed_at, is_escape, escape_at, literal_len}
-use Rattle.description_words.proofs.Many.{many_le}
-use Rattle.description_words.proofs.Readings.{bind_ok, ok_is, not_ok, chosen}
-use Rattle.description_words.proofs.Shorter.{past_le, past_word_lt, modifier_lt}
+use Rattle.description_lexer.specs.declared.version.DescriptionVersion.{DescriptionVersion}
+use Rattle.description_lexer.specs.Version.{is_one, is_three}
+use Rattle.description_lexer.specs.Text.{Rest, is_space, is_word_byte, run, past, after}
+use Rattle.description_lexer.specs.Many.{many}
+use Rattle.description_lexer.specs.Words.{Modifier, has_word, is_named, begins, no_modifier, modifier_at, modifiers_at, name_at, closed_at, is_escape, escape_at, literal_len}
+use Rattle.description_lexer.proofs.Many.{many_le}
+use Rattle.description_lexer.proofs.Readings.{bind_ok, ok_is, not_ok, chosen}
+use Rattle.description_lexer.proofs.Shorter.{past_le, past_word_lt, modifier_lt}
 use Rattle.description_tables.specs.Component.{component_of}
 use Rattle.description_grammar.specs.Reading.{doubled_at, text_at, component_from, Nester, is_same, opened_at, unsupported_at, supported, optional_at, no_bracket, first_at, bracket_at, literal_or, element_at, is_end, nested_at}
 

@@ -3,11 +3,11 @@ use Rattle.std.proofs.Common.{◌≡◌, ℕ, ◌+◌, List, [], ◌∷◌, ◌+
 use Rattle.std.proofs.lemmas.List.{length-append}
 use Rattle.std.proofs.lemmas.Bool.{eqb-true}
 use Rattle.std.proofs.lemmas.Bool.Decides.{nat_tests}
-use Rattle.byte_names.specs.Bytes.{left_bracket, right_bracket}
-use Rattle.description_faults.specs.Fault.{Fault, UnclosedOpeningBracket}
-use Rattle.description_words.specs.Text.{Rest, is_space, run, past, after}
-use Rattle.description_words.specs.Words.{begins, closed_at}
-use Rattle.description_words.proofs.Readings.{ok_is, not_ok, chosen, err_is, not_err}
+use Rattle.base.specs.Bytes.{left_bracket, right_bracket}
+use Rattle.description_lexer.specs.Fault.{Fault, UnclosedOpeningBracket}
+use Rattle.description_lexer.specs.Text.{Rest, is_space, run, past, after}
+use Rattle.description_lexer.specs.Words.{begins, closed_at}
+use Rattle.description_lexer.proofs.Readings.{ok_is, not_ok, chosen, err_is, not_err}
 use Rattle.description_grammar.specs.Heads.{Stops}
 use Rattle.description_grammar.proofs.Runs.{cut_run, past_index, at_index}
 

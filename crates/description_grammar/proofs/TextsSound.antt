@@ -5,14 +5,14 @@ use Rattle.std.specs.List.{prefix_len}
 use Rattle.std.proofs.lemmas.List.{take-append-drop, take_at, drop_at}
 use Rattle.std.proofs.lemmas.List.Folds.{length-prefix_len}
 use Rattle.std.proofs.lemmas.Bool.Decides.{nat_tests}
-use Rattle.byte_names.specs.Bytes.{left_bracket, backslash, right_bracket}
-use Rattle.description_faults.specs.Fault.{Fault, Expected}
-use Rattle.description_words.specs.declared.version.DescriptionVersion.{DescriptionVersion}
-use Rattle.description_words.specs.declared.version.DescriptionVersion.TheVariants.{One, Two, Three}
-use Rattle.description_words.specs.Version.{is_one}
-use Rattle.description_words.specs.Text.{Rest, is_plain, after}
-use Rattle.description_words.specs.Words.{begins, is_escape, escape_at, literal_len}
-use Rattle.description_words.proofs.Readings.{ok_is, not_ok, chosen, err_is, not_err}
+use Rattle.base.specs.Bytes.{left_bracket, backslash, right_bracket}
+use Rattle.description_lexer.specs.Fault.{Fault, Expected}
+use Rattle.description_lexer.specs.declared.version.DescriptionVersion.{DescriptionVersion}
+use Rattle.description_lexer.specs.declared.version.DescriptionVersion.TheVariants.{One, Two, Three}
+use Rattle.description_lexer.specs.Version.{is_one}
+use Rattle.description_lexer.specs.Text.{Rest, is_plain, after}
+use Rattle.description_lexer.specs.Words.{begins, is_escape, escape_at, literal_len}
+use Rattle.description_lexer.proofs.Readings.{ok_is, not_ok, chosen, err_is, not_err}
 use Rattle.description_grammar.specs.Reading.{doubled_at, text_at}
 use Rattle.description_grammar.specs.Heads.{Stops, MayBegin, SpellsLiteral, IsEscapable, SpellsEscape}
 use Rattle.description_grammar.specs.Faulty.{BadEscape}

@@ -1,14 +1,14 @@
 -- The first fault of a text that is no description. Each text stands from an index on.
 use Rattle.std.specs.Prelude.{◌≡◌, ℕ, zero, suc, ◌+◌, ◌<◌, Bool, true, false, List, [], ◌∷◌, ◌++◌, length, Err, codes, ◌⊎◌}
-use Rattle.byte_names.specs.Bytes.{colon, left_bracket, backslash, right_bracket}
-use Rattle.description_faults.specs.Fault.{Fault, UnclosedOpeningBracket, InvalidModifier, MissingComponentName, Expected, NotSupported}
+use Rattle.base.specs.Bytes.{colon, left_bracket, backslash, right_bracket}
+use Rattle.description_lexer.specs.Fault.{Fault, UnclosedOpeningBracket, InvalidModifier, MissingComponentName, Expected, NotSupported}
 use Rattle.description_items.specs.Tree.{Tree, Trees}
 use Rattle.description_tables.specs.Component.{component_of}
-use Rattle.description_words.specs.declared.version.DescriptionVersion.{DescriptionVersion}
-use Rattle.description_words.specs.declared.version.DescriptionVersion.TheVariants.{One, Two, Three}
-use Rattle.description_words.specs.Version.{is_three}
-use Rattle.description_words.specs.Text.{Rest, is_space, is_word_byte, is_no_colon}
-use Rattle.description_words.specs.Words.{Modifier, is_named, begins, is_escape}
+use Rattle.description_lexer.specs.declared.version.DescriptionVersion.{DescriptionVersion}
+use Rattle.description_lexer.specs.declared.version.DescriptionVersion.TheVariants.{One, Two, Three}
+use Rattle.description_lexer.specs.Version.{is_three}
+use Rattle.description_lexer.specs.Text.{Rest, is_space, is_word_byte, is_no_colon}
+use Rattle.description_lexer.specs.Words.{Modifier, is_named, begins, is_escape}
 use Rattle.description_grammar.specs.Heads.{Each, Stops, IsWord, SpellsHead, SpellsOpening, SpellsNesting}
 use Rattle.description_grammar.specs.Spelling.{SpellsItems, SpellsNested, SpellsAlternatives}
 

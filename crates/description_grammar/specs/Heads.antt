@@ -1,13 +1,13 @@
 -- How literals and what stands in brackets are spelled. A text with words to point at stands from an index on.
 use Rattle.std.specs.Prelude.{◌≡◌, ℕ, ◌+◌, ◌<◌, ◌||◌, Bool, true, false, List, [], ◌∷◌, ◌++◌, length, Ok, codes, ◌⊎◌}
-use Rattle.byte_names.specs.Bytes.{colon, left_bracket, backslash, right_bracket}
+use Rattle.base.specs.Bytes.{colon, left_bracket, backslash, right_bracket}
 use Rattle.description_items.specs.declared.component.Component.{Component}
 use Rattle.description_tables.specs.Component.{component_of}
-use Rattle.description_words.specs.declared.version.DescriptionVersion.{DescriptionVersion}
-use Rattle.description_words.specs.declared.version.DescriptionVersion.TheVariants.{One, Two, Three}
-use Rattle.description_words.specs.Text.{Rest, is_space, is_word_byte, is_plain, is_no_colon}
-use Rattle.description_words.specs.Words.{Modifier, is_named}
-pub use Rattle.description_words.specs.Text.{Each, Stops}
+use Rattle.description_lexer.specs.declared.version.DescriptionVersion.{DescriptionVersion}
+use Rattle.description_lexer.specs.declared.version.DescriptionVersion.TheVariants.{One, Two, Three}
+use Rattle.description_lexer.specs.Text.{Rest, is_space, is_word_byte, is_plain, is_no_colon}
+use Rattle.description_lexer.specs.Words.{Modifier, is_named}
+pub use Rattle.description_lexer.specs.Text.{Each, Stops}
 
 -- a word: one such byte or more
 abbrev pub IsWord : List ℕ → Type 0

@@ -1,10 +1,10 @@
 -- What a call answers for a text, and that each text has one outcome.
 use Rattle.std.specs.Prelude.{◌≡◌, ℕ, List, Result, Ok, Err, ◌⊎◌}
-use Rattle.description_faults.specs.Fault.{Fault, fault_of}
-use Rattle.description_faults.specs.declared.description_fault.DescriptionFault.{DescriptionFault}
-use Rattle.description_faults.specs.declared.description_fault.DescriptionFault.TheVariants.{Description, Memory}
+use Rattle.description_lexer.specs.Fault.{Fault, fault_of}
+use Rattle.description_lexer.specs.declared.description_fault.DescriptionFault.{DescriptionFault}
+use Rattle.description_lexer.specs.declared.description_fault.DescriptionFault.TheVariants.{Description, Memory}
 use Rattle.description_items.specs.Tree.{Tree, Compound, listed}
-use Rattle.description_words.specs.declared.version.DescriptionVersion.{DescriptionVersion}
+use Rattle.description_lexer.specs.declared.version.DescriptionVersion.{DescriptionVersion}
 use Rattle.description_grammar.specs.Spelling.{Spells, SpellsTree}
 use Rattle.description_grammar.specs.Faulty.{Faulty}
 

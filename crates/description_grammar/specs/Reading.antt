@@ -1,17 +1,17 @@
 -- Reading a description from left to right: what it means and what follows it, or the first fault.
 use Rattle.std.specs.Prelude.{ℕ, zero, suc, ◌==◌, ◌||◌, ◌&&◌, not, Bool, true, false, List, length, take, Option, Some, None, Result, Ok, Err, if◌then◌else◌, codes}
-use Rattle.byte_names.specs.Bytes.{left_bracket, backslash, right_bracket}
-use Rattle.description_faults.specs.Fault.{Fault, Expected, NotSupported}
-use Rattle.description_faults.specs.Answer.{◌>>=◌}
+use Rattle.base.specs.Bytes.{left_bracket, backslash, right_bracket}
+use Rattle.description_lexer.specs.Fault.{Fault, Expected, NotSupported}
+use Rattle.description_lexer.specs.Answer.{◌>>=◌}
 use Rattle.description_items.specs.declared.component.Component.{Component}
 use Rattle.description_items.specs.Tree.{Tree, Literal, Part, Compound, Optional, First, listed}
 use Rattle.description_tables.specs.Component.{component_of}
-use Rattle.description_words.specs.declared.version.DescriptionVersion.{DescriptionVersion}
-use Rattle.description_words.specs.declared.version.DescriptionVersion.TheVariants.{Three}
-use Rattle.description_words.specs.Version.{is_one, is_three}
-use Rattle.description_words.specs.Text.{Rest, is_space, past, after, whole}
-use Rattle.description_words.specs.Many.{many}
-use Rattle.description_words.specs.Words.{is_named, begins, modifiers_at, name_at, closed_at, escape_at, literal_len}
+use Rattle.description_lexer.specs.declared.version.DescriptionVersion.{DescriptionVersion}
+use Rattle.description_lexer.specs.declared.version.DescriptionVersion.TheVariants.{Three}
+use Rattle.description_lexer.specs.Version.{is_one, is_three}
+use Rattle.description_lexer.specs.Text.{Rest, is_space, past, after, whole}
+use Rattle.description_lexer.specs.Many.{many}
+use Rattle.description_lexer.specs.Words.{is_named, begins, modifiers_at, name_at, closed_at, escape_at, literal_len}
 
 -- a bracket that version 1 spells by two
 unfoldable pub doubled_at : DescriptionVersion → Rest → Option (List ℕ × Rest)

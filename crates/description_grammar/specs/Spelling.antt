@@ -1,10 +1,10 @@
 -- What descriptions are.
 use Rattle.std.specs.Prelude.{◌≡◌, ℕ, suc, ◌<◌, Bool, true, false, List, [], ◌∷◌, ◌++◌, length, codes, ◌⊎◌}
-use Rattle.byte_names.specs.Bytes.{left_bracket, right_bracket}
+use Rattle.base.specs.Bytes.{left_bracket, right_bracket}
 use Rattle.description_items.specs.Tree.{Tree, Literal, Part, Compound, Optional, First, Trees, none, also, listed}
-use Rattle.description_words.specs.declared.version.DescriptionVersion.{DescriptionVersion}
-use Rattle.description_words.specs.Version.{is_three}
-use Rattle.description_words.specs.Text.{is_space}
+use Rattle.description_lexer.specs.declared.version.DescriptionVersion.{DescriptionVersion}
+use Rattle.description_lexer.specs.Version.{is_three}
+use Rattle.description_lexer.specs.Text.{is_space}
 use Rattle.description_grammar.specs.Heads.{Each, SpellsComponent, SpellsLiteral, SpellsEscape, SpellsNesting}
 
 abbrev mutual

@@ -1,15 +1,14 @@
 //! Components behind their names.
 
 ghost use Rattle.std.specs.Prelude.{◌≡◌, IfOk};
-ghost use Rattle.description_faults.specs.Answer.{Gives};
+ghost use Rattle.description_lexer.specs.Answer.{Gives};
 ghost use Rattle.description_items.specs.Modern.{modern};
-ghost use Rattle.description_words.specs.Views.{rest_of};
+ghost use Rattle.description_lexer.specs.Views.{rest_of};
 ghost use Rattle.description_grammar.specs.Reading.{component_from};
 
-use description_faults::DescriptionFault;
 use description_items::Component;
+use description_lexer::{DescriptionFault, DescriptionVersion, Rest, closed, modifiers_of};
 use description_tables::component_of;
-use description_words::{DescriptionVersion, Rest, closed, modifiers_of};
 use std::alloc::Global;
 
 /// The component of a name, from its modifiers to its closing bracket, and what follows.

@@ -2,19 +2,20 @@
 
 ghost use Rattle.std.specs.Prelude.{◌≡◌, ◌<◌, false, true, IfOk, length};
 ghost use Rattle.std.specs.Str.{IsCharBoundary};
-ghost use Rattle.description_faults.specs.Answer.{Gives};
+ghost use Rattle.description_lexer.specs.Answer.{Gives};
 ghost use Rattle.description_items.specs.Forms.{is_of_text, are_of_text};
 ghost use Rattle.description_items.specs.Tree.{tree_of, trees};
-ghost use Rattle.description_words.specs.Version.{is_three};
-ghost use Rattle.description_words.specs.Views.{rest_of};
+ghost use Rattle.description_lexer.specs.Version.{is_three};
+ghost use Rattle.description_lexer.specs.Views.{rest_of};
 ghost use Rattle.description_grammar.specs.Reading.{bracket_at, element_at, nested_at, read_items};
 
 use crate::components::component_from;
 use crate::nested::{LEVELS, first, optional};
 use crate::texts::{doubled, text};
-use description_faults::DescriptionFault;
 use description_items::BorrowedFormatItem;
-use description_words::{DescriptionVersion, Rest, begins, cut, is_named, name_of, whole_of};
+use description_lexer::{
+    DescriptionFault, DescriptionVersion, Rest, begins, cut, is_named, name_of, whole_of,
+};
 use std::alloc::Global;
 
 /// The items of a description of version 1 or 2. Nested descriptions are read for their faults alone.

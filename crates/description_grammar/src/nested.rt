@@ -2,22 +2,22 @@
 
 ghost use Rattle.std.specs.Prelude.{suc, ◌≡◌, ◌<◌, true, IfOk, length};
 ghost use Rattle.std.specs.Str.{IsCharBoundary};
-ghost use Rattle.description_faults.specs.Answer.{Answers, Gives};
-ghost use Rattle.description_faults.specs.Fault.{fault_of};
+ghost use Rattle.description_lexer.specs.Answer.{Answers, Gives};
+ghost use Rattle.description_lexer.specs.Fault.{fault_of};
 ghost use Rattle.description_items.specs.Tree.{Compound, listed};
 ghost use Rattle.description_tree.specs.Forms.{is_read, are_read};
 ghost use Rattle.description_tree.specs.Inner.{inner_tree, inner_trees};
-ghost use Rattle.description_words.specs.Many.{many};
-ghost use Rattle.description_words.specs.Views.{rest_of};
+ghost use Rattle.description_lexer.specs.Many.{many};
+ghost use Rattle.description_lexer.specs.Views.{rest_of};
 ghost use Rattle.description_grammar.specs.Reading.{opened_at, unsupported_at, optional_at, first_at, bracket_at, element_at, is_end, no_bracket, nested_at, read_tree};
 
 use crate::components::component_from;
 use crate::texts::{doubled, is_end, text};
-use description_faults::{DescriptionFault, InvalidFormatDescription};
-use description_tree::FormatDescriptionV3Inner;
-use description_words::{
-    DescriptionVersion, Rest, begins, closed, cut, is_named, name_of, past_space, whole_of,
+use description_lexer::{
+    DescriptionFault, DescriptionVersion, InvalidFormatDescription, Rest, begins, closed, cut,
+    is_named, name_of, past_space, whole_of,
 };
+use description_tree::FormatDescriptionV3Inner;
 use std::alloc::Global;
 
 /// So many descriptions may stand inside one another.

@@ -2,12 +2,13 @@
 
 ghost use Rattle.std.specs.Prelude.{◌≡◌, ◌<◌, length};
 ghost use Rattle.std.specs.Option.{option_map};
-ghost use Rattle.description_faults.specs.Answer.{Answers};
-ghost use Rattle.description_words.specs.Views.{rest_of};
+ghost use Rattle.description_lexer.specs.Answer.{Answers};
+ghost use Rattle.description_lexer.specs.Views.{rest_of};
 ghost use Rattle.description_grammar.specs.Reading.{doubled_at, text_at, is_end};
 
-use description_faults::InvalidFormatDescription;
-use description_words::{DescriptionVersion, Rest, begins, cut, escape, literal};
+use description_lexer::{
+    DescriptionVersion, InvalidFormatDescription, Rest, begins, cut, escape, literal,
+};
 
 /// The bracket that version 1 spells by two, and what follows them.
 #[tactic(auto, unfolding(crate::specs::Reading::doubled_at))]

@@ -1,11 +1,11 @@
 //! Items from what they are made of, and back.
 ghost use Rattle.std.specs.Prelude.{◌≡◌};
-ghost use Rattle.variants.specs.Convert.{GivesBack};
+ghost use Rattle.base.specs.Convert.{GivesBack};
 ghost use Rattle.description_items.specs.declared.item.BorrowedFormatItem.TheVariants as item;
 
 use crate::component::Component;
 use crate::item::BorrowedFormatItem;
-use variants::DifferentVariant;
+use base::DifferentVariant;
 
 impl From<Component> for BorrowedFormatItem<'_> {
     ghost from_gives = { λ component made. made ≡ item.Component component };

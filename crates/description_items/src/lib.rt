@@ -11,8 +11,8 @@ mod period;
 mod same;
 mod shown;
 
+pub use base::DifferentVariant;
 pub use component::Component;
 pub use formats::{Iso8601, Rfc2822, Rfc3339};
 pub use item::{BorrowedFormatItem, FormatItem, StaticFormatDescription};
 pub use period::Period;
-pub use variants::DifferentVariant;

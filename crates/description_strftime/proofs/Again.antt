@@ -2,19 +2,19 @@
 use Rattle.std.proofs.Common.{◌≡◌, ℕ, ◌+◌, ◌<◌, ◌==◌, true, false, List, [], ◌∷◌, ◌++◌, length, take, Option, Some, Result, Ok, refl, ap, ◌∙◌, append_assoc, arith, inl, inr}
 use Rattle.std.proofs.lemmas.List.{length-append, take_at, drop_at}
 use Rattle.std.proofs.lemmas.Bool.Decides.{nat_tests}
-use Rattle.byte_names.specs.Bytes.{percent}
+use Rattle.base.specs.Bytes.{percent}
 use Rattle.description_date_modifiers.specs.declared.choices.Padding.{Padding}
-use Rattle.description_faults.specs.Fault.{Fault}
+use Rattle.description_lexer.specs.Fault.{Fault}
 use Rattle.description_items.specs.Tree.{Tree, Literal}
-use Rattle.description_words.specs.Text.{Rest, after}
-use Rattle.description_words.specs.Words.{begins}
+use Rattle.description_lexer.specs.Text.{Rest, after}
+use Rattle.description_lexer.specs.Words.{begins}
 use Rattle.description_strftime.specs.Text.{is_plain, Each, Stops}
 use Rattle.description_strftime.specs.Letters.{letter_items}
 use Rattle.description_strftime.specs.Reading.{letter_at, conversion_at, plain_len, strftime_step}
 use Rattle.description_strftime.specs.Spelled.{flag_text, SpellsConversion, SpellsPart}
 use Rattle.description_strftime.specs.Faulty.{IsNoFlag}
 use Rattle.description_strftime.proofs.Flags.{at_index, no_flag, flag_again, past_again}
-use Rattle.description_words.proofs.Fronts.{run_again}
+use Rattle.description_lexer.proofs.Fronts.{run_again}
 
 abbrev pub Step : Type 0
 Step = Result (List Tree × Rest) Fault

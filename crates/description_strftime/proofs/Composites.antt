@@ -1,7 +1,7 @@
 -- A composite letter stands for what its expansion spells.
 use Rattle.std.proofs.Common.{◌≡◌, ℕ, List, refl, sym, ◌∙◌}
 use Rattle.std.specs.Prelude.{codes}
-use Rattle.description_words.specs.Many.{many}
+use Rattle.description_lexer.specs.Many.{many}
 use Rattle.description_strftime.specs.Letters.{flag_of, day_number, year_number, time_number, unpadded, component_of, text_of, item_of, composite, separator, part_of, letter_items}
 use Rattle.description_strftime.specs.Reading.{letter_at, conversion_at, strftime_step, read_strftime}
 use Rattle.description_strftime.specs.Composites.{SpellSame}

@@ -2,13 +2,13 @@
 use Rattle.std.proofs.Common.{◌≡◌, ℕ, ◌+◌, List, [], ◌∷◌, ◌++◌, length, refl, sym, ap, subst, ◌∙◌, append_assoc, arith, inl, inr}
 use Rattle.std.specs.Prelude.{codes}
 use Rattle.std.proofs.lemmas.List.{length-append}
-use Rattle.description_faults.specs.Fault.{Fault, InvalidComponentName, NotSupported}
+use Rattle.description_lexer.specs.Fault.{Fault, InvalidComponentName, NotSupported}
 use Rattle.description_items.specs.Tree.{Tree, Literal}
 use Rattle.description_strftime.specs.Text.{is_plain, Stops}
 use Rattle.description_strftime.specs.Spelled.{SpellsText, SpellsFront, SpellsStrftime}
 use Rattle.description_strftime.specs.Faulty.{BadConversion, FaultyStrftime}
 use Rattle.description_strftime.specs.Joined.{EndsInLiteral}
-use Rattle.description_faults.specs.Further.{further}
+use Rattle.description_lexer.specs.Further.{further}
 use Rattle.description_strftime.proofs.Joins.{each_append, front_longer, front_joins, ends_or_closed}
 
 -- the parts of two texts, one after the other

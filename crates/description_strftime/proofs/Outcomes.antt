@@ -1,13 +1,13 @@
 -- One text has one outcome.
 use Rattle.std.proofs.Common.{◌≡◌, ℕ, List, Result, Ok, Err, ◌⊎◌, inl, inr, refl, sym, ◌∙◌}
 use Rattle.std.specs.Global.{Vec}
-use Rattle.description_faults.specs.Answer.{Gives}
-use Rattle.description_faults.specs.Fault.{Fault, fault_of}
-use Rattle.description_faults.specs.declared.description_fault.DescriptionFault.{DescriptionFault}
-use Rattle.description_faults.specs.declared.description_fault.DescriptionFault.TheVariants.{Description, Memory}
+use Rattle.description_lexer.specs.Answer.{Gives}
+use Rattle.description_lexer.specs.Fault.{Fault, fault_of}
+use Rattle.description_lexer.specs.declared.description_fault.DescriptionFault.{DescriptionFault}
+use Rattle.description_lexer.specs.declared.description_fault.DescriptionFault.TheVariants.{Description, Memory}
 use Rattle.description_items.specs.declared.item.BorrowedFormatItem.{BorrowedFormatItem}
 use Rattle.description_items.specs.Tree.{Tree, trees}
-use Rattle.description_words.proofs.Readings.{ok_is}
+use Rattle.description_lexer.proofs.Readings.{ok_is}
 use Rattle.description_strftime.specs.Reading.{read_strftime}
 use Rattle.description_strftime.specs.Spelled.{SpellsStrftime}
 use Rattle.description_strftime.specs.Faulty.{FaultyStrftime}

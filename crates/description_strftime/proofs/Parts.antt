@@ -1,15 +1,15 @@
 -- The parts that were read, and the items that they stand for.
 use Rattle.std.proofs.Common.{◌≡◌, ℕ, ◌<◌, suc, List, [], ◌∷◌, ◌++◌, length, Result, Ok, true, false, refl, sym, ap, ◌∙◌, append_assoc}
 use Rattle.std.proofs.lemmas.List.{append-nil}
-use Rattle.description_faults.specs.declared.description_fault.DescriptionFault.{DescriptionFault}
-use Rattle.description_faults.specs.declared.description_fault.DescriptionFault.TheVariants as errors
-use Rattle.description_faults.specs.Fault.{Fault}
-use Rattle.description_faults.specs.Answer.{◌>>=◌, Fails}
+use Rattle.description_lexer.specs.declared.description_fault.DescriptionFault.{DescriptionFault}
+use Rattle.description_lexer.specs.declared.description_fault.DescriptionFault.TheVariants as errors
+use Rattle.description_lexer.specs.Fault.{Fault}
+use Rattle.description_lexer.specs.Answer.{◌>>=◌, Fails}
 use Rattle.description_items.specs.Tree.{Tree}
-use Rattle.description_words.specs.Text.{Rest, whole}
-use Rattle.description_words.specs.Many.{many}
-use Rattle.description_words.proofs.Many.{SoFar, many_begins, many_goes_on, many_fails, many_ends}
-use Rattle.description_words.proofs.Readings.{and_then_ok}
+use Rattle.description_lexer.specs.Text.{Rest, whole}
+use Rattle.description_lexer.specs.Many.{many}
+use Rattle.description_lexer.proofs.Many.{SoFar, many_begins, many_goes_on, many_fails, many_ends}
+use Rattle.description_lexer.proofs.Readings.{and_then_ok}
 use Rattle.description_strftime.specs.Text.{joined}
 use Rattle.description_strftime.specs.Reading.{at_end, strftime_step, read_strftime}
 

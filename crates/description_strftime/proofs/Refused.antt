@@ -5,19 +5,19 @@ use Rattle.std.specs.Option.{ok_or}
 use Rattle.std.specs.List.{prefix_len}
 use Rattle.std.proofs.lemmas.List.{append-nil, take-append-drop}
 use Rattle.std.proofs.lemmas.Bool.Decides.{nat_tests}
-use Rattle.byte_names.specs.Bytes.{percent}
+use Rattle.base.specs.Bytes.{percent}
 use Rattle.description_date_modifiers.specs.declared.choices.Padding.{Padding}
-use Rattle.description_faults.specs.Fault.{Fault, InvalidComponentName, Expected}
-use Rattle.description_faults.specs.Answer.{◌>>=◌}
+use Rattle.description_lexer.specs.Fault.{Fault, InvalidComponentName, Expected}
+use Rattle.description_lexer.specs.Answer.{◌>>=◌}
 use Rattle.description_items.specs.Tree.{Tree, Literal}
-use Rattle.description_words.specs.Text.{Rest, after}
+use Rattle.description_lexer.specs.Text.{Rest, after}
 use Rattle.description_strftime.specs.Text.{is_continuation}
 use Rattle.description_strftime.specs.Letters.{letter_items, refused}
 use Rattle.description_strftime.specs.Reading.{flag_at, past_flag, refusal, letter_at, conversion_at, plain_len, strftime_step}
 use Rattle.description_strftime.specs.Spelled.{flag_text}
 use Rattle.description_strftime.specs.Faulty.{head, IsNoFlag, BadConversion}
 use Rattle.description_strftime.proofs.Flags.{at_index, flag_takes, flag_index}
-use Rattle.description_words.proofs.Fronts.{each_run, stops_past}
+use Rattle.description_lexer.proofs.Fronts.{each_run, stops_past}
 use Rattle.description_strftime.proofs.Again.{Step}
 
 abbrev pub failed : Fault → Step

@@ -6,15 +6,15 @@ use Rattle.std.proofs.lemmas.List.{take_at}
 use Rattle.std.proofs.lemmas.Bool.Decides.{nat_tests}
 use Rattle.description_date_modifiers.specs.declared.choices.Padding.{Padding}
 use Rattle.description_date_modifiers.specs.declared.choices.Padding.TheVariants as padding
-use Rattle.description_faults.specs.Fault.{Fault, InvalidComponentName, Expected}
-use Rattle.description_words.proofs.Readings.{chosen}
+use Rattle.description_lexer.specs.Fault.{Fault, InvalidComponentName, Expected}
+use Rattle.description_lexer.proofs.Readings.{chosen}
 use Rattle.description_strftime.specs.Text.{is_continuation, Each, Stops}
 use Rattle.description_strftime.specs.Letters.{flag_of, letter_items, refused, day_number, year_number, time_number, unpadded, component_of, text_of, item_of, composite}
 use Rattle.description_strftime.specs.Reading.{character_len, past_flag, refusal, letter_at, conversion_at, strftime_step}
 use Rattle.description_strftime.specs.Spelled.{flag_text}
 use Rattle.description_strftime.specs.Faulty.{head, IsNoFlag, BadConversion}
 use Rattle.description_strftime.proofs.Flags.{at_index, flag_alone}
-use Rattle.description_words.proofs.Fronts.{run_again}
+use Rattle.description_lexer.proofs.Fronts.{run_again}
 use Rattle.description_strftime.proofs.Again.{conversion_again, percent_again}
 use Rattle.description_strftime.proofs.Refused.{failed, one_more}
 

@@ -2,11 +2,11 @@
 use Rattle.std.proofs.Common.{◌≡◌, ℕ, suc, ◌+◌, ◌<◌, ◌==◌, List, [], ◌∷◌, ◌++◌, length, Result, Ok, Err, true, false, refl, sym, ap, subst, ◌∙◌, arith}
 use Rattle.std.proofs.lemmas.List.{length-append, nil_from_length}
 use Rattle.std.proofs.lemmas.Bool.Decides.{nat_tests}
-use Rattle.description_faults.specs.Fault.{Fault}
+use Rattle.description_lexer.specs.Fault.{Fault}
 use Rattle.description_items.specs.Tree.{Tree}
-use Rattle.description_words.specs.Text.{Rest, whole}
-use Rattle.description_words.proofs.Readings.{bind_ok, ok_is, made_err, and_then_ok, and_then_err}
-use Rattle.description_words.proofs.Steps.{Steps, Failing, many_steps, many_failing, steps_many, steps_failing}
+use Rattle.description_lexer.specs.Text.{Rest, whole}
+use Rattle.description_lexer.proofs.Readings.{bind_ok, ok_is, made_err, and_then_ok, and_then_err}
+use Rattle.description_lexer.proofs.Steps.{Steps, Failing, many_steps, many_failing, steps_many, steps_failing}
 use Rattle.description_strftime.specs.Text.{joined}
 use Rattle.description_strftime.specs.Reading.{at_end, strftime_step, read_strftime}
 use Rattle.description_strftime.specs.Spelled.{SpellsFront, SpellsStrftime}

@@ -4,18 +4,18 @@ use Rattle.std.specs.Option.{ok_or}
 use Rattle.std.proofs.lemmas.List.{length-append, take-append-drop}
 use Rattle.std.proofs.lemmas.List.Folds.{length-prefix_len}
 use Rattle.std.proofs.lemmas.Bool.Decides.{nat_tests}
-use Rattle.byte_names.specs.Bytes.{percent}
+use Rattle.base.specs.Bytes.{percent}
 use Rattle.description_date_modifiers.specs.declared.choices.Padding.{Padding}
-use Rattle.description_faults.specs.Fault.{Fault}
+use Rattle.description_lexer.specs.Fault.{Fault}
 use Rattle.description_items.specs.Tree.{Tree, Literal}
-use Rattle.description_words.specs.Text.{Rest, after}
-use Rattle.description_words.proofs.Readings.{bind_ok, ok_is, not_ok, chosen}
+use Rattle.description_lexer.specs.Text.{Rest, after}
+use Rattle.description_lexer.proofs.Readings.{bind_ok, ok_is, not_ok, chosen}
 use Rattle.description_strftime.specs.Text.{is_plain}
 use Rattle.description_strftime.specs.Letters.{letter_items, refused}
 use Rattle.description_strftime.specs.Reading.{flag_at, past_flag, refusal, letter_at, conversion_at, plain_len, at_end, strftime_step}
 use Rattle.description_strftime.specs.Spelled.{flag_text, SpellsPart}
 use Rattle.description_strftime.proofs.Flags.{at_index, flag_takes, flag_index}
-use Rattle.description_words.proofs.Fronts.{each_run, stops_past, some_run}
+use Rattle.description_lexer.proofs.Fronts.{each_run, stops_past, some_run}
 
 ok_or_ok : {A : Type 0} (o : Option A) (fault : Fault) (y : A) → ok_or o fault ≡ Ok y → o ≡ Some y
 ok_or_ok (Some x) fault y e = ap (λ (z : _). Some z) (ok_is x y e)

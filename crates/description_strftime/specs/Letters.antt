@@ -1,7 +1,7 @@
 -- What the letters of strftime stand for: those of POSIX in its C locale, and the usual ones of GNU.
 use Rattle.std.specs.Prelude.{ℕ, ◌==◌, ◌||◌, Bool, true, false, List, [], ◌∷◌, map, Option, Some, None, if◌then◌else◌, codes}
 use Rattle.std.specs.Option.{option_map, option_or, unwrap_or}
-use Rattle.byte_names.specs.Bytes.{tab, line_feed, percent}
+use Rattle.base.specs.Bytes.{tab, line_feed, percent}
 use Rattle.description_date_modifiers.specs.declared.choices.Padding.{Padding}
 use Rattle.description_date_modifiers.specs.declared.choices.Padding.TheVariants as padding
 use Rattle.description_items.specs.declared.component.Component.{Component}

@@ -1,9 +1,9 @@
 -- What a call answers, beside the texts of strftime.
 use Rattle.std.specs.Prelude.{◌≡◌, ◌⊎◌, List, Result, Ok, Err, ℕ}
 use Rattle.std.specs.Global.{Vec}
-use Rattle.description_faults.specs.Fault.{Fault, fault_of}
-use Rattle.description_faults.specs.declared.description_fault.DescriptionFault.{DescriptionFault}
-use Rattle.description_faults.specs.declared.description_fault.DescriptionFault.TheVariants.{Description, Memory}
+use Rattle.description_lexer.specs.Fault.{Fault, fault_of}
+use Rattle.description_lexer.specs.declared.description_fault.DescriptionFault.{DescriptionFault}
+use Rattle.description_lexer.specs.declared.description_fault.DescriptionFault.TheVariants.{Description, Memory}
 use Rattle.description_items.specs.declared.item.BorrowedFormatItem.{BorrowedFormatItem}
 use Rattle.description_items.specs.Tree.{Tree, trees}
 use Rattle.description_strftime.specs.Spelled.{SpellsStrftime}

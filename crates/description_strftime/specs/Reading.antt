@@ -2,14 +2,14 @@
 use Rattle.std.specs.Prelude.{ℕ, suc, ◌+◌, ◌==◌, Bool, List, [], ◌∷◌, length, take, drop, Option, Some, None, Result, Ok, Err, if◌then◌else◌, codes}
 use Rattle.std.specs.List.{prefix_len}
 use Rattle.std.specs.Option.{ok_or}
-use Rattle.byte_names.specs.Bytes.{percent}
+use Rattle.base.specs.Bytes.{percent}
 use Rattle.description_date_modifiers.specs.declared.choices.Padding.{Padding}
-use Rattle.description_faults.specs.Fault.{Fault, InvalidComponentName, Expected, NotSupported}
-use Rattle.description_faults.specs.Answer.{◌>>=◌}
+use Rattle.description_lexer.specs.Fault.{Fault, InvalidComponentName, Expected, NotSupported}
+use Rattle.description_lexer.specs.Answer.{◌>>=◌}
 use Rattle.description_items.specs.Tree.{Tree, Literal}
-use Rattle.description_words.specs.Text.{Rest, after, whole}
-use Rattle.description_words.specs.Many.{many}
-use Rattle.description_words.specs.Words.{begins}
+use Rattle.description_lexer.specs.Text.{Rest, after, whole}
+use Rattle.description_lexer.specs.Many.{many}
+use Rattle.description_lexer.specs.Words.{begins}
 use Rattle.description_strftime.specs.Letters.{flag_of, letter_items, refused}
 use Rattle.description_strftime.specs.Text.{is_plain, is_continuation, joined}
 

@@ -1,6 +1,6 @@
 -- The texts of strftime: which items a text spells.
 use Rattle.std.specs.Prelude.{◌≡◌, ℕ, ◌<◌, List, [], ◌∷◌, ◌++◌, length, Option, Some, None, codes, ◌⊎◌}
-use Rattle.byte_names.specs.Bytes.{percent}
+use Rattle.base.specs.Bytes.{percent}
 use Rattle.description_date_modifiers.specs.declared.choices.Padding.{Padding}
 use Rattle.description_date_modifiers.specs.declared.choices.Padding.TheVariants as padding
 use Rattle.description_items.specs.Tree.{Tree, Literal}

@@ -1,8 +1,8 @@
 -- Bytes of a text of strftime, and lists of items.
 use Rattle.std.specs.Prelude.{ℕ, ◌==◌, ◌&&◌, not, nat_le, nat_lt, Bool, List, [], ◌∷◌, ◌++◌}
-use Rattle.byte_names.specs.Bytes.{percent}
+use Rattle.base.specs.Bytes.{percent}
 use Rattle.description_items.specs.Tree.{Tree}
-pub use Rattle.description_words.specs.Text.{Each, Stops}
+pub use Rattle.description_lexer.specs.Text.{Each, Stops}
 
 -- what a literal is made of: all but the percent sign
 abbrev pub is_plain : ℕ → Bool

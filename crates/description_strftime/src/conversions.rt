@@ -3,19 +3,18 @@
 ghost use Rattle.std.specs.Prelude.{◌≡◌, ◌<◌, true, IfOk, length};
 ghost use Rattle.std.specs.List.{prefix_len};
 ghost use Rattle.std.specs.Str.{IsCharBoundary};
-ghost use Rattle.description_faults.specs.Answer.{Answers};
-ghost use Rattle.description_faults.specs.Fault.{fault_of};
-ghost use Rattle.description_words.specs.Views.{rest_of};
+ghost use Rattle.description_lexer.specs.Answer.{Answers};
+ghost use Rattle.description_lexer.specs.Fault.{fault_of};
+ghost use Rattle.description_lexer.specs.Views.{rest_of};
 ghost use Rattle.description_strftime.specs.Letters.{refused};
 ghost use Rattle.description_strftime.specs.Text.{is_plain, is_continuation};
 ghost use Rattle.description_strftime.specs.Reading.{character_len, flag_at, past_flag, refusal, letter_at, conversion_at, plain_len, strftime_step};
 ghost use Rattle.description_strftime.specs.Views.{items_spelled, is_of_text_part};
 
 use crate::letters::{Spelled, flag_of, refused, spelled_by};
-use description_faults::InvalidFormatDescription;
 use description_items::BorrowedFormatItem;
 use description_items::modifier::Padding;
-use description_words::{Rest, begins, cut};
+use description_lexer::{InvalidFormatDescription, Rest, begins, cut};
 
 fn continuation_len(text: &[u8]) -> usize
     ensures value { result ≡ prefix_len is_continuation text.now }

@@ -1,11 +1,11 @@
 //! What holds of all descriptions by letters.
 
 ghost use Rattle.std.specs.Prelude.{ℕ, List, ◌++◌, length, codes};
-ghost use Rattle.description_faults.specs.Fault.{Fault};
+ghost use Rattle.description_lexer.specs.Fault.{Fault};
 ghost use Rattle.description_items.specs.Tree.{Tree};
 ghost use Rattle.description_strftime.specs.Composites.{SpellSame};
 ghost use Rattle.description_strftime.specs.Faulty.{FaultyStrftime};
-ghost use Rattle.description_faults.specs.Further.{further};
+ghost use Rattle.description_lexer.specs.Further.{further};
 ghost use Rattle.description_strftime.specs.Joined.{Joins};
 ghost use Rattle.description_strftime.specs.Spelled.{SpellsStrftime};
 

@@ -1,8 +1,8 @@
 //! Descriptions by letters.
 
 ghost use Rattle.std.specs.Prelude.{◌≡◌, true, List, Ok, Err, IfOk};
-ghost use Rattle.description_faults.specs.Answer.{Gives};
-ghost use Rattle.description_faults.specs.Fault.{Fault};
+ghost use Rattle.description_lexer.specs.Answer.{Gives};
+ghost use Rattle.description_lexer.specs.Fault.{Fault};
 ghost use Rattle.description_items.specs.Forms.{are_of_text};
 ghost use Rattle.description_items.specs.Tree.{Tree, trees};
 ghost use Rattle.description_strftime.specs.Reading.{read_strftime};
@@ -12,9 +12,8 @@ ghost use Rattle.description_strftime.specs.Outcomes.{IsOutcome};
 
 use crate::conversions::part;
 use crate::items::push_part;
-use description_faults::DescriptionFault;
 use description_items::BorrowedFormatItem;
-use description_words::whole_of;
+use description_lexer::{DescriptionFault, whole_of};
 use std::alloc::Global;
 
 /// The items of a description by the letters of strftime, or the first thing wrong with it.

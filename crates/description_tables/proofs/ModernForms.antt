@@ -20,7 +20,7 @@ use Rattle.std.specs.Option.{option_map, option_and_then}
 use Rattle.description_time_modifiers.specs.Ignored.{ignored}
 use Rattle.description_time_modifiers.specs.declared.ignore.Ignore.{Ignore}
 use Rattle.description_items.specs.Modern.{modern, modern_month, modern_weekday, modern_week_number, modern_year, modern_hour, modern_timestamp}
-use Rattle.description_words.specs.declared.version.DescriptionVersion.{DescriptionVersion}
+use Rattle.description_lexer.specs.declared.version.DescriptionVersion.{DescriptionVersion}
 use Rattle.description_tables.specs.declared.names.Name.{Name}
 use Rattle.description_tables.specs.declared.names.Name.TheVariants as name
 use Rattle.description_tables.specs.declared.chosen.Chosen.{Chosen}

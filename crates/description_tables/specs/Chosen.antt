@@ -1,7 +1,7 @@
 -- What modifiers have chosen, and which of them say anything.
 use Rattle.std.specs.Prelude.{ℕ, not, Bool, true, false, List, Option, Some, None}
 use Rattle.std.specs.Option.{option_map, is_some}
-use Rattle.description_words.specs.declared.version.DescriptionVersion.{DescriptionVersion}
+use Rattle.description_lexer.specs.declared.version.DescriptionVersion.{DescriptionVersion}
 use Rattle.description_tables.specs.declared.names.Name.{Name}
 use Rattle.description_tables.specs.declared.names.Name.TheVariants as name
 use Rattle.description_tables.specs.declared.keys.Key.{Key}

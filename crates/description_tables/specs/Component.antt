@@ -1,12 +1,12 @@
 -- Which component a name and its modifiers mean, or what is wrong with them first.
 use Rattle.std.specs.Prelude.{◌&&◌, not, List, [], ◌∷◌, Option, Some, None, Result, Ok, Err, if◌then◌else◌, codes}
-use Rattle.description_faults.specs.Fault.{Fault, InvalidComponentName, InvalidModifier, MissingRequiredModifier, DuplicateModifier, InvalidModifierCombination}
-use Rattle.description_faults.specs.Answer.{◌>>=◌}
+use Rattle.description_lexer.specs.Fault.{Fault, InvalidComponentName, InvalidModifier, MissingRequiredModifier, DuplicateModifier, InvalidModifierCombination}
+use Rattle.description_lexer.specs.Answer.{◌>>=◌}
 use Rattle.description_items.specs.declared.component.Component.{Component}
-use Rattle.description_words.specs.declared.version.DescriptionVersion.{DescriptionVersion}
-use Rattle.description_words.specs.Version.{is_three}
-use Rattle.description_words.specs.Text.{Rest}
-use Rattle.description_words.specs.Words.{Modifier}
+use Rattle.description_lexer.specs.declared.version.DescriptionVersion.{DescriptionVersion}
+use Rattle.description_lexer.specs.Version.{is_three}
+use Rattle.description_lexer.specs.Text.{Rest}
+use Rattle.description_lexer.specs.Words.{Modifier}
 use Rattle.description_tables.specs.declared.names.Name.{Name}
 use Rattle.description_tables.specs.declared.keys.Key.{Key}
 use Rattle.description_tables.specs.declared.chosen.Chosen.{Chosen}

@@ -1,7 +1,7 @@
 -- The names of components.
 use Rattle.std.specs.Prelude.{ℕ, List, Option, Some, None, if◌then◌else◌, codes}
-use Rattle.description_words.specs.declared.version.DescriptionVersion.{DescriptionVersion}
-use Rattle.description_words.specs.Words.{is_named}
+use Rattle.description_lexer.specs.declared.version.DescriptionVersion.{DescriptionVersion}
+use Rattle.description_lexer.specs.Words.{is_named}
 use Rattle.description_tables.specs.declared.names.Name.{Name}
 use Rattle.description_tables.specs.declared.names.Name.TheVariants as name
 

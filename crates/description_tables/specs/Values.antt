@@ -13,8 +13,8 @@ use Rattle.description_time_modifiers.specs.declared.choices.UnixTimestampPrecis
 use Rattle.description_time_modifiers.specs.declared.choices.UnixTimestampPrecision.TheVariants as unit
 use Rattle.description_time_modifiers.specs.declared.choices.TrailingInput.{TrailingInput}
 use Rattle.description_time_modifiers.specs.declared.choices.TrailingInput.TheVariants as trailing
-use Rattle.description_words.specs.declared.version.DescriptionVersion.{DescriptionVersion}
-use Rattle.description_words.specs.Words.{is_named}
+use Rattle.description_lexer.specs.declared.version.DescriptionVersion.{DescriptionVersion}
+use Rattle.description_lexer.specs.Words.{is_named}
 use Rattle.description_tables.specs.declared.names.Name.{Name}
 use Rattle.description_tables.specs.declared.names.Name.TheVariants as name
 use Rattle.description_tables.specs.declared.values.Repr.{Repr}

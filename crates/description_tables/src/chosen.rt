@@ -12,7 +12,7 @@ use crate::values::{
 use description_items::modifier::{
     Padding, SubsecondDigits, TrailingInput, UnixTimestampPrecision, YearRange,
 };
-use description_words::DescriptionVersion;
+use description_lexer::DescriptionVersion;
 
 /// The values chosen so far, by their keys.
 #[derive(Clone, Copy)]

@@ -1,9 +1,9 @@
 //! Components, from their names and modifiers.
 
 ghost use Rattle.std.specs.Prelude.{◌≡◌, IfOk};
-ghost use Rattle.description_faults.specs.Answer.{Answers};
+ghost use Rattle.description_lexer.specs.Answer.{Answers};
 ghost use Rattle.description_items.specs.Modern.{modern};
-ghost use Rattle.description_words.specs.Views.{rest_of, modifier, modifiers};
+ghost use Rattle.description_lexer.specs.Views.{rest_of, modifier, modifiers};
 ghost use Rattle.description_tables.specs.Component.{key_in, with_modifier, with_modifiers, combined, named, component_of};
 ghost use Rattle.description_tables.specs.Chosen.{nothing};
 
@@ -11,9 +11,8 @@ use crate::chosen::{Chosen, is_carried, is_chosen, nothing, with_value};
 use crate::keys::{Key, has_key, key_of};
 use crate::made::made;
 use crate::names::{Name, name_of, name_text};
-use description_faults::InvalidFormatDescription;
 use description_items::Component;
-use description_words::{DescriptionVersion, Modifier, Rest};
+use description_lexer::{DescriptionVersion, InvalidFormatDescription, Modifier, Rest};
 
 // The key that a word names, if the component has it.
 fn key_in<'a>(

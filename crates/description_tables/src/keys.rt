@@ -4,7 +4,7 @@ ghost use Rattle.std.specs.Prelude.{◌≡◌};
 ghost use Rattle.description_tables.specs.Keys.{key_of, has_key};
 
 use crate::names::Name;
-use description_words::{DescriptionVersion, is_named};
+use description_lexer::{DescriptionVersion, is_named};
 
 /// What a modifier is called.
 #[derive(Clone, Copy)]

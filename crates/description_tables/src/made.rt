@@ -12,7 +12,7 @@ use description_items::modifier::{
     self, MonthRepr, Padding, SubsecondDigits, TrailingInput, UnixTimestampPrecision,
     WeekNumberRepr, WeekdayRepr, YearRange, YearRepr,
 };
-use description_words::DescriptionVersion;
+use description_lexer::DescriptionVersion;
 
 fn month_repr(repr: Option<Repr>) -> MonthRepr
     ensures { result ≡ month_repr repr }

@@ -3,7 +3,7 @@
 ghost use Rattle.std.specs.Prelude.{◌≡◌};
 ghost use Rattle.description_tables.specs.Names.{name_of, time_name_of, name_text};
 
-use description_words::{DescriptionVersion, is_named};
+use description_lexer::{DescriptionVersion, is_named};
 
 /// What a component is called.
 #[derive(Clone, Copy)]

@@ -9,7 +9,7 @@ use crate::names::Name;
 use description_items::modifier::{
     Padding, SubsecondDigits, TrailingInput, UnixTimestampPrecision, YearRange,
 };
-use description_words::{DescriptionVersion, is_named};
+use description_lexer::{DescriptionVersion, is_named};
 
 /// What `repr` may say, of whatever component.
 #[derive(Clone, Copy)]

@@ -9,7 +9,7 @@ use description_items::modifier::{
     CalendarYearFullExtendedRange, Day, MonthNumerical, OffsetHour, OffsetMinute, Padding,
 };
 use description_items::{BorrowedFormatItem, Component};
-use description_words::{Modifier, modifiers_of, whole_of};
+use description_lexer::{Modifier, modifiers_of, whole_of};
 use std::alloc::{AllocError, Global};
 use std::test::Fail;
 

@@ -1,6 +1,6 @@
 //! Versions.
 
-use description_words::DescriptionVersion;
+use description_lexer::DescriptionVersion;
 
 pub const ONE: DescriptionVersion = DescriptionVersion::One;
 

@@ -1,8 +1,9 @@
 //! The words of a description.
 
 use crate::support::{ONE, THREE, TWO};
-use description_faults::InvalidFormatDescription;
-use description_words::{begins, closed, cut, name_of, past_space, whole_of};
+use description_lexer::{
+    InvalidFormatDescription, begins, closed, cut, name_of, past_space, whole_of,
+};
 
 fn versions_are_told_apart() -> bool {
     ONE.is_one() && !TWO.is_one() && THREE.is_three() && !TWO.is_three()

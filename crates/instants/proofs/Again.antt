@@ -13,7 +13,7 @@ use Rattle.instants_sources.specs.Named.{defaults_of, named}
 use Rattle.parsing_rfc3339.specs.Direct.{direct}
 use Rattle.parsing_rfc3339.proofs.FastLemmas.{moment_read}
 use Rattle.parsing_rfc3339.proofs.StrictLemmas.{strict_is_in_range}
-use Rattle.parsing_staged.specs.Staged.{reads_rfc3339}
+use Rattle.parsing_parsable.specs.Staged.{reads_rfc3339}
 use Rattle.parsing_laws.specs.TwoRoads.{AgreeOn}
 use Rattle.parsing_laws.proofs.Rfc3339.{agree}
 use Rattle.parsing_laws.specs.TwoFormats.{HoldsAtMostAnOffset}

@@ -3,7 +3,7 @@ use Rattle.std.proofs.Common.{◌≡◌, ℕ, lit<, ◌+◌, ◌/◌, ◌%◌, �
 use Rattle.std.specs.Prelude.{codes, if◌then◌else◌, ◌==◌}
 use Rattle.std.proofs.lemmas.Bool.Decides.{nat_tests}
 use Rattle.std.proofs.lemmas.List.{take_at, drop_at}
-use Rattle.byte_names.specs.Bytes.{digit_zero, dot, lower_z}
+use Rattle.base.specs.Bytes.{digit_zero, dot, lower_z}
 use Rattle.calendar_count.specs.Calendar.{YearMonthDay, day_at}
 use Rattle.datetime_wall.specs.Wall.{Shown, day_of, nanosecond_of, second_nanos}
 use Rattle.instants_answers.specs.Decimal.{decimal}

@@ -7,7 +7,7 @@ use Rattle.std.proofs.lemmas.Bool.Decides.{nat_tests}
 use Rattle.std.proofs.lemmas.List.{take_at, drop_at}
 use Rattle.std.proofs.lemmas.List.Folds.{prefix_len-append}
 use Rattle.std.proofs.lemmas.Int.Digits.{digits_value_push}
-use Rattle.byte_names.specs.Bytes.{digit_zero}
+use Rattle.base.specs.Bytes.{digit_zero}
 use Rattle.instants_answers.specs.Decimal.{decimal}
 use Rattle.instants_answers.proofs.Compares.{decimal_length, fits_next}
 use Rattle.parsing_combinator.specs.Pieces.{digits, digit_run, digit_count, fraction, nanoseconds_of}

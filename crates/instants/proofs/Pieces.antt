@@ -4,7 +4,7 @@ use Rattle.std.specs.Prelude.{codes, nat_le, nat_lt, if◌then◌else◌, ◌==�
 use Rattle.std.proofs.lemmas.Bool.Decides.{nat_tests}
 use Rattle.std.proofs.lemmas.Int.{ints}
 use Rattle.std.proofs.lemmas.List.{append-nil}
-use Rattle.byte_names.specs.Bytes.{plus, hyphen, colon, dot}
+use Rattle.base.specs.Bytes.{plus, hyphen, colon, dot}
 use Rattle.calendar_count.specs.Calendar.{YearMonthDay}
 use Rattle.calendar.specs.UtcOffset.{IsClockOffset}
 use Rattle.instants_answers.specs.Decimal.{decimal}

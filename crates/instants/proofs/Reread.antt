@@ -2,7 +2,7 @@
 use Rattle.std.proofs.Common.{◌≡◌, ◌≤◌, ℕ, List, [], ◌∷◌, ◌++◌, Option, Ok, false, length, inl, inr, refl, sym, ap, ◌∙◌, ℤ, arith}
 use Rattle.std.specs.Prelude.{nat_lt}
 use Rattle.std.proofs.lemmas.Bool.Decides.{nat_tests}
-use Rattle.byte_names.specs.Bytes.{line_feed}
+use Rattle.base.specs.Bytes.{line_feed}
 use Rattle.calendar.specs.UtcOffset.{IsClockOffset}
 use Rattle.datetime_wall.specs.Wall.{Shown, instant, shown_at}
 use Rattle.instants_answers.specs.Text.{moment_text}

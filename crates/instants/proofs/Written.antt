@@ -1,7 +1,7 @@
 -- Where the answer to a line stands in what is written for a stream.
 use Rattle.std.proofs.Common.{◌≡◌, ℕ, List, [], ◌∷◌, ◌++◌, refl, ap, ◌∙◌}
 use Rattle.std.proofs.lemmas.Grind.{flat_map-append}
-use Rattle.byte_names.specs.Bytes.{line_feed}
+use Rattle.base.specs.Bytes.{line_feed}
 use Rattle.datetime_wall.specs.Wall.{Shown}
 use Rattle.instants_stream.specs.Answers.{answered, output}
 use Rattle.instants.specs.Output.{IsAnsweredIn, written}

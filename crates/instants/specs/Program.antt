@@ -1,7 +1,7 @@
 -- What the program does between its words and its end.
 use Rattle.std.specs.Prelude.{◌≡◌, ℕ, Bool, false, Option, List, ⊤}
 use Rattle.std.specs.Io.KnownBytes.{Appends}
-use Rattle.instants_devices.specs.Told.{AppendsFront}
+use Rattle.instants_stream.specs.Told.{AppendsFront}
 use Rattle.instants_words.specs.declared.fault.WordsFault.TheVariants as words
 use Rattle.instants_words.specs.declared.words.Words.{Words}
 use Rattle.instants.specs.Place.{Setting}

@@ -4,8 +4,8 @@ use Rattle.std.specs.Fmt.{decimal}
 use Rattle.instants_words.specs.declared.fault.WordsFault.{WordsFault}
 use Rattle.instants_words.specs.declared.fault.WordsFault.TheVariants as words
 use Rattle.instants_stream.specs.declared.run.RunFault.TheVariants as run
-use Rattle.description_faults.specs.Fault.{fault_of}
-use Rattle.description_faults.specs.Sentence as description
+use Rattle.description_lexer.specs.Fault.{fault_of}
+use Rattle.description_lexer.specs.Sentence as description
 use Rattle.instants.specs.declared.new_fault.NewFault.{NewFault}
 use Rattle.instants.specs.declared.new_fault.NewFault.TheVariants as new
 use Rattle.instants.specs.declared.program_fault.ProgramFault.{ProgramFault}

@@ -1,7 +1,7 @@
 -- What a refused source is for a timeline.
 use Rattle.std.specs.Prelude.{ℕ}
-use Rattle.description_faults.specs.declared.description_fault.DescriptionFault.{DescriptionFault}
-use Rattle.description_faults.specs.declared.description_fault.DescriptionFault.TheVariants as description
+use Rattle.description_lexer.specs.declared.description_fault.DescriptionFault.{DescriptionFault}
+use Rattle.description_lexer.specs.declared.description_fault.DescriptionFault.TheVariants as description
 use Rattle.instants.specs.declared.new_fault.NewFault.{NewFault}
 use Rattle.instants.specs.declared.new_fault.NewFault.TheVariants as new
 

@@ -1,6 +1,6 @@
 -- The sources that are said, and what they mean.
 use Rattle.std.specs.Prelude.{◌≡◌, ℕ, ◌+◌, List, [], ◌∷◌, ◌++◌, length, ⊤}
-use Rattle.description_faults.specs.Fault.{Fault, fault_of}
+use Rattle.description_lexer.specs.Fault.{Fault, fault_of}
 use Rattle.instants_words.specs.Sources.{SourceSaid}
 use Rattle.instants_sources.specs.Grammar.{Grammar, Means, IsFaulty}
 use Rattle.instants.specs.declared.new_fault.NewFault.{NewFault}

@@ -2,7 +2,7 @@
 ghost use Rattle.std.specs.Prelude.{◌≡◌, ◌<◌, ◌≤◌, ◌↔◌, ℕ, List, [], ◌∷◌, ◌++◌, Option, Some, Ok, Err, length, ℤ, ◌+ℤ◌, ◌-ℤ◌, IsSome, IfSome};
 ghost use Rattle.std.specs.Ordering.{nat_cmp, int_cmp};
 ghost use Rattle.std.specs.Cmp.Lexicographic.{slice_cmp};
-ghost use Rattle.byte_names.specs.Bytes.{line_feed};
+ghost use Rattle.base.specs.Bytes.{line_feed};
 ghost use Rattle.calendar.specs.Duration.{IsDuration};
 ghost use Rattle.calendar.specs.UtcOffset.{IsClockOffset};
 ghost use Rattle.datetime_wall.specs.Wall.{Shown, instant, IsWallClock};

@@ -39,11 +39,11 @@ mod timeline;
 pub use instants_answers::{
     Answer, fits_line, fits_utc_line, rfc3339_line, utc_line_by_timestamp, utc_line_by_utc,
 };
-pub use instants_devices::{
-    BlockWriter, ByteReader, ByteWriter, CutReader, CutWriter, DeviceFailed, StdReader, StdWriter,
-};
 pub use instants_sources::{DescribedItems, DescribedTree, Source};
-pub use instants_stream::RunFault;
+pub use instants_stream::{
+    BlockWriter, ByteReader, ByteWriter, CutReader, CutWriter, DeviceFailed, RunFault, StdReader,
+    StdWriter,
+};
 pub use instants_words::{SourceText, Sources, Words, WordsFault, read_words};
 pub use line_fault::LineFault;
 pub use new_fault::NewFault;

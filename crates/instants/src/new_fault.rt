@@ -1,7 +1,7 @@
 //! Why no timeline could be made.
 ghost use Rattle.std.specs.Prelude.{◌≡◌};
 
-use description_faults::{DescriptionFault, InvalidFormatDescription};
+use description_lexer::{DescriptionFault, InvalidFormatDescription};
 use std::alloc::AllocError;
 
 /// Why no timeline could be made.

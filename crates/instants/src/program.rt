@@ -1,7 +1,7 @@
 //! The program between its words and its end.
 ghost use Rattle.std.specs.Prelude.{◌≡◌, ◌≢◌, ◌<◌, ◌↔◌, ℕ, false, true, List, [], length, map, Some, Ok, Err, IsOk, IsTrue, IfSome, IfErr, OnOk};
 ghost use Rattle.std.specs.Io.KnownBytes.{Consumes, Appends};
-ghost use Rattle.instants_devices.specs.Told.{ConsumesOrUntold, AppendsFront};
+ghost use Rattle.instants_stream.specs.Told.{ConsumesOrUntold, AppendsFront};
 ghost use Rattle.instants_stream.specs.Answers.{output, owed, due};
 ghost use Rattle.instants_words.specs.declared.fault.WordsFault.{WordsFault};
 ghost use Rattle.instants_words.specs.declared.words.Words.{Words};
@@ -15,8 +15,7 @@ ghost use Rattle.instants.specs.declared.new_fault.NewFault.{NewFault};
 use crate::program_fault::ProgramFault;
 use crate::runs::answer_lines;
 use crate::timeline::Timeline;
-use instants_devices::{ByteReader, ByteWriter};
-use instants_stream::RunFault;
+use instants_stream::{ByteReader, ByteWriter, RunFault};
 use instants_words::read_words;
 use std::alloc::Global;
 

@@ -1,15 +1,14 @@
 //! One answer for each line of a stream.
 ghost use Rattle.std.specs.Prelude.{◌≡◌, ◌-◌, ◌<◌, ◌≤◌, ◌↔◌, ℕ, true, false, List, [], length, Some, Err, IsTrue, IfSome, OnOk};
 ghost use Rattle.std.specs.Io.KnownBytes.{Consumes, Appends};
-ghost use Rattle.instants_devices.specs.Told.{ConsumesOrUntold, AppendsFront};
+ghost use Rattle.instants_stream.specs.Told.{ConsumesOrUntold, AppendsFront};
 ghost use Rattle.instants_stream.specs.Answers.{output, owed, due};
 ghost use Rattle.instants.specs.Place.{answer_to};
 ghost use Rattle.instants.specs.Settings.{setting_of};
 
 use crate::timeline::{Iso8601Way, Led, PlannedWay, Rfc2822Way, Rfc3339Way, Timeline};
-use instants_devices::{ByteReader, ByteWriter};
 use instants_sources::Source;
-use instants_stream::{RunFault, run_lines};
+use instants_stream::{ByteReader, ByteWriter, RunFault, run_lines};
 
 /// Writes the answer to each line that the reader gives, each followed by a line feed. The answers are handed on before
 /// each read, and the writer is flushed at the end.

@@ -3,7 +3,7 @@ use Rattle.std.proofs.Common.{◌≡◌, ℕ, suc, ◌+◌, ◌*◌, ◌/◌, �
 use Rattle.std.specs.Prelude.{IsTrue, int_div, unsigned_abs}
 use Rattle.std.proofs.lemmas.Bool.Decides.{nat_tests}
 use Rattle.std.proofs.lemmas.Int.{ints, quot-rem}
-use Rattle.byte_names.specs.Bytes.{colon, dot}
+use Rattle.base.specs.Bytes.{colon, dot}
 use Rattle.calendar.specs.UtcOffset.{IsClockOffset}
 use Rattle.calendar_clock.specs.TimeParts.{second_of_parts, nanosecond_of_parts}
 use Rattle.calendar_count.specs.Range.{IsCount}

@@ -1,6 +1,6 @@
 -- Decimal digits of fixed width.
 use Rattle.std.specs.Prelude.{ℕ, zero, suc, ◌+◌, ◌/◌, ◌%◌, List, [], ◌∷◌, ◌++◌}
-use Rattle.byte_names.specs.Bytes.{digit_zero}
+use Rattle.base.specs.Bytes.{digit_zero}
 
 -- the last digits of a number, as many as the width says, as bytes of ASCII
 unfoldable pub decimal : ℕ → ℕ → List ℕ

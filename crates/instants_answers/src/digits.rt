@@ -1,7 +1,7 @@
 //! Decimal digits of fixed width, added to an answer.
 
 ghost use Rattle.std.specs.Prelude.{◌≡◌, ◌+◌, ◌/◌, ◌%◌, ◌<◌, ◌≤◌, ◌++◌, length};
-ghost use Rattle.byte_names.specs.Bytes.{digit_zero};
+ghost use Rattle.base.specs.Bytes.{digit_zero};
 ghost use Rattle.instants_answers.specs.Decimal.{decimal};
 
 use crate::answer::Answer;

@@ -5,7 +5,7 @@
 #![tactic(auto)]
 
 ghost use Rattle.std.specs.Prelude.{◌≡◌, ◌≢◌, ◌<◌, ◌≤◌, ◌+◌, ◌*◌, ◌++◌, ◌==◌, ◌⊎◌, ℕ, List, length, take, drop, count_by, Ok};
-ghost use Rattle.byte_names.specs.Bytes.{line_feed};
+ghost use Rattle.base.specs.Bytes.{line_feed};
 ghost use Rattle.instants_stream.specs.Lines.{lines, parts};
 ghost use Rattle.instants_stream.specs.declared.run.RunFault.{RunFault};
 ghost use Rattle.instants_words.specs.declared.words.Words.{Words};

@@ -3,13 +3,13 @@ use Rattle.std.proofs.Common.{◌≡◌, ℕ, zero, suc, Bool, true, false, eqb,
 use Rattle.std.specs.Prelude.{codes, nat_le}
 use Rattle.std.specs.Char.{is_ascii_digit}
 use Rattle.std.specs.Result.{result_ok}
-use Rattle.byte_names.specs.Bytes.{hyphen}
+use Rattle.base.specs.Bytes.{hyphen}
 use Rattle.parsing_combinator.specs.Fault.{Fault, literal, component}
 use Rattle.parsing_combinator.specs.Pieces.{digits, digit_count, byte, skip_of}
 use Rattle.parsing_record.specs.Meaning.{Answer}
 use Rattle.parsing_record.specs.Record.{Record}
 use Rattle.parsing_rfc3339.specs.Reading as rfc3339
-use Rattle.parsing_staged.specs.Staged.{reads_rfc3339}
+use Rattle.parsing_parsable.specs.Staged.{reads_rfc3339}
 use Rattle.instants_found.specs.Front.{front_of}
 
 -- what is refused names nothing

@@ -4,7 +4,7 @@ use Rattle.std.specs.Prelude.{codes, option_map, if◌then◌else◌}
 use Rattle.std.specs.Result.{result_ok}
 use Rattle.std.specs.Char.{is_ascii_digit, is_ascii_alphanumeric, to_ascii_lowercase}
 use Rattle.std.proofs.lemmas.Bool.Decides.{nat_tests}
-use Rattle.byte_names.specs.Bytes.{plus, hyphen, upper_z}
+use Rattle.base.specs.Bytes.{plus, hyphen, upper_z}
 use Rattle.calendar_count.specs.declared.weekday.Weekday.{Weekday}
 use Rattle.description_items.specs.Tree.{Tree, listed}
 use Rattle.parsing_combinator.specs.Fault.{component}
@@ -22,7 +22,7 @@ use Rattle.parsing_record.specs.Record.{Record}
 use Rattle.parsing_rfc2822.specs.Reading as rfc2822
 use Rattle.parsing_rfc2822.specs.Names.{weekday, weekday_of}
 use Rattle.parsing_rfc2822.proofs.WhiteSpaceLemmas.{none_at}
-use Rattle.parsing_staged.specs.Staged.{reads_rfc2822, reads_iso8601}
+use Rattle.parsing_parsable.specs.Staged.{reads_rfc2822, reads_iso8601}
 use Rattle.instants_sources.specs.Grammar.{Items, V3, Rfc2822, Rfc3339, Iso8601}
 use Rattle.instants_sources.specs.Tried.{beginning}
 use Rattle.instants_sources.proofs.RuledOut.{part_due_of_nothing}

@@ -8,7 +8,7 @@ use Rattle.std.proofs.lemmas.Bool.{cases_lt}
 use Rattle.std.proofs.lemmas.Bool.Decides.{nat_tests}
 use Rattle.std.proofs.lemmas.List.{get_or-reverse, get_or_past, take_all}
 use Rattle.std.proofs.lemmas.List.Sums.{prefix_len_passes, suffix_len-le-length}
-use Rattle.byte_names.specs.Bytes.{dot}
+use Rattle.base.specs.Bytes.{dot}
 use Rattle.datetime_wall.specs.Wall.{Shown}
 use Rattle.parsing_combinator.specs.Fault.{Fault}
 use Rattle.parsing_components.specs.Component.{reads_component_v3}
@@ -18,8 +18,8 @@ use Rattle.parsing_record.specs.Record.{Record}
 use Rattle.parsing_record.specs.Whole.{starting, whole, all_read, names, moment_named, by_roads}
 use Rattle.parsing_rfc2822.specs.Direct as rfc2822
 use Rattle.parsing_rfc3339.specs.Direct as rfc3339
-use Rattle.parsing_staged.specs.Staged.{reads_rfc2822, reads_rfc3339, reads_iso8601}
-use Rattle.parsing_trait.specs.Moment.{reads_in_turn}
+use Rattle.parsing_parsable.specs.Staged.{reads_rfc2822, reads_rfc3339, reads_iso8601}
+use Rattle.parsing_parsable.specs.Moment.{reads_in_turn}
 use Rattle.parsing_laws.specs.TwoRoads.{AgreeOn}
 use Rattle.instants_sources.specs.Grammar.{Grammar, Items, V3, Rfc2822, Rfc3339, Iso8601}
 use Rattle.instants_sources.specs.Named.{defaults_of, named}

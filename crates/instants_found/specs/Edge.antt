@@ -1,7 +1,7 @@
 -- Where a date may begin or end in a line.
 use Rattle.std.specs.Prelude.{ℕ, ◌+◌, ◌-◌, ◌==◌, ◌&&◌, ◌||◌, not, nat_le, Bool, List, get_or, if◌then◌else◌}
 use Rattle.std.specs.Char.{is_ascii_digit, is_ascii_alphanumeric}
-use Rattle.byte_names.specs.Bytes.{dot}
+use Rattle.base.specs.Bytes.{dot}
 
 -- the byte that stands so far before a place, and 0 where the line has none there
 abbrev pub byte_before : List ℕ → ℕ → ℕ → ℕ

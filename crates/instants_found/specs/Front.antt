@@ -8,8 +8,8 @@ use Rattle.parsing_components.specs.Component.{reads_component_v3}
 use Rattle.parsing_record.specs.Meaning.{Answer, Meaning, meaning}
 use Rattle.parsing_record.specs.Reads.{reads}
 use Rattle.parsing_record.specs.Whole.{moment_named}
-use Rattle.parsing_staged.specs.Staged.{reads_rfc2822, reads_rfc3339, reads_iso8601}
-use Rattle.parsing_trait.specs.Moment.{reads_in_turn}
+use Rattle.parsing_parsable.specs.Staged.{reads_rfc2822, reads_rfc3339, reads_iso8601}
+use Rattle.parsing_parsable.specs.Moment.{reads_in_turn}
 use Rattle.instants_sources.specs.Grammar.{Grammar, Items, V3, Rfc2822, Rfc3339, Iso8601}
 use Rattle.instants_sources.specs.Tried.{beginning}
 

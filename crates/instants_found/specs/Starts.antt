@@ -2,7 +2,7 @@
 use Rattle.std.specs.Prelude.{◌≡◌, ◌<◌, ◌≤◌, ◌==◌, ◌||◌, ◌+◌, ◌/◌, ◌%◌, ℕ, Bool, true, false, not, List, get_or, Option, None, All, bit_and, ℤ, if◌then◌else◌}
 use Rattle.std.specs.Int.{bit_at}
 use Rattle.std.specs.Char.{is_ascii_digit, is_ascii_alphanumeric, to_ascii_lowercase}
-use Rattle.byte_names.specs.Bytes.{plus, hyphen, upper_z}
+use Rattle.base.specs.Bytes.{plus, hyphen, upper_z}
 use Rattle.instants_sources.specs.Grammar.{Grammar}
 use Rattle.instants_found.specs.Front.{front_named}
 use Rattle.instants_found.specs.Found.{at_place}

@@ -15,7 +15,7 @@ use calendar::UtcOffset;
 use datetime_types::OffsetDateTime;
 use description_items::{Iso8601, Rfc2822, Rfc3339};
 use instants_sources::{DescribedItems, DescribedTree, Source, starting};
-use parsing_trait::{Items, Parsable};
+use parsing_parsable::{Items, Parsable};
 
 // The moment of the record that a front of the bytes sets, and what stands behind it. The record lies here from the start,
 // so that it is not copied.

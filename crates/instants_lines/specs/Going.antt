@@ -1,6 +1,6 @@
 -- What is written for lines one after another.
 use Rattle.std.specs.Prelude.{ℕ, List, [], ◌∷◌, ◌++◌, Option, None, Some, codes}
-use Rattle.byte_names.specs.Bytes.{tab, line_feed}
+use Rattle.base.specs.Bytes.{tab, line_feed}
 use Rattle.instants_stream.specs.Steps.{Steps}
 use Rattle.instants.specs.Place.{Setting}
 use Rattle.instants_lines.specs.Dates.{date_in, key_or, replaced}

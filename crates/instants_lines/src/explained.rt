@@ -1,8 +1,8 @@
 //! What the sources say of a line, each of which reads it as a whole.
 ghost use Rattle.std.specs.Prelude.{◌≡◌, ◌<◌, ◌≤◌, ◌+◌, [], ◌∷◌, ◌++◌, length, map, true, false, decimal, option_map, OnOk, OnErr};
 ghost use Rattle.std.specs.Io.KnownBytes.{Appends};
-ghost use Rattle.byte_names.specs.Bytes.{tab, line_feed};
-ghost use Rattle.instants_devices.specs.Told.{AppendsFront};
+ghost use Rattle.base.specs.Bytes.{tab, line_feed};
+ghost use Rattle.instants_stream.specs.Told.{AppendsFront};
 ghost use Rattle.instants_sources.specs.Grammar.{grammar_of};
 ghost use Rattle.instants_lines.specs.Showing.{setting_in};
 ghost use Rattle.instants_lines.specs.Explained.{text_by, said_by, answer_by, first_answer, parted, all_said, explained};
@@ -10,8 +10,8 @@ ghost use Rattle.instants_lines.specs.Explained.{text_by, said_by, answer_by, fi
 use crate::date_sources::DateSources;
 use crate::parts::{write_parts, write_three};
 use instants_answers::Answer;
-use instants_devices::{ByteWriter, DeviceFailed};
 use instants_sources::Source;
+use instants_stream::{ByteWriter, DeviceFailed};
 
 // Adds a number in decimal.
 #[tactic(auto, using(crate::proofs::Decimals::decimal_steps))]

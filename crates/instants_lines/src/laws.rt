@@ -2,7 +2,7 @@
 ghost use Rattle.std.specs.Prelude.{◌≡◌, ◌<◌, ◌≤◌, ◌↔◌, ◌⊎◌, ◌+◌, ℕ, true, List, [], ◌∷◌, ◌++◌, Some, None, Ok, Err, length, take, drop, decimal, IsOk};
 ghost use Rattle.std.specs.Ordering.{nat_cmp, int_cmp};
 ghost use Rattle.std.specs.Cmp.Lexicographic.{slice_cmp};
-ghost use Rattle.byte_names.specs.Bytes.{tab, line_feed};
+ghost use Rattle.base.specs.Bytes.{tab, line_feed};
 ghost use Rattle.datetime_wall.specs.Wall.{Shown, instant};
 ghost use Rattle.instants_answers.specs.Text.{moment_text};
 ghost use Rattle.instants_found.specs.declared.found.Found.{Found};

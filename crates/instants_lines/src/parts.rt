@@ -1,10 +1,10 @@
 //! Parts of a line, written one behind the other.
 ghost use Rattle.std.specs.Prelude.{◌≡◌, [], ◌∷◌, ◌++◌, true, false, OnOk, OnErr};
 ghost use Rattle.std.specs.Io.KnownBytes.{Appends};
-ghost use Rattle.byte_names.specs.Bytes.{line_feed};
-ghost use Rattle.instants_devices.specs.Told.{AppendsFront};
+ghost use Rattle.base.specs.Bytes.{line_feed};
+ghost use Rattle.instants_stream.specs.Told.{AppendsFront};
 
-use instants_devices::{ByteWriter, DeviceFailed};
+use instants_stream::{ByteWriter, DeviceFailed};
 
 /// Writes two parts.
 #[inline(always)]

@@ -1,7 +1,7 @@
 //! The program between its words and its end.
 ghost use Rattle.std.specs.Prelude.{◌≡◌, ◌≢◌, ◌<◌, ◌↔◌, ℕ, false, true, List, [], length, map, Some, Ok, Err, IsOk, IsTrue, IfSome, IfErr, OnOk};
 ghost use Rattle.std.specs.Io.KnownBytes.{Consumes, Appends};
-ghost use Rattle.instants_devices.specs.Told.{ConsumesOrUntold, AppendsFront};
+ghost use Rattle.instants_stream.specs.Told.{ConsumesOrUntold, AppendsFront};
 ghost use Rattle.instants_stream.specs.Steps.{output, owed, due};
 ghost use Rattle.instants_words.specs.declared.words.Words.{Words};
 ghost use Rattle.instants.specs.Program.{WritesWhileItWorks};

@@ -1,7 +1,7 @@
 -- Words ask for one setting.
 use Rattle.std.proofs.Common.{◌≡◌, ℕ, false, Option, List, [], ◌∷◌, ℤ, refl, sym, ap, subst, ◌∙◌}
 use Rattle.description_items.specs.Tree.{Tree, Literal, Part, Compound, Optional, First, Trees}
-use Rattle.description_words.specs.declared.version.DescriptionVersion.TheVariants.{One, Two, Three}
+use Rattle.description_lexer.specs.declared.version.DescriptionVersion.TheVariants.{One, Two, Three}
 use Rattle.description_grammar.specs.Outcomes.{joined}
 use Rattle.description_grammar.specs.Spelling.{SpellsItems, Spells, SpellsTree}
 use Rattle.description_grammar.proofs.ItemsComplete.{unlisted, listed_again}

@@ -34,8 +34,8 @@ use Rattle.parsing_rfc2822.specs.Direct as rfc2822
 use Rattle.parsing_rfc2822.proofs.TameLemmas as rfc2822_lemmas
 use Rattle.parsing_rfc3339.specs.Direct as rfc3339
 use Rattle.parsing_rfc3339.proofs.TameLemmas as rfc3339_lemmas
-use Rattle.parsing_trait.specs.Moment.{reads_in_turn}
-use Rattle.parsing_staged.specs.Staged.{reads_rfc2822, reads_rfc3339, reads_iso8601}
+use Rattle.parsing_parsable.specs.Moment.{reads_in_turn}
+use Rattle.parsing_parsable.specs.Staged.{reads_rfc2822, reads_rfc3339, reads_iso8601}
 use Rattle.parsing_values.specs.NamedDate.{in_range, named_by, named_date}
 use Rattle.parsing_values.specs.NamedMoment.{◌>>=◌, named_wall, dated_moment, moment_by, named_moment, unix_subsecond}
 use Rattle.parsing_values.specs.NamedTime.{named_time, named_offset}

@@ -1,7 +1,7 @@
 //! The answers to lines that stand in memory.
 ghost use Rattle.std.specs.Prelude.{◌≡◌, ◌≢◌, ◌<◌, ◌≤◌, ◌*◌, ◌++◌, ◌↔◌, List, [], ℕ, map, length, take, drop, Some, Ok, Err, true, false, IsTrue, IsOk, IfOk, IfErr, IfSome, OnOk};
 ghost use Rattle.std.specs.Io.KnownBytes.{Consumes, Appends};
-ghost use Rattle.instants_devices.specs.Told.{AppendsFront};
+ghost use Rattle.instants_stream.specs.Told.{AppendsFront};
 ghost use Rattle.instants_stream.specs.Answers.{output, due};
 ghost use Rattle.instants_stream.specs.Lines.{lines};
 ghost use Rattle.instants_stream.specs.declared.run.RunFault.{RunFault};

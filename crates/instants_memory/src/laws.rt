@@ -1,6 +1,6 @@
 //! What follows for calls over the blocks of an input.
 ghost use Rattle.std.specs.Prelude.{◌≡◌, ◌⊎◌, ◌∷◌, ◌++◌, [], ℕ, List};
-ghost use Rattle.byte_names.specs.Bytes.{line_feed};
+ghost use Rattle.base.specs.Bytes.{line_feed};
 ghost use Rattle.instants_memory.specs.OutputFor.{IsOutputFor};
 
 /// Words and an input have one output.

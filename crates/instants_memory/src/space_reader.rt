@@ -1,7 +1,7 @@
 //! A reader over lent bytes.
 ghost use Rattle.std.specs.Prelude.{Some, length, false};
 
-use instants_devices::{ByteReader, DeviceFailed};
+use instants_stream::{ByteReader, DeviceFailed};
 
 /// Reads lent bytes, and never fails.
 #[derive(Drop)]

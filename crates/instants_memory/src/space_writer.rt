@@ -2,7 +2,7 @@
 ghost use Rattle.std.specs.Prelude.{◌≡◌, ◌+◌, ◌<◌, ◌≤◌, ◌++◌, ℕ, List, [], Some, length, take, drop, true, false};
 ghost use Rattle.instants_memory.specs.Filled.{filled};
 
-use instants_devices::{ByteWriter, DeviceFailed};
+use instants_stream::{ByteWriter, DeviceFailed};
 use std::marker::{Brand, PhantomData};
 
 /// Lent memory: what it held before, and the reference to it.

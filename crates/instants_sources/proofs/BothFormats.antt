@@ -6,7 +6,7 @@ use Rattle.std.proofs.lemmas.Bool.{cases_lt}
 use Rattle.std.proofs.lemmas.List.{drop-drop, get_or-drop, length-drop}
 use Rattle.std.proofs.lemmas.List.Folds.{length-prefix_len}
 use Rattle.std.proofs.lemmas.List.Sums.{prefix_len_passes}
-use Rattle.byte_names.specs.Bytes.{dot}
+use Rattle.base.specs.Bytes.{dot}
 use Rattle.datetime_wall.specs.Wall.{Shown}
 use Rattle.parsing_fields.specs.Moment.{moment_of}
 use Rattle.parsing_fields.specs.declared.fields.Fields.{Fields}
@@ -16,7 +16,7 @@ use Rattle.parsing_iso8601.proofs.Rounding.{none_left}
 use Rattle.parsing_record.specs.Record.{Record}
 use Rattle.parsing_record.specs.Whole.{by_roads}
 use Rattle.parsing_rfc3339.specs.Direct.{direct}
-use Rattle.parsing_staged.specs.Staged.{reads_rfc3339}
+use Rattle.parsing_parsable.specs.Staged.{reads_rfc3339}
 use Rattle.parsing_laws.specs.TwoFormats.{digits_behind, fraction_of, rounds_up, is_of_both, HoldsAtMostAnOffset, IsReadAlike}
 use Rattle.instants_sources.specs.Grammar.{Rfc3339, Iso8601}
 use Rattle.instants_sources.specs.Named.{defaults_of, named}

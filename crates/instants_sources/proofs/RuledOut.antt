@@ -6,13 +6,13 @@ use Rattle.std.specs.Char.{is_ascii_digit, to_ascii_lowercase}
 use Rattle.std.proofs.lemmas.Bool.{le-leb}
 use Rattle.std.proofs.lemmas.Bool.Decides.{nat_tests}
 use Rattle.calendar_count.specs.declared.weekday.Weekday.{Weekday}
-use Rattle.byte_names.specs.Bytes.{hyphen, plus}
+use Rattle.base.specs.Bytes.{hyphen, plus}
 use Rattle.parsing_combinator.specs.Fault.{Fault, literal, component}
 use Rattle.parsing_combinator.specs.Pieces.{digits, digit_count, byte, byte_of, skip_of}
 use Rattle.parsing_combinator.proofs.Decimal.{digit_here}
 use Rattle.parsing_combinator.proofs.Fixed.{digits_one, digits_two, some_if}
 use Rattle.parsing_record.specs.Record.{Record}
-use Rattle.parsing_staged.specs.Staged.{reads_iso8601}
+use Rattle.parsing_parsable.specs.Staged.{reads_iso8601}
 use Rattle.parsing_iso8601.specs.declared.kind.Kind.TheVariants.{Unknown}
 use Rattle.parsing_iso8601.specs.Reading as iso8601
 use Rattle.parsing_iso8601.specs.Dates as iso8601_dates

@@ -1,16 +1,16 @@
 -- What the sources of lines read by.
 use Rattle.std.specs.Prelude.{◌≡◌, ℕ, List, ⊤}
-use Rattle.description_faults.specs.Fault.{Fault, fault_of}
-use Rattle.description_faults.specs.declared.description_fault.DescriptionFault.{DescriptionFault}
-use Rattle.description_faults.specs.declared.description_fault.DescriptionFault.TheVariants as refused
+use Rattle.description_lexer.specs.Fault.{Fault, fault_of}
+use Rattle.description_lexer.specs.declared.description_fault.DescriptionFault.{DescriptionFault}
+use Rattle.description_lexer.specs.declared.description_fault.DescriptionFault.TheVariants as refused
 use Rattle.description_items.specs.Tree.{Tree, trees}
 use Rattle.description_grammar.specs.Faulty.{Faulty}
 use Rattle.description_grammar.specs.Spelling.{Spells, SpellsTree}
 use Rattle.description_strftime.specs.Faulty.{FaultyStrftime}
 use Rattle.description_strftime.specs.Spelled.{SpellsStrftime}
 use Rattle.description_tree.specs.Description.{v3_tree}
-use Rattle.description_words.specs.declared.version.DescriptionVersion.{DescriptionVersion}
-use Rattle.description_words.specs.declared.version.DescriptionVersion.TheVariants.{One, Two, Three}
+use Rattle.description_lexer.specs.declared.version.DescriptionVersion.{DescriptionVersion}
+use Rattle.description_lexer.specs.declared.version.DescriptionVersion.TheVariants.{One, Two, Three}
 use Rattle.instants_words.specs.Sources.{SourceSaid}
 use Rattle.instants_words.specs.Sources as said
 use Rattle.instants_sources.specs.declared.source.Source.{Source}

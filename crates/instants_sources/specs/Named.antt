@@ -10,8 +10,8 @@ use Rattle.parsing_record.specs.Record.{Record}
 use Rattle.parsing_record.specs.Whole.{whole, names, moment_named, by_roads}
 use Rattle.parsing_rfc2822.specs.Direct as rfc2822
 use Rattle.parsing_rfc3339.specs.Direct as rfc3339
-use Rattle.parsing_staged.specs.Staged.{reads_rfc2822, reads_rfc3339, reads_iso8601}
-use Rattle.parsing_trait.specs.Moment.{reads_in_turn}
+use Rattle.parsing_parsable.specs.Staged.{reads_rfc2822, reads_rfc3339, reads_iso8601}
+use Rattle.parsing_parsable.specs.Moment.{reads_in_turn}
 use Rattle.parsing_laws.specs.TwoRoads.{holding}
 use Rattle.instants_sources.specs.Grammar.{Grammar, Items, V3, Rfc2822, Rfc3339, Iso8601}
 

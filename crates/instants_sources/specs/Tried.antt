@@ -1,7 +1,7 @@
 -- How many places a source has, and how many of them a reading of a line begins.
 use Rattle.std.specs.Prelude.{ℕ, List, Option, ℤ}
 use Rattle.description_items.specs.Tree.{listed}
-use Rattle.description_laws.specs.Laws.{nodes, all_nodes}
+use Rattle.description.specs.Laws.{nodes, all_nodes}
 use Rattle.parsing_components.specs.Component.{reads_component, reads_component_v3}
 use Rattle.parsing_record.specs.Reads.{tried, tried_in_all}
 use Rattle.parsing_record.specs.Record.{Record}

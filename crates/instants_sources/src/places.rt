@@ -7,7 +7,7 @@ ghost use Rattle.instants_sources.specs.Tried.{places_in, tried_by};
 use crate::source::{Source, starting};
 use calendar::UtcOffset;
 use parsing_laws::{places_of_description, places_of_items};
-use parsing_trait::{Items, Parsable};
+use parsing_parsable::{Items, Parsable};
 
 impl Source<'_> {
     /// How many places the source has: all nodes of what it reads by; a well-known format is one. Where they are more

@@ -4,7 +4,7 @@ ghost use Rattle.std.specs.Result.{result_ok};
 ghost use Rattle.parsing_record.specs.Record.{Record};
 ghost use Rattle.parsing_rfc2822.specs.Direct as rfc2822;
 ghost use Rattle.parsing_rfc3339.specs.Direct as rfc3339;
-ghost use Rattle.parsing_staged.specs.Staged.{reads_iso8601};
+ghost use Rattle.parsing_parsable.specs.Staged.{reads_iso8601};
 
 /// Whether a line has no hyphen behind its first four bytes, so that RFC 3339 names no moment for it.
 #[inline(always)]

@@ -18,8 +18,8 @@ use description::{
 use description_items::{Iso8601, Rfc2822, Rfc3339};
 use instants_words::SourceText;
 use parsing_combinator::Parse;
+use parsing_parsable::{Items, Parsable};
 use parsing_record::Parsed;
-use parsing_trait::{Items, Parsable};
 use std::alloc::Global;
 
 /// One way to write a date-time.

@@ -6,3 +6,5 @@ pub mod ReadSteps
 pub mod Pending
 pub mod Searched
 pub mod EachAnswered
+pub mod Gathering
+pub mod Told

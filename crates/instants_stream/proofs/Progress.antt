@@ -4,11 +4,11 @@ use Rattle.std.specs.Io.KnownBytes.{Consumes, Appends, IsAtEnd, Keeps}
 use Rattle.std.proofs.KnownBytes.{Consumes-nil, Consumes-trans, Appends-nil, Appends-trans, Appends-kept}
 use Rattle.instants_stream.specs.Lines.{last_part, whole_lines}
 use Rattle.instants_stream.specs.Steps.{Steps, seen_as, seen, written, behind, output, owed, due}
-use Rattle.instants_devices.specs.Told.{StaysOrUntold, AppendsFront}
+use Rattle.instants_stream.specs.Told.{StaysOrUntold, AppendsFront}
 use Rattle.instants_stream.proofs.Lines.{whole_lines_none, last_part_of_none}
 use Rattle.instants_stream.proofs.Seen.{seen-kept}
 use Rattle.instants_stream.proofs.Written.{written-none, behind-none, output_at_end, output_with_rest, output_extends}
-use Rattle.instants_devices.proofs.Told.{AppendsFront-after, AppendsFront-more, AppendsFront-stays}
+use Rattle.instants_stream.proofs.Told.{AppendsFront-after, AppendsFront-more, AppendsFront-stays}
 
 -- A run has read these bytes and written what is owed for them. Of the unfinished line it holds all
 -- bytes, or knows that there are more than the limit.

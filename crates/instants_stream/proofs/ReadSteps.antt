@@ -4,11 +4,11 @@ use Rattle.std.specs.Io.KnownBytes.{Consumes, Appends}
 use Rattle.std.proofs.KnownBytes.{Consumes-trans, Appends-trans}
 use Rattle.instants_stream.specs.Lines.{HasNoLineFeed, parts, but_last, last, whole_lines, last_part}
 use Rattle.instants_stream.specs.Steps.{Steps, seen, seen_after, written, behind, owed}
-use Rattle.instants_devices.specs.Told.{AppendsFront}
+use Rattle.instants_stream.specs.Told.{AppendsFront}
 use Rattle.instants_stream.proofs.Lines.{glue, glue-cons, parts_joined, parts_glued, parts_nonempty, last-append_nonempty, glue_some}
 use Rattle.instants_stream.proofs.Seen.{seen-more}
 use Rattle.instants_stream.proofs.Written.{written-append, behind-append}
-use Rattle.instants_devices.proofs.Told.{AppendsFront-after}
+use Rattle.instants_stream.proofs.Told.{AppendsFront-after}
 use Rattle.instants_stream.proofs.Progress.{Progress, Fails, due_from_owed}
 
 -- a part that is put in front leaves the other parts

@@ -1,6 +1,6 @@
 -- Lines that are answered each by itself, so that nothing is kept of one for the next.
 use Rattle.std.specs.Prelude.{ℕ, Option, None, Some, List, [], ◌∷◌, ◌++◌, codes}
-use Rattle.byte_names.specs.Bytes.{line_feed}
+use Rattle.base.specs.Bytes.{line_feed}
 use Rattle.instants_stream.specs.Steps.{Steps}
 
 -- the answer to a line as it is seen, or that it is too long, and a line feed

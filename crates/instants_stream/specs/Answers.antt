@@ -1,7 +1,7 @@
 -- What is written for a stream of bytes. The answer to a line is a function of its bytes.
 use Rattle.std.specs.Prelude.{ℕ, Bool, Option, None, Some, List, [], ◌∷◌, ◌++◌, length, nat_lt, if◌then◌else◌, codes}
 use Rattle.std.specs.List.{flat_map}
-use Rattle.byte_names.specs.Bytes.{line_feed}
+use Rattle.base.specs.Bytes.{line_feed}
 use Rattle.instants_stream.specs.Lines.{lines, whole_lines}
 
 -- the answer to a line, or that it is too long, and a line feed

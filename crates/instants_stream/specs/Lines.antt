@@ -1,7 +1,7 @@
 -- The lines of a stream of bytes.
 use Rattle.std.specs.Prelude.{◌≡◌, ℕ, false, List, [], ◌∷◌, ◌++◌, ◌==◌}
 use Rattle.std.specs.List.{All, slice_split}
-use Rattle.byte_names.specs.Bytes.{line_feed}
+use Rattle.base.specs.Bytes.{line_feed}
 
 -- the lists but the last
 abbrev pub but_last : List (List ℕ) → List (List ℕ)

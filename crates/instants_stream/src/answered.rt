@@ -1,16 +1,16 @@
 //! The run where each line is answered by itself.
 ghost use Rattle.std.specs.Prelude.{◌≡◌, ◌<◌, ◌≤◌, ◌↔◌, ℕ, true, false, List, [], ◌∷◌, ◌++◌, codes, length, Some, Err, IsTrue, IfSome, OnOk, OnErr};
 ghost use Rattle.std.specs.Io.KnownBytes.{Consumes, Appends};
-ghost use Rattle.byte_names.specs.Bytes.{line_feed};
-ghost use Rattle.instants_devices.specs.Told.{ConsumesOrUntold, AppendsFront};
+ghost use Rattle.base.specs.Bytes.{line_feed};
+ghost use Rattle.instants_stream.specs.Told.{ConsumesOrUntold, AppendsFront};
 ghost use Rattle.instants_stream.specs.Answers.{output, owed, due, answer_or_long};
 
 use crate::answers_lines::AnswersLines;
+use crate::devices::{ByteReader, ByteWriter, DeviceFailed};
 use crate::run::{RunFault, write_lines};
 use crate::search::LINE_FEED;
 use crate::writes_lines::WritesLines;
 use instants_answers::Answer;
-use instants_devices::{ByteReader, ByteWriter, DeviceFailed};
 
 // Writes that a line is too long, and a line feed.
 #[cold]

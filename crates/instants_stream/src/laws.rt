@@ -1,7 +1,7 @@
 //! Laws of the definitions.
 
 ghost use Rattle.std.specs.Prelude.{◌≡◌, ◌++◌, ◌⊎◌, ◌∷◌, [], ℕ, List};
-ghost use Rattle.byte_names.specs.Bytes.{line_feed};
+ghost use Rattle.base.specs.Bytes.{line_feed};
 ghost use Rattle.instants_stream.specs.Answers.{output};
 
 /// Where the first stream is empty or ends in a line feed, the output of two streams joined is their outputs joined,

@@ -1,13 +1,13 @@
 //! The run over a stream, whole lines lent out of one buffer.
 ghost use Rattle.std.specs.Prelude.{◌≡◌, ◌<◌, ◌≤◌, ◌↔◌, ℕ, true, false, List, [], length, take, drop, Some, Err, IsTrue, IfSome, IfOk, OnOk, OnErr};
 ghost use Rattle.std.specs.Io.KnownBytes.{Consumes, Appends};
-ghost use Rattle.instants_devices.specs.Told.{ConsumesOrUntold, AppendsFront};
+ghost use Rattle.instants_stream.specs.Told.{ConsumesOrUntold, AppendsFront};
 ghost use Rattle.instants_stream.specs.Lines.{HasNoLineFeed, whole_lines, last_part};
 ghost use Rattle.instants_stream.specs.Steps.{written, behind, output, owed, due, seen_after};
 
+use crate::devices::{ByteReader, ByteWriter, DeviceFailed};
 use crate::search::line_len;
 use crate::writes_lines::WritesLines;
-use instants_devices::{ByteReader, ByteWriter, DeviceFailed};
 
 /// Which device ended a run.
 #[derive(Clone, Copy, Debug, PartialEq, Eq)]

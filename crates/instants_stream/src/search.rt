@@ -1,7 +1,7 @@
 //! The search for a line feed, which looks at each byte once, 16 of them at a time.
 
 ghost use Rattle.std.specs.Prelude.{◌≡◌, ◌<◌, ◌≤◌, length, take, slice_index, IfSome, IfNone};
-ghost use Rattle.byte_names.specs.Bytes.{line_feed};
+ghost use Rattle.base.specs.Bytes.{line_feed};
 ghost use Rattle.instants_stream.specs.Lines.{HasNoLineFeed};
 
 use std::simd::prelude::*;

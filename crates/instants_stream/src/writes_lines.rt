@@ -1,10 +1,10 @@
 //! What writes for lines.
 ghost use Rattle.std.specs.Prelude.{◌≡◌, true, false, OnOk, OnErr};
 ghost use Rattle.std.specs.Io.KnownBytes.{Appends};
-ghost use Rattle.instants_devices.specs.Told.{AppendsFront};
+ghost use Rattle.instants_stream.specs.Told.{AppendsFront};
 ghost use Rattle.instants_stream.specs.Steps.{Steps, seen_as};
 
-use instants_devices::{ByteWriter, DeviceFailed};
+use crate::devices::{ByteWriter, DeviceFailed};
 
 /// What writes for each line of a stream, and may keep something of it for the lines below.
 pub trait WritesLines {

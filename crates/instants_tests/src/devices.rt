@@ -1,6 +1,6 @@
 //! The devices at work: what they move, when they fail, and what they then hold.
 
-use instants_devices::{
+use instants_stream::{
     ByteReader, ByteWriter, CutReader, CutWriter, DeviceFailed, StdReader, StdWriter,
 };
 use std::alloc::Global;

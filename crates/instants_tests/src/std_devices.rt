@@ -1,6 +1,6 @@
 //! Devices of std that fail once and work again, behind ours: how often they are called.
 
-use instants_devices::{ByteReader, ByteWriter, DeviceFailed, StdReader, StdWriter};
+use instants_stream::{ByteReader, ByteWriter, DeviceFailed, StdReader, StdWriter};
 use std::io::{Error, ErrorKind, Read, Result as IoResult, Write};
 
 // A device of std whose call at one place fails once. It gives and takes so many bytes a call.

@@ -2,8 +2,7 @@
 
 use crate::support::{Counting, End, Full, OUTPUT, STREAM, end_of, wanted_end, written_before};
 use instants_answers::Answer;
-use instants_devices::{CutReader, CutWriter, StdWriter};
-use instants_stream::{AnswersLines, RunFault, run_lines};
+use instants_stream::{AnswersLines, CutReader, CutWriter, RunFault, StdWriter, run_lines};
 
 // Answers each long line with a date-time, and each short one with a refusal.
 #[derive(Drop)]

@@ -4,7 +4,7 @@ use Rattle.std.specs.Char.{is_ascii_digit}
 use Rattle.std.specs.List.{list_all}
 use Rattle.std.specs.Str.{bytes_eq}
 use Rattle.std.specs.Str.Parse.{digits_value}
-use Rattle.byte_names.specs.Bytes.{plus, hyphen, colon}
+use Rattle.base.specs.Bytes.{plus, hyphen, colon}
 
 -- a number from one to another that digits write, at most so many
 unfoldable pub number_said : ℕ → ℕ → ℕ → List ℕ → Option ℕ

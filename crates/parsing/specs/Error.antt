@@ -1,8 +1,8 @@
 -- Any refusal, and its text.
 use Rattle.std.specs.Prelude.{ℕ, List, codes}
 use Rattle.calendar_count.specs.ComponentRange.{range_text}
-use Rattle.description_faults.specs.Sentence.{sentence}
-use Rattle.description_faults.specs.Fault.{fault_of}
+use Rattle.description_lexer.specs.Sentence.{sentence}
+use Rattle.description_lexer.specs.Fault.{fault_of}
 use Rattle.parsing_combinator.specs.FaultOf.{reading_fault, resolution_fault}
 use Rattle.parsing_combinator.specs.FaultText.{fault_text}
 use Rattle.parsing_combinator.specs.declared.fault.Parse.{Parse}

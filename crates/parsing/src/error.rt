@@ -1,12 +1,12 @@
 //! Any refusal of this library but want of memory.
 ghost use Rattle.std.specs.Prelude.{◌≡◌, Some};
-ghost use Rattle.variants.specs.Convert.{GivesBack};
+ghost use Rattle.base.specs.Convert.{GivesBack};
 ghost use Rattle.parsing.specs.Error.{error_of, error_text};
 ghost use Rattle.parsing.specs.declared.error.Error.TheVariants as error;
 
 use calendar_count::{ComponentRange, ConversionRange, InvalidVariant};
-use description_faults::InvalidFormatDescription;
 use description_items::DifferentVariant;
+use description_lexer::InvalidFormatDescription;
 use parsing_combinator::{Parse, ParseFromDescription, TryFromParsed};
 use std::fmt;
 

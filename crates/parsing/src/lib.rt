@@ -31,6 +31,6 @@ pub use description_items::{Iso8601, Rfc2822, Rfc3339};
 pub use error::Error;
 pub use parsing_combinator::{Parse, ParseFromDescription, TryFromParsed};
 pub use parsing_laws::{places_of_description, places_of_items};
+pub use parsing_parsable::{Items, Parsable, TwoRoads};
 pub use parsing_record::Parsed;
-pub use parsing_trait::{Items, Parsable, TwoRoads};
 pub use parsing_values::is_valid_leap_second_stand_in;

@@ -3,7 +3,7 @@ use Rattle.std.proofs.Common.{◌≡◌, ◌≤◌, ◌<◌, ◌+◌, ◌-◌, �
 use Rattle.std.specs.Char.{is_ascii_digit}
 use Rattle.std.proofs.lemmas.Bool.Decides.{nat_tests}
 use Rattle.std.proofs.lemmas.List.{drop-drop, drop_more, get_or-drop, length-drop}
-use Rattle.byte_names.specs.Bytes.{plus, hyphen, colon}
+use Rattle.base.specs.Bytes.{plus, hyphen, colon}
 use Rattle.parsing_combinator.specs.Chunks.{IsClock}
 use Rattle.parsing_combinator.specs.Pieces.{digits, byte, byte_of, sign}
 use Rattle.parsing_combinator.specs.Places.{HasDigit, HasPair, HasClock}

@@ -1,7 +1,7 @@
 -- Eight bytes as one number, the first byte the lowest.
 use Rattle.std.specs.Prelude.{◌≡◌, ℕ, ◌+◌, ◌-◌, ◌*◌, ◌/◌, ◌<◌, ◌≤◌, List, [], ◌∷◌, ◌++◌, length, take, drop, replicate, Some, None, bit_and, bit_xor}
 use Rattle.std.specs.Int.{w64, trailing_zeros}
-use Rattle.byte_names.specs.Bytes.{digit_zero, hyphen, colon}
+use Rattle.base.specs.Bytes.{digit_zero, hyphen, colon}
 use Rattle.parsing_combinator.specs.Pieces.{digits, digit_count, byte}
 
 -- the number of these bytes

@@ -4,7 +4,7 @@ use Rattle.std.specs.List.{prefix_len}
 use Rattle.std.specs.Char.{is_ascii_digit}
 use Rattle.std.specs.Str.Parse.{digits_value}
 use Rattle.std.specs.Borrow.{Bor}
-use Rattle.byte_names.specs.Bytes.{plus, hyphen}
+use Rattle.base.specs.Bytes.{plus, hyphen}
 
 abbrev pub Piece : Type 0 → Type 0
 Piece A = List ℕ → Option (A × List ℕ)

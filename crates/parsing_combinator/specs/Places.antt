@@ -1,6 +1,6 @@
 -- What stands at the places of a text.
 use Rattle.std.specs.Prelude.{◌≡◌, ◌≤◌, ◌<◌, ◌+◌, ℕ, List, length, get_or}
-use Rattle.byte_names.specs.Bytes.{colon}
+use Rattle.base.specs.Bytes.{colon}
 
 abbrev pub IsBetween : List ℕ → List ℕ → List ℕ → ℕ → Type 0
 IsBetween low high text k = (get_or low k 0 ≤ get_or text k 0) × (get_or text k 0 ≤ get_or high k 0)

@@ -3,7 +3,7 @@
 //! The bytes stand in one number, the first one lowest: one test takes all of them, as one product then takes the
 //! tens of all digits. A text of another shape may be `None` here and still be read byte by byte.
 ghost use Rattle.std.specs.Prelude.{◌≡◌, ◌≤◌, ◌<◌, ◌+◌, ◌-◌, ◌*◌, ◌%◌, ◌^◌, ◌↔◌, IfSome, IfNone, Some, IsTrue, [], take, drop, length, replicate, bit_and};
-ghost use Rattle.byte_names.specs.Bytes.{digit_zero};
+ghost use Rattle.base.specs.Bytes.{digit_zero};
 ghost use Rattle.parsing_combinator.specs.Pieces as Pieces;
 ghost use Rattle.parsing_combinator.specs.Chunks as Chunks;
 

@@ -1,9 +1,9 @@
 //! Why a text names no moment.
 ghost use Rattle.std.specs.Prelude.{◌≡◌, Some};
 
+use base::DifferentVariant;
 use calendar_count::ComponentRange;
 use std::fmt;
-use variants::DifferentVariant;
 
 /// Bytes that can't be read. `Display` of this and of the other refusals is a sentence.
 #[derive(Clone, Copy, Debug, PartialEq, Eq)]
@@ -136,7 +136,7 @@ impl From<ComponentRange> for Parse {
 }
 
 impl TryFrom<TryFromParsed> for ComponentRange {
-    ghost use Rattle.variants.specs.Convert.{GivesBack};
+    ghost use Rattle.base.specs.Convert.{GivesBack};
     ghost use Rattle.parsing_combinator.specs.declared.fault.TryFromParsed.TheVariants as unresolved;
 
     type Error = DifferentVariant;
@@ -152,7 +152,7 @@ impl TryFrom<TryFromParsed> for ComponentRange {
 }
 
 impl TryFrom<Parse> for TryFromParsed {
-    ghost use Rattle.variants.specs.Convert.{GivesBack};
+    ghost use Rattle.base.specs.Convert.{GivesBack};
     ghost use Rattle.parsing_combinator.specs.declared.fault.Parse.TheVariants as refused;
 
     type Error = DifferentVariant;
@@ -168,7 +168,7 @@ impl TryFrom<Parse> for TryFromParsed {
 }
 
 impl TryFrom<Parse> for ParseFromDescription {
-    ghost use Rattle.variants.specs.Convert.{GivesBack};
+    ghost use Rattle.base.specs.Convert.{GivesBack};
     ghost use Rattle.parsing_combinator.specs.declared.fault.Parse.TheVariants as refused;
 
     type Error = DifferentVariant;

@@ -1,7 +1,7 @@
 -- The nine digits of a fraction of a second.
 use Rattle.std.specs.Prelude.{◌≡◌, ℕ, ◌+◌, ◌^◌, ◌/◌, ◌%◌, ◌<◌, List, [], ◌∷◌, ◌++◌}
 use Rattle.std.specs.Int.{w64, to_le_bytes}
-use Rattle.byte_names.specs.Bytes.{digit_zero}
+use Rattle.base.specs.Bytes.{digit_zero}
 use Rattle.parsing_combinator.specs.Pieces.{digit_count}
 
 -- eight bytes as one number, the first one lowest, and the ninth

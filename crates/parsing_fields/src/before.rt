@@ -1,6 +1,6 @@
 //! At most eight digits that end at a place of a line.
 ghost use Rattle.std.specs.Prelude.{◌≡◌, ◌+◌, ◌-◌, ◌*◌, ◌%◌, ◌<◌, ◌≤◌, ◌^◌, true, take, drop, length, replicate, IfSome, bit_and};
-ghost use Rattle.byte_names.specs.Bytes.{digit_zero};
+ghost use Rattle.base.specs.Bytes.{digit_zero};
 ghost use Rattle.parsing_combinator.specs.Chunks as Chunks;
 
 // The eight bytes that end at a place, as one number, the first one lowest.

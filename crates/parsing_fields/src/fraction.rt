@@ -1,6 +1,6 @@
 //! Fractions of a second.
 ghost use Rattle.std.specs.Prelude.{◌≡◌, ◌+◌, ◌-◌, ◌<◌, ◌≤◌, [], drop, length, None, Some, IfSome};
-ghost use Rattle.byte_names.specs.Bytes.{digit_zero};
+ghost use Rattle.base.specs.Bytes.{digit_zero};
 ghost use Rattle.parsing_combinator.specs.Pieces as Pieces;
 ghost use Rattle.parsing_fields.specs.Written.{WriteFraction};
 
@@ -24,7 +24,7 @@ impl Model for Fraction {
     ghost use Rattle.std.specs.Prelude.{ℕ, ◌+◌, ◌%◌};
     ghost use Rattle.std.specs.Int.{w64, from_le_bytes};
     ghost use Rattle.std.specs.Str.Parse.{digits_value};
-    ghost use Rattle.byte_names.specs.Bytes.{digit_zero};
+    ghost use Rattle.base.specs.Bytes.{digit_zero};
     ghost use Rattle.parsing_fields.specs.Digits.{nine_digits, first_digits, AreNineDigits};
     ghost use Rattle.parsing_fields.specs.DigitsBack.{first_back, last_back};
 

@@ -4,7 +4,7 @@ use Rattle.std.specs.Prelude.{pos, ◌*ℤ◌, unsigned_abs, IfSome}
 use Rattle.std.specs.Char.{is_ascii_digit}
 use Rattle.std.proofs.lemmas.Bool.Decides.{nat_tests}
 use Rattle.std.proofs.lemmas.List.{drop-drop, drop_all, drop_more, length-drop}
-use Rattle.byte_names.specs.Bytes.{plus, hyphen, colon, upper_z, dot}
+use Rattle.base.specs.Bytes.{plus, hyphen, colon, upper_z, dot}
 use Rattle.parsing_fields.specs.Written.{WriteFraction}
 use Rattle.parsing_combinator.specs.Pieces.{digits, digit_run, digit_count, fraction, byte, skip_of}
 use Rattle.parsing_combinator.proofs.AtPlaces.{at_least, first_at, byte_there, sign_there}

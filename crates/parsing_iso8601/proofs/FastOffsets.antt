@@ -3,7 +3,7 @@ use Rattle.std.proofs.Common.{◌≡◌, ℕ, ◌≤◌, ◌==◌, Bool, true, f
 use Rattle.std.specs.Prelude.{pos, ◌*ℤ◌, IfSome}
 use Rattle.std.proofs.lemmas.Bool.Decides.{nat_tests}
 use Rattle.std.proofs.Common.{arith}
-use Rattle.byte_names.specs.Bytes.{hyphen, upper_z}
+use Rattle.base.specs.Bytes.{hyphen, upper_z}
 use Rattle.calendar.specs.UtcOffset.{offset_of}
 use Rattle.parsing_combinator.specs.Pieces.{byte, digits, sign}
 use Rattle.parsing_values.specs.Resolution.{signed_offset_of}

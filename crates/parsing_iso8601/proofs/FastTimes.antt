@@ -3,7 +3,7 @@ use Rattle.std.proofs.Common.{◌≡◌, ℕ, ◌+◌, ◌<◌, ◌≤◌, true,
 use Rattle.std.specs.Borrow.{Bor}
 use Rattle.std.specs.Prelude.{nat_lt, IfSome}
 use Rattle.std.proofs.lemmas.Bool.Decides.{nat_tests}
-use Rattle.byte_names.specs.Bytes.{colon}
+use Rattle.base.specs.Bytes.{colon}
 use Rattle.parsing_combinator.specs.Chunks.{IsClock}
 use Rattle.parsing_combinator.specs.Pieces.{digits, fraction, byte}
 use Rattle.parsing_iso8601.specs.Designators.{time_designator}

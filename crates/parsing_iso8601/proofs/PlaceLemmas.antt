@@ -4,7 +4,7 @@ use Rattle.std.specs.Prelude.{option_map, codes}
 use Rattle.std.specs.Char.{is_ascii_digit}
 use Rattle.std.proofs.lemmas.Bool.Decides.{nat_tests}
 use Rattle.std.proofs.lemmas.List.{drop-drop, drop_more, get_or-drop, length-drop}
-use Rattle.byte_names.specs.Bytes.{hyphen}
+use Rattle.base.specs.Bytes.{hyphen}
 use Rattle.calendar_count.specs.Calendar.{IsDay}
 use Rattle.calendar_count.specs.Month.{month_number}
 use Rattle.calendar_count.specs.Weekday.{days_from_monday}

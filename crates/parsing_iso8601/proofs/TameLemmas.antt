@@ -4,7 +4,7 @@ use Rattle.std.specs.Borrow.{Bor}
 use Rattle.std.specs.Prelude.{IfOk, IfErr, codes, nat_le, nat_lt, not, is_some, option_map}
 use Rattle.std.specs.Result.{is_ok}
 use Rattle.std.specs.Int.{is_in_range}
-use Rattle.byte_names.specs.Bytes.{hyphen, colon, upper_z}
+use Rattle.base.specs.Bytes.{hyphen, colon, upper_z}
 use Rattle.parsing_combinator.specs.Fault.{Fault, literal, component}
 use Rattle.parsing_combinator.specs.FaultOf.{Gives, reading_fault}
 use Rattle.parsing_combinator.specs.Pieces.{Piece, digits, digit_run, byte, sign}

@@ -1,5 +1,5 @@
 -- Texts of the basic format have nothing between their numbers; those of the extended format have hyphens and colons (ISO 8601-1:2019, 4.2).
-use Rattle.byte_names.specs.Bytes.{hyphen, colon}
+use Rattle.base.specs.Bytes.{hyphen, colon}
 use Rattle.parsing_combinator.specs.Fault.{literal}
 use Rattle.parsing_combinator.specs.Pieces.{Piece, byte}
 use Rattle.parsing_combinator.specs.Readings.{Reading, ◌or◌, give, if_there}

@@ -1,7 +1,7 @@
 -- The numbers of a text.
 use Rattle.std.specs.Prelude.{ℕ, ◌-◌, ◌==◌, ◌||◌, Bool, List, [], ◌∷◌, Option, Some, None, option_map, if◌then◌else◌, ℤ, pos, neg_ℤ}
 use Rattle.std.specs.Int.{is_in_range}
-use Rattle.byte_names.specs.Bytes.{hyphen, dot}
+use Rattle.base.specs.Bytes.{hyphen, dot}
 use Rattle.calendar_count.specs.declared.month.Month.{Month}
 use Rattle.calendar_count.specs.declared.month.Month.TheVariants.{January, February, March, April, May, June, July, August, September, October, November, December}
 use Rattle.calendar_count.specs.declared.weekday.Weekday.{Weekday}

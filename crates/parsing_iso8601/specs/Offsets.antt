@@ -1,6 +1,6 @@
 -- An offset from UTC under the kind (ISO 8601-1:2019, 4.3.13).
 use Rattle.std.specs.Prelude.{ℕ, ◌==◌, Bool, Some, None, nat_le, pos}
-use Rattle.byte_names.specs.Bytes.{hyphen, colon, upper_z}
+use Rattle.base.specs.Bytes.{hyphen, colon, upper_z}
 use Rattle.parsing_combinator.specs.Pieces.{Piece, byte, digits, sign}
 use Rattle.parsing_iso8601.specs.declared.kind.Kind.{Kind}
 use Rattle.parsing_iso8601.specs.declared.written.WrittenOffset.{WrittenOffset}

@@ -1,6 +1,6 @@
 -- The places of texts with a date, a time of day to the second and an offset.
 use Rattle.std.specs.Prelude.{◌≡◌, ◌≤◌, ◌<◌, ◌+◌, ◌*◌, ℕ, ℤ, List, drop, length, get_or, Some, None, pos, unsigned_abs}
-use Rattle.byte_names.specs.Bytes.{plus, hyphen, colon}
+use Rattle.base.specs.Bytes.{plus, hyphen, colon}
 use Rattle.calendar_count.specs.Calendar.{IsDay}
 use Rattle.parsing_combinator.specs.Pieces.{digits}
 use Rattle.parsing_combinator.specs.Places.{HasDigit, HasPair, HasClock}

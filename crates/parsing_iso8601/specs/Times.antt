@@ -1,6 +1,6 @@
 -- A time of day, as far as it is written, and the kind that it hands on (ISO 8601-1:2019, 5.3).
 use Rattle.std.specs.Prelude.{ℕ, ◌/◌, ◌%◌, Bool, List, Option, Some, None, nat_le, nat_lt, not}
-use Rattle.byte_names.specs.Bytes.{colon}
+use Rattle.base.specs.Bytes.{colon}
 use Rattle.parsing_combinator.specs.Pieces.{Piece, byte}
 use Rattle.parsing_iso8601.specs.declared.kind.Kind.{Kind}
 use Rattle.parsing_iso8601.specs.declared.written.WrittenTime.{WrittenTime}

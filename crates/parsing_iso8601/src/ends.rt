@@ -1,6 +1,6 @@
 //! Most texts by the places of their parts: what ends them, an offset and before it a fraction of a second, and all of it.
 ghost use Rattle.std.specs.Prelude.{◌≡◌, ◌<◌, ◌≤◌, ◌-◌, ◌==◌, ◌||◌, IfSome, Some, true, drop, length};
-ghost use Rattle.byte_names.specs.Bytes.{dot};
+ghost use Rattle.base.specs.Bytes.{dot};
 ghost use Rattle.parsing_iso8601.specs.Designators.{comma};
 ghost use Rattle.parsing_iso8601.specs.Places as Places;
 ghost use Rattle.parsing_iso8601.specs.ReadView.{subsecond};

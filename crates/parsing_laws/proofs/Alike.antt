@@ -4,10 +4,10 @@ use Rattle.description_time_modifiers.specs.declared.ignore.Ignore.{Ignore}
 use Rattle.description_items.specs.declared.component.Component.{Component}
 use Rattle.description_items.specs.declared.component.Component.TheVariants as component
 use Rattle.description_items.specs.Tree.{Tree, Literal, Part, Compound, Optional, First, listed}
-use Rattle.description_words.specs.declared.version.DescriptionVersion.TheVariants.{Two, Three}
+use Rattle.description_lexer.specs.declared.version.DescriptionVersion.TheVariants.{Two, Three}
 use Rattle.description_grammar.specs.Spelling.{Spells}
 use Rattle.description_grammar.specs.Outcomes.{joined}
-use Rattle.description_laws.specs.Versions.{SpellsRanged}
+use Rattle.description.specs.Versions.{SpellsRanged}
 use Rattle.parsing_combinator.specs.Fault.{Fault}
 use Rattle.parsing_combinator.specs.Readings.{then_read, give}
 use Rattle.parsing_components.specs.Component.{reads_component, reads_component_v3}

@@ -2,7 +2,7 @@
 use Rattle.std.proofs.Common.{◌≡◌, ℕ, suc, ◌+◌, ◌<◌, ◌≤◌, List, length, get_or, drop, map, refl, sym, ap, ◌∙◌, arith, drop-cons}
 use Rattle.std.proofs.lemmas.List.{drop_all}
 use Rattle.description_items.specs.Tree.{Tree, listed}
-use Rattle.description_laws.specs.Laws.{nodes, all_nodes}
+use Rattle.description.specs.Laws.{nodes, all_nodes}
 
 -- the nodes of what stands from an index on
 abbrev pub nodes_from : {X : Type 0} → (X → Tree) → List X → ℕ → ℕ

@@ -5,9 +5,9 @@ use Rattle.std.specs.Option.{option_map, option_or, unwrap_or}
 use Rattle.std.proofs.lemmas.List.{length-append}
 use Rattle.description_date_modifiers.specs.declared.choices.Padding.{Padding}
 use Rattle.description_items.specs.Tree.{Tree, Literal, Part, Compound, listed}
-use Rattle.description_words.specs.declared.version.DescriptionVersion.{DescriptionVersion}
-use Rattle.description_laws.specs.Laws.{nodes, all_nodes}
-use Rattle.description_laws.proofs.Nodes.{tree_nodes}
+use Rattle.description_lexer.specs.declared.version.DescriptionVersion.{DescriptionVersion}
+use Rattle.description.specs.Laws.{nodes, all_nodes}
+use Rattle.description.proofs.Nodes.{tree_nodes}
 use Rattle.description_grammar.specs.Spelling.{Spells}
 use Rattle.description_strftime.specs.Letters.{is_in, item_of, component_of, text_of, offset, composite, separator, part_of, letter_items}
 use Rattle.description_strftime.specs.Text.{joined}

@@ -1,12 +1,12 @@
 -- Two texts of versions 1, 2 and 3.
 use Rattle.std.proofs.Common.{◌≡◌, ℕ, false, List, ◌++◌, sym, ap, subst, ◌∙◌, inl, inr}
 use Rattle.description_items.specs.Tree.{Tree, Trees, Literal, Part, Compound, Optional, First}
-use Rattle.description_words.specs.declared.version.DescriptionVersion.{DescriptionVersion}
-use Rattle.description_words.specs.declared.version.DescriptionVersion.TheVariants.{Three}
+use Rattle.description_lexer.specs.declared.version.DescriptionVersion.{DescriptionVersion}
+use Rattle.description_lexer.specs.declared.version.DescriptionVersion.TheVariants.{Three}
 use Rattle.description_grammar.specs.Spelling.{SpellsItems, Spells, SpellsTree}
 use Rattle.description_grammar.specs.Outcomes.{joined}
 use Rattle.description_grammar.proofs.ItemsComplete.{unlisted, listed_again}
-use Rattle.description_laws.specs.Laws.{Joins}
+use Rattle.description.specs.Laws.{Joins}
 use Rattle.parsing_components.specs.Component.{reads_component_v3}
 use Rattle.parsing_record.specs.Reads.{Language, reads}
 use Rattle.parsing_laws.specs.Joined.{by_tree, in_turn, IsReadInTurn}

@@ -19,8 +19,8 @@ use Rattle.parsing_combinator.specs.Readings.{then_read, end, value_read}
 use Rattle.parsing_record.specs.Parts.{moment_parts}
 use Rattle.parsing_record.specs.Record.{Record}
 use Rattle.parsing_record.specs.Whole.{starting, whole, names, all_read, moment_named}
-use Rattle.parsing_staged.specs.Put.{put_iso8601, put_date, put_time, put_offset}
-use Rattle.parsing_staged.specs.Staged.{reads_iso8601}
+use Rattle.parsing_parsable.specs.Put.{put_iso8601, put_date, put_time, put_offset}
+use Rattle.parsing_parsable.specs.Staged.{reads_iso8601}
 use Rattle.parsing_laws.specs.TwoRoads.{holding, staged}
 use Rattle.parsing_laws.proofs.Numbers.{not_all, no_more}
 

@@ -17,8 +17,8 @@ use Rattle.parsing_rfc2822.specs.declared.parts.Rfc2822Parts.{Rfc2822Parts}
 use Rattle.parsing_rfc2822.specs.Direct.{direct, moment, moment_of}
 use Rattle.parsing_rfc2822.specs.Range.{AreInRange}
 use Rattle.parsing_rfc2822.specs.Reading.{rfc2822}
-use Rattle.parsing_staged.specs.Put.{put_rfc2822}
-use Rattle.parsing_staged.specs.Staged.{reads_rfc2822}
+use Rattle.parsing_parsable.specs.Put.{put_rfc2822}
+use Rattle.parsing_parsable.specs.Staged.{reads_rfc2822}
 use Rattle.parsing_laws.specs.TwoRoads.{holding, AgreeOn}
 use Rattle.parsing_laws.proofs.Parts.{of_parts, named_parts, offset_last, AreNamed, none_or_named}
 use Rattle.parsing_laws.proofs.Numbers.{not_all, month_in_range, same_date, same_offset, no_more}

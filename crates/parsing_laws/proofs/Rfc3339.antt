@@ -17,8 +17,8 @@ use Rattle.parsing_rfc3339.specs.declared.parts.Rfc3339Parts.{Rfc3339Parts}
 use Rattle.parsing_rfc3339.specs.Direct.{direct, moment, moment_of}
 use Rattle.parsing_rfc3339.specs.Range.{AreInRange}
 use Rattle.parsing_rfc3339.specs.Reading.{rfc3339}
-use Rattle.parsing_staged.specs.Put.{put_rfc3339}
-use Rattle.parsing_staged.specs.Staged.{reads_rfc3339}
+use Rattle.parsing_parsable.specs.Put.{put_rfc3339}
+use Rattle.parsing_parsable.specs.Staged.{reads_rfc3339}
 use Rattle.parsing_laws.specs.TwoRoads.{holding, AgreeOn}
 use Rattle.parsing_laws.proofs.Parts.{of_parts, named_parts, offset_first, AreNamed, none_or_named}
 use Rattle.parsing_laws.proofs.Numbers.{not_all, Numbered, month_with, same_date, same_offset, no_more}

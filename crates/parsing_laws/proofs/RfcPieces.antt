@@ -2,7 +2,7 @@
 use Rattle.std.proofs.Common.{◌≡◌, ℕ, false, List, [], Option, Some, Ok, refl, ap, ℤ}
 use Rattle.std.specs.Prelude.{pos, nat_lt, ◌==◌}
 use Rattle.std.specs.Option.{unwrap_or}
-use Rattle.byte_names.specs.Bytes.{hyphen, colon}
+use Rattle.base.specs.Bytes.{hyphen, colon}
 use Rattle.datetime_wall.specs.Wall.{Shown, wall_clock}
 use Rattle.parsing_combinator.specs.Pieces.{digits, byte, any_byte}
 use Rattle.parsing_combinator.specs.Readings.{◌>>=◌, resolved}

@@ -7,7 +7,7 @@ use Rattle.parsing_iso8601.specs.Numbers.{signed}
 use Rattle.std.specs.Option.{unwrap_or}
 use Rattle.std.proofs.lemmas.Bool.{cases_Bool}
 use Rattle.std.proofs.lemmas.Bool.Decides.{nat_tests}
-use Rattle.byte_names.specs.Bytes.{colon, hyphen}
+use Rattle.base.specs.Bytes.{colon, hyphen}
 use Rattle.calendar.specs.UtcOffset.{offset_of}
 use Rattle.parsing_combinator.specs.Pieces.{digits, digit_count, byte, byte_of, skip_of, sign}
 use Rattle.parsing_combinator.proofs.Decimal.{digit_here}

@@ -2,13 +2,13 @@
 use Rattle.std.specs.Prelude.{◌≡◌, ℕ, ◌-◌, ◌*◌, ◌%◌, ◌^◌, ◌==◌, ◌&&◌, Bool, true, false, not, List, [], length, get_or, take, drop, Option, Some, None, nat_le, if◌then◌else◌, Ok, IfSome, pos, ◌+ℤ◌}
 use Rattle.std.specs.Result.{IsErr}
 use Rattle.std.specs.Str.Parse.{digits_value}
-use Rattle.byte_names.specs.Bytes.{dot, lower_z}
+use Rattle.base.specs.Bytes.{dot, lower_z}
 use Rattle.datetime_wall.specs.Wall.{Shown}
 use Rattle.parsing_combinator.specs.Pieces.{byte, digit_count, nanoseconds_of}
 use Rattle.parsing_iso8601.specs.Designators.{time_designator}
 use Rattle.parsing_record.specs.Record.{Record}
 use Rattle.parsing_record.specs.Whole.{whole, names, moment_named}
-use Rattle.parsing_staged.specs.Staged.{reads_iso8601}
+use Rattle.parsing_parsable.specs.Staged.{reads_iso8601}
 use Rattle.parsing_laws.specs.TwoRoads.{holding}
 
 -- the byte between date and time

@@ -3,7 +3,7 @@ use Rattle.std.specs.Prelude.{◌≡◌, ℕ, List, Option, Contains}
 use Rattle.description_time_modifiers.specs.declared.ignore.Ignore.{Ignore}
 use Rattle.description_items.specs.declared.component.Component.TheVariants as component
 use Rattle.description_items.specs.Tree.{Tree, Part}
-use Rattle.description_words.specs.declared.version.DescriptionVersion.TheVariants.{Two, Three}
+use Rattle.description_lexer.specs.declared.version.DescriptionVersion.TheVariants.{Two, Three}
 use Rattle.description_grammar.specs.Spelling.{Spells, SpellsTree}
 use Rattle.description_grammar.specs.Outcomes.{joined}
 use Rattle.parsing_record.specs.Record.{Record}

@@ -1,7 +1,7 @@
 //! The places of a description of version 3.
 ghost use Rattle.std.specs.Prelude.{◌≡◌, min};
 ghost use Rattle.description_items.specs.Tree.{listed};
-ghost use Rattle.description_laws.specs.Laws.{nodes, all_nodes};
+ghost use Rattle.description.specs.Laws.{nodes, all_nodes};
 ghost use Rattle.description_tree.specs.Description.{v3_tree};
 ghost use Rattle.description_tree.specs.Inner.{inner_tree, inner_trees};
 ghost use Rattle.parsing_record.specs.Tally.{greatest_count};
@@ -17,7 +17,7 @@ pub fn places_of_description(description: &FormatDescriptionV3<'_>) -> u128
 }
 
 // The node itself, and all that is inside it.
-#[tactic(auto, unfolding(description_laws::specs::Laws::nodes))]
+#[tactic(auto, unfolding(description::specs::Laws::nodes))]
 #[cycle(places)]
 fn places_of_node(node: &Inner<'_>) -> u128
     ensures places { result ≡ min (nodes (inner_tree node.now)) greatest_count }

@@ -1,11 +1,11 @@
 //! Laws on reading by descriptions, each the contract of a function.
 ghost use Rattle.std.specs.Prelude.{ℕ, List, ◌++◌};
 ghost use Rattle.description_items.specs.Tree.{Tree};
-ghost use Rattle.description_laws.specs.Versions.{SpellsRanged};
+ghost use Rattle.description.specs.Versions.{SpellsRanged};
 ghost use Rattle.description_grammar.specs.Spelling.{Spells, SpellsTree};
 ghost use Rattle.description_strftime.specs.Spelled.{SpellsStrftime};
-ghost use Rattle.description_words.specs.declared.version.DescriptionVersion.{DescriptionVersion};
-ghost use Rattle.description_words.specs.declared.version.DescriptionVersion.TheVariants.{Three};
+ghost use Rattle.description_lexer.specs.declared.version.DescriptionVersion.{DescriptionVersion};
+ghost use Rattle.description_lexer.specs.declared.version.DescriptionVersion.TheVariants.{Three};
 ghost use Rattle.parsing_laws.specs.Joined.{IsReadInTurn, by_items, by_tree};
 ghost use Rattle.parsing_laws.specs.TwoVersions.{IgnoresNothing, IsReadByBoth};
 
@@ -23,7 +23,7 @@ pub fn joined_descriptions()
     ensures trees { (s t : List ℕ) (a b : Tree) → SpellsTree Three s a → SpellsTree Three t b
         → IsReadInTurn (SpellsTree Three (s ++ t)) by_tree a b }
 {
-    description_laws::joined();
+    description::laws::joined();
     description_strftime::laws::joined();
 }
 
@@ -34,5 +34,5 @@ pub fn two_versions()
     ensures { (text : List ℕ) (items : List Tree)
         → SpellsRanged text items → IgnoresNothing items → IsReadByBoth text items }
 {
-    description_laws::two_versions();
+    description::laws::two_versions();
 }

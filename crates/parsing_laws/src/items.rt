@@ -1,7 +1,7 @@
 //! The places of items.
 ghost use Rattle.std.specs.Prelude.{◌≡◌, min};
 ghost use Rattle.description_items.specs.Tree.{tree_of, trees, listed};
-ghost use Rattle.description_laws.specs.Laws.{nodes, all_nodes};
+ghost use Rattle.description.specs.Laws.{nodes, all_nodes};
 ghost use Rattle.parsing_record.specs.Tally.{greatest_count};
 
 use description_items::BorrowedFormatItem;
@@ -20,7 +20,7 @@ pub fn places_of_items(items: &[BorrowedFormatItem<'_>]) -> u128
 }
 
 // The item itself, and all that is inside it.
-#[tactic(auto, unfolding(description_laws::specs::Laws::nodes))]
+#[tactic(auto, unfolding(description::specs::Laws::nodes))]
 #[cycle(places)]
 fn places_of_item(item: &BorrowedFormatItem<'_>) -> u128
     ensures places { result ≡ min (nodes (tree_of item.now)) greatest_count }

@@ -2,10 +2,10 @@
 
 ghost use Rattle.std.specs.Prelude.{◌≡◌, ℕ, ◌≤◌, List, length};
 ghost use Rattle.description_items.specs.Tree.{Tree, Trees, listed};
-ghost use Rattle.description_laws.specs.Laws.{nodes, all_nodes};
+ghost use Rattle.description.specs.Laws.{nodes, all_nodes};
 ghost use Rattle.description_grammar.specs.Spelling.{Spells};
 ghost use Rattle.description_strftime.specs.Spelled.{SpellsStrftime};
-ghost use Rattle.description_words.specs.declared.version.DescriptionVersion.{DescriptionVersion};
+ghost use Rattle.description_lexer.specs.declared.version.DescriptionVersion.{DescriptionVersion};
 ghost use Rattle.parsing_record.specs.Record.{Record};
 ghost use Rattle.parsing_record.specs.Reads.{Language, tried, tried_in_all};
 
@@ -19,7 +19,7 @@ pub fn tried_at_most_places()
 {}
 
 /// What a text spells has few places: items at most as many as the text has bytes (of a tree of version 3
-/// `description_laws::reserved` says the like). The items of a text of strftime have nothing inside them, so each is one
+/// `description::laws::reserved` says the like). The items of a text of strftime have nothing inside them, so each is one
 /// place.
 pub fn few_nodes()
     ensures items { (version : DescriptionVersion) (text : List ℕ) (items : List Tree)

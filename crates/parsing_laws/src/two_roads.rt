@@ -6,7 +6,7 @@ ghost use Rattle.parsing_record.specs.Record.{Record};
 ghost use Rattle.parsing_record.specs.Whole.{by_roads, whole, names, moment_named};
 ghost use Rattle.parsing_rfc3339.specs.Direct as rfc3339;
 ghost use Rattle.parsing_rfc2822.specs.Direct as rfc2822;
-ghost use Rattle.parsing_staged.specs.Staged.{reads_rfc3339, reads_rfc2822, reads_iso8601};
+ghost use Rattle.parsing_parsable.specs.Staged.{reads_rfc3339, reads_rfc2822, reads_iso8601};
 ghost use Rattle.parsing_laws.specs.TwoFormats.{HoldsAtMostAnOffset, IsReadAlike};
 ghost use Rattle.parsing_laws.specs.TwoRoads.{AgreeOn};
 

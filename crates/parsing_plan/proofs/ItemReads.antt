@@ -19,8 +19,8 @@ use Rattle.parsing_components.specs.Read.{Read}
 use Rattle.parsing_record.specs.Meaning.{Meaning, literally}
 use Rattle.parsing_record.specs.Reads.{Language, reading, reads}
 use Rattle.parsing_record.specs.Record.{Record}
-use Rattle.parsing_slots.specs.declared.slot.Slot.{Slot}
-use Rattle.parsing_slots.specs.Slot.{ReadsSlot, slot_piece}
+use Rattle.parsing_components.specs.declared.slot.Slot.{Slot}
+use Rattle.parsing_components.specs.Slot.{ReadsSlot, slot_piece}
 
 pub literal_read : (language : Language) (text line : List ℕ) (r : Record) → take (length text) line ≡ text → reading language (Literal text) r line ≡ Ok (r, drop (length text) line)
 unfolding reads literally

@@ -26,7 +26,7 @@ use Rattle.parsing_record.specs.Record.{Record}
 use Rattle.parsing_record.specs.Whole.{whole, names, moment_named, offset_named, starting}
 use Rattle.parsing_plan.proofs.Walk.{was_read}
 use Rattle.parsing_plan.specs.declared.layout.Layout.{Layout}
-use Rattle.parsing_slots.specs.Slot.{Values}
+use Rattle.parsing_components.specs.Slot.{Values}
 use Rattle.parsing_plan.specs.Layout.{HasText, Says, read_or, with_values}
 use Rattle.parsing_plan.specs.Parts.{SaysDate, SaysClock, SaysFraction, SaysOffset}
 use Rattle.parsing_plan.specs.Bounds.{IsFront, HasNoClock}

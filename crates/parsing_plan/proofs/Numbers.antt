@@ -32,7 +32,7 @@ use Rattle.parsing_combinator.proofs.Fixed.{some_if, digits_one}
 use Rattle.parsing_combinator.proofs.FractionDigits.{none_there}
 use Rattle.parsing_fields.specs.Written.{WriteFraction}
 use Rattle.std.proofs.lemmas.Bool.{cases_lt}
-use Rattle.parsing_slots.specs.Slot.{slot_piece}
+use Rattle.parsing_components.specs.Slot.{slot_piece}
 use Rattle.parsing_plan.specs.declared.bounds.Bounds.{Bounds}
 use Rattle.parsing_plan.specs.declared.layout.Layout.{Layout}
 use Rattle.parsing_plan.specs.Bounds.{LiesWithin, IsPair, IsSixty, HasPair, HasSixty, IsSpaced, HasSpaced, HoldText, BeginsApart}

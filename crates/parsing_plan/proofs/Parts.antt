@@ -16,7 +16,7 @@ use Rattle.parsing_components.specs.Read as read
 use Rattle.parsing_record.specs.Parts.{under_sign}
 use Rattle.parsing_record.specs.Whole.{offset_named}
 use Rattle.parsing_plan.specs.declared.layout.Layout.{Layout}
-use Rattle.parsing_slots.specs.Slot.{Values, slot_piece, width}
+use Rattle.parsing_components.specs.Slot.{Values, slot_piece, width}
 use Rattle.parsing_plan.specs.Layout.{day_slot}
 use Rattle.parsing_combinator.specs.Shape.{taken, spaced_between}
 use Rattle.parsing_plan.specs.Parts.{WritesAt, WritesDay, WritesOffset, SaysMonth, SaysWeekday, SaysDate, SaysClock, SaysOffset}

@@ -9,9 +9,9 @@ use Rattle.parsing_record.specs.Meaning.{Meaning}
 use Rattle.parsing_record.specs.Record.{Record}
 use Rattle.parsing_plan.specs.declared.items.Step.TheVariants.{Text, Part}
 use Rattle.parsing_plan.specs.declared.layout.Layout.{Layout}
-use Rattle.parsing_slots.specs.declared.slot.Slot.{Slot}
-use Rattle.parsing_slots.specs.declared.slot.Slot.TheVariants as slot
-use Rattle.parsing_slots.specs.Slot.{Values, slot_piece, value_in}
+use Rattle.parsing_components.specs.declared.slot.Slot.{Slot}
+use Rattle.parsing_components.specs.declared.slot.Slot.TheVariants as slot
+use Rattle.parsing_components.specs.Slot.{Values, slot_piece, value_in}
 use Rattle.parsing_plan.specs.Layout.{Says, place_of, with_slot, with_byte, with_values}
 use Rattle.parsing_plan.specs.Steps.{IsTextStep, IsStep, IsStepOf}
 

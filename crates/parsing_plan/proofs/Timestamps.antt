@@ -35,7 +35,7 @@ use Rattle.parsing_combinator.proofs.SignLemmas.{under}
 use Rattle.parsing_plan.specs.Beginning.{beginning}
 use Rattle.parsing_plan.specs.UnixTime.{IsUnixOf}
 use Rattle.parsing_plan.proofs.Moments.{whole_is}
-use Rattle.parsing_slots.proofs.Slots.{digit_no_sign}
+use Rattle.parsing_components.proofs.Slots.{digit_no_sign}
 use Rattle.parsing_plan.proofs.Walk.{was_read}
 
 -- ---- what a component reads

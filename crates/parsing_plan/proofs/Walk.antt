@@ -7,7 +7,7 @@ use Rattle.parsing_record.specs.Meaning.{Meaning, Answer, Counted, then_counted,
 use Rattle.parsing_record.specs.Reads.{Language, reading, reading_of_all, reads, each_reads}
 use Rattle.parsing_record.specs.Record.{Record}
 use Rattle.parsing_plan.specs.declared.layout.Layout.{Layout}
-use Rattle.parsing_slots.specs.Slot.{Values}
+use Rattle.parsing_components.specs.Slot.{Values}
 use Rattle.parsing_plan.specs.Layout.{with_values}
 use Rattle.parsing_plan.specs.declared.plan.Places.{Places}
 use Rattle.parsing_plan.specs.declared.plan.Plan.{Plan}

@@ -4,10 +4,10 @@ use Rattle.parsing_components.specs.Ranged.{under}
 use Rattle.parsing_components.specs.Read.{Read}
 use Rattle.parsing_components.specs.Read as read
 use Rattle.parsing_record.specs.Record.{Record}
-use Rattle.parsing_slots.specs.Slot.{Values, slot_piece, value_in, width}
+use Rattle.parsing_components.specs.Slot.{Values, slot_piece, value_in, width}
 use Rattle.parsing_plan.specs.declared.layout.Layout.{Layout}
-use Rattle.parsing_slots.specs.declared.slot.Slot.{Slot}
-use Rattle.parsing_slots.specs.declared.slot.Slot.TheVariants as slot
+use Rattle.parsing_components.specs.declared.slot.Slot.{Slot}
+use Rattle.parsing_components.specs.declared.slot.Slot.TheVariants as slot
 
 abbrev pub place_of : Layout → Slot → Option ℕ
 place_of l slot.Year = l.year

@@ -11,13 +11,13 @@ use Rattle.parsing_combinator.specs.Shape.{taken, spaced_between}
 use Rattle.parsing_components.specs.Ranged.{under}
 use Rattle.parsing_components.specs.Read as read
 use Rattle.parsing_record.specs.Whole.{offset_named}
-use Rattle.parsing_slots.specs.Slot.{Values, slot_piece, value_in, width}
+use Rattle.parsing_components.specs.Slot.{Values, slot_piece, value_in, width}
 use Rattle.parsing_plan.specs.Layout.{SaysAt, read_or, month_slot, day_slot, with_values}
 use Rattle.parsing_plan.specs.Bounds.{LiesWithin}
 use Rattle.parsing_plan.specs.Beginning.{beginning}
 use Rattle.parsing_plan.specs.declared.bounds.Bounds.{Bounds}
 use Rattle.parsing_plan.specs.declared.layout.Layout.{Layout}
-use Rattle.parsing_slots.specs.declared.slot.Slot.TheVariants as slot
+use Rattle.parsing_components.specs.declared.slot.Slot.TheVariants as slot
 
 -- so many digits at a place write a number
 abbrev pub WritesAt : ℕ → List ℕ → ℕ → ℕ → Type 0

@@ -7,7 +7,7 @@ use Rattle.parsing_combinator.specs.Shape.{taken, fraction_between}
 use Rattle.parsing_record.specs.Meaning.{Meaning}
 use Rattle.parsing_record.specs.Record.{Record}
 use Rattle.parsing_record.specs.Whole.{moment_named}
-use Rattle.parsing_slots.specs.Slot.{Values}
+use Rattle.parsing_components.specs.Slot.{Values}
 use Rattle.parsing_plan.specs.Layout.{Says, with_values}
 use Rattle.parsing_plan.specs.declared.layout.Layout.{Layout}
 use Rattle.parsing_plan.specs.UnixTime.{IsUnixOf}

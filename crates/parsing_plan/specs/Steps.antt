@@ -9,7 +9,7 @@ use Rattle.parsing_components.specs.Put.{put}
 use Rattle.parsing_record.specs.Meaning.{Meaning}
 use Rattle.parsing_record.specs.Reads.{Language, reading, reading_of_all}
 use Rattle.parsing_record.specs.Record.{Record}
-use Rattle.parsing_slots.specs.Slot.{Values, slot_piece}
+use Rattle.parsing_components.specs.Slot.{Values, slot_piece}
 use Rattle.parsing_plan.specs.UnixTime.{IsUnixOf}
 use Rattle.parsing_plan.specs.Layout.{Says, with_values}
 use Rattle.parsing_plan.specs.declared.layout.Layout.{Layout}

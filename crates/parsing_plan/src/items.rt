@@ -11,7 +11,7 @@ use crate::unix::{UnixTime, finer_digits};
 use description_items::modifier::SubsecondDigits;
 use description_items::{BorrowedFormatItem, Component};
 use description_tree::FormatDescriptionV3Inner as Inner;
-use parsing_slots::{Slot, slot_of};
+use parsing_components::{Slot, slot_of};
 
 /// What an item of fixed width reads.
 #[derive(Clone, Copy)]

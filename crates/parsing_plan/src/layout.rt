@@ -2,10 +2,10 @@
 ghost use Rattle.std.specs.Prelude.{◌≡◌, ◌≢◌, ◌<◌, ◌≤◌, None, length, get_or, IfSome};
 ghost use Rattle.parsing_record.specs.Record.{Record};
 ghost use Rattle.parsing_plan.specs.Layout.{place_of, with_byte, with_place, with_slot, with_values};
-ghost use Rattle.parsing_slots.specs.Slot.{Values};
+ghost use Rattle.parsing_components.specs.Slot.{Values};
 ghost use Rattle.parsing_plan.specs.Steps.{IsTextStep};
 
-use parsing_slots::Slot;
+use parsing_components::Slot;
 
 /// The most bytes of a layout.
 pub(crate) const LENGTH: usize = 32;

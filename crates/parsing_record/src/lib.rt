@@ -1,4 +1,4 @@
-//! The record of components that a description or a format reads into.
+//! The record of components that a description or a format reads into, and reading by items and trees.
 #![tactic(auto)]
 
 mod clock;
@@ -8,8 +8,10 @@ mod items;
 mod offset;
 mod parsed;
 mod tally;
+mod tree;
 mod usual;
 mod years;
 
 pub use parsed::Parsed;
 pub use tally::{ItemTally, NoTally, Tally};
+pub use tree::parse_tree;

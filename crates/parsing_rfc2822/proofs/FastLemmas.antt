@@ -6,7 +6,7 @@ use Rattle.std.specs.Char.{is_ascii_digit, to_ascii_lowercase}
 use Rattle.std.proofs.lemmas.Bool.{eqb-true}
 use Rattle.std.proofs.lemmas.Bool.Decides.{nat_tests}
 use Rattle.calendar_count.specs.declared.weekday.Weekday.{Weekday}
-use Rattle.byte_names.specs.Bytes.{colon}
+use Rattle.base.specs.Bytes.{colon}
 use Rattle.parsing_combinator.specs.Pieces.{digits, byte, skip_of, cut_view, sign}
 use Rattle.parsing_combinator.specs.Chunks.{IsClock}
 use Rattle.parsing_combinator.proofs.Decimal.{digit_here}

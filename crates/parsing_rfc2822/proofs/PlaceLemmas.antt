@@ -3,7 +3,7 @@ use Rattle.std.proofs.Common.{◌≡◌, ◌≤◌, ◌<◌, ◌+◌, ◌-◌, �
 use Rattle.std.specs.Prelude.{◌*ℤ◌, IfSome}
 use Rattle.std.proofs.lemmas.Bool.Decides.{nat_tests}
 use Rattle.std.proofs.lemmas.List.{drop-drop, drop_all, get_or-drop, get_or-take, length-drop, take_rest}
-use Rattle.byte_names.specs.Bytes.{hyphen, plus}
+use Rattle.base.specs.Bytes.{hyphen, plus}
 use Rattle.calendar_count.specs.declared.month.Month.{Month}
 use Rattle.calendar_count.specs.declared.weekday.Weekday.{Weekday}
 use Rattle.parsing_combinator.specs.Places.{IsBetween, LieBetween, HasDigit, HasPair}

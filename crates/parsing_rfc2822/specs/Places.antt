@@ -1,6 +1,6 @@
 -- The places of a text such as `Tue, 01 Jul 2003 10:52:37 +0200`.
 use Rattle.std.specs.Prelude.{◌≡◌, ◌≤◌, ◌+◌, ◌-◌, ◌*◌, ℕ, false, List, length, drop, get_or, slice_index, Option, Some, Ok}
-use Rattle.byte_names.specs.Bytes.{space, plus, hyphen}
+use Rattle.base.specs.Bytes.{space, plus, hyphen}
 use Rattle.calendar_count.specs.Month.{month_number}
 use Rattle.calendar_count.specs.declared.month.Month.{Month}
 use Rattle.calendar_count.specs.declared.weekday.Weekday.{Weekday}

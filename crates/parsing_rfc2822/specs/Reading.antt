@@ -2,7 +2,7 @@
 --
 -- A strict reading refuses each number out of range where it stands; one that is not strict leaves them to what resolves the numbers.
 use Rattle.std.specs.Prelude.{ℕ, ◌+◌, Bool, true, false, List, Option, Some, None, codes, nat_le, nat_lt, ◌==◌, if◌then◌else◌, option_map}
-use Rattle.byte_names.specs.Bytes.{colon, hyphen}
+use Rattle.base.specs.Bytes.{colon, hyphen}
 use Rattle.calendar_count.specs.declared.month.Month.{Month}
 use Rattle.calendar_count.specs.declared.weekday.Weekday.{Weekday}
 use Rattle.parsing_combinator.specs.Fault.{literal, component}

@@ -1,6 +1,6 @@
 -- Folding white space and comments of RFC 2822, section 3.2.3, with the obsolete quoted pairs of its section 4.1.
 use Rattle.std.specs.Prelude.{ℕ, zero, suc, ◌==◌, ◌||◌, ◌&&◌, not, Bool, List, [], ◌∷◌, Option, Some, None, option_map, nat_le, if◌then◌else◌}
-use Rattle.byte_names.specs.Bytes.{tab, line_feed, carriage_return, space, backslash}
+use Rattle.base.specs.Bytes.{tab, line_feed, carriage_return, space, backslash}
 use Rattle.parsing_rfc2822.specs.Skips.{Skip, byte_where, past_all, past_some, then_skip, either, rest_or, many}
 
 -- `(`

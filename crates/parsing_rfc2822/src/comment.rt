@@ -1,5 +1,5 @@
 //! Comments, and the white space between them.
-ghost use Rattle.byte_names.specs.Bytes.{space};
+ghost use Rattle.base.specs.Bytes.{space};
 ghost use Rattle.std.specs.Prelude.{◌↔◌, IsSome, slice_index, true, ◌≡◌, ◌<◌, ◌≤◌, IfSome, Some, None, false, length, option_map};
 ghost use Rattle.parsing_rfc2822.specs.Skips as Skips;
 ghost use Rattle.parsing_rfc2822.specs.WhiteSpace as White;

@@ -3,7 +3,7 @@
 //! Four bytes stand in one number, the first one lowest, and the highest bits of a product of that number say where it
 //! would stand in a table. No other byte becomes a letter by the bit of small letters.
 ghost use Rattle.std.specs.Prelude.{◌≡◌, ◌≤◌, IfSome, true, length, slice_index};
-ghost use Rattle.byte_names.specs.Bytes.{space};
+ghost use Rattle.base.specs.Bytes.{space};
 ghost use Rattle.parsing_rfc2822.specs.Places.{HasWeekday, HasMonth, number_of_four};
 
 // The first four bytes.

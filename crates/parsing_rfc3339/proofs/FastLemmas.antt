@@ -7,7 +7,7 @@ use Rattle.std.specs.Borrow.{Bor}
 use Rattle.std.specs.Prelude.{◌==◌, IfSome, codes, ◌*ℤ◌}
 use Rattle.calendar.specs.Time.{time_of}
 use Rattle.datetime_wall.specs.Wall.{wall_clock}
-use Rattle.byte_names.specs.Bytes.{dot, hyphen}
+use Rattle.base.specs.Bytes.{dot, hyphen}
 use Rattle.parsing_combinator.specs.Fault.{component}
 use Rattle.parsing_combinator.specs.Pieces.{byte, any_byte, digits, fraction, sign}
 use Rattle.parsing_combinator.specs.declared.zone.Zone.{Zone}

@@ -3,7 +3,7 @@ use Rattle.std.proofs.Common.{◌≡◌, ◌≤◌, ◌<◌, ◌+◌, ℕ, true,
 use Rattle.std.specs.Prelude.{nat_lt}
 use Rattle.std.proofs.lemmas.Bool.Decides.{nat_tests}
 use Rattle.std.proofs.lemmas.List.{drop_more, get_or-take, length-take-le}
-use Rattle.byte_names.specs.Bytes.{hyphen}
+use Rattle.base.specs.Bytes.{hyphen}
 use Rattle.parsing_combinator.specs.Pieces.{digits, byte, any_byte, skip_of}
 use Rattle.parsing_combinator.specs.Places.{IsBetween, LieBetween, HasDigit, HasPair}
 use Rattle.parsing_combinator.proofs.AtPlaces.{byte_there}

@@ -5,7 +5,7 @@ use Rattle.std.specs.Prelude.{◌↔◌, IfOk, codes, nat_le, nat_lt}
 use Rattle.std.specs.Int.{IsInRange}
 use Rattle.std.proofs.lemmas.Bool.{and_parts, leb-true}
 use Rattle.std.proofs.lemmas.Bool.Decides.{nat_tests}
-use Rattle.byte_names.specs.Bytes.{hyphen, colon}
+use Rattle.base.specs.Bytes.{hyphen, colon}
 use Rattle.parsing_combinator.specs.Fault.{literal, component}
 use Rattle.parsing_combinator.specs.FaultOf.{Gives, reading_fault}
 use Rattle.parsing_combinator.specs.Pieces.{digits, byte, any_byte, sign}

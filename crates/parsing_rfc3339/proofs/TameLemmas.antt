@@ -3,7 +3,7 @@ use Rattle.std.proofs.Common.{ℕ, Bool, List, Result, lit<}
 use Rattle.std.specs.Borrow.{Bor}
 use Rattle.std.specs.Prelude.{◌&&◌, IfOk, IfErr, codes, nat_lt, nat_le, pos, false}
 use Rattle.std.specs.Option.{unwrap_or}
-use Rattle.byte_names.specs.Bytes.{hyphen, colon, dot}
+use Rattle.base.specs.Bytes.{hyphen, colon, dot}
 use Rattle.datetime_wall.specs.Wall.{Shown}
 use Rattle.parsing_combinator.specs.Fault.{literal, component}
 use Rattle.parsing_combinator.specs.FaultOf.{Gives, fault_of, reading_fault}

@@ -1,7 +1,7 @@
 -- What the fast way of the code finds.
 use Rattle.std.specs.Prelude.{◌≡◌, ℕ, List, [], drop, Option, Some, Result, Ok, ℤ, pos, ◌*ℤ◌}
 use Rattle.std.specs.Option.{unwrap_or}
-use Rattle.byte_names.specs.Bytes.{colon}
+use Rattle.base.specs.Bytes.{colon}
 use Rattle.parsing_combinator.specs.Fault.{Fault}
 use Rattle.parsing_combinator.specs.Pieces.{byte, digits}
 use Rattle.parsing_combinator.specs.declared.zone.Zone.{Zone}

@@ -1,6 +1,6 @@
 -- The places of a text that begins with a date and a time of day to the second.
 use Rattle.std.specs.Prelude.{◌≡◌, ℕ, List, get_or}
-use Rattle.byte_names.specs.Bytes.{hyphen}
+use Rattle.base.specs.Bytes.{hyphen}
 use Rattle.parsing_combinator.specs.Places.{HasPair, HasClock}
 
 -- `1985-04-12T23:20:50`, with any byte for the `T`

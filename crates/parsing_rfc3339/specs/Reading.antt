@@ -2,7 +2,7 @@
 --
 -- A strict reading refuses each number out of range where it stands; one that is not strict leaves most of them to what resolves the numbers.
 use Rattle.std.specs.Prelude.{ℕ, ◌||◌, ◌&&◌, Bool, true, false, Option, Some, None, codes, nat_le, nat_lt, ◌==◌}
-use Rattle.byte_names.specs.Bytes.{hyphen, colon, dot, upper_z, lower_z}
+use Rattle.base.specs.Bytes.{hyphen, colon, dot, upper_z, lower_z}
 use Rattle.parsing_combinator.specs.Fault.{literal, component}
 use Rattle.parsing_combinator.specs.Pieces.{Piece, digits, fraction, byte, skip_of, any_byte, sign}
 use Rattle.parsing_combinator.specs.Readings.{Reading, ◌or◌, ◌>>=◌, ◌>>◌, give, if_there, require, within}

@@ -2,11 +2,11 @@
 
 use crate::telling::{Told, tell_debug, tell_display, tell_fault, tell_no_call};
 use description::{Component, InvalidFormatDescription};
-use description_tables::component_of;
-use description_words::{
+use description_lexer::{
     DescriptionVersion, Modifier, Rest, begins, escape, is_named, literal, modifiers_of, name_of,
     whole_of,
 };
+use description_tables::component_of;
 use std::alloc::Global;
 
 /// What a call tells of the words in a version.

@@ -1,8 +1,8 @@
 //! What is written for lines one after another.
 ghost use Rattle.std.specs.Prelude.{◌≡◌, ◌≤◌, [], ◌∷◌, ◌++◌, codes, length, take, drop, true, false, IfSome, IfNone, OnOk, OnErr};
 ghost use Rattle.std.specs.Io.KnownBytes.{Appends};
-ghost use Rattle.byte_names.specs.Bytes.{tab, line_feed};
-ghost use Rattle.instants_devices.specs.Told.{AppendsFront};
+ghost use Rattle.base.specs.Bytes.{tab, line_feed};
+ghost use Rattle.instants_stream.specs.Told.{AppendsFront};
 ghost use Rattle.instants_lines.specs.Showing.{setting_in};
 ghost use Rattle.instants_lines.specs.Dates.{replaced};
 ghost use Rattle.instants_lines.specs.Going.{beginning, key_of_line, key_below};
@@ -14,8 +14,7 @@ use crate::line_writer::LineWriter;
 use crate::mode::Mode;
 use crate::parts::write_parts;
 use instants_answers::{Answer, rfc3339_line};
-use instants_devices::{ByteWriter, DeviceFailed};
-use instants_stream::WritesLines;
+use instants_stream::{ByteWriter, DeviceFailed, WritesLines};
 
 impl<'a, 'b> LineWriter<'a, 'b> {
     /// At the beginning a line without a date takes `! none`.

@@ -2,7 +2,7 @@
 use Rattle.std.proofs.Common.{ℕ, zero, suc, ◌==◌, Bool, true, false, cond, List, [], ◌∷◌, length, drop, Option, Some, None}
 use Rattle.std.specs.Prelude.{option_map}
 use Rattle.std.specs.List.{prefix_len}
-use Rattle.byte_names.specs.Bytes.{carriage_return, line_feed, backslash}
+use Rattle.base.specs.Bytes.{carriage_return, line_feed, backslash}
 use Rattle.parsing_combinator.specs.Tame.{EndsWith, Leaves}
 use Rattle.parsing_combinator.proofs.lemmas.Tame.{whole_end, joined, dropped, behind_one}
 use Rattle.parsing_rfc2822.specs.Skips.{Skip, byte_where, past_all, past_some, then_skip, either, rest_or, optional, more_or, up_to, many, past}

@@ -1,5 +1,5 @@
 use Rattle.description_items.specs.Tree.{trees}
-use Rattle.description_words.specs.declared.version.DescriptionVersion.TheVariants.{One}
+use Rattle.description_lexer.specs.declared.version.DescriptionVersion.TheVariants.{One}
 use Rattle.description_grammar.specs.Reading.{read_items}
 use Rattle.description_grammar.proofs.Outcomes.{as_tree, has_outcome, gives_tree, gives_fault}
 use Rattle.description.specs.Described.{items_tree}

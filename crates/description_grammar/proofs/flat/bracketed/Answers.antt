@@ -1,5 +1,5 @@
 use Rattle.description_tree.specs.Inner.{inner_tree}
-use Rattle.description_words.specs.Views.{rest_of}
+use Rattle.description_lexer.specs.Views.{rest_of}
 use Rattle.description_grammar.specs.Reading.{nested_at}
 use Rattle.description_grammar.proofs.Refusals.{no_optional, no_first}
 use Rattle.description_grammar.proofs.flat.bracketed.Goals as goal

@@ -4,9 +4,9 @@ use Rattle.std.proofs.lemmas.List.{map_push}
 use Rattle.description_items.specs.Forms.{is_of_text}
 use Rattle.description_items.specs.Tree.{tree_of, trees}
 use Rattle.description_items.proofs.FormLists.{all_push}
-use Rattle.description_words.specs.Views.{rest_of}
-use Rattle.description_words.proofs.Many.{many_goes_on, many_fails, many_ends}
-use Rattle.description_words.proofs.Readings.{and_then_ok}
+use Rattle.description_lexer.specs.Views.{rest_of}
+use Rattle.description_lexer.proofs.Many.{many_goes_on, many_fails, many_ends}
+use Rattle.description_lexer.proofs.Readings.{and_then_ok}
 use Rattle.description_grammar.specs.Reading.{is_end, element_at, nested_at, read_items}
 use Rattle.description_grammar.proofs.Refusals.{fails_then}
 use Rattle.description_grammar.proofs.Shorter.{nested_lt, item_lt}

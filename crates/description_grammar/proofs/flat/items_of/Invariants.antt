@@ -1,10 +1,10 @@
 use Rattle.std.proofs.Common.{◌≡◌, suc, length, false, true}
 use Rattle.description_items.specs.Forms.{are_of_text}
 use Rattle.description_items.specs.Tree.{trees}
-use Rattle.description_words.specs.Text.{whole}
-use Rattle.description_words.specs.Views.{rest_of}
-use Rattle.description_words.specs.Many.{many}
-use Rattle.description_words.proofs.Many.{SoFar}
+use Rattle.description_lexer.specs.Text.{whole}
+use Rattle.description_lexer.specs.Views.{rest_of}
+use Rattle.description_lexer.specs.Many.{many}
+use Rattle.description_lexer.proofs.Many.{SoFar}
 use Rattle.description_grammar.specs.Reading.{is_end, element_at, nested_at}
 use Rattle.description_grammar.proofs.flat.items_of.Given as goal
 

@@ -7,10 +7,10 @@ use Rattle.description_tree.specs.Forms.{is_read}
 use Rattle.description_tree.specs.declared.inner.FormatDescriptionV3Inner.{OwnedCompound}
 use Rattle.description_tree.proofs.InnerTrees.{tree-OwnedCompound, tree-OwnedFirst, tree-OwnedOptional, read-OwnedCompound, read-OwnedFirst, read-OwnedOptional}
 use Rattle.description_items.specs.Tree.{Compound, listed}
-use Rattle.description_words.specs.Version.{is_three}
-use Rattle.description_words.specs.Views.{rest_of}
-use Rattle.description_words.proofs.Many.{many_goes_on, many_fails, many_ends}
-use Rattle.description_words.proofs.Readings.{not_true, not_false}
+use Rattle.description_lexer.specs.Version.{is_three}
+use Rattle.description_lexer.specs.Views.{rest_of}
+use Rattle.description_lexer.proofs.Many.{many_goes_on, many_fails, many_ends}
+use Rattle.description_lexer.proofs.Readings.{not_true, not_false}
 use Rattle.description_grammar.specs.Reading.{no_bracket, is_end, element_at, nested_at, first_at, optional_at}
 use Rattle.description_grammar.proofs.Shorter.{nested_lt, item_lt}
 use Rattle.description_grammar.proofs.nested.+nested.Goals as goal

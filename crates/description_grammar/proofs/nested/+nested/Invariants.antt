@@ -1,9 +1,9 @@
 use Rattle.std.proofs.Common.{◌≡◌, ◌+◌, ◌*◌, true, suc, length}
-use Rattle.description_words.specs.Views.{rest_of}
-use Rattle.description_words.specs.Many.{many}
+use Rattle.description_lexer.specs.Views.{rest_of}
+use Rattle.description_lexer.specs.Many.{many}
 use Rattle.description_tree.specs.Forms.{are_read}
 use Rattle.description_tree.specs.Inner.{inner_trees}
-use Rattle.description_words.proofs.Many.{SoFar}
+use Rattle.description_lexer.proofs.Many.{SoFar}
 use Rattle.description_grammar.specs.Reading.{is_end, no_bracket, element_at, nested_at}
 use Rattle.description_grammar.proofs.nested.+nested.Given as goal
 

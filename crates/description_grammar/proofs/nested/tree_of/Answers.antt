@@ -1,5 +1,5 @@
 use Rattle.std.proofs.lemmas.Result.{err_from_is_err_and}
-use Rattle.description_words.specs.Views.{rest_of}
+use Rattle.description_lexer.specs.Views.{rest_of}
 use Rattle.description_tree.specs.Inner.{inner_trees}
 use Rattle.description_tree.proofs.InnerTrees.{tree-OwnedCompound, read-OwnedCompound}
 use Rattle.description_grammar.proofs.Refusals.{tree_fails, tree_is}

@@ -1,8 +1,8 @@
 use Rattle.std.proofs.Common.{◌≡◌, false, true, refl, rules}
 use Rattle.std.proofs.lemmas.Result.{err_from_is_err_and}
-use Rattle.description_faults.specs.declared.description_fault.DescriptionFault.TheVariants.{Description}
+use Rattle.description_lexer.specs.declared.description_fault.DescriptionFault.TheVariants.{Description}
 use Rattle.description_items.specs.Tree.{trees}
-use Rattle.description_words.specs.Views.{rest_of}
+use Rattle.description_lexer.specs.Views.{rest_of}
 use Rattle.description_strftime.specs.Reading.{at_end}
 use Rattle.description_strftime.specs.Views.{items_spelled}
 use Rattle.description_strftime.proofs.Parts.{reads_begins, reads_goes_on, reads_fails, reads_ends}

@@ -1,7 +1,7 @@
 use Rattle.std.proofs.Common.{◌≡◌, true, length}
 use Rattle.description_items.specs.Forms.{are_of_text}
 use Rattle.description_items.specs.Tree.{trees}
-use Rattle.description_words.specs.Views.{rest_of}
+use Rattle.description_lexer.specs.Views.{rest_of}
 use Rattle.description_strftime.proofs.Parts.{Reads}
 use Rattle.description_strftime.proofs.strftime.items_of_strftime.Given as goal
 

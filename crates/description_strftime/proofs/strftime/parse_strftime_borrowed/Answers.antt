@@ -1,5 +1,5 @@
 use Rattle.std.proofs.Common.{subst}
-use Rattle.description_faults.specs.Answer.{Gives}
+use Rattle.description_lexer.specs.Answer.{Gives}
 use Rattle.description_items.specs.Tree.{trees}
 use Rattle.description_strftime.proofs.Outcomes.{has_outcome}
 use Rattle.description_strftime.proofs.Relations.{spelled_is_read, faulty_is_refused}

@@ -1,5 +1,5 @@
 use Rattle.std.proofs.Common.{◌≡◌, drop}
-use Rattle.description_words.specs.Views.{modifiers}
+use Rattle.description_lexer.specs.Views.{modifiers}
 use Rattle.description_tables.specs.Component.{combined}
 use Rattle.description_tables.proofs.component.combined.Given as goal
 

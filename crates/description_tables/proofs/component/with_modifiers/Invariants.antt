@@ -1,5 +1,5 @@
 use Rattle.std.proofs.Common.{◌≡◌, drop}
-use Rattle.description_words.specs.Views.{modifiers}
+use Rattle.description_lexer.specs.Views.{modifiers}
 use Rattle.description_tables.specs.Chosen.{nothing}
 use Rattle.description_tables.specs.Component.{with_modifiers}
 use Rattle.description_tables.proofs.component.with_modifiers.Given as goal

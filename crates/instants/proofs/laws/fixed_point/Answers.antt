@@ -1,5 +1,5 @@
 use Rattle.std.proofs.Common.{[], ◌∷◌, ◌++◌, sym, ap, ◌∙◌, arith}
-use Rattle.byte_names.specs.Bytes.{line_feed}
+use Rattle.base.specs.Bytes.{line_feed}
 use Rattle.instants.specs.Answered.{with_target}
 use Rattle.instants.specs.FixedPoint.{alone}
 use Rattle.instants.specs.Place.{answer_to}

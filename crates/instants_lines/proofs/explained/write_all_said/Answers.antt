@@ -1,8 +1,8 @@
 use Rattle.std.proofs.Common.{◌≡◌, ◌+◌, ◌++◌, refl, sym, ap, ◌∙◌, arith}
 use Rattle.std.proofs.KnownBytes.{Appends-nil, Appends-trans}
 use Rattle.std.proofs.lemmas.Result.{err_from_is_err_and}
-use Rattle.instants_devices.specs.Told.{AppendsFront}
-use Rattle.instants_devices.proofs.Told.{AppendsFront-after, AppendsFront-more}
+use Rattle.instants_stream.specs.Told.{AppendsFront}
+use Rattle.instants_stream.proofs.Told.{AppendsFront-after, AppendsFront-more}
 use Rattle.instants_lines.specs.Showing.{setting_in}
 use Rattle.instants_lines.specs.Explained.{all_said}
 use Rattle.instants_lines.proofs.Sayings.{said_before, says, says_more}

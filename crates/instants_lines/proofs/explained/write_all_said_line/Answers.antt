@@ -1,6 +1,6 @@
 use Rattle.std.proofs.lemmas.Result.{err_from_is_err_and}
-use Rattle.instants_devices.proofs.Gathering.{OnErr-map}
-use Rattle.instants_devices.proofs.Told.{AppendsFront-after, AppendsFront-more}
+use Rattle.instants_stream.proofs.Gathering.{OnErr-map}
+use Rattle.instants_stream.proofs.Told.{AppendsFront-after, AppendsFront-more}
 use Rattle.instants_lines.proofs.explained.write_all_said_line.Goals as goal
 
 pub returns-in_err-write_all_said-clause-front : goal.returns-in_err-write_all_said-clause-front

@@ -1,5 +1,5 @@
 use Rattle.parsing_rfc2822.specs.Direct.{direct}
-use Rattle.parsing_staged.specs.Staged.{reads_rfc2822}
+use Rattle.parsing_parsable.specs.Staged.{reads_rfc2822}
 use Rattle.instants_sources.proofs.Roads.{by_either_road}
 use Rattle.instants_sources.proofs.moment.fast_rfc2822.Goals as goal
 

@@ -1,5 +1,5 @@
 use Rattle.parsing_rfc3339.specs.Direct.{direct}
-use Rattle.parsing_staged.specs.Staged.{reads_rfc3339}
+use Rattle.parsing_parsable.specs.Staged.{reads_rfc3339}
 use Rattle.instants_sources.proofs.Roads.{by_either_road}
 use Rattle.instants_sources.proofs.moment.fast_rfc3339.Goals as goal
 

@@ -1,7 +1,7 @@
 use Rattle.std.proofs.Common.{arith}
 use Rattle.description_items.specs.Tree.{trees}
 use Rattle.description_tree.specs.Description.{v3_tree}
-use Rattle.description_laws.proofs.Nodes.{tree_nodes}
+use Rattle.description.proofs.Nodes.{tree_nodes}
 use Rattle.parsing_laws.proofs.Few.{items_few}
 use Rattle.instants_sources.proofs.source.described.Goals as goal
 

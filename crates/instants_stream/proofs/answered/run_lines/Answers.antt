@@ -1,7 +1,7 @@
 use Rattle.std.proofs.Common.{subst}
 use Rattle.std.specs.Io.KnownBytes.{Appends}
-use Rattle.instants_devices.specs.Told.{AppendsFront}
-use Rattle.instants_devices.proofs.Gathering.{OnOk-map}
+use Rattle.instants_stream.specs.Told.{AppendsFront}
+use Rattle.instants_stream.proofs.Gathering.{OnOk-map}
 use Rattle.instants_stream.proofs.EachAnswered.{all_answered, owed-answered, due-answered}
 use Rattle.instants_stream.proofs.answered.run_lines.Goals as goal
 

@@ -4,7 +4,7 @@ use Rattle.std.specs.Io.KnownBytes.{IsAtEnd}
 use Rattle.std.proofs.lemmas.Grind.{common_steps}
 use Rattle.std.proofs.lemmas.List.Elements.{All-nil}
 use Rattle.instants_stream.specs.Lines.{HasNoLineFeed, last_part}
-use Rattle.instants_devices.proofs.Told.{on_ok, on_err}
+use Rattle.instants_stream.proofs.Told.{on_ok, on_err}
 use Rattle.instants_stream.proofs.Lines.{last_part_free}
 use Rattle.instants_stream.proofs.Progress.{Progress, begins, handed_on, pauses, fails_to_hand_on, fails_at_end, through_with_rest, through, fails_at_flush, done, Through}
 use Rattle.instants_stream.proofs.ReadSteps.{more_step, more_fails, forgets}

@@ -5,10 +5,10 @@ use Rattle.std.proofs.lemmas.List.Elements.{All-nil}
 use Rattle.std.proofs.lemmas.Result.{err_from_is_err_and}
 use Rattle.instants_stream.specs.Lines.{HasNoLineFeed, whole_lines}
 use Rattle.instants_stream.specs.Steps.{seen_after, written}
-use Rattle.instants_devices.specs.Told.{AppendsFront}
+use Rattle.instants_stream.specs.Told.{AppendsFront}
 use Rattle.instants_stream.proofs.Lines.{whole_lines_none, last_part_of_none}
 use Rattle.instants_stream.proofs.Written.{written-none, behind-none, written-next, behind-next, written-begins}
-use Rattle.instants_devices.proofs.Told.{AppendsFront-after, AppendsFront-more}
+use Rattle.instants_stream.proofs.Told.{AppendsFront-after, AppendsFront-more}
 use Rattle.instants_stream.proofs.Seen.{seen_after-front, seen_after-next, next_ended, next_lines, next_some, rest_is_last, lines_are_all}
 use Rattle.instants_stream.proofs.run.write_whole_lines.Goals as goal
 

@@ -2,7 +2,7 @@ use Rattle.description_items.specs.Tree.{listed, trees}
 use Rattle.description_tree.specs.Description.{v3_tree}
 use Rattle.parsing_components.specs.Component.{reads_component, reads_component_v3}
 use Rattle.parsing_record.specs.Reads.{reading, reading_of_all}
-use Rattle.parsing_staged.specs.Staged.{reads_iso8601}
+use Rattle.parsing_parsable.specs.Staged.{reads_iso8601}
 use Rattle.instants_sources.proofs.Refused.{names_none}
 use Rattle.instants_sources.proofs.source.Source.cannot_match.Goals as goal
 

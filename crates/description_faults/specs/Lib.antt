@@ -1,4 +1,0 @@
-pub mod Answer
-pub mod Fault
-pub mod Further
-pub mod Sentence

@@ -1,8 +1,0 @@
-use Rattle.description_laws.proofs.TwoVersions.{items_two, ranged_two}
-use Rattle.description_laws.proofs.two_versions.Goals as goal
-
-pub returns-clause-items : goal.returns-clause-items
-returns-clause-items c = items_two
-
-pub returns-clause-same : goal.returns-clause-same
-returns-clause-same c = ranged_two

@@ -1,0 +1,80 @@
+-- Loops that read one thing after the other, once for all of them.
+use Rattle.std.proofs.Common.{◌≡◌, ℕ, zero, suc, ◌≤◌, ◌<◌, List, [], ◌∷◌, ◌++◌, length, Result, Ok, Err, Bool, true, false, refl, sym, ap, ◌∙◌, append_assoc, arith, inl, inr}
+use Rattle.std.proofs.lemmas.List.{append-nil}
+use Rattle.description_lexer.specs.declared.description_fault.DescriptionFault.{DescriptionFault}
+use Rattle.description_lexer.specs.declared.description_fault.DescriptionFault.TheVariants as errors
+use Rattle.description_lexer.specs.Text.{Rest}
+use Rattle.description_lexer.specs.Fault.{Fault, fault_of}
+use Rattle.description_lexer.specs.Answer.{◌>>=◌, Fails}
+use Rattle.description_lexer.specs.Many.{many}
+use Rattle.description_lexer.proofs.Readings.{bind_ok, ok_is, chosen}
+
+abbrev pub Read : Type 0 → Type 0
+Read A = Result (List A × Rest) Fault
+
+abbrev pub Step : Type 0 → Type 0
+Step A = Rest → Result (A × Rest) Fault
+
+-- what was read before, and what is still read
+abbrev pub with_front : {A : Type 0} → List A → Read A → Read A
+with_front front read = read >>= λ x. Ok (front ++ x.0, x.1)
+
+-- what is told of the whole is what was read, and what the rest gives
+pub record SoFar {A : Type 0} (ends : Rest → Bool) (step : Step A) (total : Read A) (front : List A) (rest : Rest) : Type 0 where
+  pub fuel : ℕ
+  pub enough : length rest.text < fuel
+  pub same : total ≡ with_front front (many ends step fuel rest)
+
+regroup : {A : Type 0} (front : List A) (m : A) (read : Read A) → with_front front (read >>= λ x. Ok (m ∷ x.0, x.1)) ≡ with_front (front ++ m ∷ []) read
+regroup {A} front m (Ok x) = ap (λ (ms : List A). Ok (ms, x.1)) (simp append_assoc)
+regroup front m (Err f) = refl
+
+bare : {A : Type 0} (read : Read A) → with_front [] read ≡ read
+bare (Ok x) = refl
+bare (Err f) = refl
+
+pub many_begins : {A : Type 0} (ends : Rest → Bool) (step : Step A) (s : Rest) → SoFar ends step (many ends step (suc (length s.text)) s) [] s
+many_begins ends step s = record { fuel = suc (length s.text); enough = omega arith; same = sym (bare (many ends step (suc (length s.text)) s)) }
+
+at_step : {A : Type 0} (ends : Rest → Bool) (step : Step A) (k : ℕ) (s : Rest) → ends s ≡ false → many ends step (suc k) s ≡ (step s >>= λ x. many ends step k x.1 >>= λ others. Ok (x.0 ∷ others.0, others.1))
+unfolding many
+at_step ends step k s e = rw e refl
+
+at_end : {A : Type 0} (ends : Rest → Bool) (step : Step A) (k : ℕ) (s : Rest) → ends s ≡ true → many ends step (suc k) s ≡ Ok ([], s)
+unfolding many
+at_end ends step k s e = rw e refl
+
+pub many_goes_on : {A : Type 0} (ends : Rest → Bool) (step : Step A) (total : Read A) (front : List A) (s : Rest) (m : A) (after : Rest) → SoFar ends step total front s → ends s ≡ false → length after.text < length s.text → step s ≡ Ok (m, after) → SoFar ends step total (front ++ m ∷ []) after
+many_goes_on {A} ends step total front s m after so_far e less is_m = go so_far.fuel so_far.enough so_far.same
+  where
+    go : (f : ℕ) → length s.text < f → total ≡ with_front front (many ends step f s) → SoFar ends step total (front ++ m ∷ []) after
+    go zero lt same = absurd (omega arith)
+    go (suc k) lt same = record { fuel = k; enough = omega arith; same = same ∙ ap (with_front front) (at_step ends step k s e) ∙ rw is_m (regroup front m (many ends step k after)) }
+
+pub many_fails : {A : Type 0} (ends : Rest → Bool) (step : Step A) (total : Read A) (front : List A) (s : Rest) (d : DescriptionFault) → SoFar ends step total front s → ends s ≡ false → Fails d (step s) → Fails d total
+many_fails ends step total front s errors.Memory so_far e is_d = tt
+many_fails ends step total front s (errors.Description d) so_far e is_d = go so_far.fuel so_far.enough so_far.same
+  where
+    go : (f : ℕ) → length s.text < f → total ≡ with_front front (many ends step f s) → total ≡ Err (fault_of d)
+    go zero lt same = absurd (omega arith)
+    go (suc k) lt same = same ∙ ap (with_front front) (at_step ends step k s e) ∙ rw is_d refl
+
+pub many_ends : {A : Type 0} (ends : Rest → Bool) (step : Step A) (total : Read A) (front : List A) (s : Rest) → SoFar ends step total front s → ends s ≡ true → total ≡ Ok (front, s)
+many_ends {A} ends step total front s so_far e = go so_far.fuel so_far.enough so_far.same
+  where
+    go : (f : ℕ) → length s.text < f → total ≡ with_front front (many ends step f s) → total ≡ Ok (front, s)
+    go zero lt same = absurd (omega arith)
+    go (suc k) lt same = same ∙ ap (with_front front) (at_end ends step k s e) ∙ ap (λ (ms : List A). Ok (ms, s)) (append-nil front)
+
+-- where each step takes something, there is no more after many than before
+pub many_le : {A : Type 0} (ends : Rest → Bool) (step : Step A) → ((s : Rest) (x : A × Rest) → ends s ≡ false → step s ≡ Ok x → length x.1.text < length s.text) → (fuel : ℕ) (s : Rest) (x : List A × Rest) → many ends step fuel s ≡ Ok x → length x.1.text ≤ length s.text
+unfolding many
+many_le {A} ends step less zero s x e = let h = ok_is ([], s) x e in omega (arith, ap (λ (y : List A × Rest). length y.1.text) h)
+many_le {A} ends step less (suc k) s x e =
+    elim (chosen (ends s) (Ok ([], s)) (step s >>= λ y. many ends step k y.1 >>= λ others. Ok (y.0 ∷ others.0, others.1)) (Ok x) e) [
+      | inl h ↦ omega (arith, ap (λ (y : List A × Rest). length y.1.text) (ok_is ([], s) x h.1))
+      | inr h ↦
+          let a = bind_ok (step s) (λ y. many ends step k y.1 >>= λ others. Ok (y.0 ∷ others.0, others.1)) x h.1 in
+          let b = bind_ok (many ends step k a.0.1) (λ others. Ok (a.0.0 ∷ others.0, others.1)) x a.2 in
+          omega (arith, less s a.0 h.0 a.1, many_le ends step less k a.0.1 b.0 b.1, ap (λ (y : List A × Rest). length y.1.text) (ok_is (a.0.0 ∷ b.0.0, b.0.1) x b.2))
+    ]

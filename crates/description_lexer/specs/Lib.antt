@@ -1,0 +1,9 @@
+pub mod Answer
+pub mod Fault
+pub mod Further
+pub mod Sentence
+pub mod Many
+pub mod Text
+pub mod Version
+pub mod Views
+pub mod Words

@@ -1,2 +1,0 @@
-pub mod Gathering
-pub mod Told

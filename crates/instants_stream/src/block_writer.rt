@@ -1,0 +1,199 @@
+//! A writer that gathers bytes in a block, and hands whole blocks on.
+ghost use Rattle.std.specs.Prelude.{◌≡◌, ◌&&◌, ◌+◌, ◌<◌, ◌≤◌, ◌++◌, false, true, take, length, vec_len, IfOk, OnOk, OnErr};
+ghost use Rattle.std.specs.Io.KnownBytes.{Appends, Keeps};
+ghost use Rattle.instants_stream.specs.Told.{StaysOrUntold, AppendsFront};
+
+use crate::devices::{ByteWriter, DeviceFailed};
+
+/// Writes to another writer, a block at a time.
+///
+/// It holds what the other writer holds, and behind that the bytes that were gathered. After a failure it makes no
+/// call any more, and dropping it makes none: what was not handed on then is lost, and `write` has said so.
+#[derive(Drop)]
+pub struct BlockWriter<W> {
+    inner: W,
+    block: Vec<u8>,
+    start: usize,
+    end: usize,
+    is_flushed: bool,
+    ghost ordered: { start ≤ end },
+    ghost within: { end ≤ vec_len block },
+    ghost some: { 0 < vec_len block },
+    ghost unwritten: { is_flushed ≡ true → end ≡ 0 },
+}
+
+// Puts bytes into the block, behind as many as stand before the place.
+#[inline(always)]
+fn put(block: &mut Vec<u8>, at: usize, bytes: &[u8])
+    requires { at + length bytes.now ≤ vec_len block.old }
+    ensures front { take (at + length bytes.now) block.new.items
+        ≡ take at block.old.items ++ bytes.now }
+    ensures len { vec_len block.new ≡ vec_len block.old }
+{
+    block[at..at + bytes.len()].copy_from_slice(bytes);
+}
+
+impl<W: ByteWriter> BlockWriter<W> {
+    ghost use Rattle.instants_stream.specs.Gathering.{held_by};
+
+    /// Gathers bytes in the block, all of which it may use. What is gathered is written to the other writer where the
+    /// block is full, by `hand_on`, and by `flush`.
+    pub fn new(block: Vec<u8>, inner: W) -> Self
+        requires { 0 < vec_len block }
+        ensures held { Keeps (W.held inner) (⟦<BlockWriter<W> as ByteWriter>⟧.held result) }
+        ensures failed { ⟦<BlockWriter<W> as ByteWriter>⟧.failed result ≡ W.failed inner }
+    {
+        BlockWriter {
+            inner,
+            block,
+            start: 0,
+            end: 0,
+            is_flushed: false,
+        }
+    }
+
+    // Writes all that was gathered to the other writer.
+    #[inline(never)]
+    fn write_block(&mut self) -> Result<(), DeviceFailed>
+        requires { W.failed self.old.inner ≡ false }
+        ensures held { OnOk result (Keeps (held_by W.held self.old) (W.held self.new.inner)) }
+        ensures empty { OnOk result (self.new.end ≡ 0) }
+        ensures ok { OnOk result (W.failed self.new.inner ≡ W.failed self.old.inner) }
+        ensures kept { OnErr result
+            (StaysOrUntold (held_by W.held self.old) (held_by W.held self.new)) }
+        ensures err { OnErr result (W.failed self.new.inner ≡ true) }
+        ensures flushed { self.new.is_flushed ≡ self.old.is_flushed }
+    {
+        while self.start < self.end {
+            let count = self.inner.write(&self.block[self.start..self.end])?;
+            self.start += count;
+        }
+        self.start = 0;
+        self.end = 0;
+        Ok(())
+    }
+
+    // Puts bytes into the block, which has room for them.
+    #[inline(always)]
+    fn gather(&mut self, from: &[u8])
+        requires room { self.old.end + length from.now ≤ vec_len self.old.block }
+        requires unflushed { self.old.is_flushed ≡ false }
+        ensures moved { Appends (held_by W.held self.old) (held_by W.held self.new) from.now }
+        ensures inner { self.new.inner ≡ self.old.inner }
+        ensures flushed { self.new.is_flushed ≡ self.old.is_flushed }
+    {
+        put(&mut self.block, self.end, from);
+        self.end += from.len();
+    }
+
+    // Makes room, and puts as many of the bytes into the block as it takes.
+    #[cold]
+    #[inline(never)]
+    fn write_past_end(&mut self, from: &[u8]) -> Result<usize, DeviceFailed>
+        requires works { W.failed self.old.inner ≡ false }
+        requires unflushed { self.old.is_flushed ≡ false }
+        ensures within { IfOk result (λ count. count ≤ length from.now) }
+        ensures moved { IfOk result (λ count.
+            Appends (held_by W.held self.old) (held_by W.held self.new)
+            (take count from.now)) }
+        ensures none { IfOk result (λ count. 0 < length from.now → 0 < count) }
+        ensures ok { OnOk result (W.failed self.new.inner ≡ W.failed self.old.inner) }
+        ensures kept { OnErr result
+            (StaysOrUntold (held_by W.held self.old) (held_by W.held self.new)) }
+        ensures err { OnErr result (W.failed self.new.inner ≡ true) }
+        ensures flushed { self.new.is_flushed ≡ self.old.is_flushed }
+    {
+        self.write_block()?;
+        let count = from.len().min(self.block.len());
+        self.gather(&from[..count]);
+        Ok(count)
+    }
+
+    // Writes the first bytes where the block has no room for all 64. They go by the block, however short it is: if their
+    // address got to a device, the compiler would no longer know that they lie apart from the block, at six instructions
+    // more a line.
+    #[cold]
+    #[inline(never)]
+    fn write_front_past_end(&mut self, bytes: &[u8; 64], len: usize) -> Result<(), DeviceFailed>
+        requires works { W.failed self.old.inner ≡ false }
+        requires within { len ≤ 64 }
+        ensures written { OnOk result (Appends
+            (held_by W.held self.old) (held_by W.held self.new) (take len bytes.now)) }
+        ensures ok { OnOk result (W.failed self.new.inner ≡ W.failed self.old.inner) }
+        ensures unflushed { OnOk result (0 < len →
+            ⟦<BlockWriter<W> as ByteWriter>⟧.flushed self.new ≡ false) }
+        ensures front { OnErr result (AppendsFront
+            (held_by W.held self.old) (held_by W.held self.new) (take len bytes.now)) }
+        ensures err { OnErr result (W.failed self.new.inner ≡ true) }
+    {
+        self.write_all(&bytes[..len])
+    }
+}
+
+impl<W: ByteWriter> ByteWriter for BlockWriter<W> {
+    ghost use Rattle.instants_stream.specs.Gathering.{held_by, held_below};
+
+    ghost held = { λ s. held_by W.held s };
+
+    ghost failed = { λ s. W.failed s.inner };
+
+    ghost flushed = { λ s. s.is_flushed && W.flushed s.inner };
+
+    #[inline(always)]
+    fn write(&mut self, from: &[u8]) -> Result<usize, DeviceFailed> {
+        self.is_flushed = false;
+        if self.block.len() - self.end < from.len() {
+            return self.write_past_end(from);
+        }
+        self.gather(from);
+        Ok(from.len())
+    }
+
+    fn flush(&mut self) -> Result<(), DeviceFailed> {
+        self.write_block()?;
+        self.inner.flush()?;
+        self.is_flushed = true;
+        Ok(())
+    }
+
+    fn is_flushed(&self) -> bool {
+        self.is_flushed && self.inner.is_flushed()
+    }
+
+    fn has_failed(&self) -> bool {
+        self.inner.has_failed()
+    }
+
+    // (a call before each read leaves the loop over lines its registers)
+    #[inline(never)]
+    fn hand_on(&mut self) -> Result<(), DeviceFailed>
+        requires { W.failed self.old.inner ≡ false }
+        ensures held { OnOk result (Keeps (held_by W.held self.old) (held_by W.held self.new)) }
+        // Nothing is held back.
+        ensures below { OnOk result (Keeps (held_by W.held self.old) (held_below W.held self.new)) }
+        ensures flushed { OnOk result (⟦<BlockWriter<W> as ByteWriter>⟧.flushed self.new
+            ≡ ⟦<BlockWriter<W> as ByteWriter>⟧.flushed self.old) }
+        ensures ok { OnOk result (W.failed self.new.inner ≡ W.failed self.old.inner) }
+
+        ensures err { OnErr result (W.failed self.new.inner ≡ true) }
+        ensures kept { OnErr result
+            (StaysOrUntold (held_by W.held self.old) (held_by W.held self.new)) }
+    {
+        if self.end > 0 {
+            self.write_block()?;
+        }
+        self.inner.hand_on()
+    }
+
+    // All 64 bytes are put into the block, which needs no test of how many they are.
+    #[inline(always)]
+    fn write_front(&mut self, bytes: &[u8; 64], len: usize) -> Result<(), DeviceFailed> {
+        if self.block.len() - self.end < 64 {
+            return self.write_front_past_end(bytes, len);
+        }
+        self.is_flushed = false;
+        put(&mut self.block, self.end, bytes);
+        self.end += len;
+        Ok(())
+    }
+}

@@ -1,2 +1,0 @@
-pub mod Put
-pub mod Staged
