@@ -2,11 +2,11 @@
 //! descriptions beside one another read, and how many items a reading begins, with the nodes that bound it.
 #![tactic(auto)]
 
-mod description;
 pub mod descriptions;
 mod items;
 pub mod node_laws;
+mod tree;
 pub mod two_roads;
 
-pub use description::places_of_description;
 pub use items::places_of_items;
+pub use tree::places_of_description;

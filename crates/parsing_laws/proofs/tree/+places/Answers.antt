@@ -1,7 +1,7 @@
 use Rattle.std.proofs.Common.{arith}
 use Rattle.description_tree.specs.Inner.{inner_tree}
 use Rattle.parsing_laws.proofs.Counting.{next_nodes, no_nodes}
-use Rattle.parsing_laws.proofs.description.+places.Goals as goal
+use Rattle.parsing_laws.proofs.tree.+places.Goals as goal
 
 pub places_of_nodes-loop-node-preserved : goal.places_of_nodes-loop-node-preserved
 places_of_nodes-loop-node-preserved t c =
