@@ -6,9 +6,10 @@ ghost use Rattle.parsing_components.specs.Component.{reads_component_v3};
 ghost use Rattle.parsing_record.specs.Meaning.{Answers, Reads, optionally, first_of};
 ghost use Rattle.parsing_record.specs.Reads.{reads, reading, reading_of_all, each_reads, tried, tried_in_all};
 
+use crate::parsed::Parsed;
+use crate::tally::Tally;
 use description_tree::{FormatDescriptionV3, FormatDescriptionV3Inner as Inner};
 use parsing_combinator::ParseFromDescription;
-use parsing_record::{Parsed, Tally};
 
 /// Reads by the description into the record, tells the tally of each node that is begun, and returns the bytes after
 /// what was read.
@@ -32,7 +33,7 @@ pub fn parse_tree<'a, T: Tally>(
 }
 
 // Reads by one node, and tells the tally; a refusal leaves what was read before it in the record.
-#[tactic(auto, unfolding(parsing_record::specs::Reads::reads, parsing_record::specs::Meaning::optionally))]
+#[tactic(auto, unfolding(crate::specs::Reads::reads, crate::specs::Meaning::optionally))]
 #[cycle(reading)]
 fn read_node<'a, T: Tally>(
     node: &Inner<'_>,
@@ -63,7 +64,7 @@ fn read_node<'a, T: Tally>(
 }
 
 // Reads by the node, or leaves everything as it was.
-#[tactic(auto, unfolding(parsing_record::specs::Meaning::optionally))]
+#[tactic(auto, unfolding(crate::specs::Meaning::optionally))]
 #[cycle(reading)]
 fn read_optional<'a, T: Tally>(
     node: &Inner<'_>,
