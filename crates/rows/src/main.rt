@@ -5,7 +5,8 @@
 //!
 //! - `## Descriptions`: texts as descriptions, and their words (`texts`);
 //! - `## Readings`: texts as a description or a format reads them (`readings`);
-//! - `## Runs`: words and a stream, as the program `instants` answers them (`runs`).
+//! - `## Runs`: words and a stream, as the program `instants` answers them (`runs`);
+//! - `## Dated lines`: the same of `instants-lines`.
 #![tactic(auto)]
 
 mod bytes;
@@ -21,6 +22,7 @@ mod texts;
 mod versions;
 mod words;
 
+use runs::Program;
 use std::alloc::Global;
 use std::io;
 use std::process::ExitCode;
@@ -49,7 +51,7 @@ fn answer_input(rt: &HostRuntime) -> io::Result<()> {
 enum Kind {
     Description,
     Reading,
-    Run,
+    Run(Program),
 }
 
 // What the rows below a heading are.
@@ -57,7 +59,8 @@ fn kind_below(line: &str) -> Option<Kind> {
     match line {
         "## Descriptions" => Some(Kind::Description),
         "## Readings" => Some(Kind::Reading),
-        "## Runs" => Some(Kind::Run),
+        "## Runs" => Some(Kind::Run(Program::Instants)),
+        "## Dated lines" => Some(Kind::Run(Program::InstantsLines)),
         _ => None,
     }
 }
@@ -93,6 +96,6 @@ fn tell_row(alloc: Global, told: &mut String, kind: Kind, row: &str) -> Told {
     match kind {
         Kind::Description => texts::tell_row(alloc, told, row),
         Kind::Reading => readings::tell_row(alloc, told, row),
-        Kind::Run => runs::tell_row(alloc, told, row),
+        Kind::Run(program) => runs::tell_row(alloc, told, program, row),
     }
 }

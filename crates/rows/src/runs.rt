@@ -1,4 +1,4 @@
-//! Rows of runs: `WORDS | STREAM => ANSWER`, the words of the program, the bytes of its input, and what it writes.
+//! Rows of runs: `WORDS | STREAM => ANSWER`, the words of a program, the bytes of its input, and what it writes.
 //!
 //! - Words are parted by blanks. A word with a blank in it, or an empty one, stands in single quotes.
 //! - The stream has `\n`, `\r`, `\t`, `\\` and `\xHH` for bytes that aren't plain text. It ends in a line feed that isn't
@@ -13,19 +13,30 @@ ghost use Rattle.std.specs.Prelude.{◌≡◌, ◌<◌, false};
 use crate::bytes::{tell_bytes, unescape};
 use crate::telling::{Told, tell_no_call, tells_other};
 use instants::{ByteReader, ByteWriter, CutReader, CutWriter, ProgramFault, run_words};
+use instants_lines::LinesFault;
 use std::alloc::{AllocError, Global};
+use std::fmt::Display;
 
 // How many bytes may be written.
 const MOST_WRITTEN: usize = 1000;
 
-/// What is answered to words and a stream.
-pub fn tell_row(alloc: Global, told: &mut String, row: &str) -> Told {
+/// The program that is run.
+#[derive(Clone, Copy)]
+pub enum Program {
+    /// It answers lines that are dates.
+    Instants,
+    /// It writes lines by the dates in them.
+    InstantsLines,
+}
+
+/// What a program answers to words and a stream.
+pub fn tell_row(alloc: Global, told: &mut String, program: Program, row: &str) -> Told {
     let Some((words, stream)) = row.split_once(" | ") else {
         return tell_no_call(told);
     };
     let mut bytes = Vec::new(alloc);
     add_stream(&mut bytes, stream)?;
-    tell_run(alloc, told, words, bytes.as_slice())
+    tell_run(alloc, told, program, words, bytes.as_slice())
 }
 
 // Adds the bytes of a stream.
@@ -39,10 +50,16 @@ fn add_stream(bytes: &mut Vec<u8>, stream: &str) -> Told {
     }
 }
 
-fn tell_run(alloc: Global, told: &mut String, words: &str, stream: &[u8]) -> Told {
+fn tell_run(
+    alloc: Global,
+    told: &mut String,
+    program: Program,
+    words: &str,
+    stream: &[u8],
+) -> Told {
     let mut parted = Vec::new(alloc);
     if are_parted(&mut parted, words)? {
-        tell_answer(alloc, told, parted.as_slice(), stream)
+        tell_answer(alloc, told, program, parted.as_slice(), stream)
     } else {
         tell_no_call(told)
     }
@@ -63,10 +80,16 @@ fn are_parted<'a>(parted: &mut Vec<&'a str>, words: &'a str) -> Result<bool, All
 }
 
 // What is answered, by whatever reads and writes.
-fn tell_answer(alloc: Global, told: &mut String, words: &[&str], stream: &[u8]) -> Told {
-    tell_by(alloc, told, words, stream, MOST_WRITTEN)?;
+fn tell_answer(
+    alloc: Global,
+    told: &mut String,
+    program: Program,
+    words: &[&str],
+    stream: &[u8],
+) -> Told {
+    tell_by(alloc, told, program, words, stream, MOST_WRITTEN)?;
     for most in 1..27 {
-        if tells_other_by(alloc, told, words, stream, most)? {
+        if tells_other_by(alloc, told, program, words, stream, most)? {
             break;
         }
     }
@@ -77,6 +100,7 @@ fn tell_answer(alloc: Global, told: &mut String, words: &[&str], stream: &[u8]) 
 fn tells_other_by(
     alloc: Global,
     told: &mut String,
+    program: Program,
     words: &[&str],
     stream: &[u8],
     most: usize,
@@ -84,24 +108,40 @@ fn tells_other_by(
     requires { 0 < most }
 {
     let mut other = String::new(alloc);
-    tell_by(alloc, &mut other, words, stream, most)?;
+    tell_by(alloc, &mut other, program, words, stream, most)?;
     tells_other(told, other.as_str(), format_args!("by {most}"))
 }
 
 // What is answered with reads and writes of at most so many bytes.
-fn tell_by(alloc: Global, told: &mut String, words: &[&str], stream: &[u8], most: usize) -> Told
+fn tell_by(
+    alloc: Global,
+    told: &mut String,
+    program: Program,
+    words: &[&str],
+    stream: &[u8],
+    most: usize,
+) -> Told
     requires { 0 < most }
 {
     let mut space = [0; MOST_WRITTEN];
     let mut reader = CutReader::new(stream, most, None);
     let mut writer = CutWriter::new(&mut space, most, None);
-    match run_on(alloc, words, &mut reader, &mut writer) {
-        Ok(()) => tell_output(told, writer.written()),
-        Err(fault) => {
-            tell_bytes(told, writer.written())?;
-            write!(told, "{fault} (status {})", fault.status())
-        }
+    match program {
+        Program::Instants => match run_on(alloc, words, &mut reader, &mut writer) {
+            Ok(()) => tell_output(told, writer.written()),
+            Err(fault) => tell_end(told, writer.written(), &fault, fault.status()),
+        },
+        Program::InstantsLines => match run_lines_on(alloc, words, &mut reader, &mut writer) {
+            Ok(()) => tell_output(told, writer.written()),
+            Err(fault) => tell_end(told, writer.written(), &fault, fault.status()),
+        },
     }
+}
+
+// What was written before a run ended early, its sentence and its status.
+fn tell_end<F: Display>(told: &mut String, written: &[u8], fault: &F, status: u8) -> Told {
+    tell_bytes(told, written)?;
+    write!(told, "{fault} (status {status})")
 }
 
 // A run on these devices, whatever they are: what `run_words` promises of them is not needed above.
@@ -115,6 +155,19 @@ fn run_on<'a, R: ByteReader, W: ByteWriter>(
     requires writer { W.failed writer.old ≡ false }
 {
     run_words(alloc, words, reader, writer)
+}
+
+// The same of the program for dates in lines.
+fn run_lines_on<'a, R: ByteReader, W: ByteWriter>(
+    alloc: Global,
+    words: &[&'a str],
+    reader: &mut R,
+    writer: &mut W,
+) -> Result<(), LinesFault<'a>>
+    requires reader { R.failed reader.old ≡ false }
+    requires writer { W.failed writer.old ≡ false }
+{
+    instants_lines::run_words(alloc, words, reader, writer)
 }
 
 // An output: its bytes, but for a line feed at their end, or `\c` where there is none.
