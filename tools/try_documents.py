@@ -14,8 +14,9 @@ has links and no more: `instants` and `instants-lines`, to the built programs, a
 of the repository. Commands are looked for in it before all others.
 
 A table of Markdown whose head has the columns `line` and `answer` is of examples too: a row's line is piped into the program
-with the row's `words`, or with `+00:00 +00:00 100` and the row's `example`, and what it prints is the row's answer. Rows
-without a line are passed over.
+with the row's `words`, or with `+00:00 +00:00 100` and the row's `example`, and what it prints is the row's answer. Where the
+head has `key` for `answer`, the program is `instants-lines` in that mode, and the line stands behind its key. Rows without a
+line are passed over.
 
 A fence that begins with ```sh builds is not run: its commands build, which takes long. A document without an example is an
 error, so that none is left out by a slip, and so is a fence of another kind but those of code that the list below names.
@@ -127,11 +128,12 @@ def examples_of_tables(lines):
             head = None
         elif head is None:
             head = cells_of(row)
-        elif {"line", "answer"} <= {*head}:
+        elif "line" in head and {"answer", "key"} & {*head}:
             cells = dict(zip(head, cells_of(row)))
             if cells["line"].strip() and not re.fullmatch(r"-+", cells["line"]):
                 words = cells.get("words") or f"+00:00 +00:00 100 {cells['example']}"
-                found.append(Example(at, [f"printf '%b\\n' {shlex.quote(cells['line'])} | instants {words}"], [cells["answer"]], section))
+                program, answer = ("instants-lines key", f"{cells['key']}\t{cells['line']}") if "key" in head else ("instants", cells["answer"])
+                found.append(Example(at, [f"printf '%b\\n' {shlex.quote(cells['line'])} | {program} {words}"], [answer], section))
     return found
 
 
