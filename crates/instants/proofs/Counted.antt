@@ -1,4 +1,4 @@
--- Items and places, counted one source after the other.
+-- Items and nodes, counted one source after the other.
 use Rattle.std.proofs.Common.{◌≡◌, ℕ, ◌+◌, ◌^◌, ◌<◌, ◌≤◌, List, [], ◌∷◌, true, false, Option, Result, Ok, Err, length, drop, get_or, map, refl, ap, ℤ, arith}
 use Rattle.std.specs.Prelude.{is_some}
 use Rattle.std.specs.Result.{result_ok}
@@ -8,21 +8,21 @@ use Rattle.datetime_wall.specs.Wall.{Shown}
 use Rattle.parsing_combinator.specs.Fault.{Fault}
 use Rattle.instants_sources.specs.Grammar.{Grammar, grammar_of}
 use Rattle.instants_sources.specs.Named.{named}
-use Rattle.instants_sources.specs.Tried.{places_in, tried_by}
+use Rattle.instants_sources.specs.Tried.{nodes_in, tried_by}
 use Rattle.instants_sources.specs.declared.source.Source.{Source}
-use Rattle.instants_sources.proofs.FewPlaces.{tried_by-le}
-use Rattle.instants.specs.Tried.{places_of, unless_named, tried_on}
+use Rattle.instants_sources.proofs.FewNodes.{tried_by-le}
+use Rattle.instants.specs.Tried.{nodes_in_all, unless_named, tried_on}
 
 unless_le : (r : Result Shown Fault) (n : ℕ) → unless_named r n ≤ n
 unless_le (Ok m) n = omega arith
 unless_le (Err f) n = omega arith
 
--- no more items are tried than there are places
-pub tried_on-le : (assumed : Option ℤ) (grammars : List Grammar) (line : List ℕ) → tried_on assumed grammars line ≤ places_of grammars
+-- no more items are tried than there are nodes
+pub tried_on-le : (assumed : Option ℤ) (grammars : List Grammar) (line : List ℕ) → tried_on assumed grammars line ≤ nodes_in_all grammars
 unfolding tried_on
 tried_on-le assumed [] line = omega arith
 tried_on-le assumed (grammar ∷ others) line =
-    omega (arith, tried_by-le assumed grammar line, unless_le (named assumed grammar line) (tried_on assumed others line), tried_on-le assumed others line, sum_by-cons places_in grammar others)
+    omega (arith, tried_by-le assumed grammar line, unless_le (named assumed grammar line) (tried_on assumed others line), tried_on-le assumed others line, sum_by-cons nodes_in grammar others)
 
 -- those of the first source are among them
 tried_on-first : (assumed : Option ℤ) (grammar : Grammar) (others : List Grammar) (line : List ℕ) → tried_by assumed grammar line ≤ tried_on assumed (grammar ∷ others) line
@@ -64,7 +64,7 @@ IsTriedSoFar assumed sources line i so_far = so_far + tried_on assumed (map gram
 
 -- those of the next one can be counted
 pub next_fits : (assumed : Option ℤ) (sources : List Source) (line : List ℕ) (i so_far : ℕ) (x : Source) → i < length sources → x ≡ get_or sources i x → IsTriedSoFar assumed sources line i so_far
-    → places_of (map grammar_of sources) < 2 ^ 128 → so_far + tried_by assumed (grammar_of x) line < 2 ^ 128
+    → nodes_in_all (map grammar_of sources) < 2 ^ 128 → so_far + tried_by assumed (grammar_of x) line < 2 ^ 128
 next_fits assumed sources line i so_far x lt e before few =
     let others = map grammar_of (drop (i + 1) sources) in
     let cut = ap (λ grammars. tried_on assumed grammars line) (sources_from sources i x lt e) in
@@ -93,18 +93,18 @@ tried_all assumed sources line i so_far le before =
     let end = ap (λ xs. tried_on assumed (map grammar_of xs) line) (drop_all i sources le) in
     omega (arith, end, before)
 
--- ---- places
+-- ---- nodes
 
 -- so many so far, and those of the others
-abbrev pub ArePlacesSoFar : List Source → ℕ → ℕ → Type 0
-ArePlacesSoFar sources i so_far = so_far + places_of (map grammar_of (drop i sources)) ≡ places_of (map grammar_of sources)
+abbrev pub AreNodesSoFar : List Source → ℕ → ℕ → Type 0
+AreNodesSoFar sources i so_far = so_far + nodes_in_all (map grammar_of (drop i sources)) ≡ nodes_in_all (map grammar_of sources)
 
-pub next_places : (sources : List Source) (i so_far : ℕ) (x : Source) → i < length sources → x ≡ get_or sources i x → ArePlacesSoFar sources i so_far → ArePlacesSoFar sources (i + 1) (so_far + places_in (grammar_of x))
-next_places sources i so_far x lt e before =
-    let cut = ap (λ grammars. places_of grammars) (sources_from sources i x lt e) in
-    omega (arith, cut, before, sum_by-cons places_in (grammar_of x) (map grammar_of (drop (i + 1) sources)))
+pub next_nodes_of : (sources : List Source) (i so_far : ℕ) (x : Source) → i < length sources → x ≡ get_or sources i x → AreNodesSoFar sources i so_far → AreNodesSoFar sources (i + 1) (so_far + nodes_in (grammar_of x))
+next_nodes_of sources i so_far x lt e before =
+    let cut = ap (λ grammars. nodes_in_all grammars) (sources_from sources i x lt e) in
+    omega (arith, cut, before, sum_by-cons nodes_in (grammar_of x) (map grammar_of (drop (i + 1) sources)))
 
-pub all_places : (sources : List Source) (i so_far : ℕ) → length sources ≤ i → ArePlacesSoFar sources i so_far → so_far ≡ places_of (map grammar_of sources)
-all_places sources i so_far le before =
-    let end = ap (λ xs. places_of (map grammar_of xs)) (drop_all i sources le) in
+pub nodes_of_all : (sources : List Source) (i so_far : ℕ) → length sources ≤ i → AreNodesSoFar sources i so_far → so_far ≡ nodes_in_all (map grammar_of sources)
+nodes_of_all sources i so_far le before =
+    let end = ap (λ xs. nodes_in_all (map grammar_of xs)) (drop_all i sources le) in
     omega (arith, end, before)

@@ -1,14 +1,14 @@
--- How many places a timeline has, and how many items are tried on a line.
+-- How many nodes a timeline has, and how many items are tried on a line.
 use Rattle.std.specs.Prelude.{ℕ, ◌+◌, List, [], ◌∷◌, Option, Result, Ok, Err, sum_by, ℤ}
 use Rattle.datetime_wall.specs.Wall.{Shown}
 use Rattle.parsing_combinator.specs.Fault.{Fault}
 use Rattle.instants_sources.specs.Grammar.{Grammar}
 use Rattle.instants_sources.specs.Named.{named}
-use Rattle.instants_sources.specs.Tried.{places_in, tried_by}
+use Rattle.instants_sources.specs.Tried.{nodes_in, tried_by}
 
--- the places of all sources
-abbrev pub places_of : List Grammar → ℕ
-places_of grammars = sum_by places_in grammars
+-- the nodes of all sources
+abbrev pub nodes_in_all : List Grammar → ℕ
+nodes_in_all grammars = sum_by nodes_in grammars
 
 -- so many, unless a moment is named
 abbrev pub unless_named : Result Shown Fault → ℕ → ℕ

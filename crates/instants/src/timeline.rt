@@ -2,13 +2,13 @@
 ghost use Rattle.std.specs.Prelude.{◌<◌, ◌^◌, length, map};
 ghost use Rattle.calendar.specs.UtcOffset.{IsClockOffset};
 ghost use Rattle.instants_sources.specs.Grammar.{grammar_of};
-ghost use Rattle.instants.specs.Tried.{places_of};
+ghost use Rattle.instants.specs.Tried.{nodes_in_all};
 
 mod answers;
 mod calls;
 mod fast_ways;
+mod nodes;
 mod parts;
-mod places;
 
 use calendar::UtcOffset;
 pub(crate) use fast_ways::{Iso8601Way, Led, PlannedWay, Rfc2822Way, Rfc3339Way};
@@ -24,6 +24,6 @@ pub struct Timeline<'a> {
     // There is a source to try.
     ghost some: { 0 < length sources.items },
     ghost clock: { IsClockOffset target },
-    // All places can be counted.
-    ghost few: { places_of (map grammar_of sources.items) < 2 ^ 128 },
+    // All nodes can be counted.
+    ghost few: { nodes_in_all (map grammar_of sources.items) < 2 ^ 128 },
 }

@@ -1,5 +1,5 @@
 pub mod BothFormats
-pub mod FewPlaces
+pub mod FewNodes
 pub mod Planned
 pub mod Refused
 pub mod Roads

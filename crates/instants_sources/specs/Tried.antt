@@ -1,4 +1,4 @@
--- How many places a source has, and how many of them a reading of a line begins.
+-- How many nodes a source has, and how many of them a reading of a line begins.
 use Rattle.std.specs.Prelude.{ℕ, List, Option, ℤ}
 use Rattle.description_items.specs.Tree.{listed}
 use Rattle.description.specs.Laws.{nodes, all_nodes}
@@ -13,13 +13,13 @@ use Rattle.instants_sources.specs.Named.{defaults_of}
 abbrev pub beginning : Option ℤ → Record
 beginning assumed = starting (defaults_of assumed)
 
--- the places of a source: all nodes of what it reads by; a well-known format is one
-abbrev pub places_in : Grammar → ℕ
-places_in (Items items) = all_nodes (listed items)
-places_in (V3 tree) = nodes tree
-places_in Rfc2822 = 1
-places_in Rfc3339 = 1
-places_in Iso8601 = 1
+-- the nodes of a source: all of what it reads by; a well-known format is one
+abbrev pub nodes_in : Grammar → ℕ
+nodes_in (Items items) = all_nodes (listed items)
+nodes_in (V3 tree) = nodes tree
+nodes_in Rfc2822 = 1
+nodes_in Rfc3339 = 1
+nodes_in Iso8601 = 1
 
 -- the items that a source tries on a line: all whose reading begins, with an offset assumed or none; a well-known format is one
 abbrev pub tried_by : Option ℤ → Grammar → List ℕ → ℕ

@@ -4,7 +4,7 @@
 mod both_formats;
 mod described;
 mod moment;
-mod places;
+mod nodes;
 mod ruled_out;
 mod source;
 

@@ -3,7 +3,7 @@ ghost use Rattle.std.specs.Prelude.{◌≡◌, ◌≤◌, ◌^◌, IfOk, IfErr};
 ghost use Rattle.instants_words.specs.Sources.{said_by};
 ghost use Rattle.instants_sources.specs.Grammar.{grammar_of, Means, SpellsIn, IsRefused, IsRefusedIn};
 ghost use Rattle.instants_sources.specs.Named.{defaults_of, named};
-ghost use Rattle.instants_sources.specs.Tried.{places_in};
+ghost use Rattle.instants_sources.specs.Tried.{nodes_in};
 ghost use Rattle.parsing_combinator.specs.FaultOf.{fault_of, Gives};
 ghost use Rattle.parsing_combinator.specs.ShortName.{HasShortName};
 ghost use Rattle.parsing_record.specs.Meaning.{meaning};
@@ -40,11 +40,11 @@ pub enum Source<'a> {
 impl<'a> Source<'a> {
     /// The source that a text means.
     ///
-    /// It has at most 2^64 places. The error says what is wrong with a description, and at which byte of it, or that
+    /// It has at most 2^64 nodes. The error says what is wrong with a description, and at which byte of it, or that
     /// memory ran out.
     pub fn new(alloc: Global, text: SourceText<'a>) -> Result<Source<'a>, DescriptionFault<'a>>
         ensures means { IfOk result (λ source. Means (said_by text.entry) (grammar_of source)) }
-        ensures few { IfOk result (λ source. places_in (grammar_of source) ≤ 2 ^ 64) }
+        ensures few { IfOk result (λ source. nodes_in (grammar_of source) ≤ 2 ^ 64) }
         ensures refused { IfErr result (IsRefused (said_by text.entry)) }
     {
         match text {
@@ -115,7 +115,7 @@ fn described<'a>(
     text: &'a str,
 ) -> Result<Source<'a>, DescriptionFault<'a>>
     ensures means { IfOk result (λ source. SpellsIn version text.now (grammar_of source)) }
-    ensures few { IfOk result (λ source. places_in (grammar_of source) ≤ 2 ^ 64) }
+    ensures few { IfOk result (λ source. nodes_in (grammar_of source) ≤ 2 ^ 64) }
     ensures refused { IfErr result (IsRefusedIn version text.now) }
 {
     match parse_borrowed(alloc, version, text)? {

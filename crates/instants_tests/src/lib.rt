@@ -23,11 +23,11 @@ mod memory;
 #[cfg(test)]
 mod moved_lines;
 #[cfg(test)]
+mod nodes;
+#[cfg(test)]
 mod ordered_lines;
 #[cfg(test)]
 mod page;
-#[cfg(test)]
-mod places;
 #[cfg(test)]
 mod printed;
 #[cfg(test)]

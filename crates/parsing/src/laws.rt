@@ -18,7 +18,7 @@ ghost use Rattle.parsing_laws.specs.TwoFormats.{HoldsAtMostAnOffset, IsReadAlike
 ghost use Rattle.parsing_laws.specs.TwoRoads.{AgreeOn};
 ghost use Rattle.parsing.specs.Laws.{HasOneInstant};
 
-pub use parsing_laws::node_laws::{few_nodes, tried_at_most_places};
+pub use parsing_laws::node_laws::{few_nodes, tried_at_most_nodes};
 
 /// A record without Unix time that names a date, a time of day and an offset, of which the calendar has the day in UTC,
 /// is accepted alike as `OffsetDateTime`, `UtcDateTime` and `Timestamp`, with one instant; else each refuses it.

@@ -19,8 +19,8 @@
 //!   `try_from`.
 //! - What is refused is refused as `Parse`: the bytes can't be read (`ParseFromDescription`), or what they say names
 //!   no value (`TryFromParsed`). `Error` is any refusal of these crates but want of memory.
-//! - `Parsable::parse_into_counted` also counts the items that it tries. No bytes take more than `places_of_items` or
-//!   `places_of_description` says.
+//! - `Parsable::parse_into_counted` also counts the items that it tries. No bytes take more than `nodes_in_items` or
+//!   `nodes_in_description` says.
 //! - `laws` has what follows from the contracts. A call of a law hands it to a proof.
 #![tactic(auto)]
 
@@ -30,7 +30,7 @@ pub mod laws;
 pub use description_items::{Iso8601, Rfc2822, Rfc3339};
 pub use error::Error;
 pub use parsing_combinator::{Parse, ParseFromDescription, TryFromParsed};
-pub use parsing_laws::{places_of_description, places_of_items};
+pub use parsing_laws::{nodes_in_description, nodes_in_items};
 pub use parsing_parsable::{Items, Parsable, TwoRoads};
 pub use parsing_record::Parsed;
 pub use parsing_values::is_valid_leap_second_stand_in;

@@ -8,5 +8,5 @@ pub mod node_laws;
 mod tree;
 pub mod two_roads;
 
-pub use items::places_of_items;
-pub use tree::places_of_description;
+pub use items::nodes_in_items;
+pub use tree::nodes_in_description;

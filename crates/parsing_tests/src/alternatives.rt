@@ -3,7 +3,7 @@
 use crate::support::is_same;
 use description::modifier::{Day, Hour24, Minute, Padding};
 use description::{BorrowedFormatItem, Component};
-use parsing::{Items, Parsable, Parse, ParseFromDescription, Parsed, places_of_items};
+use parsing::{Items, Parsable, Parse, ParseFromDescription, Parsed, nodes_in_items};
 
 const DAY: BorrowedFormatItem<'static> = BorrowedFormatItem::Component(Component::Day(Day {
     padding: Padding::Zero,
@@ -116,14 +116,14 @@ fn alternatives_are_read() -> Option<bool> {
     Some(answers == [true; 3])
 }
 
-// The places of alternatives and of what may be missing.
-fn places() -> u128 {
+// The nodes of alternatives and of what may be missing.
+fn nodes() -> u128 {
     let clock = [HOUR, COLON, MINUTE];
     let either = [BorrowedFormatItem::Compound(&clock), DAY];
     let day_alone = DAY;
     let first = BorrowedFormatItem::First(&either);
     let may_be_day = BorrowedFormatItem::Optional(&day_alone);
-    places_of_items(&[first, may_be_day])
+    nodes_in_items(&[first, may_be_day])
 }
 
 #[test]
@@ -131,7 +131,7 @@ fn alternatives(rt: HostRuntime) {
     assert!(rt;
         what_may_be_missing_is_read() == Some([true; 3])
             && alternatives_are_read() == Some(true)
-            && places() == 8
+            && nodes() == 8
     );
 }
 

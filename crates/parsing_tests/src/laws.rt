@@ -15,7 +15,7 @@ fn readings() {
 }
 
 #[test]
-fn places() {
-    laws::tried_at_most_places();
+fn nodes() {
+    laws::tried_at_most_nodes();
     laws::few_nodes();
 }

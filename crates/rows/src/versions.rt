@@ -8,7 +8,7 @@ use description::{
     BorrowedFormatItem, Description, DescriptionVersion, FormatDescriptionV3, parse_borrowed,
     parse_strftime_borrowed,
 };
-use parsing::{Items, places_of_description, places_of_items};
+use parsing::{Items, nodes_in_description, nodes_in_items};
 use std::alloc::{AllocError, Global};
 
 /// What is told of a description.
@@ -103,7 +103,7 @@ fn tell_description(told: &mut String, description: &Description<'_>, asked: Ask
 
 fn tell_items(told: &mut String, items: &[BorrowedFormatItem<'_>], asked: Asked<'_>) -> Told {
     match asked {
-        Asked::Call("places", _) => tell_display(told, &places_of_items(items)),
+        Asked::Call("nodes", _) => tell_display(told, &nodes_in_items(items)),
         Asked::Call(call, input) => tell_call(told, &Items(items), call, input),
         _ => tell_debug(told, &items),
     }
@@ -111,7 +111,7 @@ fn tell_items(told: &mut String, items: &[BorrowedFormatItem<'_>], asked: Asked<
 
 fn tell_tree(told: &mut String, tree: &FormatDescriptionV3<'_>, asked: Asked<'_>) -> Told {
     match asked {
-        Asked::Call("places", _) => tell_display(told, &places_of_description(tree)),
+        Asked::Call("nodes", _) => tell_display(told, &nodes_in_description(tree)),
         Asked::Call(call, input) => tell_call(told, tree, call, input),
         _ => tell_debug(told, tree),
     }

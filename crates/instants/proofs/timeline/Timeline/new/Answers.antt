@@ -3,7 +3,7 @@ use Rattle.std.specs.Vec.{vec_len}
 use Rattle.std.proofs.lemmas.List.{length-append, map-append}
 use Rattle.std.proofs.lemmas.List.Sums.{sum_by_push}
 use Rattle.instants_sources.specs.Grammar.{grammar_of}
-use Rattle.instants_sources.specs.Tried.{places_in}
+use Rattle.instants_sources.specs.Tried.{nodes_in}
 use Rattle.instants_words.specs.Sources.{said_by}
 use Rattle.instants.specs.Refusals.{refused_at}
 use Rattle.instants.specs.Sources.{IsRefusal}
@@ -26,5 +26,5 @@ loop-text-preserved c =
       mean = rw (pushed, map-append grammar_of c.loop-text.read.items (c.in-Ok.source ∷ []))
           (mean_index c.args.sources.now c.loop-text.text-index _ before one c.loop-text-test.true c.loop-text.invariant.mean c.in-Ok.ensures.means);
       few = rw (pushed, map-append grammar_of c.loop-text.read.items (c.in-Ok.source ∷ []))
-          (omega (arith, sum_by_push places_in before one, c.loop-text.invariant.few, c.in-Ok.ensures.few));
+          (omega (arith, sum_by_push nodes_in before one, c.loop-text.invariant.few, c.in-Ok.ensures.few));
     }

@@ -2,7 +2,7 @@ use Rattle.std.proofs.Common.{◌≡◌, ◌≤◌, ◌*◌, ◌^◌, take, map,
 use Rattle.instants_words.specs.Sources.{said_by}
 use Rattle.instants_sources.specs.Grammar.{grammar_of}
 use Rattle.instants.specs.Sources.{AllMean}
-use Rattle.instants.specs.Tried.{places_of}
+use Rattle.instants.specs.Tried.{nodes_in_all}
 use Rattle.instants.proofs.timeline.Timeline.new.Given as goal
 
 -- the sources so far were read
@@ -10,5 +10,5 @@ abbrev pub invariant-loop-text : goal.invariant-loop-text
 invariant-loop-text l = record {
   count : length l.read.items ≡ l.text-index;
   mean : AllMean (map said_by (take l.text-index l.sources)) (map grammar_of l.read.items);
-  few : places_of (map grammar_of l.read.items) ≤ l.text-index * 2 ^ 64;
+  few : nodes_in_all (map grammar_of l.read.items) ≤ l.text-index * 2 ^ 64;
 }

@@ -1,23 +1,23 @@
-//! The places of a source, and how many of them a reading begins.
+//! The nodes of a source, and how many of them a reading begins.
 ghost use Rattle.std.specs.Prelude.{◌≡◌, min};
 ghost use Rattle.parsing_record.specs.Tally.{greatest_count};
 ghost use Rattle.instants_sources.specs.Grammar.{grammar_of};
-ghost use Rattle.instants_sources.specs.Tried.{places_in, tried_by};
+ghost use Rattle.instants_sources.specs.Tried.{nodes_in, tried_by};
 
 use crate::source::{Source, starting};
 use calendar::UtcOffset;
-use parsing_laws::{places_of_description, places_of_items};
+use parsing_laws::{nodes_in_description, nodes_in_items};
 use parsing_parsable::{Items, Parsable};
 
 impl Source<'_> {
-    /// How many places the source has: all nodes of what it reads by; a well-known format is one. Where they are more
+    /// How many nodes the source has: all of what it reads by; a well-known format is one. Where they are more
     /// than `u128` holds, it is the greatest `u128`.
-    pub fn places(&self) -> u128
-        ensures { result ≡ min (places_in (grammar_of self.now)) greatest_count }
+    pub fn nodes(&self) -> u128
+        ensures { result ≡ min (nodes_in (grammar_of self.now)) greatest_count }
     {
         match self {
-            Source::Items(described) => places_of_items(described.items()),
-            Source::V3(described) => places_of_description(described.tree()),
+            Source::Items(described) => nodes_in_items(described.items()),
+            Source::V3(described) => nodes_in_description(described.tree()),
             Source::Rfc2822 | Source::Rfc3339 | Source::Iso8601 => 1,
         }
     }

@@ -1,12 +1,12 @@
--- A reading of a line begins each place of a source at most once.
+-- A reading of a line begins each node of a source at most once.
 use Rattle.std.proofs.Common.{ℕ, ◌≤◌, List, Option, ℤ, arith}
 use Rattle.description_items.specs.Tree.{listed}
 use Rattle.parsing_components.specs.Component.{reads_component, reads_component_v3}
 use Rattle.parsing_laws.proofs.Tried.{tree_tried, in_turn_tried}
 use Rattle.instants_sources.specs.Grammar.{Grammar, Items, V3, Rfc2822, Rfc3339, Iso8601}
-use Rattle.instants_sources.specs.Tried.{beginning, places_in, tried_by}
+use Rattle.instants_sources.specs.Tried.{beginning, nodes_in, tried_by}
 
-pub tried_by-le : (assumed : Option ℤ) (grammar : Grammar) (line : List ℕ) → tried_by assumed grammar line ≤ places_in grammar
+pub tried_by-le : (assumed : Option ℤ) (grammar : Grammar) (line : List ℕ) → tried_by assumed grammar line ≤ nodes_in grammar
 tried_by-le assumed (Items items) line = in_turn_tried reads_component (listed items) (beginning assumed) line
 tried_by-le assumed (V3 tree) line = tree_tried reads_component_v3 tree (beginning assumed) line
 tried_by-le assumed Rfc2822 line = omega arith

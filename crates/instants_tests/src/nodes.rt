@@ -1,4 +1,4 @@
-//! Places of sources, and how many items are tried on a line.
+//! Nodes of sources, and how many items are tried on a line.
 
 use crate::support::timeline;
 use calendar::UtcOffset;
@@ -7,7 +7,7 @@ use instants_sources::Source;
 use std::alloc::{AllocError, Global};
 
 // Words parted by bars, a line, and what is told of it: the Unix time that it names or why it has none, how many items are
-// tried on it, and all places. In the row with `Err(Year)` a moment that is not shown ends the list too. In the last two
+// tried on it, and all nodes. In the row with `Err(Year)` a moment that is not shown ends the list too. In the last two
 // an assumed offset makes a moment of what names none without it, and the other source is not tried then.
 const ROWS: &str = r#"+00:00|-|100|v3|[first [[year]-[month]] [x]] => x => Err(Insufficient) 6 8
 +00:00|-|100|v3|[first [[year]-[month]] [x]] => 2021-x => Err(Component("month")) 8 8
@@ -32,7 +32,7 @@ fn told(alloc: Global, timeline: &Timeline, line: &str) -> Result<String, AllocE
         Ok(moment) => Ok(moment.unix_timestamp()),
         Err(fault) => Err(fault),
     };
-    format!(in alloc; "{second:?} {tried} {}", timeline.places())
+    format!(in alloc; "{second:?} {tried} {}", timeline.nodes())
 }
 
 // Whether a row tells what is so.
@@ -80,7 +80,7 @@ fn deep(rt: HostRuntime) {
     assert!(rt; deep_is_told(rt.alloc()) == Some(true));
 }
 
-// A source, a line, how many items it tries on it, and its places.
+// A source, a line, how many items it tries on it, and its nodes.
 static SOURCES: [(SourceText<'static>, &[u8], u128, u128); 5] = [
     (SourceText::Rfc2822, b"", 1, 1),
     (SourceText::Rfc3339, b"", 1, 1),
@@ -89,16 +89,16 @@ static SOURCES: [(SourceText<'static>, &[u8], u128, u128); 5] = [
     (SourceText::V3("[first [[year]-[month]] [x]]"), b"x", 6, 8),
 ];
 
-// What a source tries on a line, and its places.
+// What a source tries on a line, and its nodes.
 fn counts(alloc: Global, text: SourceText, line: &[u8]) -> Option<(u128, u128)> {
     let source = Source::new(alloc, text).ok()?;
-    Some((source.tried(line, &Some(UtcOffset::UTC)), source.places()))
+    Some((source.tried(line, &Some(UtcOffset::UTC)), source.nodes()))
 }
 
 #[test]
 fn sources(rt: HostRuntime) {
     for row in &SOURCES {
-        let (text, line, tried, places) = *row;
-        assert!(rt; counts(rt.alloc(), text, line) == Some((tried, places)));
+        let (text, line, tried, nodes) = *row;
+        assert!(rt; counts(rt.alloc(), text, line) == Some((tried, nodes)));
     }
 }

@@ -1,10 +1,10 @@
-//! The places of a timeline, and how many items a line takes.
+//! The nodes of a timeline, and how many items a line takes.
 ghost use Rattle.std.specs.Prelude.{◌≡◌, ◌≢◌, ◌≤◌, IfOk, IfErr};
 ghost use Rattle.instants_answers.specs.Text.{FitsLine};
 ghost use Rattle.instants.specs.Place.{IsPlace, place_of};
 ghost use Rattle.instants.specs.Refusal.{IsShort, long, refusal_said};
 ghost use Rattle.instants.specs.Settings.{setting_of};
-ghost use Rattle.instants.specs.Tried.{places_of, tried_on};
+ghost use Rattle.instants.specs.Tried.{nodes_in_all, tried_on};
 
 use crate::line_fault::LineFault;
 use crate::timeline::Timeline;
@@ -12,7 +12,7 @@ use datetime_types::OffsetDateTime;
 
 impl Timeline<'_> {
     /// The line's place, as `place` answers it, and how many items are tried for it: those whose reading begins, by each
-    /// source up to the first that names a moment, or by all. The number is at most `places`.
+    /// source up to the first that names a moment, or by all. The number is at most `nodes`.
     pub fn place_counted(&self, line: &[u8]) -> (Result<OffsetDateTime, LineFault>, u128)
         ensures place { IsPlace result.0 (place_of (setting_of self.now) line.now) }
         ensures fits { IfOk result.0 FitsLine }
@@ -20,7 +20,7 @@ impl Timeline<'_> {
         ensures never_long { IfErr result.0 (λ fault. refusal_said fault ≢ long) }
         ensures tried { result.1 ≡
             tried_on (setting_of self.now).assumed (setting_of self.now).sources line.now }
-        ensures at_most { result.1 ≤ places_of (setting_of self.now).sources }
+        ensures at_most { result.1 ≤ nodes_in_all (setting_of self.now).sources }
     {
         (self.place(line), self.tried(line))
     }
@@ -40,15 +40,15 @@ impl Timeline<'_> {
         tried
     }
 
-    /// How many places the sources have together: all nodes of what they read by, where a well-known format is one. No
+    /// How many nodes the sources have together: all of what they read by, where a well-known format is one. No
     /// line takes more items.
-    pub fn places(&self) -> u128
-        ensures places { result ≡ places_of (setting_of self.now).sources }
+    pub fn nodes(&self) -> u128
+        ensures nodes { result ≡ nodes_in_all (setting_of self.now).sources }
     {
-        let mut places = 0u128;
+        let mut nodes = 0u128;
         for source in &self.sources {
-            places += source.places();
+            nodes += source.nodes();
         }
-        places
+        nodes
     }
 }
