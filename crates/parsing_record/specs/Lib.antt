@@ -4,3 +4,4 @@ pub mod Meaning
 pub mod Reads
 pub mod Tally
 pub mod Whole
+pub mod Node

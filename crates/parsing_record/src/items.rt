@@ -3,11 +3,12 @@ ghost use Rattle.std.specs.Prelude.{◌≡◌, Ok, IfSome};
 ghost use Rattle.description_items.specs.Tree.{tree_of, trees, listed};
 ghost use Rattle.parsing_combinator.specs.FaultOf.{Gives, reading_fault};
 ghost use Rattle.parsing_components.specs.Component.{reads_component, reads_component_v3};
-ghost use Rattle.parsing_components.specs.Put.{MayRead};
-ghost use Rattle.parsing_record.specs.Meaning.{Answers, Reads, literally, first_of};
-ghost use Rattle.parsing_record.specs.Reads.{putting, reading, reading_of_all, each_reads, tried, tried_in_all};
+ghost use Rattle.parsing_record.specs.Meaning.{Reads, literally};
+ghost use Rattle.parsing_record.specs.Reads.{putting, reading, reading_of_all, tried, tried_in_all};
 
+use crate::node::{Node, NodeStep};
 use crate::parsed::Parsed;
+use crate::reading::{read_node, read_nodes};
 use crate::tally::{NoTally, Tally};
 use description_items::{BorrowedFormatItem, Component};
 use parsing_combinator::ParseFromDescription;
@@ -91,7 +92,7 @@ impl Parsed {
             (tried reads_component (tree_of item.now) self.old input.now) }
     {
         let before = *self;
-        let answer = read_item(item, input, self, tally);
+        let answer = read_node(item, input, self, tally);
         if answer.is_err() {
             *self = before;
         }
@@ -124,7 +125,7 @@ impl Parsed {
             (tried_in_all reads_component (listed (trees items.now)) self.old input.now) }
     {
         let before = *self;
-        let answer = read_items(items, input, self, tally);
+        let answer = read_nodes(items, input, self, tally);
         if answer.is_err() {
             *self = before;
         }
@@ -144,137 +145,48 @@ fn after_byte<'a>(literal: &[u8], input: &'a [u8]) -> Option<&'a [u8]>
     }
 }
 
-// Reads by an item that most descriptions have: `None` says nothing of the bytes, and changes nothing.
-#[inline(always)]
-#[tactic(auto, unfolding(crate::specs::Reads::reads))]
-fn read_usual_item<'a>(
-    item: &BorrowedFormatItem<'_>,
-    input: &'a [u8],
-    parsed: &mut Parsed,
-) -> Option<&'a [u8]>
-    ensures answer { MayRead result parsed.old parsed.new
-        (reading reads_component (tree_of item.now) parsed.old input.now) }
-    ensures tally { IfSome result
-        (λ _. tried reads_component (tree_of item.now) parsed.old input.now ≡ 1) }
-{
-    match item {
-        BorrowedFormatItem::Literal(literal) => after_byte(literal, input),
-        BorrowedFormatItem::StringLiteral(literal) => after_byte(literal.as_bytes(), input),
-        BorrowedFormatItem::Component(component) => read_usual(
-            component,
-            input,
-            &mut parsed.fields,
-        ),
-        _ => None,
-    }
-}
+impl Node for BorrowedFormatItem<'_> {
+    ghost use Rattle.description_items.specs.Tree.{tree_of};
+    ghost use Rattle.parsing_components.specs.Component.{reads_component};
 
-// Reads by one item, the shortest way where it is a usual one.
-#[inline(always)]
-#[cycle(reading)]
-fn read_next<'a, T: Tally>(
-    item: &BorrowedFormatItem<'_>,
-    input: &'a [u8],
-    parsed: &mut Parsed,
-    tally: &mut T,
-) -> Result<&'a [u8], ParseFromDescription>
-    ensures answer { Answers result parsed.new
-        (reading reads_component (tree_of item.now) parsed.old input.now) }
-    ensures tally { T.grows tally.old tally.new
-        (tried reads_component (tree_of item.now) parsed.old input.now) }
-{
-    if let Some(rest) = read_usual_item(item, input, parsed) {
-        tally.begin();
-        return Ok(rest);
-    }
-    read_item(item, input, parsed, tally)
-}
+    ghost language = { reads_component };
 
-// Reads by one item, and tells the tally; a refusal leaves what was read before it in the record.
-#[tactic(auto, unfolding(crate::specs::Reads::reads, crate::specs::Meaning::optionally))]
-#[cycle(reading)]
-fn read_item<'a, T: Tally>(
-    item: &BorrowedFormatItem<'_>,
-    input: &'a [u8],
-    parsed: &mut Parsed,
-    tally: &mut T,
-) -> Result<&'a [u8], ParseFromDescription>
-    ensures answer { Answers result parsed.new
-        (reading reads_component (tree_of item.now) parsed.old input.now) }
-    ensures tally { T.grows tally.old tally.new
-        (tried reads_component (tree_of item.now) parsed.old input.now) }
-{
-    tally.begin();
-    match item {
-        BorrowedFormatItem::Literal(literal) => Parsed::parse_literal(input, literal),
-        BorrowedFormatItem::StringLiteral(literal) => Parsed::parse_literal(
-            input,
-            literal.as_bytes(),
-        ),
-        BorrowedFormatItem::Component(component) => parsed.parse_component(input, *component),
-        BorrowedFormatItem::Compound(items) => read_items(items, input, parsed, tally),
-        BorrowedFormatItem::Optional(item) => {
-            let before = *parsed;
-            match read_item(item, input, parsed, tally) {
-                Ok(rest) => Ok(rest),
-                Err(_) => {
-                    *parsed = before;
-                    Ok(input)
-                }
-            }
-        }
-        BorrowedFormatItem::First(items) => read_first(items, input, parsed, tally),
-    }
-}
+    ghost is_either = { λ _ older _. older };
 
-// Reads by each item in turn.
-#[cycle(reading)]
-fn read_items<'a, T: Tally>(
-    items: &[BorrowedFormatItem<'_>],
-    input: &'a [u8],
-    parsed: &mut Parsed,
-    tally: &mut T,
-) -> Result<&'a [u8], ParseFromDescription>
-    ensures answer { Answers result parsed.new
-        (reading_of_all reads_component (listed (trees items.now)) parsed.old input.now) }
-    ensures tally { T.grows tally.old tally.new
-        (tried_in_all reads_component (listed (trees items.now)) parsed.old input.now) }
-{
-    let mut rest = input;
-    for item in items {
-        rest = read_next(item, rest, parsed, tally)?;
-    }
-    Ok(rest)
-}
+    ghost tree = { tree_of };
 
-// Reads by the first item that reads.
-#[cycle(reading)]
-fn read_first<'a, T: Tally>(
-    items: &[BorrowedFormatItem<'_>],
-    input: &'a [u8],
-    parsed: &mut Parsed,
-    tally: &mut T,
-) -> Result<&'a [u8], ParseFromDescription>
-    ensures answer { Answers result parsed.new
-        (first_of (each_reads reads_component (listed (trees items.now))) parsed.old input.now).0 }
-    ensures tally { T.grows tally.old tally.new
-        (first_of (each_reads reads_component (listed (trees items.now))) parsed.old input.now).1 }
-{
-    let before = *parsed;
-    let mut fault = None;
-    for item in items {
-        match read_item(item, input, parsed, tally) {
-            Ok(rest) => return Ok(rest),
-            Err(refused) => {
-                *parsed = before;
-                if fault.is_none() {
-                    fault = Some(refused);
-                }
-            }
+    fn step(&self) -> NodeStep<'_, Self> {
+        match self {
+            BorrowedFormatItem::Literal(literal) => NodeStep::Literal(literal),
+            BorrowedFormatItem::StringLiteral(literal) => NodeStep::Literal(literal.as_bytes()),
+            BorrowedFormatItem::Component(component) => NodeStep::Component(*component),
+            BorrowedFormatItem::Compound(items) => NodeStep::Compound(items),
+            BorrowedFormatItem::Optional(item) => NodeStep::Optional(true, item),
+            BorrowedFormatItem::First(items) => NodeStep::First(items),
         }
     }
-    match fault {
-        None => Ok(input),
-        Some(refused) => Err(refused),
+
+    #[inline(always)]
+    fn read_component<'a>(
+        component: Component,
+        input: &'a [u8],
+        parsed: &mut Parsed,
+    ) -> Result<&'a [u8], ParseFromDescription> {
+        parsed.parse_component(input, component)
+    }
+
+    #[inline(always)]
+    #[tactic(auto, unfolding(crate::specs::Reads::reads))]
+    fn read_fast<'a>(&self, input: &'a [u8], parsed: &mut Parsed) -> Option<&'a [u8]> {
+        match self {
+            BorrowedFormatItem::Literal(literal) => after_byte(literal, input),
+            BorrowedFormatItem::StringLiteral(literal) => after_byte(literal.as_bytes(), input),
+            BorrowedFormatItem::Component(component) => read_usual(
+                component,
+                input,
+                &mut parsed.fields,
+            ),
+            _ => None,
+        }
     }
 }

@@ -5,13 +5,16 @@ mod clock;
 mod conversions;
 mod days;
 mod items;
+mod node;
 mod offset;
 mod parsed;
+mod reading;
 mod tally;
 mod tree;
 mod usual;
 mod years;
 
+pub use node::{Node, NodeStep};
 pub use parsed::Parsed;
 pub use tally::{ItemTally, NoTally, Tally};
 pub use tree::parse_tree;

@@ -1,0 +1,21 @@
+-- How large trees are: those inside a tree are smaller.
+use Rattle.std.proofs.Common.{◌≡◌, ℕ, zero, suc, ◌+◌, ◌<◌, ◌≤◌, List, [], ◌∷◌, length, map, get_or, arith}
+use Rattle.description_items.specs.Tree.{Tree, Trees, Literal, Part, Compound, Optional, First, none, also, listed}
+
+unfoldable mutual
+  pub size : Tree → ℕ
+  size (Literal text) = 1
+  size (Part c) = 1
+  size (Compound ts) = 1 + size_all ts
+  size (Optional format t) = 1 + size t
+  size (First ts) = 1 + size_all ts
+
+  pub size_all : Trees → ℕ
+  size_all none = 0
+  size_all (also t ts) = size t + size_all ts
+
+pub one_of_them : {X : Type 0} (tree : X → Tree) (xs : List X) (i : ℕ) (default : X) → i < length xs → size (tree (get_or xs i default)) ≤ size_all (listed (map tree xs))
+unfolding size
+one_of_them tree [] i default lt = omega (arith, lt)
+one_of_them tree (x ∷ xs) zero default lt = omega arith
+one_of_them tree (x ∷ xs) (suc i) default lt = let below = one_of_them tree xs i default (omega (arith, lt)) in omega (arith, below)

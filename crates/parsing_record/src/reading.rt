@@ -1,0 +1,135 @@
+//! Reading by nodes, whatever kind they are of.
+ghost use Rattle.std.specs.Prelude.{map};
+ghost use Rattle.description_items.specs.Tree.{listed};
+ghost use Rattle.parsing_record.specs.Meaning.{Answers, optionally, first_of};
+ghost use Rattle.parsing_record.specs.Reads.{reads, reading, reading_of_all, each_reads, tried, tried_in_all};
+
+use crate::node::{Node, NodeStep};
+use crate::parsed::Parsed;
+use crate::tally::Tally;
+use parsing_combinator::ParseFromDescription;
+
+// Reads by one node, the fast way where it has one.
+#[inline(always)]
+#[cycle(reading)]
+fn read_next<'a, N: Node, T: Tally>(
+    node: &N,
+    input: &'a [u8],
+    parsed: &mut Parsed,
+    tally: &mut T,
+) -> Result<&'a [u8], ParseFromDescription>
+    ensures answer { Answers result parsed.new
+        (reading N.language (N.tree node.now) parsed.old input.now) }
+    ensures tally { T.grows tally.old tally.new
+        (tried N.language (N.tree node.now) parsed.old input.now) }
+{
+    if let Some(rest) = node.read_fast(input, parsed) {
+        tally.begin();
+        return Ok(rest);
+    }
+    read_node(node, input, parsed, tally)
+}
+
+/// Reads by one node, and tells the tally; a refusal leaves what was read before it in the record.
+#[tactic(auto, unfolding(crate::specs::Reads::reads, crate::specs::Meaning::optionally))]
+#[cycle(reading)]
+pub(crate) fn read_node<'a, N: Node, T: Tally>(
+    node: &N,
+    input: &'a [u8],
+    parsed: &mut Parsed,
+    tally: &mut T,
+) -> Result<&'a [u8], ParseFromDescription>
+    ensures answer { Answers result parsed.new
+        (reading N.language (N.tree node.now) parsed.old input.now) }
+    ensures tally { T.grows tally.old tally.new
+        (tried N.language (N.tree node.now) parsed.old input.now) }
+{
+    tally.begin();
+    match node.step() {
+        NodeStep::Literal(text) => Parsed::parse_literal(input, text),
+        NodeStep::Component(component) => N::read_component(component, input, parsed),
+        NodeStep::Compound(nodes) => read_nodes(nodes, input, parsed, tally),
+        NodeStep::Optional(_, node) => read_optional(node, input, parsed, tally),
+        NodeStep::First(nodes) => read_first(nodes, input, parsed, tally),
+    }
+}
+
+// Reads by the node, or leaves everything as it was.
+#[tactic(auto, unfolding(crate::specs::Meaning::optionally))]
+#[cycle(reading)]
+fn read_optional<'a, N: Node, T: Tally>(
+    node: &N,
+    input: &'a [u8],
+    parsed: &mut Parsed,
+    tally: &mut T,
+) -> Result<&'a [u8], ParseFromDescription>
+    ensures answer { Answers result parsed.new
+        (optionally (reads N.language (N.tree node.now)) parsed.old input.now).0 }
+    ensures tally { T.grows tally.old tally.new
+        (optionally (reads N.language (N.tree node.now)) parsed.old input.now).1 }
+{
+    let before = *parsed;
+    match read_node(node, input, parsed, tally) {
+        Ok(rest) => Ok(rest),
+        Err(_) => {
+            *parsed = before;
+            Ok(input)
+        }
+    }
+}
+
+/// Reads by each node in turn; a refusal leaves what was read before it in the record.
+#[cycle(reading)]
+pub(crate) fn read_nodes<'a, N: Node, T: Tally>(
+    nodes: &[N],
+    input: &'a [u8],
+    parsed: &mut Parsed,
+    tally: &mut T,
+) -> Result<&'a [u8], ParseFromDescription>
+    ensures answer { Answers result parsed.new
+        (reading_of_all N.language (listed (map N.tree nodes.now)) parsed.old input.now) }
+    ensures tally { T.grows tally.old tally.new
+        (tried_in_all N.language (listed (map N.tree nodes.now)) parsed.old input.now) }
+{
+    let mut rest = input;
+    for node in nodes {
+        rest = read_next(node, rest, parsed, tally)?;
+    }
+    Ok(rest)
+}
+
+// Reads by the first node that reads.
+#[cycle(reading)]
+fn read_first<'a, N: Node, T: Tally>(
+    nodes: &[N],
+    input: &'a [u8],
+    parsed: &mut Parsed,
+    tally: &mut T,
+) -> Result<&'a [u8], ParseFromDescription>
+    ensures answer { Answers result parsed.new
+        (first_of
+        (each_reads N.language (listed (map N.tree nodes.now))) parsed.old
+        input.now).0 }
+    ensures tally { T.grows tally.old tally.new
+        (first_of
+        (each_reads N.language (listed (map N.tree nodes.now))) parsed.old
+        input.now).1 }
+{
+    let before = *parsed;
+    let mut fault = None;
+    for node in nodes {
+        match read_node(node, input, parsed, tally) {
+            Ok(rest) => return Ok(rest),
+            Err(refused) => {
+                *parsed = before;
+                if fault.is_none() {
+                    fault = Some(refused);
+                }
+            }
+        }
+    }
+    match fault {
+        None => Ok(input),
+        Some(refused) => Err(refused),
+    }
+}
