@@ -6,9 +6,11 @@ ghost use Rattle.parsing_components.specs.Component.{reads_component, reads_comp
 ghost use Rattle.parsing_record.specs.Reads.{reading, reading_of_all};
 ghost use Rattle.parsing_first_bytes.specs.FirstBytes.{AreOf, rule_out};
 
-use crate::items::{HasFront, bytes_at};
+use crate::items::bytes_at;
 use description_items::BorrowedFormatItem;
-use description_tree::{FormatDescriptionV3, FormatDescriptionV3Inner as Inner};
+use description_tree::FormatDescriptionV3;
+use parsing_record::{Node, NodeStep};
+use std::slice;
 
 /// For each of the first four places of a line, the bytes that can stand there.
 #[derive(Clone, Copy)]
@@ -32,24 +34,15 @@ impl FirstBytes {
         ensures { AreOf (reading reads_component_v3 (v3_tree description.now)) result }
     {
         let node = description.inner();
-        match node {
-            Inner::BorrowedCompound(lent) => FirstBytes::of_all(lent.items),
-            Inner::OwnedCompound(nodes) => FirstBytes::of_all(nodes),
-            _ => FirstBytes::of_one(node),
+        match node.step() {
+            NodeStep::Compound(nodes) => FirstBytes::of_all(nodes),
+            _ => FirstBytes::of_all(slice::from_ref(node)),
         }
     }
 
-    // Those of the lines that one item reads.
-    fn of_one<I: HasFront>(item: &I) -> FirstBytes
-        ensures { AreOf (reading I.language (I.tree item.now)) result }
-    {
-        let items = [item];
-        FirstBytes::of_all(&items)
-    }
-
     // Those of the lines that all of these read, one after the other.
-    fn of_all<I: HasFront>(items: &[I]) -> FirstBytes
-        ensures { AreOf (reading_of_all I.language (listed (map I.tree items.now))) result }
+    fn of_all<N: Node>(items: &[N]) -> FirstBytes
+        ensures { AreOf (reading_of_all N.language (listed (map N.tree items.now))) result }
     {
         FirstBytes {
             first: bytes_at(items, 0),

@@ -3,10 +3,8 @@
 #![tactic(auto)]
 
 pub mod descriptions;
-mod items;
 pub mod node_laws;
-mod tree;
+mod nodes;
 pub mod two_roads;
 
-pub use items::nodes_in_items;
-pub use tree::nodes_in_description;
+pub use nodes::{nodes_in_description, nodes_in_items};

@@ -1,17 +1,16 @@
 //! The layout of items that are read one after the other.
 ghost use Rattle.std.specs.Prelude.{◌≡◌, ◌≤◌, true, drop, length, IfSome, map};
-ghost use Rattle.description_items.specs.Tree.{Tree};
 ghost use Rattle.parsing_record.specs.Meaning.{Meaning};
-ghost use Rattle.parsing_record.specs.Reads.{Language, reading};
+ghost use Rattle.parsing_record.specs.Reads.{reading};
 ghost use Rattle.parsing_plan.specs.Steps.{IsStep, IsStepOf, IsStepOfPart, IsFractionOf, LeadsTo};
 ghost use Rattle.parsing_plan.specs.UnixTime.{IsUnixOf};
 
 use crate::layout::Layout;
 use crate::unix::{UnixTime, finer_digits};
+use description_items::Component;
 use description_items::modifier::SubsecondDigits;
-use description_items::{BorrowedFormatItem, Component};
-use description_tree::FormatDescriptionV3Inner as Inner;
 use parsing_components::{Slot, slot_of};
+use parsing_record::{Node, NodeStep};
 
 /// What an item of fixed width reads.
 #[derive(Clone, Copy)]
@@ -27,7 +26,7 @@ pub(crate) enum Step<'a> {
 }
 
 // What a component reads.
-fn step_of(component: &Component) -> Option<Step<'static>>
+fn step_of_component(component: &Component) -> Option<Step<'static>>
     ensures { IfSome result (IsStepOfPart component.now) }
 {
     if let Component::Subsecond(m) = component {
@@ -42,52 +41,14 @@ fn step_of(component: &Component) -> Option<Step<'static>>
     Some(Step::Part(slot))
 }
 
-/// An item that may have a fixed width.
-pub(crate) trait HasStep {
-    ghost language: { Language };
-
-    ghost tree: { Self → Tree };
-
-    /// What it reads, where that is of fixed width.
-    fn step(&self) -> Option<Step<'_>>
-        ensures { IfSome result (IsStepOf (reading language (tree self.now))) };
-}
-
-impl HasStep for BorrowedFormatItem<'_> {
-    ghost use Rattle.description_items.specs.Tree.{tree_of};
-    ghost use Rattle.parsing_components.specs.Component.{reads_component};
-
-    ghost language = { reads_component };
-
-    ghost tree = { tree_of };
-
-    fn step(&self) -> Option<Step<'_>> {
-        match self {
-            BorrowedFormatItem::Literal(text) => Some(Step::Text(text)),
-            BorrowedFormatItem::StringLiteral(text) => Some(Step::Text(text.as_bytes())),
-            BorrowedFormatItem::Component(component) => step_of(component),
-            _ => None,
-        }
-    }
-}
-
-impl HasStep for Inner<'_> {
-    ghost use Rattle.description_tree.specs.Inner.{inner_tree};
-    ghost use Rattle.parsing_components.specs.Component.{reads_component_v3};
-
-    ghost language = { reads_component_v3 };
-
-    ghost tree = { inner_tree };
-
-    fn step(&self) -> Option<Step<'_>> {
-        if let Some(component) = self.component() {
-            return step_of(&component);
-        }
-        match self {
-            Inner::BorrowedLiteral(text) => Some(Step::Text(text.as_bytes())),
-            Inner::OwnedLiteral(text) => Some(Step::Text(text.as_bytes())),
-            _ => None,
-        }
+// What a node reads, where that is of fixed width.
+fn step_of<N: Node>(node: &N) -> Option<Step<'_>>
+    ensures { IfSome result (IsStepOf (reading N.language (N.tree node.now))) }
+{
+    match node.step() {
+        NodeStep::Literal(text) => Some(Step::Text(text)),
+        NodeStep::Component(component) => step_of_component(&component),
+        _ => None,
     }
 }
 
@@ -103,17 +64,17 @@ fn with_step(layout: Layout, step: Step<'_>) -> Option<Layout>
 }
 
 // The layout with an item behind it.
-fn with_item<I: HasStep>(layout: Layout, item: &I) -> Option<Layout>
-    ensures { IfSome result (IsStep (reading I.language (I.tree item.now)) layout) }
+fn with_item<N: Node>(layout: Layout, item: &N) -> Option<Layout>
+    ensures { IfSome result (IsStep (reading N.language (N.tree item.now)) layout) }
 {
-    let step = item.step()?;
+    let step = step_of(item)?;
     with_step(layout, step)
 }
 
 /// The layout of as many items at the front as have one, and how many they are.
-pub(crate) fn lead<I: HasStep>(items: &[I]) -> (Layout, usize)
-    ensures leads { LeadsTo I.language (map I.tree items.now)
-        (map I.tree (drop result.1 items.now)) result.0 }
+pub(crate) fn lead<N: Node>(items: &[N]) -> (Layout, usize)
+    ensures leads { LeadsTo N.language (map N.tree items.now)
+        (map N.tree (drop result.1 items.now)) result.0 }
     ensures within { result.1 ≤ length items.now }
 {
     let mut layout = Layout::new();
@@ -129,20 +90,20 @@ pub(crate) fn lead<I: HasStep>(items: &[I]) -> (Layout, usize)
 }
 
 /// Whether an item reads a fraction of a second of one digit or more.
-pub(crate) fn is_fraction<I: HasStep>(item: &I) -> bool
-    ensures { result ≡ true → IsFractionOf (reading I.language (I.tree item.now)) }
+pub(crate) fn is_fraction<N: Node>(item: &N) -> bool
+    ensures { result ≡ true → IsFractionOf (reading N.language (N.tree item.now)) }
 {
-    match item.step() {
+    match step_of(item) {
         Some(Step::Fraction) => true,
         _ => false,
     }
 }
 
 /// Unix time, where an item reads it.
-pub(crate) fn unix_of<I: HasStep>(item: &I) -> Option<UnixTime>
-    ensures { IfSome result (λ u. IsUnixOf (reading I.language (I.tree item.now)) u.finer) }
+pub(crate) fn unix_of<N: Node>(item: &N) -> Option<UnixTime>
+    ensures { IfSome result (λ u. IsUnixOf (reading N.language (N.tree item.now)) u.finer) }
 {
-    match item.step() {
+    match step_of(item) {
         Some(Step::Unix(finer)) => Some(UnixTime { finer }),
         _ => None,
     }

@@ -9,12 +9,13 @@ ghost use Rattle.parsing_plan.specs.Bounds.{IsPair, IsSixty, IsSpaced, HasNoOffs
 ghost use Rattle.parsing_plan.specs.Plan.{ArePlacesOf, IsPlanOf};
 
 use crate::bounds::Bounds;
-use crate::items::{HasStep, is_fraction, lead, unix_of};
+use crate::items::{is_fraction, lead, unix_of};
 use crate::layout::{LENGTH, Layout};
 use crate::plan::{Back, OffsetPlaces, Places, Plan};
 use crate::tail::Tail;
 use description_items::BorrowedFormatItem;
-use description_tree::{FormatDescriptionV3, FormatDescriptionV3Inner as Inner};
+use description_tree::FormatDescriptionV3;
+use parsing_record::{Node, NodeStep};
 
 // The places of an offset, or that there is none: `None` where it has hours or minutes alone, or other bytes than digits
 // can stand for it.
@@ -172,9 +173,9 @@ fn back_of(layout: Layout) -> Option<Back>
 }
 
 // The places of items that are read one after the other.
-fn places_of<I: HasStep>(items: &[I]) -> Option<Places>
+fn places_of<N: Node>(items: &[N]) -> Option<Places>
     ensures { IfSome result
-        (ArePlacesOf (reading_of_all I.language (listed (map I.tree items.now)))) }
+        (ArePlacesOf (reading_of_all N.language (listed (map N.tree items.now)))) }
 {
     let (front, count) = lead(items);
     if count == items.len() {
@@ -192,9 +193,9 @@ fn places_of<I: HasStep>(items: &[I]) -> Option<Places>
 }
 
 // The plan of items that are read one after the other.
-fn plan_of<I: HasStep>(items: &[I]) -> Option<Plan>
+fn plan_of<N: Node>(items: &[N]) -> Option<Plan>
     ensures { IfSome result
-        (IsPlanOf (reading_of_all I.language (listed (map I.tree items.now)))) }
+        (IsPlanOf (reading_of_all N.language (listed (map N.tree items.now)))) }
 {
     if let Some(places) = places_of(items) {
         return Some(Plan {
@@ -225,9 +226,8 @@ impl Plan {
     pub fn of_description(description: &FormatDescriptionV3<'_>) -> Option<Plan>
         ensures { IfSome result (IsPlanOf (reading reads_component_v3 (v3_tree description.now))) }
     {
-        match description.inner() {
-            Inner::BorrowedCompound(lent) => plan_of(lent.items),
-            Inner::OwnedCompound(nodes) => plan_of(nodes),
+        match description.inner().step() {
+            NodeStep::Compound(nodes) => plan_of(nodes),
             _ => None,
         }
     }

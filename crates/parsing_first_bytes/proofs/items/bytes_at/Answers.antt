@@ -11,8 +11,8 @@ loop-byte-init g c = λ b e line at r. absurd (true≢false (sym (all_true 256 b
 
 pub loop-byte-preserved : goal.loop-byte-preserved
 loop-byte-preserved g c =
-    set_one (IsRefusedAt (reading_of_all g.I.HasFront.language (listed (map g.I.HasFront.tree c.args.items.now))) c.args.place) c.loop-byte.bytes c.from.result c.can_stand.result c.loop-byte.invariant (λ e. rw c.from.ensures (c.can_stand.ensures e))
+    set_one (IsRefusedAt (reading_of_all g.N.Node.language (listed (map g.N.Node.tree c.args.items.now))) c.args.place) c.loop-byte.bytes c.from.result c.can_stand.result c.loop-byte.invariant (λ e. rw c.from.ensures (c.can_stand.ensures e))
 
 pub returns-2 : goal.returns-2
 returns-2 g c =
-    set_one (IsRefusedAt (reading_of_all g.I.HasFront.language (listed (map g.I.HasFront.tree c.args.items.now))) c.args.place) c.loop-byte.bytes c.from.result c.can_stand.result c.loop-byte.invariant (λ e. rw c.from.ensures (c.can_stand.ensures e))
+    set_one (IsRefusedAt (reading_of_all g.N.Node.language (listed (map g.N.Node.tree c.args.items.now))) c.args.place) c.loop-byte.bytes c.from.result c.can_stand.result c.loop-byte.invariant (λ e. rw c.from.ensures (c.can_stand.ensures e))

@@ -6,4 +6,4 @@ use Rattle.parsing_first_bytes.proofs.items.bytes_at.Given as goal
 
 -- what is not one of them so far is refused
 abbrev pub invariant-loop-byte : goal.invariant-loop-byte
-invariant-loop-byte g l = AreOfPlace (reading_of_all g.I.HasFront.language (listed (map g.I.HasFront.tree l.items))) l.place l.bytes
+invariant-loop-byte g l = AreOfPlace (reading_of_all g.N.Node.language (listed (map g.N.Node.tree l.items))) l.place l.bytes

@@ -7,5 +7,5 @@ use Rattle.parsing_first_bytes.proofs.items.can_stand.Given as goal
 -- where the items that are left refuse the byte at its place among them, all refuse it
 abbrev pub invariant-loop-item : goal.invariant-loop-item
 invariant-loop-item g l =
-    IsRefusedAt (reading_of_all g.I.HasFront.language (listed (map g.I.HasFront.tree (drop l.item-index l.items)))) l.place l.byte
-    → IsRefusedAt (reading_of_all g.I.HasFront.language (listed (map g.I.HasFront.tree l.items))) l.fn.place l.byte
+    IsRefusedAt (reading_of_all g.N.Node.language (listed (map g.N.Node.tree (drop l.item-index l.items)))) l.place l.byte
+    → IsRefusedAt (reading_of_all g.N.Node.language (listed (map g.N.Node.tree l.items))) l.fn.place l.byte

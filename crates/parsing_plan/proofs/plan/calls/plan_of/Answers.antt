@@ -9,7 +9,7 @@ use Rattle.parsing_plan.proofs.plan.calls.plan_of.Goals as goal
 pub returns-in-Some : goal.returns-in-Some
 returns-in-Some g c =
     let plan : Plan = record { places = Some c.in-Some.places; unix = None } in
-    of_places (reading_of_all g.I.HasStep.language (listed (map g.I.HasStep.tree c.args.items.now))) plan c.in-Some.places refl refl c.in-Some.ensures
+    of_places (reading_of_all g.N.Node.language (listed (map g.N.Node.tree c.args.items.now))) plan c.in-Some.places refl refl c.in-Some.ensures
 
 pub returns : goal.returns
 returns g c =
@@ -19,5 +19,5 @@ returns g c =
     let there : drop 0 items ≡ get_or items 0 item ∷ drop (0 + 1) items = drop_more items 0 item (omega (arith, c.if-items-ne1.false)) in
     let one : items ≡ item ∷ drop (0 + 1) items = rw (← c.index-items-0.is) at there in
     let nothing : drop (0 + 1) items ≡ [] = drop_all (0 + 1) items (omega (arith, c.if-items-ne1.false)) in
-    let single : map g.I.HasStep.tree items ≡ g.I.HasStep.tree item ∷ [] = ap (map g.I.HasStep.tree) one ∙ ap (λ xs. g.I.HasStep.tree item ∷ map g.I.HasStep.tree xs) nothing in
-    rw single (of_unix g.I.HasStep.language (g.I.HasStep.tree item) plan c.in_ok-unix.unix refl refl c.in_ok-unix.ensures)
+    let single : map g.N.Node.tree items ≡ g.N.Node.tree item ∷ [] = ap (map g.N.Node.tree) one ∙ ap (λ xs. g.N.Node.tree item ∷ map g.N.Node.tree xs) nothing in
+    rw single (of_unix g.N.Node.language (g.N.Node.tree item) plan c.in_ok-unix.unix refl refl c.in_ok-unix.ensures)
