@@ -171,7 +171,10 @@ impl Node for BorrowedFormatItem<'_> {
         component: Component,
         input: &'a [u8],
         parsed: &mut Parsed,
-    ) -> Result<&'a [u8], ParseFromDescription> {
+    ) -> Result<&'a [u8], ParseFromDescription>
+        ensures { Reads result parsed.old parsed.new
+            (putting (reads_component component) parsed.old input.now) }
+    {
         parsed.parse_component(input, component)
     }
 

@@ -2,7 +2,7 @@
 ghost use Rattle.description_tree.specs.Description.{v3_tree};
 ghost use Rattle.parsing_components.specs.Component.{reads_component_v3};
 ghost use Rattle.parsing_record.specs.Meaning.{Reads};
-ghost use Rattle.parsing_record.specs.Reads.{reading, tried};
+ghost use Rattle.parsing_record.specs.Reads.{putting, reading, tried};
 
 use crate::node::{Node, NodeStep};
 use crate::parsed::Parsed;
@@ -65,7 +65,10 @@ impl Node for Inner<'_> {
         component: Component,
         input: &'a [u8],
         parsed: &mut Parsed,
-    ) -> Result<&'a [u8], ParseFromDescription> {
+    ) -> Result<&'a [u8], ParseFromDescription>
+        ensures { Reads result parsed.old parsed.new
+            (putting (reads_component_v3 component) parsed.old input.now) }
+    {
         parsed.parse_component_v3(input, component)
     }
 
