@@ -13,7 +13,7 @@ returns-then-place-front g c = λ e.
     let item = c.item-item.result in
     let there : drop i items ≡ get_or items i item ∷ drop (i + 1) items = drop_more items i item c.loop-item-test.true in
     let cut : drop i items ≡ item ∷ drop (i + 1) items = rw (← c.item-item.is) at there in
-    c.loop-item.invariant (rw cut (here_refused g.N.Node.language (g.N.Node.tree item) (map g.N.Node.tree (drop (i + 1) items)) c.front-front.result c.loop-item.place c.args.byte c.front-front.ensures c.if-place-front.true (sym c.has.ensures ∙ e)))
+    c.loop-item.invariant (rw cut (here_refused g.N.Node.language (g.N.Node.tree item) (map g.N.Node.tree (drop (i + 1) items)) c.front_of-front.result c.loop-item.place c.args.byte c.front_of-front.ensures c.if-place-front.true (sym c.has.ensures ∙ e)))
 
 pub loop-item-preserved : goal.loop-item-preserved
 loop-item-preserved g c = λ h.
@@ -22,4 +22,4 @@ loop-item-preserved g c = λ h.
     let item = c.item-item.result in
     let there : drop i items ≡ get_or items i item ∷ drop (i + 1) items = drop_more items i item c.loop-item-test.true in
     let cut : drop i items ≡ item ∷ drop (i + 1) items = rw (← c.item-item.is) at there in
-    c.loop-item.invariant (rw cut (next_refused g.N.Node.language (g.N.Node.tree item) (map g.N.Node.tree (drop (i + 1) items)) c.front-front.result c.loop-item.place c.args.byte c.front-front.ensures c.if-not-front.false c.if-place-front.false h))
+    c.loop-item.invariant (rw cut (next_refused g.N.Node.language (g.N.Node.tree item) (map g.N.Node.tree (drop (i + 1) items)) c.front_of-front.result c.loop-item.place c.args.byte c.front_of-front.ensures c.if-not-front.false c.if-place-front.false h))

@@ -13,4 +13,4 @@ pub returns-in-Component : goal.returns-in-Component
 returns-in-Component g c = λ r line.
     let older = part_begins reads_component c.in-Component.component c.front_of_component.result c.front_of_component.ensures.0 in
     let newer = part_begins reads_component_v3 c.in-Component.component c.front_of_component.result c.front_of_component.ensures.1 in
-    rw (sym c.in-Component.ensures) (g.met.N.Node.is_either (λ l. Begins c.front_of_component.result (reading l (Part c.in-Component.component))) older newer r line)
+    rw (sym c.in-Component.ensures) (g.N.Node.is_either (λ l. Begins c.front_of_component.result (reading l (Part c.in-Component.component))) older newer r line)

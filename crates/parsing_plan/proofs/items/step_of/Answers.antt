@@ -13,4 +13,4 @@ returns-in-Component g c =
     let said = c.step_of_component.result in
     let older = of_items c.in-Component.component said c.step_of_component.ensures in
     let newer = of_nodes c.in-Component.component said c.step_of_component.ensures in
-    rw (sym c.in-Component.ensures) (g.met.N.Node.is_either (λ l. IfSome said (IsStepOf (reading l (Part c.in-Component.component)))) older newer)
+    rw (sym c.in-Component.ensures) (g.N.Node.is_either (λ l. IfSome said (IsStepOf (reading l (Part c.in-Component.component)))) older newer)
