@@ -1,4 +1,4 @@
-use Rattle.std.proofs.Common.{◌≡◌, ℕ, ◌+◌, ◌*◌, ◌≤◌, min, map}
+use Rattle.std.proofs.Common.{◌≡◌, ◌+◌, ◌*◌, ◌≤◌, min, map}
 use Rattle.description_items.specs.Tree.{listed}
 use Rattle.parsing_record.specs.Tally.{greatest_count}
 use Rattle.parsing_record.proofs.lemmas.Sizes.{size, size_all}
