@@ -1,12 +1,11 @@
 -- The fraction and the offset by the place at which the offset begins.
-use Rattle.std.proofs.Common.{◌≡◌, ℕ, ◌+◌, ◌-◌, ◌<◌, ◌≤◌, ◌∙◌, false, true, List, [], ◌∷◌, get_or, take, drop, length, Option, Some, None, Ok, refl, sym, arith, ℤ, pos}
-use Rattle.std.specs.Prelude.{◌==◌, ◌||◌, ◌*ℤ◌, IfSome}
+use Rattle.std.proofs.Common.{◌≡◌, ℕ, ◌+◌, ◌-◌, ◌<◌, ◌≤◌, ◌∙◌, false, true, List, [], ◌∷◌, get_or, drop, length, Option, Some, None, Ok, refl, arith}
+use Rattle.std.specs.Prelude.{◌==◌, ◌||◌, IfSome}
 use Rattle.std.specs.Char.{is_ascii_digit}
-use Rattle.std.specs.Option.{unwrap_or}
 use Rattle.std.proofs.lemmas.Bool.Decides.{nat_tests}
 use Rattle.std.proofs.lemmas.List.{drop_more, drop-drop, drop_all}
 use Rattle.base.specs.Bytes.{dot, plus, hyphen, upper_z, lower_z}
-use Rattle.parsing_combinator.specs.Pieces.{digits, digit_run, fraction, skip_of, byte, nanoseconds_of, digit_count}
+use Rattle.parsing_combinator.specs.Pieces.{digits, digit_run, fraction, skip_of, byte, digit_count}
 use Rattle.parsing_combinator.specs.declared.zone.Zone.{Zone}
 use Rattle.parsing_combinator.proofs.AtPlaces.{byte_there, sign_there}
 use Rattle.parsing_combinator.proofs.Decimal.{count_drop}

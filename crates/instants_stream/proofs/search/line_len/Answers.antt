@@ -15,4 +15,3 @@ loop-at-preserved c = (
   free_more c.args.bytes.now c.loop-at.at 64 c.loop-at.invariant.1
       (subst (λ (l : List ℕ). HasNoLineFeed (take 64 l)) (take_rest c.args.bytes.now c.loop-at.at) c.in_default.ensures.none),
 )
-

@@ -1,4 +1,4 @@
-use Rattle.std.proofs.Common.{◌≡◌, ◌+◌, get_or, drop, sym, arith, w16, to_z, of_z}
+use Rattle.std.proofs.Common.{◌≡◌, ◌+◌, get_or, drop, arith, w16, to_z, of_z}
 use Rattle.std.specs.Prelude.{◌==◌, false}
 use Rattle.std.proofs.lemmas.Int.{ints}
 use Rattle.parsing_rfc3339.specs.Fast.{AreHoursAndMinutes}
