@@ -1,4 +1,4 @@
--- No line feed among bytes of two parts, and the first one among 16.
+-- No line feed among bytes of two parts, and the first one among the first few.
 use Rattle.std.proofs.Common.{◌≡◌, ◌≢◌, ◌==◌, ℕ, ◌+◌, ◌<◌, ◌≤◌, ◌*◌, suc, Bool, true, false, not, cond, List, [], ◌∷◌, map, take, drop, length, get_or, sym, ◌∙◌, subst, arith, take-append-drop}
 use Rattle.std.proofs.Math.Seq.{take-add}
 use Rattle.std.proofs.lemmas.Bool.{not-true}
@@ -20,11 +20,11 @@ free_more bytes at r front more = rw (take-add at r bytes) (All-append (λ (b : 
 pub free_whole : (bytes : List ℕ) (at : ℕ) → HasNoLineFeed (take at bytes) → HasNoLineFeed (drop at bytes) → HasNoLineFeed bytes
 free_whole bytes at front more = subst HasNoLineFeed (take-append-drop at bytes) (All-append (λ (b : ℕ). (b == 10) ≡ false) (take at bytes) (drop at bytes) front more)
 
--- so many bytes stand before the first line feed of 16, or all of them
-pub record IsBefore (bytes : List ℕ) (n : ℕ) : Type 0 where
-  pub within : n ≤ 16
+-- so many bytes stand before the first line feed of the first few, or all of them
+pub record IsBefore (lanes : ℕ) (bytes : List ℕ) (n : ℕ) : Type 0 where
+  pub within : n ≤ lanes
   pub free : HasNoLineFeed (take n bytes)
-  pub line_feed : n < 16 → get_or bytes n 0 ≡ 10
+  pub line_feed : n < lanes → get_or bytes n 0 ≡ 10
 
 is_ten : (b : ℕ) → not (b == 10) ≡ false → b ≡ 10
 is_ten b h = grind (arith, nat_tests)
@@ -40,36 +40,36 @@ stops_within [] some = absurd (omega arith)
 stops_within (b ∷ bytes) some =
     (counted (b == 10) (mask_l (map (λ b. b == 10) bytes)) (prefix_len (λ b. not (b == 10)) bytes) (length bytes) some (stops_within bytes))
 
-module _ (bytes : List ℕ) (enough : 16 ≤ length bytes) where
-  long : length (take 16 bytes) ≡ 16
-  long = length-take-le 16 bytes enough
+module _ (lanes : ℕ) (bytes : List ℕ) (enough : lanes ≤ length bytes) where
+  long : length (take lanes bytes) ≡ lanes
+  long = length-take-le lanes bytes enough
 
   abbrev other : ℕ → Bool
   other b = not (b == 10)
 
-  is_before : (n : ℕ) → n ≡ prefix_len other (take 16 bytes) → IsBefore bytes n
+  is_before : (n : ℕ) → n ≡ prefix_len other (take lanes bytes) → IsBefore lanes bytes n
   is_before n is =
-      let most = prefix_len-le-length other (take 16 bytes) in
+      let most = prefix_len-le-length other (take lanes bytes) in
       let size : length (take n bytes) ≡ n = length-take-le n bytes (omega (arith, most, long)) in
       record {
         within = omega (arith, most, long);
         free = All-from_get_or (λ (b : ℕ). (b == 10) ≡ false) (take n bytes) 0 (λ k lt.
             let below : k < n = omega (arith, size) in
-            let few : k < 16 = omega (arith, most, long) in
-            rw (get_or-take n bytes k 0 below, ← get_or-take 16 bytes k 0 few) (not-true _ (prefix_len_passes other (take 16 bytes) k 0 (omega arith))));
-        line_feed = λ lt. is_ten (get_or bytes n 0) (rw (← get_or-take 16 bytes n 0 lt, is) (prefix_len_stops other (take 16 bytes) 0 (omega (arith, long))));
+            let few : k < lanes = omega (arith, most, long) in
+            rw (get_or-take n bytes k 0 below, ← get_or-take lanes bytes k 0 few) (not-true _ (prefix_len_passes other (take lanes bytes) k 0 (omega arith))));
+        line_feed = λ lt. is_ten (get_or bytes n 0) (rw (← get_or-take lanes bytes n 0 lt, is) (prefix_len_stops other (take lanes bytes) 0 (omega (arith, long))));
       }
 
   -- no bit is set
-  pub none_set : (m : ℕ) → m ≡ mask_l (map (λ b. b == 10) (take 16 bytes)) → m ≡ 0 → IsBefore bytes 16
-  none_set m mask none = is_before 16 (sym (leading_from_mask_l (λ b. b == 10) (take 16 bytes) (sym mask ∙ none) ∙ long))
+  pub none_set : (m : ℕ) → m ≡ mask_l (map (λ b. b == 10) (take lanes bytes)) → m ≡ 0 → IsBefore lanes bytes lanes
+  none_set m mask none = is_before lanes (sym (leading_from_mask_l (λ b. b == 10) (take lanes bytes) (sym mask ∙ none) ∙ long))
 
-  lowest : (m : ℕ) → m ≡ mask_l (map (λ b. b == 10) (take 16 bytes)) → m ≢ 0 → count_trailing_zeros 64 m ≡ prefix_len other (take 16 bytes)
-  lowest m mask some = rw mask (trailing_mask_l (λ b. b == 10) 64 (take 16 bytes) (omega (arith, long)) (omega (arith, mask, some)))
+  lowest : lanes ≤ 64 → (m : ℕ) → m ≡ mask_l (map (λ b. b == 10) (take lanes bytes)) → m ≢ 0 → count_trailing_zeros 64 m ≡ prefix_len other (take lanes bytes)
+  lowest few m mask some = rw mask (trailing_mask_l (λ b. b == 10) 64 (take lanes bytes) (omega (arith, long, few)) (omega (arith, mask, some)))
 
   -- the lowest bit that is set
-  pub lowest_set : (m : ℕ) → m ≡ mask_l (map (λ b. b == 10) (take 16 bytes)) → m ≢ 0 → IsBefore bytes (count_trailing_zeros 64 m)
-  lowest_set m mask some = is_before (count_trailing_zeros 64 m) (lowest m mask some)
+  pub lowest_set : lanes ≤ 64 → (m : ℕ) → m ≡ mask_l (map (λ b. b == 10) (take lanes bytes)) → m ≢ 0 → IsBefore lanes bytes (count_trailing_zeros 64 m)
+  lowest_set few m mask some = is_before (count_trailing_zeros 64 m) (lowest few m mask some)
 
-  pub lowest_within : (m : ℕ) → m ≡ mask_l (map (λ b. b == 10) (take 16 bytes)) → m ≢ 0 → count_trailing_zeros 64 m < 16
-  lowest_within m mask some = omega (arith, lowest m mask some, long, stops_within (take 16 bytes) (omega (arith, mask, some)))
+  pub lowest_within : lanes ≤ 64 → (m : ℕ) → m ≡ mask_l (map (λ b. b == 10) (take lanes bytes)) → m ≢ 0 → count_trailing_zeros 64 m < lanes
+  lowest_within few m mask some = omega (arith, lowest few m mask some, long, stops_within (take lanes bytes) (omega (arith, mask, some)))

@@ -1,6 +1,7 @@
 //! The fields of a date-time.
-ghost use Rattle.std.specs.Prelude.{◌≡◌, ◌+◌, ◌*◌, ◌<◌, ◌≤◌, ◌↔◌, pos, unsigned_abs, IsSome, IfSome};
-ghost use Rattle.calendar_count.specs.Calendar.{IsDay};
+ghost use Rattle.std.specs.Prelude.{◌≡◌, ◌+◌, ◌*◌, ◌<◌, ◌≤◌, ◌↔◌, pos, unsigned_abs, IsSome, IsTrue, IfSome};
+ghost use Rattle.std.specs.Int.{IsInRange};
+ghost use Rattle.calendar_count.specs.Calendar.{IsDay, days_in_month};
 ghost use Rattle.datetime_wall.specs.Wall.{second_nanos};
 
 use crate::fraction::Fraction;
@@ -32,6 +33,23 @@ pub struct Fields {
     ghost within_a_day: { minute < 1440 },
     ghost within_a_minute: { second < 60 },
     ghost is_offset: { unsigned_abs offset ≤ 1559 },
+}
+
+// The days that each month has in every year, by its number.
+static SHORTEST: [u8; 13] = [0, 31, 28, 31, 30, 31, 30, 31, 31, 30, 31, 30, 31];
+
+/// Whether a month of a year, by its number of at most 12, has the day, counted from 1.
+///
+/// Only for 29 February, and for days that are not there, more than a table is asked.
+#[inline(always)]
+pub fn has_day(year: u16, month: u8, day: u8) -> bool
+    requires { month ≤ 12 }
+    ensures { IsTrue result ↔ IsInRange 1 (days_in_month (pos year) month) day }
+{
+    if day <= SHORTEST[month as usize] {
+        return day >= 1;
+    }
+    closed::has_day(i32::from(year), month, day)
 }
 
 impl Fields {
@@ -77,7 +95,7 @@ impl Fields {
         ensures numbers { IfSome result
             (λ f. HaveNumbers f year month day minute second fraction offset) }
     {
-        if month < 1 || month > 12 || !closed::has_day(i32::from(year), month, day) {
+        if month < 1 || month > 12 || !has_day(year, month, day) {
             return None;
         }
         if second >= 60 {

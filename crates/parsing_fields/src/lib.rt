@@ -6,6 +6,6 @@ mod fields;
 mod fraction;
 mod minutes;
 
-pub use fields::Fields;
+pub use fields::{Fields, has_day};
 pub use fraction::Fraction;
 pub use minutes::{minute_of_day, offset_minutes, signed_minutes};

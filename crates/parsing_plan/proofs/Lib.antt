@@ -6,3 +6,4 @@ mod Numbers
 mod Parts
 mod Moments
 mod Timestamps
+mod MonthNames

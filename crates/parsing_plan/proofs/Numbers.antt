@@ -37,7 +37,7 @@ use Rattle.parsing_plan.specs.declared.bounds.Bounds.{Bounds}
 use Rattle.parsing_plan.specs.declared.layout.Layout.{Layout}
 use Rattle.parsing_plan.specs.Bounds.{LiesWithin, IsPair, IsSixty, HasPair, HasSixty, IsSpaced, HasSpaced, HoldText, BeginsApart}
 use Rattle.parsing_plan.specs.Layout.{HasText}
-use Rattle.parsing_plan.specs.Parts.{WritesAt, WritesDay, WritesOffset, SaysMonth, SaysWeekday, SaysFraction, IsNameOf, IsWeekdayNameOf}
+use Rattle.parsing_plan.specs.Parts.{WritesAt, WritesDay, WritesOffset, SaysMonth, SaysWeekday, SaysFraction, HasName, IsNameOf, IsWeekdayNameOf}
 use Rattle.parsing_combinator.proofs.Fixed.{digits_two, digits_four}
 
 -- ---- numbers
@@ -187,6 +187,15 @@ three_there line place room =
 
 pub month_named : (place number : ℕ) (line : List ℕ) (month : Month) → place + 3 ≤ length line → IsNameOf month (get_or line place 0) (get_or line (place + 1) 0) (get_or line (place + 2) 0) → number ≡ month_number month → SaysMonth true line place number
 month_named place number line month room name is = named_there place (get_or line place 0) (get_or line (place + 1) 0) (get_or line (place + 2) 0) number line (drop (place + 3) line) month (three_there line place room) name is
+
+-- what a function returns that looks for the letters in a table
+pub month_said : (place : ℕ) (line : List ℕ) (o : Option ℕ) → place + 3 ≤ length line → IfSome o (HasName (get_or line place 0) (get_or line (place + 1) 0) (get_or line (place + 2) 0)) → IfSome o (SaysMonth true line place)
+month_said place line None room h = tt
+month_said place line (Some number) room h = month_named place number line h.month room h.name (sym h.number_is)
+
+pub named_bound : (a b c : ℕ) (o : Option ℕ) → IfSome o (HasName a b c) → IfSome o (λ n. (1 ≤ n) × (n ≤ 12))
+named_bound a b c None h = tt
+named_bound a b c (Some number) h = (h.low, h.high)
 
 apart_weekdays : apart true short_weekdays ≡ true
 unfolding begins

@@ -32,7 +32,15 @@ WritesDay false line place number = WritesAt 2 line place number
 abbrev pub IsNameOf : Month → ℕ → ℕ → ℕ → Type 0
 IsNameOf month first second third = (rest : List ℕ) → found true short_months (first ∷ second ∷ third ∷ rest) ≡ Some (month, rest)
 
--- so has that of a weekday
+-- the short name of the month with a number has these letters
+pub record HasName (first second third number : ℕ) : Type 0 where
+  pub month : Month
+  pub name : IsNameOf month first second third
+  pub number_is : month_number month ≡ number
+  pub low : 1 ≤ number
+  pub high : number ≤ 12
+
+-- the short name of a weekday has these letters
 abbrev pub IsWeekdayNameOf : Weekday → ℕ → ℕ → ℕ → Type 0
 IsWeekdayNameOf weekday first second third = (rest : List ℕ) → found true short_weekdays (first ∷ second ∷ third ∷ rest) ≡ Some (weekday, rest)
 

@@ -8,7 +8,7 @@ ghost use Rattle.parsing_fields.specs.Moment.{moment_of};
 ghost use Rattle.parsing_record.specs.Meaning.{Meaning};
 ghost use Rattle.parsing_record.specs.Whole.{offset_named};
 ghost use Rattle.parsing_plan.specs.Bounds.{HasPair, HasSixty, HasSpaced, HasNoOffset, HasOffset, IsFront};
-ghost use Rattle.parsing_plan.specs.Parts.{Fits, IsNameOf, IsWeekdayNameOf, WritesAt, WritesDay, WritesOffset, SaysMonth, SaysWeekday, SaysDate, SaysClock, SaysFraction, SaysOffset};
+ghost use Rattle.parsing_plan.specs.Parts.{Fits, HasName, IsWeekdayNameOf, WritesAt, WritesDay, WritesOffset, SaysMonth, SaysWeekday, SaysDate, SaysClock, SaysFraction, SaysOffset};
 ghost use Rattle.parsing_plan.specs.Beginning.{beginning};
 ghost use Rattle.parsing_plan.specs.Plan.{IsLayoutOf, IsSplitOf, NamesFront};
 
@@ -16,8 +16,7 @@ use crate::bounds::{Bounds, from};
 use crate::layout::Layout;
 use crate::plan::{Back, OffsetPlaces, Places};
 use calendar::{Month, UtcOffset, Weekday};
-use calendar_count::closed;
-use parsing_fields::{Fields, Fraction, offset_minutes};
+use parsing_fields::{Fields, Fraction, has_day, offset_minutes};
 
 // The number of the two digits at a place.
 #[inline(always)]
@@ -52,30 +51,40 @@ fn four_digits_at(line: &[u8], place: usize) -> u16
     u16::from(two_digits_at(line, place)) * 100 + u16::from(two_digits_at(line, place + 2))
 }
 
-// The month that has these letters.
+// `Oct`, `Feb`, `Dec`, `Jul`, `Nov`, `Jan`, `Jun`, `May`, `Sep`, `Aug`, `Mar`, `Apr`, in one number each, the first letter
+// lowest, behind the number of its month. The highest bits of a product of the letters say where in the table they would
+// stand, so that no jump depends on the month.
+static MONTHS: [u32; 16] = [
+    0,
+    0x7463_4f0a,
+    0x6265_4602,
+    0,
+    0x6365_440c,
+    0x6c75_4a07,
+    0x766f_4e0b,
+    0x6e61_4a01,
+    0x6e75_4a06,
+    0,
+    0x7961_4d05,
+    0x7065_5309,
+    0x6775_4108,
+    0,
+    0x7261_4d03,
+    0x7270_4104,
+];
+
+// The number of the month that has these letters.
 #[inline(always)]
-#[tactic(auto, unfolding(parsing_combinator::specs::Names::found, parsing_combinator::specs::Names::begins))]
-fn month_of(first: u8, second: u8, third: u8) -> Option<Month>
-    ensures { IfSome result (λ month. IsNameOf month first second third) }
+fn month_number(first: u8, second: u8, third: u8) -> Option<u8>
+    ensures { IfSome result (HasName first second third) }
 {
-    match first {
-        b'J' => match (second, third) {
-            (b'a', b'n') => Some(Month::January),
-            (b'u', b'n') => Some(Month::June),
-            (b'u', b'l') => Some(Month::July),
-            _ => None,
-        },
-        b'F' if second == b'e' && third == b'b' => Some(Month::February),
-        b'M' if second == b'a' && third == b'r' => Some(Month::March),
-        b'M' if second == b'a' && third == b'y' => Some(Month::May),
-        b'A' if second == b'p' && third == b'r' => Some(Month::April),
-        b'A' if second == b'u' && third == b'g' => Some(Month::August),
-        b'S' if second == b'e' && third == b'p' => Some(Month::September),
-        b'O' if second == b'c' && third == b't' => Some(Month::October),
-        b'N' if second == b'o' && third == b'v' => Some(Month::November),
-        b'D' if second == b'e' && third == b'c' => Some(Month::December),
-        _ => None,
+    let word = u32::from_le_bytes([0, first, second, third]);
+    let place = word.wrapping_mul(0x11c) >> 28;
+    let number = MONTHS[place as usize].wrapping_sub(word);
+    if number < 1 || number > 12 {
+        return None;
     }
+    Some(number as u8)
 }
 
 // The number of the month whose name is at a place.
@@ -85,8 +94,7 @@ fn month_name_at(line: &[u8], place: usize) -> Option<u8>
     ensures says { IfSome result (SaysMonth true line.now place) }
     ensures bound { IfSome result (λ n. (1 ≤ n) × (n ≤ 12)) }
 {
-    let month = month_of(line[place], line[place + 1], line[place + 2])?;
-    Some(month.number())
+    month_number(line[place], line[place + 1], line[place + 2])
 }
 
 // The number of the month whose number is at a place.
@@ -171,13 +179,13 @@ fn has_weekday(place: Option<usize>, line: &[u8]) -> bool
 // Whether a year of four digits has the day.
 #[inline(always)]
 #[tactic(auto, using(crate::proofs::Parts::short_months))]
-fn has_day(year: u16, month: u8, day: u8) -> bool
+fn has_day_of_month(year: u16, month: u8, day: u8) -> bool
     requires year { year ≤ 9999 }
     requires month { (1 ≤ month) × (month ≤ 12) }
     ensures day { result ≡ true → IsDay (pos year) month day }
     ensures bound { result ≡ true → (1 ≤ day) × (day ≤ 31) }
 {
-    closed::has_day(i32::from(year), month, day)
+    has_day(year, month, day)
 }
 
 // The year, the month and the day of a line that has the layout of a plan.
@@ -194,7 +202,7 @@ pub(crate) fn date(plan: &Places, line: &[u8]) -> Option<(u16, u8, u8)>
     let month = month_at(line, plan.month, plan.layout.month_is_named)?;
     let day = day_at(line, plan.day)?;
     let year = four_digits_at(line, plan.year);
-    if !has_day(year, month, day) {
+    if !has_day_of_month(year, month, day) {
         return None;
     }
     Some((year, month, day))
@@ -217,17 +225,16 @@ pub(crate) fn clock(plan: &Places, line: &[u8]) -> Option<(u16, u8)>
     Some((u16::from(hour) * 60 + u16::from(minute), second))
 }
 
-// Whether a sign is a minus.
+// Whether a sign is a minus. Which of the two stands there is told by no jump.
 #[inline(always)]
 fn is_minus(sign: u8) -> Option<bool>
     ensures sign { IfSome result (λ _. ((sign == 43) || (sign == 45)) ≡ true) }
     ensures minus { IfSome result (λ minus. minus ≡ (sign == 45)) }
 {
-    match sign {
-        b'+' => Some(false),
-        b'-' => Some(true),
-        _ => None,
+    if sign < b'+' || sign == b',' || sign > b'-' {
+        return None;
     }
+    Some(sign == b'-')
 }
 
 // The minutes of an offset whose hours and minutes are at these places.

@@ -3,19 +3,18 @@ use Rattle.std.proofs.Common.{◌≡◌, ℕ, ◌+◌, ◌*◌, ◌<◌, ◌≤�
 use Rattle.std.specs.Option.{unwrap_or}
 use Rattle.std.proofs.lemmas.Bool.{le-leb}
 use Rattle.std.proofs.lemmas.Bool.Decides.{nat_tests}
-use Rattle.std.specs.Borrow.{Bor}
-use Rattle.std.specs.Prelude.{◌==◌, IfSome, codes, ◌*ℤ◌}
+use Rattle.std.specs.Prelude.{◌==◌, codes, ◌*ℤ◌}
 use Rattle.calendar.specs.Time.{time_of}
 use Rattle.datetime_wall.specs.Wall.{wall_clock}
-use Rattle.base.specs.Bytes.{dot, hyphen}
+use Rattle.base.specs.Bytes.{hyphen}
 use Rattle.parsing_combinator.specs.Fault.{component}
-use Rattle.parsing_combinator.specs.Pieces.{byte, any_byte, digits, fraction, sign}
+use Rattle.parsing_combinator.specs.Pieces.{any_byte, digits, sign}
 use Rattle.parsing_combinator.specs.declared.zone.Zone.{Zone}
 use Rattle.parsing_values.specs.Resolution.{date_of, permitted_time_of, signed_offset_of}
 use Rattle.parsing_values.specs.StandIn.{leap_checked}
 use Rattle.parsing_rfc3339.specs.declared.parts.Rfc3339Parts.{Rfc3339Parts}
 use Rattle.parsing_rfc3339.specs.Fast.{AreHoursAndMinutes}
-use Rattle.parsing_rfc3339.specs.Reading.{date, clock, due_fraction, subsecond, signed_offset, offset, rfc3339}
+use Rattle.parsing_rfc3339.specs.Reading.{date, clock, subsecond, signed_offset, offset, rfc3339}
 use Rattle.parsing_rfc3339.specs.Direct.{direct, moment, moment_of}
 use Rattle.parsing_fields.specs.declared.fields.Fields.{Fields}
 use Rattle.parsing_fields.specs.Moment as Moment
@@ -38,12 +37,6 @@ no_leap hour minute second nanosecond time e = grind (arith, nat_tests)
 all_resolved : (b0 : List ℕ) (w : Rfc3339Parts) (o : ℤ) (day time : ℕ) → rfc3339 false b0 ≡ Ok (w, []) → signed_offset_of w.zone.is_negative w.zone.hours w.zone.minutes ≡ Ok o → date_of (pos w.year) w.month w.day ≡ Ok day → time_of w.hour w.minute w.second (unwrap_or w.subsecond 0) ≡ Ok time → direct b0 ≡ Ok (record { wall = wall_clock day time; offset = o })
 unfolding direct moment moment_of permitted_time_of leap_checked
 all_resolved b0 w o day time read in_zone in_day in_time = rw (read, in_zone, in_day, no_leap w.hour w.minute w.second (unwrap_or w.subsecond 0) time in_time, in_time)
-
--- what a function returns that reads the fraction behind a point
-pub fraction_read : (b0 b1 : List ℕ) (result : Option (ℕ × Bor (List ℕ))) → byte dot b0 ≡ Some (tt, b1) → IfSome result (λ x. fraction b1 ≡ Some (x.0, x.1.now)) → IfSome result (λ x. (n : Option ℕ) × (subsecond b0 ≡ Ok (n, x.1.now)) × (unwrap_or n 0 ≡ x.0))
-unfolding subsecond due_fraction
-fraction_read b0 b1 None there cut = tt
-fraction_read b0 b1 (Some x) there cut = (Some x.0, rw (there, cut) refl, refl)
 
 -- what a function returns that reads the pieces one after another
 pub moment_read : (b0 b1 b2 b3 b4 : List ℕ) (d t : ℕ × ℕ × ℕ) (nanosecond : ℕ) (o : ℤ) (day time : ℕ) → date false b0 ≡ Ok (d, b1) → any_byte b1 ≡ Some (tt, b2) → clock false b2 ≡ Ok (t, b3) → ((n : Option ℕ) × (subsecond b3 ≡ Ok (n, b4)) × (unwrap_or n 0 ≡ nanosecond)) → ((z : Zone) × (offset false b4 ≡ Ok (z, [])) × (signed_offset_of z.is_negative z.hours z.minutes ≡ Ok o)) → date_of (pos d.0) d.1 d.2 ≡ Ok day → time_of t.0 t.1 t.2 nanosecond ≡ Ok time → direct b0 ≡ Ok (record { wall = wall_clock day time; offset = o })

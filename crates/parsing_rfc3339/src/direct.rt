@@ -7,9 +7,10 @@ ghost use Rattle.parsing_rfc3339.specs.Direct.{direct, moment_of};
 ghost use Rattle.parsing_combinator.specs.Readings.{value_read};
 ghost use Rattle.parsing_fields.specs.Moment as Moment;
 
+use crate::ends::{fraction_before, offset_at_end};
 use crate::parts::Rfc3339Parts;
-use crate::places::{behind_front, clock, date, has_shape};
-use crate::reading::{fast_fraction, fast_offset, parse_prefix};
+use crate::places::{clock, date, has_shape};
+use crate::reading::parse_prefix;
 use parsing_combinator::{Parse, ParseFromDescription, four_digits};
 use parsing_fields::{Fields, minute_of_day};
 use parsing_values::{OffsetDateTime, leap_checked, resolve};
@@ -51,12 +52,10 @@ pub fn read_fields(input: &[u8]) -> Option<Fields>
     // Whole tuples handed on would be kept in memory, at some ten instructions a line.
     let (year, month, day) = date(input)?;
     let (hour, minute, second) = clock(input);
-    let Some(read) = fast_fraction(behind_front(input)) else {
-        return None;
-    };
-    let offset = fast_offset(read.1)?;
+    let (offset, end) = offset_at_end(input)?;
+    let fraction = fraction_before(input, end)?;
     let minute_of_day = minute_of_day(hour, minute)?;
-    Fields::on_day(year, month, day, minute_of_day, second, read.0, offset)
+    Fields::on_day(year, month, day, minute_of_day, second, fraction, offset)
 }
 
 /// The moment that a text names, where the fast way finds one: `None` says nothing of the text.

@@ -2,6 +2,7 @@
 #![tactic(auto)]
 
 mod direct;
+mod ends;
 pub mod laws;
 mod parts;
 mod places;

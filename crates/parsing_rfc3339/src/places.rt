@@ -47,12 +47,12 @@ pub(crate) fn clock(text: &[u8]) -> (u8, u8, u8)
     clock_at(text, 11)
 }
 
-/// What stands behind the date and the time of day.
+/// What stands from a place on.
 #[inline(always)]
 #[tactic(auto, using(std::proofs::lemmas::List::take_rest))]
-pub(crate) fn behind_front(text: &[u8]) -> &[u8]
-    requires { FRONT ≤ length text.now }
-    ensures { result.now ≡ drop FRONT text.now }
+pub(crate) fn from(text: &[u8], place: usize) -> &[u8]
+    requires { place ≤ length text.now }
+    ensures { result.now ≡ drop place text.now }
 {
-    &text[FRONT..]
+    &text[place..]
 }

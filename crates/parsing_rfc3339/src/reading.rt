@@ -1,18 +1,15 @@
 //! Readings of the parts of a text.
-ghost use Rattle.std.specs.Prelude.{◌≡◌, ◌≤◌, ◌<◌, IfOk, IfErr, IfSome, Ok, true, false, unsigned_abs};
+ghost use Rattle.std.specs.Prelude.{◌≡◌, ◌≤◌, ◌<◌, IfOk, IfErr, IfSome, Ok, true};
 ghost use Rattle.parsing_combinator.specs.FaultOf.{Gives, reading_fault};
 ghost use Rattle.parsing_combinator.specs.Pieces.{rest_view};
 ghost use Rattle.parsing_combinator.specs.ShortName.{HasShortName};
 ghost use Rattle.parsing_combinator.specs.Tame.{EndsWith};
-ghost use Rattle.parsing_rfc3339.specs.Fast.{IsAllOffset, ReadsNanosecond};
 ghost use Rattle.parsing_rfc3339.specs.Range.{AreInRange};
 ghost use Rattle.parsing_rfc3339.specs.Reading as Reading;
 
 use crate::parts::Rfc3339Parts;
-use crate::zone::hours_and_minutes;
 use parsing_combinator::ParseFromDescription::{self, InvalidComponent, InvalidLiteral};
 use parsing_combinator::{Zone, any_byte, byte, four_digits, fraction, sign, two_digits, within};
-use parsing_fields::{Fraction, offset_minutes};
 
 #[tactic(auto, unfolding(crate::specs::Reading::date))]
 #[inline(always)]
@@ -66,19 +63,6 @@ fn subsecond(bytes: &[u8]) -> Result<(Option<u32>, &[u8]), ParseFromDescription>
     };
     let (nanosecond, rest) = fraction(rest).ok_or(InvalidComponent("subsecond"))?;
     Ok((Some(nanosecond), rest))
-}
-
-// The fraction at the front, at most nine digits, and 0 where none stands there.
-#[tactic(auto, unfolding(crate::specs::Reading::subsecond, crate::specs::Reading::due_fraction))]
-#[inline(always)]
-pub(crate) fn fast_fraction(bytes: &[u8]) -> Option<(Fraction, &[u8])>
-    ensures reads { IfSome result (λ x. ReadsNanosecond bytes.now x.0 x.1.now) }
-    ensures bound { IfSome result (λ x. x.0 < 1_000_000_000) }
-{
-    match byte(b'.', bytes) {
-        Some(rest) => Fraction::read(rest),
-        None => Some((Fraction::new(0), bytes)),
-    }
 }
 
 #[tactic(auto, unfolding(crate::specs::Reading::zulu, parsing_combinator::specs::Pieces::skip_of))]
@@ -137,39 +121,6 @@ fn offset(is_strict: bool, bytes: &[u8]) -> Result<(Zone, &[u8]), ParseFromDescr
         return Ok((zone, rest));
     }
     signed_offset(is_strict, bytes)
-}
-
-// The minutes of the signed offset that is all that is there, where its numbers are in range.
-#[tactic(auto, unfolding(crate::specs::Reading::signed_offset))]
-#[inline(always)]
-fn fast_signed_offset(bytes: &[u8]) -> Option<i16>
-    ensures reads { IfSome result (IsAllOffset (Reading.signed_offset false bytes.now)) }
-    ensures bound { IfSome result (λ o. unsigned_abs o ≤ 1559) }
-{
-    let (mark, rest) = sign(bytes)?;
-    let (hours, minutes) = hours_and_minutes(rest)?;
-    if hours > 23 || minutes > 59 {
-        return None;
-    }
-    Some(offset_minutes(mark == b'-', hours, minutes))
-}
-
-// The minutes of the offset that is all that is there, where its numbers are in range.
-//
-// They are handed on as a number: a `Zone` of either branch would be packed into a word and taken apart again.
-#[tactic(auto, unfolding(crate::specs::Reading::offset))]
-#[inline(always)]
-pub(crate) fn fast_offset(bytes: &[u8]) -> Option<i16>
-    ensures reads { IfSome result (IsAllOffset (Reading.offset false bytes.now)) }
-    ensures bound { IfSome result (λ o. unsigned_abs o ≤ 1559) }
-{
-    let Some(rest) = zulu(bytes) else {
-        return fast_signed_offset(bytes);
-    };
-    if !rest.is_empty() {
-        return None;
-    }
-    Some(0)
 }
 
 #[tactic(auto, unfolding(crate::specs::Reading::rfc3339))]

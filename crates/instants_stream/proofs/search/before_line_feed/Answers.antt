@@ -7,20 +7,20 @@ use Rattle.instants_stream.proofs.search.before_line_feed.Goals as goal
 pub returns-then-places-eq0-clause-none : goal.returns-then-places-eq0-clause-none
 returns-then-places-eq0-clause-none c =
     let bytes = c.args.bytes.now in
-    (none_set bytes c.requires _ (bitmask_splat w8 (λ (a b : ℕ). a == b) (take 16 bytes) 16 10 (length-take-le 16 bytes c.requires) (omega arith)) c.if-places-eq0.true).free
+    (none_set 16 bytes c.requires _ (bitmask_splat w8 (λ (a b : ℕ). a == b) (take 16 bytes) 16 10 (length-take-le 16 bytes c.requires) (omega arith)) c.if-places-eq0.true).free
 
 pub returns-clause-within : goal.returns-clause-within
 returns-clause-within c =
     let bytes = c.args.bytes.now in
-    lowest_within bytes c.requires _ (bitmask_splat w8 (λ (a b : ℕ). a == b) (take 16 bytes) 16 10 (length-take-le 16 bytes c.requires) (omega arith)) c.if-places-eq0.false
+    lowest_within 16 bytes c.requires (omega arith) _ (bitmask_splat w8 (λ (a b : ℕ). a == b) (take 16 bytes) 16 10 (length-take-le 16 bytes c.requires) (omega arith)) c.if-places-eq0.false
 
 pub returns-clause-before : goal.returns-clause-before
 returns-clause-before c =
     let bytes = c.args.bytes.now in
-    (lowest_set bytes c.requires _ (bitmask_splat w8 (λ (a b : ℕ). a == b) (take 16 bytes) 16 10 (length-take-le 16 bytes c.requires) (omega arith)) c.if-places-eq0.false).free
+    (lowest_set 16 bytes c.requires (omega arith) _ (bitmask_splat w8 (λ (a b : ℕ). a == b) (take 16 bytes) 16 10 (length-take-le 16 bytes c.requires) (omega arith)) c.if-places-eq0.false).free
 
 pub returns-clause-line_feed : goal.returns-clause-line_feed
 returns-clause-line_feed c =
     let bytes = c.args.bytes.now in
-    let within = lowest_within bytes c.requires _ (bitmask_splat w8 (λ (a b : ℕ). a == b) (take 16 bytes) 16 10 (length-take-le 16 bytes c.requires) (omega arith)) c.if-places-eq0.false in
-    (lowest_set bytes c.requires _ (bitmask_splat w8 (λ (a b : ℕ). a == b) (take 16 bytes) 16 10 (length-take-le 16 bytes c.requires) (omega arith)) c.if-places-eq0.false).line_feed within
+    let within = lowest_within 16 bytes c.requires (omega arith) _ (bitmask_splat w8 (λ (a b : ℕ). a == b) (take 16 bytes) 16 10 (length-take-le 16 bytes c.requires) (omega arith)) c.if-places-eq0.false in
+    (lowest_set 16 bytes c.requires (omega arith) _ (bitmask_splat w8 (λ (a b : ℕ). a == b) (take 16 bytes) 16 10 (length-take-le 16 bytes c.requires) (omega arith)) c.if-places-eq0.false).line_feed within

@@ -1,5 +1,8 @@
-use Rattle.parsing_plan.proofs.Numbers.{month_named}
+use Rattle.parsing_plan.proofs.Numbers.{month_said, named_bound}
 use Rattle.parsing_plan.proofs.read.month_name_at.Goals as goal
 
 pub returns-clause-says : goal.returns-clause-says
-returns-clause-says c = month_named c.args.place c.number.result c.args.line.now c.in_ok-month.month c.requires c.in_ok-month.ensures c.number.ensures.value
+returns-clause-says c = month_said c.args.place c.args.line.now c.month_number.result c.requires c.month_number.ensures
+
+pub returns-clause-bound : goal.returns-clause-bound
+returns-clause-bound c = named_bound _ _ _ c.month_number.result c.month_number.ensures
