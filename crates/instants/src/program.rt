@@ -34,8 +34,8 @@ pub fn run_words<'a, R: ByteReader, W: ByteWriter>(
     // What the words ask for was written, as far as the run came.
     ensures ran { IfSome (run_of result) (λ ended. (setting : Setting) × (limit : ℕ)
         × AsksFor (map (λ word. word.now) words.now) setting limit
-        × RanAndFlushed (by_answers (answer_to setting) limit) ended
-        R.ByteReader reader.old reader.new W.ByteWriter writer.old writer.new) }
+        × RanAndFlushed (by_answers (answer_to setting) limit)
+        R.ByteReader reader.old reader.new W.ByteWriter writer.old writer.new ended) }
     // Words that are wrong are refused, whatever the devices have.
     ensures refused { (fault : WordsFault)
         → words_said (map (λ word. word.now) words.now) ≡ Err fault
@@ -65,8 +65,8 @@ fn run_and_flush<R: ByteReader, W: ByteWriter>(
     requires room { limit < length buffer.old }
     requires reader { R.failed reader.old ≡ false }
     requires writer { W.failed writer.old ≡ false }
-    ensures { RanAndFlushed (by_answers (answer_to (setting_of timeline.now)) limit) result
-        R.ByteReader reader.old reader.new W.ByteWriter writer.old writer.new }
+    ensures { RanAndFlushed (by_answers (answer_to (setting_of timeline.now)) limit)
+        R.ByteReader reader.old reader.new W.ByteWriter writer.old writer.new result }
 {
     let answered = answer_lines(timeline, limit, buffer, reader, writer);
     if answered == Err(RunFault::Read) && !writer.has_failed() {

@@ -24,8 +24,8 @@ pub fn run<R: ByteReader, W: ByteWriter>(
     requires room { 2 ≤ length buffer.old }
     requires reader { R.failed reader.old ≡ false }
     requires writer { W.failed writer.old ≡ false }
-    ensures { Ran (by_answers (answer_to (setting_of timeline.now)) (length buffer.old - 1)) result
-        R.ByteReader reader.old reader.new W.ByteWriter writer.old writer.new }
+    ensures { Ran (by_answers (answer_to (setting_of timeline.now)) (length buffer.old - 1))
+        R.ByteReader reader.old reader.new W.ByteWriter writer.old writer.new result }
 {
     answer_lines(timeline, buffer.len() - 1, buffer, reader, writer)
 }
@@ -41,8 +41,8 @@ pub(crate) fn answer_lines<R: ByteReader, W: ByteWriter>(
     requires room { limit < length buffer.old }
     requires reader { R.failed reader.old ≡ false }
     requires writer { W.failed writer.old ≡ false }
-    ensures { Ran (by_answers (answer_to (setting_of timeline.now)) limit) result
-        R.ByteReader reader.old reader.new W.ByteWriter writer.old writer.new }
+    ensures { Ran (by_answers (answer_to (setting_of timeline.now)) limit)
+        R.ByteReader reader.old reader.new W.ByteWriter writer.old writer.new result }
 {
     match timeline.first() {
         Source::Rfc3339 => run_lines(

@@ -41,8 +41,8 @@ pub fn run_words<'a, R: ByteReader, W: ByteWriter>(
     // What the words ask for was written, as far as the run came.
     ensures ran { IfSome (run_of result) (λ ended. (going : Going) × (limit : ℕ)
         × AsksFor (map (λ word. word.now) words.now) going limit
-        × RanAndFlushed (by_steps lines_steps going limit) ended
-        R.ByteReader reader.old reader.new W.ByteWriter writer.old writer.new) }
+        × RanAndFlushed (by_steps lines_steps going limit)
+        R.ByteReader reader.old reader.new W.ByteWriter writer.old writer.new ended) }
     // Words that are wrong are refused, whatever the devices have.
     ensures refused { (fault : LinesFault)
         → mode_words_said (map (λ word. word.now) words.now) ≡ Err fault
@@ -87,8 +87,8 @@ fn run_and_flush<R: ByteReader, W: ByteWriter>(
     requires room { limit < length buffer.old }
     requires reader { R.failed reader.old ≡ false }
     requires writer { W.failed writer.old ≡ false }
-    ensures { RanAndFlushed (by_steps lines_steps (beginning mode (setting_in dates.now)) limit) result
-        R.ByteReader reader.old reader.new W.ByteWriter writer.old writer.new }
+    ensures { RanAndFlushed (by_steps lines_steps (beginning mode (setting_in dates.now)) limit)
+        R.ByteReader reader.old reader.new W.ByteWriter writer.old writer.new result }
 {
     let answered = run_in_mode(mode, dates, limit, buffer, reader, writer);
     if answered == Err(RunFault::Read) && !writer.has_failed() {
@@ -111,8 +111,8 @@ fn run_in_mode<R: ByteReader, W: ByteWriter>(
     requires room { limit < length buffer.old }
     requires reader { R.failed reader.old ≡ false }
     requires writer { W.failed writer.old ≡ false }
-    ensures { Ran (by_steps lines_steps (beginning mode (setting_in dates.now)) limit) result
-        R.ByteReader reader.old reader.new W.ByteWriter writer.old writer.new }
+    ensures { Ran (by_steps lines_steps (beginning mode (setting_in dates.now)) limit)
+        R.ByteReader reader.old reader.new W.ByteWriter writer.old writer.new result }
 {
     let mut lines = LineWriter::new(mode, dates);
     write_lines(&mut lines, limit, buffer, reader, writer)

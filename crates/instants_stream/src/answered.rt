@@ -150,8 +150,8 @@ pub fn run_lines<A: AnswersLines, R: ByteReader, W: ByteWriter>(
     requires room { limit < length buffer.old }
     requires reader { R.failed reader.old ≡ false }
     requires writer { W.failed writer.old ≡ false }
-    ensures { Ran (by_answers (A.answer answers.now) limit) result
-        R.ByteReader reader.old reader.new W.ByteWriter writer.old writer.new }
+    ensures { Ran (by_answers (A.answer answers.now) limit)
+        R.ByteReader reader.old reader.new W.ByteWriter writer.old writer.new result }
 {
     write_lines(&mut Answering::new(answers), limit, buffer, reader, writer)
 }

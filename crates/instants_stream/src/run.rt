@@ -75,8 +75,8 @@ pub fn write_lines<S: WritesLines, R: ByteReader, W: ByteWriter>(
     requires room { limit < length buffer.old }
     requires reader { R.failed reader.old ≡ false }
     requires writer { W.failed writer.old ≡ false }
-    ensures { Ran (by_steps S.steps (S.state steps.old) limit) result
-        R.ByteReader reader.old reader.new W.ByteWriter writer.old writer.new }
+    ensures { Ran (by_steps S.steps (S.state steps.old) limit)
+        R.ByteReader reader.old reader.new W.ByteWriter writer.old writer.new result }
 {
     // The unfinished line stands from start to filled. Its first bytes are gone if it is too long.
     let mut start = 0;

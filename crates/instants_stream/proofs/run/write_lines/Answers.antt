@@ -1,11 +1,11 @@
-use Rattle.std.proofs.Common.{◌≡◌, ◌==◌, ℕ, ◌+◌, ◌-◌, ◌≤◌, ◌<◌, ◌⊎◌, ◌&&◌, zero, suc, Bool, true, false, [], ◌++◌, length, take, refl, ap, ◌∙◌, inl, inr, arith}
+use Rattle.std.proofs.Common.{◌≡◌, ◌==◌, ℕ, ◌+◌, ◌-◌, ◌≤◌, ◌<◌, ◌⊎◌, ◌&&◌, zero, suc, Bool, true, false, [], ◌++◌, length, take, refl, ap, ◌∙◌, inl, inr, arith, rules}
 use Rattle.std.proofs.Math.Dec.{eqb-suc-zero}
 use Rattle.std.specs.Io.KnownBytes.{IsAtEnd}
 use Rattle.std.proofs.lemmas.Grind.{common_steps}
 use Rattle.std.proofs.lemmas.List.Elements.{All-nil}
 use Rattle.instants_stream.specs.Lines.{HasNoLineFeed, last_part}
 use Rattle.instants_stream.proofs.Told.{on_ok, on_err}
-use Rattle.instants_stream.proofs.Ends.{both_ok, both_err, ConsumesOrUntold-stays, ran_through, ran_to_read, ran_to_write}
+use Rattle.instants_stream.proofs.Ends.{ConsumesOrUntold-stays, failed_to_write}
 use Rattle.instants_stream.proofs.Lines.{last_part_free}
 use Rattle.instants_stream.proofs.Progress.{Progress, begins, handed_on, pauses, fails_to_hand_on, fails_at_end, through_with_rest, through, fails_at_flush, done, Through}
 use Rattle.instants_stream.proofs.ReadSteps.{more_step, more_fails, forgets}
@@ -40,7 +40,7 @@ returns-in_default-write_whole_lines g c =
     let wrote = rw more at c.in_default-write_whole_lines.ensures.front in
     let into_size : length into ≡ length buffer - filled = grind (arith, common_steps) in
     let handed = on_ok c.hand_on.result c.is_err.result c.is_err.ensures.value c.if-is_err.false c.hand_on.ensures.held in
-    ran_to_write (more_fails _ _ _ _ _ (g.S.WritesLines.state c.loop-limit.steps) _ _ _ _ _ _ _ _ _ (handed_on _ _ _ _ _ _ _ _ _ _ _ _ i.progress handed) i.free c.in-Ok.ensures.moved wrote)
+    failed_to_write (more_fails _ _ _ _ _ (g.S.WritesLines.state c.loop-limit.steps) _ _ _ _ _ _ _ _ _ (handed_on _ _ _ _ _ _ _ _ _ _ _ _ i.progress handed) i.free c.in-Ok.ensures.moved wrote)
     (c.in-Ok.ensures.ok ∙ i.reader_works) c.in_default-write_whole_lines.ensures.err
 
 -- a line stays too long exactly if no line feed ended it
@@ -173,16 +173,22 @@ paused g c none =
 pub returns-then-is_err : goal.returns-then-is_err
 returns-then-is_err g c =
     let i = c.loop-limit.invariant in
-    let (stays, failed) = both_err c.hand_on.result c.is_err.result c.is_err.ensures.value c.if-is_err.true c.hand_on.ensures.kept c.hand_on.ensures.err in
-    ran_to_write (fails_to_hand_on _ _ _ _ _ _ _ _ _ _ _ _ i.progress stays) i.reader_works failed
+    let stays = on_err c.hand_on.result c.is_err.result c.is_err.ensures.value c.if-is_err.true c.hand_on.ensures.kept in
+    failed_to_write (fails_to_hand_on _ _ _ _ _ _ _ _ _ _ _ _ i.progress stays) i.reader_works (search rules)
 
 -- a read failed
 pub returns-in_default : goal.returns-in_default
 returns-in_default g c =
     let i = c.loop-limit.invariant in
-    let (held, worked) = both_ok c.hand_on.result c.is_err.result c.is_err.ensures.value c.if-is_err.false c.hand_on.ensures.held c.hand_on.ensures.ok in
+    let held = on_ok c.hand_on.result c.is_err.result c.is_err.ensures.value c.if-is_err.false c.hand_on.ensures.held in
     let progress = handed_on _ _ _ _ _ _ _ _ _ _ _ _ i.progress held in
-    ran_to_read (progress.bytes, ConsumesOrUntold-stays _ _ _ _ progress.read c.in_default.ensures.kept, progress.written) c.in_default.ensures.err (worked ∙ i.writer_works)
+    record {
+      read = progress.bytes;
+      consumed = ConsumesOrUntold-stays _ _ _ _ progress.read c.in_default.ensures.kept;
+      written = progress.written;
+      reader_failed = c.in_default.ensures.err;
+      writer_works = search rules;
+    }
 
 -- a write at the end failed
 pub returns-then-is_err-2 : goal.returns-then-is_err-2
@@ -195,16 +201,15 @@ returns-then-is_err-2 g c =
     let fits : filled ≤ length buffer = omega arith in
     let size = length-pending buffer start filled fits in
     let same = pending_same buffer c.read.new.into start filled (length buffer - filled) i.ordered fits in
-    let (wrote, failed) = both_err c.write_last_line.result c.is_err-then-is_long.result c.is_err-then-is_long.ensures.value c.if-is_err-2.true c.write_last_line.ensures.front c.write_last_line.ensures.err in
+    let wrote = on_err c.write_last_line.result c.is_err-then-is_long.result c.is_err-then-is_long.ensures.value c.if-is_err-2.true c.write_last_line.ensures.front in
     let some : (c.loop-limit.is_long ≡ true) ⊎ (0 < length (pending buffer start filled)) = elim c.then-is_long.branch [
       | then-is_long-via-then-is_long w ↦ inl w.if-is_long.true
       | then-is_long-via-else-is_long+then-start-filled w ↦ inr (omega (arith, size, w.if-start-filled.true))
     ] in
-    ran_to_write (fails_at_end _ _ _ _ _ _ _ _ _ _ _ _ progress (omega (arith, size, i.short)) some ends (rw same at wrote)) (c.in-Ok.ensures.ok ∙ i.reader_works) failed
+    failed_to_write (fails_at_end _ _ _ _ _ _ _ _ _ _ _ _ progress (omega (arith, size, i.short)) some ends (rw same at wrote)) (c.in-Ok.ensures.ok ∙ i.reader_works) (search rules)
 
 -- the run is through, but for the flush
 finished : (g : _) (c : After-flush g) → Through g.S.WritesLines.State g.S.WritesLines.steps (g.S.WritesLines.state c.args.steps.now) c.args.limit (g.R.ByteReader.left c.args.reader.now) (g.R.ByteReader.left c.read.new.self) (g.W.ByteWriter.held c.args.writer.now) (g.W.ByteWriter.held c.if-is_long.writer)
-    × (g.W.ByteWriter.failed c.if-is_long.writer ≡ false)
 finished g c =
     let i = c.loop-limit.invariant in
     let buffer = c.loop-limit.buffer in
@@ -213,37 +218,38 @@ finished g c =
     let into_size : length c.read.new.into ≡ length buffer - filled = grind (arith, common_steps) in
     let ends = c.in-Ok.ensures.none c.if-count-eq0.true (omega arith) in
     let handed = on_ok c.hand_on.result c.is_err.result c.is_err.ensures.value c.if-is_err.false c.hand_on.ensures.held in
-    let works : g.W.ByteWriter.failed c.hand_on.new.self ≡ false = on_ok c.hand_on.result c.is_err.result c.is_err.ensures.value c.if-is_err.false c.hand_on.ensures.ok ∙ i.writer_works in
     let progress = pauses g.S.WritesLines.State g.S.WritesLines.steps (g.S.WritesLines.state c.args.steps.now) c.args.limit (g.S.WritesLines.state c.loop-limit.steps) (g.R.ByteReader.left c.args.reader.now) (g.R.ByteReader.left c.loop-limit.reader) (g.R.ByteReader.left c.read.new.self) (g.W.ByteWriter.held c.args.writer.now) (g.W.ByteWriter.held c.hand_on.new.self) (pending buffer start filled) c.loop-limit.is_long (handed_on _ _ _ _ _ _ _ _ _ _ _ _ i.progress handed) (rw c.if-count-eq0.true at c.in-Ok.ensures.moved) in
     let fits : filled ≤ length buffer = omega arith in
     let size = length-pending buffer start filled fits in
     let same = pending_same buffer c.read.new.into start filled (length buffer - filled) i.ordered fits in
     elim c.if-is_long.branch [
       | then-is_long+else-is_err-2 w ↦
-          let (wrote, worked) = both_ok w.write_last_line.result w.is_err-then-is_long.result w.is_err-then-is_long.ensures.value w.if-is_err-2.false w.write_last_line.ensures.written w.write_last_line.ensures.ok in
+          let wrote = on_ok w.write_last_line.result w.is_err-then-is_long.result w.is_err-then-is_long.ensures.value w.if-is_err-2.false w.write_last_line.ensures.written in
           let some : (c.loop-limit.is_long ≡ true) ⊎ (0 < length (pending buffer start filled)) = elim w.then-is_long.branch [
             | then-is_long-via-then-is_long v ↦ inl v.if-is_long.true
             | then-is_long-via-else-is_long+then-start-filled v ↦ inr (omega (arith, size, v.if-start-filled.true))
           ] in
-          rw w.writer-is (through_with_rest _ _ _ _ _ _ _ _ _ _ _ _ progress (omega (arith, size, i.short)) some ends (rw same at wrote), worked ∙ works)
+          rw w.writer-is (through_with_rest _ _ _ _ _ _ _ _ _ _ _ _ progress (omega (arith, size, i.short)) some ends (rw same at wrote))
       | else-is_long+else-start-filled w ↦
           let none : filled - start ≡ 0 = omega (arith, w.if-start-filled.false) in
           let line_is : pending buffer start filled ≡ [] = rw none refl in
-          rw w.writer-is (through _ _ _ _ _ _ _ _ _ (g.W.ByteWriter.held c.hand_on.new.self) _ _ progress w.if-is_long.false line_is ends, works)
+          rw w.writer-is (through _ _ _ _ _ _ _ _ _ (g.W.ByteWriter.held c.hand_on.new.self) _ _ progress w.if-is_long.false line_is ends)
     ]
 
 pub returns-then-is_err-3 : goal.returns-then-is_err-3
 returns-then-is_err-3 g c =
-    let (stays, failed) = both_err c.flush.result c.is_err-2.result c.is_err-2.ensures.value c.if-is_err-3.true c.flush.ensures.kept c.flush.ensures.err in
-    let (through, works) = finished g (goal.at.returns-then-is_err-3 g c).After-flush in
-    ran_to_write (fails_at_flush _ _ _ _ _ _ _ _ _ through stays) (c.in-Ok.ensures.ok ∙ c.loop-limit.invariant.reader_works) failed
+    let stays = on_err c.flush.result c.is_err-2.result c.is_err-2.ensures.value c.if-is_err-3.true c.flush.ensures.kept in
+    failed_to_write (fails_at_flush _ _ _ _ _ _ _ _ _ (finished g (goal.at.returns-then-is_err-3 g c).After-flush) stays) (search rules) (search rules)
 
 pub returns : goal.returns
 returns g c =
-    let (held, worked) = both_ok c.flush.result c.is_err-2.result c.is_err-2.ensures.value c.if-is_err-3.false c.flush.ensures.moved c.flush.ensures.ok in
-    let flushed = on_ok c.flush.result c.is_err-2.result c.is_err-2.ensures.value c.if-is_err-3.false c.flush.ensures.flushed in
-    let (through, works) = finished g (goal.at.returns g c).After-flush in
-    ran_through (done _ _ _ _ _ _ _ _ _ through held) flushed (c.in-Ok.ensures.ok ∙ c.loop-limit.invariant.reader_works) (worked ∙ works)
+    let held = on_ok c.flush.result c.is_err-2.result c.is_err-2.ensures.value c.if-is_err-3.false c.flush.ensures.moved in
+    record {
+      whole = done _ _ _ _ _ _ _ _ _ (finished g (goal.at.returns g c).After-flush) held;
+      flushed = search rules;
+      reader_works = search rules;
+      writer_works = search rules;
+    }
 
 -- no byte that was pending before the read is a line feed
 pub write_whole_lines-requires-clause-free : goal.write_whole_lines-requires-clause-free
