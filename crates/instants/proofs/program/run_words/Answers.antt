@@ -1,17 +1,12 @@
 use Rattle.std.proofs.Common.{refl}
 use Rattle.std.proofs.lemmas.Result.{err_from_is_err_and}
-use Rattle.instants.specs.Program.{AsksFor}
 use Rattle.instants.specs.Settings.{setting_of}
 use Rattle.instants.proofs.program.run_words.Goals as goal
-use Rattle.instants.proofs.program.run_words.Goals.{In_ok-timeline}
-
--- what is asked for
-asked : (g : _) (c : In_ok-timeline g) → ?
-asked g c = ?
 
 pub returns-in_err-run_and_flush-clause-ran : goal.returns-in_err-run_and_flush-clause-ran
 returns-in_err-run_and_flush-clause-ran g c =
     let p = err_from_is_err_and c.from_residual.result c.from_residual.ensures.1 in
+    let h = c.in_err-run_and_flush in
     ?
 
 pub returns-clause-ran : goal.returns-clause-ran

@@ -51,11 +51,12 @@ still_long true (suc answered) = inl (omega arith, rw (eqb-suc-zero answered) re
 still_long false (suc answered) = inl (omega arith, refl)
 
 -- where the run stands when the whole lines are answered
-stands : (g : _) (c : In-Ok-write_whole_lines g) (is_long : Bool) → ((0 < c.in-Ok-write_whole_lines.done) × (is_long ≡ false)) ⊎ ((c.in-Ok-write_whole_lines.done ≡ 0) × (is_long ≡ c.loop-limit.is_long))
-    → (let line = pending (put_mid c.loop-limit.filled (length c.loop-limit.buffer - c.loop-limit.filled) c.loop-limit.buffer c.read.new.into) (c.loop-limit.start + c.in-Ok-write_whole_lines.done) (c.loop-limit.filled + c.in-Ok.count) in
-    Progress g.S.WritesLines.State g.S.WritesLines.steps (g.S.WritesLines.state c.args.steps.now) (g.S.WritesLines.state c.write_whole_lines.new.steps) c.args.limit (g.R.ByteReader.left c.args.reader.now) (g.R.ByteReader.left c.read.new.self) (g.W.ByteWriter.held c.args.writer.now) (g.W.ByteWriter.held c.write_whole_lines.new.writer) line is_long
-    × HasNoLineFeed line × (c.loop-limit.start + c.in-Ok-write_whole_lines.done ≤ c.loop-limit.filled + c.in-Ok.count) × (c.loop-limit.filled + c.in-Ok.count ≤ length c.loop-limit.buffer))
-stands g c is_long which =
+stands : (g : _) (c : In-Ok-write_whole_lines g)
+    → (let next = put_mid c.loop-limit.filled (length c.loop-limit.buffer - c.loop-limit.filled) c.loop-limit.buffer c.read.new.into in
+    let line = pending next (c.loop-limit.start + c.in-Ok-write_whole_lines.done) (c.loop-limit.filled + c.in-Ok.count) in
+    Progress g.S.WritesLines.State g.S.WritesLines.steps (g.S.WritesLines.state c.args.steps.now) (g.S.WritesLines.state c.write_whole_lines.new.steps) c.args.limit (g.R.ByteReader.left c.args.reader.now) (g.R.ByteReader.left c.read.new.self) (g.W.ByteWriter.held c.args.writer.now) (g.W.ByteWriter.held c.write_whole_lines.new.writer) line (c.loop-limit.is_long && (c.in-Ok-write_whole_lines.done == 0))
+    × HasNoLineFeed line × (c.loop-limit.start + c.in-Ok-write_whole_lines.done ≤ c.loop-limit.filled + c.in-Ok.count) × (c.loop-limit.filled + c.in-Ok.count ≤ length c.loop-limit.buffer) × (length next ≡ length c.loop-limit.buffer))
+stands g c =
     let i = c.loop-limit.invariant in
     let buffer = c.loop-limit.buffer in
     let start = c.loop-limit.start in
@@ -64,6 +65,8 @@ stands g c is_long which =
     let count = c.in-Ok.count in
     let k = length buffer - filled in
     let done_count = c.in-Ok-write_whole_lines.done in
+    let is_long = c.loop-limit.is_long && (done_count == 0) in
+    let which = still_long c.loop-limit.is_long done_count in
     let fits : filled ≤ length buffer = omega arith in
     let into_size : length into ≡ length buffer - filled = grind (arith, common_steps) in
     let more = pending_more buffer into start filled count k i.ordered fits c.in-Ok.ensures.within in
@@ -75,7 +78,7 @@ stands g c is_long which =
     let handed = on_ok c.hand_on.result c.is_err.result c.is_err.ensures.value c.if-is_err.false c.hand_on.ensures.held in
     let progress = more_step g.S.WritesLines.State g.S.WritesLines.steps (g.S.WritesLines.state c.args.steps.now) c.args.limit (g.S.WritesLines.state c.loop-limit.steps) (g.S.WritesLines.state c.write_whole_lines.new.steps) (g.R.ByteReader.left c.args.reader.now) (g.R.ByteReader.left c.loop-limit.reader) (g.R.ByteReader.left c.read.new.self) (g.W.ByteWriter.held c.args.writer.now) (g.W.ByteWriter.held c.hand_on.new.self) (g.W.ByteWriter.held c.write_whole_lines.new.writer) (pending buffer start filled) (take count into) c.loop-limit.is_long (handed_on _ _ _ _ _ _ _ _ _ _ _ _ i.progress handed) i.free c.in-Ok.ensures.moved done_count is_long
     (rw more at c.in-Ok-write_whole_lines.ensures.some) (rw more at c.in-Ok-write_whole_lines.ensures.none) which (rw more at c.in-Ok-write_whole_lines.ensures.state) (rw more at c.in-Ok-write_whole_lines.ensures.written) in
-    (rw line_is progress, rw line_is (last_part_free (pending buffer start filled ++ take count into)), ordered, next_fits)
+    (rw line_is progress, rw line_is (last_part_free (pending buffer start filled ++ take count into)), ordered, next_fits, size)
 
 pub loop-limit-preserved-then-filled-start : goal.loop-limit-preserved-then-filled-start
 loop-limit-preserved-then-filled-start g c =
@@ -85,11 +88,7 @@ loop-limit-preserved-then-filled-start g c =
     let into = c.read.new.into in
     let k = length buffer - filled in
     let next = put_mid filled k buffer into in
-    let fits : filled ≤ length buffer = omega arith in
-    let into_size : length into ≡ length buffer - filled = grind (arith, common_steps) in
-    let size = size_kept buffer into filled k fits refl into_size in
-    let which : ((0 < c.in-Ok-write_whole_lines.done) × ((c.loop-limit.is_long && (c.in-Ok-write_whole_lines.done == 0)) ≡ false)) ⊎ ((c.in-Ok-write_whole_lines.done ≡ 0) × ((c.loop-limit.is_long && (c.in-Ok-write_whole_lines.done == 0)) ≡ c.loop-limit.is_long)) = still_long c.loop-limit.is_long c.in-Ok-write_whole_lines.done in
-    let (progress, free, ordered, ends) = stands g (goal.at.loop-limit-preserved-then-filled-start g c).In-Ok-write_whole_lines (c.loop-limit.is_long && (c.in-Ok-write_whole_lines.done == 0)) which in
+    let (progress, free, ordered, ends, size) = stands g (goal.at.loop-limit-preserved-then-filled-start g c).In-Ok-write_whole_lines in
     let start_next = c.loop-limit.start + c.in-Ok-write_whole_lines.done in
     let filled_next = filled + c.in-Ok.count in
     let over : c.args.limit < length (pending next start_next filled_next) = omega (arith, length-pending next start_next filled_next (omega arith), c.if-filled-start.true) in
@@ -113,11 +112,7 @@ loop-limit-preserved-then-filled-buffer g c =
     let into = c.read.new.into in
     let k = length buffer - filled in
     let next = put_mid filled k buffer into in
-    let fits : filled ≤ length buffer = omega arith in
-    let into_size : length into ≡ length buffer - filled = grind (arith, common_steps) in
-    let size = size_kept buffer into filled k fits refl into_size in
-    let which : ((0 < c.in-Ok-write_whole_lines.done) × ((c.loop-limit.is_long && (c.in-Ok-write_whole_lines.done == 0)) ≡ false)) ⊎ ((c.in-Ok-write_whole_lines.done ≡ 0) × ((c.loop-limit.is_long && (c.in-Ok-write_whole_lines.done == 0)) ≡ c.loop-limit.is_long)) = still_long c.loop-limit.is_long c.in-Ok-write_whole_lines.done in
-    let (progress, free, ordered, ends) = stands g (goal.at.loop-limit-preserved-then-filled-buffer g c).In-Ok-write_whole_lines (c.loop-limit.is_long && (c.in-Ok-write_whole_lines.done == 0)) which in
+    let (progress, free, ordered, ends, size) = stands g (goal.at.loop-limit-preserved-then-filled-buffer g c).In-Ok-write_whole_lines in
     let start_next = c.loop-limit.start + c.in-Ok-write_whole_lines.done in
     let filled_next = filled + c.in-Ok.count in
     let moved : take (filled_next - start_next - 0) c.copy_within.new.self ≡ pending next start_next filled_next = ap (take (filled_next - start_next - 0)) c.copy_within.ensures.after ∙ pending_moved next start_next filled_next (filled_next - start_next - 0) ordered c.if-filled-buffer.true (omega arith) in
@@ -141,11 +136,7 @@ loop-limit-preserved g c =
     let into = c.read.new.into in
     let k = length buffer - filled in
     let next = put_mid filled k buffer into in
-    let fits : filled ≤ length buffer = omega arith in
-    let into_size : length into ≡ length buffer - filled = grind (arith, common_steps) in
-    let size = size_kept buffer into filled k fits refl into_size in
-    let which : ((0 < c.in-Ok-write_whole_lines.done) × ((c.loop-limit.is_long && (c.in-Ok-write_whole_lines.done == 0)) ≡ false)) ⊎ ((c.in-Ok-write_whole_lines.done ≡ 0) × ((c.loop-limit.is_long && (c.in-Ok-write_whole_lines.done == 0)) ≡ c.loop-limit.is_long)) = still_long c.loop-limit.is_long c.in-Ok-write_whole_lines.done in
-    let (progress, free, ordered, ends) = stands g (goal.at.loop-limit-preserved g c).In-Ok-write_whole_lines (c.loop-limit.is_long && (c.in-Ok-write_whole_lines.done == 0)) which in
+    let (progress, free, ordered, ends, size) = stands g (goal.at.loop-limit-preserved g c).In-Ok-write_whole_lines in
     let room : filled + c.in-Ok.count < length c.args.buffer.now = omega (arith, size, i.size, ends, c.if-filled-buffer.false) in
     record {
       progress = progress;
