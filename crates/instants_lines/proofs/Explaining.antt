@@ -33,14 +33,14 @@ first_says setting line number [] moment e = absurd cc
 first_says setting line number (grammar ∷ others) moment e =
     elim (first_or_others (named setting.assumed grammar line) (first_named setting.assumed others line) moment e) [
       | inl h ↦ record {
-          before = [];
-          source = grammar;
-          behind = others;
-          parts = refl;
-          names = h;
-          none_before = All-nil (λ (other : Grammar). IsErr (named setting.assumed other line));
-          says = rw h refl;
-        }
+        before = [];
+        source = grammar;
+        behind = others;
+        parts = refl;
+        names = h;
+        none_before = All-nil (λ (other : Grammar). IsErr (named setting.assumed other line));
+        says = rw h refl;
+      }
       | inr h ↦
           let next = first_says setting line (number + 1) others moment h.1 in
           let places : length next.before + (number + 1) ≡ length (grammar ∷ next.before) + number = omega arith in

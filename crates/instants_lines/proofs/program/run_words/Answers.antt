@@ -1,4 +1,4 @@
-use Rattle.std.proofs.Common.{refl}
+use Rattle.std.proofs.Common.{map, refl}
 use Rattle.std.proofs.lemmas.Result.{err_from_is_err_and}
 use Rattle.instants_lines.specs.Going.{beginning}
 use Rattle.instants_lines.specs.Program.{AsksFor}
@@ -7,7 +7,7 @@ use Rattle.instants_lines.proofs.program.run_words.Goals as goal
 use Rattle.instants_lines.proofs.program.run_words.Goals.{After-new-dates}
 
 -- the words ask for what is run
-asked : (g : _) (c : After-new-dates g) → AsksFor _ (beginning c.in_ok-mode.mode (setting_in c.new-dates.result)) c.in_ok-mode.said.limit
+asked : (g : _) (c : After-new-dates g) → AsksFor (map (λ word. word.now) c.args.words.now) (beginning c.in_ok-mode.mode (setting_in c.new-dates.result)) c.in_ok-mode.said.limit
 asked g c =
     let means = c.in_ok-timeline.ensures in
     let is = c.new-dates.ensures in
@@ -27,7 +27,7 @@ asked g c =
 
 pub returns-in_err-run_and_flush-clause-ran : goal.returns-in_err-run_and_flush-clause-ran
 returns-in_err-run_and_flush-clause-ran g c =
-    let p = err_from_is_err_and c.from_residual.result c.from_residual.ensures.1 in
+    let p = err_from_is_err_and c.from_residual-in_err-run_and_flush.result c.from_residual-in_err-run_and_flush.ensures.1 in
     rw (p.1, p.2) (_, _, asked g (goal.at.returns-in_err-run_and_flush-clause-ran g c).After-new-dates, c.in_err-run_and_flush.ensures)
 
 pub returns-clause-ran : goal.returns-clause-ran
