@@ -39,7 +39,7 @@ first_says setting line number (grammar ∷ others) moment e =
         parts = refl;
         names = h;
         none_before = All-nil (λ (other : Grammar). IsErr (named setting.assumed other line));
-        says = rw h refl;
+        says = let none : 0 + number ≡ number = omega arith in rw (h, none) refl;
       }
       | inr h ↦
           let next = first_says setting line (number + 1) others moment h.1 in
