@@ -1,4 +1,4 @@
--- What the program says on standard error, and the status that it ends with.
+-- What a program says on standard error, and the status that it ends with.
 use Rattle.std.specs.Prelude.{ℕ, List, ◌++◌, codes}
 use Rattle.std.specs.Fmt.{decimal}
 use Rattle.instants_words.specs.declared.fault.WordsFault.{WordsFault}
@@ -6,33 +6,27 @@ use Rattle.instants_words.specs.declared.fault.WordsFault.TheVariants as words
 use Rattle.instants_stream.specs.declared.run.RunFault.TheVariants as run
 use Rattle.description_lexer.specs.Fault.{fault_of}
 use Rattle.description_lexer.specs.Sentence as description
-use Rattle.instants.specs.declared.new_fault.NewFault.{NewFault}
 use Rattle.instants.specs.declared.new_fault.NewFault.TheVariants as new
 use Rattle.instants.specs.declared.program_fault.ProgramFault.{ProgramFault}
 use Rattle.instants.specs.declared.program_fault.ProgramFault.TheVariants as program
 
-abbrev memory_text : List ℕ
-memory_text = codes "instants: out of memory"
-
-abbrev words_text : WordsFault → List ℕ
-words_text words.Usage = codes "instants: usage: instants TARGET ASSUMED LIMIT SOURCE..."
-words_text words.Target = codes "instants: the target offset must be +HH:MM or -HH:MM"
-words_text words.Assumed = codes "instants: the assumed offset must be +HH:MM, -HH:MM or -"
-words_text words.Limit = codes "instants: the limit must be a number from 1 to 1048576"
-words_text (words.Source place) = codes "instants: source " ++ decimal place ++ codes " is not a known source with its description"
-words_text words.Memory = memory_text
-
-abbrev new_text : NewFault → List ℕ
-new_text (new.Source place fault) = codes "instants: source " ++ (decimal place ++ (codes ": " ++ description.sentence (fault_of fault)))
-new_text new.Memory = memory_text
+-- what is said of a fault behind a program's name, whose words are these
+abbrev pub text_of : List ℕ → ProgramFault → List ℕ
+text_of usage (program.Words words.Usage) = codes ": usage: " ++ usage
+text_of usage (program.Words words.Target) = codes ": the target offset must be +HH:MM or -HH:MM"
+text_of usage (program.Words words.Assumed) = codes ": the assumed offset must be +HH:MM, -HH:MM or -"
+text_of usage (program.Words words.Limit) = codes ": the limit must be a number from 1 to 1048576"
+text_of usage (program.Words (words.Source place)) = codes ": source " ++ decimal place ++ codes " is not a known source with its description"
+text_of usage (program.Words words.Memory) = codes ": out of memory"
+text_of usage (program.New (new.Source place fault)) = codes ": source " ++ (decimal place ++ (codes ": " ++ description.sentence (fault_of fault)))
+text_of usage (program.New new.Memory) = codes ": out of memory"
+text_of usage (program.Run run.Read) = codes ": reading failed"
+text_of usage (program.Run run.Write) = codes ": writing failed"
+text_of usage program.Memory = codes ": out of memory"
 
 -- the sentence for a fault, without a line feed
 abbrev pub sentence : ProgramFault → List ℕ
-sentence (program.Words fault) = words_text fault
-sentence (program.New fault) = new_text fault
-sentence (program.Run run.Read) = codes "instants: reading failed"
-sentence (program.Run run.Write) = codes "instants: writing failed"
-sentence program.Memory = memory_text
+sentence fault = codes "instants" ++ text_of (codes "instants TARGET ASSUMED LIMIT SOURCE...") fault
 
 abbrev words_status : WordsFault → ℕ
 words_status words.Memory = 1

@@ -1,8 +1,7 @@
 //! One answer for each line of a stream.
-ghost use Rattle.std.specs.Prelude.{◌≡◌, ◌-◌, ◌<◌, ◌≤◌, ◌↔◌, ℕ, true, false, List, [], length, Some, Err, IsTrue, IfSome, OnOk};
-ghost use Rattle.std.specs.Io.KnownBytes.{Consumes, Appends};
-ghost use Rattle.instants_stream.specs.Told.{ConsumesOrUntold, AppendsFront};
-ghost use Rattle.instants_stream.specs.Answers.{output, owed, due};
+ghost use Rattle.std.specs.Prelude.{◌≡◌, ◌-◌, ◌<◌, ◌≤◌, false, length};
+ghost use Rattle.instants_stream.specs.Answers.{by_answers};
+ghost use Rattle.instants_stream.specs.Ran.{Ran};
 ghost use Rattle.instants.specs.Place.{answer_to};
 ghost use Rattle.instants.specs.Settings.{setting_of};
 
@@ -25,25 +24,8 @@ pub fn run<R: ByteReader, W: ByteWriter>(
     requires room { 2 ≤ length buffer.old }
     requires reader { R.failed reader.old ≡ false }
     requires writer { W.failed writer.old ≡ false }
-    // All that the reader had was read, and exactly its output was written.
-    ensures ok { OnOk result (IfSome (R.left reader.old) (λ stream. (R.left reader.new ≡ Some [])
-        × Appends (W.held writer.old) (W.held writer.new)
-        (output (answer_to (setting_of timeline.now)) (length buffer.old - 1) stream))) }
-    ensures flushed { OnOk result (W.flushed writer.new ≡ true) }
-    // Exactly the lines whose line feed was read are answered.
-    ensures read { result ≡ Err RunFault.Read → (read : List ℕ)
-        × ConsumesOrUntold (R.left reader.old) (R.left reader.new) read
-        × Appends (W.held writer.old) (W.held writer.new)
-        (owed (answer_to (setting_of timeline.now)) (length buffer.old - 1) read) }
-    // A beginning of the answers to the lines whose line feed, or the end, was read is written.
-    ensures write { result ≡ Err RunFault.Write → (read : List ℕ)
-        × Consumes (R.left reader.old) (R.left reader.new) read
-        × AppendsFront (W.held writer.old) (W.held writer.new)
-        (due (answer_to (setting_of timeline.now)) (length buffer.old - 1) read
-        (R.left reader.new)) }
-    // A fault is one of the device that it names.
-    ensures read_failed { IsTrue (R.failed reader.new) ↔ (result ≡ Err RunFault.Read) }
-    ensures write_failed { IsTrue (W.failed writer.new) ↔ (result ≡ Err RunFault.Write) }
+    ensures { Ran (by_answers (answer_to (setting_of timeline.now)) (length buffer.old - 1))
+        R.ByteReader reader.old reader.new W.ByteWriter writer.old writer.new result }
 {
     answer_lines(timeline, buffer.len() - 1, buffer, reader, writer)
 }
@@ -59,20 +41,8 @@ pub(crate) fn answer_lines<R: ByteReader, W: ByteWriter>(
     requires room { limit < length buffer.old }
     requires reader { R.failed reader.old ≡ false }
     requires writer { W.failed writer.old ≡ false }
-    ensures ok { OnOk result (IfSome (R.left reader.old) (λ stream. (R.left reader.new ≡ Some [])
-        × Appends (W.held writer.old) (W.held writer.new)
-        (output (answer_to (setting_of timeline.now)) limit stream))) }
-    ensures flushed { OnOk result (W.flushed writer.new ≡ true) }
-    ensures read { result ≡ Err RunFault.Read → (read : List ℕ)
-        × ConsumesOrUntold (R.left reader.old) (R.left reader.new) read
-        × Appends (W.held writer.old) (W.held writer.new)
-        (owed (answer_to (setting_of timeline.now)) limit read) }
-    ensures write { result ≡ Err RunFault.Write → (read : List ℕ)
-        × Consumes (R.left reader.old) (R.left reader.new) read
-        × AppendsFront (W.held writer.old) (W.held writer.new)
-        (due (answer_to (setting_of timeline.now)) limit read (R.left reader.new)) }
-    ensures read_failed { IsTrue (R.failed reader.new) ↔ (result ≡ Err RunFault.Read) }
-    ensures write_failed { IsTrue (W.failed writer.new) ↔ (result ≡ Err RunFault.Write) }
+    ensures { Ran (by_answers (answer_to (setting_of timeline.now)) limit)
+        R.ByteReader reader.old reader.new W.ByteWriter writer.old writer.new result }
 {
     match timeline.first() {
         Source::Rfc3339 => run_lines(

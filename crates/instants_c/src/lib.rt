@@ -4,18 +4,16 @@
 //! takes, from the C library, is given back before it ends.
 #![tactic(auto)]
 
-ghost use Rattle.std.specs.Prelude.{◌≡◌, ◌≢◌, ◌<◌, ◌≤◌, ◌+◌, ◌*◌, ◌++◌, ◌==◌, ◌⊎◌, ℕ, List, length, take, drop, count_by, Ok};
+ghost use Rattle.std.specs.Prelude.{◌≡◌, ◌≢◌, ◌<◌, ◌≤◌, ◌+◌, ◌*◌, ◌++◌, ◌==◌, ◌⊎◌, ℕ, List, length, take, drop, count_by};
 ghost use Rattle.base.specs.Bytes.{line_feed};
 ghost use Rattle.instants_stream.specs.Lines.{lines, parts};
 ghost use Rattle.instants_stream.specs.declared.run.RunFault.{RunFault};
-ghost use Rattle.instants_words.specs.declared.words.Words.{Words};
-ghost use Rattle.instants_words.specs.Words.{words_said};
 ghost use Rattle.instants.specs.Place.{Setting};
-ghost use Rattle.instants.specs.Program.{Asks, IsBeforeRun};
+ghost use Rattle.instants.specs.Program.{AsksFor, IsBeforeRun, IsRefusedAs};
 ghost use Rattle.instants.specs.ProgramText.{sentence, status_of};
 ghost use Rattle.instants.specs.declared.program_fault.ProgramFault.{ProgramFault};
 ghost use Rattle.instants_memory.specs.OutputFor.{IsOutputFor};
-ghost use Rattle.instants_c.specs.Refused.{IsCutShort, IsRefusedAs};
+ghost use Rattle.instants_c.specs.Refused.{IsCutShort};
 
 mod sentences;
 #[cfg(test)]
@@ -90,8 +88,8 @@ pub extern "C" fn instants_sentence(
     len: &mut usize,
 ) -> u8
     // The words are accepted, and nothing is said.
-    ensures accepted { result ≡ 0 → (said : Words) × (words_said (parts words.now) ≡ Ok said)
-        × (setting : Setting) × Asks said setting × (len.new ≡ 0) × (output.new ≡ output.old) }
+    ensures accepted { result ≡ 0 → (setting : Setting) × (limit : ℕ)
+        × AsksFor (parts words.now) setting limit × (len.new ≡ 0) × (output.new ≡ output.old) }
     ensures refused { result ≢ 0 → (fault : ProgramFault) × IsRefusedAs (parts words.now) fault
         × (result ≡ status_of fault) × (len.new ≡ length (sentence fault))
         × (output.new ≡ take (length output.old) (sentence fault)

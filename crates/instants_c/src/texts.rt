@@ -2,9 +2,8 @@
 ghost use Rattle.std.specs.Prelude.{◌≡◌, ◌≢◌, ◌<◌, ◌≤◌, ◌*◌, ◌++◌, ℕ, List, map, length, take, drop, Err, IfOk, IfErr};
 ghost use Rattle.instants_stream.specs.Lines.{lines, parts};
 ghost use Rattle.instants_stream.specs.declared.run.RunFault.{RunFault};
-ghost use Rattle.instants.specs.Program.{IsBeforeRun};
+ghost use Rattle.instants.specs.Program.{IsBeforeRun, IsRefusedAs};
 ghost use Rattle.instants_memory.specs.OutputFor.{IsOutputFor};
-ghost use Rattle.instants_c.specs.Refused.{IsRefusedAs};
 
 use instants::ProgramFault;
 use instants_memory::LINE_ROOM;

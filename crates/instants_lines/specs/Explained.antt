@@ -1,6 +1,7 @@
 -- What the sources say of a line, each of which reads it as a whole.
-use Rattle.std.specs.Prelude.{ℕ, ◌+◌, ◌==◌, List, [], ◌∷◌, ◌++◌, Option, None, Some, Result, Ok, Err, if◌then◌else◌, unwrap_or}
+use Rattle.std.specs.Prelude.{◌≡◌, ℕ, ◌+◌, ◌==◌, List, [], ◌∷◌, ◌++◌, Option, None, Some, Result, Ok, Err, IsErr, if◌then◌else◌, unwrap_or}
 use Rattle.std.specs.Fmt.{decimal}
+use Rattle.std.specs.List.{All}
 use Rattle.std.specs.Option.{option_or}
 use Rattle.base.specs.Bytes.{tab}
 use Rattle.datetime_wall.specs.Wall.{Shown}
@@ -43,3 +44,12 @@ all_said setting line number (grammar ∷ others) = (parted number ++ said_by se
 -- the answer of the first source that names a moment, and where none does what all say
 unfoldable pub explained : Setting → List ℕ → List ℕ
 explained setting line = unwrap_or (first_answer setting line 1 setting.sources) (all_said setting line 1 setting.sources)
+
+-- the first source that names a moment for a line names this one; its number is one more than the sources before it
+pub record IsFirstToName (setting : Setting) (line : List ℕ) (moment : Shown) : Type 0 where
+  pub before : List Grammar
+  pub source : Grammar
+  pub behind : List Grammar
+  pub parts : setting.sources ≡ before ++ source ∷ behind
+  pub names : named setting.assumed source line ≡ Ok moment
+  pub none_before : All (λ other. IsErr (named setting.assumed other line)) before

@@ -1,5 +1,6 @@
 -- What the program does between its words and its end.
-use Rattle.std.specs.Prelude.{◌≡◌, ℕ, List, Ok, ⊤}
+use Rattle.std.specs.Prelude.{◌≡◌, ℕ, List, Option, None, Some, Result, Ok, Err, ⊤}
+use Rattle.instants_stream.specs.declared.run.RunFault.{RunFault}
 use Rattle.instants_words.specs.declared.fault.WordsFault.TheVariants as words
 use Rattle.instants_words.specs.declared.words.Words.{Words}
 use Rattle.instants.specs.Place.{Setting}
@@ -20,6 +21,15 @@ pub record AsksFor (words : List (List ℕ)) (going : Going) (limit : ℕ) : Typ
   pub asks : Asks said setting
   pub begins : going ≡ beginning mode setting
   pub limit_is : limit ≡ said.limit
+
+-- how the run ended, where one was begun
+abbrev pub run_of : Result (Unit {0}) LinesFault → Option (Result (Unit {0}) RunFault)
+run_of (Ok done) = Some (Ok done)
+run_of (Err (lines.Run fault)) = Some (Err fault)
+run_of (Err lines.UnknownMode) = None
+run_of (Err (lines.Words fault)) = None
+run_of (Err (lines.New fault)) = None
+run_of (Err lines.Memory) = None
 
 -- a fault that comes before anything is read or written
 abbrev pub IsBeforeRun : LinesFault → Type 0

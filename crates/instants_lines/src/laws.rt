@@ -14,7 +14,7 @@ ghost use Rattle.instants_stream.specs.Steps.{output};
 ghost use Rattle.instants.specs.Place.{Setting, first_named, place_of, answer_to};
 ghost use Rattle.instants.specs.Refusal.{Refusal};
 ghost use Rattle.instants_lines.specs.Dates.{date_in, place_of_date, key_of_date, replaced};
-ghost use Rattle.instants_lines.specs.Explained.{explained};
+ghost use Rattle.instants_lines.specs.Explained.{IsFirstToName, explained};
 ghost use Rattle.instants_lines.specs.Going.{Going, key_of_line, beginning, lines_steps};
 ghost use Rattle.instants_lines.specs.declared.mode.Mode.{Mode};
 ghost use Rattle.instants_lines.specs.declared.mode.Mode.TheVariants.{Carry};
@@ -89,12 +89,14 @@ pub fn joined_streams()
         ++ output lines_steps (beginning Carry setting) limit second }
 {}
 
-/// Where a source names a moment for a line, mode `explain` gives its number and the answer of `instants` to the line.
+/// Where a source names a moment for a line, mode `explain` gives the number of the first one that does, the least, and the
+/// answer of `instants` to the line.
 pub fn explained_answer()
     ensures { (setting : Setting) (line : List ℕ) (moment : Shown)
         → first_named setting.assumed setting.sources line ≡ Ok moment
-        → (number : ℕ)
-        × (explained setting line ≡ (decimal number ++ tab ∷ []) ++ answer_to setting line) }
+        → (first : IsFirstToName setting line moment)
+        × (explained setting line
+        ≡ (decimal (length first.before + 1) ++ tab ∷ []) ++ answer_to setting line) }
 {}
 
 /// Replacing twice is replacing once, where the first date of the written line is the date-time that was written, and

@@ -1,15 +1,13 @@
 //! The program between its words and its end.
-ghost use Rattle.std.specs.Prelude.{◌≡◌, ◌≢◌, ◌<◌, ◌↔◌, ℕ, false, true, List, [], length, map, Some, Ok, Err, IsOk, IsTrue, IfSome, IfErr, OnOk};
-ghost use Rattle.std.specs.Io.KnownBytes.{Consumes, Appends};
-ghost use Rattle.instants_stream.specs.Told.{ConsumesOrUntold, AppendsFront};
-ghost use Rattle.instants_stream.specs.Steps.{output, owed, due};
+ghost use Rattle.std.specs.Prelude.{◌≡◌, ◌<◌, ℕ, false, length, map, Ok, Err, IsOk, IfSome, IfErr};
+ghost use Rattle.instants_stream.specs.Ran.{Ran, RanAndFlushed};
+ghost use Rattle.instants_stream.specs.Steps.{by_steps};
 ghost use Rattle.instants_words.specs.declared.words.Words.{Words};
-ghost use Rattle.instants.specs.Program.{WritesWhileItWorks};
 ghost use Rattle.instants_lines.specs.Showing.{setting_in};
 ghost use Rattle.instants.specs.Sources.{IsRefusal};
 ghost use Rattle.instants.specs.declared.new_fault.NewFault.{NewFault};
 ghost use Rattle.instants_lines.specs.Going.{Going, beginning, lines_steps};
-ghost use Rattle.instants_lines.specs.Program.{AsksFor, IsBeforeRun, IsMemory, IsOfWords};
+ghost use Rattle.instants_lines.specs.Program.{AsksFor, IsBeforeRun, IsMemory, IsOfWords, run_of};
 ghost use Rattle.instants_lines.specs.Words.{mode_words_said};
 ghost use Rattle.instants_lines.specs.declared.lines_fault.LinesFault.{LinesFault};
 ghost use Rattle.instants_lines.specs.declared.mode.Mode.{Mode};
@@ -40,13 +38,11 @@ pub fn run_words<'a, R: ByteReader, W: ByteWriter>(
 ) -> Result<(), LinesFault<'a>>
     requires reader { R.failed reader.old ≡ false }
     requires writer { W.failed writer.old ≡ false }
-    // All that the reader had was read, and exactly the output that the words ask for was written.
-    ensures ok { OnOk result ((going : Going) × (limit : ℕ)
+    // What the words ask for was written, as far as the run came.
+    ensures ran { IfSome (run_of result) (λ ended. (going : Going) × (limit : ℕ)
         × AsksFor (map (λ word. word.now) words.now) going limit
-        × IfSome (R.left reader.old) (λ stream. (R.left reader.new ≡ Some [])
-        × Appends (W.held writer.old) (W.held writer.new)
-        (output lines_steps going limit stream))) }
-    ensures flushed { OnOk result (W.flushed writer.new ≡ true) }
+        × RanAndFlushed (by_steps lines_steps going limit)
+        R.ByteReader reader.old reader.new W.ByteWriter writer.old writer.new ended) }
     // Words that are wrong are refused, whatever the devices have.
     ensures refused { (fault : LinesFault)
         → mode_words_said (map (λ word. word.now) words.now) ≡ Err fault
@@ -63,26 +59,6 @@ pub fn run_words<'a, R: ByteReader, W: ByteWriter>(
         IsMemory fault → IsOk (mode_words_said (map (λ word. word.now) words.now))) }
     ensures before { IfErr result (λ fault.
         IsBeforeRun fault → (reader.new ≡ reader.old) × (writer.new ≡ writer.old)) }
-    // What is written is exactly that for the lines whose line feed was read, as far as the writer works.
-    ensures read { result ≡ Err (LinesFault.Run RunFault.Read) → (going : Going) × (limit : ℕ)
-        × AsksFor (map (λ word. word.now) words.now) going limit
-        × (read : List ℕ) × ConsumesOrUntold (R.left reader.old) (R.left reader.new) read
-        × WritesWhileItWorks (W.held writer.old) (W.held writer.new) (W.failed writer.new)
-        (owed lines_steps going limit read) }
-    ensures read_flushed { result ≡ Err (LinesFault.Run RunFault.Read)
-        → W.failed writer.new ≡ false → W.flushed writer.new ≡ true }
-    // A beginning of what there is to write for the lines whose line feed or end was read is written.
-    ensures write { result ≡ Err (LinesFault.Run RunFault.Write) → (going : Going) × (limit : ℕ)
-        × AsksFor (map (λ word. word.now) words.now) going limit
-        × (read : List ℕ) × Consumes (R.left reader.old) (R.left reader.new) read
-        × AppendsFront (W.held writer.old) (W.held writer.new)
-        (due lines_steps going limit read (R.left reader.new)) }
-    // A fault is one of the device that it names.
-    ensures read_failed { IsTrue (R.failed reader.new)
-        ↔ (result ≡ Err (LinesFault.Run RunFault.Read)) }
-    ensures write_failed { result ≡ Err (LinesFault.Run RunFault.Write)
-        → W.failed writer.new ≡ true }
-    ensures works { OnOk result (W.failed writer.new ≡ false) }
 {
     let (mode, said) = read_mode_words(alloc, words)?;
     let timeline = Timeline::new(alloc, said.sources.as_slice(), said.target, said.assumed)?;
@@ -111,24 +87,8 @@ fn run_and_flush<R: ByteReader, W: ByteWriter>(
     requires room { limit < length buffer.old }
     requires reader { R.failed reader.old ≡ false }
     requires writer { W.failed writer.old ≡ false }
-    ensures ok { OnOk result (IfSome (R.left reader.old) (λ stream. (R.left reader.new ≡ Some [])
-        × Appends (W.held writer.old) (W.held writer.new)
-        (output lines_steps (beginning mode (setting_in dates.now)) limit stream))) }
-    ensures flushed { OnOk result (W.flushed writer.new ≡ true) }
-    ensures read { result ≡ Err RunFault.Read → (read : List ℕ)
-        × ConsumesOrUntold (R.left reader.old) (R.left reader.new) read
-        × WritesWhileItWorks (W.held writer.old) (W.held writer.new) (W.failed writer.new)
-        (owed lines_steps (beginning mode (setting_in dates.now)) limit read) }
-    ensures read_flushed { result ≡ Err RunFault.Read
-        → W.failed writer.new ≡ false → W.flushed writer.new ≡ true }
-    ensures write { result ≡ Err RunFault.Write → (read : List ℕ)
-        × Consumes (R.left reader.old) (R.left reader.new) read
-        × AppendsFront (W.held writer.old) (W.held writer.new)
-        (due lines_steps (beginning mode (setting_in dates.now)) limit read
-        (R.left reader.new)) }
-    ensures read_failed { IsTrue (R.failed reader.new) ↔ (result ≡ Err RunFault.Read) }
-    ensures write_failed { result ≡ Err RunFault.Write → W.failed writer.new ≡ true }
-    ensures works { OnOk result (W.failed writer.new ≡ false) }
+    ensures { RanAndFlushed (by_steps lines_steps (beginning mode (setting_in dates.now)) limit)
+        R.ByteReader reader.old reader.new W.ByteWriter writer.old writer.new result }
 {
     let answered = run_in_mode(mode, dates, limit, buffer, reader, writer);
     if answered == Err(RunFault::Read) && !writer.has_failed() {
@@ -151,21 +111,8 @@ fn run_in_mode<R: ByteReader, W: ByteWriter>(
     requires room { limit < length buffer.old }
     requires reader { R.failed reader.old ≡ false }
     requires writer { W.failed writer.old ≡ false }
-    ensures ok { OnOk result (IfSome (R.left reader.old) (λ stream. (R.left reader.new ≡ Some [])
-        × Appends (W.held writer.old) (W.held writer.new)
-        (output lines_steps (beginning mode (setting_in dates.now)) limit stream))) }
-    ensures flushed { OnOk result (W.flushed writer.new ≡ true) }
-    ensures read { result ≡ Err RunFault.Read → (read : List ℕ)
-        × ConsumesOrUntold (R.left reader.old) (R.left reader.new) read
-        × Appends (W.held writer.old) (W.held writer.new)
-        (owed lines_steps (beginning mode (setting_in dates.now)) limit read) }
-    ensures write { result ≡ Err RunFault.Write → (read : List ℕ)
-        × Consumes (R.left reader.old) (R.left reader.new) read
-        × AppendsFront (W.held writer.old) (W.held writer.new)
-        (due lines_steps (beginning mode (setting_in dates.now)) limit read
-        (R.left reader.new)) }
-    ensures read_failed { IsTrue (R.failed reader.new) ↔ (result ≡ Err RunFault.Read) }
-    ensures write_failed { IsTrue (W.failed writer.new) ↔ (result ≡ Err RunFault.Write) }
+    ensures { Ran (by_steps lines_steps (beginning mode (setting_in dates.now)) limit)
+        R.ByteReader reader.old reader.new W.ByteWriter writer.old writer.new result }
 {
     let mut lines = LineWriter::new(mode, dates);
     write_lines(&mut lines, limit, buffer, reader, writer)

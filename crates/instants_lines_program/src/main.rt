@@ -2,11 +2,7 @@
 //! to standard output: behind the date-time at the target offset, or with that in place of its date.
 #![tactic(auto)]
 
-ghost use Rattle.std.specs.Prelude.{◌≡◌, false};
-
-use instants_lines::{
-    BlockWriter, ByteReader, ByteWriter, LinesFault, StdReader, StdWriter, run_words,
-};
+use instants_lines::{BlockWriter, LinesFault, StdReader, StdWriter, run_words};
 use std::alloc::Global;
 use std::env;
 use std::process::ExitCode;
@@ -42,20 +38,7 @@ fn write_by<'a>(rt: &HostRuntime, words: &[&'a str]) -> Result<(), LinesFault<'a
     let block = vec![in rt.alloc(); 0; BLOCK]?;
     let mut reader = StdReader::new(rt.stdin());
     let mut writer = BlockWriter::new(block, StdWriter::new(rt.stdout()));
-    write_on(rt.alloc(), words, &mut reader, &mut writer)
-}
-
-// The same on these devices, whatever they are: what `run_words` promises of them is not needed above.
-fn write_on<'a, R: ByteReader, W: ByteWriter>(
-    alloc: Global,
-    words: &[&'a str],
-    reader: &mut R,
-    writer: &mut W,
-) -> Result<(), LinesFault<'a>>
-    requires reader { R.failed reader.old ≡ false }
-    requires writer { W.failed writer.old ≡ false }
-{
-    run_words(alloc, words, reader, writer)
+    run_words(rt.alloc(), words, &mut reader, &mut writer)
 }
 
 // Says what ended the program early, if anything did, and ends it.

@@ -3,7 +3,8 @@ use Rattle.std.proofs.Common.{◌≡◌, ℕ, List, [], ◌∷◌, ◌++◌, Som
 use Rattle.std.specs.List.{flat_map}
 use Rattle.std.proofs.lemmas.List.Concat.{flat_map-append}
 use Rattle.instants_stream.specs.Lines.{but_last, last, if_nonempty, parts, whole_lines, last_part, lines}
-use Rattle.instants_stream.specs.Answers.{answered, output, owed, due}
+use Rattle.instants_stream.specs.Answers.{answered, output, owed, by_answers}
+use Rattle.instants_stream.specs.Writing.{due}
 use Rattle.instants_stream.proofs.Lines.{glue, parts_joined, but_last-append_nonempty, glue_some, parts_nonempty}
 
 -- the lines whose line feed was read are the first lines
@@ -17,7 +18,7 @@ lines_begin s t =
           ∙ append_assoc (but_last (parts s)) (but_last behind) (if_nonempty (last_part (s ++ t))),
     )
 
-pub due_begins : (answer : List ℕ → List ℕ) (limit : ℕ) (read left : List ℕ) → (more : List ℕ) × (output answer limit (read ++ left) ≡ due answer limit read (Some left) ++ more)
+pub due_begins : (answer : List ℕ → List ℕ) (limit : ℕ) (read left : List ℕ) → (more : List ℕ) × (output answer limit (read ++ left) ≡ due (by_answers answer limit) read (Some left) ++ more)
 unfolding output owed
 due_begins answer limit read [] = ([], ap (output answer limit) (append-nil read) ∙ sym (append-nil (output answer limit read)))
 due_begins answer limit read (b ∷ left) =

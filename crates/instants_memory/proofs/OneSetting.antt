@@ -12,9 +12,8 @@ use Rattle.instants_words.specs.Sources as said
 use Rattle.instants_words.specs.declared.words.Words.{Words}
 use Rattle.instants_sources.specs.Grammar.{Grammar, Items, V3, Means}
 use Rattle.instants.specs.Place.{Setting}
-use Rattle.instants.specs.Program.{Asks}
+use Rattle.instants.specs.Program.{Asks, AsksFor}
 use Rattle.instants.specs.Sources.{AllMean}
-use Rattle.instants_memory.specs.OutputFor.{IsOutputFor}
 
 -- a tree that a text spells is joined of items that it spells
 spells_tree : (text : List ℕ) (t : Tree) → SpellsTree Three text t → (ts : List Tree) × (t ≡ joined ts) × Spells Three text ts
@@ -58,12 +57,10 @@ one_asked words s t a b =
     ∙ ap (λ target. made t.sources target s.assumed) (a.target ∙ sym b.target)
     ∙ ap (made t.sources t.target) (a.assumed ∙ sym b.assumed)
 
--- words say one thing
-pub one_said : {words : List (List ℕ)} {input other bytes more : List ℕ} (a : IsOutputFor words input bytes) (b : IsOutputFor words other more) → b.said ≡ a.said
-one_said a b = cc (a.is_said, b.is_said)
-
--- and ask for one setting
-pub one_setting : {words : List (List ℕ)} {input other bytes more : List ℕ} (a : IsOutputFor words input bytes) (b : IsOutputFor words other more) → b.setting ≡ a.setting
-one_setting a b =
-    let asks : Asks a.said b.setting = subst (λ (said : Words). Asks said b.setting) (one_said a b) b.asks in
-    one_asked a.said b.setting a.setting asks a.asks
+-- words ask for one setting, and for one limit
+pub one_setting : {words : List (List ℕ)} {s t : Setting} {m n : ℕ} → AsksFor words s m → AsksFor words t n → (t ≡ s) × (n ≡ m)
+one_setting {s} {t} a b =
+    let said : b.said ≡ a.said = cc (a.is_said, b.is_said) in (
+      one_asked a.said t s (subst (λ (said : Words). Asks said t) said b.asks) a.asks,
+      b.limit_is ∙ ap (λ (said : Words). said.limit) said ∙ sym a.limit_is,
+    )

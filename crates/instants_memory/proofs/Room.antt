@@ -45,4 +45,4 @@ few_lines stream = let few = parts_few (parts stream) in omega (arith, few, weig
 
 -- what words ask for has at most 36 bytes a line
 pub room_of : {words : List (List ℕ)} {input bytes : List ℕ} → IsOutputFor words input bytes → length bytes ≤ 36 * length (lines input)
-room_of {words} {input} is = rw is.is_output (room_by_lines is.setting is.said.limit input)
+room_of {words} {input} is = rw is.is_output (room_by_lines is.setting is.limit input)

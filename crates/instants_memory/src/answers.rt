@@ -1,17 +1,13 @@
 //! The answers to lines that stand in memory.
-ghost use Rattle.std.specs.Prelude.{◌≡◌, ◌≢◌, ◌<◌, ◌≤◌, ◌*◌, ◌++◌, ◌↔◌, List, [], ℕ, map, length, take, drop, Some, Ok, Err, true, false, IsTrue, IsOk, IfOk, IfErr, IfSome, OnOk};
-ghost use Rattle.std.specs.Io.KnownBytes.{Consumes, Appends};
-ghost use Rattle.instants_stream.specs.Told.{AppendsFront};
-ghost use Rattle.instants_stream.specs.Answers.{output, due};
+ghost use Rattle.std.specs.Prelude.{◌≡◌, ◌≢◌, ◌<◌, ◌≤◌, ◌*◌, ◌++◌, List, ℕ, map, length, take, drop, Err, false, IsOk, IfOk, IfErr, IfSome};
+ghost use Rattle.instants_stream.specs.Answers.{by_answers};
 ghost use Rattle.instants_stream.specs.Lines.{lines};
+ghost use Rattle.instants_stream.specs.Ran.{RanAndFlushed};
 ghost use Rattle.instants_stream.specs.declared.run.RunFault.{RunFault};
 ghost use Rattle.instants_words.specs.declared.fault.WordsFault.{WordsFault};
-ghost use Rattle.instants_words.specs.declared.words.Words.{Words};
 ghost use Rattle.instants_words.specs.Words.{words_said};
 ghost use Rattle.instants.specs.Place.{Setting, answer_to};
-ghost use Rattle.instants.specs.Program.{Asks, IsBeforeRun, IsMemory};
-ghost use Rattle.instants.specs.Sources.{IsRefusal};
-ghost use Rattle.instants.specs.declared.new_fault.NewFault.{NewFault};
+ghost use Rattle.instants.specs.Program.{AsksFor, IsBeforeRun, IsMemory, IsRefusedAs, run_of};
 ghost use Rattle.instants_memory.specs.OutputFor.{IsOutputFor};
 
 use crate::run_end::{End, RunEnd};
@@ -54,18 +50,11 @@ pub fn answer_lines<'a>(
     ensures refused { (fault : WordsFault)
         → words_said (map (λ word. word.now) words.now) ≡ Err fault
         → result ≡ Err (ProgramFault.Words fault) }
-    // No others are refused as wrong.
-    ensures only_wrong { (fault : WordsFault)
-        → result ≡ Err (ProgramFault.Words fault) → fault ≢ WordsFault.Memory
-        → words_said (map (λ word. word.now) words.now) ≡ Err fault }
-    // A source that is no description is refused by its place and its fault; it is the first such one.
-    ensures new { (fault : NewFault) → result ≡ Err (ProgramFault.New fault) → (said : Words)
-        × (words_said (map (λ word. word.now) words.now) ≡ Ok said)
-        × IsRefusal said.sources fault }
+    // No others are refused, and what is refused before the first line leaves the output as it was.
+    ensures before { IfErr result (λ fault. IsBeforeRun fault
+        → IsRefusedAs (map (λ word. word.now) words.now) fault × (output.new ≡ output.old)) }
     ensures memory { IfErr result (λ fault.
         IsMemory fault → IsOk (words_said (map (λ word. word.now) words.now))) }
-    // What is refused before the first line leaves the output as it was.
-    ensures before { IfErr result (λ fault. IsBeforeRun fault → output.new ≡ output.old) }
 {
     let mut answered = Ok(0);
     answer_into_space::<Brand>(alloc, words, input, output, &mut answered);
@@ -94,16 +83,10 @@ fn answer_into_space<'a, 'o, S: Space>(
     ensures refused { (fault : WordsFault)
         → words_said (map (λ word. word.now) words.now) ≡ Err fault
         → answered.new ≡ Err (ProgramFault.Words fault) }
-    ensures only_wrong { (fault : WordsFault)
-        → answered.new ≡ Err (ProgramFault.Words fault) → fault ≢ WordsFault.Memory
-        → words_said (map (λ word. word.now) words.now) ≡ Err fault }
-    ensures new { (fault : NewFault) → answered.new ≡ Err (ProgramFault.New fault)
-        → (said : Words) × (words_said (map (λ word. word.now) words.now) ≡ Ok said)
-        × IsRefusal said.sources fault }
+    ensures before { IfErr answered.new (λ fault. IsBeforeRun fault
+        → IsRefusedAs (map (λ word. word.now) words.now) fault × (result.now ≡ output.old)) }
     ensures memory { IfErr answered.new (λ fault.
         IsMemory fault → IsOk (words_said (map (λ word. word.now) words.now))) }
-    ensures before { IfErr answered.new (λ fault.
-        IsBeforeRun fault → result.now ≡ output.old) }
 {
     let mut reader = SpaceReader { rest: input };
     let mut writer = SpaceWriter::<S> {
@@ -139,36 +122,18 @@ fn answer_on<'a, R: ByteReader, W: ByteWriter, E: End<'a>>(
 )
     requires reader { R.failed reader.old ≡ false }
     requires writer { W.failed writer.old ≡ false }
-    ensures ok { OnOk (E.ended end.new) ((said : Words)
-        × (words_said (map (λ word. word.now) words.now) ≡ Ok said)
-        × (setting : Setting) × Asks said setting
-        × IfSome (R.left reader.old) (λ stream. (R.left reader.new ≡ Some [])
-        × Appends (W.held writer.old) (W.held writer.new)
-        (output (answer_to setting) said.limit stream))) }
-    ensures flushed { OnOk (E.ended end.new) (W.flushed writer.new ≡ true) }
+    ensures ran { IfSome (run_of (E.ended end.new)) (λ ended. (setting : Setting) × (limit : ℕ)
+        × AsksFor (map (λ word. word.now) words.now) setting limit
+        × RanAndFlushed (by_answers (answer_to setting) limit)
+        R.ByteReader reader.old reader.new W.ByteWriter writer.old writer.new ended) }
     ensures refused { (fault : WordsFault)
         → words_said (map (λ word. word.now) words.now) ≡ Err fault
         → E.ended end.new ≡ Err (ProgramFault.Words fault) }
-    ensures only_wrong { (fault : WordsFault)
-        → E.ended end.new ≡ Err (ProgramFault.Words fault) → fault ≢ WordsFault.Memory
-        → words_said (map (λ word. word.now) words.now) ≡ Err fault }
-    ensures new { (fault : NewFault) → E.ended end.new ≡ Err (ProgramFault.New fault)
-        → (said : Words) × (words_said (map (λ word. word.now) words.now) ≡ Ok said)
-        × IsRefusal said.sources fault }
+    ensures before { IfErr (E.ended end.new) (λ fault. IsBeforeRun fault
+        → IsRefusedAs (map (λ word. word.now) words.now) fault
+        × (reader.new ≡ reader.old) × (writer.new ≡ writer.old)) }
     ensures memory { IfErr (E.ended end.new) (λ fault.
         IsMemory fault → IsOk (words_said (map (λ word. word.now) words.now))) }
-    ensures before { IfErr (E.ended end.new) (λ fault.
-        IsBeforeRun fault → (reader.new ≡ reader.old) × (writer.new ≡ writer.old)) }
-    ensures write { E.ended end.new ≡ Err (ProgramFault.Run RunFault.Write) → (said : Words)
-        × (words_said (map (λ word. word.now) words.now) ≡ Ok said)
-        × (setting : Setting) × Asks said setting
-        × (read : List ℕ) × Consumes (R.left reader.old) (R.left reader.new) read
-        × AppendsFront (W.held writer.old) (W.held writer.new)
-        (due (answer_to setting) said.limit read (R.left reader.new)) }
-    ensures read_failed { IsTrue (R.failed reader.new)
-        ↔ (E.ended end.new ≡ Err (ProgramFault.Run RunFault.Read)) }
-    ensures write_failed { E.ended end.new ≡ Err (ProgramFault.Run RunFault.Write)
-        → W.failed writer.new ≡ true }
 {
     end.put(run_words(alloc, words, reader, writer));
 }

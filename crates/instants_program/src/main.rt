@@ -2,11 +2,7 @@
 //! to standard output: a date-time of fixed width at the target offset, or a named fault.
 #![tactic(auto)]
 
-ghost use Rattle.std.specs.Prelude.{◌≡◌, false};
-
-use instants::{
-    BlockWriter, ByteReader, ByteWriter, ProgramFault, StdReader, StdWriter, run_words,
-};
+use instants::{BlockWriter, ProgramFault, StdReader, StdWriter, run_words};
 use std::alloc::Global;
 use std::env;
 use std::process::ExitCode;
@@ -42,20 +38,7 @@ fn answer_by<'a>(rt: &HostRuntime, words: &[&'a str]) -> Result<(), ProgramFault
     let block = vec![in rt.alloc(); 0; BLOCK]?;
     let mut reader = StdReader::new(rt.stdin());
     let mut writer = BlockWriter::new(block, StdWriter::new(rt.stdout()));
-    answer_on(rt.alloc(), words, &mut reader, &mut writer)
-}
-
-// The same on these devices, whatever they are: what `run_words` promises of them is not needed above.
-fn answer_on<'a, R: ByteReader, W: ByteWriter>(
-    alloc: Global,
-    words: &[&'a str],
-    reader: &mut R,
-    writer: &mut W,
-) -> Result<(), ProgramFault<'a>>
-    requires reader { R.failed reader.old ≡ false }
-    requires writer { W.failed writer.old ≡ false }
-{
-    run_words(alloc, words, reader, writer)
+    run_words(rt.alloc(), words, &mut reader, &mut writer)
 }
 
 // Says what ended the program early, if anything did, and ends it.

@@ -8,3 +8,4 @@ pub mod Searched
 pub mod EachAnswered
 pub mod Gathering
 pub mod Told
+pub mod Ends

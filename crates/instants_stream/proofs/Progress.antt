@@ -3,7 +3,8 @@ use Rattle.std.proofs.Common.{◌≡◌, ℕ, ◌<◌, ◌≤◌, ◌⊎◌, inl
 use Rattle.std.specs.Io.KnownBytes.{Consumes, Appends, IsAtEnd, Keeps}
 use Rattle.std.proofs.KnownBytes.{Consumes-nil, Consumes-trans, Appends-nil, Appends-trans, Appends-kept}
 use Rattle.instants_stream.specs.Lines.{last_part, whole_lines}
-use Rattle.instants_stream.specs.Steps.{Steps, seen_as, seen, written, behind, output, owed, due}
+use Rattle.instants_stream.specs.Writing.{due}
+use Rattle.instants_stream.specs.Steps.{Steps, seen_as, seen, written, behind, output, owed, by_steps}
 use Rattle.instants_stream.specs.Told.{StaysOrUntold, AppendsFront}
 use Rattle.instants_stream.proofs.Lines.{whole_lines_none, last_part_of_none}
 use Rattle.instants_stream.proofs.Seen.{seen-kept}
@@ -59,13 +60,13 @@ module _ (State : Type 0) (steps : Steps State) (first : State) (limit : ℕ) wh
   }
 
   -- what is owed is due
-  pub due_from_owed : (a c : Option (List ℕ)) (bytes : List ℕ) (left : Option (List ℕ)) → AppendsFront a c (owed steps first limit bytes) → AppendsFront a c (due steps first limit bytes left)
+  pub due_from_owed : (a c : Option (List ℕ)) (bytes : List ℕ) (left : Option (List ℕ)) → AppendsFront a c (owed steps first limit bytes) → AppendsFront a c (due (by_steps steps first limit) bytes left)
   due_from_owed a c bytes None h = let more = output_extends State steps first limit bytes in subst (AppendsFront a c) (sym more.1) (AppendsFront-more a c (owed steps first limit bytes) more.0 h)
   due_from_owed a c bytes (Some []) h = let more = output_extends State steps first limit bytes in subst (AppendsFront a c) (sym more.1) (AppendsFront-more a c (owed steps first limit bytes) more.0 h)
   due_from_owed a c bytes (Some (b ∷ left)) h = h
 
   -- at the end the whole output is due
-  due_at_end : (a c : Option (List ℕ)) (bytes : List ℕ) (left : Option (List ℕ)) → IsAtEnd left → AppendsFront a c (output steps first limit bytes) → AppendsFront a c (due steps first limit bytes left)
+  due_at_end : (a c : Option (List ℕ)) (bytes : List ℕ) (left : Option (List ℕ)) → IsAtEnd left → AppendsFront a c (output steps first limit bytes) → AppendsFront a c (due (by_steps steps first limit) bytes left)
   due_at_end a c bytes None e h = h
   due_at_end a c bytes (Some []) e h = h
   due_at_end a c bytes (Some (b ∷ left)) e h = absurd cc
@@ -79,7 +80,7 @@ module _ (State : Type 0) (steps : Steps State) (first : State) (limit : ℕ) wh
 
   -- A write failed: a front of what is due is written.
   abbrev pub Fails : Option (List ℕ) → Option (List ℕ) → Option (List ℕ) → Option (List ℕ) → Type 0
-  Fails left_first left held_first held = (bytes : List ℕ) × Consumes left_first left bytes × AppendsFront held_first held (due steps first limit bytes left)
+  Fails left_first left held_first held = (bytes : List ℕ) × Consumes left_first left bytes × AppendsFront held_first held (due (by_steps steps first limit) bytes left)
 
   module _ (state : State) (left_first left held_first held held_next : Option (List ℕ)) (line : List ℕ) (is_long : Bool) (p : Progress State steps first state limit left_first left held_first held line is_long) where
     -- something is left

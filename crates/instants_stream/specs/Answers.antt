@@ -1,8 +1,9 @@
 -- What is written for a stream of bytes. The answer to a line is a function of its bytes.
-use Rattle.std.specs.Prelude.{ℕ, Bool, Option, None, Some, List, [], ◌∷◌, ◌++◌, length, nat_lt, if◌then◌else◌, codes}
+use Rattle.std.specs.Prelude.{ℕ, Bool, List, [], ◌∷◌, ◌++◌, length, nat_lt, if◌then◌else◌, codes}
 use Rattle.std.specs.List.{flat_map}
 use Rattle.base.specs.Bytes.{line_feed}
 use Rattle.instants_stream.specs.Lines.{lines, whole_lines}
+use Rattle.instants_stream.specs.Writing.{Writing}
 
 -- the answer to a line, or that it is too long, and a line feed
 unfoldable pub answer_or_long : (List ℕ → List ℕ) → Bool → List ℕ → List ℕ
@@ -20,8 +21,6 @@ output answer limit stream = flat_map (answered answer limit) (lines stream)
 unfoldable pub owed : (List ℕ → List ℕ) → ℕ → List ℕ → List ℕ
 owed answer limit bytes = flat_map (answered answer limit) (whole_lines bytes)
 
--- what may be written once these bytes were read and these are left: while bytes are left, the answers owed
-abbrev pub due : (List ℕ → List ℕ) → ℕ → List ℕ → Option (List ℕ) → List ℕ
-due answer limit bytes (Some (b ∷ left)) = owed answer limit bytes
-due answer limit bytes (Some []) = output answer limit bytes
-due answer limit bytes None = output answer limit bytes
+-- what there is to write where each line is answered so, under a limit
+abbrev pub by_answers : (List ℕ → List ℕ) → ℕ → Writing
+by_answers answer limit = record { output = output answer limit; owed = owed answer limit }

@@ -1,7 +1,9 @@
 pub mod Lines
+pub mod Writing
 pub mod Answers
 pub mod Steps
 pub mod Answering
 pub mod Told
+pub mod Ran
 pub mod CutDevices
 pub mod Gathering

@@ -1,6 +1,7 @@
 -- What is written for a stream of bytes, where something may be kept of each line for the lines below it.
 use Rattle.std.specs.Prelude.{ℕ, Bool, ◌||◌, Option, None, Some, List, [], ◌∷◌, ◌++◌, map, length, nat_lt, if◌then◌else◌}
 use Rattle.instants_stream.specs.Lines.{lines, whole_lines}
+use Rattle.instants_stream.specs.Writing.{Writing}
 
 -- a line as it is seen: all of its bytes, or none where it is too long
 abbrev pub seen_as : Bool → List ℕ → Option (List ℕ)
@@ -33,11 +34,9 @@ output steps state limit stream = written steps state (map (seen limit) (lines s
 unfoldable pub owed : {State : Type 0} → Steps State → State → ℕ → List ℕ → List ℕ
 owed steps state limit bytes = written steps state (map (seen limit) (whole_lines bytes))
 
--- what may be written once these bytes were read and these are left: while bytes are left, what is owed
-abbrev pub due : {State : Type 0} → Steps State → State → ℕ → List ℕ → Option (List ℕ) → List ℕ
-due steps state limit bytes (Some (b ∷ left)) = owed steps state limit bytes
-due steps state limit bytes (Some []) = output steps state limit bytes
-due steps state limit bytes None = output steps state limit bytes
+-- what there is to write by steps from a state on, for lines under a limit
+abbrev pub by_steps : {State : Type 0} → Steps State → State → ℕ → Writing
+by_steps steps state limit = record { output = output steps state limit; owed = owed steps state limit }
 
 -- lines whose bytes are at hand as they are seen, where the first is maybe known to be too long with what came before
 unfoldable pub seen_after : ℕ → Bool → List (List ℕ) → List (Option (List ℕ))

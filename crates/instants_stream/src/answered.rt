@@ -1,9 +1,10 @@
 //! The run where each line is answered by itself.
-ghost use Rattle.std.specs.Prelude.{◌≡◌, ◌<◌, ◌≤◌, ◌↔◌, ℕ, true, false, List, [], ◌∷◌, ◌++◌, codes, length, Some, Err, IsTrue, IfSome, OnOk, OnErr};
-ghost use Rattle.std.specs.Io.KnownBytes.{Consumes, Appends};
+ghost use Rattle.std.specs.Prelude.{◌≡◌, ◌<◌, ◌≤◌, true, false, [], ◌∷◌, ◌++◌, codes, length, OnOk, OnErr};
+ghost use Rattle.std.specs.Io.KnownBytes.{Appends};
 ghost use Rattle.base.specs.Bytes.{line_feed};
-ghost use Rattle.instants_stream.specs.Told.{ConsumesOrUntold, AppendsFront};
-ghost use Rattle.instants_stream.specs.Answers.{output, owed, due, answer_or_long};
+ghost use Rattle.instants_stream.specs.Told.{AppendsFront};
+ghost use Rattle.instants_stream.specs.Ran.{Ran};
+ghost use Rattle.instants_stream.specs.Answers.{answer_or_long, by_answers};
 
 use crate::answers_lines::AnswersLines;
 use crate::devices::{ByteReader, ByteWriter, DeviceFailed};
@@ -149,24 +150,8 @@ pub fn run_lines<A: AnswersLines, R: ByteReader, W: ByteWriter>(
     requires room { limit < length buffer.old }
     requires reader { R.failed reader.old ≡ false }
     requires writer { W.failed writer.old ≡ false }
-    // All that the reader had was read, and exactly its output was written.
-    ensures ok { OnOk result (IfSome (R.left reader.old) (λ stream. (R.left reader.new ≡ Some [])
-        × Appends (W.held writer.old) (W.held writer.new)
-        (output (A.answer answers.now) limit stream))) }
-    ensures flushed { OnOk result (W.flushed writer.new ≡ true) }
-    // Exactly the lines whose line feed was read are answered.
-    ensures read { result ≡ Err RunFault.Read → (read : List ℕ)
-        × ConsumesOrUntold (R.left reader.old) (R.left reader.new) read
-        × Appends (W.held writer.old) (W.held writer.new)
-        (owed (A.answer answers.now) limit read) }
-    // A front of what is due is written.
-    ensures write { result ≡ Err RunFault.Write → (read : List ℕ)
-        × Consumes (R.left reader.old) (R.left reader.new) read
-        × AppendsFront (W.held writer.old) (W.held writer.new)
-        (due (A.answer answers.now) limit read (R.left reader.new)) }
-    // A fault is one of the device that it names.
-    ensures read_failed { IsTrue (R.failed reader.new) ↔ (result ≡ Err RunFault.Read) }
-    ensures write_failed { IsTrue (W.failed writer.new) ↔ (result ≡ Err RunFault.Write) }
+    ensures { Ran (by_answers (A.answer answers.now) limit)
+        R.ByteReader reader.old reader.new W.ByteWriter writer.old writer.new result }
 {
     write_lines(&mut Answering::new(answers), limit, buffer, reader, writer)
 }

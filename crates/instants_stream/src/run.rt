@@ -1,9 +1,10 @@
 //! The run over a stream, whole lines lent out of one buffer.
-ghost use Rattle.std.specs.Prelude.{◌≡◌, ◌<◌, ◌≤◌, ◌↔◌, ℕ, true, false, List, [], length, take, drop, Some, Err, IsTrue, IfSome, IfOk, OnOk, OnErr};
-ghost use Rattle.std.specs.Io.KnownBytes.{Consumes, Appends};
-ghost use Rattle.instants_stream.specs.Told.{ConsumesOrUntold, AppendsFront};
+ghost use Rattle.std.specs.Prelude.{◌≡◌, ◌<◌, ◌≤◌, true, false, [], length, take, drop, IfOk, OnOk, OnErr};
+ghost use Rattle.std.specs.Io.KnownBytes.{Appends};
+ghost use Rattle.instants_stream.specs.Told.{AppendsFront};
 ghost use Rattle.instants_stream.specs.Lines.{HasNoLineFeed, whole_lines, last_part};
-ghost use Rattle.instants_stream.specs.Steps.{written, behind, output, owed, due, seen_after};
+ghost use Rattle.instants_stream.specs.Ran.{Ran};
+ghost use Rattle.instants_stream.specs.Steps.{written, behind, by_steps, seen_after};
 
 use crate::devices::{ByteReader, ByteWriter, DeviceFailed};
 use crate::search::line_len;
@@ -74,24 +75,8 @@ pub fn write_lines<S: WritesLines, R: ByteReader, W: ByteWriter>(
     requires room { limit < length buffer.old }
     requires reader { R.failed reader.old ≡ false }
     requires writer { W.failed writer.old ≡ false }
-    // All that the reader had was read, and exactly its output was written.
-    ensures ok { OnOk result (IfSome (R.left reader.old) (λ stream. (R.left reader.new ≡ Some [])
-        × Appends (W.held writer.old) (W.held writer.new)
-        (output S.steps (S.state steps.old) limit stream))) }
-    ensures flushed { OnOk result (W.flushed writer.new ≡ true) }
-    // What is written is exactly that for the lines whose line feed was read.
-    ensures read { result ≡ Err RunFault.Read → (read : List ℕ)
-        × ConsumesOrUntold (R.left reader.old) (R.left reader.new) read
-        × Appends (W.held writer.old) (W.held writer.new)
-        (owed S.steps (S.state steps.old) limit read) }
-    // A front of what is due is written.
-    ensures write { result ≡ Err RunFault.Write → (read : List ℕ)
-        × Consumes (R.left reader.old) (R.left reader.new) read
-        × AppendsFront (W.held writer.old) (W.held writer.new)
-        (due S.steps (S.state steps.old) limit read (R.left reader.new)) }
-    // A fault is one of the device that it names.
-    ensures read_failed { IsTrue (R.failed reader.new) ↔ (result ≡ Err RunFault.Read) }
-    ensures write_failed { IsTrue (W.failed writer.new) ↔ (result ≡ Err RunFault.Write) }
+    ensures { Ran (by_steps S.steps (S.state steps.old) limit)
+        R.ByteReader reader.old reader.new W.ByteWriter writer.old writer.new result }
 {
     // The unfinished line stands from start to filled. Its first bytes are gone if it is too long.
     let mut start = 0;

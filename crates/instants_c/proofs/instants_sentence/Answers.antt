@@ -1,11 +1,10 @@
 use Rattle.std.proofs.Common.{◌≡◌, ◌⊎◌, ◌*◌, ◌≤◌, ℕ, List, [], length, Err, refl, sym, ap, subst, inl, inr, arith}
 use Rattle.instants_stream.specs.Lines.{lines}
 use Rattle.instants_stream.specs.declared.run.RunFault.TheVariants as run
-use Rattle.instants.specs.Program.{IsBeforeRun}
+use Rattle.instants.specs.Program.{IsBeforeRun, IsRefusedAs}
 use Rattle.instants.specs.declared.program_fault.ProgramFault.{ProgramFault}
 use Rattle.instants.specs.declared.program_fault.ProgramFault.TheVariants as program
 use Rattle.instants_memory.proofs.Room.{few_lines}
-use Rattle.instants_c.specs.Refused.{IsRefusedAs}
 use Rattle.instants_c.proofs.instants_sentence.Goals as goal
 
 -- a fault that is none of the run is what is refused

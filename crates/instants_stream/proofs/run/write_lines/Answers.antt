@@ -1,10 +1,11 @@
-use Rattle.std.proofs.Common.{◌≡◌, ◌==◌, ℕ, ◌+◌, ◌-◌, ◌≤◌, ◌<◌, ◌⊎◌, ◌&&◌, zero, suc, Bool, true, false, [], ◌++◌, length, take, refl, ap, ◌∙◌, inl, inr, arith}
+use Rattle.std.proofs.Common.{◌≡◌, ◌==◌, ℕ, ◌+◌, ◌-◌, ◌≤◌, ◌<◌, ◌⊎◌, ◌&&◌, zero, suc, Bool, true, false, [], ◌++◌, length, take, refl, ap, ◌∙◌, inl, inr, arith, rules}
 use Rattle.std.proofs.Math.Dec.{eqb-suc-zero}
 use Rattle.std.specs.Io.KnownBytes.{IsAtEnd}
 use Rattle.std.proofs.lemmas.Grind.{common_steps}
 use Rattle.std.proofs.lemmas.List.Elements.{All-nil}
 use Rattle.instants_stream.specs.Lines.{HasNoLineFeed, last_part}
 use Rattle.instants_stream.proofs.Told.{on_ok, on_err}
+use Rattle.instants_stream.proofs.Ends.{ConsumesOrUntold-stays, failed_to_write}
 use Rattle.instants_stream.proofs.Lines.{last_part_free}
 use Rattle.instants_stream.proofs.Progress.{Progress, begins, handed_on, pauses, fails_to_hand_on, fails_at_end, through_with_rest, through, fails_at_flush, done, Through}
 use Rattle.instants_stream.proofs.ReadSteps.{more_step, more_fails, forgets}
@@ -26,8 +27,8 @@ loop-limit-init g c = record {
   writer_works = c.requires.writer;
 }
 
-pub returns-in_default-write_whole_lines-clause-write : goal.returns-in_default-write_whole_lines-clause-write
-returns-in_default-write_whole_lines-clause-write g c =
+pub returns-in_default-write_whole_lines : goal.returns-in_default-write_whole_lines
+returns-in_default-write_whole_lines g c =
     let i = c.loop-limit.invariant in
     let buffer = c.loop-limit.buffer in
     let start = c.loop-limit.start in
@@ -39,7 +40,8 @@ returns-in_default-write_whole_lines-clause-write g c =
     let wrote = rw more at c.in_default-write_whole_lines.ensures.front in
     let into_size : length into ≡ length buffer - filled = grind (arith, common_steps) in
     let handed = on_ok c.hand_on.result c.is_err.result c.is_err.ensures.value c.if-is_err.false c.hand_on.ensures.held in
-    λ _. more_fails _ _ _ _ _ (g.S.WritesLines.state c.loop-limit.steps) _ _ _ _ _ _ _ _ _ (handed_on _ _ _ _ _ _ _ _ _ _ _ _ i.progress handed) i.free c.in-Ok.ensures.moved wrote
+    failed_to_write (more_fails _ _ _ _ _ (g.S.WritesLines.state c.loop-limit.steps) _ _ _ _ _ _ _ _ _ (handed_on _ _ _ _ _ _ _ _ _ _ _ _ i.progress handed) i.free c.in-Ok.ensures.moved wrote)
+    (c.in-Ok.ensures.ok ∙ i.reader_works) c.in_default-write_whole_lines.ensures.err
 
 -- a line stays too long exactly if no line feed ended it
 still_long : (was : Bool) (answered : ℕ) → ((0 < answered) × ((was && (answered == 0)) ≡ false)) ⊎ ((answered ≡ 0) × ((was && (answered == 0)) ≡ was))
@@ -49,11 +51,12 @@ still_long true (suc answered) = inl (omega arith, rw (eqb-suc-zero answered) re
 still_long false (suc answered) = inl (omega arith, refl)
 
 -- where the run stands when the whole lines are answered
-stands : (g : _) (c : In-Ok-write_whole_lines g) (is_long : Bool) → ((0 < c.in-Ok-write_whole_lines.done) × (is_long ≡ false)) ⊎ ((c.in-Ok-write_whole_lines.done ≡ 0) × (is_long ≡ c.loop-limit.is_long))
-    → (let line = pending (put_mid c.loop-limit.filled (length c.loop-limit.buffer - c.loop-limit.filled) c.loop-limit.buffer c.read.new.into) (c.loop-limit.start + c.in-Ok-write_whole_lines.done) (c.loop-limit.filled + c.in-Ok.count) in
-    Progress g.S.WritesLines.State g.S.WritesLines.steps (g.S.WritesLines.state c.args.steps.now) (g.S.WritesLines.state c.write_whole_lines.new.steps) c.args.limit (g.R.ByteReader.left c.args.reader.now) (g.R.ByteReader.left c.read.new.self) (g.W.ByteWriter.held c.args.writer.now) (g.W.ByteWriter.held c.write_whole_lines.new.writer) line is_long
-    × HasNoLineFeed line × (c.loop-limit.start + c.in-Ok-write_whole_lines.done ≤ c.loop-limit.filled + c.in-Ok.count) × (c.loop-limit.filled + c.in-Ok.count ≤ length c.loop-limit.buffer))
-stands g c is_long which =
+stands : (g : _) (c : In-Ok-write_whole_lines g)
+    → (let next = put_mid c.loop-limit.filled (length c.loop-limit.buffer - c.loop-limit.filled) c.loop-limit.buffer c.read.new.into in
+    let line = pending next (c.loop-limit.start + c.in-Ok-write_whole_lines.done) (c.loop-limit.filled + c.in-Ok.count) in
+    Progress g.S.WritesLines.State g.S.WritesLines.steps (g.S.WritesLines.state c.args.steps.now) (g.S.WritesLines.state c.write_whole_lines.new.steps) c.args.limit (g.R.ByteReader.left c.args.reader.now) (g.R.ByteReader.left c.read.new.self) (g.W.ByteWriter.held c.args.writer.now) (g.W.ByteWriter.held c.write_whole_lines.new.writer) line (c.loop-limit.is_long && (c.in-Ok-write_whole_lines.done == 0))
+    × HasNoLineFeed line × (c.loop-limit.start + c.in-Ok-write_whole_lines.done ≤ c.loop-limit.filled + c.in-Ok.count) × (c.loop-limit.filled + c.in-Ok.count ≤ length c.loop-limit.buffer) × (length next ≡ length c.loop-limit.buffer))
+stands g c =
     let i = c.loop-limit.invariant in
     let buffer = c.loop-limit.buffer in
     let start = c.loop-limit.start in
@@ -62,6 +65,8 @@ stands g c is_long which =
     let count = c.in-Ok.count in
     let k = length buffer - filled in
     let done_count = c.in-Ok-write_whole_lines.done in
+    let is_long = c.loop-limit.is_long && (done_count == 0) in
+    let which = still_long c.loop-limit.is_long done_count in
     let fits : filled ≤ length buffer = omega arith in
     let into_size : length into ≡ length buffer - filled = grind (arith, common_steps) in
     let more = pending_more buffer into start filled count k i.ordered fits c.in-Ok.ensures.within in
@@ -73,7 +78,7 @@ stands g c is_long which =
     let handed = on_ok c.hand_on.result c.is_err.result c.is_err.ensures.value c.if-is_err.false c.hand_on.ensures.held in
     let progress = more_step g.S.WritesLines.State g.S.WritesLines.steps (g.S.WritesLines.state c.args.steps.now) c.args.limit (g.S.WritesLines.state c.loop-limit.steps) (g.S.WritesLines.state c.write_whole_lines.new.steps) (g.R.ByteReader.left c.args.reader.now) (g.R.ByteReader.left c.loop-limit.reader) (g.R.ByteReader.left c.read.new.self) (g.W.ByteWriter.held c.args.writer.now) (g.W.ByteWriter.held c.hand_on.new.self) (g.W.ByteWriter.held c.write_whole_lines.new.writer) (pending buffer start filled) (take count into) c.loop-limit.is_long (handed_on _ _ _ _ _ _ _ _ _ _ _ _ i.progress handed) i.free c.in-Ok.ensures.moved done_count is_long
     (rw more at c.in-Ok-write_whole_lines.ensures.some) (rw more at c.in-Ok-write_whole_lines.ensures.none) which (rw more at c.in-Ok-write_whole_lines.ensures.state) (rw more at c.in-Ok-write_whole_lines.ensures.written) in
-    (rw line_is progress, rw line_is (last_part_free (pending buffer start filled ++ take count into)), ordered, next_fits)
+    (rw line_is progress, rw line_is (last_part_free (pending buffer start filled ++ take count into)), ordered, next_fits, size)
 
 pub loop-limit-preserved-then-filled-start : goal.loop-limit-preserved-then-filled-start
 loop-limit-preserved-then-filled-start g c =
@@ -83,11 +88,7 @@ loop-limit-preserved-then-filled-start g c =
     let into = c.read.new.into in
     let k = length buffer - filled in
     let next = put_mid filled k buffer into in
-    let fits : filled ≤ length buffer = omega arith in
-    let into_size : length into ≡ length buffer - filled = grind (arith, common_steps) in
-    let size = size_kept buffer into filled k fits refl into_size in
-    let which : ((0 < c.in-Ok-write_whole_lines.done) × ((c.loop-limit.is_long && (c.in-Ok-write_whole_lines.done == 0)) ≡ false)) ⊎ ((c.in-Ok-write_whole_lines.done ≡ 0) × ((c.loop-limit.is_long && (c.in-Ok-write_whole_lines.done == 0)) ≡ c.loop-limit.is_long)) = still_long c.loop-limit.is_long c.in-Ok-write_whole_lines.done in
-    let (progress, free, ordered, ends) = stands g (goal.at.loop-limit-preserved-then-filled-start g c).In-Ok-write_whole_lines (c.loop-limit.is_long && (c.in-Ok-write_whole_lines.done == 0)) which in
+    let (progress, free, ordered, ends, size) = stands g (goal.at.loop-limit-preserved-then-filled-start g c).In-Ok-write_whole_lines in
     let start_next = c.loop-limit.start + c.in-Ok-write_whole_lines.done in
     let filled_next = filled + c.in-Ok.count in
     let over : c.args.limit < length (pending next start_next filled_next) = omega (arith, length-pending next start_next filled_next (omega arith), c.if-filled-start.true) in
@@ -111,11 +112,7 @@ loop-limit-preserved-then-filled-buffer g c =
     let into = c.read.new.into in
     let k = length buffer - filled in
     let next = put_mid filled k buffer into in
-    let fits : filled ≤ length buffer = omega arith in
-    let into_size : length into ≡ length buffer - filled = grind (arith, common_steps) in
-    let size = size_kept buffer into filled k fits refl into_size in
-    let which : ((0 < c.in-Ok-write_whole_lines.done) × ((c.loop-limit.is_long && (c.in-Ok-write_whole_lines.done == 0)) ≡ false)) ⊎ ((c.in-Ok-write_whole_lines.done ≡ 0) × ((c.loop-limit.is_long && (c.in-Ok-write_whole_lines.done == 0)) ≡ c.loop-limit.is_long)) = still_long c.loop-limit.is_long c.in-Ok-write_whole_lines.done in
-    let (progress, free, ordered, ends) = stands g (goal.at.loop-limit-preserved-then-filled-buffer g c).In-Ok-write_whole_lines (c.loop-limit.is_long && (c.in-Ok-write_whole_lines.done == 0)) which in
+    let (progress, free, ordered, ends, size) = stands g (goal.at.loop-limit-preserved-then-filled-buffer g c).In-Ok-write_whole_lines in
     let start_next = c.loop-limit.start + c.in-Ok-write_whole_lines.done in
     let filled_next = filled + c.in-Ok.count in
     let moved : take (filled_next - start_next - 0) c.copy_within.new.self ≡ pending next start_next filled_next = ap (take (filled_next - start_next - 0)) c.copy_within.ensures.after ∙ pending_moved next start_next filled_next (filled_next - start_next - 0) ordered c.if-filled-buffer.true (omega arith) in
@@ -139,11 +136,7 @@ loop-limit-preserved g c =
     let into = c.read.new.into in
     let k = length buffer - filled in
     let next = put_mid filled k buffer into in
-    let fits : filled ≤ length buffer = omega arith in
-    let into_size : length into ≡ length buffer - filled = grind (arith, common_steps) in
-    let size = size_kept buffer into filled k fits refl into_size in
-    let which : ((0 < c.in-Ok-write_whole_lines.done) × ((c.loop-limit.is_long && (c.in-Ok-write_whole_lines.done == 0)) ≡ false)) ⊎ ((c.in-Ok-write_whole_lines.done ≡ 0) × ((c.loop-limit.is_long && (c.in-Ok-write_whole_lines.done == 0)) ≡ c.loop-limit.is_long)) = still_long c.loop-limit.is_long c.in-Ok-write_whole_lines.done in
-    let (progress, free, ordered, ends) = stands g (goal.at.loop-limit-preserved g c).In-Ok-write_whole_lines (c.loop-limit.is_long && (c.in-Ok-write_whole_lines.done == 0)) which in
+    let (progress, free, ordered, ends, size) = stands g (goal.at.loop-limit-preserved g c).In-Ok-write_whole_lines in
     let room : filled + c.in-Ok.count < length c.args.buffer.now = omega (arith, size, i.size, ends, c.if-filled-buffer.false) in
     record {
       progress = progress;
@@ -168,19 +161,34 @@ paused g c none =
     )
 
 -- handing on failed
-pub returns-then-is_err-clause-write : goal.returns-then-is_err-clause-write
-returns-then-is_err-clause-write g c =
+pub returns-then-is_err : goal.returns-then-is_err
+returns-then-is_err g c =
+    let i = c.loop-limit.invariant in
     let stays = on_err c.hand_on.result c.is_err.result c.is_err.ensures.value c.if-is_err.true c.hand_on.ensures.kept in
-    λ _. fails_to_hand_on _ _ _ _ _ _ _ _ _ _ _ _ c.loop-limit.invariant.progress stays
+    failed_to_write (fails_to_hand_on _ _ _ _ _ _ _ _ _ _ _ _ i.progress stays) i.reader_works (search rules)
+
+-- a read failed
+pub returns-in_default : goal.returns-in_default
+returns-in_default g c =
+    let i = c.loop-limit.invariant in
+    let held = on_ok c.hand_on.result c.is_err.result c.is_err.ensures.value c.if-is_err.false c.hand_on.ensures.held in
+    let progress = handed_on _ _ _ _ _ _ _ _ _ _ _ _ i.progress held in
+    record {
+      read = progress.bytes;
+      consumed = ConsumesOrUntold-stays _ _ _ _ progress.read c.in_default.ensures.kept;
+      written = progress.written;
+      reader_failed = c.in_default.ensures.err;
+      writer_works = search rules;
+    }
 
 -- a write at the end failed
-pub returns-then-is_err-2-clause-write : goal.returns-then-is_err-2-clause-write
-returns-then-is_err-2-clause-write g c =
+pub returns-then-is_err-2 : goal.returns-then-is_err-2
+returns-then-is_err-2 g c =
     let i = c.loop-limit.invariant in
     let buffer = c.loop-limit.buffer in
     let start = c.loop-limit.start in
     let filled = c.loop-limit.filled in
-    let (progress, ends) = paused g (goal.at.returns-then-is_err-2-clause-write g c).In-Ok c.if-count-eq0.true in
+    let (progress, ends) = paused g (goal.at.returns-then-is_err-2 g c).In-Ok c.if-count-eq0.true in
     let fits : filled ≤ length buffer = omega arith in
     let size = length-pending buffer start filled fits in
     let same = pending_same buffer c.read.new.into start filled (length buffer - filled) i.ordered fits in
@@ -189,7 +197,7 @@ returns-then-is_err-2-clause-write g c =
       | then-is_long-via-then-is_long w ↦ inl w.if-is_long.true
       | then-is_long-via-else-is_long+then-start-filled w ↦ inr (omega (arith, size, w.if-start-filled.true))
     ] in
-    λ _. fails_at_end _ _ _ _ _ _ _ _ _ _ _ _ progress (omega (arith, size, i.short)) some ends (rw same at wrote)
+    failed_to_write (fails_at_end _ _ _ _ _ _ _ _ _ _ _ _ progress (omega (arith, size, i.short)) some ends (rw same at wrote)) (c.in-Ok.ensures.ok ∙ i.reader_works) (search rules)
 
 -- the run is through, but for the flush
 finished : (g : _) (c : After-flush g) → Through g.S.WritesLines.State g.S.WritesLines.steps (g.S.WritesLines.state c.args.steps.now) c.args.limit (g.R.ByteReader.left c.args.reader.now) (g.R.ByteReader.left c.read.new.self) (g.W.ByteWriter.held c.args.writer.now) (g.W.ByteWriter.held c.if-is_long.writer)
@@ -219,15 +227,20 @@ finished g c =
           rw w.writer-is (through _ _ _ _ _ _ _ _ _ (g.W.ByteWriter.held c.hand_on.new.self) _ _ progress w.if-is_long.false line_is ends)
     ]
 
-pub returns-then-is_err-3-clause-write : goal.returns-then-is_err-3-clause-write
-returns-then-is_err-3-clause-write g c =
+pub returns-then-is_err-3 : goal.returns-then-is_err-3
+returns-then-is_err-3 g c =
     let stays = on_err c.flush.result c.is_err-2.result c.is_err-2.ensures.value c.if-is_err-3.true c.flush.ensures.kept in
-    λ _. fails_at_flush _ _ _ _ _ _ _ _ _ (finished g (goal.at.returns-then-is_err-3-clause-write g c).After-flush) stays
+    failed_to_write (fails_at_flush _ _ _ _ _ _ _ _ _ (finished g (goal.at.returns-then-is_err-3 g c).After-flush) stays) (search rules) (search rules)
 
-pub returns-clause-ok : goal.returns-clause-ok
-returns-clause-ok g c =
-    let stays = on_ok c.flush.result c.is_err-2.result c.is_err-2.ensures.value c.if-is_err-3.false c.flush.ensures.moved in
-    done _ _ _ _ _ _ _ _ _ (finished g (goal.at.returns-clause-ok g c).After-flush) stays
+pub returns : goal.returns
+returns g c =
+    let held = on_ok c.flush.result c.is_err-2.result c.is_err-2.ensures.value c.if-is_err-3.false c.flush.ensures.moved in
+    record {
+      whole = done _ _ _ _ _ _ _ _ _ (finished g (goal.at.returns g c).After-flush) held;
+      flushed = search rules;
+      reader_works = search rules;
+      writer_works = search rules;
+    }
 
 -- no byte that was pending before the read is a line feed
 pub write_whole_lines-requires-clause-free : goal.write_whole_lines-requires-clause-free
