@@ -1,26 +1,18 @@
-use Rattle.std.proofs.Common.{ℕ, ◌==◌, take, arith, w8}
-use Rattle.std.proofs.lemmas.List.{length-take-le}
-use Rattle.std.proofs.lemmas.Simd.{bitmask_splat}
+use Rattle.std.proofs.Common.{arith}
 use Rattle.instants_stream.proofs.Searched.{none_set, lowest_set, lowest_within}
 use Rattle.instants_stream.proofs.search.before_line_feed.Goals as goal
 
 pub returns-then-places-eq0-clause-none : goal.returns-then-places-eq0-clause-none
 returns-then-places-eq0-clause-none c =
-    let bytes = c.args.bytes.now in
-    (none_set 16 bytes c.requires _ (bitmask_splat w8 (λ (a b : ℕ). a == b) (take 16 bytes) 16 10 (length-take-le 16 bytes c.requires) (omega arith)) c.if-places-eq0.true).free
+    (none_set 16 c.args.bytes.now c.requires _ c.line_feeds-places.ensures.bits c.if-places-eq0.true).free
 
 pub returns-clause-within : goal.returns-clause-within
-returns-clause-within c =
-    let bytes = c.args.bytes.now in
-    lowest_within 16 bytes c.requires (omega arith) _ (bitmask_splat w8 (λ (a b : ℕ). a == b) (take 16 bytes) 16 10 (length-take-le 16 bytes c.requires) (omega arith)) c.if-places-eq0.false
+returns-clause-within c = lowest_within 16 c.args.bytes.now c.requires (omega arith) _ c.line_feeds-places.ensures.bits c.if-places-eq0.false
 
 pub returns-clause-before : goal.returns-clause-before
-returns-clause-before c =
-    let bytes = c.args.bytes.now in
-    (lowest_set 16 bytes c.requires (omega arith) _ (bitmask_splat w8 (λ (a b : ℕ). a == b) (take 16 bytes) 16 10 (length-take-le 16 bytes c.requires) (omega arith)) c.if-places-eq0.false).free
+returns-clause-before c = (lowest_set 16 c.args.bytes.now c.requires (omega arith) _ c.line_feeds-places.ensures.bits c.if-places-eq0.false).free
 
 pub returns-clause-line_feed : goal.returns-clause-line_feed
 returns-clause-line_feed c =
-    let bytes = c.args.bytes.now in
-    let within = lowest_within 16 bytes c.requires (omega arith) _ (bitmask_splat w8 (λ (a b : ℕ). a == b) (take 16 bytes) 16 10 (length-take-le 16 bytes c.requires) (omega arith)) c.if-places-eq0.false in
-    (lowest_set 16 bytes c.requires (omega arith) _ (bitmask_splat w8 (λ (a b : ℕ). a == b) (take 16 bytes) 16 10 (length-take-le 16 bytes c.requires) (omega arith)) c.if-places-eq0.false).line_feed within
+    let within = lowest_within 16 c.args.bytes.now c.requires (omega arith) _ c.line_feeds-places.ensures.bits c.if-places-eq0.false in
+    (lowest_set 16 c.args.bytes.now c.requires (omega arith) _ c.line_feeds-places.ensures.bits c.if-places-eq0.false).line_feed within
