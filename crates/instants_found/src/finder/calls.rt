@@ -213,6 +213,9 @@ impl<'a> Finder<'a> {
             return None;
         }
         let marks = (bits & lanes.bits(line, start)) >> (from - start) as u32;
+        if marks == 0 {
+            return None;
+        }
         self.by_few_marks(line, from, start + LANES, marks)
     }
 
