@@ -1,12 +1,16 @@
 -- What the operations on vectors of 16 bytes hold at each lane.
-use Rattle.std.proofs.Common.{◌≡◌, ℕ, ◌+◌, ◌-◌, ◌<◌, ◌==◌, Bool, true, false, not, cond, List, length, get_or, take, map, replicate, refl, sym, ap, ◌∙◌, arith, w8}
+use Rattle.std.proofs.Common.{◌≡◌, ◌⊎◌, inl, inr, ℕ, ◌+◌, ◌-◌, ◌<◌, ◌==◌, min, max, bit_and, Bool, true, false, not, cond, List, length, get_or, take, map, replicate, refl, sym, ap, ◌∙◌, arith, w8}
+use Rattle.std.specs.Prelude.{bit_or}
 use Rattle.std.specs.Int.{bit_at}
 use Rattle.std.specs.Simd.Lanes.{zip2, sel_l, mask_l}
 use Rattle.std.proofs.lemmas.Simd.{length-zip2, get_or-zip2, get_or-replicate, length-sel_l, get_or-sel_l, length-swz_l, get_or-swz_l_below, swz_l, SwzOk, SwzOk-from_below, Each1-from_get_or, bit_mask_l}
-use Rattle.std.proofs.lemmas.Bool.{eqb-true}
+use Rattle.std.proofs.lemmas.Bool.{cases_lt, eqb-true}
 use Rattle.std.proofs.lemmas.List.{get_or-map, get_or-take}
+use Rattle.std.proofs.lemmas.Nat.Bits.{bit_at_and, bit_at_or}
+use Rattle.instants_found.specs.Keys.{stands_at}
 use Rattle.instants_found.specs.Lanes.{HasLanes}
 use Rattle.instants_found.specs.Starts.{common, mark}
+use Rattle.instants_found.specs.declared.key.Key.{Key}
 use Rattle.instants_found.specs.declared.start_lanes.StartLanes.{StartLanes}
 
 -- an operator on two vectors
@@ -67,6 +71,34 @@ pub bits_marked : (v : List ℕ) → length v ≡ 16 → (m : ℕ) → m ≡ mas
 bits_marked v long m mask k lt none =
     let bit : bit_at m k ≡ cond (marked (get_or v k 0)) 1 0 = rw mask (bit_mask_l (map marked v) k ∙ ap (λ (b : Bool). cond {A = ℕ} b 1 0) (get_or-map marked v k 0 false (omega (arith, long, lt)))) in
     zero_where (get_or v k 0) (get_or v k 0 == 0) refl (sym bit ∙ none)
+
+none_where : (b : Bool) → cond {A = ℕ} b 1 0 ≡ 0 → b ≡ false
+none_where true h = absurd (omega (arith, h))
+none_where false h = refl
+
+-- a bit for each lane that passes a test
+pub bits_passing : (test : ℕ → Bool) (v : List ℕ) → length v ≡ 16 → (m : ℕ) → m ≡ mask_l (map test v) → (k : ℕ) → k < 16 → bit_at m k ≡ 0 → test (get_or v k 0) ≡ false
+bits_passing test v long m mask k lt none =
+    let bit : bit_at m k ≡ cond (test (get_or v k 0)) 1 0 = rw mask (bit_mask_l (map test v) k ∙ ap (λ (b : Bool). cond {A = ℕ} b 1 0) (get_or-map test v k 0 false (omega (arith, long, lt)))) in
+    none_where (test (get_or v k 0)) (sym bit ∙ none)
+
+-- ---- bits of two numbers
+
+min_none : (a b : ℕ) → min a b ≡ 0 → (a ≡ 0) ⊎ (b ≡ 0)
+min_none a b e = elim (cases_lt 0 a) [ inl some ↦ inr (omega (arith, e, some)) | inr none ↦ inl (omega (arith, none)) ]
+
+pub both_none : (a b k : ℕ) → bit_at (bit_and a b) k ≡ 0 → (bit_at a k ≡ 0) ⊎ (bit_at b k ≡ 0)
+both_none a b k e = min_none (bit_at a k) (bit_at b k) (sym (bit_at_and a b k) ∙ e)
+
+pub either_none : (a b k : ℕ) → bit_at (bit_or a b) k ≡ 0 → (bit_at a k ≡ 0) × (bit_at b k ≡ 0)
+either_none a b k e = let most : max (bit_at a k) (bit_at b k) ≡ 0 = sym (bit_at_or a b k) ∙ e in (omega (arith, most), omega (arith, most))
+
+-- a key behind the place of a lane
+pub stands_not : (key : Key) (line v : List ℕ) (at : ℕ) → HasLanes v (λ k. get_or line (at + key.place + k) 0) → (k : ℕ) → k < 16 → (get_or v k 0 == key.byte) ≡ false → stands_at key line (at + k) ≡ false
+stands_not key line v at is k lt none =
+    let place : at + key.place + k ≡ at + k + key.place = omega arith in
+    let same : get_or v k 0 ≡ get_or line (at + k + key.place) 0 = is.each k lt ∙ ap (λ (n : ℕ). get_or line n 0) place in
+    ap (λ (n : ℕ). n == key.byte) (sym same) ∙ none
 
 -- ---- the marks of the bytes of a line
 

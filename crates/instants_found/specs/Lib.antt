@@ -4,4 +4,5 @@ pub mod Found
 pub mod IsFound
 pub mod Lanes
 pub mod Starts
+pub mod Keys
 pub mod Finder

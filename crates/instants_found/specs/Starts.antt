@@ -1,21 +1,26 @@
 -- Where no date begins.
-use Rattle.std.specs.Prelude.{◌≡◌, ◌<◌, ◌≤◌, ◌==◌, ◌||◌, ◌+◌, ◌/◌, ◌%◌, ℕ, Bool, true, false, not, List, get_or, Option, None, All, bit_and, ℤ, if◌then◌else◌}
+use Rattle.std.specs.Prelude.{◌≡◌, ◌<◌, ◌≤◌, ◌==◌, ◌||◌, ◌+◌, ◌/◌, ◌%◌, ℕ, Bool, true, false, not, List, get_or, Option, None, All, bit_and, codes, ℤ, if◌then◌else◌}
 use Rattle.std.specs.Int.{bit_at}
 use Rattle.std.specs.Char.{is_ascii_digit, is_ascii_alphanumeric, to_ascii_lowercase}
 use Rattle.base.specs.Bytes.{plus, hyphen, upper_z}
+use Rattle.parsing_iso8601.specs.Designators.{time_designator}
 use Rattle.instants_sources.specs.Grammar.{Grammar}
 use Rattle.instants_found.specs.Front.{front_named}
 use Rattle.instants_found.specs.Found.{at_place}
 use Rattle.instants_found.specs.declared.byte_set.ByteSet.{ByteSet}
 use Rattle.instants_found.specs.declared.start_lanes.StartLanes.{StartLanes}
 
--- a date of RFC 2822 begins with a digit or, in any case, with the first letter of a weekday's name
+-- a name begins with a letter, in any case
+abbrev pub begins_name : List ℕ → ℕ → Bool
+begins_name name letter = to_ascii_lowercase letter == get_or name 0 0
+
+-- a date of RFC 2822 begins with a digit or with the name of a weekday
 abbrev pub begins_day : ℕ → Bool
-begins_day byte = ((((is_ascii_digit byte || to_ascii_lowercase byte == 102) || to_ascii_lowercase byte == 109) || to_ascii_lowercase byte == 115) || to_ascii_lowercase byte == 116) || to_ascii_lowercase byte == 119
+begins_day byte = ((((is_ascii_digit byte || begins_name (codes "fri") byte) || begins_name (codes "mon") byte) || begins_name (codes "sat") byte) || begins_name (codes "tue") byte) || begins_name (codes "wed") byte
 
 -- one of ISO 8601 with a digit, a sign or a designator, `T` or `Z`
 abbrev pub begins_part : ℕ → Bool
-begins_part byte = (((is_ascii_digit byte || byte == plus) || byte == hyphen) || byte == 84) || byte == upper_z
+begins_part byte = (((is_ascii_digit byte || byte == plus) || byte == hyphen) || byte == time_designator) || byte == upper_z
 
 -- no front that a source reads begins with this byte
 abbrev pub CannotBegin : ℕ → Grammar → Type 0

@@ -1,5 +1,5 @@
 //! Vectors of 16 bytes, lane by lane.
-ghost use Rattle.std.specs.Prelude.{◌≡◌, ◌<◌, ◌≤◌, ◌==◌, ◌+◌, ◌/◌, ◌%◌, ℕ, bit_and, if◌then◌else◌, length, slice_index};
+ghost use Rattle.std.specs.Prelude.{◌≡◌, ◌<◌, ◌≤◌, ◌==◌, ◌+◌, ◌/◌, ◌%◌, ℕ, false, bit_and, if◌then◌else◌, length, slice_index};
 ghost use Rattle.std.specs.Int.{bit_at};
 ghost use Rattle.instants_found.specs.Lanes.{HasLanes};
 
@@ -55,4 +55,12 @@ pub(crate) fn bits_of(marks: u8x16) -> u64
     ensures { (k : ℕ) → k < LANES → bit_at result k ≡ 0 → slice_index marks k ≡ 0 }
 {
     marks.simd_ne(u8x16::splat(0)).to_bitmask()
+}
+
+/// A bit for each lane, which is 0 only where the lane is another byte than this.
+#[inline(always)]
+pub(crate) fn bits_of_byte(bytes: u8x16, byte: u8) -> u64
+    ensures { (k : ℕ) → k < LANES → bit_at result k ≡ 0 → (slice_index bytes k == byte) ≡ false }
+{
+    bytes.simd_eq(u8x16::splat(byte)).to_bitmask()
 }

@@ -7,8 +7,12 @@ mod finder;
 mod finding;
 mod found;
 mod front;
+mod front_bytes;
+mod key;
+mod keys;
 mod lanes;
 pub mod laws;
+mod source_key;
 mod start_lanes;
 mod starts;
 

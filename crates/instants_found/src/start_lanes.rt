@@ -68,6 +68,16 @@ impl StartLanes {
         !is_start || (self.any.has(byte) && self.apart.has(byte))
     }
 
+    /// A bit for each of the 16 bytes from a place on, which is 0 only where no date begins with the byte.
+    #[inline(always)]
+    pub(crate) fn bits(&self, line: &[u8], at: usize) -> u64
+        requires { at + LANES ≤ length line.now }
+        ensures { (k : ℕ) → k < LANES → bit_at result k ≡ 0 →
+            common self.now.any (get_or line.now (at + k) 0) ≡ 0 }
+    {
+        bits_of(self.any.marks(load(line, at)))
+    }
+
     /// Whether none of the 16 bytes from a place on is one at which a date can begin.
     #[inline(always)]
     pub(crate) fn has_none(&self, line: &[u8], at: usize) -> bool
@@ -75,7 +85,7 @@ impl StartLanes {
         ensures { result ≡ true → (k : ℕ) → k < LANES →
             common self.now.any (get_or line.now (at + k) 0) ≡ 0 }
     {
-        bits_of(self.any.marks(load(line, at))) == 0
+        self.bits(line, at) == 0
     }
 
     /// A bit for each of the 16 bytes from a place on, which is 0 only where no date begins at the byte.

@@ -5,3 +5,4 @@ pub mod Wholly
 pub mod Keys
 pub mod Joined
 pub mod Explaining
+pub mod Keyed

@@ -1,10 +1,16 @@
 //! Parts of a line, written one behind the other.
-ghost use Rattle.std.specs.Prelude.{◌≡◌, [], ◌∷◌, ◌++◌, true, false, OnOk, OnErr};
+ghost use Rattle.std.specs.Prelude.{◌≡◌, ◌≤◌, [], ◌∷◌, ◌++◌, length, true, false, OnOk, OnErr};
 ghost use Rattle.std.specs.Io.KnownBytes.{Appends};
-ghost use Rattle.base.specs.Bytes.{line_feed};
+ghost use Rattle.base.specs.Bytes.{tab, line_feed};
 ghost use Rattle.instants_stream.specs.Told.{AppendsFront};
 
+use instants_answers::Answer;
 use instants_stream::{ByteWriter, DeviceFailed};
+
+// One byte, in the storage of a front, which is written in fewer instructions than a slice.
+static TAB: [u8; 64] = *b"\t                                                               ";
+
+static LINE_FEED: [u8; 64] = *b"\n                                                               ";
 
 /// Writes two parts.
 #[inline(always)]
@@ -63,4 +69,55 @@ pub(crate) fn write_parts<W: ByteWriter>(
 {
     write_three(writer, first, second, third)?;
     writer.write_all(b"\n")
+}
+
+// Writes a line and a line feed.
+#[inline(always)]
+fn write_fed<W: ByteWriter>(writer: &mut W, line: &[u8]) -> Result<(), DeviceFailed>
+    requires { W.failed writer.old ≡ false }
+    ensures written { OnOk result
+        (Appends (W.held writer.old) (W.held writer.new) (line.now ++ line_feed ∷ [])) }
+    ensures ok { OnOk result (W.failed writer.new ≡ W.failed writer.old) }
+    ensures front { OnErr result
+        (AppendsFront (W.held writer.old) (W.held writer.new) (line.now ++ line_feed ∷ [])) }
+    ensures err { OnErr result (W.failed writer.new ≡ true) }
+{
+    writer.write_all(line)?;
+    writer.write_front(&LINE_FEED, 1)
+}
+
+// Writes a tab, a line and a line feed.
+#[inline(always)]
+fn write_tabbed<W: ByteWriter>(writer: &mut W, line: &[u8]) -> Result<(), DeviceFailed>
+    requires { W.failed writer.old ≡ false }
+    ensures written { OnOk result (Appends (W.held writer.old) (W.held writer.new)
+        (tab ∷ (line.now ++ line_feed ∷ []))) }
+    ensures ok { OnOk result (W.failed writer.new ≡ W.failed writer.old) }
+    ensures front { OnErr result (AppendsFront (W.held writer.old) (W.held writer.new)
+        (tab ∷ (line.now ++ line_feed ∷ []))) }
+    ensures err { OnErr result (W.failed writer.new ≡ true) }
+{
+    writer.write_front(&TAB, 1)?;
+    write_fed(writer, line)
+}
+
+/// Writes an answer, a tab, a line and a line feed.
+#[inline(always)]
+pub(crate) fn write_behind<W: ByteWriter>(
+    writer: &mut W,
+    answer: &Answer,
+    line: &[u8],
+) -> Result<(), DeviceFailed>
+    requires works { W.failed writer.old ≡ false }
+    requires room { length answer.now ≤ 64 }
+    ensures written { OnOk result (Appends (W.held writer.old) (W.held writer.new)
+        ((answer.now ++ tab ∷ line.now) ++ line_feed ∷ [])) }
+    ensures ok { OnOk result (W.failed writer.new ≡ W.failed writer.old) }
+    ensures front { OnErr result (AppendsFront (W.held writer.old) (W.held writer.new)
+        ((answer.now ++ tab ∷ line.now) ++ line_feed ∷ [])) }
+    ensures err { OnErr result (W.failed writer.new ≡ true) }
+{
+    let (bytes, len) = answer.padded();
+    writer.write_front(bytes, len)?;
+    write_tabbed(writer, line)
 }

@@ -1,14 +1,16 @@
 //! The calls of a finder.
-ghost use Rattle.std.specs.Prelude.{◌≡◌, ◌<◌, ◌≤◌, ◌+◌, length, map, false, None, IfSome, IfNone};
+ghost use Rattle.std.specs.Prelude.{◌≡◌, ◌<◌, ◌≤◌, ◌+◌, length, map, false, None, All, IfSome, IfNone};
 ghost use Rattle.instants_sources.specs.Grammar.{grammar_of};
 ghost use Rattle.instants_found.specs.Found.{at_place, found};
 ghost use Rattle.instants_found.specs.Finder.{assumed_of, sources_of};
+ghost use Rattle.instants_found.specs.Keys.{AreKeys, NeedsFour};
 ghost use Rattle.instants_found.specs.Starts.{AreRight, HasNoDate, MarkPlaces};
 
 use crate::edge::is_edge;
 use crate::finder::Finder;
 use crate::finding::{at_place, behind, may_read};
 use crate::found::Found;
+use crate::keys::{Keys, REACH};
 use crate::lanes::LANES;
 use crate::start_lanes::StartLanes;
 use crate::starts::starts;
@@ -22,11 +24,13 @@ impl<'a> Finder<'a> {
         ensures assumed { assumed_of result ≡ assumed }
     {
         let starts = starts(&sources);
+        let keys = Keys::of(&sources);
         Finder {
             sources,
             assumed,
             starts,
             lanes: StartLanes::of(&starts),
+            keys,
         }
     }
 
@@ -115,13 +119,28 @@ impl<'a> Finder<'a> {
                 return None;
             }
             let start = at + behind as usize;
-            if self.may_begin(line, start) {
+            if self.has_start(line, start) {
                 return Some(start);
             }
             left = (left >> behind) >> 1u32;
             at = start + 1;
         }
         None
+    }
+
+    // The same as a call of its own, where there are seldom any.
+    #[inline(never)]
+    fn by_few_marks(&self, line: &[u8], from: usize, to: usize, marks: u64) -> Option<usize>
+        requires ordered { from ≤ to }
+        requires within { to ≤ length line.now }
+        requires marks { MarkPlaces (assumed_of self.now) (sources_of self.now) line.now from to marks }
+        ensures none { IfNone result
+            (HasNoDate (assumed_of self.now) (sources_of self.now) line.now from to) }
+        ensures within { IfSome result (λ start. (from ≤ start) × (start < to)) }
+        ensures passed { IfSome result
+            (HasNoDate (assumed_of self.now) (sources_of self.now) line.now from) }
+    {
+        self.by_marks(line, from, to, marks)
     }
 
     // The same of sixteen bytes from a place on, of which the first ones do not count.
@@ -169,6 +188,82 @@ impl<'a> Finder<'a> {
         None
     }
 
+    // The same of sixteen places from one on, of which the first ones do not count, where keys are looked for.
+    #[inline(always)]
+    fn by_keyed_block(
+        &self,
+        keys: &Keys,
+        lanes: &StartLanes,
+        line: &[u8],
+        start: usize,
+        from: usize,
+    ) -> Option<usize>
+        requires ordered { (start ≤ from) × (from ≤ start + LANES) }
+        requires within { start + REACH ≤ length line.now }
+        requires lanes { AreRight self.now.starts lanes.now }
+        requires keys { AreKeys (sources_of self.now) keys.now }
+        ensures none { IfNone result (HasNoDate (assumed_of self.now) (sources_of self.now)
+            line.now from (start + LANES)) }
+        ensures within { IfSome result (λ place. (from ≤ place) × (place < start + LANES)) }
+        ensures passed { IfSome result
+            (HasNoDate (assumed_of self.now) (sources_of self.now) line.now from) }
+    {
+        let bits = keys.bits(line, start);
+        if bits == 0 {
+            return None;
+        }
+        let marks = (bits & lanes.bits(line, start)) >> (from - start) as u32;
+        if marks == 0 {
+            return None;
+        }
+        self.by_few_marks(line, from, start + LANES, marks)
+    }
+
+    // The only place of those behind one at which a date of four bytes can begin, where these have no room for keys.
+    #[inline(always)]
+    fn by_last_four(&self, line: &[u8], from: usize) -> Option<usize>
+        requires some { 4 ≤ length line.now }
+        requires end { length line.now ≤ from + 4 }
+        requires within { from ≤ length line.now }
+        requires long { All NeedsFour (sources_of self.now) }
+        ensures none { IfNone result
+            (HasNoDate (assumed_of self.now) (sources_of self.now) line.now from (length line.now)) }
+        ensures within { IfSome result (λ start. (from ≤ start) × (start < length line.now)) }
+        ensures passed { IfSome result
+            (HasNoDate (assumed_of self.now) (sources_of self.now) line.now from) }
+    {
+        if from == line.len() - 4 && self.has_start(line, from) {
+            return Some(from);
+        }
+        None
+    }
+
+    // The first place behind one at which a date can begin, looked for by keys: the last places may begin before the end of
+    // those before them.
+    #[inline(never)]
+    fn by_keys(&self, keys: &Keys, lanes: &StartLanes, line: &[u8], from: usize) -> Option<usize>
+        requires some { REACH ≤ length line.now }
+        requires within { from ≤ length line.now }
+        requires lanes { AreRight self.now.starts lanes.now }
+        requires keys { AreKeys (sources_of self.now) keys.now }
+        ensures none { IfNone result
+            (HasNoDate (assumed_of self.now) (sources_of self.now) line.now from (length line.now)) }
+        ensures within { IfSome result (λ start. (from ≤ start) × (start < length line.now)) }
+        ensures passed { IfSome result
+            (HasNoDate (assumed_of self.now) (sources_of self.now) line.now from) }
+    {
+        let mut at = from;
+        while at < line.len() - 4 {
+            let behind = at;
+            let start = behind.min(line.len() - REACH);
+            at = start + LANES;
+            if let Some(place) = self.by_keyed_block(keys, lanes, line, start, behind) {
+                return Some(place);
+            }
+        }
+        self.by_last_four(line, at)
+    }
+
     // The first place from one on at which a date can begin.
     #[inline(always)]
     fn next_start(&self, line: &[u8], from: usize) -> Option<usize>
@@ -184,6 +279,11 @@ impl<'a> Finder<'a> {
         };
         if line.len() <= LANES {
             return self.by_bytes(line, from);
+        }
+        if let Some(keys) = &self.keys {
+            if line.len() >= REACH {
+                return self.by_keys(keys, lanes, line, from);
+            }
         }
         if from > 0 {
             return self.by_lanes(lanes, line, from);

@@ -64,8 +64,9 @@ impl<'a> DateSources<'a> {
         shown_at(self.target, moment)
     }
 
-    /// A moment as an answer: its date-time at the target, or `! year`.
-    #[inline(always)]
+    /// A moment as an answer: its date-time at the target, or `! year`. A call of its own, so that the answer lies in memory,
+    /// from where it is copied at once and not byte by byte.
+    #[inline(never)]
     pub(crate) fn answer_moment(&self, moment: OffsetDateTime) -> Answer
         ensures bytes { result ≡
             place_text (shown_or_refused (setting_in self.now).target (Ok moment)) }

@@ -12,7 +12,7 @@ use crate::date_sources::DateSources;
 use crate::explained::write_explained;
 use crate::line_writer::LineWriter;
 use crate::mode::Mode;
-use crate::parts::write_parts;
+use crate::parts::{write_behind, write_parts};
 use instants_answers::{Answer, rfc3339_line};
 use instants_stream::{ByteWriter, DeviceFailed, WritesLines};
 
@@ -24,18 +24,6 @@ impl<'a, 'b> LineWriter<'a, 'b> {
         let mut key = Answer::new();
         key.push_bytes(b"! none");
         LineWriter { mode, dates, key }
-    }
-
-    // The key of a line.
-    #[tactic(auto, unfolding(crate::specs::Going::key_of_line, crate::specs::Dates::place_of_date))]
-    fn key_of(&self, line: &[u8]) -> Answer
-        ensures key { result ≡ key_of_line (going_of self.now) line.now }
-        ensures room { length result ≤ 63 }
-    {
-        match self.dates.date_in(line) {
-            Some(date) => self.dates.answer_moment(date.moment),
-            None => self.key,
-        }
     }
 
     // Keeps the key of a line, where the lines below it take it.
@@ -52,6 +40,7 @@ impl<'a, 'b> LineWriter<'a, 'b> {
     }
 
     // Writes a line behind its key and a tab.
+    #[tactic(auto, using(crate::proofs::Keyed::undated, crate::proofs::Keyed::below_itself))]
     fn write_keyed<W: ByteWriter>(
         &mut self,
         line: &[u8],
@@ -69,9 +58,12 @@ impl<'a, 'b> LineWriter<'a, 'b> {
             ((key_of_line (going_of self.old) line.now ++ tab ∷ line.now) ++ line_feed ∷ [])) }
         ensures err { OnErr result (W.failed writer.new ≡ true) }
     {
-        let key = self.key_of(line);
+        let Some(date) = self.dates.date_in(line) else {
+            return write_behind(writer, &self.key, line);
+        };
+        let key = self.dates.answer_moment(date.moment);
         self.keep(key);
-        write_parts(writer, key.as_bytes(), b"\t", line)
+        write_behind(writer, &key, line)
     }
 
     // Writes a line with the date-time in place of its date.

@@ -1,0 +1,52 @@
+-- Bytes that stand at one place of each date of a source.
+use Rattle.std.specs.Prelude.{◌≡◌, ◌<◌, ◌+◌, ◌==◌, ℕ, Bool, true, false, List, All, length, get_or}
+use Rattle.parsing_first_bytes.specs.FirstBytes.{rule_out}
+use Rattle.parsing_first_bytes.specs.declared.first_bytes.FirstBytes.{FirstBytes}
+use Rattle.instants_sources.specs.Grammar.{Grammar}
+use Rattle.instants_found.specs.Starts.{HasNoFront}
+use Rattle.instants_found.specs.declared.key.Key.{Key}
+use Rattle.instants_found.specs.declared.keys.Keys.{Keys}
+
+-- all of these are bytes
+abbrev pub AreBytes : List ℕ → Type 0
+AreBytes bytes = (k : ℕ) → get_or bytes k 0 < 256
+
+-- a key stands behind this place of a line
+abbrev pub stands_at : Key → List ℕ → ℕ → Bool
+stands_at key line place = get_or line (place + key.place) 0 == key.byte
+
+-- these bytes begin with what has the key
+abbrev pub has_key : Key → List ℕ → Bool
+has_key key bytes = get_or bytes key.place 0 == key.byte
+
+-- ---- of the first bytes of a description
+
+-- lines with this byte at this place are ruled out
+abbrev pub IsRuledOutAt : FirstBytes → ℕ → ℕ → Type 0
+IsRuledOutAt first_bytes place byte = (line : List ℕ) → get_or line place 0 ≡ byte → rule_out first_bytes line ≡ true
+
+-- so are lines without the key
+abbrev pub IsKeyOf : FirstBytes → Key → Type 0
+IsKeyOf first_bytes key = (line : List ℕ) → AreBytes line → has_key key line ≡ false → rule_out first_bytes line ≡ true
+
+-- and lines of fewer than four bytes
+abbrev pub RuleOutShort : FirstBytes → Type 0
+RuleOutShort first_bytes = (line : List ℕ) → length line < 4 → rule_out first_bytes line ≡ true
+
+-- ---- of sources
+
+-- a source reads no front without the key
+abbrev pub NeedsKey : Key → Grammar → Type 0
+NeedsKey key grammar = (bytes : List ℕ) → AreBytes bytes → has_key key bytes ≡ false → HasNoFront bytes grammar
+
+-- nor one of fewer than four bytes
+abbrev pub NeedsFour : Grammar → Type 0
+NeedsFour grammar = (bytes : List ℕ) → length bytes < 4 → HasNoFront bytes grammar
+
+-- a source reads no front with neither key, nor one of fewer than four bytes
+pub record NeedsOne (keys : Keys) (grammar : Grammar) : Type 0 where
+  pub key : (bytes : List ℕ) → AreBytes bytes → has_key keys.first bytes ≡ false → has_key keys.second bytes ≡ false → HasNoFront bytes grammar
+  pub four : NeedsFour grammar
+
+abbrev pub AreKeys : List Grammar → Keys → Type 0
+AreKeys sources keys = All (NeedsOne keys) sources

@@ -1,0 +1,83 @@
+//! The keys of sources, looked for sixteen places at a time.
+ghost use Rattle.std.specs.Prelude.{◌≡◌, ◌<◌, ◌≤◌, ◌+◌, ◌==◌, ℕ, false, true, length, map, get_or, IfSome};
+
+use crate::key::Key;
+use crate::lanes::{LANES, bits_of_byte, load};
+use crate::source_key::key_of;
+use instants_sources::Source;
+
+/// How many bytes are looked at for the keys of sixteen places.
+pub(crate) const REACH: usize = LANES + 4;
+
+/// The keys of sources, of which there are at most two.
+#[derive(Clone, Copy)]
+pub(crate) struct Keys {
+    first: Key,
+    second: Key,
+    ghost first_near: { first.place ≤ 4 },
+    ghost second_near: { second.place ≤ 4 },
+}
+
+impl Keys {
+    ghost use Rattle.std.specs.Prelude.{All};
+    ghost use Rattle.std.specs.Int.{bit_at};
+    ghost use Rattle.instants_sources.specs.Grammar.{Grammar, grammar_of};
+    ghost use Rattle.instants_found.specs.Keys.{AreKeys, NeedsFour, NeedsKey, NeedsOne, stands_at};
+
+    // One key, twice.
+    fn of_one(key: Key) -> Keys
+        requires { key.place ≤ 4 }
+    {
+        Keys {
+            first: key,
+            second: key,
+        }
+    }
+
+    // With one key more, if there is room for it.
+    fn with(self, key: Key) -> Option<Keys>
+        requires { key.place ≤ 4 }
+        ensures others { IfSome result
+            (λ keys. (grammar : Grammar) → NeedsOne self grammar → NeedsOne keys grammar) }
+        ensures key { IfSome result (λ keys. (grammar : Grammar) → NeedsKey key grammar
+            → NeedsFour grammar → NeedsOne keys grammar) }
+    {
+        if key.is(self.first) || key.is(self.second) {
+            return Some(self);
+        }
+        if !self.first.is(self.second) {
+            return None;
+        }
+        Some(Keys {
+            first: self.first,
+            second: key,
+        })
+    }
+
+    /// The keys of these sources, if each has one and they are at most two.
+    pub(crate) fn of(sources: &[Source<'_>]) -> Option<Keys>
+        ensures { IfSome result (AreKeys (map grammar_of sources.now)) }
+    {
+        if sources.is_empty() {
+            return None;
+        }
+        let mut keys = Keys::of_one(key_of(&sources[0])?);
+        for number in 0..sources.len() {
+            keys = keys.with(key_of(&sources[number])?)?;
+        }
+        Some(keys)
+    }
+
+    /// A bit for each of the 16 places from one on, which is 0 only where neither key stands behind it.
+    #[inline(always)]
+    pub(crate) fn bits(&self, line: &[u8], at: usize) -> u64
+        requires { at + REACH ≤ length line.now }
+        ensures { (k : ℕ) → k < LANES → bit_at result k ≡ 0 →
+            (stands_at self.now.first line.now (at + k) ≡ false)
+            × (stands_at self.now.second line.now (at + k) ≡ false) }
+    {
+        let first = bits_of_byte(load(line, at + self.first.place), self.first.byte);
+        let second = bits_of_byte(load(line, at + self.second.place), self.second.byte);
+        first | second
+    }
+}

@@ -1,0 +1,28 @@
+//! The key of a source.
+ghost use Rattle.std.specs.Prelude.{◌≤◌, IfSome};
+ghost use Rattle.instants_sources.specs.Grammar.{grammar_of};
+ghost use Rattle.instants_found.specs.Keys.{NeedsFour, NeedsKey};
+
+use crate::front_bytes::key_of_first_bytes;
+use crate::key::Key;
+use instants_sources::Source;
+use parsing_first_bytes::FirstBytes;
+
+/// The key of a source, if one is found: RFC 3339 has a hyphen behind its year.
+pub(crate) fn key_of(source: &Source<'_>) -> Option<Key>
+    ensures near { IfSome result (λ key. key.place ≤ 4) }
+    ensures key { IfSome result (λ key. NeedsKey key (grammar_of source.now)) }
+    ensures long { IfSome result (λ _. NeedsFour (grammar_of source.now)) }
+{
+    match source {
+        Source::Items(described) => key_of_first_bytes(&FirstBytes::of_items(described.items())),
+        Source::V3(described) => {
+            key_of_first_bytes(&FirstBytes::of_description(described.tree()))
+        }
+        Source::Rfc3339 => Some(Key {
+            place: 4,
+            byte: b'-',
+        }),
+        Source::Rfc2822 | Source::Iso8601 => None,
+    }
+}
