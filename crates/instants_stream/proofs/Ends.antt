@@ -1,6 +1,6 @@
 -- How a run over a stream ends.
 use Rattle.std.proofs.Common.{◌≡◌, ℕ, true, false, Option, None, Some, List, [], ◌++◌, Result, Ok, Err, OnOk, OnErr, refl, sym, ap, ◌∙◌, append-nil}
-use Rattle.std.specs.Io.KnownBytes.{Consumes, Appends, Keeps}
+use Rattle.std.specs.Io.KnownBytes.{Consumes, Keeps}
 use Rattle.std.proofs.KnownBytes.{Appends-kept}
 use Rattle.instants_stream.specs.Ran.{HasFailedToRead, HasFailedToWrite, HasFlushedBehindRead, Ran, RanAndFlushed}
 use Rattle.instants_stream.specs.Told.{StaysOrUntold, ConsumesOrUntold, AppendsFront}
