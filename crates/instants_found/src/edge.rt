@@ -25,36 +25,33 @@ fn byte_before(line: &[u8], place: usize, far: usize) -> u8
     }
 }
 
-// Whether a word goes on over the seam between the first two bytes and the last two.
+// The byte behind the one at a place, and 0 where the line has none.
 #[inline(always)]
-fn goes_on(second_before: u8, before: u8, behind: u8, second_behind: u8) -> bool
-    ensures { result ≡ Edge.goes_on second_before before behind second_behind }
+fn byte_behind(line: &[u8], place: usize) -> u8
+    requires { place ≤ length line.now }
+    ensures { result ≡ get_or line.now (place + 1) 0 }
 {
-    let behind_point = second_before.is_ascii_digit() && before == b'.';
-    let before_point = behind == b'.' && second_behind.is_ascii_digit();
-    if before.is_ascii_alphanumeric() {
-        behind.is_ascii_alphanumeric() || before_point
+    if place < line.len() {
+        byte_at(line, place + 1)
     } else {
-        behind_point && behind.is_ascii_alphanumeric()
+        0
     }
 }
 
-/// Whether no word goes on over a place of a line.
+/// Whether no word goes on over a place of a line. The second bytes on either side are looked at beside points alone.
 #[inline(always)]
 pub(crate) fn is_edge(line: &[u8], place: usize) -> bool
     requires { place ≤ length line.now }
     ensures { result ≡ Edge.is_edge line.now place }
 {
+    let before = byte_before(line, place, 1);
     let behind = byte_at(line, place);
-    let second_behind = if place < line.len() {
-        byte_at(line, place + 1)
-    } else {
-        0
-    };
-    !goes_on(
-        byte_before(line, place, 2),
-        byte_before(line, place, 1),
-        behind,
-        second_behind,
-    )
+    if before.is_ascii_alphanumeric() {
+        let is_before_point = behind == b'.' && byte_behind(line, place).is_ascii_digit();
+        return !(behind.is_ascii_alphanumeric() || is_before_point);
+    }
+    if before != b'.' || !behind.is_ascii_alphanumeric() {
+        return true;
+    }
+    !byte_before(line, place, 2).is_ascii_digit()
 }

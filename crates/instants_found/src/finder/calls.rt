@@ -128,21 +128,6 @@ impl<'a> Finder<'a> {
         None
     }
 
-    // The same as a call of its own, where there are seldom any.
-    #[inline(never)]
-    fn by_few_marks(&self, line: &[u8], from: usize, to: usize, marks: u64) -> Option<usize>
-        requires ordered { from ≤ to }
-        requires within { to ≤ length line.now }
-        requires marks { MarkPlaces (assumed_of self.now) (sources_of self.now) line.now from to marks }
-        ensures none { IfNone result
-            (HasNoDate (assumed_of self.now) (sources_of self.now) line.now from to) }
-        ensures within { IfSome result (λ start. (from ≤ start) × (start < to)) }
-        ensures passed { IfSome result
-            (HasNoDate (assumed_of self.now) (sources_of self.now) line.now from) }
-    {
-        self.by_marks(line, from, to, marks)
-    }
-
     // The same of sixteen bytes from a place on, of which the first ones do not count.
     #[inline(always)]
     fn by_block(&self, lanes: &StartLanes, line: &[u8], start: usize, from: usize) -> Option<usize>
@@ -216,7 +201,7 @@ impl<'a> Finder<'a> {
         if marks == 0 {
             return None;
         }
-        self.by_few_marks(line, from, start + LANES, marks)
+        self.by_marks(line, from, start + LANES, marks)
     }
 
     // The only place of those behind one at which a date of four bytes can begin, where these have no room for keys.

@@ -14,8 +14,8 @@ returns-then-bits-eq0-clause-none c =
     let none = none_keyed assumed sources line c.args.keys.now start c.bits-bits.result c.requires.keys (λ k. (c.type_inv.line k).fits) c.bits-bits.ensures c.if-bits-eq0.true in
     none_later assumed sources line start c.args.from (start + 16) (omega arith) none
 
-pub by_few_marks-requires-clause-marks : goal.by_few_marks-requires-clause-marks
-by_few_marks-requires-clause-marks c =
+pub by_marks-requires-clause-marks : goal.by_marks-requires-clause-marks
+by_marks-requires-clause-marks c =
     let assumed = assumed_of c.args.self.now in
     let sources = sources_of c.args.self.now in
     let line = c.args.line.now in
