@@ -16,7 +16,7 @@ use parsing_fields::Fields;
 
 // Writes the line of a day of the fields' month, a minute of it, and the fields' second and fraction.
 #[inline(always)]
-fn write_parts(fields: &Fields, day: u8, minute: u32, offset: i32, answer: &mut Answer)
+fn write_parts(fields: &Fields, day: u64, minute: u64, offset: i32, answer: &mut Answer)
     requires day { day ≤ 31 }
     requires minute { minute < 1440 }
     requires offset { unsigned_abs offset ≤ 86_340 }
@@ -31,10 +31,10 @@ fn write_parts(fields: &Fields, day: u8, minute: u32, offset: i32, answer: &mut 
         answer,
         u32::from(fields.year),
         u32::from(fields.month),
-        u32::from(day),
+        day as u32,
     );
     answer.push(b'T');
-    push_clock(answer, minute, fields.second as u32, fields.fraction);
+    push_clock(answer, minute as u32, fields.second as u32, fields.fraction);
     push_offset(answer, offset);
 }
 

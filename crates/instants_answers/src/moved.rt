@@ -8,9 +8,10 @@ use parsing_fields::Fields;
 const DAY_MINUTES: i32 = 1440;
 
 // The day of the month, and the minute of it, so many minutes after the fields' day began: `None` where that is neither
-// their day nor one beside it in their month. The calls of `count_of_day` serve the check alone, and leave no code.
+// their day nor one beside it in their month. Both are as wide as a word, so that they are not packed into one. The calls
+// of `count_of_day` serve the check alone, and leave no code.
 #[inline(always)]
-pub(crate) fn moved_within_month(fields: &Fields, minutes: i32) -> Option<(u8, u32)>
+pub(crate) fn moved_within_month(fields: &Fields, minutes: i32) -> Option<(u64, u64)>
     ensures { IfSome result (λ moved. IsMoved fields.now minutes moved.0 moved.1) }
 {
     if minutes < 0 {
@@ -20,12 +21,12 @@ pub(crate) fn moved_within_month(fields: &Fields, minutes: i32) -> Option<(u8, u
         return moved_behind(fields, minutes);
     }
     let _ = march::count_of_day(i32::from(fields.year), fields.month, fields.day);
-    Some((fields.day, minutes as u32))
+    Some((fields.day as u64, minutes as u64))
 }
 
 // The same on the day before.
 #[inline(always)]
-fn moved_before(fields: &Fields, minutes: i32) -> Option<(u8, u32)>
+fn moved_before(fields: &Fields, minutes: i32) -> Option<(u64, u64)>
     ensures { IfSome result (λ moved. IsMoved fields.now minutes moved.0 moved.1) }
 {
     if minutes < -DAY_MINUTES || minutes >= 0 || fields.day == 1 {
@@ -36,12 +37,12 @@ fn moved_before(fields: &Fields, minutes: i32) -> Option<(u8, u32)>
         march::count_of_day(i32::from(fields.year), fields.month, fields.day),
         march::count_of_day(i32::from(fields.year), fields.month, day),
     );
-    Some((day, (minutes + DAY_MINUTES) as u32))
+    Some((day as u64, (minutes + DAY_MINUTES) as u64))
 }
 
 // The same on the day after.
 #[inline(always)]
-fn moved_behind(fields: &Fields, minutes: i32) -> Option<(u8, u32)>
+fn moved_behind(fields: &Fields, minutes: i32) -> Option<(u64, u64)>
     ensures { IfSome result (λ moved. IsMoved fields.now minutes moved.0 moved.1) }
 {
     if minutes < DAY_MINUTES || minutes >= 2 * DAY_MINUTES {
@@ -56,5 +57,5 @@ fn moved_behind(fields: &Fields, minutes: i32) -> Option<(u8, u32)>
         march::count_of_day(year, fields.month, fields.day),
         march::count_of_day(year, fields.month, day),
     );
-    Some((day, (minutes - DAY_MINUTES) as u32))
+    Some((day as u64, (minutes - DAY_MINUTES) as u64))
 }
