@@ -1,5 +1,6 @@
 //! What writes lines.
-ghost use Rattle.std.specs.Prelude.{◌≤◌, length};
+ghost use Rattle.std.specs.Prelude.{◌≡◌, ◌≤◌, [], ◌∷◌, ◌++◌, length};
+ghost use Rattle.base.specs.Bytes.{tab};
 
 mod calls;
 
@@ -13,6 +14,9 @@ pub(crate) struct LineWriter<'a, 'b> {
     mode: Mode,
     dates: &'a DateSources<'b>,
     key: Answer,
+    // The same and a tab, which are written at once.
+    tabbed: Answer,
     // There is room for a tab behind it.
     ghost room: { length key ≤ 63 },
+    ghost tabbed_is: { tabbed ≡ key ++ tab ∷ [] },
 }

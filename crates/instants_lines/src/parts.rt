@@ -121,3 +121,35 @@ pub(crate) fn write_behind<W: ByteWriter>(
     writer.write_front(bytes, len)?;
     write_tabbed(writer, line)
 }
+
+/// An answer and a tab.
+#[inline(always)]
+pub(crate) fn tabbed(answer: Answer) -> Answer
+    requires { length answer ≤ 63 }
+    ensures { result ≡ answer ++ tab ∷ [] }
+{
+    let mut tabbed = answer;
+    tabbed.push(b'\t');
+    tabbed
+}
+
+/// Writes an answer, a line and a line feed.
+#[inline(always)]
+pub(crate) fn write_after<W: ByteWriter>(
+    writer: &mut W,
+    answer: &Answer,
+    line: &[u8],
+) -> Result<(), DeviceFailed>
+    requires works { W.failed writer.old ≡ false }
+    requires room { length answer.now ≤ 64 }
+    ensures written { OnOk result (Appends (W.held writer.old) (W.held writer.new)
+        (answer.now ++ (line.now ++ line_feed ∷ []))) }
+    ensures ok { OnOk result (W.failed writer.new ≡ W.failed writer.old) }
+    ensures front { OnErr result (AppendsFront (W.held writer.old) (W.held writer.new)
+        (answer.now ++ (line.now ++ line_feed ∷ []))) }
+    ensures err { OnErr result (W.failed writer.new ≡ true) }
+{
+    let (bytes, len) = answer.padded();
+    writer.write_front(bytes, len)?;
+    write_fed(writer, line)
+}

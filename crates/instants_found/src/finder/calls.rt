@@ -249,6 +249,28 @@ impl<'a> Finder<'a> {
         self.by_last_four(line, at)
     }
 
+    // The first place from one on at which a date can begin, looked for without keys: the first byte has none before it, and
+    // so it is looked at alone.
+    #[inline(never)]
+    fn by_first_and_lanes(&self, lanes: &StartLanes, line: &[u8], from: usize) -> Option<usize>
+        requires some { LANES < length line.now }
+        requires within { from ≤ length line.now }
+        requires lanes { AreRight self.now.starts lanes.now }
+        ensures none { IfNone result
+            (HasNoDate (assumed_of self.now) (sources_of self.now) line.now from (length line.now)) }
+        ensures within { IfSome result (λ start. (from ≤ start) × (start < length line.now)) }
+        ensures passed { IfSome result
+            (HasNoDate (assumed_of self.now) (sources_of self.now) line.now from) }
+    {
+        if from > 0 {
+            return self.by_lanes(lanes, line, from);
+        }
+        if self.has_start(line, 0) {
+            return Some(0);
+        }
+        self.by_lanes(lanes, line, 1)
+    }
+
     // The first place from one on at which a date can begin.
     #[inline(always)]
     fn next_start(&self, line: &[u8], from: usize) -> Option<usize>
@@ -270,29 +292,42 @@ impl<'a> Finder<'a> {
                 return self.by_keys(keys, lanes, line, from);
             }
         }
-        if from > 0 {
-            return self.by_lanes(lanes, line, from);
-        }
-        if self.has_start(line, 0) {
-            return Some(0);
-        }
-        self.by_lanes(lanes, line, 1)
+        self.by_first_and_lanes(lanes, line, from)
     }
 
-    /// The first date of a line, as `find` finds it.
+    // The first date of a line, where none begins before a place.
+    #[inline(never)]
+    fn find_from(&self, line: &[u8], first: usize) -> Option<Found>
+        requires within { first < length line.now }
+        requires passed { HasNoDate (assumed_of self.now) (sources_of self.now) line.now 0 first }
+        ensures found { result ≡ found (assumed_of self.now) (sources_of self.now) line.now }
+        ensures ordered { IfSome result (λ date. date.start ≤ date.end) }
+        ensures within { IfSome result (λ date. date.end ≤ length line.now) }
+        ensures source { IfSome result (λ date. date.source < length (sources_of self.now)) }
+    {
+        let mut start = first;
+        loop {
+            if let Some(date) = at_place(self.sources.as_slice(), &self.assumed, line, start) {
+                return Some(date);
+            }
+            let Some(next) = self.next_start(line, start + 1) else {
+                return None;
+            };
+            start = next;
+        }
+    }
+
+    /// The first date of a line, as `find` finds it. Of a line without a place at which one can begin nothing is made.
+    #[inline(always)]
     pub fn find(&self, line: &[u8]) -> Option<Found>
         ensures found { result ≡ found (assumed_of self.now) (sources_of self.now) line.now }
         ensures ordered { IfSome result (λ date. date.start ≤ date.end) }
         ensures within { IfSome result (λ date. date.end ≤ length line.now) }
         ensures source { IfSome result (λ date. date.source < length (sources_of self.now)) }
     {
-        let mut from = 0;
-        while let Some(start) = self.next_start(line, from) {
-            if let Some(date) = at_place(self.sources.as_slice(), &self.assumed, line, start) {
-                return Some(date);
-            }
-            from = start + 1;
-        }
-        None
+        let Some(start) = self.next_start(line, 0) else {
+            return None;
+        };
+        self.find_from(line, start)
     }
 }

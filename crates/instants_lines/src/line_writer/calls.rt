@@ -1,10 +1,10 @@
 //! What is written for lines one after another.
-ghost use Rattle.std.specs.Prelude.{◌≡◌, ◌≤◌, [], ◌∷◌, ◌++◌, codes, length, take, drop, true, false, IfSome, IfNone, OnOk, OnErr};
+ghost use Rattle.std.specs.Prelude.{◌≡◌, ◌≤◌, [], ◌∷◌, ◌++◌, codes, length, take, drop, true, false, Some, IfSome, IfNone, OnOk, OnErr};
 ghost use Rattle.std.specs.Io.KnownBytes.{Appends};
 ghost use Rattle.base.specs.Bytes.{tab, line_feed};
 ghost use Rattle.instants_stream.specs.Told.{AppendsFront};
 ghost use Rattle.instants_lines.specs.Showing.{setting_in};
-ghost use Rattle.instants_lines.specs.Dates.{replaced};
+ghost use Rattle.instants_lines.specs.Dates.{date_in, replaced};
 ghost use Rattle.instants_lines.specs.Going.{beginning, key_of_line, key_below};
 ghost use Rattle.instants_lines.specs.Writing.{going_of};
 
@@ -12,8 +12,9 @@ use crate::date_sources::DateSources;
 use crate::explained::write_explained;
 use crate::line_writer::LineWriter;
 use crate::mode::Mode;
-use crate::parts::{write_behind, write_parts};
+use crate::parts::{tabbed, write_after, write_behind, write_parts};
 use instants_answers::{Answer, rfc3339_line};
+use instants_found::Found;
 use instants_stream::{ByteWriter, DeviceFailed, WritesLines};
 
 impl<'a, 'b> LineWriter<'a, 'b> {
@@ -23,7 +24,12 @@ impl<'a, 'b> LineWriter<'a, 'b> {
     {
         let mut key = Answer::new();
         key.push_bytes(b"! none");
-        LineWriter { mode, dates, key }
+        LineWriter {
+            mode,
+            dates,
+            key,
+            tabbed: tabbed(key),
+        }
     }
 
     // Keeps the key of a line, where the lines below it take it.
@@ -35,8 +41,54 @@ impl<'a, 'b> LineWriter<'a, 'b> {
         } }
     {
         if self.mode == Mode::Carry {
-            self.key = key;
+            *self = LineWriter {
+                mode: self.mode,
+                dates: self.dates,
+                key,
+                tabbed: tabbed(key),
+            };
         }
+    }
+
+    // Writes a line without a date behind the key that it takes and a tab.
+    #[inline(always)]
+    fn write_undated<W: ByteWriter>(&self, line: &[u8], writer: &mut W) -> Result<(), DeviceFailed>
+        requires { W.failed writer.old ≡ false }
+        ensures written { OnOk result (Appends (W.held writer.old) (W.held writer.new)
+            (((going_of self.now).key ++ tab ∷ line.now) ++ line_feed ∷ [])) }
+        ensures ok { OnOk result (W.failed writer.new ≡ W.failed writer.old) }
+        ensures front { OnErr result (AppendsFront (W.held writer.old) (W.held writer.new)
+            (((going_of self.now).key ++ tab ∷ line.now) ++ line_feed ∷ [])) }
+        ensures err { OnErr result (W.failed writer.new ≡ true) }
+    {
+        write_after(writer, &self.tabbed, line)
+    }
+
+    // Writes a line with a date behind its key and a tab. A call of its own, so that lines without a date make no room for
+    // an answer.
+    #[inline(never)]
+    fn write_dated<W: ByteWriter>(
+        &mut self,
+        date: Found,
+        line: &[u8],
+        writer: &mut W,
+    ) -> Result<(), DeviceFailed>
+        requires works { W.failed writer.old ≡ false }
+        requires found { Some date ≡ date_in (going_of self.old).setting line.now }
+        ensures written { OnOk result (Appends (W.held writer.old) (W.held writer.new)
+            ((key_of_line (going_of self.old) line.now ++ tab ∷ line.now) ++ line_feed ∷ [])) }
+        ensures next { OnOk result (going_of self.new ≡ record (going_of self.old) {
+          key = key_below (going_of self.old).mode (going_of self.old).key
+              (key_of_line (going_of self.old) line.now);
+        }) }
+        ensures ok { OnOk result (W.failed writer.new ≡ W.failed writer.old) }
+        ensures front { OnErr result (AppendsFront (W.held writer.old) (W.held writer.new)
+            ((key_of_line (going_of self.old) line.now ++ tab ∷ line.now) ++ line_feed ∷ [])) }
+        ensures err { OnErr result (W.failed writer.new ≡ true) }
+    {
+        let key = self.dates.answer_moment(date.moment);
+        self.keep(key);
+        write_behind(writer, &key, line)
     }
 
     // Writes a line behind its key and a tab.
@@ -59,11 +111,9 @@ impl<'a, 'b> LineWriter<'a, 'b> {
         ensures err { OnErr result (W.failed writer.new ≡ true) }
     {
         let Some(date) = self.dates.date_in(line) else {
-            return write_behind(writer, &self.key, line);
+            return self.write_undated(line, writer);
         };
-        let key = self.dates.answer_moment(date.moment);
-        self.keep(key);
-        write_behind(writer, &key, line)
+        self.write_dated(date, line, writer)
     }
 
     // Writes a line with the date-time in place of its date.

@@ -1,0 +1,25 @@
+use Rattle.std.proofs.Common.{◌≡◌, ◌≤◌, ◌+◌, [], ◌∷◌, ◌++◌, append_assoc, length, sym, ◌∙◌, ap, List, ℕ, arith}
+use Rattle.std.proofs.lemmas.List.{length-append}
+use Rattle.base.specs.Bytes.{tab, line_feed}
+use Rattle.instants_lines.proofs.line_writer.LineWriter.write_undated.Goals as goal
+
+-- the key and the tab are one part
+joined : (key tabbed line : List ℕ) → tabbed ≡ key ++ tab ∷ [] → (key ++ tab ∷ line) ++ line_feed ∷ [] ≡ tabbed ++ (line ++ line_feed ∷ [])
+joined key tabbed line is = append_assoc key (tab ∷ line) (line_feed ∷ []) ∙ sym (append_assoc key (tab ∷ []) (line ++ line_feed ∷ [])) ∙ ap (λ (front : List ℕ). front ++ (line ++ line_feed ∷ [])) (sym is)
+
+-- which has room
+room : (key tabbed : List ℕ) → tabbed ≡ key ++ tab ∷ [] → length key ≤ 63 → length tabbed ≤ 64
+room key tabbed is few =
+    let long : length (key ++ tab ∷ []) ≡ length key + 1 = length-append key (tab ∷ []) in
+    rw is (omega (arith, long, few))
+
+pub write_after-requires-clause-room : goal.write_after-requires-clause-room
+write_after-requires-clause-room g c = room c.args.self.now.key c.args.self.now.tabbed c.args.self.now.tabbed_is c.args.self.now.room
+
+pub returns-clause-written : goal.returns-clause-written
+returns-clause-written g c =
+    rw (joined c.args.self.now.key c.args.self.now.tabbed c.args.line.now c.args.self.now.tabbed_is) c.write_after.ensures.written
+
+pub returns-clause-front : goal.returns-clause-front
+returns-clause-front g c =
+    rw (joined c.args.self.now.key c.args.self.now.tabbed c.args.line.now c.args.self.now.tabbed_is) c.write_after.ensures.front
