@@ -225,13 +225,16 @@ pub(crate) fn clock(plan: &Places, line: &[u8]) -> Option<(u16, u8)>
     Some((u16::from(hour) * 60 + u16::from(minute), second))
 }
 
-// Whether a sign is a minus. Which of the two stands there is told by no jump.
+// Whether a sign is a minus. Which of the two stands there is told by no jump: a plus is 0 above itself and a minus 2, and
+// no other number is below 2 once its lowest bit is its highest one.
 #[inline(always)]
 fn is_minus(sign: u8) -> Option<bool>
     ensures sign { IfSome result (λ _. ((sign == 43) || (sign == 45)) ≡ true) }
     ensures minus { IfSome result (λ minus. minus ≡ (sign == 45)) }
 {
-    if sign < b'+' || sign == b',' || sign > b'-' {
+    let above = sign.wrapping_sub(b'+');
+    let turned = above / 2 + above % 2 * 128;
+    if turned > 1 {
         return None;
     }
     Some(sign == b'-')
