@@ -295,9 +295,22 @@ impl<'a> Finder<'a> {
         self.by_first_and_lanes(lanes, line, from)
     }
 
-    // The first date of a line, where none begins before a place.
+    /// The first place of a line at which a date can begin. Often none does: `find_from` says so.
+    #[inline(always)]
+    pub fn first_start(&self, line: &[u8]) -> Option<usize>
+        ensures none { IfNone result
+            (found (assumed_of self.now) (sources_of self.now) line.now ≡ None) }
+        ensures within { IfSome result (λ start. start < length line.now) }
+        ensures passed { IfSome result
+            (HasNoDate (assumed_of self.now) (sources_of self.now) line.now 0) }
+    {
+        self.next_start(line, 0)
+    }
+
+    /// The first date of a line, where none begins before a place, as `find` finds it: `first_start` gives such a place. The two
+    /// calls are for a caller that makes room for a date only where one can begin.
     #[inline(never)]
-    fn find_from(&self, line: &[u8], first: usize) -> Option<Found>
+    pub fn find_from(&self, line: &[u8], first: usize) -> Option<Found>
         requires within { first < length line.now }
         requires passed { HasNoDate (assumed_of self.now) (sources_of self.now) line.now 0 first }
         ensures found { result ≡ found (assumed_of self.now) (sources_of self.now) line.now }
@@ -325,7 +338,7 @@ impl<'a> Finder<'a> {
         ensures within { IfSome result (λ date. date.end ≤ length line.now) }
         ensures source { IfSome result (λ date. date.source < length (sources_of self.now)) }
     {
-        let Some(start) = self.next_start(line, 0) else {
+        let Some(start) = self.first_start(line) else {
             return None;
         };
         self.find_from(line, start)
