@@ -1,8 +1,9 @@
 //! The dates of lines, and what one source says of a line.
-ghost use Rattle.std.specs.Prelude.{◌≡◌, ◌≤◌, ◌↔◌, length, map, Ok, IsOk, IfOk, IfErr, IfSome};
+ghost use Rattle.std.specs.Prelude.{◌≡◌, ◌<◌, ◌≤◌, ◌↔◌, length, map, None, Ok, IsOk, IfOk, IfErr, IfSome, IfNone};
 ghost use Rattle.std.specs.Option.{ok_or};
 ghost use Rattle.calendar.specs.UtcOffset.{IsClockOffset};
 ghost use Rattle.instants_answers.specs.Text.{FitsLine};
+ghost use Rattle.instants_found.specs.Starts.{HasNoDate};
 ghost use Rattle.instants_sources.specs.Grammar.{grammar_of};
 ghost use Rattle.instants_sources.specs.Named.{named};
 ghost use Rattle.instants.specs.Place.{place_text, shown_or_refused};
@@ -52,6 +53,27 @@ impl<'a> DateSources<'a> {
         ensures within { IfSome result (λ date. date.end ≤ length line.now) }
     {
         self.finder.find(line)
+    }
+
+    /// The first place of a line at which a date can begin.
+    #[inline(always)]
+    pub(crate) fn first_start(&self, line: &[u8]) -> Option<usize>
+        ensures none { IfNone result (date_in (setting_in self.now) line.now ≡ None) }
+        ensures within { IfSome result (λ start. start < length line.now) }
+        ensures passed { IfSome result
+            (HasNoDate (setting_in self.now).assumed (setting_in self.now).sources line.now 0) }
+    {
+        self.finder.first_start(line)
+    }
+
+    /// The first date of a line, where none begins before a place.
+    #[inline(always)]
+    pub(crate) fn date_from(&self, line: &[u8], first: usize) -> Option<Found>
+        requires within { first < length line.now }
+        requires passed { HasNoDate (setting_in self.now).assumed (setting_in self.now).sources line.now 0 first }
+        ensures { result ≡ date_in (setting_in self.now) line.now }
+    {
+        self.finder.find_from(line, first)
     }
 
     /// A moment as it is shown at the target, if its year there is 0 to 9999.

@@ -1,7 +1,8 @@
 //! What is written for lines one after another.
-ghost use Rattle.std.specs.Prelude.{◌≡◌, ◌≤◌, [], ◌∷◌, ◌++◌, codes, length, take, drop, true, false, Some, IfSome, IfNone, OnOk, OnErr};
+ghost use Rattle.std.specs.Prelude.{◌≡◌, ◌<◌, ◌≤◌, [], ◌∷◌, ◌++◌, codes, length, take, drop, true, false, IfSome, IfNone, OnOk, OnErr};
 ghost use Rattle.std.specs.Io.KnownBytes.{Appends};
 ghost use Rattle.base.specs.Bytes.{tab, line_feed};
+ghost use Rattle.instants_found.specs.Starts.{HasNoDate};
 ghost use Rattle.instants_stream.specs.Told.{AppendsFront};
 ghost use Rattle.instants_lines.specs.Showing.{setting_in};
 ghost use Rattle.instants_lines.specs.Dates.{date_in, replaced};
@@ -14,7 +15,6 @@ use crate::line_writer::LineWriter;
 use crate::mode::Mode;
 use crate::parts::{tabbed, write_after, write_behind, write_parts};
 use instants_answers::{Answer, rfc3339_line};
-use instants_found::Found;
 use instants_stream::{ByteWriter, DeviceFailed, WritesLines};
 
 impl<'a, 'b> LineWriter<'a, 'b> {
@@ -64,17 +64,20 @@ impl<'a, 'b> LineWriter<'a, 'b> {
         write_after(writer, &self.tabbed, line)
     }
 
-    // Writes a line with a date behind its key and a tab. A call of its own, so that lines without a date make no room for
-    // an answer.
+    // Writes a line behind its key and a tab, where no date begins before a place. A call of its own, so that lines in which
+    // none can begin make no room for a date and an answer.
     #[inline(never)]
-    fn write_dated<W: ByteWriter>(
+    #[tactic(auto, using(crate::proofs::Keyed::dated, crate::proofs::Keyed::undated, crate::proofs::Keyed::below_itself))]
+    fn write_from<W: ByteWriter>(
         &mut self,
-        date: Found,
+        first: usize,
         line: &[u8],
         writer: &mut W,
     ) -> Result<(), DeviceFailed>
         requires works { W.failed writer.old ≡ false }
-        requires found { Some date ≡ date_in (going_of self.old).setting line.now }
+        requires within { first < length line.now }
+        requires passed { HasNoDate (going_of self.old).setting.assumed (going_of self.old).setting.sources
+            line.now 0 first }
         ensures written { OnOk result (Appends (W.held writer.old) (W.held writer.new)
             ((key_of_line (going_of self.old) line.now ++ tab ∷ line.now) ++ line_feed ∷ [])) }
         ensures next { OnOk result (going_of self.new ≡ record (going_of self.old) {
@@ -86,6 +89,9 @@ impl<'a, 'b> LineWriter<'a, 'b> {
             ((key_of_line (going_of self.old) line.now ++ tab ∷ line.now) ++ line_feed ∷ [])) }
         ensures err { OnErr result (W.failed writer.new ≡ true) }
     {
+        let Some(date) = self.dates.date_from(line, first) else {
+            return self.write_undated(line, writer);
+        };
         let key = self.dates.answer_moment(date.moment);
         self.keep(key);
         write_behind(writer, &key, line)
@@ -110,10 +116,10 @@ impl<'a, 'b> LineWriter<'a, 'b> {
             ((key_of_line (going_of self.old) line.now ++ tab ∷ line.now) ++ line_feed ∷ [])) }
         ensures err { OnErr result (W.failed writer.new ≡ true) }
     {
-        let Some(date) = self.dates.date_in(line) else {
+        let Some(first) = self.dates.first_start(line) else {
             return self.write_undated(line, writer);
         };
-        self.write_dated(date, line, writer)
+        self.write_from(first, line, writer)
     }
 
     // Writes a line with the date-time in place of its date.
