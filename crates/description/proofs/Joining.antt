@@ -8,7 +8,7 @@ use Rattle.description_items.specs.Tree.{Tree, Literal, Part, Compound, Optional
 use Rattle.description_lexer.specs.declared.version.DescriptionVersion.{DescriptionVersion}
 use Rattle.description_lexer.specs.declared.version.DescriptionVersion.TheVariants.{One, Two, Three}
 use Rattle.description_lexer.specs.Text.{is_bracket, is_plain}
-use Rattle.description_grammar.specs.Heads.{Stops, SpellsLiteral, SpellsEscape, SpellsOpening, SpellsNesting}
+use Rattle.description_grammar.specs.Heads.{Stops, SpellsLiteral, SpellsEscape, SpellsNesting}
 use Rattle.description_grammar.specs.Spelling.{SpellsItem, Spells}
 use Rattle.description.specs.Laws.{EndsIn, IsFirm, AreApart, Joins}
 use Rattle.description_grammar.proofs.Runs.{which, each_append}
@@ -66,9 +66,6 @@ plain_back b h e = absurd (grind (arith, nat_tests))
 
 heads : (a b : ℕ) (xs bs : List ℕ) → a ∷ xs ≡ b ∷ bs → a ≡ b
 heads a b xs bs e = cc
-
-no_opening : (v : DescriptionVersion) (name opening rest text : List ℕ) (b : ℕ) (bs : List ℕ) → is_plain v b ≡ true → SpellsOpening v name opening → b ∷ bs ≡ opening ++ rest → ⊥
-no_opening v name opening rest text b bs plain h e = plain_bracket v b plain (heads b left_bracket bs _ (e ∙ ap (λ (t : List ℕ). t ++ rest) h.parts))
 
 no_nesting : (v : DescriptionVersion) (name own more : List ℕ) (Inside : List ℕ → Type 0) (b : ℕ) (bs : List ℕ) → is_plain v b ≡ true → SpellsNesting v name own Inside → b ∷ bs ≡ own ++ more → ⊥
 no_nesting v name own more Inside b bs plain h e =

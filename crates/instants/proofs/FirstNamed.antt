@@ -74,17 +74,6 @@ behind setting line place grammar others from cut none =
     let there : result_ok (first_named setting.assumed (drop place setting.sources) line) ≡ result_ok (first_named setting.assumed others line) = rw cut (first_named-later setting.assumed grammar others line none) in
     sym from ∙ there
 
--- and else one of those behind it that does
-pub answered_behind : (setting : Setting) (line bytes : List ℕ) (place : ℕ) (grammar : Grammar) (others : List Grammar) → NamesFrom setting line place → drop place setting.sources ≡ grammar ∷ others
-    → result_ok (named setting.assumed grammar line) ≡ None → IsAnswerOf setting (result_ok (first_named setting.assumed others line)) bytes → bytes ≡ answer_to setting line
-answered_behind setting line bytes place grammar others from cut none a =
-    answered setting line bytes (answer_alike a (behind setting line place grammar others from cut none ∙ a.is))
-
--- and else none does
-pub none_named : (setting : Setting) (line : List ℕ) (place : ℕ) (grammar : Grammar) (others : List Grammar) → NamesFrom setting line place → drop place setting.sources ≡ grammar ∷ others
-    → result_ok (named setting.assumed grammar line) ≡ None → result_ok (first_named setting.assumed others line) ≡ None → result_ok (first_named setting.assumed setting.sources line) ≡ None
-none_named setting line place grammar others from cut none rest = behind setting line place grammar others from cut none ∙ rest
-
 -- a place whose source names none names what the next one does
 pub names_from_next : (setting : Setting) (line : List ℕ) (place : ℕ) (grammar : Grammar) → NamesFrom setting line place → drop place setting.sources ≡ grammar ∷ drop (place + 1) setting.sources
     → result_ok (named setting.assumed grammar line) ≡ None → NamesFrom setting line (place + 1)

@@ -85,8 +85,5 @@ decimal_field (suc width) m n h k =
 pub same_when : (a b : List ℕ) (o : Ordering) → Compares a b o → (o ≡ Equal → a ≡ b) × (a ≡ b → o ≡ Equal)
 same_when a b o c = (λ e. exact_bytes a b (c.gives ∙ e), λ e. sym c.gives ∙ rw e (cmp_same b))
 
-pub nat_cmp-equal : (m n : ℕ) → (nat_cmp m n ≡ Equal → m ≡ n) × (m ≡ n → nat_cmp m n ≡ Equal)
-nat_cmp-equal m n = (λ e. grind (arith, nat_tests), λ e. grind (arith, nat_tests))
-
 pub int_cmp-equal : (x y : ℤ) → (int_cmp x y ≡ Equal → x ≡ y) × (x ≡ y → int_cmp x y ≡ Equal)
 int_cmp-equal x y = (λ e. grind (arith, ints), λ e. grind (arith, ints))

@@ -1,5 +1,5 @@
 //! The sentences of faults, in lent memory.
-ghost use Rattle.std.specs.Prelude.{◌≡◌, ◌⊎◌, ◌++◌, ℕ, codes, length, take, drop};
+ghost use Rattle.std.specs.Prelude.{◌≡◌, ◌⊎◌, ◌++◌, length, take, drop};
 ghost use Rattle.instants.specs.ProgramText.{sentence, status_of};
 ghost use Rattle.instants.specs.declared.program_fault.ProgramFault.{ProgramFault};
 

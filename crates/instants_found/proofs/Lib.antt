@@ -8,6 +8,5 @@ pub mod LaneLemmas
 pub mod NoStart
 pub mod NoDates
 pub mod Next
-pub mod FrontBytes
 pub mod SourceKeys
 pub mod KeyLemmas

@@ -94,9 +94,6 @@ unmarked_none assumed sources starts lanes line start are right some few_before 
 
 -- ---- places one after the other
 
-pub none_at_all : (assumed : Option ℤ) (sources : List Grammar) (line : List ℕ) (from to : ℕ) → to ≤ from → HasNoDate assumed sources line from to
-none_at_all assumed sources line from to le = λ place low high. absurd (omega (arith, le, low, high))
-
 pub none_more : (assumed : Option ℤ) (sources : List Grammar) (line : List ℕ) (from mid to : ℕ) → HasNoDate assumed sources line from mid → HasNoDate assumed sources line mid to → HasNoDate assumed sources line from to
 none_more assumed sources line from mid to first second = λ place low high. elim (cases_lt place mid) [ inl lt ↦ first place low lt | inr le ↦ second place le high ]
 

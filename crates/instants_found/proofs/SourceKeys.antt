@@ -10,7 +10,7 @@ use Rattle.parsing_first_bytes.specs.FirstBytes.{AreOf}
 use Rattle.parsing_first_bytes.specs.declared.first_bytes.FirstBytes.{FirstBytes}
 use Rattle.parsing_record.specs.Reads.{reading, reading_of_all}
 use Rattle.instants_sources.specs.Grammar.{Items, V3, Rfc3339}
-use Rattle.instants_found.specs.Keys.{IsRuledOutAt, IsKeyOf, RuleOutShort, NeedsKey, NeedsFour}
+use Rattle.instants_found.specs.Keys.{IsKeyOf, RuleOutShort, NeedsKey, NeedsFour}
 use Rattle.instants_found.specs.declared.key.Key.{Key}
 use Rattle.instants_found.proofs.NoStart.{items_no_front, tree_no_front, year_no_front}
 
@@ -21,9 +21,6 @@ if_some P Q None f h = h
 pub for_some : {T : Type 0} (P : T → Type 0) (o : Option T) → IfSome o P → ForSome o P
 for_some P (Some x) h y e = let same : x ≡ y = cc in subst P same h
 for_some P None h y e = absurd cc
-
-pub short_ruled_out : (f : FirstBytes) → IsRuledOutAt f 3 0 → RuleOutShort f
-short_ruled_out f none line short = none line (get_or_past line 3 0 (omega (arith, short)))
 
 -- ---- descriptions
 

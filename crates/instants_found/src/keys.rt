@@ -1,5 +1,5 @@
 //! The keys of sources, looked for sixteen places at a time.
-ghost use Rattle.std.specs.Prelude.{◌≡◌, ◌<◌, ◌≤◌, ◌+◌, ◌==◌, ℕ, false, true, length, map, get_or, IfSome};
+ghost use Rattle.std.specs.Prelude.{◌≡◌, ◌<◌, ◌≤◌, ◌+◌, ℕ, false, length, map, IfSome};
 
 use crate::key::Key;
 use crate::lanes::{LANES, bits_of_byte, load};

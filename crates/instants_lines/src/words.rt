@@ -1,5 +1,5 @@
 //! What the words of the program say.
-ghost use Rattle.std.specs.Prelude.{◌≡◌, ◌≢◌, ◌<◌, Ok, Err, map, length, IsOk, IfOk, IfErr, IfSome};
+ghost use Rattle.std.specs.Prelude.{◌≡◌, ◌<◌, Ok, Err, map, length, IsOk, IfOk, IfErr, IfSome};
 ghost use Rattle.std.specs.Int.{IsInRange};
 ghost use Rattle.calendar.specs.UtcOffset.{IsClockOffset};
 ghost use Rattle.instants_lines.specs.Program.{IsMemory, IsSaidOfWords};

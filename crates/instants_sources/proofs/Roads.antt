@@ -32,12 +32,6 @@ pub by_either_road : (direct : List ℕ → Result Shown Fault) (m : Meaning) (l
 by_either_road direct m line None agree e = tt
 by_either_road direct m line (Some f) agree e = by_either direct m line (moment_of f) agree e
 
--- what is named by no road from nothing is named by none with an offset assumed
-pub by_no_road : (direct : List ℕ → Result Shown Fault) (m : Meaning) (line : List ℕ) → AgreeOn direct m line → result_ok (direct line) ≡ None
-    → (assumed : Option ℤ) → result_ok (by_roads direct m (defaults_of assumed) line) ≡ None
-by_no_road direct m line agree none None = none
-by_no_road direct m line agree none (Some offset) = sym (agree _ _) ∙ none
-
 pub assumed_alone : (assumed : Option ℤ) → HoldsAtMostAnOffset (defaults_of assumed)
 assumed_alone None = tt
 assumed_alone (Some offset) = refl

@@ -98,7 +98,7 @@ impl<'a> DescribedItems<'a> {
         ensures { result ≡ false → IsRefusedAt
             (reading_of_all reads_component (listed (trees self.now.items.items))) 0 byte }
     {
-        self.first_bytes.can_begin(byte)
+        self.first_bytes.can_stand(0, byte)
     }
 }
 
@@ -178,6 +178,6 @@ impl<'a> DescribedTree<'a> {
         ensures { result ≡ false
             → IsRefusedAt (reading reads_component_v3 (v3_tree self.now.tree)) 0 byte }
     {
-        self.first_bytes.can_begin(byte)
+        self.first_bytes.can_stand(0, byte)
     }
 }

@@ -87,7 +87,7 @@ v3 [optional [x]]y => z => is not";
 // Whether they rule a line out. They do where no line can begin as it does.
 fn rule_out(bytes: &FirstBytes, line: &[u8]) -> bool {
     let first = line.first().copied().unwrap_or(0);
-    bytes.rule_out(line) || !bytes.can_begin(first)
+    bytes.rule_out(line) || !bytes.can_stand(0, first)
 }
 
 fn by_letters(alloc: Global, text: &str, line: &[u8]) -> Option<bool> {

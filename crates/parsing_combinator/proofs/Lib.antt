@@ -1,6 +1,5 @@
 pub mod lemmas
 pub mod AtPlaces
-pub mod ClockChunks
 pub mod Decimal
 pub mod DigitChunks
 pub mod DigitLanes
@@ -12,7 +11,6 @@ pub mod Lanes
 pub mod Numbers
 pub mod ManyBetween
 pub mod PaddingLemmas
-pub mod YearMonthChunks
 pub mod Longest
 pub mod SignLemmas
 pub mod SpaceLemmas

@@ -1,7 +1,7 @@
 -- Eight bytes as one number, the first byte the lowest.
 use Rattle.std.specs.Prelude.{◌≡◌, ℕ, ◌+◌, ◌-◌, ◌*◌, ◌/◌, ◌<◌, ◌≤◌, List, [], ◌∷◌, ◌++◌, length, take, drop, replicate, Some, None, bit_and, bit_xor}
 use Rattle.std.specs.Int.{w64, trailing_zeros}
-use Rattle.base.specs.Bytes.{digit_zero, hyphen, colon}
+use Rattle.base.specs.Bytes.{digit_zero, colon}
 use Rattle.parsing_combinator.specs.Pieces.{digits, digit_count, byte}
 
 -- the number of these bytes
@@ -30,14 +30,6 @@ pub record IsDigitChunk (bytes : List ℕ) (number count : ℕ) : Type 0 where
   pub number_is : number ≡ chunk (padded count bytes)
   pub digits_are : 8 ≤ digit_count (padded count bytes)
   pub ends : count < 8 → digits 1 (drop count bytes) ≡ None
-
--- `1985-04-`
-pub record IsYearMonth (bytes : List ℕ) (year month : ℕ) (rest : List ℕ) : Type 0 where
-  pub year_digits : digits 4 bytes ≡ Some (year, drop 4 bytes)
-  pub first_hyphen : byte hyphen (drop 4 bytes) ≡ Some (tt, drop 5 bytes)
-  pub month_digits : digits 2 (drop 5 bytes) ≡ Some (month, drop 7 bytes)
-  pub second_hyphen : byte hyphen (drop 7 bytes) ≡ Some (tt, drop 8 bytes)
-  pub rest_is : drop 8 bytes ≡ rest
 
 -- `23:20:50`
 pub record IsClock (bytes : List ℕ) (hour minute second : ℕ) (rest : List ℕ) : Type 0 where

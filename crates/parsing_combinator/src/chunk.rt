@@ -2,7 +2,7 @@
 //!
 //! The bytes stand in one number, the first one lowest: one test takes all of them, as one product then takes the
 //! tens of all digits. A text of another shape may be `None` here and still be read byte by byte.
-ghost use Rattle.std.specs.Prelude.{◌≡◌, ◌≤◌, ◌<◌, ◌+◌, ◌-◌, ◌*◌, ◌%◌, ◌^◌, ◌↔◌, IfSome, IfNone, Some, IsTrue, [], take, drop, length, replicate, bit_and};
+ghost use Rattle.std.specs.Prelude.{◌≡◌, ◌≤◌, ◌<◌, ◌+◌, ◌-◌, ◌*◌, ◌%◌, ◌^◌, IfSome, IfNone, Some, [], take, drop, length, replicate, bit_and};
 ghost use Rattle.base.specs.Bytes.{digit_zero};
 ghost use Rattle.parsing_combinator.specs.Pieces as Pieces;
 ghost use Rattle.parsing_combinator.specs.Chunks as Chunks;
@@ -49,35 +49,6 @@ fn paired(digits: Chunk) -> Chunk
     ensures { result ≡ Chunks.paired digits }
 {
     digits * 10 + digits / 256
-}
-
-/// Four digits, a dash, two digits and a dash, as `1985-04-`, where all of them are there: the two numbers.
-#[inline(always)]
-pub fn year_month(bytes: &[u8]) -> Option<((u16, u8), &[u8])>
-    ensures { IfSome result (λ x. Chunks.IsYearMonth bytes.now x.0.0 x.0.1 x.1.now) }
-{
-    let (chunk, rest) = first_chunk(bytes)?;
-    let pattern = 0x2d30_302d_3030_3030;
-    let digits = fits(chunk, 0xfff0_f0ff_f0f0_f0f0, pattern, 0x0006_0600_0606_0606)?;
-    let pairs = paired(digits);
-    let year = pairs % 256 * 100 + pairs / 0x1_0000 % 256;
-    let month = pairs / 0x100_0000_0000 % 256;
-    Some(((year as u16, month as u8), rest))
-}
-
-/// Three times two digits with colons between them, as `23:20:50`, where all of them are there: the three numbers.
-#[inline(always)]
-pub fn clock(bytes: &[u8]) -> Option<((u8, u8, u8), &[u8])>
-    ensures { IfSome result (λ x. Chunks.IsClock bytes.now x.0.0 x.0.1 x.0.2 x.1.now) }
-{
-    let (chunk, rest) = first_chunk(bytes)?;
-    let pattern = 0x3030_3a30_303a_3030;
-    let digits = fits(chunk, 0xf0f0_fff0_f0ff_f0f0, pattern, 0x0606_0006_0600_0606)?;
-    let pairs = paired(digits);
-    let hour = pairs % 256;
-    let minute = pairs / 0x100_0000 % 256;
-    let second = pairs / 0x1_0000_0000_0000 % 256;
-    Some(((hour as u8, minute as u8, second as u8), rest))
 }
 
 // Eight digits, where all of them are there.

@@ -16,7 +16,7 @@ mod wide;
 mod zone;
 
 pub use between::{are_between, are_sixteen_between};
-pub use chunk::{clock, digit_chunk, nine_digits, year_month};
+pub use chunk::{digit_chunk, nine_digits};
 pub use cut::{
     any_byte, byte, digit_run, four_digits, one_digit, sign, six_digits, three_digits, two_digits,
 };

@@ -8,4 +8,4 @@ mod minutes;
 
 pub use fields::{Fields, has_day};
 pub use fraction::Fraction;
-pub use minutes::{minute_of_day, offset_minutes, signed_minutes};
+pub use minutes::{is_minus, minute_of_day, offset_minutes, signed_minutes};

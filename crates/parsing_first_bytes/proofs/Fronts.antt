@@ -9,7 +9,7 @@ use Rattle.description_items.specs.declared.component.Component.{Component}
 use Rattle.description_items.specs.Tree.{Literal, Part}
 use Rattle.parsing_combinator.specs.Fault.{Fault, literal}
 use Rattle.parsing_combinator.specs.Pieces.{Piece}
-use Rattle.parsing_combinator.specs.Readings.{Reading, piece_or, then_read, give}
+use Rattle.parsing_combinator.specs.Readings.{piece_or, then_read, give}
 use Rattle.parsing_components.specs.Ranged.{kept}
 use Rattle.parsing_components.specs.Read.{Read}
 use Rattle.parsing_components.specs.Put.{put}
@@ -33,18 +33,6 @@ kept_at f line says fault (Some x) h = said_front f line x.1 fault (says x.0) h
 
 pub kept_front : {A B : Type 0} (f : Front) (piece : Piece A) (says : A → Option B) (fault : Fault) → HasFront f piece → ReadsFront f (λ line. piece_or fault (kept says (piece line)))
 kept_front f piece says fault h line = kept_at f line says fault (piece line) (h line)
-
--- ---- an item of which nothing is known
-
-nothing_known : (f : Front) (line rest : List ℕ) → f.least ≡ 0 → f.is_whole ≡ false → Leaves f line rest
-nothing_known f line rest least whole = ((λ place lt. absurd (omega (arith, lt, least))), λ e. let never : true ≡ false = sym e ∙ whole in absurd cc)
-
-unknown_at : {A : Type 0} (f : Front) (line : List ℕ) (x : Result (A × List ℕ) Fault) → f.least ≡ 0 → f.is_whole ≡ false → IfOk x (λ y. Leaves f line y.1)
-unknown_at f line (Ok y) least whole = nothing_known f line y.1 least whole
-unknown_at f line (Err e) least whole = tt
-
-pub unknown_reads : {A : Type 0} (f : Front) (reading : Reading A) → f.least ≡ 0 → f.is_whole ≡ false → ReadsFront f reading
-unknown_reads f reading least whole line = unknown_at f line (reading line) least whole
 
 -- ---- items
 

@@ -1,3 +1,4 @@
+pub mod Ruled
 pub mod Fronts
 pub mod Shapes
 pub mod Walk

@@ -82,13 +82,20 @@ impl FirstBytes {
             && self.fourth[byte_at(line, 3)])
     }
 
-    /// Whether a line that is read can begin with a byte: `true` says nothing of the line.
-    #[tactic(auto, unfolding(crate::specs::FirstBytes::rule_out))]
-    pub fn can_begin(&self, byte: u8) -> bool
+    /// Whether a byte can stand at a place of a line that is read: `true` says nothing of the line, and so does a place behind
+    /// the first four. A line that is shorter counts as one that goes on with NUL.
+    pub fn can_stand(&self, place: usize, byte: u8) -> bool
         ensures { result ≡ false
-            → (line : List ℕ) → get_or line 0 0 ≡ byte → rule_out self.now line ≡ true }
+            → (line : List ℕ) → get_or line place 0 ≡ byte → rule_out self.now line ≡ true }
     {
-        self.first[usize::from(byte)]
+        let code = usize::from(byte);
+        match place {
+            0 => self.first[code],
+            1 => self.second[code],
+            2 => self.third[code],
+            3 => self.fourth[code],
+            _ => true,
+        }
     }
 }
 

@@ -40,17 +40,18 @@ no_zulu : (kind : Kind) (text : List ℕ) (place : ℕ) → byte upper_z (drop p
 unfolding offset
 no_zulu kind text place none = rw none refl
 
-not_digit : (c : ℕ) → c < 48 → is_ascii_digit c ≡ false
-not_digit c low = grind (arith, nat_tests)
-
 no_digit_z : (c : ℕ) → c ≡ 90 → is_ascii_digit c ≡ false
 no_digit_z c is = grind (arith, nat_tests)
 
-is_sign : (c : ℕ) → 43 ≤ c → c ≤ 45 → (c ≡ 44 → ⊥) → ((c == plus) || (c == hyphen)) ≡ true
-is_sign c low high other = grind (arith, nat_tests)
+-- a sign is neither a digit nor a decimal mark
+few_sign : (c : ℕ) → ((c == plus) || (c == hyphen)) ≡ true → c ≤ 45
+few_sign c sign = grind (arith, nat_tests)
 
-not_mark : (c : ℕ) → c ≤ 45 → (c ≡ 44 → ⊥) → ((c == dot) || (c == comma)) ≡ false
-not_mark c high other = grind (arith, nat_tests)
+not_digit : (c : ℕ) → ((c == plus) || (c == hyphen)) ≡ true → is_ascii_digit c ≡ false
+not_digit c sign = grind (arith, nat_tests)
+
+not_mark : (c : ℕ) → ((c == plus) || (c == hyphen)) ≡ true → ((c == dot) || (c == comma)) ≡ false
+not_mark c sign = grind (arith, nat_tests)
 
 no_mark_z : (c : ℕ) → c ≡ 90 → ((c == dot) || (c == comma)) ≡ false
 no_mark_z c is = grind (arith, nat_tests)
@@ -67,29 +68,29 @@ minute_there bytes minute e le =
     rw e (rw yes refl)
 
 -- a signed offset that is all from a place on, by what its parts are
-signed_from : (text : List ℕ) (kind : Kind) (place hours minutes : ℕ) (b2 b3 : List ℕ) (o : ℤ) → place < length text → plus ≤ get_or text place 0 → get_or text place 0 ≤ hyphen → (get_or text place 0 ≡ 44 → ⊥) → digits 2 (drop (place + 1) text) ≡ Some (hours, b2) → maybe_colon kind b2 ≡ Some (tt, b3) → digits 2 b3 ≡ Some (minutes, []) → signed_offset_of (get_or text place 0 == hyphen) hours minutes ≡ Ok (pos 60 *ℤ o) → unsigned_abs o ≤ 1559 → IsOffsetFrom text kind place o
-signed_from text kind place hours minutes b2 b3 o lt low high other h past m is bound =
+signed_from : (text : List ℕ) (kind : Kind) (place hours minutes : ℕ) (b2 b3 : List ℕ) (o : ℤ) → place < length text → ((get_or text place 0 == plus) || (get_or text place 0 == hyphen)) ≡ true → digits 2 (drop (place + 1) text) ≡ Some (hours, b2) → maybe_colon kind b2 ≡ Some (tt, b3) → digits 2 b3 ≡ Some (minutes, []) → signed_offset_of (get_or text place 0 == hyphen) hours minutes ≡ Ok (pos 60 *ℤ o) → unsigned_abs o ≤ 1559 → IsOffsetFrom text kind place o
+signed_from text kind place hours minutes b2 b3 o lt sign h past m is bound =
     let mark : ℕ = get_or text place 0 in
     let few = offset_ranges (mark == hyphen) hours minutes (pos 60 *ℤ o) is in
-    let all = all_signed (Some o) kind (drop place text) (drop (place + 1) text) b2 b3 mark hours minutes (sign_there text place lt (is_sign mark low high other)) h past (minute_there b3 minutes m few.minutes) is in
+    let all = all_signed (Some o) kind (drop place text) (drop (place + 1) text) b2 b3 mark hours minutes (sign_there text place lt sign) h past (minute_there b3 minutes m few.minutes) is in
     record {
-      apart = record { within = lt; no_digit = no_digit_at text place lt (not_digit mark (omega (arith, high))); no_mark = no_mark_at text place lt (not_mark mark high other) };
-      in_offset = rw (no_zulu kind text place (other_byte text place upper_z lt (λ e. omega (arith, e, high)))) all;
+      apart = record { within = lt; no_digit = no_digit_at text place lt (not_digit mark sign); no_mark = no_mark_at text place lt (not_mark mark sign) };
+      in_offset = rw (no_zulu kind text place (other_byte text place upper_z lt (λ e. omega (arith, e, few_sign mark sign)))) all;
       is_offset = bound;
     }
 
-pub extended_from : (text : List ℕ) (place hours minutes : ℕ) (o : ℤ) → HasExtendedOffset text place → (get_or text place 0 ≡ 44 → ⊥) → digits 2 (drop (place + 1) text) ≡ Some (hours, drop (place + 1 + 2) text) → digits 2 (drop (place + 4) text) ≡ Some (minutes, drop (place + 4 + 2) text) → signed_offset_of (get_or text place 0 == hyphen) hours minutes ≡ Ok (pos 60 *ℤ o) → unsigned_abs o ≤ 1559 → IsOffsetFrom text Extended place o
-extended_from text place hours minutes o s other h m is bound =
+pub extended_from : (text : List ℕ) (place hours minutes : ℕ) (o : ℤ) → HasExtendedOffset text place → ((get_or text place 0 == plus) || (get_or text place 0 == hyphen)) ≡ true → digits 2 (drop (place + 1) text) ≡ Some (hours, drop (place + 1 + 2) text) → digits 2 (drop (place + 4) text) ≡ Some (minutes, drop (place + 4 + 2) text) → signed_offset_of (get_or text place 0 == hyphen) hours minutes ≡ Ok (pos 60 *ℤ o) → unsigned_abs o ≤ 1559 → IsOffsetFrom text Extended place o
+extended_from text place hours minutes o s sign h m is bound =
     let third : place + 1 + 2 ≡ place + 3 = omega arith in
     let fourth : place + 3 + 1 ≡ place + 4 = omega arith in
     let none : drop (place + 4 + 2) text ≡ [] = drop_all (place + 4 + 2) text (omega (arith, s.ends)) in
     let past = colon_there (drop (place + 3) text) (drop (place + 4) text) (rw fourth at (byte_there text (place + 3) colon (omega (arith, s.ends)) s.mark)) in
-    signed_from text Extended place hours minutes (drop (place + 3) text) (drop (place + 4) text) o (omega (arith, s.ends)) s.lowest_sign s.highest_sign other (rw third at h) past (rw none at m) is bound
+    signed_from text Extended place hours minutes (drop (place + 3) text) (drop (place + 4) text) o (omega (arith, s.ends)) sign (rw third at h) past (rw none at m) is bound
 
-pub basic_from : (text : List ℕ) (place hours minutes : ℕ) (o : ℤ) → HasBasicOffset text place → (get_or text place 0 ≡ 44 → ⊥) → digits 2 (drop (place + 1) text) ≡ Some (hours, drop (place + 1 + 2) text) → digits 2 (drop (place + 1 + 2) text) ≡ Some (minutes, drop (place + 1 + 4) text) → signed_offset_of (get_or text place 0 == hyphen) hours minutes ≡ Ok (pos 60 *ℤ o) → unsigned_abs o ≤ 1559 → IsOffsetFrom text Basic place o
-basic_from text place hours minutes o s other h m is bound =
+pub basic_from : (text : List ℕ) (place hours minutes : ℕ) (o : ℤ) → HasBasicOffset text place → ((get_or text place 0 == plus) || (get_or text place 0 == hyphen)) ≡ true → digits 2 (drop (place + 1) text) ≡ Some (hours, drop (place + 1 + 2) text) → digits 2 (drop (place + 1 + 2) text) ≡ Some (minutes, drop (place + 1 + 4) text) → signed_offset_of (get_or text place 0 == hyphen) hours minutes ≡ Ok (pos 60 *ℤ o) → unsigned_abs o ≤ 1559 → IsOffsetFrom text Basic place o
+basic_from text place hours minutes o s sign h m is bound =
     let none : drop (place + 1 + 4) text ≡ [] = drop_all (place + 1 + 4) text (omega (arith, s.ends)) in
-    signed_from text Basic place hours minutes (drop (place + 1 + 2) text) (drop (place + 1 + 2) text) o (omega (arith, s.ends)) s.lowest_sign s.highest_sign other h refl (rw none at m) is bound
+    signed_from text Basic place hours minutes (drop (place + 1 + 2) text) (drop (place + 1 + 2) text) o (omega (arith, s.ends)) sign h refl (rw none at m) is bound
 
 pub zulu_from : (text : List ℕ) (kind : Kind) (place : ℕ) → place + 1 ≡ length text → get_or text place 0 ≡ upper_z → IsOffsetFrom text kind place (pos 0)
 zulu_from text kind place ends is =

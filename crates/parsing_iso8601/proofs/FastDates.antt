@@ -1,5 +1,5 @@
 -- A calendar date of the extended kind by its pieces.
-use Rattle.std.proofs.Common.{◌≡◌, ℕ, zero, suc, ◌≤◌, true, leb, List, drop, Option, Some, Ok, ℤ, refl, sym, ap, ◌∙◌, arith, lit<}
+use Rattle.std.proofs.Common.{◌≡◌, ℕ, zero, suc, ◌≤◌, true, leb, List, Option, Some, Ok, ℤ, refl, sym, ap, ◌∙◌, arith, lit<}
 use Rattle.std.specs.Prelude.{pos}
 use Rattle.std.specs.Int.{is_in_range}
 use Rattle.std.proofs.lemmas.Bool.Decides.{nat_tests}
@@ -15,9 +15,8 @@ use Rattle.calendar_count.specs.declared.component_range.ComponentName.TheVarian
 use Rattle.parsing_values.specs.NamedDay.{calendar_date_of}
 use Rattle.parsing_fields.proofs.lemmas.Moments.{day_found, day_of_count}
 use Rattle.parsing_iso8601.specs.declared.written.WrittenDate.{WrittenDate}
-use Rattle.parsing_iso8601.specs.Fast.{NamesDay, ReadsDay}
+use Rattle.parsing_iso8601.specs.Fast.{NamesDay}
 use Rattle.parsing_iso8601.specs.ReadView.{day_named}
-use Rattle.parsing_combinator.specs.Chunks.{IsYearMonth}
 use Rattle.parsing_combinator.specs.Pieces.{digits, byte}
 use Rattle.parsing_iso8601.specs.declared.kind.Kind.TheVariants.{Extended}
 use Rattle.parsing_iso8601.specs.declared.written.WrittenDate.TheVariants.{OfMonth}
@@ -56,13 +55,6 @@ date_of_pieces b0 b1 b2 b3 b4 b5 y n d m p1 p2 p3 is p4 p5 some most =
     let day_is = within 2 1 99 b4 d b5 p5 some (omega arith) in
     rw year_is (rw p2 (rw month_is (rw p4 (rw day_is (rw yes refl)))))
 
--- the same, its first eight bytes read at once
-pub date_of_chunk : (bytes : List ℕ) (y n : ℕ) (behind : List ℕ) (m : Month) (d : ℕ) (rest : List ℕ) → IsYearMonth bytes y n behind → month_number m ≡ n → digits 2 behind ≡ Some (d, rest) → 1 ≤ d → d ≤ 31
-    → dated bytes ≡ Ok ((Ok (OfMonth (pos y) m d), Extended), rest)
-date_of_chunk bytes y n behind m d rest c is two some most =
-    let day : digits 2 (drop 8 bytes) ≡ Some (d, rest) = rw c.rest_is two in
-    date_of_pieces bytes (drop 4 bytes) (drop 5 bytes) (drop 7 bytes) (drop 8 bytes) rest y n d m c.year_digits c.first_hyphen c.month_digits is c.second_hyphen day some most
-
 -- ---- the days that dates name
 
 -- a month has its number
@@ -92,9 +84,3 @@ month_names year month y n d same number = λ is.
 -- any date by the count of its day
 pub count_names : (date : WrittenDate) (year : ℤ) (y n d count : ℕ) → day_named date ≡ Ok count → pos y ≡ year → day_at count ≡ ymd year n d → NamesDay date y n d
 count_names date year y n d count named same e = λ is. named ∙ ap (λ (k : ℕ). Ok k) (sym (day_of_count (pos y) n d count is (rw same e)))
-
-pub day_of_chunk : (bytes : List ℕ) (y n : ℕ) (behind : List ℕ) (d : ℕ) (rest : List ℕ) → IsYearMonth bytes y n behind → 1 ≤ n → n ≤ 12 → digits 2 behind ≡ Some (d, rest) → 1 ≤ d → d ≤ 31
-    → ReadsDay bytes y n d Extended rest
-day_of_chunk bytes y n behind d rest c low high two some most =
-    let m = named_month n low high in
-    (OfMonth (pos y) m.0 d, date_of_chunk bytes y n behind m.0 d rest c m.1 two some most, month_names (pos y) m.0 y n d refl m.1)

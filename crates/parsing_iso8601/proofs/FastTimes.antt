@@ -1,7 +1,6 @@
 -- A time of day by its pieces, of the extended kind and of the basic one.
 use Rattle.std.proofs.Common.{◌≡◌, ℕ, ◌+◌, ◌<◌, ◌≤◌, true, leb, List, length, drop, Option, Some, None, refl, ◌∙◌, arith, lit<}
-use Rattle.std.specs.Borrow.{Bor}
-use Rattle.std.specs.Prelude.{nat_lt, IfSome}
+use Rattle.std.specs.Prelude.{nat_lt}
 use Rattle.std.proofs.lemmas.Bool.Decides.{nat_tests}
 use Rattle.base.specs.Bytes.{colon}
 use Rattle.parsing_combinator.specs.Chunks.{IsClock}
@@ -11,7 +10,6 @@ use Rattle.parsing_iso8601.specs.Fractions.{rounded_part_of}
 use Rattle.parsing_iso8601.specs.declared.kind.Kind.TheVariants.{Basic, Extended}
 use Rattle.parsing_iso8601.specs.Kinds.{kind_of_time}
 use Rattle.parsing_iso8601.specs.Numbers.{number, decimal_mark, fraction_digits, due_digits}
-use Rattle.parsing_iso8601.specs.Fast.{ReadsClock}
 use Rattle.parsing_iso8601.specs.ReadView.{subsecond}
 use Rattle.parsing_iso8601.specs.Times.{time_of, subsecond_of, time, designator, from_hour, minutes, from_minute, seconds, basic_seconds, extended_seconds, due_second, to_second}
 use Rattle.parsing_iso8601.proofs.Pieces.{only_byte, no_colon, no_mark, mapped, fraction_run, run_length}
@@ -99,13 +97,3 @@ short_subsecond bytes behind rest n mark f short =
 pub no_subsecond : (bytes : List ℕ) → decimal_mark bytes ≡ None → subsecond bytes ≡ Some (0, bytes)
 unfolding subsecond fraction_digits
 no_subsecond bytes none = rw none refl
-
--- what a function returns that reads such a fraction
-pub short_read : (bytes behind : List ℕ) (result : Option (ℕ × Bor (List ℕ))) → decimal_mark bytes ≡ Some (tt, behind) → IfSome result (λ x. fraction behind ≡ Some (x.0, x.1.now)) → IfSome result (λ x. length behind ≤ length x.1.now + 9) → IfSome result (λ x. subsecond bytes ≡ Some (x.0, x.1.now))
-short_read bytes behind None mark read few = tt
-short_read bytes behind (Some x) mark read few = short_subsecond bytes behind x.1.now x.0 mark read few
-
--- what a function returns that reads a clock behind a `T`
-pub clock_reads : (bytes behind : List ℕ) (result : Option ((ℕ × ℕ × ℕ) × Bor (List ℕ))) → byte time_designator bytes ≡ Some (tt, behind) → IfSome result (λ x. IsClock behind x.0.0 x.0.1 x.0.2 x.1.now) → IfSome result (λ x. ReadsClock Extended bytes x.0.0 x.0.1 x.0.2 x.1.now)
-clock_reads bytes behind None mark read = tt
-clock_reads bytes behind (Some x) mark read = λ n rest f bound hh hm hs. time_of_chunk bytes behind x.0.0 x.0.1 x.0.2 x.1.now n rest mark read f hh hm hs bound

@@ -37,10 +37,6 @@ pub first_digit : (n : ℕ) (c : ℕ) (cs : List ℕ) (x : ℕ × List ℕ) → 
 unfolding digits
 first_digit n c cs x some e = first_counted n (is_ascii_digit c) (digit_count cs) some (passed (leb n (digit_count (c ∷ cs))) _ x e)
 
-no_digits : (n : ℕ) (x : ℕ × List ℕ) → 1 ≤ n → digits n [] ≡ Some x → true ≡ false
-unfolding digits
-no_digits n x some e = absurd (let le : n ≤ 0 = let t = passed (leb n 0) _ x e in grind (arith, nat_tests) in omega arith)
-
 -- digits have no sign, no decimal mark and no colon before them
 pub no_sign : (n : ℕ) (bytes : List ℕ) (x : ℕ × List ℕ) → 1 ≤ n → digits n bytes ≡ Some x → sign bytes ≡ None
 unfolding byte_of

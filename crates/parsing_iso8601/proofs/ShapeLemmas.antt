@@ -119,12 +119,9 @@ high_extended_offset = 255 ∷ 255 ∷ 255 ∷ 255 ∷ 255 ∷ 255 ∷ 255 ∷ 2
 
 extended_offset_at : (text : List ℕ) (n place : ℕ) → n + 10 ≡ place → place + 6 ≡ length text → ((k : ℕ) → k < 16 → IsBetween low_extended_offset high_extended_offset (drop n text) k) → HasExtendedOffset text place
 extended_offset_at text n place is ends at =
-    let sign = at_last text n 10 place is (at 10 (lit< tt)) in
     let mark = at_last text n 13 (place + 3) (omega arith) (at 13 (lit< tt)) in
     record {
       ends = ends;
-      lowest_sign = sign.0;
-      highest_sign = sign.1;
       hours = pair text (place + 1) (omega arith) (at_last text n 11 (place + 1) (omega arith) (at 11 (lit< tt))) (at_last text n 12 (place + 1 + 1) (omega arith) (at 12 (lit< tt)));
       mark = omega (arith, mark.0, mark.1);
       minutes = pair text (place + 4) (omega arith) (at_last text n 14 (place + 4) (omega arith) (at 14 (lit< tt))) (at_last text n 15 (place + 4 + 1) (omega arith) (at 15 (lit< tt)));
@@ -141,11 +138,8 @@ high_basic_offset = 255 ∷ 255 ∷ 255 ∷ 255 ∷ 255 ∷ 255 ∷ 255 ∷ 255 
 
 basic_offset_at : (text : List ℕ) (n place : ℕ) → n + 11 ≡ place → place + 5 ≡ length text → ((k : ℕ) → k < 16 → IsBetween low_basic_offset high_basic_offset (drop n text) k) → HasBasicOffset text place
 basic_offset_at text n place is ends at =
-    let sign = at_last text n 11 place is (at 11 (lit< tt)) in
     record {
       ends = ends;
-      lowest_sign = sign.0;
-      highest_sign = sign.1;
       hours = pair text (place + 1) (omega arith) (at_last text n 12 (place + 1) (omega arith) (at 12 (lit< tt))) (at_last text n 13 (place + 1 + 1) (omega arith) (at 13 (lit< tt)));
       minutes = pair text (place + 3) (omega arith) (at_last text n 14 (place + 3) (omega arith) (at 14 (lit< tt))) (at_last text n 15 (place + 3 + 1) (omega arith) (at 15 (lit< tt)));
     }

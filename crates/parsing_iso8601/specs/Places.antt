@@ -1,6 +1,6 @@
 -- The places of texts with a date, a time of day to the second and an offset.
 use Rattle.std.specs.Prelude.{◌≡◌, ◌≤◌, ◌<◌, ◌+◌, ◌*◌, ℕ, ℤ, List, drop, length, get_or, Some, None, pos, unsigned_abs}
-use Rattle.base.specs.Bytes.{plus, hyphen, colon}
+use Rattle.base.specs.Bytes.{hyphen, colon}
 use Rattle.calendar_count.specs.Calendar.{IsDay}
 use Rattle.parsing_combinator.specs.Pieces.{digits}
 use Rattle.parsing_combinator.specs.Places.{HasDigit, HasPair, HasClock}
@@ -102,11 +102,9 @@ pub record HasBasicDate (text : List ℕ) (date : Dated) : Type 0 where
   pub named : NamesDated text Basic date
   pub clock : HasBasicClock text date.place
 
--- `+02:00` at a place, where what may be a sign is not known, ends the text
+-- `+02:00` at a place, where the sign is not known, ends the text
 pub record HasExtendedOffset (text : List ℕ) (place : ℕ) : Type 0 where
   pub ends : place + 6 ≡ length text
-  pub lowest_sign : plus ≤ get_or text place 0
-  pub highest_sign : get_or text place 0 ≤ hyphen
   pub hours : HasPair text (place + 1)
   pub mark : get_or text (place + 3) 0 ≡ colon
   pub minutes : HasPair text (place + 4)
@@ -114,8 +112,6 @@ pub record HasExtendedOffset (text : List ℕ) (place : ℕ) : Type 0 where
 -- the same of `+0200`
 pub record HasBasicOffset (text : List ℕ) (place : ℕ) : Type 0 where
   pub ends : place + 5 ≡ length text
-  pub lowest_sign : plus ≤ get_or text place 0
-  pub highest_sign : get_or text place 0 ≤ hyphen
   pub hours : HasPair text (place + 1)
   pub minutes : HasPair text (place + 3)
 

@@ -8,7 +8,7 @@ ghost use Rattle.parsing_iso8601.specs.declared.kind.Kind.TheVariants as kind;
 
 use crate::places::{basic_clock_at, basic_date, extended_clock_at, extended_date};
 use parsing_combinator::{are_sixteen_between, two_digits_at, two_pairs_at};
-use parsing_fields::{Fraction, signed_minutes};
+use parsing_fields::{Fraction, is_minus, signed_minutes};
 
 // How many of the last bytes are compared at once.
 const LAST: usize = 16;
@@ -64,13 +64,10 @@ fn extended_offset(input: &[u8]) -> Option<(usize, i16)>
     if !is_extended_offset(input) {
         return None;
     }
-    let sign = input[place];
-    if sign == b',' {
-        return None;
-    }
+    let is_negative = is_minus(input[place])?;
     let hours = two_digits_at(input, place + 1);
     let minutes = two_digits_at(input, place + 4);
-    let offset = signed_minutes(sign == b'-', hours, minutes)?;
+    let offset = signed_minutes(is_negative, hours, minutes)?;
     Some((place, offset))
 }
 
@@ -88,12 +85,9 @@ fn basic_offset(input: &[u8]) -> Option<(usize, i16)>
     if !is_basic_offset(input) {
         return None;
     }
-    let sign = input[place];
-    if sign == b',' {
-        return None;
-    }
+    let is_negative = is_minus(input[place])?;
     let (hours, minutes) = two_pairs_at(input, place + 1);
-    let offset = signed_minutes(sign == b'-', hours, minutes)?;
+    let offset = signed_minutes(is_negative, hours, minutes)?;
     Some((place, offset))
 }
 

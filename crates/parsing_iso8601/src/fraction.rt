@@ -1,11 +1,7 @@
 //! Exact fractions of hours, minutes and seconds.
-ghost use Rattle.std.specs.Prelude.{◌≡◌, ◌≤◌, ◌<◌, IfSome, Some, length};
+ghost use Rattle.std.specs.Prelude.{◌≡◌, ◌≤◌, ◌<◌, length};
 ghost use Rattle.parsing_combinator.specs.Pieces as Pieces;
 ghost use Rattle.parsing_iso8601.specs.Fractions as Fractions;
-ghost use Rattle.parsing_iso8601.specs.ReadView.{subsecond};
-
-use crate::number::decimal_mark;
-use parsing_fields::Fraction;
 
 /// The whole nanoseconds in a fraction of `unit` nanoseconds that these digits write.
 ///
@@ -34,16 +30,4 @@ pub fn rounded_part_of(unit: u64, run: &[u8]) -> u64
     ensures bound { result ≤ unit }
 {
     (part_of(2 * unit, run) + 1) / 2
-}
-
-/// A fraction of a second of at most nine digits, or of none: these need no rounding.
-#[inline(always)]
-pub fn fast_fraction(bytes: &[u8]) -> Option<(Fraction, &[u8])>
-    ensures reads { IfSome result (λ x. subsecond bytes.now ≡ Some (x.0, x.1.now)) }
-    ensures bound { IfSome result (λ x. x.0 < 1_000_000_000) }
-{
-    let Some(behind) = decimal_mark(bytes) else {
-        return Some((Fraction::new(0), bytes));
-    };
-    Fraction::read(behind)
 }

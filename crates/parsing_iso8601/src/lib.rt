@@ -4,7 +4,6 @@
 mod calendar_days;
 mod date;
 mod ends;
-mod fast;
 mod fraction;
 mod kind;
 mod moment;

@@ -14,7 +14,7 @@ use parsing_combinator::{
 /// What stands behind a decimal point or a comma.
 #[tactic(auto, unfolding(crate::specs::Numbers::decimal_mark, parsing_combinator::specs::Pieces::skip_of))]
 #[inline(always)]
-pub fn decimal_mark(bytes: &[u8]) -> Option<&[u8]>
+fn decimal_mark(bytes: &[u8]) -> Option<&[u8]>
     ensures { rest_view result ≡ Numbers.decimal_mark bytes.now }
 {
     match bytes {

@@ -10,7 +10,7 @@ use parsing_combinator::{byte, sign, two_digits};
 
 // Past a colon that the kind allows.
 #[inline(always)]
-pub(crate) fn maybe_colon(kind: Kind, bytes: &[u8]) -> &[u8]
+fn maybe_colon(kind: Kind, bytes: &[u8]) -> &[u8]
     ensures { Offsets.maybe_colon kind bytes.now ≡ Some (tt, result.now) }
 {
     match kind {
@@ -24,7 +24,7 @@ pub(crate) fn maybe_colon(kind: Kind, bytes: &[u8]) -> &[u8]
 
 #[tactic(auto, unfolding(crate::specs::Offsets::offset_minute))]
 #[inline(always)]
-pub(crate) fn offset_minute(bytes: &[u8]) -> Option<(u8, &[u8])>
+fn offset_minute(bytes: &[u8]) -> Option<(u8, &[u8])>
     ensures cut { cut_view result ≡ Offsets.offset_minute bytes.now }
     ensures bound { IfSome result (λ x. x.0 ≤ 59) }
 {

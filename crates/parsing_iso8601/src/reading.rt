@@ -21,7 +21,7 @@ type DateOrFault = Result<WrittenDate, ParseFromDescription>;
 /// The date or why there is none, the kind that it hands on, and the rest.
 #[tactic(auto, unfolding(crate::specs::Reading::dated))]
 #[inline(always)]
-pub(crate) fn dated(bytes: &[u8]) -> ((DateOrFault, Kind), &[u8])
+fn dated(bytes: &[u8]) -> ((DateOrFault, Kind), &[u8])
     ensures gives { Reading.dated bytes.now
         ≡ Ok ((date_view result.0.0, result.0.1), result.1.now) }
     ensures range { IfOk result.0.0 IsDateInRange }

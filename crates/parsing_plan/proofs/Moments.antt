@@ -61,10 +61,6 @@ record IsBare (r : Record) : Type 0 where
   unix : r.unix_timestamp_nanos ≡ None
   leap : r.leap_second_is_permitted ≡ false
 
-bare_beginning : (assumed : Option ℤ) → IsBare (beginning assumed)
-bare_beginning None = record { ordinal = refl; unix = refl; leap = refl }
-bare_beginning (Some offset) = record { ordinal = refl; unix = refl; leap = refl }
-
 bare_or : (assumed : Option ℤ) (o : Option ℕ) → IsBare (record (beginning assumed) { subsecond = o })
 bare_or None o = record { ordinal = refl; unix = refl; leap = refl }
 bare_or (Some offset) o = record { ordinal = refl; unix = refl; leap = refl }

@@ -1,5 +1,5 @@
 //! The fields of a front of a line, by the places of its parts.
-ghost use Rattle.std.specs.Prelude.{◌≡◌, ◌<◌, ◌≤◌, ◌+◌, ◌-◌, ◌*◌, ◌==◌, ◌||◌, ◌*ℤ◌, pos, Ok, Some, None, true, false, drop, get_or, length, unsigned_abs, IfSome, Option};
+ghost use Rattle.std.specs.Prelude.{◌≡◌, ◌<◌, ◌≤◌, ◌+◌, ◌-◌, ◌*◌, ◌*ℤ◌, pos, Ok, Some, None, true, false, drop, get_or, length, unsigned_abs, IfSome, Option};
 ghost use Rattle.std.specs.Option.{ForSome, ForNone};
 ghost use Rattle.calendar_count.specs.Calendar.{IsDay};
 ghost use Rattle.parsing_combinator.specs.Pieces.{digits};
@@ -16,7 +16,7 @@ use crate::bounds::{Bounds, from};
 use crate::layout::Layout;
 use crate::plan::{Back, OffsetPlaces, Places};
 use calendar::{Month, UtcOffset, Weekday};
-use parsing_fields::{Fields, Fraction, has_day, offset_minutes};
+use parsing_fields::{Fields, Fraction, has_day, is_minus, offset_minutes};
 
 // The number of the two digits at a place.
 #[inline(always)]
@@ -223,21 +223,6 @@ pub(crate) fn clock(plan: &Places, line: &[u8]) -> Option<(u16, u8)>
     let minute = sixty_at(line, plan.minute);
     let second = sixty_at(line, plan.second);
     Some((u16::from(hour) * 60 + u16::from(minute), second))
-}
-
-// Whether a sign is a minus. Which of the two stands there is told by no jump: a plus is 0 above itself and a minus 2, and
-// no other number is below 2 once its lowest bit is its highest one.
-#[inline(always)]
-fn is_minus(sign: u8) -> Option<bool>
-    ensures sign { IfSome result (λ _. ((sign == 43) || (sign == 45)) ≡ true) }
-    ensures minus { IfSome result (λ minus. minus ≡ (sign == 45)) }
-{
-    let above = sign.wrapping_sub(b'+');
-    let turned = above / 2 + above % 2 * 128;
-    if turned > 1 {
-        return None;
-    }
-    Some(sign == b'-')
 }
 
 // The minutes of an offset whose hours and minutes are at these places.

@@ -1,4 +1,3 @@
-pub mod FastLemmas
 pub mod LetterLemmas
 pub mod PlaceLemmas
 pub mod StrictLemmas

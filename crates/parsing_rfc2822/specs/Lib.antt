@@ -1,5 +1,4 @@
 pub mod Direct
-pub mod Fast
 pub mod Names
 pub mod Range
 pub mod Reading

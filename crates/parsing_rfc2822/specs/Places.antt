@@ -1,12 +1,14 @@
 -- The places of a text such as `Tue, 01 Jul 2003 10:52:37 +0200`.
-use Rattle.std.specs.Prelude.{◌≡◌, ◌≤◌, ◌+◌, ◌-◌, ◌*◌, ℕ, false, List, length, drop, get_or, slice_index, Option, Some, Ok}
-use Rattle.base.specs.Bytes.{space, plus, hyphen}
+use Rattle.std.specs.Prelude.{◌≡◌, ◌≤◌, ◌+◌, ◌-◌, ◌*◌, ℕ, false, List, [], length, drop, get_or, slice_index, Option, Some, Ok, ℤ, pos, ◌*ℤ◌}
+use Rattle.base.specs.Bytes.{space}
 use Rattle.calendar_count.specs.Month.{month_number}
 use Rattle.calendar_count.specs.declared.month.Month.{Month}
 use Rattle.calendar_count.specs.declared.weekday.Weekday.{Weekday}
 use Rattle.parsing_combinator.specs.Places.{HasDigit, HasPair, HasClock}
+use Rattle.parsing_combinator.specs.declared.zone.Zone.{Zone}
+use Rattle.parsing_values.specs.Resolution.{signed_offset_of}
 use Rattle.parsing_rfc2822.specs.Names.{weekday, month}
-use Rattle.parsing_rfc2822.specs.Reading.{comma, day, month_and_year}
+use Rattle.parsing_rfc2822.specs.Reading.{comma, one_or_two_digits, day, month_and_year, spaced_zone}
 
 -- the first four bytes as one number, the first one lowest
 abbrev pub number_of_four : List ℕ → ℕ
@@ -40,17 +42,24 @@ pub record HasShape (text : List ℕ) : Type 0 where
   pub clock : HasClock text 11
   pub before_zone : get_or text 19 0 ≡ space
 
--- `+0200` is that zone, where what may be a sign is not known
+-- `+0200` is that zone, where the sign is not known
 pub record HasOffset (text : List ℕ) : Type 0 where
   pub long : length text ≡ 25
-  pub lowest_sign : plus ≤ get_or text 20 0
-  pub highest_sign : get_or text 20 0 ≤ hyphen
   pub zone_hours : HasPair text 21
   pub zone_minutes : HasPair text 23
 
+-- `GMT` is that zone, where its letters are not known
+pub record HasName (text : List ℕ) : Type 0 where
+  pub long : length text ≡ 23
+  pub letter : 65 ≤ get_or text 20 0
+
+-- the digits of the day begin the date, and before it stands a weekday or nothing
+pub record BeginsDay (input date : List ℕ) : Type 0 where
+  pub weekday_is : Option Weekday
+  pub reads : (number : ℕ) (rest : List ℕ) → HasDigit date 0 → one_or_two_digits date ≡ Some (number, rest) → day false input ≡ Ok ((weekday_is, number), rest)
+
 -- with what stands before it, the text has a day, of which these are the tens
 pub record IsFront (input : List ℕ) (tens : ℕ) (text : List ℕ) : Type 0 where
-  pub room : 23 ≤ length text
   pub few : tens ≤ 9
   pub weekday_is : Option Weekday
   pub reads : HasDigit text 0 → get_or text 1 0 ≡ space → day false input ≡ Ok ((weekday_is, tens * 10 + (get_or text 0 0 - 48)), drop 1 text)
@@ -60,3 +69,9 @@ pub record ReadsMonth (text : List ℕ) (year number : ℕ) : Type 0 where
   pub month_is : Month
   pub reads : month_and_year (drop 1 text) ≡ Ok ((month_is, year), drop 11 text)
   pub number_is : month_number month_is ≡ number
+
+-- behind the clock a zone of so many minutes is read, and nothing is left
+pub record ReadsZone (text : List ℕ) (minutes : ℤ) : Type 0 where
+  pub zone_is : Zone
+  pub reads : spaced_zone false (drop 19 text) ≡ Ok (zone_is, [])
+  pub minutes_are : signed_offset_of zone_is.is_negative zone_is.hours zone_is.minutes ≡ Ok (pos 60 *ℤ minutes)

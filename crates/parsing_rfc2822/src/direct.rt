@@ -5,8 +5,8 @@ ghost use Rattle.parsing_combinator.specs.Readings.{value_read};
 ghost use Rattle.parsing_combinator.specs.ShortName.{HasShortName};
 ghost use Rattle.parsing_rfc2822.specs.Direct.{direct, moment_of};
 
-use crate::fast::read_fields;
 use crate::parts::Rfc2822Parts;
+use crate::places::read_fields;
 use crate::reading::parse_prefix;
 use parsing_combinator::{Parse, ParseFromDescription};
 use parsing_values::{OffsetDateTime, leap_checked, resolve};

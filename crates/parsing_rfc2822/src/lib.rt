@@ -4,7 +4,6 @@
 mod bytes;
 mod comment;
 mod direct;
-mod fast;
 mod folding;
 pub mod laws;
 mod letters;
@@ -16,7 +15,7 @@ mod spacing;
 
 pub use comment::{comments_and_white_space, may_begin, one_space};
 pub use direct::{read_exact, read_fast};
-pub use fast::read_fields;
 pub use folding::folding_white_space;
 pub use parts::Rfc2822Parts;
+pub use places::read_fields;
 pub use reading::parse_prefix;

@@ -1,19 +1,18 @@
-//! The fast way of most texts, such as `Tue, 01 Jul 2003 10:52:37 +0200`, by the places of their parts.
+//! The fast way: texts such as `Tue, 01 Jul 2003 10:52:37 +0200`, by the places of their parts.
 //!
-//! Such a text has a weekday, and ends with 25 bytes from the last digit of its day on, or with 23 where a name of three
-//! letters is its zone.
-ghost use Rattle.std.specs.Prelude.{◌≡◌, ◌≤◌, ◌+◌, ◌*◌, IfSome, Ok, Some, true, false, drop, length, unsigned_abs, List, ℕ, Option};
+//! Such a text ends with 25 bytes from the last digit of its day on, or with 23 where a name of three letters is its zone.
+//! It may have a weekday. Each function gives up where a text has another shape, and then says nothing of it.
+ghost use Rattle.std.specs.Prelude.{◌≡◌, ◌≤◌, ◌+◌, IfSome, Ok, true, false, drop, length, unsigned_abs, List, ℕ, Option};
 ghost use Rattle.calendar_count.specs.declared.weekday.Weekday.{Weekday};
 ghost use Rattle.parsing_fields.specs.Moment.{moment_of};
 ghost use Rattle.parsing_rfc2822.specs.Direct.{direct};
-ghost use Rattle.parsing_rfc2822.specs.Fast.{IsAllZone};
-ghost use Rattle.parsing_rfc2822.specs.Places.{HasShape, HasOffset, IsFront, ReadsMonth};
+ghost use Rattle.parsing_rfc2822.specs.Places.{HasShape, HasOffset, HasName, BeginsDay, IsFront, ReadsMonth, ReadsZone};
 ghost use Rattle.parsing_rfc2822.specs.Reading as Reading;
 
-use crate::fast::fast_zone;
 use crate::letters::{has_weekday, month_number};
+use crate::names::zone_of;
 use parsing_combinator::{are_between, clock_at, four_digits_at, two_pairs_at};
-use parsing_fields::{Fields, Fraction, minute_of_day, signed_minutes};
+use parsing_fields::{Fields, Fraction, is_minus, minute_of_day, offset_minutes, signed_minutes};
 
 // The lowest and the highest byte at each place from the last digit of the day on. What lies between the letters or the
 // signs is refused later, and so are most numbers out of range.
@@ -40,9 +39,29 @@ static HIGHEST_NAMED: [u8; 23] = *b"9 zzz 9999 29:59:59 zzz";
 #[inline(always)]
 fn has_name(text: &[u8]) -> bool
     requires { length text.now ≡ 23 }
-    ensures { result ≡ true → HasShape text.now }
+    ensures shape { result ≡ true → HasShape text.now }
+    ensures name { result ≡ true → HasName text.now }
 {
     are_between(text, &LOWEST_NAMED, &HIGHEST_NAMED)
+}
+
+// What stands behind a weekday, or all of a text without one, where that has so many bytes or one more: the day begins
+// there.
+#[inline(always)]
+fn behind_weekday(input: &[u8], left: usize) -> Option<&[u8]>
+    requires low { 23 ≤ left }
+    requires high { left ≤ 25 }
+    ensures begins { IfSome result (λ date. BeginsDay input.now date.now) }
+    ensures least { IfSome result (λ date. left ≤ length date.now) }
+    ensures most { IfSome result (λ date. length date.now ≤ left + 1) }
+{
+    if input.len() == left || input.len() == left + 1 {
+        return Some(input);
+    }
+    if input.len() < left + 5 || input.len() > left + 6 || !has_weekday(input) {
+        return None;
+    }
+    Some(&input[5..])
 }
 
 // The tens of the day, none where it has one digit, and what stands behind them, so many bytes.
@@ -53,16 +72,14 @@ fn tens_of_day(input: &[u8], left: usize) -> Option<(u8, &[u8])>
     ensures front { IfSome result (λ x. IsFront input.now x.0 x.1.now) }
     ensures long { IfSome result (λ x. length x.1.now ≡ left) }
 {
-    if input.len() < left + 5 || input.len() > left + 6 || !has_weekday(input) {
+    let date = behind_weekday(input, left)?;
+    if date.len() == left {
+        return Some((0, date));
+    }
+    if !date[0].is_ascii_digit() {
         return None;
     }
-    if input.len() == left + 5 {
-        return Some((0, &input[5..]));
-    }
-    if !input[5].is_ascii_digit() {
-        return None;
-    }
-    Some((input[5] - b'0', &input[6..]))
+    Some((date[0] - b'0', &date[1..]))
 }
 
 // The minutes of the offset in digits.
@@ -70,15 +87,24 @@ fn tens_of_day(input: &[u8], left: usize) -> Option<(u8, &[u8])>
 fn offset(text: &[u8]) -> Option<i16>
     requires shape { HasShape text.now }
     requires offset { HasOffset text.now }
-    ensures reads { IfSome result (IsAllZone (Reading.spaced_zone false (drop 19 text.now))) }
+    ensures reads { IfSome result (ReadsZone text.now) }
     ensures bound { IfSome result (λ o. unsigned_abs o ≤ 1559) }
 {
-    let sign = text[20];
-    if sign == b',' {
-        return None;
-    }
+    let is_negative = is_minus(text[20])?;
     let (hours, minutes) = two_pairs_at(text, 21);
-    signed_minutes(sign == b'-', hours, minutes)
+    signed_minutes(is_negative, hours, minutes)
+}
+
+// The minutes of the offset that a zone's name says.
+#[inline(always)]
+fn named_offset(text: &[u8]) -> Option<i16>
+    requires shape { HasShape text.now }
+    requires name { HasName text.now }
+    ensures reads { IfSome result (ReadsZone text.now) }
+    ensures bound { IfSome result (λ o. unsigned_abs o ≤ 1559) }
+{
+    let hours = zone_of(&text[20..])?;
+    Some(offset_minutes(true, hours, 0))
 }
 
 // The year and the number of the month.
@@ -100,7 +126,7 @@ fn year_and_month(text: &[u8]) -> Option<(u16, u8)>
 #[inline(always)]
 fn fields_behind(day: u8, offset: i16, text: &[u8]) -> Option<Fields>
     requires shape { HasShape text.now }
-    requires zone { IsAllZone (Reading.spaced_zone false (drop 19 text.now)) offset }
+    requires zone { ReadsZone text.now offset }
     requires bound { unsigned_abs offset ≤ 1559 }
     ensures { IfSome result (λ fields. (input : List ℕ) (weekday : Option Weekday)
         → Reading.day false input ≡ Ok ((weekday, day), drop 1 text.now)
@@ -112,9 +138,9 @@ fn fields_behind(day: u8, offset: i16, text: &[u8]) -> Option<Fields>
     Fields::on_day(year, month, day, minute, second, Fraction::new(0), offset)
 }
 
-/// The fields of a text with an offset in digits, where it has such places: `None` says nothing of the text.
+// The fields of a text with an offset in digits.
 #[inline(always)]
-pub(crate) fn read_with_offset(input: &[u8]) -> Option<Fields>
+fn read_with_offset(input: &[u8]) -> Option<Fields>
     ensures { IfSome result (λ fields. direct input.now ≡ Ok (moment_of fields)) }
 {
     let (tens, text) = tens_of_day(input, 25)?;
@@ -125,15 +151,46 @@ pub(crate) fn read_with_offset(input: &[u8]) -> Option<Fields>
     fields_behind(tens * 10 + (text[0] - b'0'), offset, text)
 }
 
-/// The same of a text with a zone's name of three letters.
+// The fields of a text with a zone's name of three letters.
 #[inline(always)]
-pub(crate) fn read_with_name(input: &[u8]) -> Option<Fields>
+fn read_with_name(input: &[u8]) -> Option<Fields>
     ensures { IfSome result (λ fields. direct input.now ≡ Ok (moment_of fields)) }
 {
     let (tens, text) = tens_of_day(input, 23)?;
     if !has_name(text) {
         return None;
     }
-    let offset = fast_zone(&text[19..])?;
+    let offset = named_offset(text)?;
     fields_behind(tens * 10 + (text[0] - b'0'), offset, text)
+}
+
+// The fields of a text of another length than those of a weekday and an offset in digits. A call of its own, so that
+// `read_fields` stays small enough to be inlined into a loop over lines.
+#[inline(never)]
+fn read_other_length(input: &[u8]) -> Option<Fields>
+    ensures { IfSome result (λ fields. direct input.now ≡ Ok (moment_of fields)) }
+{
+    match input.len() {
+        25 | 26 => read_with_offset(input),
+        23 | 24 | 28 | 29 => read_with_name(input),
+        _ => None,
+    }
+}
+
+/// The fields of a text, where the fast way finds them: `None` says nothing of the text.
+///
+/// It finds those of most texts: single spaces between their parts, all numbers of the clock, no leap second and no
+/// comment.
+#[inline(always)]
+pub fn read_fields(input: &[u8]) -> Option<Fields>
+    ensures { IfSome result (λ fields. direct input.now ≡ Ok (moment_of fields)) }
+{
+    // The lengths of texts with a weekday and an offset in digits.
+    match input.len() {
+        30 | 31 => read_with_offset(input),
+        _ => {
+            let fields = read_other_length(input)?;
+            Some(fields)
+        }
+    }
 }

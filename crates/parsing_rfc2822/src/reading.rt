@@ -17,7 +17,7 @@ use parsing_combinator::{Zone, byte, four_digits, one_digit, sign, two_digits, w
 
 #[tactic(auto, unfolding(crate::specs::Reading::one_or_two_digits))]
 #[inline(always)]
-pub(crate) fn one_or_two_digits(bytes: &[u8]) -> Option<(u8, &[u8])>
+fn one_or_two_digits(bytes: &[u8]) -> Option<(u8, &[u8])>
     ensures { Pieces.cut_view result ≡ Reading.one_or_two_digits bytes.now }
 {
     if let Some((value, rest)) = two_digits(bytes) {

@@ -1,25 +1,13 @@
 //! The fraction of a second and the offset of a text, from its end: how long it is tells where the offset begins, and so how
 //! many digits the fraction has.
-ghost use Rattle.std.specs.Prelude.{◌≡◌, ◌≤◌, ◌<◌, ◌||◌, ◌==◌, IfSome, true, false, drop, length, unsigned_abs};
-ghost use Rattle.base.specs.Bytes.{plus, hyphen, upper_z, lower_z};
+ghost use Rattle.std.specs.Prelude.{◌≡◌, ◌≤◌, ◌<◌, ◌||◌, ◌==◌, IfSome, false, drop, length, unsigned_abs};
+ghost use Rattle.base.specs.Bytes.{upper_z, lower_z};
 ghost use Rattle.parsing_rfc3339.specs.Fast.{IsAllOffset, FollowsFraction, ReadsNanosecond};
 ghost use Rattle.parsing_rfc3339.specs.Reading as Reading;
 
 use crate::places::{FRONT, from};
 use crate::zone::hours_and_minutes;
-use parsing_fields::{Fraction, offset_minutes};
-
-// Whether a sign is a minus. Which of the two stands there is told by no jump, as it can't be foreseen.
-#[inline(always)]
-fn is_minus(mark: u8) -> Option<bool>
-    ensures sign { IfSome result (λ _. ((mark == plus) || (mark == hyphen)) ≡ true) }
-    ensures minus { IfSome result (λ minus. minus ≡ (mark == hyphen)) }
-{
-    if mark < b'+' || mark == b',' || mark > b'-' {
-        return None;
-    }
-    Some(mark == b'-')
-}
+use parsing_fields::{Fraction, is_minus, offset_minutes};
 
 // Whether a byte is the letter for UTC.
 #[inline(always)]

@@ -4,8 +4,8 @@
 use crate::bytes::tell_rest;
 use crate::telling::{Told, tell_no_call};
 use parsing_combinator::{
-    any_byte, byte, clock, digit_run, four_digits, fraction, nine_digits, one_digit, sign,
-    six_digits, three_digits, two_digits, year_month,
+    any_byte, byte, digit_run, four_digits, fraction, nine_digits, one_digit, sign, six_digits,
+    three_digits, two_digits,
 };
 use parsing_rfc2822::{comments_and_white_space, folding_white_space, may_begin, one_space};
 use std::fmt::Debug;
@@ -49,8 +49,6 @@ pub fn tell_piece(told: &mut String, call: &str, input: &[u8]) -> Told {
         "four_digits" => tell_found(told, four_digits(input)),
         "six_digits" => tell_found(told, six_digits(input)),
         "nine_digits" => tell_found(told, nine_digits(input)),
-        "year_month" => tell_found(told, year_month(input)),
-        "clock" => tell_found(told, clock(input)),
         "fraction" => tell_found(told, fraction(input)),
         "sign" => tell_found(
             told,

@@ -11,6 +11,7 @@ pub returns : goal.returns
 returns c =
     let shape = c.is_basic_offset.ensures c.if-not-is_basic_offset.false in
     let numbers = c.two_pairs_at-hours in
+    let sign = c.in_ok-is_negative.ensures in
     let o = c.in_ok-offset in
     let same : to_z w16 (of_z w16 o.offset) ≡ o.offset = omega (arith, ints) in
-    rw same (basic_from c.args.input.now _ numbers.result.0 numbers.result.1 o.offset shape c.if-sign-eq44.false numbers.ensures.first numbers.ensures.second o.ensures.value o.ensures.bound)
+    rw same (basic_from c.args.input.now _ numbers.result.0 numbers.result.1 o.offset shape sign.sign numbers.ensures.first numbers.ensures.second (rw sign.minus at o.ensures.value) o.ensures.bound)

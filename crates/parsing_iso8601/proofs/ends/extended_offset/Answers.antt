@@ -12,6 +12,7 @@ returns c =
     let shape = c.is_extended_offset.ensures c.if-not-is_extended_offset.false in
     let hours = c.two_digits_at-hours in
     let minutes = c.two_digits_at-minutes in
+    let sign = c.in_ok-is_negative.ensures in
     let o = c.in_ok-offset in
     let same : to_z w16 (of_z w16 o.offset) ≡ o.offset = omega (arith, ints) in
-    rw same (extended_from c.args.input.now _ hours.result minutes.result o.offset shape c.if-sign-eq44.false hours.ensures.digits minutes.ensures.digits o.ensures.value o.ensures.bound)
+    rw same (extended_from c.args.input.now _ hours.result minutes.result o.offset shape sign.sign hours.ensures.digits minutes.ensures.digits (rw sign.minus at o.ensures.value) o.ensures.bound)

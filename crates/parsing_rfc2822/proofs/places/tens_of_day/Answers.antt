@@ -5,14 +5,13 @@ use Rattle.parsing_combinator.proofs.Decimal.{digit_here}
 use Rattle.parsing_rfc2822.proofs.PlaceLemmas.{front_of_one, front_of_two}
 use Rattle.parsing_rfc2822.proofs.places.tens_of_day.Goals as goal
 
-pub returns-then-input-left-3-clause-front : goal.returns-then-input-left-3-clause-front
-returns-then-input-left-3-clause-front c =
-    let input = c.args.input.now in
-    rw (take_rest input 5) (front_of_one input c.args.left c.requires.low (omega arith) (c.has_weekday.ensures c.if-not-has_weekday.false))
+pub returns-then-date-left-clause-front : goal.returns-then-date-left-clause-front
+returns-then-date-left-clause-front c =
+    front_of_one c.args.input.now c.in_ok-date.date.now (omega arith) c.in_ok-date.ensures.begins
 
 pub returns-clause-front : goal.returns-clause-front
 returns-clause-front c =
-    let input = c.args.input.now in
-    let d = digit_here (get_or input 5 0) (sym c.is_ascii_digit.ensures.value ∙ c.if-not-is_ascii_digit.false) in
-    let tens : HasDigit input 5 = record { low = d.0; high = d.1 } in
-    rw (take_rest input 6) (front_of_two input c.args.left c.requires.low (omega arith) (c.has_weekday.ensures c.if-not-has_weekday.false) tens)
+    let date = c.in_ok-date.date.now in
+    let d = digit_here (get_or date 0 0) (sym c.is_ascii_digit.ensures.value ∙ c.if-not-is_ascii_digit.false) in
+    let tens : HasDigit date 0 = record { low = d.0; high = d.1 } in
+    rw (take_rest date 1) (front_of_two c.args.input.now date (omega (arith, c.in_ok-date.ensures.least)) c.in_ok-date.ensures.begins tens)

@@ -1,7 +1,7 @@
 use Rattle.std.proofs.Common.{◌≡◌, arith, w16, to_z, of_z}
 use Rattle.std.proofs.lemmas.Int.{ints}
 use Rattle.parsing_iso8601.proofs.FastMoments.{fields_named}
-use Rattle.parsing_iso8601.proofs.moment.read_by_places.Goals as goal
+use Rattle.parsing_iso8601.proofs.moment.read_fields.Goals as goal
 
 pub returns : goal.returns
 returns c =
