@@ -23,12 +23,12 @@ use Rattle.parsing_iso8601.specs.Designators.{time_designator, week_designator}
 use Rattle.parsing_iso8601.specs.Fast.{NamesDay, ReadsDay, ReadsClock}
 use Rattle.parsing_iso8601.specs.Kinds.{kind_of_date}
 use Rattle.parsing_iso8601.specs.Numbers.{digits_within, numbered, counted, months, weekdays}
-use Rattle.parsing_iso8601.specs.Places.{HasExtendedClock, HasBasicClock, IsExtendedWeek, IsExtendedOrdinal, IsBasicCalendar, IsBasicWeek, IsBasicOrdinal, HasOrdinal}
+use Rattle.parsing_iso8601.specs.Places.{HasExtendedClock, HasBasicClock, IsExtendedCalendar, IsExtendedWeek, IsExtendedOrdinal, IsBasicCalendar, IsBasicWeek, IsBasicOrdinal, HasOrdinal}
 use Rattle.parsing_iso8601.specs.Reading.{dated}
 use Rattle.parsing_iso8601.specs.declared.kind.Kind.TheVariants.{Basic, Extended}
 use Rattle.parsing_iso8601.specs.declared.written.WrittenDate.TheVariants.{OfMonth, OfYear, OfWeek}
 use Rattle.parsing_iso8601.proofs.Entries.{weekday_entry}
-use Rattle.parsing_iso8601.proofs.FastDates.{year_of, month_of, within, named_month, month_names, count_names}
+use Rattle.parsing_iso8601.proofs.FastDates.{year_of, month_of, within, date_of_pieces, named_month, month_names, count_names}
 use Rattle.parsing_iso8601.proofs.FastTimes.{time_of_chunk, basic_time_of}
 use Rattle.parsing_iso8601.proofs.Pieces.{same}
 
@@ -195,6 +195,15 @@ basic_ordinal_day text y m d s p0 o =
 -- no month has more than 31 days
 pub few_days : (y : ℤ) (m d : ℕ) → IsDay y m d → d ≤ 31
 few_days y m d h = let most = h.4 in grind (arith, nat_tests)
+
+pub extended_calendar_day : (text : List ℕ) (y m d : ℕ) → IsExtendedCalendar text → digits 4 text ≡ Some (y, drop 4 text) → digits 2 (drop 5 text) ≡ Some (m, drop 7 text) → digits 2 (drop 8 text) ≡ Some (d, drop 10 text) → 1 ≤ m → m ≤ 12 → 1 ≤ d → d ≤ 31 → ReadsDay text y m d Extended (drop 10 text)
+extended_calendar_day text y m d s p0 p2 p3 low high some most =
+    let room = s.clock.clock.second.room in
+    let month = named_month m low high in (
+      OfMonth (pos y) month.0 d,
+      date_of_pieces text (drop 4 text) (drop 5 text) (drop 7 text) (drop 8 text) (drop 10 text) y m d month.0 p0 (byte_there text 4 hyphen (omega arith) s.first_hyphen) p2 month.1 (byte_there text 7 hyphen (omega arith) s.second_hyphen) p3 some most,
+      month_names (pos y) month.0 y m d refl month.1,
+    )
 
 pub basic_calendar_day : (text : List ℕ) (y m d : ℕ) → IsBasicCalendar text → digits 4 text ≡ Some (y, drop 4 text) → digits 2 (drop 4 text) ≡ Some (m, drop 6 text) → digits 2 (drop 6 text) ≡ Some (d, drop 8 text) → 1 ≤ m → m ≤ 12 → 1 ≤ d → d ≤ 31 → ReadsDay text y m d Basic (drop 8 text)
 basic_calendar_day text y m d s p0 p2 p3 low high some most =

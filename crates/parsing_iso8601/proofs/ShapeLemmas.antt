@@ -2,7 +2,7 @@
 use Rattle.std.proofs.Common.{◌≡◌, ◌≤◌, ◌<◌, ◌+◌, ◌-◌, ℕ, List, [], ◌∷◌, length, get_or, take, drop, arith, lit<}
 use Rattle.std.proofs.lemmas.List.{get_or-drop, get_or-take, length-take-le}
 use Rattle.parsing_combinator.specs.Places.{IsBetween, LieBetween, HasDigit, HasPair}
-use Rattle.parsing_iso8601.specs.Places.{IsExtendedWeek, IsExtendedOrdinal, IsBasicCalendar, IsBasicWeek, IsBasicOrdinal, HasExtendedOffset, HasBasicOffset}
+use Rattle.parsing_iso8601.specs.Places.{IsExtendedCalendar, IsExtendedWeek, IsExtendedOrdinal, IsBasicCalendar, IsBasicWeek, IsBasicOrdinal, HasExtendedClock, HasExtendedOffset, HasBasicOffset}
 
 -- bounds of a front are bounds of the text
 of_front : (n : ℕ) (low high text : List ℕ) → n ≤ length text → LieBetween low high (take n text) → (k : ℕ) → k < n → IsBetween low high text k
@@ -20,6 +20,29 @@ pair text place room first second = record { room = room; first = digit text pla
 -- the same where the tens end sooner
 tens_pair : (text : List ℕ) (place high : ℕ) → high ≤ 57 → place + 2 ≤ length text → (48 ≤ get_or text place 0) × (get_or text place 0 ≤ high) → Digit text (place + 1) → HasPair text place
 tens_pair text place high le room first second = pair text place room (first.0, omega (arith, first.1)) second
+
+abbrev pub low_extended_calendar : List ℕ
+low_extended_calendar = 48 ∷ 48 ∷ 48 ∷ 48 ∷ 45 ∷ 48 ∷ 48 ∷ 45 ∷ 48 ∷ 48 ∷ 84 ∷ 48 ∷ 48 ∷ 58 ∷ 48 ∷ 48 ∷ 58 ∷ 48 ∷ 48 ∷ []
+
+abbrev pub high_extended_calendar : List ℕ
+high_extended_calendar = 57 ∷ 57 ∷ 57 ∷ 57 ∷ 45 ∷ 57 ∷ 57 ∷ 45 ∷ 57 ∷ 57 ∷ 84 ∷ 57 ∷ 57 ∷ 58 ∷ 53 ∷ 57 ∷ 58 ∷ 53 ∷ 57 ∷ []
+
+-- `T23:20:50` at place 10
+clock_at_ten : (text : List ℕ) → 19 ≤ length text → ((k : ℕ) → k < 19 → IsBetween low_extended_calendar high_extended_calendar text k) → HasExtendedClock text 10
+clock_at_ten text long at =
+    record { mark = omega (arith, at 10 (lit< tt)); clock = record { hour = pair text 11 (omega arith) (at 11 (lit< tt)) (at 12 (lit< tt)); first_colon = omega (arith, at 13 (lit< tt)); minute = tens_pair text 14 53 (omega arith) (omega arith) (at 14 (lit< tt)) (at 15 (lit< tt)); second_colon = omega (arith, at 16 (lit< tt)); second = tens_pair text 17 53 (omega arith) (omega arith) (at 17 (lit< tt)) (at 18 (lit< tt)) }; minute_tens = let m = at 14 (lit< tt) in m.1; second_tens = let s = at 17 (lit< tt) in s.1 }
+
+pub extended_calendar_shape : (text : List ℕ) → 19 ≤ length text → LieBetween low_extended_calendar high_extended_calendar (take 19 text) → IsExtendedCalendar text
+extended_calendar_shape text long within =
+    let at = of_front 19 low_extended_calendar high_extended_calendar text long within in
+    record {
+      year = record { century = pair text 0 (omega arith) (at 0 (lit< tt)) (at 1 (lit< tt)); last_two = pair text 2 (omega arith) (at 2 (lit< tt)) (at 3 (lit< tt)) };
+      first_hyphen = omega (arith, at 4 (lit< tt));
+      month = pair text 5 (omega arith) (at 5 (lit< tt)) (at 6 (lit< tt));
+      second_hyphen = omega (arith, at 7 (lit< tt));
+      day = pair text 8 (omega arith) (at 8 (lit< tt)) (at 9 (lit< tt));
+      clock = clock_at_ten text long at;
+    }
 
 abbrev pub low_extended_week : List ℕ
 low_extended_week = 48 ∷ 48 ∷ 48 ∷ 48 ∷ 45 ∷ 87 ∷ 48 ∷ 48 ∷ 45 ∷ 49 ∷ 84 ∷ 48 ∷ 48 ∷ 58 ∷ 48 ∷ 48 ∷ 58 ∷ 48 ∷ 48 ∷ []

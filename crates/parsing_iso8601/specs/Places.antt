@@ -35,6 +35,15 @@ pub record HasYear (text : List ℕ) : Type 0 where
   pub century : HasPair text 0
   pub last_two : HasPair text 2
 
+-- `1985-04-12T23:20:50`
+pub record IsExtendedCalendar (text : List ℕ) : Type 0 where
+  pub year : HasYear text
+  pub first_hyphen : get_or text 4 0 ≡ hyphen
+  pub month : HasPair text 5
+  pub second_hyphen : get_or text 7 0 ≡ hyphen
+  pub day : HasPair text 8
+  pub clock : HasExtendedClock text 10
+
 -- `1985-W15-5T23:20:50`
 pub record IsExtendedWeek (text : List ℕ) : Type 0 where
   pub year : HasYear text

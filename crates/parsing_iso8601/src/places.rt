@@ -1,6 +1,4 @@
 //! The dates of most texts, each before a time of day to the second, by the places of their parts.
-//!
-//! A date with a month of the extended kind, as `1985-04-12`, is none of these: `fast.rt` has it.
 ghost use Rattle.std.specs.Prelude.{◌≡◌, ◌≤◌, ◌+◌, IfSome, pos, true, drop, length};
 ghost use Rattle.calendar_count.specs.Calendar.{IsDay};
 ghost use Rattle.parsing_combinator.specs.Places.{HasDigit, HasPair};
@@ -21,6 +19,21 @@ pub(crate) struct Dated {
     pub(crate) month: u8,
     pub(crate) day: u8,
     pub(crate) place: usize,
+}
+
+// The lowest and the highest bytes of `1985-04-12T23:20:50`.
+static LOW_EXTENDED: [u8; 19] = *b"0000-00-00T00:00:00";
+
+static HIGH_EXTENDED: [u8; 19] = *b"9999-99-99T99:59:59";
+
+#[inline(always)]
+fn is_extended_calendar(input: &[u8]) -> bool
+    ensures { result ≡ true → Places.IsExtendedCalendar input.now }
+{
+    if input.len() < 19 {
+        return false;
+    }
+    are_between(&input[..19], &LOW_EXTENDED, &HIGH_EXTENDED)
 }
 
 // The lowest and the highest bytes of `1985-W15-5T23:20:50`.
@@ -121,6 +134,25 @@ fn is_day(year: u16, month: u8, day: u8) -> bool
 }
 
 #[inline(always)]
+fn extended_calendar(input: &[u8]) -> Option<Dated>
+    requires { Places.IsExtendedCalendar input.now }
+    ensures { IfSome result (Places.HasExtendedDate input.now) }
+{
+    let year = four_digits_at(input, 0);
+    let month = two_digits_at(input, 5);
+    let day = two_digits_at(input, 8);
+    if !is_day(year, month, day) {
+        return None;
+    }
+    Some(Dated {
+        year,
+        month,
+        day,
+        place: 10,
+    })
+}
+
+#[inline(always)]
 fn extended_week(input: &[u8]) -> Option<Dated>
     requires { Places.IsExtendedWeek input.now }
     ensures { IfSome result (Places.HasExtendedDate input.now) }
@@ -207,6 +239,12 @@ pub(crate) fn extended_date(input: &[u8]) -> Option<Dated>
     if input[5] == b'W' {
         if is_extended_week(input) {
             return extended_week(input);
+        }
+        return None;
+    }
+    if input[7] == b'-' {
+        if is_extended_calendar(input) {
+            return extended_calendar(input);
         }
         return None;
     }
