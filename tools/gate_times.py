@@ -149,13 +149,14 @@ def kept_of(before, parts, times):
 
 
 def pace_of(before, parts):
-    """Returns how this run's pace compares with that of the run that a text of GATE.md tells of, by the proofs of the crates
-    that are the same as they were then: the run that paces count from, the pace, and a sentence. None where there are none.
-    Where that text compares its own run with an earlier one, paces are multiplied."""
+    """Returns how this run's pace compares with that of the run that a text of GATE.md tells of, by all that both did of the
+    crates that are the same as they were then (proofs alone tell too little: a machine's pace changes while a run goes on):
+    the run that paces count from, the pace, and a sentence. None where there is nothing. Where that text compares its own run
+    with an earlier one, paces are multiplied."""
     commit = re.search(r"commit (\w+)", before)
     rows = rows_of(before)
-    same = [name for name, (_, told) in rows.items() if parts[name, "proof"] and told == sum_of(name)]
-    was, now = sum(rows[it][0]["proof"] for it in same), sum(parts[it, "proof"] for it in same)
+    same = [(name, part) for name, (seconds, told) in rows.items() if told == sum_of(name) for part in PARTS if parts[name, part] and seconds[part]]
+    was, now = sum(rows[name][0][part] for name, part in same), sum(parts[it] for it in same)
     earlier = re.search(r"^Pace: (?:that of the run before, )?([\d.]+) times as long as the run of (\w+)", before, re.M)
     if not was and rows and earlier:
         # (nothing was proved anew)
@@ -164,8 +165,8 @@ def pace_of(before, parts):
         return None
     first, pace = (earlier[2], float(earlier[1]) * now / was) if earlier else (commit[1], now / was)
     told = (
-        f"Pace: {pace:.2f} times as long as the run of {first}, by the proofs of the {len(same)} crates whose sources are as they were "
-        f"at {commit[1]} ({was} s in that commit's run, {now:.0f} s in this one)."
+        f"Pace: {pace:.2f} times as long as the run of {first}, by all that both did of the {len({name for name, _ in same})} crates whose sources "
+        f"are as they were at {commit[1]} ({was} s in that commit's run, {now:.0f} s in this one)."
     )
     return first, pace, told, now / was
 
