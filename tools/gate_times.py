@@ -5,9 +5,9 @@
     tools/gate_times.py --write     also writes the table to docs/GATE.md, where the gate passed
 
 What a process takes is read from /proc while it runs, so it works on Linux; what is over between two looks is counted
-under `other`, as are rt itself and the programs that it runs. Machines differ, and so does one machine from day to day:
-the proofs of the crates that have not changed since the run in docs/GATE.md tell how this run's pace compares with that one's,
-and the bounds are at the pace of the run that the first of these tables told of.
+under `other`, as are rt itself and the programs that it runs. Machines differ, and so does one machine from day to day and
+within a run: all that both did of the crates that have not changed since the run in docs/GATE.md tells how this run's pace
+compares with that one's, and the bounds are at the pace of the run that the first of these tables told of.
 
 `rt ci` keeps what it passed on a machine, so a run may do little of the work. What it did not do of a crate whose sources
 are as they were is told as it took in the run of docs/GATE.md, at this run's pace, and marked by a star: the table, the sum
