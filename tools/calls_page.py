@@ -14,7 +14,7 @@ import sys
 ROOT = pathlib.Path(__file__).resolve().parent.parent
 PAGE = ROOT / "docs" / "CALLS.md"
 FAMILIES = ("calendar", "datetime", "description", "parsing", "instants")
-# The modules that the named crates give on, each with the files where its calls stand.
+# The modules that the named crates give on, and the crate of laws above `instants`, each with the files where its calls stand.
 MODULES = {
     "calendar::util": ("calendar_count/src/util.rt",),
     "calendar::laws": ("calendar/src/laws.rt",),
@@ -24,7 +24,7 @@ MODULES = {
     "description::laws": ("description/src/lib.rt",),
     "description::strftime_laws": ("description_strftime/src/laws.rt",),
     "parsing::laws": ("parsing/src/laws.rt", "parsing_laws/src/node_laws.rt"),
-    "instants::laws": ("instants/src/laws.rt", "instants_answers/src/laws.rt", "instants_stream/src/laws.rt"),
+    "instants_laws": ("instants_laws/src/lines.rt", "instants_laws/src/moments.rt", "instants_answers/src/laws.rt", "instants_stream/src/laws.rt"),
 }
 
 HEAD = """\
@@ -119,7 +119,7 @@ def groups_of(family):
             elif call.of is None and re.match(r"fn (\w+)", call.written)[1] in names:
                 free.append(call)
     groups = [(it, by_type[it]) for it in sorted(by_type)]
-    modules = [(name, [call for it in files for call in calls_in(ROOT / "crates" / it)]) for name, files in MODULES.items() if name.startswith(f"{family}::")]
+    modules = [(name, [call for it in files for call in calls_in(ROOT / "crates" / it)]) for name, files in MODULES.items() if re.match(rf"{family}(?:::|_)", name)]
     return [*groups, *([(f"{family}::", free)] if free else []), *modules]
 
 

@@ -1,13 +1,3 @@
-pub mod Again
-pub mod Answered
-pub mod Appended
-pub mod Bytes
 pub mod Counted
-pub mod Decimals
 pub mod FirstNamed
 pub mod Means
-pub mod Pieces
-pub mod Placed
-pub mod Reread
-pub mod Values
-pub mod Written

@@ -24,10 +24,10 @@
 //! - `shown_at`, `answer_moment` and `answer_by` show a moment, and answer a line by one source, as a timeline does.
 //! - `rfc3339_line` writes a moment as a line. It asks for a year from 0 to 9999 and an offset of whole minutes
 //!   within 23:59, as `fits_line` tests.
-//! - `laws` has what follows from the contracts. A call of a law hands it to a proof.
+//!
+//! What follows from the contracts, as that lines compare as their instants do, is told by the laws of `instants_laws`.
 #![tactic(auto)]
 
-pub mod laws;
 mod line_fault;
 mod new_fault;
 mod program;

@@ -5,7 +5,7 @@ ghost use Rattle.instants_stream.specs.Ran.{Ran};
 ghost use Rattle.instants.specs.Place.{answer_to};
 ghost use Rattle.instants.specs.Settings.{setting_of};
 
-use crate::timeline::{Iso8601Way, Led, PlannedWay, Rfc2822Way, Rfc3339Way, Timeline};
+use crate::timeline::{AnswerWay, Iso8601Way, Led, PlannedWay, Rfc2822Way, Rfc3339Way, Timeline};
 use instants_sources::Source;
 use instants_stream::{ByteReader, ByteWriter, RunFault, run_lines};
 
@@ -45,35 +45,30 @@ pub(crate) fn answer_lines<R: ByteReader, W: ByteWriter>(
         R.ByteReader reader.old reader.new W.ByteWriter writer.old writer.new result }
 {
     match timeline.first() {
-        Source::Rfc3339 => run_lines(
-            &Led::new(timeline, Rfc3339Way),
-            limit,
-            buffer,
-            reader,
-            writer,
-        ),
-        Source::Rfc2822 => run_lines(
-            &Led::new(timeline, Rfc2822Way),
-            limit,
-            buffer,
-            reader,
-            writer,
-        ),
-        Source::Iso8601 => run_lines(
-            &Led::new(timeline, Iso8601Way),
-            limit,
-            buffer,
-            reader,
-            writer,
-        ),
+        Source::Rfc3339 => run_by(Rfc3339Way, timeline, limit, buffer, reader, writer),
+        Source::Rfc2822 => run_by(Rfc2822Way, timeline, limit, buffer, reader, writer),
+        Source::Iso8601 => run_by(Iso8601Way, timeline, limit, buffer, reader, writer),
         Source::Items(_) | Source::V3(_) => {
-            run_lines(
-                &Led::new(timeline, PlannedWay),
-                limit,
-                buffer,
-                reader,
-                writer,
-            )
+            run_by(PlannedWay, timeline, limit, buffer, reader, writer)
         }
     }
+}
+
+// The same in one way, whatever the first source.
+#[inline(always)]
+fn run_by<A: AnswerWay + Drop, R: ByteReader, W: ByteWriter>(
+    way: A,
+    timeline: &Timeline,
+    limit: usize,
+    buffer: &mut [u8],
+    reader: &mut R,
+    writer: &mut W,
+) -> Result<(), RunFault>
+    requires room { limit < length buffer.old }
+    requires reader { R.failed reader.old ≡ false }
+    requires writer { W.failed writer.old ≡ false }
+    ensures { Ran (by_answers (answer_to (setting_of timeline.now)) limit)
+        R.ByteReader reader.old reader.new W.ByteWriter writer.old writer.new result }
+{
+    run_lines(&Led::new(timeline, way), limit, buffer, reader, writer)
 }

@@ -13,7 +13,7 @@ use Rattle.instants_sources.specs.Grammar.{Grammar, Items, V3, Rfc2822, Rfc3339,
 use Rattle.instants_sources.specs.Named.{named, defaults_of}
 use Rattle.instants.specs.Place.{Setting, or_named, first_named, in_written_years, shown_or_refused, place_of, place_text, answer_to}
 use Rattle.instants.specs.Refusal.{year, refusal_of, refusal_text}
-use Rattle.instants.proofs.Bytes.{at_most_35}
+use Rattle.instants_laws.proofs.Bytes.{at_most_35}
 use Rattle.parsing_combinator.specs.Fault.{Fault}
 use Rattle.parsing_combinator.specs.Fault as fault
 use Rattle.parsing_combinator.specs.ShortName.{HasShortName}

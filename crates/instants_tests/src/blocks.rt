@@ -7,15 +7,36 @@ use instants::{BlockWriter, ByteWriter, CutReader, ProgramFault, RunFault, StdWr
 use std::alloc::Global;
 use std::io::{Error, ErrorKind, Result as IoResult, Write};
 
-// How a device was used: its calls, and the bytes that it took.
-#[derive(Clone, Copy)]
-struct Used {
+// A writer of std that takes one byte a call. One of its calls fails, or takes nothing; the later ones work again. It keeps
+// how it was used: its calls, and the bytes that it took.
+#[derive(Drop)]
+struct FailsOnce {
+    fails_at: u8,
+    takes_nothing: bool,
     calls: u8,
     len: u8,
     bytes: [u8; 64],
 }
 
-impl Used {
+impl FailsOnce {
+    // One of which this call fails.
+    fn new(fails_at: u8, takes_nothing: bool) -> FailsOnce {
+        FailsOnce {
+            fails_at,
+            takes_nothing,
+            calls: 0,
+            len: 0,
+            bytes: [0; 64],
+        }
+    }
+
+    // Counts a call, and says whether it is the one that fails.
+    fn is_failing(&mut self) -> bool {
+        let at = self.calls;
+        self.calls = at.saturating_add(1);
+        at == self.fails_at
+    }
+
     // Takes the first byte, if there is one and room for it, and says how many were taken.
     fn take(&mut self, from: &[u8]) -> usize
         ensures { result ≤ length from.now }
@@ -40,24 +61,7 @@ fn failure(takes_nothing: bool) -> IoResult<usize>
     Err(Error::from(ErrorKind::Other))
 }
 
-// A writer of std that takes one byte a call. One of its calls fails, or takes nothing; the later ones work again.
-#[derive(Drop)]
-struct FailsOnce<'a> {
-    used: &'a mut Used,
-    fails_at: u8,
-    takes_nothing: bool,
-}
-
-impl FailsOnce<'_> {
-    // Counts a call, and says whether it is the one that fails.
-    fn is_failing(&mut self) -> bool {
-        let at = self.used.calls;
-        self.used.calls = at.saturating_add(1);
-        at == self.fails_at
-    }
-}
-
-impl Write for FailsOnce<'_> {
+impl Write for FailsOnce {
     ghost use Rattle.std.specs.Prelude.{None};
 
     ghost contents = { λ _. None };
@@ -66,7 +70,7 @@ impl Write for FailsOnce<'_> {
         if self.is_failing() {
             return failure(self.takes_nothing);
         }
-        Ok(self.used.take(from))
+        Ok(self.take(from))
     }
 
     fn flush(&mut self) -> IoResult<()> {
@@ -77,11 +81,12 @@ impl Write for FailsOnce<'_> {
     }
 }
 
-// What a run answers, and whether its writer has failed.
-type End = (Result<(), ProgramFault<'static>>, bool);
-
-// How a run over a block ends.
-fn run_in(alloc: Global, block: Vec<u8>, device: FailsOnce) -> End
+// How a run over a block ends: what it answers, and whether its writer has failed.
+fn run_in(
+    alloc: Global,
+    block: Vec<u8>,
+    device: &mut FailsOnce,
+) -> (Result<(), ProgramFault<'static>>, bool)
     requires { 0 < vec_len block }
 {
     let mut reader = CutReader::new(STREAM, 26, None);
@@ -91,45 +96,32 @@ fn run_in(alloc: Global, block: Vec<u8>, device: FailsOnce) -> End
     (answer, writer.has_failed())
 }
 
-// How a run over a block ends whose call at this place fails, and how the device was used.
-fn run_failing(alloc: Global, block: Vec<u8>, at: u8, takes_nothing: bool) -> (End, Used)
-    requires { 0 < vec_len block }
-{
-    let mut used = Used {
-        calls: 0,
-        len: 0,
-        bytes: [0; 64],
-    };
-    let device = FailsOnce {
-        used: &mut used,
-        fails_at: at,
-        takes_nothing,
-    };
-    let end = run_in(alloc, block, device);
-    (end, used)
+// Whether a run whose call at this place fails has written what came before, and makes no call behind it.
+fn is_used(device: &FailsOnce, fails: bool, has_failed: bool) -> bool {
+    let len = device.fails_at.min(48);
+    (has_failed, device.calls, device.len) == (fails, len + 1, len)
+        && OUTPUT.starts_with(&device.bytes[..len as usize])
 }
 
-// Whether this is how a run ends whose call at this place fails: it has written what came before, and makes no call
-// behind it.
-fn is_end((answer, has_failed): End, used: &Used, at: u8, takes_nothing: bool) -> bool {
+// Whether a run over a block ends so whose call at this place fails.
+fn ends_so(alloc: Global, block: Vec<u8>, at: u8, takes_nothing: bool) -> bool
+    requires { 0 < vec_len block }
+{
     let fails = at < 48 || at == 48 && !takes_nothing;
-    let wanted = if fails {
-        Err(ProgramFault::Run(RunFault::Write))
-    } else {
-        Ok(())
+    let mut device = FailsOnce::new(at, takes_nothing);
+    let (answer, has_failed) = run_in(alloc, block, &mut device);
+    let wanted = match answer {
+        Ok(()) => !fails,
+        Err(fault) => fails && fault == ProgramFault::Run(RunFault::Write),
     };
-    let len = at.min(48);
-    answer == wanted
-        && (has_failed, used.calls, used.len) == (fails, len + 1, len)
-        && OUTPUT.starts_with(&used.bytes[..len as usize])
+    wanted && is_used(&device, fails, has_failed)
 }
 
 // Whether runs over blocks of so many bytes end so, whichever of the first calls fails.
 fn end_so(alloc: Global, size: usize, calls: u8, takes_nothing: bool) -> Option<bool> {
     for at in 0..calls {
         let block = vec![in alloc; 0; size.max(1)].ok()?;
-        let (end, used) = run_failing(alloc, block, at, takes_nothing);
-        if !is_end(end, &used, at, takes_nothing) {
+        if !ends_so(alloc, block, at, takes_nothing) {
             return Some(false);
         }
     }

@@ -1,9 +1,11 @@
-//! Tests of the program's crates, each by itself and several together. Rows of words and streams with their answers
+//! Tests of both programs' crates, each by itself and several together. Rows of words and streams with their answers
 //! stand in the program `rows`.
 #![tactic(auto)]
 
 #[cfg(test)]
 mod blocks;
+#[cfg(test)]
+mod dated_lines;
 #[cfg(test)]
 mod dates_in_lines;
 #[cfg(test)]

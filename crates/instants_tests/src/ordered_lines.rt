@@ -5,12 +5,12 @@ ghost use Rattle.calendar.specs.UtcOffset.{IsClockOffset};
 
 use crate::support::moment;
 use calendar::{Month, UtcOffset};
-use instants::laws::{
+use instants::{Answer, SourceText, Timeline, fits_line, rfc3339_line};
+use instants_answers::is_target;
+use instants_laws::{
     appended, difference, difference_added, embedding, fixed_point, joined_streams,
     lines_read_again as reread, order_of_lines, two_targets,
 };
-use instants::{Answer, SourceText, Timeline, fits_line, rfc3339_line};
-use instants_answers::is_target;
 use std::alloc::Global;
 use std::process::Abort;
 

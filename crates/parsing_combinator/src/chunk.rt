@@ -1,7 +1,7 @@
-//! Shapes of eight bytes, each read at once.
+//! Digits, up to eight of them read at once.
 //!
-//! The bytes stand in one number, the first one lowest: one test takes all of them, as one product then takes the
-//! tens of all digits. A text of another shape may be `None` here and still be read byte by byte.
+//! Eight bytes stand in one number, the first one lowest: one test takes all of them, and one product the tens of all
+//! digits. A text of another shape may be `None` here and still be read byte by byte.
 ghost use Rattle.std.specs.Prelude.{◌≡◌, ◌≤◌, ◌<◌, ◌+◌, ◌-◌, ◌*◌, ◌%◌, ◌^◌, IfSome, IfNone, Some, [], take, drop, length, replicate, bit_and};
 ghost use Rattle.base.specs.Bytes.{digit_zero};
 ghost use Rattle.parsing_combinator.specs.Pieces as Pieces;

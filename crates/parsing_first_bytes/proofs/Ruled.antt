@@ -1,7 +1,7 @@
 -- Lines with a byte that can't stand at its place.
 use Rattle.std.proofs.Common.{◌≡◌, ◌<◌, ◌&&◌, ℕ, Bool, true, false, not, List, length, get_or, refl, ◌∙◌}
 use Rattle.std.proofs.lemmas.List.{get_or_default}
-use Rattle.parsing_first_bytes.specs.FirstBytes.{is_one, rule_out}
+use Rattle.parsing_first_bytes.specs.FirstBytes.{fits_at, rule_out}
 use Rattle.parsing_first_bytes.specs.declared.first_bytes.FirstBytes.{FirstBytes}
 
 second_fails : (a b c : Bool) → b ≡ false → not (a && (b && c)) ≡ true
@@ -21,22 +21,23 @@ fourth_fails : (a b c d : Bool) → d ≡ false → not (a && (b && (c && d))) �
 fourth_fails true b c d e = third_end b c d e
 fourth_fails false b c d e = refl
 
-not_one : (bytes : List Bool) (line : List ℕ) (place code byte : ℕ) → code < length bytes → code ≡ byte → get_or line place 0 ≡ byte → get_or bytes code false ≡ false → is_one bytes line place ≡ false
-not_one bytes line place code byte within same stands none = rw (stands, ← same) (get_or_default bytes code true false within ∙ none)
+-- a byte that can't stand at its place of a line
+not_there : (bytes : List Bool) (line : List ℕ) (place code byte : ℕ) → code < length bytes → code ≡ byte → get_or line place 0 ≡ byte → get_or bytes code false ≡ false → get_or bytes (get_or line place 0) true ≡ false
+not_there bytes line place code byte within same at none = rw (at, ← same) (get_or_default bytes code true false within ∙ none)
 
 module _ (f : FirstBytes) (line : List ℕ) (code byte : ℕ) (same : code ≡ byte) where
   pub first_out : code < length f.first → get_or line 0 0 ≡ byte → get_or f.first code false ≡ false → rule_out f line ≡ true
   unfolding rule_out
-  first_out within stands none = rw (not_one f.first line 0 code byte within same stands none) refl
+  first_out within at none = rw (not_there f.first line 0 code byte within same at none) refl
 
   pub second_out : code < length f.second → get_or line 1 0 ≡ byte → get_or f.second code false ≡ false → rule_out f line ≡ true
   unfolding rule_out
-  second_out within stands none = second_fails _ _ _ (not_one f.second line 1 code byte within same stands none)
+  second_out within at none = second_fails _ _ _ (not_there f.second line 1 code byte within same at none)
 
   pub third_out : code < length f.third → get_or line 2 0 ≡ byte → get_or f.third code false ≡ false → rule_out f line ≡ true
   unfolding rule_out
-  third_out within stands none = third_fails _ _ _ _ (not_one f.third line 2 code byte within same stands none)
+  third_out within at none = third_fails _ _ _ _ (not_there f.third line 2 code byte within same at none)
 
   pub fourth_out : code < length f.fourth → get_or line 3 0 ≡ byte → get_or f.fourth code false ≡ false → rule_out f line ≡ true
   unfolding rule_out
-  fourth_out within stands none = fourth_fails (is_one f.first line 0) (is_one f.second line 1) (is_one f.third line 2) _ (not_one f.fourth line 3 code byte within same stands none)
+  fourth_out within at none = fourth_fails (fits_at f line 0) (fits_at f line 1) (fits_at f line 2) _ (not_there f.fourth line 3 code byte within same at none)

@@ -10,7 +10,7 @@ use Rattle.parsing_record.specs.Record.{Record}
 use Rattle.parsing_first_bytes.specs.declared.front.Front.{Front}
 use Rattle.parsing_first_bytes.specs.Front.{Leaves, Begins, stands}
 use Rattle.parsing_first_bytes.specs.declared.first_bytes.FirstBytes.{FirstBytes}
-use Rattle.parsing_first_bytes.specs.FirstBytes.{is_one, rule_out, IsRefusedAt, AreOf}
+use Rattle.parsing_first_bytes.specs.FirstBytes.{fits_at, rule_out, IsRefusedAt, AreOf}
 
 counted_none : (f : Front) (line : List ℕ) (x : Answer) (n : ℕ) (next : Counted) → IfOk x (λ y. Leaves f line y.1) → ((r : Record) (rest : List ℕ) → Leaves f line rest → result_ok (next r rest).0 ≡ None) → result_ok (then_counted x n next).0 ≡ None
 counted_none f line (Ok y) n next h k = k y.0 y.1 h
@@ -78,9 +78,9 @@ AreOfPlace m place bytes = (b : ℕ) → get_or bytes b true ≡ false → IsRef
 pub of_four : (m : Meaning) (f : FirstBytes) → AreOfPlace m 0 f.first → AreOfPlace m 1 f.second → AreOfPlace m 2 f.third → AreOfPlace m 3 f.fourth → AreOf m f
 unfolding rule_out
 of_four m f h0 h1 h2 h3 line e r =
-    let third = is_one f.third line 2 in
-    let fourth = is_one f.fourth line 3 in
-    one_is_not (is_one f.first line 0) (is_one f.second line 1 && (third && fourth)) e (λ a. h0 (get_or line 0 0) a line refl r)
-    (λ e1. one_is_not (is_one f.second line 1) (third && fourth) e1 (λ a. h1 (get_or line 1 0) a line refl r)
+    let third = fits_at f line 2 in
+    let fourth = fits_at f line 3 in
+    one_is_not (fits_at f line 0) (fits_at f line 1 && (third && fourth)) e (λ a. h0 (get_or line 0 0) a line refl r)
+    (λ e1. one_is_not (fits_at f line 1) (third && fourth) e1 (λ a. h1 (get_or line 1 0) a line refl r)
     (λ e2. one_is_not third fourth e2 (λ a. h2 (get_or line 2 0) a line refl r)
     (λ e3. h3 (get_or line 3 0) (is_false fourth e3) line refl r)))

@@ -1,17 +1,29 @@
 -- Lines that begin otherwise than all that is read.
-use Rattle.std.specs.Prelude.{◌≡◌, ◌&&◌, ℕ, Bool, true, not, List, None, get_or}
+use Rattle.std.specs.Prelude.{◌≡◌, ◌&&◌, ℕ, zero, suc, Bool, true, not, List, [], None, get_or}
 use Rattle.std.specs.Result.{result_ok}
 use Rattle.parsing_record.specs.Meaning.{Meaning}
 use Rattle.parsing_record.specs.Record.{Record}
 use Rattle.parsing_first_bytes.specs.declared.first_bytes.FirstBytes.{FirstBytes}
 
--- whether the byte at a place of a line is one of those that can stand there; behind the line stands 0
-abbrev pub is_one : List Bool → List ℕ → ℕ → Bool
-is_one bytes line place = get_or bytes (get_or line place 0) true
+-- the bytes that can stand at a place of a line that is read; behind the fourth place none is left out
+abbrev pub bytes_at : FirstBytes → ℕ → List Bool
+bytes_at f zero = f.first
+bytes_at f (suc zero) = f.second
+bytes_at f (suc (suc zero)) = f.third
+bytes_at f (suc (suc (suc zero))) = f.fourth
+bytes_at f (suc (suc (suc (suc place)))) = []
+
+-- whether a byte can stand at a place
+abbrev pub can_stand : FirstBytes → ℕ → ℕ → Bool
+can_stand f place byte = get_or (bytes_at f place) byte true
+
+-- whether the byte at a place of a line can stand there; behind the line stands 0
+abbrev pub fits_at : FirstBytes → List ℕ → ℕ → Bool
+fits_at f line place = can_stand f place (get_or line place 0)
 
 -- whether one of the first four bytes can't stand at its place
 unfoldable pub rule_out : FirstBytes → List ℕ → Bool
-rule_out f line = not (is_one f.first line 0 && (is_one f.second line 1 && (is_one f.third line 2 && is_one f.fourth line 3)))
+rule_out f line = not (fits_at f line 0 && (fits_at f line 1 && (fits_at f line 2 && fits_at f line 3)))
 
 -- a line with this byte at this place is refused, whatever record reading begins with
 abbrev pub IsRefusedAt : Meaning → ℕ → ℕ → Type 0

@@ -4,7 +4,7 @@ ghost use Rattle.description_items.specs.Tree.{trees, listed};
 ghost use Rattle.description_tree.specs.Description.{v3_tree};
 ghost use Rattle.parsing_components.specs.Component.{reads_component, reads_component_v3};
 ghost use Rattle.parsing_record.specs.Reads.{reading, reading_of_all};
-ghost use Rattle.parsing_first_bytes.specs.FirstBytes.{AreOf, rule_out};
+ghost use Rattle.parsing_first_bytes.specs.FirstBytes.{AreOf, can_stand, rule_out};
 
 use crate::items::bytes_at;
 use description_items::BorrowedFormatItem;
@@ -82,10 +82,11 @@ impl FirstBytes {
             && self.fourth[byte_at(line, 3)])
     }
 
-    /// Whether a byte can stand at a place of a line that is read: `true` says nothing of the line, and so does a place behind
-    /// the first four. A line that is shorter counts as one that goes on with NUL.
+    /// Whether a byte can stand at a place of a line that is read; any can behind the first four. A line that is shorter
+    /// counts as one that goes on with NUL.
     pub fn can_stand(&self, place: usize, byte: u8) -> bool
-        ensures { result ≡ false
+        ensures value { result ≡ can_stand self.now place byte }
+        ensures ruled_out { result ≡ false
             → (line : List ℕ) → get_or line place 0 ≡ byte → rule_out self.now line ≡ true }
     {
         let code = usize::from(byte);

@@ -1,0 +1,10 @@
+pub mod Again
+pub mod Answered
+pub mod OneMore
+pub mod Bytes
+pub mod Decimals
+pub mod Pieces
+pub mod Placed
+pub mod Reread
+pub mod Values
+pub mod Written

@@ -1,0 +1,4 @@
+pub mod Answered
+pub mod FixedPoint
+pub mod Output
+pub mod Appended
