@@ -6,8 +6,7 @@
 The build is `rt ci` over a copy of the program's crates alone, without tests and edits: it proves them side by side, has
 both compilers make the program, and compares what it writes with the stored run. The longest chain of crates, which no
 number of processors makes shorter, is proved beside it by runs of its own, and each proof there gets as many processors as
-it can use. What the chain will wait for is proved by further runs, which take what those leave, and the whole run takes the
-rest. What is proved is kept for the repository's own `rt ci` on this machine.
+it can use; the other run takes what they leave. What is proved is kept for the repository's own `rt ci` on this machine.
 """
 
 import contextlib
@@ -30,14 +29,9 @@ from program import PARTS, ROOT, Program, uses
 RUN = ("args", "stdin", "stdout", "status")
 # What is known before the first crate is proved: for so many seconds the pace is that of docs/GATE.md.
 FOREKNOWN = 300
-# How long a proof takes that docs/GATE.md does not tell of; from which part of all proofs on one of the longest chain gets a
-# run of its own, and what it waits for beside the chain gets one.
-USUAL, LARGE, MUCH = 100, 0.03, 0.1
-# How far the other runs stand back behind those of the longest chain: those of what it waits for, and the whole one.
-BESIDE, WHOLE = 5, 10
-# How much memory for each processor there has to be for the runs of what the chain waits for: each run takes the memory for free
-# that is free when it begins.
-ROOMY = 3 << 30
+# How long a proof takes that docs/GATE.md does not tell of, and from which part of all proofs on one of the longest chain gets
+# a run of its own.
+USUAL, LARGE = 100, 0.03
 
 
 class BuildFailed(Exception):
@@ -103,7 +97,7 @@ def prove(program, room):
     """Proves and builds what is laid out there, tells of each crate, and returns the program's file."""
     began, log, progress = time.monotonic(), [], Progress(program)
     how = {"cwd": room, "stdin": subprocess.DEVNULL, "stdout": subprocess.PIPE, "stderr": subprocess.STDOUT, "text": True}
-    whole = ["nice", "-n", str(WHOLE), "rt", "ci"]
+    whole = ["nice", "-n", "10", "rt", "ci"]
     with hurrying(program, room), subprocess.Popen(whole, errors="replace", preexec_fn=ended_with_caller(), **how) as ran:
         for line in ran.stdout:
             log.append(line)
@@ -132,49 +126,31 @@ def longest_chain(program):
     return chains[program.crate]
 
 
-def hurried(program):
-    """Returns the long proofs of the longest chain, and those among them that wait for much beside it."""
-    known, chain = known_times(), longest_chain(program)
-    lasts = lambda crates: sum(known.get(it, USUAL) for it in crates)
-    whole = lasts(program.crates())
-    long, waiting, begun = [it for it in chain if lasts([it]) >= LARGE * whole], [], set(chain)
-    for crate in long:
-        below = set(Program(crate, crate).crates()) - begun
-        waiting += [crate] * (lasts(below) >= MUCH * whole)
-        begun |= below
-    return long, waiting
-
-
 @contextlib.contextmanager
 def hurrying(program, room):
-    """Proves the longest chain meanwhile, up to each of its long proofs in turn, and what these wait for beside it."""
-    long, waiting = hurried(program)
-    processors, is_over = len(os.sched_getaffinity(0)), threading.Event()
-    memory = os.sysconf("SC_PAGE_SIZE") * os.sysconf("SC_PHYS_PAGES")
-    # (some of the crates that such a run comes to are those of the chain, which another run proves)
-    few = {"RT_JOBS": str(max(processors - 1, 1))}
+    """Proves the longest chain meanwhile, up to each of its long proofs in turn."""
+    known, is_over = known_times(), threading.Event()
+    least = LARGE * sum(known.get(it, USUAL) for it in program.crates())
 
-    def hurry(crates, back, settings):
-        for crate in crates:
+    def hurry():
+        for crate in longest_chain(program):
+            if known.get(crate, USUAL) < least:
+                continue
             how = {"cwd": room, "stdin": subprocess.DEVNULL, "stdout": subprocess.DEVNULL, "stderr": subprocess.DEVNULL}
-            alone = ["nice", "-n", str(back), "rt", "ci", crate]
-            with subprocess.Popen(alone, env={**os.environ, **settings}, preexec_fn=ended_with_caller(), **how) as ran:
+            with subprocess.Popen(["rt", "ci", crate], preexec_fn=ended_with_caller(), **how) as ran:
                 while ran.poll() is None and not is_over.wait(1):
                     pass
                 ran.terminate()
             if is_over.is_set():
                 break
 
-    runs = [(long, 0, {}), (waiting if memory >= ROOMY * processors else [], BESIDE, few)]
-    lanes = [threading.Thread(target=hurry, args=it) for it in runs]
-    for lane in lanes:
-        lane.start()
+    thread = threading.Thread(target=hurry)
+    thread.start()
     try:
         yield
     finally:
         is_over.set()
-        for lane in lanes:
-            lane.join()
+        thread.join()
 
 
 def put_in_place(program, made, began):
