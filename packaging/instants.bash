@@ -11,6 +11,7 @@ _instants()
     case $place in
         1) words='+00:00 -00:00' ;;
         2) words='- +00:00' ;;
+        # (the second is INSTANTS_GREATEST_LIMIT of instants.h)
         3) words='100 1048576' ;;
         *)
             case $before in

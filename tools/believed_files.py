@@ -41,11 +41,29 @@ def imports_in(text, keyword):
     return found
 
 
+def outside_of_modules(lines):
+    """Returns lines with what stands in a module without a name as it would stand outside of it, and the head of its module
+    for the number of each such line."""
+    plain, heads, head = [], {}, None
+    for line in lines:
+        if re.match(r"module _ .*\bwhere$", line):
+            head = line
+            continue
+        head = head if not line or line.startswith("  ") else None
+        if head:
+            heads[len(plain)] = head
+        plain.append(line.removeprefix("  ") if head else line)
+    return plain, heads
+
+
 @functools.cache
 def definitions_in(file):
-    """Returns the definitions of a file by name, each with its lines."""
+    """Returns the definitions of a file by name, each with its lines. The head of a module without a name is one too, by the
+    name that it is as a whole: what stands in the module rests on it."""
     found = {}
     lines = [it for it in file.read_text().split("\n") if not it.strip().startswith("--") and not it.startswith("use ")]
+    lines, heads = outside_of_modules(lines)
+    found.update({it: [it] for it in heads.values()})
     text = "\n".join(lines)
     # (what stands in a mutual block stands as it would outside of it)
     text = re.sub(r"^(?:abbrev |unfoldable |opaque )?mutual\b.*\n((?:(?:  .*)?\n)*)", lambda it: re.sub(r"^  ", "", it[1], flags=re.M), text, flags=re.M)
@@ -59,6 +77,15 @@ def definitions_in(file):
                 found.setdefault(name, [])
                 found[name] = found[name] or body
     return found
+
+
+@functools.cache
+def module_heads(file):
+    """Returns the head of the module without a name in which each definition of a file stands, for those that stand in one."""
+    lines = [it for it in file.read_text().split("\n") if not it.strip().startswith("--")]
+    plain, heads = outside_of_modules(lines)
+    begun = {at: re.match(r"(?:abbrev |unfoldable |opaque )?pub (?:record |data )?(\S+)", plain[at]) for at in heads}
+    return {it[1]: heads[at] for at, it in begun.items() if it}
 
 
 def words_of(text, names):
@@ -82,12 +109,20 @@ def reached_from(text, imports, own, seen):
             continue
         body = definitions_in(file).get(name)
         if body:
-            seen[file, name] = body
-            reached_from("\n".join(body), imports_in(file.read_text(), "use"), file, seen)
+            take(file, name, body, seen)
+
+
+def take(file, name, body, seen):
+    """Adds a definition, and all that it rests on."""
+    seen[file, name] = body
+    head = module_heads(file).get(name)
+    if head and (file, head) not in seen:
+        take(file, head, [head], seen)
+    reached_from("\n".join(body), imports_in(file.read_text(), "use"), file, seen)
 
 
 def believed():
-    source = (CRATES / "instants" / "src" / "program.rt").read_text()
+    source = (CRATES / "instants_timeline" / "src" / "program.rt").read_text()
     clauses = source[source.index("pub fn run_words") : source.index("let said = read_words")]
     seen = {}
     reached_from(clauses, imports_in(source, "ghost use"), None, seen)

@@ -7,6 +7,8 @@ The packages of Debian: binutils gcc valgrind cargo rustc python3 libsqlite3-dev
 those that were built last; where they are not, or are older than their sources, they are proved and built first
 (tools/build_program.py, tools/build_library.py).
 
+- The numbers of the header are those of the sources and of the other languages (tools/header_numbers.py), it says how much
+  stack a call needs, and it is valid C and C++ by itself.
 - C: `bindings/c/answer.c` answers 100,000 mixed lines (bench/lines.py), with some that are empty, too long, no text or hold a
   NUL, byte for byte as the program does, with the sanitizers of addresses and of what is undefined, and under valgrind, with
   no leak. It refuses words as the program does: by its sentence and its status. `limits.c` ends early in all ways, with the
@@ -32,6 +34,7 @@ sys.dont_write_bytecode = True
 
 import build_library
 import build_program
+import header_numbers
 from program import ROOT, Program
 
 sys.path.insert(0, str(ROOT / "bench"))
@@ -44,7 +47,7 @@ SHARED = build_library.out() / build_library.SHARED
 LOG = "%d/%b/%Y:%H:%M:%S %z"
 SOURCES = ["rfc3339", "rfc2822", "strftime", LOG]
 WORDS = ["+00:00", "-", "100", *SOURCES]
-GREATEST = "1048576"
+GREATEST = str(header_numbers.in_header("GREATEST_LIMIT"))
 WARNINGS = ["-std=c11", "-Wall", "-Wextra", "-Werror"]
 SANITIZERS = ["-g", "-O1", "-fsanitize=address,undefined", "-fno-sanitize-recover=all"]
 VALGRIND = ["valgrind", "--quiet", "--error-exitcode=99", "--leak-check=full", "--errors-for-leak-kinds=all"]
@@ -128,6 +131,15 @@ def compiled(name, library, flags=(), link=()):
     source = BINDINGS / "c" / f"{name}.c"
     tell_run(f"C: {name}.c compiles", ["gcc", *WARNINGS, *(flags or ["-O2"]), f"-I{INCLUDE}", "-o", made, source, LIBRARY, *link])
     return made
+
+
+def try_header(library):
+    """Tries the header by itself."""
+    wrong = header_numbers.wrong_numbers()
+    tell("the header: its numbers", not wrong, "; ".join(wrong))
+    tell("the header: it says how much stack a call needs", "@STACK@" not in header_numbers.HEADER.read_text(), "@STACK@ is no number")
+    for language in ("c", "c++"):
+        tell_run(f"the header: valid {language}", ["gcc", "-x", language, "-Wall", "-Wextra", "-Wpedantic", "-Werror", "-fsyntax-only", header_numbers.HEADER])
 
 
 def try_c(library):
@@ -256,7 +268,7 @@ def main():
         sys.exit(f"try_bindings: {fault}")
     with tempfile.TemporaryDirectory(prefix="bindings-") as folder:
         library = Library(pathlib.Path(folder), given.lines)
-        for tried in (try_c, try_rust, try_python, try_sqlite):
+        for tried in (try_header, try_c, try_rust, try_python, try_sqlite):
             tried(library)
     print(f"{counts[True]} passed, {counts[False]} failed")
     return int(counts[False] > 0)

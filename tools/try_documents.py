@@ -57,7 +57,14 @@ LINES_PROGRAM = ROOT / "crates" / "instants_lines_program" / "out" / "instants_l
 CHECK = ROOT / "crates" / "description_check" / "out" / "description_check"
 LIBRARY = ROOT / "crates" / "instants_c" / "out" / "libinstants.a"
 # The tools that say whether a page is as the sources have it.
-CHECKS = (("description_page.py", "--check"), ("described_words.py",), ("calls_page.py", "--check"), ("believed_files.py", "--check"))
+CHECKS = (
+    ("description_page.py", "--check"),
+    ("described_words.py",),
+    ("calls_page.py", "--check"),
+    ("believed_files.py", "--check"),
+    ("clause_words.py", "--check"),
+    ("header_numbers.py", "--check"),
+)
 SECONDS = 60
 # Fences of code that is read and not run.
 NOT_RUN = ("sh builds", "rust")

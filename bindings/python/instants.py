@@ -11,11 +11,11 @@ The shared library is `libinstants.so`: the file that INSTANTS_LIBRARY names, or
 import ctypes
 import os
 
-__all__ = ["LINE_ROOM", "Refused", "answer_bytes", "answers", "version"]
+__all__ = ["GREATEST_LIMIT", "LINE_ROOM", "Refused", "answer_bytes", "answers", "version"]
 
-# Bytes that always suffice for a line's answer and its line feed.
+# Numbers of instants.h, with which tools/header_numbers.py compares them: bytes that always suffice for a line's answer and
+# its line feed, and the greatest limit that the words can name.
 LINE_ROOM = 36
-# The greatest limit that the words can name.
 GREATEST_LIMIT = 1_048_576
 
 OK, FAILED, REFUSED = 0, 1, 2
@@ -44,7 +44,7 @@ def answers(lines, *, target, sources, assumed="-", limit=None):
     """Returns the answers to lines, which are texts or bytes, as a list of texts. A line feed at a line's end is no part of it.
 
     The target, the assumed offset, the limit and the sources are the program's words. Without a limit no line is too long,
-    but for one of more than 1,048,576 bytes.
+    but for one of more than GREATEST_LIMIT bytes.
     """
     stream = _stream(list(lines))
     if limit is None:

@@ -5,7 +5,8 @@
  *     SELECT instant('+00:00', 'rfc3339', 'strftime', '%d/%b/%Y:%H:%M:%S %z', '01/Jan/2021:22:04:07 -0500');
  *     2021-01-02T03:04:07.000000000Z
  *
- * Targets and sources are the program's words; no offset is assumed, and a text of up to 1,048,576 bytes is not too long.
+ * Targets and sources are the program's words; no offset is assumed, and a text of up to INSTANTS_GREATEST_LIMIT bytes is not
+ * too long.
  * Answers of one target compare as texts as their moments do, so the function serves as a key, also of an index. It is NULL
  * where one of its arguments is. Of a text with line feeds it is the answers to its lines, with a line feed between them.
  */
@@ -18,7 +19,7 @@
 
 SQLITE_EXTENSION_INIT1
 
-enum { GREATEST_LIMIT = 1048576, SENTENCE_ROOM = 1024 };
+enum { SENTENCE_ROOM = 1024 };
 
 /* A block of memory that bytes are put into, one after the other. */
 struct block {
@@ -56,7 +57,7 @@ static bool is_missing(sqlite3_context *context, int count, sqlite3_value **valu
 static bool put_words(struct block *words, int count, sqlite3_value **values, size_t text_len)
 {
     char limit[32];
-    size_t greatest = text_len < GREATEST_LIMIT ? text_len : GREATEST_LIMIT;
+    size_t greatest = text_len < INSTANTS_GREATEST_LIMIT ? text_len : INSTANTS_GREATEST_LIMIT;
     int limit_len = snprintf(limit, sizeof limit, "\n-\n%zu", greatest > 0 ? greatest : 1);
     for (int at = 0; at < count; at++) {
         const unsigned char *word = sqlite3_value_text(values[at]);

@@ -12,7 +12,7 @@
 
 use std::fmt;
 
-/// Bytes that always suffice for a line's answer and its line feed.
+/// Bytes that always suffice for a line's answer and its line feed, as `instants.h` has them.
 pub const LINE_ROOM: usize = 36;
 
 const OK: u8 = 0;

@@ -24,31 +24,20 @@
 //! - `shown_at`, `answer_moment` and `answer_by` show a moment, and answer a line by one source, as a timeline does.
 //! - `rfc3339_line` writes a moment as a line. It asks for a year from 0 to 9999 and an offset of whole minutes
 //!   within 23:59, as `fits_line` tests.
-//!
-//! What follows from the contracts, as that lines compare as their instants do, is told by the laws of `instants_laws`.
+//! - `laws` has what follows from the contracts, as that lines compare as their instants do. A call of a law hands it to a
+//!   proof.
 #![tactic(auto)]
-
-mod line_fault;
-mod new_fault;
-mod program;
-mod program_fault;
-mod runs;
-mod shown;
-mod timeline;
 
 pub use instants_answers::{
     Answer, fits_line, fits_utc_line, rfc3339_line, utc_line_by_timestamp, utc_line_by_utc,
 };
+pub use instants_laws as laws;
 pub use instants_sources::{DescribedItems, DescribedTree, Source};
 pub use instants_stream::{
     BlockWriter, ByteReader, ByteWriter, CutReader, CutWriter, DeviceFailed, RunFault, StdReader,
     StdWriter,
 };
+pub use instants_timeline::{
+    LineFault, NewFault, ProgramFault, Timeline, answer_by, answer_moment, run, run_words, shown_at,
+};
 pub use instants_words::{SourceText, Sources, Words, WordsFault, read_words};
-pub use line_fault::LineFault;
-pub use new_fault::NewFault;
-pub use program::run_words;
-pub use program_fault::ProgramFault;
-pub use runs::run;
-pub use shown::{answer_by, answer_moment, shown_at};
-pub use timeline::Timeline;

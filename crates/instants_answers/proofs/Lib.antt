@@ -1,5 +1,7 @@
 pub mod DecimalLemmas
 pub mod PairLemmas
+pub mod MinuteLemmas
+pub mod TargetLemmas
 pub mod AppendLemmas
 pub mod MovedLemmas
 pub mod DigitLemmas

@@ -1,9 +1,10 @@
 -- Moments at another offset, by the minutes between the offsets.
-use Rattle.std.proofs.Common.{◌≡◌, ℕ, suc, ◌+◌, ◌*◌, ◌/◌, ◌%◌, ◌<◌, ◌≤◌, List, [], ◌∷◌, ◌++◌, append_assoc, codes, Some, refl, sym, ap, subst, ◌∙◌, arith, to_z, of_z, w32, ℤ, pos, ◌+ℤ◌, ◌-ℤ◌, ◌*ℤ◌}
+use Rattle.std.proofs.Common.{◌≡◌, ℕ, zero, suc, inl, inr, ◌-◌, ◌+◌, ◌*◌, ◌/◌, ◌%◌, ◌<◌, ◌≤◌, List, [], ◌∷◌, ◌++◌, append_assoc, codes, Some, refl, sym, ap, subst, ◌∙◌, arith, to_z, of_z, w32, ℤ, pos, ◌+ℤ◌, ◌-ℤ◌, ◌*ℤ◌}
 use Rattle.std.specs.Prelude.{IsTrue, int_div, unsigned_abs}
+use Rattle.std.proofs.lemmas.Bool.{cases_lt}
 use Rattle.std.proofs.lemmas.Bool.Decides.{nat_tests}
 use Rattle.std.proofs.lemmas.Int.{ints, quot-rem}
-use Rattle.base.specs.Bytes.{colon, dot}
+use Rattle.base.specs.Bytes.{dot}
 use Rattle.calendar.specs.UtcOffset.{IsClockOffset}
 use Rattle.calendar_clock.specs.TimeParts.{second_of_parts, nanosecond_of_parts}
 use Rattle.calendar_count.specs.Range.{IsCount}
@@ -17,6 +18,7 @@ use Rattle.datetime_wall.proofs.lemmas.WallClocks.{day_of-wall_clock, nanosecond
 use Rattle.parsing_fields.specs.Moment.{day_of_fields, moment_of}
 use Rattle.parsing_fields.specs.declared.fields.Fields.{Fields}
 use Rattle.instants_answers.specs.Decimal.{decimal}
+use Rattle.instants_answers.specs.Minute.{minute_text}
 use Rattle.instants_answers.specs.Moved.{at_offset, IsMoved}
 use Rattle.instants_answers.specs.Text.{time_text, parts_text, moment_text, has_written_year, FitsLine}
 
@@ -29,11 +31,28 @@ next_at n = ap day_at (let e : n + 1 ≡ suc n = omega arith in e)
 in_month : (y : ℤ) (m d : ℕ) → d < days_in_month y m → next_day (ymd y m d) ≡ ymd y m (d + 1)
 in_month y m d h = grind (arith, nat_tests)
 
--- the day after a day, in its month, has the next count
-pub next_count : (y : ℤ) (m d next c n : ℕ) → day_at c ≡ ymd y m d → day_at n ≡ ymd y m next → next ≡ d + 1 → next ≤ days_in_month y m → n ≡ c + 1
-next_count y m d next c n here there e h =
-    let same : ymd y m next ≡ ymd y m (d + 1) = ap (λ (k : ℕ). ymd y m k) e in
-    day_at_same n (c + 1) (there ∙ same ∙ sym (next_at c ∙ ap next_day here ∙ in_month y m d (omega arith)))
+-- a day so many days later, in its month, has a count as much higher
+later_at : (y : ℤ) (m d c k : ℕ) → day_at c ≡ ymd y m d → d + k ≤ days_in_month y m → day_at (c + k) ≡ ymd y m (d + k)
+later_at y m d c zero here h = let one : c + 0 ≡ c = omega arith in let other : d + 0 ≡ d = omega arith in rw (one, other) here
+later_at y m d c (suc k) here h =
+    let before = later_at y m d c k here (omega (arith, h)) in
+    let one : c + suc k ≡ (c + k) + 1 = omega arith in
+    let other : d + suc k ≡ (d + k) + 1 = omega arith in
+    rw (one, other) (next_at (c + k) ∙ ap next_day before ∙ in_month y m (d + k) (omega (arith, h)))
+
+later_count : (y : ℤ) (m d e c n : ℕ) → day_at c ≡ ymd y m d → day_at n ≡ ymd y m e → d ≤ e → e ≤ days_in_month y m → n + d ≡ c + e
+later_count y m d e c n here there le h =
+    let to : d + (e - d) ≡ e = omega (arith, le) in
+    let same : day_at n ≡ day_at (c + (e - d)) = there ∙ sym (later_at y m d c (e - d) here (rw to h) ∙ ap (λ (k : ℕ). ymd y m k) to) in
+    omega (arith, le, day_at_same n (c + (e - d)) same)
+
+-- days of one month are as far apart as their counts
+pub same_month : (y : ℤ) (m d e c n : ℕ) → day_at c ≡ ymd y m d → day_at n ≡ ymd y m e → d ≤ days_in_month y m → e ≤ days_in_month y m → n + d ≡ c + e
+same_month y m d e c n here there h g =
+    elim (cases_lt d e) [
+      | inl up ↦ later_count y m d e c n here there (omega (arith, up)) g
+      | inr down ↦ sym (later_count y m e d n c there here (omega (arith, down)) h)
+    ]
 
 pub longest_month : (y : ℤ) (m : ℕ) → days_in_month y m ≤ 31
 longest_month y m = grind arith
@@ -57,8 +76,14 @@ moved f c n day minute minutes low in_calendar here there short within since = r
 -- ---- the wall clock
 
 -- a small number is kept in 32 bits
-pub kept_number : (z : ℤ) → unsigned_abs z ≤ 10_000 → to_z w32 (of_z w32 z) ≡ z
+pub kept_number : (z : ℤ) → unsigned_abs z ≤ 20_000 → to_z w32 (of_z w32 z) ≡ z
 kept_number z h = omega (arith, signed)
+
+-- a sum of small numbers is kept
+pub kept_sum : (x y z m a : ℤ) (b : ℕ) → x ≡ pos 5760 +ℤ m → y ≡ a → z ≡ pos b → unsigned_abs m ≤ 1559 → unsigned_abs a ≤ 1559 → b < 1440
+    → to_z w32 (of_z w32 (to_z w32 (of_z w32 (to_z w32 (of_z w32 x) -ℤ to_z w32 (of_z w32 y))) +ℤ to_z w32 (of_z w32 z))) ≡ (pos 5760 +ℤ m -ℤ a) +ℤ pos b
+kept_sum x y z m a b ex ey ez hm ha hb =
+    rw (ex, ey, ez, kept_number (pos 5760 +ℤ m) (omega (arith, signed)), kept_number a (omega arith), kept_number (pos b) (omega arith), kept_number (pos 5760 +ℤ m -ℤ a) (omega (arith, signed))) (kept_number ((pos 5760 +ℤ m -ℤ a) +ℤ pos b) (omega (arith, signed)))
 
 whole_minutes : (target : ℤ) → IsClockOffset target → target ≡ pos 60 *ℤ int_div target (pos 60)
 whole_minutes target h = omega (arith, signed, quot-rem target (pos 60), h.whole_minutes)
@@ -75,13 +100,13 @@ wall_moved c n minute second fraction other target target_minutes offset minutes
 pub second_parts : (minute second : ℕ) → second < 60 → ((minute * 60 + second) / 3600 ≡ minute / 60) × ((minute * 60 + second) / 60 % 60 ≡ minute % 60) × ((minute * 60 + second) % 60 ≡ second)
 second_parts minute second h = (omega arith, omega arith, omega arith)
 
-by_parts : (front a b c d : List ℕ) → ((((((front ++ a) ++ colon ∷ []) ++ b) ++ colon ∷ []) ++ c) ++ dot ∷ []) ++ d ≡ front ++ (a ++ codes ":" ++ b ++ codes ":" ++ c ++ codes "." ++ d)
+by_parts : (front a b c d : List ℕ) → (((front ++ (codes "T" ++ a ++ codes ":" ++ b ++ codes ":")) ++ c) ++ dot ∷ []) ++ d ≡ front ++ (codes "T" ++ a ++ codes ":" ++ b ++ codes ":" ++ c ++ codes "." ++ d)
 by_parts front a b c d = grind (arith, append_assoc)
 
 -- the time of a minute and a second of it, piece by piece behind what is there
 pub clock_text : (front nine : List ℕ) (minute second fraction : ℕ) → second < 60 → decimal 9 fraction ≡ nine
-    → ((((((front ++ decimal 2 (minute / 60)) ++ colon ∷ []) ++ decimal 2 (minute % 60)) ++ colon ∷ []) ++ decimal 2 second) ++ dot ∷ []) ++ nine ≡ front ++ time_text (minute * 60 + second) fraction
-unfolding time_text
+    → (((front ++ minute_text minute) ++ decimal 2 second) ++ dot ∷ []) ++ nine ≡ front ++ (codes "T" ++ time_text (minute * 60 + second) fraction)
+unfolding time_text minute_text
 clock_text front nine minute second fraction h e =
     let parts = second_parts minute second h in
     rw (parts.0, parts.1, parts.2, e) (by_parts front (decimal 2 (minute / 60)) (decimal 2 (minute % 60)) (decimal 2 second) nine)

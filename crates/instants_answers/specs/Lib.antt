@@ -1,5 +1,6 @@
 pub mod Decimal
 pub mod Text
+pub mod Minute
 pub mod Padded
 pub mod Utc
 pub mod Moved

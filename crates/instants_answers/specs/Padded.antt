@@ -1,11 +1,19 @@
 -- A list in an array of 64 bytes, with zeros behind it.
-use Rattle.std.specs.Prelude.{◌≡◌, ℕ, ◌+◌, ◌-◌, ◌≤◌, List, ◌++◌, length, take, drop, replicate, slice_set}
+use Rattle.std.specs.Prelude.{◌≡◌, ℕ, ◌+◌, ◌-◌, ◌≤◌, ℤ, List, ◌++◌, length, take, drop, replicate, slice_set}
+use Rattle.instants_answers.specs.Text.{offset_text}
 use Rattle.std.proofs.Common.{sym, ap, ◌∙◌, arith, take-append-drop, length-take-le, length-set}
 use Rattle.std.proofs.lemmas.List.{drop-set-lt, drop-drop, drop-replicate}
 
 -- the list and zeros
 abbrev pub padded : List ℕ → List ℕ
 padded v = v ++ replicate (64 - length v) 0
+
+-- the text of an offset and zeros, eight bytes in all
+abbrev pub padded_offset : ℤ → List ℕ
+padded_offset z = offset_text z ++ replicate (8 - length (offset_text z)) 0
+
+abbrev pub offset_len : ℤ → ℕ
+offset_len z = length (offset_text z)
 
 -- len bytes are in use, and the others are zero
 pub record IsPadded (len : ℕ) (bytes : List ℕ) : Type 0 where

@@ -1,6 +1,6 @@
 //! The answer to one line, in storage of fixed size.
 
-ghost use Rattle.std.specs.Prelude.{◌≡◌, ◌+◌, ◌≤◌, [], ◌∷◌, ◌++◌, length, take};
+ghost use Rattle.std.specs.Prelude.{◌≡◌, ◌+◌, ◌-◌, ◌≤◌, [], ◌∷◌, ◌++◌, length, take, drop, replicate};
 
 use std::marker::Model;
 
@@ -75,8 +75,9 @@ impl Answer {
         requires { length self.old + 1 ≤ 64 }
         ensures { self.new ≡ self.old ++ byte ∷ [] }
     {
-        self.bytes[self.len] = byte;
-        self.len += 1;
+        let len = self.len;
+        self.bytes[len] = byte;
+        self.len = len + 1;
     }
 
     /// Adds bytes.
@@ -88,5 +89,18 @@ impl Answer {
         let end = self.len + bytes.len();
         self.bytes[self.len..end].copy_from_slice(bytes);
         self.len = end;
+    }
+
+    // Adds the first of these bytes, of which the others are zero.
+    #[inline(always)]
+    pub(crate) fn push_front(&mut self, bytes: &[u8], count: usize)
+        requires room { length self.old + length bytes.now ≤ 64 }
+        requires few { count ≤ length bytes.now }
+        requires zeros { drop count bytes.now ≡ replicate (length bytes.now - count) 0 }
+        ensures { self.new ≡ self.old ++ take count bytes.now }
+    {
+        let len = self.len;
+        self.bytes[len..len + bytes.len()].copy_from_slice(bytes);
+        self.len = len + count;
     }
 }

@@ -1,6 +1,6 @@
 //! Decimal digits of fixed width, added to an answer.
 
-ghost use Rattle.std.specs.Prelude.{◌≡◌, ◌+◌, ◌/◌, ◌%◌, ◌<◌, ◌≤◌, ◌++◌, length};
+ghost use Rattle.std.specs.Prelude.{◌≡◌, ◌+◌, ◌/◌, ◌%◌, ◌<◌, ◌≤◌, ◌++◌, codes, length};
 ghost use Rattle.base.specs.Bytes.{digit_zero};
 ghost use Rattle.instants_answers.specs.Decimal.{decimal};
 
@@ -10,6 +10,9 @@ use crate::answer::Answer;
 static PAIRS: [u8; 200] =
     *b"0001020304050607080910111213141516171819202122232425262728293031323334353637383940414243444546474849\
     5051525354555657585960616263646566676869707172737475767778798081828384858687888990919293949596979899";
+
+// Each month between hyphens, by its number: there is none before the first one.
+static MONTHS: [u8; 52] = *b"-00--01--02--03--04--05--06--07--08--09--10--11--12-";
 
 #[inline(always)]
 pub(crate) fn pair(number: u32) -> (u8, u8)
@@ -30,8 +33,20 @@ pub(crate) fn push_two(answer: &mut Answer, number: u32)
     ensures len { length answer.new ≡ length answer.old + 2 }
 {
     let (tens, ones) = pair(number);
-    answer.push(tens);
-    answer.push(ones);
+    answer.push_bytes(&[tens, ones]);
+}
+
+// A month between hyphens, by its number.
+#[inline(always)]
+pub(crate) fn push_month(answer: &mut Answer, month: u32)
+    requires room { length answer.old + 4 ≤ 64 }
+    requires month { month ≤ 12 }
+    ensures text { answer.new ≡ answer.old ++ (codes "-" ++ decimal 2 month ++ codes "-") }
+    ensures len { length answer.new ≡ length answer.old + 4 }
+{
+    let at = month as usize * 4;
+    let text = [MONTHS[at], MONTHS[at + 1], MONTHS[at + 2], MONTHS[at + 3]];
+    answer.push_bytes(&text);
 }
 
 #[inline(always)]
@@ -42,8 +57,10 @@ pub(crate) fn push_four(answer: &mut Answer, number: u32)
     ensures digits { answer.new ≡ answer.old ++ decimal 4 number }
     ensures len { length answer.new ≡ length answer.old + 4 }
 {
-    push_two(answer, number / 100);
-    push_two(answer, number % 100);
+    // (a quotient by 100, with no division)
+    let hundreds = (number * 5243) >> 19;
+    push_two(answer, hundreds);
+    push_two(answer, number - hundreds * 100);
 }
 
 #[inline(always)]

@@ -1,11 +1,12 @@
 //! The date, the time and the offset of a line, added to an answer.
 
-ghost use Rattle.std.specs.Prelude.{◌≡◌, ◌+◌, ◌*◌, ◌<◌, ◌≤◌, ◌++◌, length, pos, unsigned_abs, if◌then◌else◌};
+ghost use Rattle.std.specs.Prelude.{◌≡◌, ◌+◌, ◌*◌, ◌<◌, ◌≤◌, ◌++◌, codes, length, pos, unsigned_abs, if◌then◌else◌};
 ghost use Rattle.std.specs.Ordering.{int_eq};
 ghost use Rattle.instants_answers.specs.Text.{date_text, time_text, offset_text};
 
 use crate::answer::Answer;
-use crate::digits::{push_four, push_nine, push_two};
+use crate::digits::{push_four, push_month, push_nine, push_two};
+use crate::minutes::push_minute;
 use parsing_fields::Fraction;
 
 #[inline(always)]
@@ -13,16 +14,14 @@ use parsing_fields::Fraction;
 pub(crate) fn push_date(answer: &mut Answer, year: u32, month: u32, day: u32)
     requires room { length answer.old + 10 ≤ 64 }
     requires year { year < 10_000 }
-    requires month { month < 100 }
+    requires month { month ≤ 12 }
     requires day { day < 100 }
     ensures text { answer.new
         ≡ answer.old ++ date_text (record { year = pos year; month = month; day = day }) }
     ensures len { length answer.new ≡ length answer.old + 10 }
 {
     push_four(answer, year);
-    answer.push(b'-');
-    push_two(answer, month);
-    answer.push(b'-');
+    push_month(answer, month);
     push_two(answer, day);
 }
 
@@ -45,21 +44,18 @@ pub(crate) fn push_time(answer: &mut Answer, second: u32, nanosecond: u32)
     push_nine(answer, nanosecond);
 }
 
-// The time of a minute of the day, a second of it and a fraction of that.
+// The time of a minute of the day, a second of it and a fraction of that, behind the letter that stands behind the date.
 #[inline(always)]
 #[tactic(auto, unfolding(crate::specs::Text::time_text))]
-pub(crate) fn push_clock(answer: &mut Answer, minute_of_day: u32, second: u32, fraction: Fraction)
-    requires room { length answer.old + 18 ≤ 64 }
-    requires minute { minute_of_day < 1440 }
+pub(crate) fn push_clock(answer: &mut Answer, minute: usize, second: u32, fraction: Fraction)
+    requires room { length answer.old + 19 ≤ 64 }
+    requires minute { minute < 1440 }
     requires second { second < 60 }
-    ensures text { answer.new ≡ answer.old ++ time_text (minute_of_day * 60 + second) fraction }
-    ensures len { length answer.new ≡ length answer.old + 18 }
+    ensures text { answer.new ≡ answer.old ++ (codes "T" ++ time_text (minute * 60 + second) fraction) }
+    ensures len { length answer.new ≡ length answer.old + 19 }
     ensures fraction { fraction < 1_000_000_000 }
 {
-    push_two(answer, minute_of_day / 60);
-    answer.push(b':');
-    push_two(answer, minute_of_day % 60);
-    answer.push(b':');
+    push_minute(answer, minute);
     push_two(answer, second);
     answer.push(b'.');
     answer.push_bytes(&fraction.digits());

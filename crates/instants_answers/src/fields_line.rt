@@ -2,6 +2,7 @@
 
 ghost use Rattle.std.specs.Prelude.{◌≡◌, ◌+◌, ◌*◌, ◌<◌, ◌≤◌, ◌++◌, [], true, false, pos, ◌+ℤ◌, ◌-ℤ◌, int_div, length, unsigned_abs, Some, if◌then◌else◌};
 ghost use Rattle.std.specs.Ordering.{int_eq};
+ghost use Rattle.calendar.specs.UtcOffset.{IsClockOffset};
 ghost use Rattle.calendar_count.specs.Calendar.{ymd};
 ghost use Rattle.datetime_wall.specs.Wall.{instant, shown_at};
 ghost use Rattle.parsing_fields.specs.Moment.{moment_of};
@@ -9,22 +10,22 @@ ghost use Rattle.instants_answers.specs.Moved.{at_offset};
 ghost use Rattle.instants_answers.specs.Text.{FitsLine, moment_text, parts_text};
 
 use crate::answer::Answer;
-use crate::fields::{push_clock, push_date, push_offset};
+use crate::fields::{push_clock, push_date};
 use crate::moved::moved_within_month;
 use crate::target::Target;
 use parsing_fields::Fields;
 
 // Writes the line of a day of the fields' month, a minute of it, and the fields' second and fraction.
 #[inline(always)]
-fn write_parts(fields: &Fields, day: u64, minute: u64, offset: i32, answer: &mut Answer)
+fn write_parts(fields: &Fields, day: u64, minute: u64, target: Target, answer: &mut Answer)
     requires day { day ≤ 31 }
     requires minute { minute < 1440 }
-    requires offset { unsigned_abs offset ≤ 86_340 }
     ensures line { answer.new ≡ parts_text
         (ymd (pos fields.now.year) fields.now.month day)
-        (minute * 60 + fields.now.second) fields.now.fraction offset }
-    ensures len { length answer.new ≡ (if int_eq offset (pos 0) then 30 else 35) }
+        (minute * 60 + fields.now.second) fields.now.fraction target }
+    ensures len { length answer.new ≡ (if int_eq target (pos 0) then 30 else 35) }
     ensures fraction { fields.now.fraction < 1_000_000_000 }
+    ensures clock { IsClockOffset target }
 {
     answer.clear();
     push_date(
@@ -33,26 +34,30 @@ fn write_parts(fields: &Fields, day: u64, minute: u64, offset: i32, answer: &mut
         u32::from(fields.month),
         day as u32,
     );
-    answer.push(b'T');
-    push_clock(answer, minute as u32, fields.second as u32, fields.fraction);
-    push_offset(answer, offset);
+    push_clock(
+        answer,
+        minute as usize,
+        fields.second as u32,
+        fields.fraction,
+    );
+    let (text, len) = target.padded_text();
+    answer.push_front(&text, len);
 }
 
-// The minutes from where the fields' day begins to their time at the target.
+// The minutes from four days before the fields' day to their time at the target.
 #[inline(always)]
-fn minutes_at(fields: &Fields, target: Target) -> i32
-    ensures value { result
-        ≡ pos fields.now.minute +ℤ (int_div target (pos 60) -ℤ fields.now.offset) }
-    ensures bound { unsigned_abs result ≤ 5000 }
+fn minutes_since(fields: &Fields, target: Target) -> u32
+    ensures value { pos result ≡
+        pos 5760 +ℤ (pos fields.now.minute +ℤ (int_div target (pos 60) -ℤ fields.now.offset)) }
+    ensures bound { result ≤ 12_000 }
 {
-    let apart = target.minutes() - i32::from(fields.offset);
-    i32::from(fields.minute) + apart
+    let ahead = target.minutes_ahead() - i32::from(fields.offset);
+    (ahead + i32::from(fields.minute)) as u32
 }
 
 /// Writes the line of the moment that fields name, as it is shown at the target, in place of what the answer held.
 ///
-/// No day is counted: `false`, with the answer as it was, where the day at the target is in another month, or
-/// more than one day away.
+/// No day is counted: `false`, with the answer as it was, where the day at the target is in another month.
 #[inline(always)]
 pub fn write_fields(fields: &Fields, target: Target, answer: &mut Answer) -> bool
     ensures line { result ≡ true → answer.new ≡ moment_text
@@ -63,10 +68,9 @@ pub fn write_fields(fields: &Fields, target: Target, answer: &mut Answer) -> boo
     ensures len { result ≡ true → length answer.new ≡ (if int_eq target (pos 0) then 30 else 35) }
     ensures kept { result ≡ false → answer.new ≡ answer.old }
 {
-    let Some(moved) = moved_within_month(fields, minutes_at(fields, target)) else {
+    let Some(moved) = moved_within_month(fields, minutes_since(fields, target)) else {
         return false;
     };
-    let offset = target.offset().whole_seconds();
-    write_parts(fields, moved.0, moved.1, offset, answer);
+    write_parts(fields, moved.0, moved.1, target, answer);
     true
 }

@@ -7,6 +7,7 @@ mod fields;
 mod fields_line;
 pub mod laws;
 mod line;
+mod minutes;
 mod moved;
 mod target;
 mod utc_line;

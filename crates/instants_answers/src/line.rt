@@ -1,6 +1,6 @@
 //! The line of a moment.
 
-ghost use Rattle.std.specs.Prelude.{◌≡◌, ◌<◌, ◌↔◌, pos, length, IsTrue, if◌then◌else◌};
+ghost use Rattle.std.specs.Prelude.{◌≡◌, ◌<◌, ◌≤◌, ◌↔◌, pos, length, IsTrue, if◌then◌else◌};
 ghost use Rattle.std.specs.Ordering.{int_eq};
 ghost use Rattle.calendar_count.specs.Calendar.{day_at};
 ghost use Rattle.datetime_wall.specs.Wall.{day_of};
@@ -50,7 +50,7 @@ fn shown_date(date_time: OffsetDateTime) -> (u32, u32, u32)
     ensures value { day_at (day_of date_time.wall)
         ≡ record { year = pos result.0; month = result.1; day = result.2 } }
     ensures year { result.0 < 10_000 }
-    ensures month { result.1 < 100 }
+    ensures month { result.1 ≤ 12 }
     ensures day { result.2 < 100 }
 {
     let (year, month, day) = date_time.date().to_calendar_date();

@@ -1,34 +1,87 @@
 //! The offset at which lines are shown.
-ghost use Rattle.std.specs.Prelude.{◌≡◌, ◌≤◌, pos, int_div, unsigned_abs};
+ghost use Rattle.std.specs.Prelude.{◌≡◌, ◌≤◌, [], ◌∷◌, pos, ◌+ℤ◌, int_div, int_lt, unsigned_abs, codes, if◌then◌else◌};
 ghost use Rattle.calendar.specs.UtcOffset.{IsClockOffset};
+ghost use Rattle.instants_answers.specs.Padded.{padded_offset, offset_len};
 
+use crate::digits::pair;
 use calendar::UtcOffset;
 use std::marker::Model;
 
-/// An offset of whole minutes, within 23:59, at which lines are shown. It is kept with its minutes, which each line asks for.
+// The bytes of a line before its offset.
+const FRONT: usize = 29;
+
+// Minutes are counted from so many days before on, so that no number is below zero.
+pub(crate) const DAYS_AHEAD: u8 = 4;
+
+// The minutes of so many days.
+const MINUTES_AHEAD: i32 = DAYS_AHEAD as i32 * 1440;
+
+/// An offset of whole minutes, within 23:59, at which lines are shown.
 ///
-/// A contract sees its seconds.
+/// It is kept with its minutes and its text, which each line asks for. A contract sees its seconds.
 #[derive(Clone, Copy)]
 pub struct Target {
     offset: UtcOffset,
-    minutes: i32,
+    minutes_ahead: i32,
+    text: [u8; 8],
+    line_len: usize,
 }
 
 impl Model for Target {
-    ghost use Rattle.std.specs.Prelude.{ℤ, ◌≡◌, pos, int_div};
+    ghost use Rattle.std.specs.Prelude.{ℤ, ◌≡◌, ◌+◌, pos, ◌+ℤ◌, int_div};
     ghost use Rattle.std.proofs.Common.{ap, sym};
     ghost use Rattle.calendar.specs.UtcOffset.{IsClockOffset};
+    ghost use Rattle.instants_answers.specs.Padded.{padded_offset, offset_len};
 
     ghost Value = { ℤ };
 
     ghost view = { λ t. t.offset };
 
-    ghost invariant = { λ t. IsClockOffset t.offset × (t.minutes ≡ int_div t.offset (pos 60)) };
+    ghost invariant = { λ t. IsClockOffset t.offset × (t.minutes_ahead ≡ pos 5760 +ℤ int_div t.offset (pos 60))
+        × (t.text ≡ padded_offset t.offset) × (t.line_len ≡ 29 + offset_len t.offset) };
 
-    ghost inverse = { λ z. record { offset = z; minutes = int_div z (pos 60) } };
+    ghost inverse = { λ z. record {
+      offset = z;
+      minutes_ahead = pos 5760 +ℤ int_div z (pos 60);
+      text = padded_offset z;
+      line_len = 29 + offset_len z;
+    } };
 
-    ghost inverse_ok = { λ t h. ap (λ (m : ℤ). record { offset = t.offset; minutes = m })
-        (sym h.1) };
+    ghost inverse_ok = { λ t h. Prim.rw (h.1, h.2, h.3) };
+}
+
+// The sign of an offset.
+fn sign(seconds: i32) -> u8
+    ensures { result ∷ [] ≡ (if int_lt seconds (pos 0) then codes "-" else codes "+") }
+{
+    if seconds < 0 { b'-' } else { b'+' }
+}
+
+// The text of an offset, with zeros behind it, and how many bytes it has.
+fn offset_text(seconds: i32) -> ([u8; 8], usize)
+    requires range { unsigned_abs seconds ≤ 86_340 }
+    ensures text { result.0 ≡ padded_offset seconds }
+    ensures len { result.1 ≡ offset_len seconds }
+{
+    if seconds == 0 {
+        return ([b'Z', 0, 0, 0, 0, 0, 0, 0], 1);
+    }
+    let minutes = seconds.unsigned_abs() / 60;
+    let hours = pair(minutes / 60);
+    let minutes = pair(minutes % 60);
+    (
+        [
+            sign(seconds),
+            hours.0,
+            hours.1,
+            b':',
+            minutes.0,
+            minutes.1,
+            0,
+            0,
+        ],
+        6,
+    )
 }
 
 impl Target {
@@ -38,9 +91,12 @@ impl Target {
         requires { IsClockOffset offset }
         ensures { result ≡ offset }
     {
+        let (text, len) = offset_text(offset.whole_seconds());
         Target {
             offset,
-            minutes: i32::from(offset.whole_minutes()),
+            minutes_ahead: MINUTES_AHEAD + i32::from(offset.whole_minutes()),
+            text,
+            line_len: FRONT + len,
         }
     }
 
@@ -53,12 +109,23 @@ impl Target {
         self.offset
     }
 
-    /// Its minutes.
+    /// Its minutes, and those of four days.
     #[inline(always)]
-    pub(crate) fn minutes(self) -> i32
-        ensures value { result ≡ int_div self (pos 60) }
-        ensures bound { unsigned_abs result ≤ 1559 }
+    pub(crate) fn minutes_ahead(self) -> i32
+        ensures value { result ≡ pos 5760 +ℤ int_div self (pos 60) }
+        ensures bound { unsigned_abs (int_div self (pos 60)) ≤ 1559 }
     {
-        self.minutes
+        self.minutes_ahead
+    }
+
+    /// Its text, with zeros behind it, and how many bytes it has.
+    #[inline(always)]
+    pub(crate) fn padded_text(self) -> ([u8; 8], usize)
+        ensures text { result.0 ≡ padded_offset self }
+        ensures len { result.1 ≡ offset_len self }
+        ensures clock { IsClockOffset self }
+    {
+        let text = self.text;
+        (text, self.line_len - FRONT)
     }
 }

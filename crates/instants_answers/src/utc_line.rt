@@ -1,6 +1,6 @@
 //! The line of a moment in UTC.
 
-ghost use Rattle.std.specs.Prelude.{◌≡◌, ◌<◌, ◌↔◌, length, pos, IsTrue};
+ghost use Rattle.std.specs.Prelude.{◌≡◌, ◌<◌, ◌≤◌, ◌↔◌, length, pos, IsTrue};
 ghost use Rattle.calendar_count.specs.Calendar.{day_at};
 ghost use Rattle.datetime_wall.specs.Wall.{day_of, instant};
 ghost use Rattle.instants_answers.specs.Text.{has_written_year, moment_text};
@@ -48,7 +48,7 @@ fn utc_date<M: Moment>(moment: M) -> (u32, u32, u32)
     ensures value { day_at (day_of (M.instant moment))
         ≡ record { year = pos result.0; month = result.1; day = result.2 } }
     ensures year { result.0 < 10_000 }
-    ensures month { result.1 < 100 }
+    ensures month { result.1 ≤ 12 }
     ensures day { result.2 < 100 }
 {
     let (year, month, day) = moment.to_calendar_date();

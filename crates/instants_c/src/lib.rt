@@ -4,24 +4,27 @@
 //! takes, from the C library, is given back before it ends.
 #![tactic(auto)]
 
-ghost use Rattle.std.specs.Prelude.{◌≡◌, ◌≢◌, ◌≤◌, ◌+◌, ◌*◌, ◌++◌, ◌==◌, ◌⊎◌, ℕ, List, length, take, drop, count_by};
+ghost use Rattle.std.specs.Prelude.{◌≡◌, ◌≢◌, ◌≤◌, ◌+◌, ◌*◌, ◌++◌, ◌==◌, ◌⊎◌, ℕ, List, Err, length, take, drop, count_by};
+ghost use Rattle.std.specs.Str.{IsUtf8};
 ghost use Rattle.base.specs.Bytes.{line_feed};
 ghost use Rattle.instants_stream.specs.Lines.{lines, parts};
 ghost use Rattle.instants_stream.specs.declared.run.RunFault.{RunFault};
-ghost use Rattle.instants.specs.Place.{Setting};
-ghost use Rattle.instants.specs.Program.{AsksFor, IsBeforeRun, IsRefusedAs};
-ghost use Rattle.instants.specs.ProgramText.{sentence, status_of};
-ghost use Rattle.instants.specs.declared.program_fault.ProgramFault.{ProgramFault};
+ghost use Rattle.instants_words.specs.declared.fault.WordsFault.{WordsFault};
+ghost use Rattle.instants_words.specs.Words.{words_said};
+ghost use Rattle.instants_timeline.specs.Place.{Setting};
+ghost use Rattle.instants_timeline.specs.Program.{AsksFor, IsBeforeRun, IsRefusedAs};
+ghost use Rattle.instants_timeline.specs.ProgramText.{sentence, status_of};
+ghost use Rattle.instants_timeline.specs.declared.program_fault.ProgramFault.{ProgramFault};
 ghost use Rattle.instants_memory.specs.OutputFor.{IsOutputFor};
-ghost use Rattle.instants_c.specs.Refused.{IsCutShort};
+ghost use Rattle.instants_c.specs.Refused.{IsCutShort, IsPut};
 
 mod sentences;
 #[cfg(test)]
 mod tests;
 mod texts;
 
-use instants::ProgramFault;
 use instants_memory::LINE_ROOM;
+use instants_timeline::ProgramFault;
 use std::alloc::Global;
 
 // Major, minor and patch, two digits each.
@@ -48,6 +51,9 @@ pub extern "C" fn instants_answer_lines(
     // The words are wrong, or the first source that is no description is refused.
     ensures wrong { result ≡ 2 → (fault : ProgramFault) × IsRefusedAs (parts words.now) fault
         × (status_of fault ≡ 2) × (written.new ≡ 0) × (output.new ≡ output.old) }
+    // Wrong words are told so, whatever memory there is.
+    ensures refused { IsUtf8 words.now → (fault : WordsFault)
+        → words_said (parts words.now) ≡ Err fault → result ≡ 2 }
     // `LINE_ROOM` bytes a line are room enough.
     ensures line_room { LINE_ROOM * length (lines input.now) ≤ length output.old
         → result ≢ 0 → (written.new ≡ 0) × (output.new ≡ output.old) }
@@ -94,6 +100,10 @@ pub extern "C" fn instants_sentence(
         × (result ≡ status_of fault) × (len.new ≡ length (sentence fault))
         × (output.new ≡ take (length output.old) (sentence fault)
         ++ drop (length (sentence fault)) output.old) }
+    // Wrong words have their own sentence, whatever memory there is.
+    ensures wrong { IsUtf8 words.now → (fault : WordsFault)
+        → words_said (parts words.now) ≡ Err fault
+        → (result ≡ 2) × IsPut (sentence (ProgramFault.Words fault)) output.old output.new len.new }
 {
     match texts::answer_lines(alloc, words, &[], &mut []) {
         Ok(_) => {

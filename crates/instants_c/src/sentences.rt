@@ -1,37 +1,124 @@
 //! The sentences of faults, in lent memory.
-ghost use Rattle.std.specs.Prelude.{◌≡◌, ◌⊎◌, ◌++◌, length, take, drop};
-ghost use Rattle.instants.specs.ProgramText.{sentence, status_of};
-ghost use Rattle.instants.specs.declared.program_fault.ProgramFault.{ProgramFault};
+ghost use Rattle.std.specs.Prelude.{◌≡◌, ◌⊎◌, ◌+◌, ◌≤◌, ◌++◌, length, take, drop};
+ghost use Rattle.std.specs.Fmt.{decimal};
+ghost use Rattle.instants_words.specs.declared.fault.WordsFault.{WordsFault};
+ghost use Rattle.instants_timeline.specs.ProgramText.{sentence, status_of};
+ghost use Rattle.instants_timeline.specs.declared.program_fault.ProgramFault.{ProgramFault};
+ghost use Rattle.instants_c.specs.Refused.{IsPut};
 
-use instants::ProgramFault;
+use instants_timeline::ProgramFault;
+use instants_words::WordsFault;
 use std::alloc::Global;
 
-/// Writes a fault's sentence, as much as there is room for, and gives its status. Where there is no memory for the sentence,
-/// that is the fault.
+/// Writes a fault's sentence, as much as there is room for, and gives its status. Where there is no memory for the sentence
+/// of a fault that is none of the words, that is the fault.
 pub(crate) fn write(alloc: Global, fault: ProgramFault, output: &mut [u8], len: &mut usize) -> u8
-    ensures { (told : ProgramFault) × ((told ≡ fault.entry) ⊎ (told ≡ ProgramFault.Memory))
+    ensures told { (told : ProgramFault) × ((told ≡ fault.entry) ⊎ (told ≡ ProgramFault.Memory))
         × (result ≡ status_of told) × (len.new ≡ length (sentence told))
         × (output.new ≡ take (length output.old) (sentence told)
         ++ drop (length (sentence told)) output.old) }
+    ensures words { (wrong : WordsFault) → fault.entry ≡ ProgramFault.Words wrong
+        → (result ≡ status_of fault.entry)
+        × IsPut (sentence fault.entry) output.old output.new len.new }
 {
+    if let ProgramFault::Words(wrong) = fault {
+        write_words_fault(wrong, output, len);
+        return fault.status();
+    }
     match fault.to_string(alloc) {
         Ok(sentence) => {
-            put(output, sentence.as_str(), len);
+            put(output, sentence.as_bytes(), len);
             fault.status()
         }
         Err(_) => {
-            put(output, "instants: out of memory", len);
+            put(output, b"instants: out of memory", len);
             ProgramFault::Memory.status()
         }
     }
 }
 
+// Writes the sentence of wrong words, as much as there is room for. It takes no memory.
+fn write_words_fault(wrong: WordsFault, output: &mut [u8], len: &mut usize)
+    ensures { IsPut (sentence (ProgramFault.Words wrong)) output.old output.new len.new }
+{
+    match wrong {
+        WordsFault::Usage => put(
+            output,
+            b"instants: usage: instants TARGET ASSUMED LIMIT SOURCE...",
+            len,
+        ),
+        WordsFault::Target => put(
+            output,
+            b"instants: the target offset must be +HH:MM or -HH:MM",
+            len,
+        ),
+        WordsFault::Assumed => put(
+            output,
+            b"instants: the assumed offset must be +HH:MM, -HH:MM or -",
+            len,
+        ),
+        WordsFault::Limit => put(
+            output,
+            b"instants: the limit must be a number from 1 to 1048576",
+            len,
+        ),
+        WordsFault::Source(place) => write_source_fault(place, output, len),
+        WordsFault::Memory => put(output, b"instants: out of memory", len),
+    }
+}
+
+// Writes that the source in this place is not known.
+fn write_source_fault(place: usize, output: &mut [u8], len: &mut usize)
+    ensures { IsPut (sentence (ProgramFault.Words (WordsFault.Source place)))
+        output.old output.new len.new }
+{
+    let mut digits = [0u8; 64];
+    let start = write_decimal(place as u64, &mut digits);
+    let mut text = [0u8; 128];
+    let head = append(&mut text, 0, b"instants: source ");
+    let number = append(&mut text, head, &digits[start..]);
+    let end = append(
+        &mut text,
+        number,
+        b" is not a known source with its description",
+    );
+    put(output, &text[..end], len);
+}
+
+// Writes a number's decimal digits at the end of a place, and gives where they begin.
+fn write_decimal(number: u64, digits: &mut [u8; 64]) -> usize
+    ensures within { result ≤ 64 }
+    ensures value { drop result digits.new ≡ decimal number }
+{
+    let mut at = 64;
+    let mut rest = number;
+    while at > 0 {
+        at -= 1;
+        digits[at] = b'0' + (rest % 10) as u8;
+        rest /= 10;
+        if rest == 0 {
+            break;
+        }
+    }
+    at
+}
+
+// Puts bytes into a text, behind as many as it has, and gives how many it has then.
+fn append(text: &mut [u8; 128], len: usize, bytes: &[u8]) -> usize
+    requires { len + length bytes.now ≤ 128 }
+    ensures len { result ≡ len + length bytes.now }
+    ensures front { take result text.new ≡ take len text.old ++ bytes.now }
+{
+    let end = len + bytes.len();
+    text[len..end].copy_from_slice(bytes);
+    end
+}
+
 // Puts a text into the front of a place, as much as there is room for, and tells its length.
-fn put(place: &mut [u8], text: &str, len: &mut usize)
-    ensures front { place.new ≡ take (length place.old) text.now ++ drop (length text.now) place.old }
-    ensures len { len.new ≡ length text.now }
+fn put(place: &mut [u8], text: &[u8], len: &mut usize)
+    ensures { IsPut text.now place.old place.new len.new }
 {
     let count = text.len().min(place.len());
-    place[..count].copy_from_slice(&text.as_bytes()[..count]);
+    place[..count].copy_from_slice(&text[..count]);
     *len = text.len();
 }

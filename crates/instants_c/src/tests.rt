@@ -26,6 +26,7 @@ fn calls(rt: HostRuntime) {
             && answered(rt.alloc(), b"+00:00\n-\n100") == (2, 0, [b'.'; 36])
             && told(rt.alloc(), words) == (0, 0, [b'.'; 15])
             && told(rt.alloc(), b"+00:00\n-\n100") == (2, 56, *b"instants: usage")
+            && told(rt.alloc(), b"+00:00\n-\n100\nrfc3339\nx") == (2, 61, *b"instants: sourc")
             && instants_version() == 100
     );
 }

@@ -1,12 +1,16 @@
 //! Words that stand in one text.
 ghost use Rattle.std.specs.Prelude.{◌≡◌, ◌≢◌, ◌<◌, ◌≤◌, ◌*◌, ◌++◌, ℕ, List, map, length, take, drop, Err, IfOk, IfErr};
+ghost use Rattle.std.specs.Str.{IsUtf8};
 ghost use Rattle.instants_stream.specs.Lines.{lines, parts};
 ghost use Rattle.instants_stream.specs.declared.run.RunFault.{RunFault};
-ghost use Rattle.instants.specs.Program.{IsBeforeRun, IsRefusedAs};
+ghost use Rattle.instants_words.specs.declared.fault.WordsFault.{WordsFault};
+ghost use Rattle.instants_words.specs.Words.{words_said};
+ghost use Rattle.instants_timeline.specs.Program.{IsBeforeRun, IsRefusedAs};
 ghost use Rattle.instants_memory.specs.OutputFor.{IsOutputFor};
 
-use instants::ProgramFault;
 use instants_memory::LINE_ROOM;
+use instants_timeline::ProgramFault;
+use instants_words::fault_in_text;
 use std::alloc::{AllocError, Global};
 
 // The words between line feeds.
@@ -34,10 +38,17 @@ pub(crate) fn answer_lines<'a>(
     ensures read { result ≢ Err (ProgramFault.Run RunFault.Read) }
     ensures refused { IfErr result (λ fault. IsBeforeRun fault
         → IsRefusedAs (parts words.now) fault × (output.new ≡ output.old)) }
+    // Wrong words are refused so, also where there is no memory for a list of them.
+    ensures wrong { IsUtf8 words.now → (fault : WordsFault)
+        → words_said (parts words.now) ≡ Err fault
+        → (result ≡ Err (ProgramFault.Words fault)) × (fault ≢ WordsFault.Memory) }
 {
     let Ok(text) = str::from_utf8(words) else {
         return Err(ProgramFault::Memory);
     };
+    if let Some(fault) = fault_in_text(text) {
+        return Err(ProgramFault::Words(fault));
+    }
     let words = words_of(alloc, text)?;
     instants_memory::answer_lines(alloc, words.as_slice(), input, output)
 }

@@ -1,21 +1,20 @@
 -- Places at which no date begins, by keys.
-use Rattle.std.proofs.Common.{◌≡◌, ◌<◌, ◌≤◌, ◌+◌, ◌-◌, ◌==◌, inl, inr, ℕ, Bool, false, List, length, get_or, drop, Option, None, ◌∙◌, ap, subst, bit_and, arith, ℤ}
+use Rattle.std.proofs.Common.{◌≡◌, ◌<◌, ◌≤◌, ◌+◌, ◌-◌, ◌/◌, ◌^◌, ◌==◌, inl, inr, ℕ, Bool, false, List, length, get_or, drop, Option, None, ◌∙◌, ap, subst, arith, ℤ}
 use Rattle.std.specs.Prelude.{All}
 use Rattle.std.specs.Int.{bit_at}
 use Rattle.std.proofs.lemmas.Bool.{cases_lt}
 use Rattle.std.proofs.lemmas.List.{get_or-drop, length-drop}
 use Rattle.std.proofs.lemmas.List.Elements.{All-weaker}
-use Rattle.std.proofs.lemmas.Nat.Bits.{bit_at-zero}
 use Rattle.instants_sources.specs.Grammar.{Grammar}
 use Rattle.instants_found.specs.Found.{at_place}
-use Rattle.instants_found.specs.Starts.{AreStarts, AreRight, HasNoDate, HasNoFront, MarkPlaces, common}
+use Rattle.instants_found.specs.Starts.{AreStarts, HasNoDate, HasNoFront, MarkPlaces}
 use Rattle.instants_found.specs.Keys.{AreBytes, stands_at, has_key, NeedsFour, NeedsOne, AreKeys}
 use Rattle.instants_found.specs.declared.key.Key.{Key}
 use Rattle.instants_found.specs.declared.keys.Keys.{Keys}
-use Rattle.instants_found.specs.declared.start_lanes.StartLanes.{StartLanes}
-use Rattle.instants_found.proofs.NoDates.{none_starts, no_start}
-use Rattle.instants_found.proofs.LaneLemmas.{both_none}
-use Rattle.instants_found.proofs.Next.{no_front_there}
+use Rattle.instants_found.specs.Marks.{AreMarks, IsUnmarked}
+use Rattle.instants_found.specs.declared.marks.Marks.{Marks}
+use Rattle.instants_found.proofs.NoDates.{none_starts}
+use Rattle.instants_found.proofs.Next.{no_front_there, marks_later}
 
 -- ---- places
 
@@ -37,25 +36,21 @@ module _ (assumed : Option ℤ) (sources : List Grammar) (line : List ℕ) where
   short_none start are short =
       no_front_there assumed sources line start (All-weaker NeedsFour (HasNoFront (drop start line)) (λ grammar four. four (drop start line) (let left : length (drop start line) ≡ length line - start = length-drop start line in omega (arith, left, short))) sources are)
 
-  -- the bits of both keys and of what dates begin with
-  pub marks_of_keys : (starts : List Bool) (lanes : StartLanes) (keys : Keys) (at bits any : ℕ) → AreStarts sources starts → AreRight starts lanes → AreKeys sources keys → AreBytes line
-      → ((k : ℕ) → k < 16 → bit_at bits k ≡ 0 → (stands_at keys.first line (at + k) ≡ false) × (stands_at keys.second line (at + k) ≡ false))
-      → ((k : ℕ) → k < 16 → bit_at any k ≡ 0 → common lanes.any (get_or line (at + k) 0) ≡ 0) → MarkPlaces assumed sources line at (at + 16) (bit_and bits any)
-  marks_of_keys starts lanes keys at bits any are right keyed few is_bits is_any = λ k lt none.
-      elim (both_none bits any k none) [
-        | inl no_key ↦ let both = is_bits k (omega (arith, lt)) no_key in unkeyed_none keys (at + k) keyed few both.0 both.1
-        | inr no_byte ↦ none_starts assumed sources starts line (at + k) are (no_start starts lanes (get_or line (at + k) 0) (right (get_or line (at + k) 0) (few (at + k))) (is_any k (omega (arith, lt)) no_byte))
+  -- what isn't marked has no date
+  pub unmarked_none : (starts : List Bool) (marks : Marks) (start : ℕ) → AreStarts sources starts → AreMarks sources starts marks → AreBytes line → IsUnmarked marks line start → at_place assumed sources line start ≡ None
+  unmarked_none starts marks start are right few none =
+      elim none [
+        | inl keys ↦ unkeyed_none marks.keys start right.keys few keys.0 keys.1
+        | inr first ↦ none_starts assumed sources starts line start are (right.first (get_or line start 0) (few start) first)
       ]
 
-  -- no key stands behind any of the places
-  pub none_keyed : (keys : Keys) (at bits : ℕ) → AreKeys sources keys → AreBytes line
-      → ((k : ℕ) → k < 16 → bit_at bits k ≡ 0 → (stands_at keys.first line (at + k) ≡ false) × (stands_at keys.second line (at + k) ≡ false)) → bits ≡ 0 → HasNoDate assumed sources line at (at + 16)
-  none_keyed keys at bits keyed few is_bits none = λ place low high.
-      let there : at + (place - at) ≡ place = omega (arith, low) in
-      let bit : bit_at bits (place - at) ≡ 0 = rw none (bit_at-zero (place - at)) in
-      let both = is_bits (place - at) (omega (arith, low, high)) bit in
-      let P : ℕ → Type 0 = λ n. at_place assumed sources line n ≡ None in
-      subst P there (unkeyed_none keys (at + (place - at)) keyed few both.0 both.1)
+  -- the bits of the marks of sixteen places, and those of them behind so many
+  pub marks_of : (starts : List Bool) (marks : Marks) (at bits from : ℕ) → at ≤ from → AreStarts sources starts → AreMarks sources starts marks → AreBytes line
+      → ((k : ℕ) → k < 16 → bit_at bits k ≡ 0 → IsUnmarked marks line (at + k)) → MarkPlaces assumed sources line from (at + 16) (bits / 2 ^ (from - at))
+  marks_of starts marks at bits from le are right few is_bits =
+      let there : at + (from - at) ≡ from = omega (arith, le) in
+      let all : MarkPlaces assumed sources line at (at + 16) bits = λ k lt none. unmarked_none starts marks (at + k) are right few (is_bits k (omega (arith, lt)) none) in
+      subst (λ (place : ℕ). MarkPlaces assumed sources line place (at + 16) (bits / 2 ^ (from - at))) there (marks_later assumed sources line at (at + 16) bits (from - at) all)
 
   -- only the first of the last four places may have a date
   pub none_at_end : (from : ℕ) → All NeedsFour sources → length line ≤ from + 4 → (length line ≡ from + 4 → at_place assumed sources line from ≡ None) → HasNoDate assumed sources line from (length line)

@@ -1,5 +1,5 @@
 -- Places at which no date begins, by bits and by what stands there.
-use Rattle.std.proofs.Common.{◌≡◌, ◌<◌, ◌≤◌, ◌+◌, ◌-◌, ◌/◌, ◌^◌, ℕ, Bool, ◌%◌, List, [], ◌∷◌, get_or, drop, Option, None, refl, sym, ◌∙◌, ap, subst, arith, w64, ℤ}
+use Rattle.std.proofs.Common.{◌≡◌, ◌<◌, ◌≤◌, ◌+◌, ◌-◌, ◌/◌, ◌^◌, ℕ, ◌%◌, List, [], ◌∷◌, drop, Option, None, refl, sym, ◌∙◌, ap, subst, arith, w64, ℤ}
 use Rattle.std.specs.Prelude.{All}
 use Rattle.std.specs.Int.{bit_at, trailing_zeros}
 use Rattle.std.proofs.lemmas.List.Elements.{All-head, All-tail}
@@ -7,9 +7,8 @@ use Rattle.std.proofs.lemmas.Nat.{shr-shr}
 use Rattle.std.proofs.lemmas.Nat.Bits.{bit_at-zero, bit_at-trailing_zeros}
 use Rattle.instants_sources.specs.Grammar.{Grammar}
 use Rattle.instants_found.specs.Found.{date_at, by_sources, at_place}
-use Rattle.instants_found.specs.Starts.{AreStarts, AreRight, HasNoDate, HasNoFront, MarkPlaces, common, mark}
-use Rattle.instants_found.specs.declared.start_lanes.StartLanes.{StartLanes}
-use Rattle.instants_found.proofs.NoDates.{if_edge, none_more, none_here, none_starts, no_start, unmarked_none}
+use Rattle.instants_found.specs.Starts.{HasNoDate, HasNoFront, MarkPlaces}
+use Rattle.instants_found.proofs.NoDates.{if_edge, none_more, none_here}
 
 -- ---- fronts that are ruled out
 
@@ -61,21 +60,3 @@ module _ (assumed : Option ℤ) (sources : List Grammar) (line : List ℕ) where
       let moved : bit_at (bits / 2 ^ n) k ≡ bit_at bits (n + k) = ap (λ (m : ℕ). m % 2) (shr-shr bits n k) in
       let P : ℕ → Type 0 = λ j. at_place assumed sources line j ≡ None in
       subst P place (marks (n + k) (omega (arith, lt)) (sym moved ∙ none))
-
-  -- no date begins at bytes of which none is a start
-  pub none_of_starts : (starts : List Bool) (lanes : StartLanes) (at : ℕ) → AreStarts sources starts → AreRight starts lanes → ((k : ℕ) → get_or line k 0 < 256)
-      → ((k : ℕ) → k < 16 → common lanes.any (get_or line (at + k) 0) ≡ 0) → HasNoDate assumed sources line at (at + 16)
-  none_of_starts starts lanes at are right few none = λ place low high.
-      let there : at + (place - at) ≡ place = omega (arith, low) in
-      let P : ℕ → Type 0 = λ k. common lanes.any (get_or line k 0) ≡ 0 in
-      let here : common lanes.any (get_or line place 0) ≡ 0 = subst P there (none (place - at) (omega (arith, low, high))) in
-      none_starts assumed sources starts line place are (no_start starts lanes (get_or line place 0) (right (get_or line place 0) (few place)) here)
-
-  -- a part of places without a date
-  pub none_later : (from mid to : ℕ) → from ≤ mid → HasNoDate assumed sources line from to → HasNoDate assumed sources line mid to
-  none_later from mid to le none = λ place low high. none place (omega (arith, le, low)) high
-
-  -- the bits of the marks of so many bytes
-  pub marks_of : (starts : List Bool) (lanes : StartLanes) (at bits : ℕ) → AreStarts sources starts → AreRight starts lanes → 0 < at → ((k : ℕ) → get_or line k 0 < 256)
-      → ((k : ℕ) → k < 16 → bit_at bits k ≡ 0 → mark lanes (get_or line (at + k - 1) 0) (get_or line (at + k) 0) ≡ 0) → MarkPlaces assumed sources line at (at + 16) bits
-  marks_of starts lanes at bits are right some few marks = λ k lt none. unmarked_none assumed sources starts lanes line (at + k) are right (omega (arith, some)) (few (at + k - 1)) (few (at + k)) (marks k (omega (arith, lt)) none)

@@ -2,7 +2,7 @@ pub mod Edge
 pub mod Front
 pub mod Found
 pub mod IsFound
-pub mod Lanes
 pub mod Starts
 pub mod Keys
+pub mod Marks
 pub mod Finder

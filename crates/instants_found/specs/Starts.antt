@@ -1,14 +1,12 @@
 -- Where no date begins.
-use Rattle.std.specs.Prelude.{◌≡◌, ◌<◌, ◌≤◌, ◌==◌, ◌||◌, ◌+◌, ◌/◌, ◌%◌, ℕ, Bool, true, false, not, List, get_or, Option, None, All, bit_and, codes, ℤ, if◌then◌else◌}
+use Rattle.std.specs.Prelude.{◌≡◌, ◌<◌, ◌≤◌, ◌==◌, ◌||◌, ◌+◌, ℕ, nat_le, Bool, true, false, List, get_or, Option, None, All, codes, ℤ}
 use Rattle.std.specs.Int.{bit_at}
-use Rattle.std.specs.Char.{is_ascii_digit, is_ascii_alphanumeric, to_ascii_lowercase}
+use Rattle.std.specs.Char.{is_ascii_digit, to_ascii_lowercase}
 use Rattle.base.specs.Bytes.{plus, hyphen, upper_z}
 use Rattle.parsing_iso8601.specs.Designators.{time_designator}
 use Rattle.instants_sources.specs.Grammar.{Grammar}
 use Rattle.instants_found.specs.Front.{front_named}
 use Rattle.instants_found.specs.Found.{at_place}
-use Rattle.instants_found.specs.declared.byte_set.ByteSet.{ByteSet}
-use Rattle.instants_found.specs.declared.start_lanes.StartLanes.{StartLanes}
 
 -- a name begins with a letter, in any case
 abbrev pub begins_name : List ℕ → ℕ → Bool
@@ -46,22 +44,6 @@ HasNoDate assumed sources line from to = (place : ℕ) → from ≤ place → pl
 abbrev pub MarkPlaces : Option ℤ → List Grammar → List ℕ → ℕ → ℕ → ℕ → Type 0
 MarkPlaces assumed sources line from to bits = (k : ℕ) → from + k < to → bit_at bits k ≡ 0 → at_place assumed sources line (from + k) ≡ None
 
--- what two tables have in common for the halves of a byte, which is 0 for bytes that aren't in the set
-abbrev pub common : ByteSet → ℕ → ℕ
-common set byte = bit_and (get_or set.low (byte % 16) 0) (get_or set.high (byte / 16) 0)
-
-abbrev pub has : ByteSet → ℕ → Bool
-has set byte = not (common set byte == 0)
-
--- the sets have a byte where they have to: it is a start, or one that is no letter and no digit; and no other byte than letters and digits is part of a word
-pub record AreRightAt (starts : List Bool) (lanes : StartLanes) (byte : ℕ) : Type 0 where
-  pub any : get_or starts byte true ≡ true → has lanes.any byte ≡ true
-  pub apart : get_or starts byte true ≡ true → is_ascii_alphanumeric byte ≡ false → has lanes.apart byte ≡ true
-  pub word : is_ascii_alphanumeric byte ≡ false → has lanes.word byte ≡ false
-
-abbrev pub AreRight : List Bool → StartLanes → Type 0
-AreRight starts lanes = (byte : ℕ) → byte < 256 → AreRightAt starts lanes byte
-
--- the mark of a byte behind another, which is 0 where no date begins at it
-abbrev pub mark : StartLanes → ℕ → ℕ → ℕ
-mark lanes before here = if common lanes.word before == 0 then common lanes.any here else common lanes.apart here
+-- no byte behind this one is marked in a table
+abbrev pub AreUpTo : List Bool → ℕ → Type 0
+AreUpTo starts most = (byte : ℕ) → byte < 256 → nat_le byte most ≡ false → get_or starts byte true ≡ false

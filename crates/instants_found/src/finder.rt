@@ -2,13 +2,12 @@
 ghost use Rattle.std.specs.Prelude.{map};
 ghost use Rattle.std.specs.Option.{ForSome};
 ghost use Rattle.instants_sources.specs.Grammar.{grammar_of};
-ghost use Rattle.instants_found.specs.Keys.{AreKeys};
-ghost use Rattle.instants_found.specs.Starts.{AreRight, AreStarts};
+ghost use Rattle.instants_found.specs.Marks.{AreMarks};
+ghost use Rattle.instants_found.specs.Starts.{AreStarts};
 
 mod calls;
 
-use crate::keys::Keys;
-use crate::start_lanes::StartLanes;
+use crate::marks::Marks;
 use calendar::UtcOffset;
 use instants_sources::Source;
 
@@ -20,10 +19,8 @@ pub struct Finder<'a> {
     pub(crate) assumed: Option<UtcOffset>,
     // The bytes at which a date can begin.
     pub(crate) starts: [bool; 256],
-    pub(crate) lanes: Option<StartLanes>,
     // What stands in each date.
-    pub(crate) keys: Option<Keys>,
+    pub(crate) marks: Option<Marks>,
     ghost starts_are: { AreStarts (map grammar_of sources.items) starts },
-    ghost lanes_are: { ForSome lanes (AreRight starts) },
-    ghost keys_are: { ForSome keys (AreKeys (map grammar_of sources.items)) },
+    ghost marks_are: { ForSome marks (AreMarks (map grammar_of sources.items) starts) },
 }

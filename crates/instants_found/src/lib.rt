@@ -1,7 +1,6 @@
 //! Dates inside lines: the first one that a source reads, and where it stands.
 #![tactic(auto)]
 
-mod byte_set;
 mod edge;
 mod finder;
 mod finding;
@@ -12,8 +11,8 @@ mod key;
 mod keys;
 mod lanes;
 pub mod laws;
+mod marks;
 mod source_key;
-mod start_lanes;
 mod starts;
 
 pub use finder::Finder;

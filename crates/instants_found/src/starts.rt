@@ -1,7 +1,7 @@
 //! The bytes at which a date of a source can begin.
-ghost use Rattle.std.specs.Prelude.{◌≡◌, false, map};
+ghost use Rattle.std.specs.Prelude.{◌≡◌, true, false, map, get_or, nat_le};
 ghost use Rattle.instants_sources.specs.Grammar.{grammar_of};
-ghost use Rattle.instants_found.specs.Starts.{AreStarts, CannotBegin, NoneBegins, begins_day, begins_part};
+ghost use Rattle.instants_found.specs.Starts.{AreStarts, AreUpTo, CannotBegin, NoneBegins, begins_day, begins_part};
 
 use instants_sources::Source;
 
@@ -59,4 +59,34 @@ pub(crate) fn starts(sources: &[Source<'_>]) -> [bool; 256]
         starts[usize::from(byte)] = some_begins(sources, byte);
     }
     starts
+}
+
+/// The last byte with which a date can begin; `are_up_to` says whether it is.
+pub(crate) fn last_start(starts: &[bool; 256]) -> u8 {
+    let mut last = 0;
+    for byte in 0..=255u8 {
+        if starts[usize::from(byte)] {
+            last = byte;
+        }
+    }
+    last
+}
+
+/// Whether no date can begin with a byte behind this one.
+pub(crate) fn are_up_to(starts: &[bool; 256], most: u8) -> bool
+    ensures { result ≡ true → AreUpTo starts.now most }
+{
+    for byte in 0..256usize {
+        if !is_up_to(starts, most, byte as u8) {
+            return false;
+        }
+    }
+    true
+}
+
+// Whether a byte is not behind this one if a date can begin with it.
+fn is_up_to(starts: &[bool; 256], most: u8, byte: u8) -> bool
+    ensures { result ≡ true → nat_le byte most ≡ false → get_or starts.now byte true ≡ false }
+{
+    byte <= most || !starts[usize::from(byte)]
 }

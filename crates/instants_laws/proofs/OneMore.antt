@@ -8,7 +8,7 @@ use Rattle.instants_sources.specs.Grammar.{Grammar}
 use Rattle.instants_sources.specs.Named.{named}
 use Rattle.instants_stream.specs.Answers.{answered, answer_or_long}
 use Rattle.instants_laws.specs.Appended.{with_source}
-use Rattle.instants.specs.Place.{Setting, or_named, first_named, shown_or_refused, place_of, place_text, answer_to}
+use Rattle.instants_timeline.specs.Place.{Setting, or_named, first_named, shown_or_refused, place_of, place_text, answer_to}
 
 -- the moment, or else the other one
 abbrev pub or_else : Option Shown → Option Shown → Option Shown

@@ -14,7 +14,7 @@ use Rattle.instants_sources.specs.Named.{named}
 use Rattle.instants_stream.specs.Answers.{answered, answer_or_long}
 use Rattle.instants_laws.specs.Answered.{IsAnswered, with_target}
 use Rattle.instants_laws.specs.FixedPoint.{ReadsLines, alone}
-use Rattle.instants.specs.Place.{Setting, in_written_years, first_named, place_of, place_text, answer_to}
+use Rattle.instants_timeline.specs.Place.{Setting, in_written_years, first_named, place_of, place_text, answer_to}
 use Rattle.instants_laws.proofs.Answered.{answered_shows}
 
 named_again : (grammar : Grammar) (a : Shown) → ReadsLines grammar → IsWritten a → IsClockOffset a.offset → (assumed : Option ℤ) → named assumed grammar (moment_text a) ≡ Ok a

@@ -5,7 +5,7 @@ use Rattle.base.specs.Bytes.{line_feed}
 use Rattle.datetime_wall.specs.Wall.{Shown}
 use Rattle.instants_stream.specs.Answers.{answered, output}
 use Rattle.instants_laws.specs.Output.{IsAnsweredIn, written}
-use Rattle.instants.specs.Place.{Setting, answer_to}
+use Rattle.instants_timeline.specs.Place.{Setting, answer_to}
 use Rattle.instants_laws.proofs.Reread.{answered_within}
 
 pub stands_in : (setting : Setting) (limit : ℕ) (stream line : List ℕ) (before behind : List (List ℕ)) (m : Shown) → IsAnsweredIn setting limit stream before line behind m

@@ -1,7 +1,7 @@
 -- Lines that are answered by date-times.
 use Rattle.std.specs.Prelude.{◌≡◌, ℕ, List, Ok, IsOk, ℤ}
 use Rattle.datetime_wall.specs.Wall.{Shown}
-use Rattle.instants.specs.Place.{Setting, first_named, place_of}
+use Rattle.instants_timeline.specs.Place.{Setting, first_named, place_of}
 
 -- the first source with a moment names this one for the line, and the target shows it in a year of four digits
 pub record IsAnswered (setting : Setting) (line : List ℕ) (named : Shown) : Type 0 where

@@ -1,7 +1,7 @@
 -- What one source more changes.
 use Rattle.std.specs.Prelude.{[], ◌∷◌, ◌++◌}
 use Rattle.instants_sources.specs.Grammar.{Grammar}
-use Rattle.instants.specs.Place.{Setting}
+use Rattle.instants_timeline.specs.Place.{Setting}
 
 -- a setting with one source more, behind the others
 abbrev pub with_source : Setting → Grammar → Setting

@@ -1,7 +1,7 @@
 -- Written lines that are read again.
 use Rattle.std.specs.Prelude.{◌≡◌, ◌⊎◌, [], ◌∷◌, Option, ℤ}
 use Rattle.instants_sources.specs.Grammar.{Grammar, Rfc3339, Iso8601}
-use Rattle.instants.specs.Place.{Setting}
+use Rattle.instants_timeline.specs.Place.{Setting}
 
 -- a setting with one source
 abbrev pub alone : Grammar → ℤ → Option ℤ → Setting

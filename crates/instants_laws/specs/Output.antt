@@ -5,7 +5,7 @@ use Rattle.datetime_wall.specs.Wall.{Shown}
 use Rattle.instants_stream.specs.Lines.{lines}
 use Rattle.instants_stream.specs.Answers.{answered}
 use Rattle.instants_laws.specs.Answered.{IsAnswered}
-use Rattle.instants.specs.Place.{Setting, answer_to}
+use Rattle.instants_timeline.specs.Place.{Setting, answer_to}
 
 -- a line of a stream, between the lines before and behind it, is within the limit and answered by a date-time
 pub record IsAnsweredIn (setting : Setting) (limit : ℕ) (stream : List ℕ) (before : List (List ℕ)) (line : List ℕ) (behind : List (List ℕ)) (named : Shown) : Type 0 where

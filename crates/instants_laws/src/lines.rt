@@ -12,7 +12,7 @@ ghost use Rattle.instants_sources.specs.Grammar.{Grammar};
 ghost use Rattle.instants_sources.specs.Grammar as grammar;
 ghost use Rattle.instants_sources.specs.Named.{named};
 ghost use Rattle.instants_stream.specs.Answers.{answered, output};
-ghost use Rattle.instants.specs.Place.{Setting, first_named, shown_or_refused, place_text, answer_to};
+ghost use Rattle.instants_timeline.specs.Place.{Setting, first_named, shown_or_refused, place_text, answer_to};
 ghost use Rattle.instants_laws.specs.Answered.{IsAnswered, with_target};
 ghost use Rattle.instants_laws.specs.Appended.{with_source};
 ghost use Rattle.instants_laws.specs.FixedPoint.{ReadsLines, alone};

@@ -3,7 +3,7 @@ ghost use Rattle.std.specs.Prelude.{◌≡◌, ◌↔◌, ℕ, List, Some, Ok, �
 ghost use Rattle.calendar.specs.Duration.{IsDuration};
 ghost use Rattle.datetime_wall.specs.Wall.{Shown, instant, IsWallClock};
 ghost use Rattle.instants_answers.specs.Text.{moment_text};
-ghost use Rattle.instants.specs.Place.{Setting, place_of, answer_to};
+ghost use Rattle.instants_timeline.specs.Place.{Setting, place_of, answer_to};
 
 use datetime_types::OffsetDateTime;
 

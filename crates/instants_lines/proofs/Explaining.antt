@@ -8,7 +8,7 @@ use Rattle.datetime_wall.specs.Wall.{Shown}
 use Rattle.parsing_combinator.specs.Fault.{Fault}
 use Rattle.instants_sources.specs.Grammar.{Grammar}
 use Rattle.instants_sources.specs.Named.{named}
-use Rattle.instants.specs.Place.{Setting, or_named, first_named, shown_or_refused, place_of, place_text, answer_to}
+use Rattle.instants_timeline.specs.Place.{Setting, or_named, first_named, shown_or_refused, place_of, place_text, answer_to}
 use Rattle.instants_lines.specs.Explained.{IsFirstToName, text_by, said_by, answer_by, first_answer, all_said, explained}
 
 -- the first source names the moment, or it names none and the others do

@@ -5,7 +5,7 @@ use Rattle.instants_stream.specs.Lines.{lines, last_part}
 use Rattle.instants_stream.specs.Steps.{seen, written, behind, output}
 use Rattle.instants_stream.proofs.Written.{output-append}
 use Rattle.instants_found.specs.declared.found.Found.{Found}
-use Rattle.instants.specs.Place.{Setting}
+use Rattle.instants_timeline.specs.Place.{Setting}
 use Rattle.instants_lines.specs.Dates.{date_in, key_or, key_of_date}
 use Rattle.instants_lines.specs.Going.{Going, key_of_line, key_below, lines_steps}
 use Rattle.instants_lines.specs.declared.mode.Mode.TheVariants.{Key, Carry, Replace, Explain}

@@ -1,7 +1,7 @@
 -- The key of a line, and what is kept below it.
 use Rattle.std.proofs.Common.{◌≡◌, ℕ, List, None, Some, Ok, refl, sym, ap, ◌∙◌}
 use Rattle.instants_found.specs.declared.found.Found.{Found}
-use Rattle.instants.specs.Place.{shown_or_refused, place_text}
+use Rattle.instants_timeline.specs.Place.{shown_or_refused, place_text}
 use Rattle.instants_lines.specs.Dates.{date_in, key_or, place_of_date}
 use Rattle.instants_lines.specs.Going.{Going, key_of_line, key_below}
 use Rattle.instants_lines.specs.declared.mode.Mode.{Mode}

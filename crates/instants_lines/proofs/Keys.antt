@@ -6,7 +6,7 @@ use Rattle.datetime_wall.specs.Wall.{Shown, instant, shown_at}
 use Rattle.instants_answers.proofs.Compares.{Compares, same_when, int_cmp-equal}
 use Rattle.instants_answers.proofs.Lines.{line_field}
 use Rattle.instants_found.specs.declared.found.Found.{Found}
-use Rattle.instants.specs.Place.{Setting}
+use Rattle.instants_timeline.specs.Place.{Setting}
 use Rattle.instants_laws.proofs.Answered.{Shows, shown_in}
 use Rattle.instants_lines.specs.Dates.{place_of_date, key_of_date}
 

@@ -6,8 +6,8 @@ use Rattle.instants_answers.specs.Text.{moment_text}
 use Rattle.instants_found.specs.IsFound.{IsFound, IsFirst}
 use Rattle.instants_found.specs.declared.found.Found.{Found}
 use Rattle.instants_found.proofs.First.{is_found}
-use Rattle.instants.specs.Refusal.{Refusal}
-use Rattle.instants.specs.Place.{Setting, in_written_years}
+use Rattle.instants_timeline.specs.Refusal.{Refusal}
+use Rattle.instants_timeline.specs.Place.{Setting, in_written_years}
 use Rattle.instants_lines.specs.Dates.{date_in, place_of_date, with_date, with_date_time, replaced}
 
 pub first_of : (setting : Setting) (line : List ℕ) (date : Found) → date_in setting line ≡ Some date → IsFirst setting.assumed setting.sources line date

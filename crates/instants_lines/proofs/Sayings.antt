@@ -4,7 +4,7 @@ use Rattle.std.specs.Option.{option_or}
 use Rattle.std.proofs.lemmas.List.{take_more, drop_more, drop_all, take_all, map-append, length-map}
 use Rattle.instants_sources.specs.Grammar.{Grammar, grammar_of}
 use Rattle.instants_sources.specs.declared.source.Source.{Source}
-use Rattle.instants.specs.Place.{Setting}
+use Rattle.instants_timeline.specs.Place.{Setting}
 use Rattle.instants_lines.specs.Explained.{said_by, answer_by, first_answer, parted, all_said}
 
 -- ---- the first answer

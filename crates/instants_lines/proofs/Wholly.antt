@@ -6,7 +6,7 @@ use Rattle.instants_found.specs.Front.{trimmed_length}
 use Rattle.instants_found.specs.Found.{found}
 use Rattle.instants_sources.specs.Grammar.{Grammar}
 use Rattle.instants_sources.specs.Named.{named}
-use Rattle.instants.specs.Place.{Setting, first_named, shown_or_refused, place_of, place_text, answer_to}
+use Rattle.instants_timeline.specs.Place.{Setting, first_named, shown_or_refused, place_of, place_text, answer_to}
 use Rattle.instants_found.specs.declared.found.Found.{Found}
 use Rattle.instants_lines.specs.Dates.{date_in, place_of_date, key_of_date, key_or, replaced}
 use Rattle.instants_lines.proofs.Outside.{written}

@@ -4,8 +4,8 @@ use Rattle.datetime_wall.specs.Wall.{Shown}
 use Rattle.instants_answers.specs.Text.{moment_text}
 use Rattle.instants_found.specs.Found.{found}
 use Rattle.instants_found.specs.declared.found.Found.{Found}
-use Rattle.instants.specs.Refusal.{Refusal}
-use Rattle.instants.specs.Place.{Setting, shown_or_refused, place_text}
+use Rattle.instants_timeline.specs.Refusal.{Refusal}
+use Rattle.instants_timeline.specs.Place.{Setting, shown_or_refused, place_text}
 
 -- the first date of a line that the sources read
 abbrev pub date_in : Setting → List ℕ → Option Found

@@ -8,7 +8,7 @@ use Rattle.datetime_wall.specs.Wall.{Shown}
 use Rattle.parsing_combinator.specs.Fault.{Fault}
 use Rattle.instants_sources.specs.Grammar.{Grammar}
 use Rattle.instants_sources.specs.Named.{named}
-use Rattle.instants.specs.Place.{Setting, shown_or_refused, place_text}
+use Rattle.instants_timeline.specs.Place.{Setting, shown_or_refused, place_text}
 
 -- the answer of a source to a line, or its fault
 unfoldable pub text_by : Setting → List ℕ → Grammar → List ℕ

@@ -2,7 +2,7 @@
 use Rattle.std.specs.Prelude.{ℕ, List, [], ◌∷◌, ◌++◌, Option, None, Some, codes}
 use Rattle.base.specs.Bytes.{tab, line_feed}
 use Rattle.instants_stream.specs.Steps.{Steps}
-use Rattle.instants.specs.Place.{Setting}
+use Rattle.instants_timeline.specs.Place.{Setting}
 use Rattle.instants_lines.specs.Dates.{date_in, key_or, replaced}
 use Rattle.instants_lines.specs.Explained.{explained}
 use Rattle.instants_lines.specs.declared.mode.Mode.{Mode}

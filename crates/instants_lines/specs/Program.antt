@@ -3,9 +3,9 @@ use Rattle.std.specs.Prelude.{◌≡◌, ℕ, List, Option, None, Some, Result, 
 use Rattle.instants_stream.specs.declared.run.RunFault.{RunFault}
 use Rattle.instants_words.specs.declared.fault.WordsFault.TheVariants as words
 use Rattle.instants_words.specs.declared.words.Words.{Words}
-use Rattle.instants.specs.Place.{Setting}
-use Rattle.instants.specs.Program.{Asks}
-use Rattle.instants.specs.declared.new_fault.NewFault.TheVariants as new
+use Rattle.instants_timeline.specs.Place.{Setting}
+use Rattle.instants_timeline.specs.Program.{Asks}
+use Rattle.instants_timeline.specs.declared.new_fault.NewFault.TheVariants as new
 use Rattle.instants_lines.specs.Going.{Going, beginning}
 use Rattle.instants_lines.specs.Words.{mode_words_said}
 use Rattle.instants_lines.specs.declared.mode.Mode.{Mode}

@@ -1,9 +1,9 @@
 -- What the program says on standard error, and the status that it ends with: of a fault that `instants` has too, what that says.
 use Rattle.std.specs.Prelude.{ℕ, List, ◌++◌, codes}
-use Rattle.instants.specs.ProgramText.{text_of}
-use Rattle.instants.specs.ProgramText as instants
-use Rattle.instants.specs.declared.program_fault.ProgramFault.{ProgramFault}
-use Rattle.instants.specs.declared.program_fault.ProgramFault.TheVariants as program
+use Rattle.instants_timeline.specs.ProgramText.{text_of}
+use Rattle.instants_timeline.specs.ProgramText as instants
+use Rattle.instants_timeline.specs.declared.program_fault.ProgramFault.{ProgramFault}
+use Rattle.instants_timeline.specs.declared.program_fault.ProgramFault.TheVariants as program
 use Rattle.instants_lines.specs.declared.lines_fault.LinesFault.{LinesFault}
 use Rattle.instants_lines.specs.declared.lines_fault.LinesFault.TheVariants as lines
 

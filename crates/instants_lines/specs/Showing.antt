@@ -1,6 +1,6 @@
 -- What dates are found by, and where they are shown.
 use Rattle.instants_found.specs.Finder.{sources_of, assumed_of}
-use Rattle.instants.specs.Place.{Setting}
+use Rattle.instants_timeline.specs.Place.{Setting}
 use Rattle.instants_lines.specs.declared.date_sources.DateSources.{DateSources}
 
 abbrev pub setting_in : DateSources → Setting

@@ -11,8 +11,8 @@ ghost use Rattle.instants_sources.specs.Grammar.{Grammar};
 ghost use Rattle.instants_sources.specs.Named.{named};
 ghost use Rattle.instants_stream.specs.Lines.{lines};
 ghost use Rattle.instants_stream.specs.Steps.{output};
-ghost use Rattle.instants.specs.Place.{Setting, first_named, place_of, answer_to};
-ghost use Rattle.instants.specs.Refusal.{Refusal};
+ghost use Rattle.instants_timeline.specs.Place.{Setting, first_named, place_of, answer_to};
+ghost use Rattle.instants_timeline.specs.Refusal.{Refusal};
 ghost use Rattle.instants_lines.specs.Dates.{date_in, place_of_date, key_of_date, replaced};
 ghost use Rattle.instants_lines.specs.Explained.{IsFirstToName, explained};
 ghost use Rattle.instants_lines.specs.Going.{Going, key_of_line, beginning, lines_steps};
@@ -71,8 +71,9 @@ pub fn order_of_keys()
         ↔ (instant date.moment ≡ instant another.moment) }
 {}
 
-/// In mode `carry` the output of two streams joined is their outputs joined, where the first is empty or ends in a line
-/// feed and the second begins with a line that has a date. In the other modes it is so whatever the second begins with.
+/// Where the first of two streams is empty or ends in a line feed, the output of both joined is their outputs joined:
+/// in mode `carry` where the second begins with a line that has a date and is within the limit, in the other modes
+/// whatever it begins with.
 pub fn joined_streams()
     ensures others { (mode : Mode) (setting : Setting) (limit : ℕ) (first second : List ℕ)
         → (mode ≡ Carry → ⊥)

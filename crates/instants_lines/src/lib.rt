@@ -22,7 +22,7 @@ mod parts;
 mod program;
 mod words;
 
-pub use instants::{
+pub use instants_timeline::{
     BlockWriter, ByteReader, ByteWriter, NewFault, RunFault, StdReader, StdWriter, WordsFault,
 };
 pub use lines_fault::LinesFault;

@@ -1,7 +1,7 @@
 //! What ends the program early.
 ghost use Rattle.std.specs.Prelude.{◌≡◌, Some};
 
-use instants::{NewFault, RunFault, WordsFault};
+use instants_timeline::{NewFault, RunFault, WordsFault};
 use std::alloc::AllocError;
 use std::fmt;
 

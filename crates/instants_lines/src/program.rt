@@ -4,8 +4,8 @@ ghost use Rattle.instants_stream.specs.Ran.{Ran, RanAndFlushed};
 ghost use Rattle.instants_stream.specs.Steps.{by_steps};
 ghost use Rattle.instants_words.specs.declared.words.Words.{Words};
 ghost use Rattle.instants_lines.specs.Showing.{setting_in};
-ghost use Rattle.instants.specs.Sources.{IsRefusal};
-ghost use Rattle.instants.specs.declared.new_fault.NewFault.{NewFault};
+ghost use Rattle.instants_timeline.specs.Sources.{IsRefusal};
+ghost use Rattle.instants_timeline.specs.declared.new_fault.NewFault.{NewFault};
 ghost use Rattle.instants_lines.specs.Going.{Going, beginning, lines_steps};
 ghost use Rattle.instants_lines.specs.Program.{AsksFor, IsBeforeRun, IsMemory, IsOfWords, run_of};
 ghost use Rattle.instants_lines.specs.Words.{mode_words_said};
@@ -17,8 +17,8 @@ use crate::line_writer::LineWriter;
 use crate::lines_fault::LinesFault;
 use crate::mode::Mode;
 use crate::words::read_mode_words;
-use instants::{ByteReader, ByteWriter, RunFault, Timeline};
 use instants_stream::write_lines;
+use instants_timeline::{ByteReader, ByteWriter, RunFault, Timeline};
 use std::alloc::Global;
 
 // Bytes that are read at once where they are there, beside those of a line.

@@ -11,9 +11,9 @@ use Rattle.instants_words.specs.Sources.{SourceSaid}
 use Rattle.instants_words.specs.Sources as said
 use Rattle.instants_words.specs.declared.words.Words.{Words}
 use Rattle.instants_sources.specs.Grammar.{Grammar, Items, V3, Means}
-use Rattle.instants.specs.Place.{Setting}
-use Rattle.instants.specs.Program.{Asks, AsksFor}
-use Rattle.instants.specs.Sources.{AllMean}
+use Rattle.instants_timeline.specs.Place.{Setting}
+use Rattle.instants_timeline.specs.Program.{Asks, AsksFor}
+use Rattle.instants_timeline.specs.Sources.{AllMean}
 
 -- a tree that a text spells is joined of items that it spells
 spells_tree : (text : List ℕ) (t : Tree) → SpellsTree Three text t → (ts : List Tree) × (t ≡ joined ts) × Spells Three text ts

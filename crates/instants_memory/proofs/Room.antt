@@ -5,7 +5,7 @@ use Rattle.std.specs.List.{flat_map}
 use Rattle.instants_stream.specs.Lines.{but_last, last, if_nonempty, parts, whole_lines, last_part, lines}
 use Rattle.instants_stream.specs.Answers.{answer_or_long, answered, output}
 use Rattle.instants_stream.proofs.Lines.{weight, weight-parts}
-use Rattle.instants.specs.Place.{Setting, answer_to}
+use Rattle.instants_timeline.specs.Place.{Setting, answer_to}
 use Rattle.instants_memory.specs.OutputFor.{IsOutputFor}
 use Rattle.instants_memory.proofs.Short.{answer_short}
 

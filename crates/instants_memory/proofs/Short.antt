@@ -11,8 +11,8 @@ use Rattle.description_items.specs.Tree.{listed}
 use Rattle.instants_answers.specs.Text.{has_written_year}
 use Rattle.instants_sources.specs.Grammar.{Grammar, Items, V3, Rfc2822, Rfc3339, Iso8601}
 use Rattle.instants_sources.specs.Named.{named, defaults_of}
-use Rattle.instants.specs.Place.{Setting, or_named, first_named, in_written_years, shown_or_refused, place_of, place_text, answer_to}
-use Rattle.instants.specs.Refusal.{year, refusal_of, refusal_text}
+use Rattle.instants_timeline.specs.Place.{Setting, or_named, first_named, in_written_years, shown_or_refused, place_of, place_text, answer_to}
+use Rattle.instants_timeline.specs.Refusal.{year, refusal_of, refusal_text}
 use Rattle.instants_laws.proofs.Bytes.{at_most_35}
 use Rattle.parsing_combinator.specs.Fault.{Fault}
 use Rattle.parsing_combinator.specs.Fault as fault

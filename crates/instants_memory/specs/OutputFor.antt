@@ -1,8 +1,8 @@
 -- What words ask for an input.
 use Rattle.std.specs.Prelude.{◌≡◌, ℕ, List}
 use Rattle.instants_stream.specs.Answers.{output}
-use Rattle.instants.specs.Place.{Setting, answer_to}
-use Rattle.instants.specs.Program.{AsksFor}
+use Rattle.instants_timeline.specs.Place.{Setting, answer_to}
+use Rattle.instants_timeline.specs.Program.{AsksFor}
 
 -- the bytes are the output of the input for what the words ask
 pub record IsOutputFor (words : List (List ℕ)) (input bytes : List ℕ) : Type 0 where

@@ -6,14 +6,14 @@ ghost use Rattle.instants_stream.specs.Ran.{RanAndFlushed};
 ghost use Rattle.instants_stream.specs.declared.run.RunFault.{RunFault};
 ghost use Rattle.instants_words.specs.declared.fault.WordsFault.{WordsFault};
 ghost use Rattle.instants_words.specs.Words.{words_said};
-ghost use Rattle.instants.specs.Place.{Setting, answer_to};
-ghost use Rattle.instants.specs.Program.{AsksFor, IsBeforeRun, IsMemory, IsRefusedAs, run_of};
+ghost use Rattle.instants_timeline.specs.Place.{Setting, answer_to};
+ghost use Rattle.instants_timeline.specs.Program.{AsksFor, IsBeforeRun, IsMemory, IsRefusedAs, run_of};
 ghost use Rattle.instants_memory.specs.OutputFor.{IsOutputFor};
 
 use crate::run_end::{End, RunEnd};
 use crate::space_reader::SpaceReader;
 use crate::space_writer::{Space, SpaceWriter};
-use instants::{ByteReader, ByteWriter, ProgramFault, run_words};
+use instants_timeline::{ByteReader, ByteWriter, ProgramFault, run_words};
 use std::alloc::Global;
 use std::marker::{Brand, PhantomData};
 

@@ -3,6 +3,16 @@ ghost use Rattle.std.specs.Prelude.{◌≡◌, ◌⊎◌, ◌∷◌, ◌++◌, [
 ghost use Rattle.base.specs.Bytes.{line_feed};
 ghost use Rattle.instants_memory.specs.OutputFor.{IsOutputFor};
 
+use crate::answers::LINE_ROOM;
+
+/// The room that always suffices for a line's answer and the line feed behind it: `2021-01-02T03:04:05.000000000+01:00` has 35
+/// bytes.
+pub fn line_room() -> usize
+    ensures { result ≡ 36 }
+{
+    LINE_ROOM
+}
+
 /// Words and an input have one output.
 pub fn one_output()
     ensures { (words : List (List ℕ)) (input one other : List ℕ)

@@ -1,8 +1,8 @@
 //! Where the answer of a run is put.
 ghost use Rattle.std.specs.Prelude.{◌≡◌, Result};
-ghost use Rattle.instants.specs.declared.program_fault.ProgramFault.{ProgramFault};
+ghost use Rattle.instants_timeline.specs.declared.program_fault.ProgramFault.{ProgramFault};
 
-use instants::ProgramFault;
+use instants_timeline::ProgramFault;
 
 /// What takes the answer of a run.
 pub(crate) trait End<'a> {

@@ -56,6 +56,8 @@ impl<S: Space> ByteWriter for SpaceWriter<'_, S> {
 
     ghost flushed = { λ s. s.is_flushed };
 
+    ghost handed_on = { λ s. Some (filled s.space.now s.past s.len) };
+
     #[inline(always)]
     fn write(&mut self, from: &[u8]) -> Result<usize, DeviceFailed> {
         self.is_flushed = false;
@@ -93,5 +95,9 @@ impl<S: Space> ByteWriter for SpaceWriter<'_, S> {
 
     fn has_failed(&self) -> bool {
         self.has_failed
+    }
+
+    fn hand_on(&mut self) -> Result<(), DeviceFailed> {
+        Ok(())
     }
 }

@@ -2,7 +2,7 @@
 //! to standard output: a date-time of fixed width at the target offset, or a named fault.
 #![tactic(auto)]
 
-use instants::{BlockWriter, ProgramFault, StdReader, StdWriter, run_words};
+use instants_timeline::{BlockWriter, ProgramFault, StdReader, StdWriter, run_words};
 use std::alloc::Global;
 use std::env;
 use std::process::ExitCode;

@@ -17,7 +17,7 @@ use description::{
 };
 use description_items::{Iso8601, Rfc2822, Rfc3339};
 use instants_words::SourceText;
-use parsing_combinator::Parse;
+use parsing_combinator::{Parse, ParseFromDescription};
 use parsing_parsable::{Items, Parsable};
 use parsing_record::Parsed;
 use std::alloc::Global;
@@ -105,7 +105,10 @@ fn read_staged<F: Parsable>(
     ensures short { IfErr result (λ fault. HasShortName (fault_of fault)) }
 {
     let mut parsed = starting(assumed);
-    format.read_staged_into(line, &mut parsed)
+    match format.parse_into(line, &mut parsed)? {
+        [] => Ok(parsed.offset_date_time()?),
+        _ => Err(ParseFromDescription::UnexpectedTrailingCharacters.into()),
+    }
 }
 
 // A description of one of the three versions.

@@ -9,3 +9,4 @@ pub mod EachAnswered
 pub mod Gathering
 pub mod Told
 pub mod Ends
+pub mod Bounds

@@ -1,6 +1,6 @@
 //! The run where each line is answered by itself.
-ghost use Rattle.std.specs.Prelude.{◌≡◌, ◌<◌, ◌≤◌, true, false, [], ◌∷◌, ◌++◌, codes, length, OnOk, OnErr};
-ghost use Rattle.std.specs.Io.KnownBytes.{Appends};
+ghost use Rattle.std.specs.Prelude.{◌≡◌, ◌<◌, ◌≤◌, true, false, [], ◌∷◌, ◌++◌, codes, length, Err, OnOk, OnErr};
+ghost use Rattle.std.specs.Io.KnownBytes.{Appends, Keeps};
 ghost use Rattle.base.specs.Bytes.{line_feed};
 ghost use Rattle.instants_stream.specs.Told.{AppendsFront};
 ghost use Rattle.instants_stream.specs.Ran.{Ran};
@@ -150,8 +150,11 @@ pub fn run_lines<A: AnswersLines, R: ByteReader, W: ByteWriter>(
     requires room { limit < length buffer.old }
     requires reader { R.failed reader.old ≡ false }
     requires writer { W.failed writer.old ≡ false }
-    ensures { Ran (by_answers (A.answer answers.now) limit)
+    ensures ran { Ran (by_answers (A.answer answers.now) limit)
         R.ByteReader reader.old reader.new W.ByteWriter writer.old writer.new result }
+    // Before the read that failed all was handed on.
+    ensures handed_on { result ≡ Err RunFault.Read
+        → Keeps (W.held writer.new) (W.handed_on writer.new) }
 {
     write_lines(&mut Answering::new(answers), limit, buffer, reader, writer)
 }

@@ -42,6 +42,7 @@ impl<W: ByteWriter> BlockWriter<W> {
         requires { 0 < vec_len block }
         ensures held { Keeps (W.held inner) (⟦<BlockWriter<W> as ByteWriter>⟧.held result) }
         ensures failed { ⟦<BlockWriter<W> as ByteWriter>⟧.failed result ≡ W.failed inner }
+        ensures flushed { ⟦<BlockWriter<W> as ByteWriter>⟧.flushed result ≡ false }
     {
         BlockWriter {
             inner,
@@ -139,6 +140,8 @@ impl<W: ByteWriter> ByteWriter for BlockWriter<W> {
 
     ghost flushed = { λ s. s.is_flushed && W.flushed s.inner };
 
+    ghost handed_on = { λ s. W.handed_on s.inner };
+
     #[inline(always)]
     fn write(&mut self, from: &[u8]) -> Result<usize, DeviceFailed> {
         self.is_flushed = false;
@@ -169,8 +172,10 @@ impl<W: ByteWriter> ByteWriter for BlockWriter<W> {
     fn hand_on(&mut self) -> Result<(), DeviceFailed>
         requires { W.failed self.old.inner ≡ false }
         ensures held { OnOk result (Keeps (held_by W.held self.old) (held_by W.held self.new)) }
-        // Nothing is held back.
+        // Nothing is held back, here and below.
         ensures below { OnOk result (Keeps (held_by W.held self.old) (held_below W.held self.new)) }
+        ensures all { OnOk result (Keeps (held_by W.held self.new)
+            (⟦<BlockWriter<W> as ByteWriter>⟧.handed_on self.new)) }
         ensures flushed { OnOk result (⟦<BlockWriter<W> as ByteWriter>⟧.flushed self.new
             ≡ ⟦<BlockWriter<W> as ByteWriter>⟧.flushed self.old) }
         ensures ok { OnOk result (W.failed self.new.inner ≡ W.failed self.old.inner) }

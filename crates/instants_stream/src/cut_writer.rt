@@ -86,6 +86,8 @@ impl<'a> ByteWriter for CutWriter<'a> {
 
     ghost flushed = { λ s. s.is_flushed };
 
+    ghost handed_on = { λ s. Some s.held };
+
     fn write(&mut self, from: &[u8]) -> Result<usize, DeviceFailed>
         ensures within { IfOk result (λ count. count ≤ length from.now) }
         ensures moved { IfOk result (λ count.
@@ -155,5 +157,9 @@ impl<'a> ByteWriter for CutWriter<'a> {
 
     fn has_failed(&self) -> bool {
         self.has_failed
+    }
+
+    fn hand_on(&mut self) -> Result<(), DeviceFailed> {
+        Ok(())
     }
 }

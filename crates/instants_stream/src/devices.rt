@@ -55,6 +55,10 @@ pub trait ByteWriter {
     /// Whether there was no write since the last flush.
     ghost flushed: { Self → Bool };
 
+    /// Of the bytes that the writer holds those that it has handed on, where it tells them: all, but for a writer that
+    /// gathers bytes.
+    ghost handed_on: { Self → Option (List ℕ) };
+
     /// Takes bytes from the front of `from`, and says how many: none only from an empty slice.
     fn write(&mut self, from: &[u8]) -> Result<usize, DeviceFailed>
         requires { failed self.old ≡ false }
@@ -92,14 +96,13 @@ pub trait ByteWriter {
     fn hand_on(&mut self) -> Result<(), DeviceFailed>
         requires { failed self.old ≡ false }
         ensures held { OnOk result (Keeps (held self.old) (held self.new)) }
+        // Nothing is held back.
+        ensures all { OnOk result (Keeps (held self.new) (handed_on self.new)) }
         ensures flushed { OnOk result (flushed self.new ≡ flushed self.old) }
         ensures ok { OnOk result (failed self.new ≡ failed self.old) }
 
         ensures err { OnErr result (failed self.new ≡ true) }
-        ensures kept { OnErr result (StaysOrUntold (held self.old) (held self.new)) }
-    {
-        Ok(())
-    }
+        ensures kept { OnErr result (StaysOrUntold (held self.old) (held self.new)) };
 
     /// Writes all of the bytes. The first write that fails ends it, and a front of them is written.
     #[inline(always)]

@@ -1,13 +1,13 @@
 //! The run over a stream, whole lines lent out of one buffer.
-ghost use Rattle.std.specs.Prelude.{◌≡◌, ◌<◌, ◌≤◌, true, false, [], length, take, drop, IfOk, OnOk, OnErr};
-ghost use Rattle.std.specs.Io.KnownBytes.{Appends};
+ghost use Rattle.std.specs.Prelude.{◌≡◌, ◌+◌, ◌<◌, ◌≤◌, ◌^◌, true, false, [], length, take, drop, Err, IfOk, OnOk, OnErr};
+ghost use Rattle.std.specs.Io.KnownBytes.{Appends, Keeps};
 ghost use Rattle.instants_stream.specs.Told.{AppendsFront};
 ghost use Rattle.instants_stream.specs.Lines.{HasNoLineFeed, whole_lines, last_part};
 ghost use Rattle.instants_stream.specs.Ran.{Ran};
 ghost use Rattle.instants_stream.specs.Steps.{written, behind, by_steps, seen_after};
 
 use crate::devices::{ByteReader, ByteWriter, DeviceFailed};
-use crate::search::line_len;
+use crate::search::line_end;
 use crate::writes_lines::WritesLines;
 
 /// Which device ended a run.
@@ -17,6 +17,15 @@ pub enum RunFault {
     Read,
     /// A write or the flush failed.
     Write,
+}
+
+// What stands behind a line of so many bytes, and its line feed.
+#[inline(always)]
+fn behind_line(bytes: &[u8], len: usize) -> &[u8]
+    requires { len < length bytes.now }
+    ensures { result.now ≡ drop (len + 1) bytes.now }
+{
+    &bytes[len + 1..]
 }
 
 // Writes for each whole line, and says where the last part begins. The first `searched` bytes are
@@ -30,6 +39,7 @@ fn write_whole_lines<S: WritesLines, W: ByteWriter>(
     is_long: bool,
     writer: &mut W,
 ) -> Result<usize, DeviceFailed>
+    requires limit { limit < 2 ^ 63 }
     requires writer { W.failed writer.old ≡ false }
     requires searched { searched ≤ length bytes.now }
     requires free { HasNoLineFeed (take searched bytes.now) }
@@ -46,17 +56,19 @@ fn write_whole_lines<S: WritesLines, W: ByteWriter>(
         (written S.steps (S.state steps.old) (seen_after limit is_long (whole_lines bytes.now)))) }
     ensures err { OnErr result (W.failed writer.new ≡ true) }
 {
-    let mut start = 0;
-    let mut searched = searched;
-    let mut is_long = is_long;
-    while let Some(len) = line_len(&bytes[start..], searched) {
-        let line = &bytes[start..start + len];
-        steps.write_line(line, is_long | (len > limit), writer)?;
-        start += len + 1;
-        searched = 0;
-        is_long = false;
+    let mut rest = bytes;
+    // A line of so many bytes is too long.
+    let mut bound = if is_long { 0 } else { limit + 1 };
+    // The end of the next line is found before a line is read, so that it isn't waited for.
+    let mut len = line_end(bytes, searched);
+    while len < rest.len() {
+        let line = &rest[..len];
+        rest = behind_line(rest, len);
+        len = line_end(rest, 0);
+        steps.write_line(line, line.len() >= bound, writer)?;
+        bound = limit + 1;
     }
-    Ok(start)
+    Ok(bytes.len() - rest.len())
 }
 
 /// Writes for each line that the reader gives.
@@ -75,8 +87,11 @@ pub fn write_lines<S: WritesLines, R: ByteReader, W: ByteWriter>(
     requires room { limit < length buffer.old }
     requires reader { R.failed reader.old ≡ false }
     requires writer { W.failed writer.old ≡ false }
-    ensures { Ran (by_steps S.steps (S.state steps.old) limit)
+    ensures ran { Ran (by_steps S.steps (S.state steps.old) limit)
         R.ByteReader reader.old reader.new W.ByteWriter writer.old writer.new result }
+    // Before the read that failed all was handed on.
+    ensures handed_on { result ≡ Err RunFault.Read
+        → Keeps (W.held writer.new) (W.handed_on writer.new) }
 {
     // The unfinished line stands from start to filled. Its first bytes are gone if it is too long.
     let mut start = 0;

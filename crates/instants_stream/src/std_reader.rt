@@ -1,6 +1,8 @@
 //! A reader of std, as a device.
 
-ghost use Rattle.std.specs.Prelude.{◌≡◌, ◌-◌, ◌^◌, None, false, if◌then◌else◌};
+ghost use Rattle.std.specs.Prelude.{◌≡◌, ◌+◌, ◌-◌, ◌^◌, ◌<◌, ◌≤◌, None, true, false, length, take, IfOk, OnOk, OnErr, if◌then◌else◌};
+ghost use Rattle.std.specs.Io.KnownBytes.{Consumes, IsAtEnd};
+ghost use Rattle.instants_stream.specs.Told.{StaysOrUntold};
 
 use crate::devices::{ByteReader, DeviceFailed};
 use std::io::Read;
@@ -38,7 +40,28 @@ impl<R: Read> ByteReader for StdReader<R> {
 
     ghost reads_left = { λ s. s.reads_left };
 
-    fn read(&mut self, into: &mut [u8]) -> Result<usize, DeviceFailed> {
+    fn read(&mut self, into: &mut [u8]) -> Result<usize, DeviceFailed>
+        requires { ⟦<StdReader<R> as ByteReader>⟧.failed self.old ≡ false }
+        ensures within { IfOk result (λ count. count ≤ length into.new) }
+        ensures moved { IfOk result (λ count.
+            Consumes (⟦<StdReader<R> as ByteReader>⟧.left self.old)
+            (⟦<StdReader<R> as ByteReader>⟧.left self.new) (take count into.new)) }
+        ensures none { IfOk result (λ count.
+            count ≡ 0 → 0 < length into.new
+            → IsAtEnd (⟦<StdReader<R> as ByteReader>⟧.left self.new)) }
+        ensures ends { IfOk result (λ count. 0 < count
+            → ⟦<StdReader<R> as ByteReader>⟧.reads_left self.new
+            < ⟦<StdReader<R> as ByteReader>⟧.reads_left self.old) }
+        // Each read that succeeds is one of those that are left.
+        ensures counted { OnOk result (⟦<StdReader<R> as ByteReader>⟧.reads_left self.new + 1
+            ≡ ⟦<StdReader<R> as ByteReader>⟧.reads_left self.old) }
+        ensures ok { OnOk result (⟦<StdReader<R> as ByteReader>⟧.failed self.new
+            ≡ ⟦<StdReader<R> as ByteReader>⟧.failed self.old) }
+        ensures err { OnErr result (⟦<StdReader<R> as ByteReader>⟧.failed self.new ≡ true) }
+        ensures kept { OnErr result (StaysOrUntold
+            (⟦<StdReader<R> as ByteReader>⟧.left self.old)
+            (⟦<StdReader<R> as ByteReader>⟧.left self.new)) }
+    {
         if self.reads_left > 0 {
             self.reads_left -= 1;
             if let Ok(count) = self.inner.read(into) {

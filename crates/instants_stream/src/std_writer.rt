@@ -39,6 +39,8 @@ impl<W: Write> ByteWriter for StdWriter<W> {
 
     ghost flushed = { λ s. s.is_flushed };
 
+    ghost handed_on = { λ s. if s.has_failed then None else W.contents s.inner };
+
     #[inline(always)]
     fn write(&mut self, from: &[u8]) -> Result<usize, DeviceFailed> {
         self.is_flushed = false;
@@ -66,5 +68,9 @@ impl<W: Write> ByteWriter for StdWriter<W> {
 
     fn has_failed(&self) -> bool {
         self.has_failed
+    }
+
+    fn hand_on(&mut self) -> Result<(), DeviceFailed> {
+        Ok(())
     }
 }

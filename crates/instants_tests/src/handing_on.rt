@@ -136,10 +136,11 @@ fn no_flush(rt: HostRuntime) {
     assert!(rt; ends == [Some((true, true, true)), Some((true, false, false))]);
 }
 
-// How a run ends whose reads give at most so many bytes and fail after so many, and what the writer below its block has,
-// which fails after so many: nothing is flushed.
+// How a run with this limit ends whose reads give at most so many bytes and fail after so many, and what the writer below its
+// block has, which fails after so many: nothing is flushed.
 fn ended(
     alloc: Global,
+    limit: usize,
     most: usize,
     read_fails: usize,
     write_fails: Option<usize>,
@@ -150,7 +151,7 @@ fn ended(
         let mut reader = CutReader::new(STREAM, most.max(1), Some(read_fails));
         let below = CutWriter::new(&mut space, 48, write_fails);
         let mut writer = BlockWriter::new(block(alloc, 100)?, below);
-        answer = run_on(alloc, WORDS, 100, &mut reader, &mut writer)?;
+        answer = run_on(alloc, WORDS, limit, &mut reader, &mut writer)?;
     }
     Some((answer, space))
 }
@@ -164,10 +165,10 @@ fn with_zeros(bytes: &[u8]) -> [u8; 48] {
 }
 
 // Whether all answers are below where a read of at most so many bytes fails, wherever it does.
-fn are_below(alloc: Global, most: usize) -> bool {
+fn are_below(alloc: Global, limit: usize, most: usize) -> bool {
     for after in 0..27 {
         let wanted = (Err(RunFault::Read), with_zeros(written_before(after)));
-        if ended(alloc, most, after, None) != Some(wanted) {
+        if ended(alloc, limit, most, after, None) != Some(wanted) {
             return false;
         }
     }
@@ -178,15 +179,17 @@ fn are_below(alloc: Global, most: usize) -> bool {
 #[test]
 fn before_each_read(rt: HostRuntime) {
     for most in [1, 2, 5, 24, 26] {
-        assert!(rt; are_below(rt.alloc(), most));
+        assert!(rt; are_below(rt.alloc(), 100, most));
     }
+    // The buffer has 26 bytes, and is empty again once the whole stream is read.
+    assert!(rt; are_below(rt.alloc(), 25, 26));
 }
 
 // Whether a run ends where the writer below fails, wherever it does.
 fn ends_at_writes(alloc: Global) -> bool {
     for after in 0..31 {
         let wanted = (Err(RunFault::Write), with_zeros(&OUTPUT[..after]));
-        if ended(alloc, 5, 24, Some(after)) != Some(wanted) {
+        if ended(alloc, 100, 5, 24, Some(after)) != Some(wanted) {
             return false;
         }
     }
@@ -217,6 +220,8 @@ impl ByteWriter for Plain {
 
     ghost flushed = { λ s. s.is_flushed };
 
+    ghost handed_on = { λ _. None };
+
     fn write(&mut self, from: &[u8]) -> Result<usize, DeviceFailed> {
         self.is_flushed = false;
         if from.is_empty() {
@@ -242,6 +247,10 @@ impl ByteWriter for Plain {
 
     fn has_failed(&self) -> bool {
         self.has_failed
+    }
+
+    fn hand_on(&mut self) -> Result<(), DeviceFailed> {
+        Ok(())
     }
 }
 

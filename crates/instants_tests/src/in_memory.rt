@@ -34,6 +34,7 @@ fn answers(rt: HostRuntime) {
         answered(rt.alloc(), &WORDS) == (Ok(31), whole)
             && answered(rt.alloc(), &NO_WORDS) == (Err(2), [b'.'; LINE_ROOM])
             && cut(rt.alloc()) == (Err(1), *b"2021-01-02")
+            && laws::line_room() == 36
     );
 }
 

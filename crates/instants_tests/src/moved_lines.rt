@@ -8,7 +8,7 @@ use parsing_fields::{Fields, Fraction};
 // in another month.
 type Case = ((u16, u8, u8), u16, i16, i32, &'static [u8]);
 
-static CASES: [Case; 5] = [
+static CASES: [Case; 6] = [
     (
         (2024, 2, 28),
         1439,
@@ -19,7 +19,8 @@ static CASES: [Case; 5] = [
     ((2023, 2, 28), 1439, 0, 60, b""),
     ((2024, 2, 29), 1439, 0, 60, b""),
     ((0, 1, 1), 0, 1, 0, b""),
-    ((1970, 1, 3), 0, 1559, 0, b""),
+    ((1970, 1, 2), 0, 1559, 0, b""),
+    ((1970, 1, 3), 0, 1559, 0, b"1970-01-01T22:01:07.000000090Z"),
 ];
 
 fn is_written(case: Case) -> Option<bool> {

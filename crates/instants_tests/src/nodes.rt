@@ -32,7 +32,7 @@ fn told(alloc: Global, timeline: &Timeline, line: &str) -> Result<String, AllocE
         Ok(moment) => Ok(moment.unix_timestamp()),
         Err(fault) => Err(fault),
     };
-    format!(in alloc; "{second:?} {tried} {}", timeline.nodes())
+    format!(in alloc; "{second:?} {tried} {}", timeline.places())
 }
 
 // Whether a row tells what is so.

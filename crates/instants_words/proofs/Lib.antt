@@ -1,2 +1,3 @@
 pub mod WordLemmas
 pub mod SourceLemmas
+pub mod TextLemmas

@@ -4,8 +4,10 @@
 mod fault;
 mod pieces;
 mod sources;
+mod text_words;
 mod words;
 
 pub use fault::WordsFault;
 pub use sources::{SourceText, Sources};
+pub use text_words::fault_in_text;
 pub use words::{Words, read_words};

@@ -109,8 +109,8 @@ fn source<'a>(words: &[&'a str]) -> Option<(SourceText<'a>, usize)>
     Some((text, 2))
 }
 
-// The well-known format of this name.
-fn format<'a>(name: &str) -> Option<SourceText<'a>>
+/// The well-known format of this name.
+pub(crate) fn format<'a>(name: &str) -> Option<SourceText<'a>>
     ensures { option_map said_by result ≡ format_named name.now }
 {
     if name == "rfc2822" {
@@ -124,8 +124,8 @@ fn format<'a>(name: &str) -> Option<SourceText<'a>>
     }
 }
 
-// A description in the language of this name.
-fn described<'a>(name: &str, description: &'a str) -> Option<SourceText<'a>>
+/// A description in the language of this name.
+pub(crate) fn described<'a>(name: &str, description: &'a str) -> Option<SourceText<'a>>
     ensures { option_map said_by result
         ≡ option_map (λ language. language description.now) (language_named name.now) }
 {

@@ -1,12 +1,11 @@
 -- Digits that end at a place of a line, and the fraction of a second that they write.
-use Rattle.std.proofs.Common.{◌≡◌, ℕ, zero, suc, ◌+◌, ◌-◌, ◌*◌, ◌/◌, ◌%◌, ◌^◌, ◌<◌, ◌≤◌, ◌==◌, eqb, leb, Bool, List, [], ◌∷◌, ◌++◌, length, get_or, take, drop, replicate, Option, Some, true, false, refl, sym, ap, ◌∙◌, arith, lit<, take-append-drop}
+use Rattle.std.proofs.Common.{◌≡◌, ℕ, zero, suc, ◌+◌, ◌-◌, ◌*◌, ◌/◌, ◌%◌, ◌^◌, ◌<◌, ◌≤◌, ◌==◌, eqb, List, [], ◌∷◌, ◌++◌, length, get_or, take, drop, replicate, Option, Some, true, false, refl, sym, ap, ◌∙◌, arith, lit<, take-append-drop}
 use Rattle.std.specs.Char.{is_ascii_digit}
 use Rattle.std.specs.Int.Bits.{bit_and}
 use Rattle.std.specs.Option.{unwrap_or}
 use Rattle.std.specs.Str.Parse.{digits_value}
-use Rattle.std.proofs.lemmas.Bool.{leb-true, leb-false}
 use Rattle.std.proofs.lemmas.Bool.Decides.{nat_tests}
-use Rattle.std.proofs.lemmas.List.{length-take-le, length-drop, take_all, drop_all, take-append-le, take_more, drop-take, drop-drop, get_or-drop}
+use Rattle.std.proofs.lemmas.List.{length-take-le, length-drop, take_all, drop_all, take-append-le, drop-take, drop-drop, get_or-drop}
 use Rattle.std.proofs.lemmas.List.Folds.{prefix_len-append}
 use Rattle.std.proofs.lemmas.Nat.{div-mul-add}
 use Rattle.parsing_combinator.specs.Pieces.{digits, digit_count, digit_run, fraction, nanoseconds_of}
@@ -14,7 +13,7 @@ use Rattle.parsing_combinator.specs.Chunks.{chunk, padded, IsDigitChunk}
 use Rattle.parsing_combinator.proofs.Decimal.{count_front}
 use Rattle.parsing_combinator.proofs.FractionDigits.{digits_read}
 use Rattle.parsing_combinator.proofs.PaddingLemmas.{chunk_append, chunk_below, padded_read}
-use Rattle.parsing_fields.proofs.DigitLemmas.{Nine, short_read, nine_cut, none_of_nothing}
+use Rattle.parsing_fields.proofs.DigitLemmas.{Nine, short_read, none_of_nothing}
 use Rattle.parsing_fields.specs.Digits.{nine_digits, AreNineDigits}
 use Rattle.parsing_fields.specs.Written.{WriteFraction}
 
@@ -115,30 +114,3 @@ are_nine bytes first count within c fit =
     let long : length run ≡ count = length-take-le count bytes within in
     let nothing : drop count run ≡ [] = drop_all count run (omega (arith, long)) in
     (short_read run first count c (take_fit count bytes fit) (ap (digits 1) nothing ∙ none_of_nothing)).are
-
--- nine digits
-pub nine_before : (bytes : List ℕ) (first last : ℕ) → 8 < length bytes → IsDigitChunk (take 8 bytes) first 8 → last ≡ get_or bytes 8 0 → is_ascii_digit last ≡ true → ((k : ℕ) → get_or bytes k 0 < 256) → AreNineDigits first last × WriteFraction bytes 9 (digits_value 10 (nine_digits first last))
-nine_before bytes first last long c is digit fit =
-    let cut = nine_cut (take 8 bytes) first last c (length-take-le 8 bytes (omega arith)) (take_fit 8 bytes fit) digit in
-    let nine : nine_digits first last ≡ take 9 bytes = cut.1 ∙ rw is (sym (take_more bytes 8 0 long)) in
-    let nine_long : length (take 9 bytes) ≡ 9 = length-take-le 9 bytes (omega arith) in
-    let all : digit_count (take 9 bytes) ≡ 9 = ap digit_count (sym nine) ∙ cut.0.1 in
-    let same : eqb (digit_count (take 9 bytes)) (length (take 9 bytes)) ≡ true = grind (arith, nat_tests) in
-    let counted : digit_count bytes ≡ length (take 9 bytes) + digit_count (drop 9 bytes) = ap digit_count (sym (take-append-drop 9 bytes)) ∙ prefix_len-append is_ascii_digit (take 9 bytes) (drop 9 bytes) ∙ rw same refl in
-    let value : digits_value 10 (take 9 bytes) ≡ nanoseconds_of (take 9 bytes) = rw nine_long (omega arith) in
-    (cut.0, record { enough = omega (arith, counted, nine_long); value = ap (digits_value 10) nine ∙ value })
-
--- at most nine digits, of which the first eight are read by themselves
-written_cases : (more : Bool) (bytes : List ℕ) (count eight first last : ℕ) → leb count 8 ≡ more → count < length bytes → count ≤ 9 → (count ≤ 8 → eight ≡ count) → (8 ≤ count → eight ≡ 8) → IsDigitChunk (take eight bytes) first eight → (count ≤ 8 → last ≡ 48) → (count ≡ 9 → last ≡ get_or bytes 8 0) → is_ascii_digit last ≡ true → ((k : ℕ) → get_or bytes k 0 < 256) → AreNineDigits first last × WriteFraction bytes count (digits_value 10 (nine_digits first last))
-written_cases true bytes count eight first last e within few all cut c fewer nine digit fit =
-    let le : count ≤ 8 = leb-true count 8 e in
-    let chunk_of_all : IsDigitChunk (take count bytes) first count = rw (all le) at c in
-    let inside : count ≤ length bytes = omega arith in
-    rw (fewer le) (are_nine bytes first count inside chunk_of_all fit, fraction_before bytes first count inside chunk_of_all fit)
-written_cases false bytes count eight first last e within few all cut c fewer nine digit fit =
-    let is : count ≡ 9 = omega (arith, leb-false count 8 e) in
-    let chunk_of_eight : IsDigitChunk (take 8 bytes) first 8 = rw (cut (omega (arith, is))) at c in
-    rw is (nine_before bytes first last (omega (arith, is)) chunk_of_eight (nine is) digit fit)
-
-pub written_at : (bytes : List ℕ) (count eight first last : ℕ) → count < length bytes → count ≤ 9 → (count ≤ 8 → eight ≡ count) → (8 ≤ count → eight ≡ 8) → IsDigitChunk (take eight bytes) first eight → (count ≤ 8 → last ≡ 48) → (count ≡ 9 → last ≡ get_or bytes 8 0) → is_ascii_digit last ≡ true → ((k : ℕ) → get_or bytes k 0 < 256) → AreNineDigits first last × WriteFraction bytes count (digits_value 10 (nine_digits first last))
-written_at bytes count eight first last = written_cases (leb count 8) bytes count eight first last refl

@@ -58,7 +58,7 @@ fn are_digits(chunk: u64) -> bool
 }
 
 /// So many digits that end at a place, at most eight, in one number with the digit zero behind them, the first one lowest:
-/// `None` where one of them is no digit.
+/// `None` says nothing.
 #[inline(always)]
 pub(crate) fn digits_before(line: &[u8], end: usize, count: usize) -> Option<u64>
     requires room { 8 ≤ end }

@@ -129,8 +129,7 @@ impl Fields {
         }
     }
 
-    /// The fields in UTC of a second of Unix time, from 1970 on, and a fraction of it: `None` where its year has not four
-    /// digits.
+    /// The fields in UTC of a second of Unix time, from 1970 on, and a fraction of it: `None` says nothing.
     #[inline(always)]
     pub fn of_unix(second: u64, fraction: Fraction) -> Option<Fields>
         requires { second < 10_000_000_000 }

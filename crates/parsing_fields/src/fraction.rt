@@ -2,6 +2,8 @@
 ghost use Rattle.std.specs.Prelude.{◌≡◌, ◌+◌, ◌-◌, ◌<◌, ◌≤◌, [], drop, length, None, Some, IfSome};
 ghost use Rattle.base.specs.Bytes.{digit_zero};
 ghost use Rattle.parsing_combinator.specs.Pieces as Pieces;
+ghost use Rattle.std.specs.Str.Parse.{digits_value};
+ghost use Rattle.parsing_fields.specs.Digits.{AreNineDigits, nine_digits};
 ghost use Rattle.parsing_fields.specs.Written.{WriteFraction};
 
 use crate::before::digits_before;
@@ -68,15 +70,6 @@ fn ninth_digit(count: usize, rest: &[u8]) -> Option<(u8, &[u8])>
     one_digit(rest)
 }
 
-// The ninth of so many digits, where this byte stands behind the first eight: 0 where they are fewer.
-#[inline(always)]
-fn ninth_or_zero(behind: u8, count: usize) -> u8
-    ensures nine { count ≡ 9 → result ≡ behind }
-    ensures fewer { count ≤ 8 → result ≡ digit_zero }
-{
-    if count == 9 { behind } else { b'0' }
-}
-
 impl Fraction {
     /// The fraction of so many nanoseconds.
     #[inline(always)]
@@ -98,6 +91,15 @@ impl Fraction {
             first: u64::from_le_bytes(first),
             last: u64::from(digit(nanosecond % 10)),
         }
+    }
+
+    /// The fraction of nine digits in ASCII: the first eight in one number, the first one lowest, and the ninth.
+    #[inline(always)]
+    pub fn of_nine(first: u64, last: u64) -> Fraction
+        requires { AreNineDigits first last }
+        ensures { result ≡ digits_value 10 (nine_digits first last) }
+    {
+        Fraction { first, last }
     }
 
     /// Its nanoseconds.
@@ -132,8 +134,7 @@ impl Fraction {
         Some((Fraction { first, last }, behind))
     }
 
-    /// The fraction that so many digits write, at most eight, which end at a place of a line: `None` where one of them is no
-    /// digit.
+    /// The fraction that so many digits write, at most eight, which end at a place of a line: `None` says nothing.
     #[inline(always)]
     pub fn of_digits(line: &[u8], end: usize, count: usize) -> Option<Fraction>
         requires room { 8 ≤ end }
@@ -145,29 +146,6 @@ impl Fraction {
     {
         let first = digits_before(line, end, count)?;
         let last = u64::from(b'0');
-        Some(Fraction { first, last })
-    }
-
-    /// The fraction that so many digits at a place of a line write, at most nine, where a byte stands behind them: `None` where
-    /// one of them is no digit.
-    ///
-    /// No jump depends on how many they are.
-    #[inline(always)]
-    pub fn at(line: &[u8], place: usize, count: usize) -> Option<Fraction>
-        requires room { 8 ≤ place }
-        requires within { place + count < length line.now }
-        requires some { 0 < count }
-        requires few { count ≤ 9 }
-        ensures writes { IfSome result (WriteFraction (drop place line.now) count) }
-        ensures bound { IfSome result (λ f. f < 1_000_000_000) }
-    {
-        let eight = count.min(8);
-        let first = digits_before(line, place + eight, eight)?;
-        let last = ninth_or_zero(line[place + eight], count);
-        if !last.is_ascii_digit() {
-            return None;
-        }
-        let last = u64::from(last);
         Some(Fraction { first, last })
     }
 

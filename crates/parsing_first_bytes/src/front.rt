@@ -1,5 +1,5 @@
 //! What each text that an item reads begins with.
-ghost use Rattle.std.specs.Prelude.{◌≡◌, ◌≤◌, ℕ, false, Bool, List};
+ghost use Rattle.std.specs.Prelude.{◌≡◌, ◌≤◌, ℕ, true, false, Bool, List, get_or};
 ghost use Rattle.parsing_combinator.specs.Shape.{digits_as, taken};
 ghost use Rattle.parsing_combinator.specs.Numbers.{padded, signed_if};
 ghost use Rattle.parsing_record.specs.Meaning.{literally, unchanged};
@@ -121,8 +121,9 @@ impl<'a> Front<'a> {
         }
     }
 
-    /// Whether a byte can stand at a place of it.
-    pub(crate) fn has(&self, place: usize, byte: u8) -> bool
+    // Whether a byte can stand at a place of it.
+    #[inline(always)]
+    fn has(&self, place: usize, byte: u8) -> bool
         ensures { result ≡ stands self.now.bytes place byte }
     {
         match self.bytes {
@@ -141,5 +142,17 @@ impl<'a> Front<'a> {
                 }
             }
         }
+    }
+
+    /// The bytes that can stand at a place of it.
+    pub(crate) fn bytes_at(&self, place: usize) -> [bool; 256]
+        ensures { (byte : ℕ) → get_or result byte true ≡ false
+            → stands self.now.bytes place byte ≡ false }
+    {
+        let mut bytes = [true; 256];
+        for byte in 0..=255u8 {
+            bytes[usize::from(byte)] = self.has(place, byte);
+        }
+        bytes
     }
 }

@@ -1,9 +1,9 @@
 //! The bytes that can stand at a place of a line, by the items that read it one after the other.
-ghost use Rattle.std.specs.Prelude.{◌≡◌, ℕ, false, true, get_or, map};
+ghost use Rattle.std.specs.Prelude.{◌≡◌, ℕ, false, true, get_or, map, IfSome};
 ghost use Rattle.description_items.specs.Tree.{listed};
 ghost use Rattle.parsing_record.specs.Reads.{reading, reading_of_all};
 ghost use Rattle.parsing_first_bytes.specs.FirstBytes.{IsRefusedAt};
-ghost use Rattle.parsing_first_bytes.specs.Front.{Begins};
+ghost use Rattle.parsing_first_bytes.specs.Front.{Begins, stands};
 
 use crate::components::front_of_component;
 use crate::front::Front;
@@ -20,23 +20,24 @@ fn front_of<N: Node>(node: &N) -> Front<'_>
     }
 }
 
-// Whether a line that all of the items read can have this byte at this place: `true` says nothing of it.
-fn can_stand<N: Node>(items: &[N], place: usize, byte: u8) -> bool
-    ensures { result ≡ false
-        → IsRefusedAt (reading_of_all N.language (listed (map N.tree items.now))) place byte }
+// What the item begins with in which a place of the line lies, and the place in it, where all items before it have a fixed
+// width: `None` says nothing.
+fn front_at<N: Node>(items: &[N], place: usize) -> Option<(Front<'_>, usize)>
+    ensures { IfSome result (λ at. (byte : ℕ) → stands at.0.bytes at.1 byte ≡ false
+        → IsRefusedAt (reading_of_all N.language (listed (map N.tree items.now))) place byte) }
 {
     let mut place = place;
     for item in items {
         let front = front_of(item);
         if place < front.least {
-            return front.has(place, byte);
+            return Some((front, place));
         }
         if !front.is_whole {
-            return true;
+            return None;
         }
         place -= front.least;
     }
-    true
+    None
 }
 
 /// The bytes that can stand at a place of a line that all of the items read, one after the other.
@@ -44,9 +45,8 @@ pub(crate) fn bytes_at<N: Node>(items: &[N], place: usize) -> [bool; 256]
     ensures { (byte : ℕ) → get_or result byte true ≡ false
         → IsRefusedAt (reading_of_all N.language (listed (map N.tree items.now))) place byte }
 {
-    let mut bytes = [true; 256];
-    for byte in 0..=255u8 {
-        bytes[usize::from(byte)] = can_stand(items, place, byte);
+    match front_at(items, place) {
+        Some((front, place)) => front.bytes_at(place),
+        None => [true; 256],
     }
-    bytes
 }

@@ -10,7 +10,8 @@ use Rattle.parsing_record.specs.Record.{Record}
 use Rattle.parsing_record.specs.Whole.{starting, whole, names, moment_named, by_roads}
 use Rattle.parsing_rfc3339.specs.Direct.{direct}
 use Rattle.parsing_parsable.specs.Staged.{reads_rfc3339, reads_iso8601}
-use Rattle.parsing_laws.specs.TwoRoads.{holding, staged, AgreeOn}
+use Rattle.parsing_parsable.specs.Moment.{staged}
+use Rattle.parsing_laws.specs.TwoRoads.{holding, AgreeOn}
 use Rattle.parsing_laws.proofs.Iso8601.{from_holding, from_unread}
 use Rattle.parsing_laws.specs.TwoFormats.{HoldsAtMostAnOffset, IsReadAlike, rounded}
 use Rattle.parsing_laws.proofs.Moments.{whole_alike}

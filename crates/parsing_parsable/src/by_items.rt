@@ -41,6 +41,6 @@ impl Parsable for Items<'_> {
         input: &[u8],
         defaults: Option<Parsed>,
     ) -> Result<OffsetDateTime, Parse> {
-        self.read_staged(input, defaults)
+        self.moment_of_record(input, defaults)
     }
 }

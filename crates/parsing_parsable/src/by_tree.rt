@@ -36,6 +36,6 @@ impl Parsable for FormatDescriptionV3<'_> {
         input: &[u8],
         defaults: Option<Parsed>,
     ) -> Result<OffsetDateTime, Parse> {
-        self.read_staged(input, defaults)
+        self.moment_of_record(input, defaults)
     }
 }

@@ -118,6 +118,6 @@ impl Parsable for Iso8601 {
         input: &[u8],
         defaults: Option<Parsed>,
     ) -> Result<OffsetDateTime, Parse> {
-        self.read_staged(input, defaults)
+        self.moment_of_record(input, defaults)
     }
 }

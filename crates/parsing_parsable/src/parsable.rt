@@ -174,23 +174,15 @@ pub trait Parsable {
         }
     }
 
-    /// The moment, with its offset, of what a record holds and all of the bytes set: of Unix time, at offset zero, or of a
-    /// date, a time of day and an offset. What the record holds afterwards is not said.
+    /// The moment, with its offset, of the record that all of the bytes set, from the defaults where there are any: of Unix
+    /// time, at offset zero, or of a date, a time of day and an offset.
     #[inline(always)]
     #[tactic(auto, unfolding(parsing_record::specs::Whole::whole))]
-    fn read_staged_into(&self, input: &[u8], parsed: &mut Parsed) -> Result<OffsetDateTime, Parse>
-        ensures value { Gives (λ value. value) fault_of result
-            (names moment_named (whole (meaning (reading self.now)) (Some parsed.old) input.now)) }
-        ensures short_name { IfErr result (λ e. HasShortName (fault_of e)) }
-    {
-        ended(self.parse_into(input, parsed)?)?;
-        Ok(parsed.offset_date_time()?)
-    }
-
-    /// The same, from the defaults where there are any. The record is not copied.
-    #[inline(always)]
-    #[tactic(auto, unfolding(parsing_record::specs::Whole::whole))]
-    fn read_staged(&self, input: &[u8], defaults: Option<Parsed>) -> Result<OffsetDateTime, Parse>
+    fn moment_of_record(
+        &self,
+        input: &[u8],
+        defaults: Option<Parsed>,
+    ) -> Result<OffsetDateTime, Parse>
         ensures value { Gives (λ value. value) fault_of result
             (names moment_named (whole (meaning (reading self.now)) defaults input.now)) }
         ensures short_name { IfErr result (λ e. HasShortName (fault_of e)) }
@@ -199,13 +191,14 @@ pub trait Parsable {
             Some(defaults) => defaults,
             None => Parsed::new(),
         };
-        self.read_staged_into(input, &mut parsed)
+        ended(self.parse_into(input, &mut parsed)?)?;
+        Ok(parsed.offset_date_time()?)
     }
 
     /// The moment that all of the bytes name, with its offset. Second 60 of a well-known format stands for the last
     /// nanosecond before it, and has to end a month in UTC.
     ///
-    /// It is `read_staged`, but that `Rfc2822` and `Rfc3339` read a text without defaults by no record: a refusal is
+    /// It is `moment_of_record`, but that `Rfc2822` and `Rfc3339` read a text without defaults by no record: a refusal is
     /// then the first one in the order that `TwoRoads::read_direct` says.
     fn parse_offset_date_time(
         &self,

@@ -81,7 +81,7 @@ impl Parsable for Rfc2822 {
     ) -> Result<OffsetDateTime, Parse> {
         match defaults {
             None => self.read_direct(input),
-            Some(_) => self.read_staged(input, defaults),
+            Some(_) => self.moment_of_record(input, defaults),
         }
     }
 }

@@ -1,5 +1,6 @@
 pub mod LetterLemmas
 pub mod PlaceLemmas
+mod ShapeLemmas
 pub mod StrictLemmas
 pub mod TameLemmas
 pub mod WordLemmas

@@ -70,12 +70,6 @@ colon_at bytes place room is next =
 
 -- ---- the bytes from the last digit of the day on
 
-abbrev pub lowest : List ℕ
-lowest = 48 ∷ 32 ∷ 65 ∷ 65 ∷ 65 ∷ 32 ∷ 49 ∷ 48 ∷ 48 ∷ 48 ∷ 32 ∷ 48 ∷ 48 ∷ 58 ∷ 48 ∷ 48 ∷ 58 ∷ 48 ∷ 48 ∷ 32 ∷ 43 ∷ 48 ∷ 48 ∷ 48 ∷ 48 ∷ []
-
-abbrev pub highest : List ℕ
-highest = 57 ∷ 32 ∷ 122 ∷ 122 ∷ 122 ∷ 32 ∷ 57 ∷ 57 ∷ 57 ∷ 57 ∷ 32 ∷ 50 ∷ 57 ∷ 58 ∷ 53 ∷ 57 ∷ 58 ∷ 53 ∷ 57 ∷ 32 ∷ 45 ∷ 50 ∷ 57 ∷ 53 ∷ 57 ∷ []
-
 abbrev pub lowest_named : List ℕ
 lowest_named = 48 ∷ 32 ∷ 65 ∷ 65 ∷ 65 ∷ 32 ∷ 49 ∷ 48 ∷ 48 ∷ 48 ∷ 32 ∷ 48 ∷ 48 ∷ 58 ∷ 48 ∷ 48 ∷ 58 ∷ 48 ∷ 48 ∷ 32 ∷ 65 ∷ 65 ∷ 65 ∷ []
 
@@ -90,7 +84,7 @@ pair_of : (text : List ℕ) (place a b c d : ℕ) → place + 2 ≤ length text 
 pair_of text place a b c d room la hb lc hd first second =
     record { room = room; first = digit_between text place a b la hb first; second = digit_between text (place + 1) c d lc hd second }
 
-shape_by : (text : List ℕ) → 23 ≤ length text → ((k : ℕ) → k < 20 → IsBetween (take 20 lowest) (take 20 highest) text k) → HasShape text
+shape_by : (text : List ℕ) → 23 ≤ length text → ((k : ℕ) → k < 20 → IsBetween (take 20 lowest_named) (take 20 highest_named) text k) → HasShape text
 shape_by text room at =
     record {
       room = room;
@@ -111,20 +105,8 @@ shape_by text room at =
       before_zone = omega (arith, at 19 (lit< tt));
     }
 
-pub shape_with_offset : (text : List ℕ) → length text ≡ 25 → LieBetween lowest highest text → HasShape text
-shape_with_offset text long within = shape_by text (omega arith) (λ k lt. of_front lowest highest text k lt (within k (omega arith)))
-
 pub shape_with_name : (text : List ℕ) → length text ≡ 23 → LieBetween lowest_named highest_named text → HasShape text
 shape_with_name text long within = shape_by text (omega arith) (λ k lt. of_front lowest_named highest_named text k lt (within k (omega arith)))
-
-pub offset_there : (text : List ℕ) → length text ≡ 25 → LieBetween lowest highest text → HasOffset text
-offset_there text long within =
-    let at = λ (k : ℕ) (h : k < 25). within k (omega arith) in
-    record {
-      long = long;
-      zone_hours = pair_of text 21 48 50 48 57 (omega arith) (omega arith) (omega arith) (omega arith) (omega arith) (at 21 (lit< tt)) (at 22 (lit< tt));
-      zone_minutes = pair_of text 23 48 53 48 57 (omega arith) (omega arith) (omega arith) (omega arith) (omega arith) (at 23 (lit< tt)) (at 24 (lit< tt));
-    }
 
 pub name_there : (text : List ℕ) → length text ≡ 23 → LieBetween lowest_named highest_named text → HasName text
 name_there text long within =

@@ -2,6 +2,7 @@ pub mod Direct
 pub mod Names
 pub mod Range
 pub mod Reading
+pub mod Shape
 pub mod Words
 pub mod Places
 pub mod Skips

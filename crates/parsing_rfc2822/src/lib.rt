@@ -11,6 +11,7 @@ mod names;
 mod parts;
 mod places;
 mod reading;
+mod shape;
 mod spacing;
 
 pub use comment::{comments_and_white_space, may_begin, one_space};

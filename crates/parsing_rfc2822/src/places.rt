@@ -6,31 +6,21 @@ ghost use Rattle.std.specs.Prelude.{◌≡◌, ◌≤◌, ◌+◌, IfSome, Ok, t
 ghost use Rattle.calendar_count.specs.declared.weekday.Weekday.{Weekday};
 ghost use Rattle.parsing_fields.specs.Moment.{moment_of};
 ghost use Rattle.parsing_rfc2822.specs.Direct.{direct};
-ghost use Rattle.parsing_rfc2822.specs.Places.{HasShape, HasOffset, HasName, BeginsDay, IsFront, ReadsMonth, ReadsZone};
+ghost use Rattle.parsing_rfc2822.specs.Places.{HasShape, HasName, BeginsDay, IsFront, ReadsMonth, ReadsZone};
 ghost use Rattle.parsing_rfc2822.specs.Reading as Reading;
 
 use crate::letters::{has_weekday, month_number};
 use crate::names::zone_of;
-use parsing_combinator::{are_between, clock_at, four_digits_at, two_pairs_at};
-use parsing_fields::{Fields, Fraction, is_minus, minute_of_day, offset_minutes, signed_minutes};
+use crate::shape::shape;
+use parsing_combinator::{are_between, clock_at, four_digits_at};
+use parsing_fields::{Fields, Fraction, has_day, minute_of_day, offset_minutes};
+use parsing_places::read_stamp;
 
-// The lowest and the highest byte at each place from the last digit of the day on. What lies between the letters or the
-// signs is refused later, and so are most numbers out of range.
-static LOWEST: [u8; 25] = *b"0 AAA 1000 00:00:00 +0000";
+// The first year that four digits may write.
+const FIRST_YEAR: u16 = 1900;
 
-static HIGHEST: [u8; 25] = *b"9 zzz 9999 29:59:59 -2959";
-
-// Whether bytes can be those from the last digit of a day on: `1 Jul 2003 10:52:37 +0200`.
-#[inline(always)]
-fn has_offset(text: &[u8]) -> bool
-    requires { length text.now ≡ 25 }
-    ensures shape { result ≡ true → HasShape text.now }
-    ensures offset { result ≡ true → HasOffset text.now }
-{
-    are_between(text, &LOWEST, &HIGHEST)
-}
-
-// The same with a name in the place of the offset.
+// The lowest and the highest byte at each place from the last digit of the day on, with a zone's name. What lies between the
+// letters is refused later, and so are most numbers out of range.
 static LOWEST_NAMED: [u8; 23] = *b"0 AAA 1000 00:00:00 AAA";
 
 static HIGHEST_NAMED: [u8; 23] = *b"9 zzz 9999 29:59:59 zzz";
@@ -82,19 +72,6 @@ fn tens_of_day(input: &[u8], left: usize) -> Option<(u8, &[u8])>
     Some((date[0] - b'0', &date[1..]))
 }
 
-// The minutes of the offset in digits.
-#[inline(always)]
-fn offset(text: &[u8]) -> Option<i16>
-    requires shape { HasShape text.now }
-    requires offset { HasOffset text.now }
-    ensures reads { IfSome result (ReadsZone text.now) }
-    ensures bound { IfSome result (λ o. unsigned_abs o ≤ 1559) }
-{
-    let is_negative = is_minus(text[20])?;
-    let (hours, minutes) = two_pairs_at(text, 21);
-    signed_minutes(is_negative, hours, minutes)
-}
-
 // The minutes of the offset that a zone's name says.
 #[inline(always)]
 fn named_offset(text: &[u8]) -> Option<i16>
@@ -116,7 +93,7 @@ fn year_and_month(text: &[u8]) -> Option<(u16, u8)>
 {
     let month = month_number(&text[1..])?;
     let year = four_digits_at(text, 6);
-    if year < 1900 {
+    if year < FIRST_YEAR {
         return None;
     }
     Some((year, month))
@@ -138,17 +115,34 @@ fn fields_behind(day: u8, offset: i16, text: &[u8]) -> Option<Fields>
     Fields::on_day(year, month, day, minute, second, Fraction::new(0), offset)
 }
 
+// The fields of a text that has these tens before the last digit of its day, and an offset in digits.
+#[inline(always)]
+fn read_by_shape(tens: u8, text: &[u8]) -> Option<Fields>
+    requires tens { tens ≤ 9 }
+    requires long { length text.now ≡ 25 }
+    ensures { IfSome result (λ fields. (input : List ℕ) → IsFront input tens text.now
+        → direct input ≡ Ok (moment_of fields)) }
+{
+    let (year, ones, minute, second, offset) = read_stamp(&shape(), text)?;
+    let month = month_number(&text[1..])?;
+    if year < FIRST_YEAR {
+        return None;
+    }
+    let day = tens * 10 + ones;
+    if !has_day(year, month, day) {
+        return None;
+    }
+    let fraction = Fraction::new(0);
+    Some(Fields::of_numbers(year, month, day, minute, second, fraction, offset))
+}
+
 // The fields of a text with an offset in digits.
 #[inline(always)]
 fn read_with_offset(input: &[u8]) -> Option<Fields>
     ensures { IfSome result (λ fields. direct input.now ≡ Ok (moment_of fields)) }
 {
     let (tens, text) = tens_of_day(input, 25)?;
-    if !has_offset(text) {
-        return None;
-    }
-    let offset = offset(text)?;
-    fields_behind(tens * 10 + (text[0] - b'0'), offset, text)
+    read_by_shape(tens, text)
 }
 
 // The fields of a text with a zone's name of three letters.

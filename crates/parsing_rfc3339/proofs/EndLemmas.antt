@@ -1,19 +1,33 @@
 -- The fraction and the offset by the place at which the offset begins.
-use Rattle.std.proofs.Common.{◌≡◌, ℕ, ◌+◌, ◌-◌, ◌<◌, ◌≤◌, ◌∙◌, false, true, List, [], ◌∷◌, get_or, drop, length, Option, Some, None, Ok, refl, arith}
-use Rattle.std.specs.Prelude.{◌==◌, ◌||◌, IfSome}
+use Rattle.std.proofs.Common.{◌≡◌, ℕ, ◌+◌, ◌-◌, ◌<◌, ◌≤◌, ◌∙◌, false, true, List, [], ◌∷◌, get_or, drop, length, Option, Some, None, Result, Ok, ℤ, pos, refl, arith}
+use Rattle.std.specs.Option.{unwrap_or}
+use Rattle.std.specs.Prelude.{◌==◌, ◌||◌, ◌*ℤ◌, IfSome}
 use Rattle.std.specs.Char.{is_ascii_digit}
 use Rattle.std.proofs.lemmas.Bool.Decides.{nat_tests}
 use Rattle.std.proofs.lemmas.List.{drop_more, drop-drop, drop_all}
 use Rattle.base.specs.Bytes.{dot, plus, hyphen, upper_z, lower_z}
+use Rattle.parsing_combinator.specs.Fault.{Fault}
 use Rattle.parsing_combinator.specs.Pieces.{digits, digit_run, fraction, skip_of, byte, digit_count}
 use Rattle.parsing_combinator.specs.declared.zone.Zone.{Zone}
 use Rattle.parsing_combinator.proofs.AtPlaces.{byte_there, sign_there}
 use Rattle.parsing_combinator.proofs.Decimal.{count_drop}
 use Rattle.parsing_combinator.proofs.FractionDigits.{none_there}
 use Rattle.parsing_fields.specs.Written.{WriteFraction}
-use Rattle.parsing_rfc3339.specs.Fast.{AreHoursAndMinutes, FollowsFraction, ReadsNanosecond}
+use Rattle.parsing_values.specs.Resolution.{signed_offset_of}
 use Rattle.parsing_rfc3339.specs.Reading.{subsecond, due_fraction, zulu, signed_offset, offset}
-use Rattle.parsing_rfc3339.proofs.FastLemmas.{signed_read}
+use Rattle.parsing_rfc3339.proofs.FastLemmas.{AreHoursAndMinutes, signed_read}
+
+-- these are the nanoseconds of the fraction that is read, or 0 for none, and this is the rest
+abbrev pub ReadsNanosecond : List ℕ → ℕ → List ℕ → Type 0
+ReadsNanosecond bytes nanosecond rest = (read : Option ℕ) × (subsecond bytes ≡ Ok (read, rest)) × (unwrap_or read 0 ≡ nanosecond)
+
+-- neither a digit nor a point stands here, so that a fraction, or none, can end before these bytes
+abbrev pub FollowsFraction : List ℕ → Type 0
+FollowsFraction bytes = (digits 1 bytes ≡ None) × (byte dot bytes ≡ None)
+
+-- a zone is all that was there, and these are its minutes
+abbrev pub IsAllOffset : Result (Zone × List ℕ) Fault → ℤ → Type 0
+IsAllOffset read minutes = (zone : Zone) × (read ≡ Ok (zone, [])) × (signed_offset_of zone.is_negative zone.hours zone.minutes ≡ Ok (pos 60 *ℤ minutes))
 
 -- ---- what a fraction can end before
 

@@ -1,19 +1,18 @@
 -- A text whose pieces are read one after another, with numbers in range and no leap second, names their moment.
-use Rattle.std.proofs.Common.{◌≡◌, ℕ, ◌+◌, ◌*◌, ◌<◌, ◌≤◌, false, List, [], Option, Some, None, Ok, Err, ℤ, pos, refl, arith}
+use Rattle.std.proofs.Common.{◌≡◌, ℕ, ◌+◌, ◌*◌, ◌<◌, ◌≤◌, false, List, [], drop, Option, Some, None, Ok, Err, ℤ, pos, refl, arith}
 use Rattle.std.specs.Option.{unwrap_or}
 use Rattle.std.proofs.lemmas.Bool.{le-leb}
 use Rattle.std.proofs.lemmas.Bool.Decides.{nat_tests}
 use Rattle.std.specs.Prelude.{◌==◌, codes, ◌*ℤ◌}
 use Rattle.calendar.specs.Time.{time_of}
 use Rattle.datetime_wall.specs.Wall.{wall_clock}
-use Rattle.base.specs.Bytes.{hyphen}
+use Rattle.base.specs.Bytes.{hyphen, colon}
 use Rattle.parsing_combinator.specs.Fault.{component}
-use Rattle.parsing_combinator.specs.Pieces.{any_byte, digits, sign}
+use Rattle.parsing_combinator.specs.Pieces.{any_byte, byte, digits, sign}
 use Rattle.parsing_combinator.specs.declared.zone.Zone.{Zone}
 use Rattle.parsing_values.specs.Resolution.{date_of, permitted_time_of, signed_offset_of}
 use Rattle.parsing_values.specs.StandIn.{leap_checked}
 use Rattle.parsing_rfc3339.specs.declared.parts.Rfc3339Parts.{Rfc3339Parts}
-use Rattle.parsing_rfc3339.specs.Fast.{AreHoursAndMinutes}
 use Rattle.parsing_rfc3339.specs.Reading.{date, clock, subsecond, signed_offset, offset, rfc3339}
 use Rattle.parsing_rfc3339.specs.Direct.{direct, moment, moment_of}
 use Rattle.parsing_fields.specs.declared.fields.Fields.{Fields}
@@ -48,7 +47,13 @@ pub fields_read : (f : Fields) (b0 b1 b2 b3 b4 : List ℕ) (d t : ℕ × ℕ × 
 fields_read f b0 b1 b2 b3 b4 d t fraction o in_date between in_clock in_subsecond in_offset numbers hour minute bound =
     rw (← moment_is f, numbers.same_offset) (moment_read b0 b1 b2 b3 b4 d t fraction (pos 60 *ℤ o) (day_of_fields f) (time_of_fields f) in_date between in_clock in_subsecond in_offset (fields_date f _ _ _ _ _ _ _ numbers) (fields_time f _ _ _ _ _ _ _ _ numbers hour minute bound))
 
--- an offset whose hours and minutes are read at once
+-- `05:30`, and nothing behind it
+pub record AreHoursAndMinutes (bytes : List ℕ) (hours minutes : ℕ) : Type 0 where
+  pub hour_digits : digits 2 bytes ≡ Some (hours, drop 2 bytes)
+  pub colon_there : byte colon (drop 2 bytes) ≡ Some (tt, drop 3 bytes)
+  pub minute_digits : digits 2 (drop 3 bytes) ≡ Some (minutes, [])
+
+-- an offset of these hours and minutes
 pub signed_read : (bytes rest : List ℕ) (mark hours minutes : ℕ) → sign bytes ≡ Some (mark, rest) → AreHoursAndMinutes rest hours minutes → hours ≤ 23 → signed_offset false bytes ≡ Ok (record { is_named = false; is_negative = mark == hyphen; hours = hours; minutes = minutes }, [])
 unfolding signed_offset
 signed_read bytes rest mark hours minutes there r le = rw (there, r.hour_digits, le-leb hours 23 le, r.colon_there, r.minute_digits) refl

@@ -1,5 +1,4 @@
 pub mod Direct
-pub mod Fast
-pub mod Places
 pub mod Range
 pub mod Reading
+pub mod Shape

@@ -7,12 +7,12 @@ ghost use Rattle.parsing_rfc3339.specs.Direct.{direct, moment_of};
 ghost use Rattle.parsing_combinator.specs.Readings.{value_read};
 ghost use Rattle.parsing_fields.specs.Moment as Moment;
 
-use crate::ends::{fraction_before, offset_at_end};
 use crate::parts::Rfc3339Parts;
-use crate::places::{clock, date, has_shape};
 use crate::reading::parse_prefix;
+use crate::shape::shape;
 use parsing_combinator::{Parse, ParseFromDescription, four_digits};
-use parsing_fields::{Fields, minute_of_day};
+use parsing_fields::Fields;
+use parsing_places::read;
 use parsing_values::{OffsetDateTime, leap_checked, resolve};
 
 // The moment of the numbers that a text has, with what follows them.
@@ -40,22 +40,16 @@ const SHORTEST: usize = 20;
 
 /// The fields of a text, where the fast way finds them: `None` says nothing of the text.
 ///
-/// It finds those of most texts: at most nine digits of a fraction, no leap second, and an offset in range.
+/// It finds those of most texts: at most nine digits of a fraction, no leap second, a big `Z` or an offset below 24 hours.
 #[inline(always)]
 pub fn read_fields(input: &[u8]) -> Option<Fields>
     ensures { IfSome result (λ fields. direct input.now ≡ Ok (Moment.moment_of fields)) }
 {
     // The hyphen by itself first: it is what most other texts lack.
-    if input.len() < SHORTEST || input[4] != b'-' || !has_shape(input) {
+    if input.len() < SHORTEST || input[4] != b'-' {
         return None;
     }
-    // Whole tuples handed on would be kept in memory, at some ten instructions a line.
-    let (year, month, day) = date(input)?;
-    let (hour, minute, second) = clock(input);
-    let (offset, end) = offset_at_end(input)?;
-    let fraction = fraction_before(input, end)?;
-    let minute_of_day = minute_of_day(hour, minute)?;
-    Fields::on_day(year, month, day, minute_of_day, second, fraction, offset)
+    read(&shape(), input)
 }
 
 /// The moment that a text names, where the fast way finds one: `None` says nothing of the text.

@@ -2,12 +2,10 @@
 #![tactic(auto)]
 
 mod direct;
-mod ends;
 pub mod laws;
 mod parts;
-mod places;
 mod reading;
-mod zone;
+mod shape;
 
 pub use direct::{begins_with_year, read_exact, read_fast, read_fields};
 pub use parts::Rfc3339Parts;

@@ -60,6 +60,6 @@ fn roads(line: &[u8]) -> [bool; 2] {
     let moment = without_defaults(&Rfc2822, line);
     [
         moment == Rfc2822.read_direct(line),
-        without_defaults(&Rfc2822, line) == Rfc2822.read_staged(line, None),
+        without_defaults(&Rfc2822, line) == Rfc2822.read_staged(line, Parsed::new()),
     ]
 }

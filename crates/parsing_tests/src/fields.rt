@@ -4,6 +4,7 @@ use calendar::UtcOffset;
 use description::{Description, DescriptionVersion, parse_borrowed, parse_strftime_borrowed};
 use parsing_combinator::digit_chunk;
 use parsing_fields::{Fields, Fraction, minute_of_day, signed_minutes};
+use parsing_places::{Moves, NamedShape, Shape, Window, read, read_stamp};
 use parsing_plan::Plan;
 use std::alloc::Global;
 
@@ -72,9 +73,13 @@ static FRACTIONS: [Option<Part>; 4] = [
 ];
 
 #[test]
+#[tactic(auto, unfolding(parsing_fields::specs::Digits::nine_digits))]
 fn digits(rt: HostRuntime) {
     let chunk = Some((u64::from_le_bytes(*b"12300000"), 3));
+    // `12345678` and `9` in ASCII, the first digit lowest.
+    let nine = Fraction::of_nine(0x3837_3635_3433_3231, 0x39);
     assert!(rt; fractions() == FRACTIONS && digit_chunk(b"123Z") == chunk);
+    assert!(rt; nine.nanosecond() == 123_456_789);
 }
 
 fn formats() -> [Option<(i64, u32)>; 5] {
@@ -97,6 +102,99 @@ fn years() -> [bool; 2] {
 #[test]
 fn fields_of_formats(rt: HostRuntime) {
     assert!(rt; formats() == [HALF, WHOLE, HALF, HALF, None] && years() == [true, false]);
+}
+
+// `20210102T030405`, the basic form of ISO 8601.
+fn basic() -> Shape {
+    Shape {
+        front: Window {
+            low: *b"00000000T000000\x00",
+            high: [9, 9, 9, 9, 1, 9, 3, 9, 0, 2, 9, 5, 9, 5, 9, 255],
+            taken: Moves {
+                lanes: [
+                    4, 5, 6, 7, 9, 10, 11, 12, 128, 128, 128, 128, 128, 128, 13, 14,
+                ],
+            },
+        },
+        back: Window {
+            low: [0; 16],
+            high: [255; 16],
+            taken: Moves { lanes: [128; 16] },
+        },
+        length: 15,
+        back_at: 0,
+        year: 0,
+        month: 4,
+        day: 6,
+        hour: 9,
+        minute: 11,
+        second: 13,
+    }
+}
+
+fn shaped() -> [Option<(i64, u32)>; 5] {
+    let shape = basic();
+    [
+        instant(read(&shape, b"20210102T030405.5+01:00")),
+        instant(read(&shape, b"20210102T020405.500000000Z")),
+        instant(read(&shape, b"20210101T203405-05:30")),
+        instant(read(&shape, b"20210132T030405Z")),
+        instant(read(&shape, b"20210102T030405.Z")),
+    ]
+}
+
+#[test]
+fn fields_of_a_shape(rt: HostRuntime) {
+    assert!(rt; shaped() == [HALF, HALF, WHOLE, None, None]);
+}
+
+// `01/May/2024:10:00:01 +0200`, as web servers write it.
+fn logged() -> NamedShape {
+    NamedShape {
+        front: Window {
+            low: *b"00/AAA/0000:00:0",
+            high: [3, 9, 0, 57, 57, 57, 0, 9, 9, 9, 9, 0, 2, 9, 0, 5],
+            taken: Moves {
+                lanes: [
+                    128, 128, 0, 1, 128, 128, 128, 128, 128, 128, 128, 128, 128, 128, 128, 128,
+                ],
+            },
+        },
+        back: Window {
+            low: *b"0:00:00:00 +0000",
+            high: [9, 0, 2, 9, 0, 5, 9, 0, 5, 9, 0, 2, 2, 9, 5, 9],
+            taken: Moves {
+                lanes: [
+                    128, 128, 128, 128, 2, 3, 5, 6, 12, 13, 14, 15, 128, 11, 8, 9,
+                ],
+            },
+        },
+        length: 26,
+        back_at: 10,
+        year: 7,
+        has_tens: true,
+        day: 1,
+        hour: 12,
+        minute: 15,
+        second: 18,
+        sign: 21,
+    }
+}
+
+#[test]
+fn numbers_of_a_named_shape(rt: HostRuntime) {
+    let shape = logged();
+    let read = [
+        read_stamp(&shape, b"01/May/2024:10:00:01 +0200"),
+        read_stamp(&shape, b"31/Dec/1999:23:59:59 -0330"),
+        read_stamp(&shape, b"01/May/2024:24:00:01 +0200"),
+    ];
+    let wanted = [
+        Some((2024, 1, 600, 1, 120)),
+        Some((1999, 31, 1439, 59, -210)),
+        None,
+    ];
+    assert!(rt; read == wanted);
 }
 
 // What a plan reads of a line.

@@ -26,7 +26,7 @@ fn is_found(fast: Option<OffsetDateTime>, answer: &Result<OffsetDateTime, Parse>
 // Whether the format is read alike with a record and without one.
 fn is_read_alike<F: TwoRoads>(format: &F, input: &[u8]) -> bool {
     let direct = format.read_direct(input);
-    is_same(&direct, &format.read_staged(input, Some(Parsed::new())))
+    is_same(&direct, &format.read_staged(input, Parsed::new()))
         && direct == format.parse_offset_date_time(input, None)
 }
 

@@ -12,8 +12,8 @@ ghost use Rattle.std.specs.Prelude.{◌≡◌, ◌<◌, false};
 
 use crate::bytes::{tell_bytes, unescape};
 use crate::telling::{Told, tell_no_call, tells_other};
-use instants::{ByteReader, ByteWriter, CutReader, CutWriter, ProgramFault, run_words};
 use instants_lines::LinesFault;
+use instants_timeline::{ByteReader, ByteWriter, CutReader, CutWriter, ProgramFault, run_words};
 use std::alloc::{AllocError, Global};
 use std::fmt::Display;
 

@@ -1,9 +1,9 @@
 use Rattle.std.proofs.Common.{◌≡◌, ◌⊎◌, ◌*◌, ◌≤◌, ℕ, List, [], length, Err, refl, sym, ap, subst, inl, inr, arith}
 use Rattle.instants_stream.specs.Lines.{lines}
 use Rattle.instants_stream.specs.declared.run.RunFault.TheVariants as run
-use Rattle.instants.specs.Program.{IsBeforeRun, IsRefusedAs}
-use Rattle.instants.specs.declared.program_fault.ProgramFault.{ProgramFault}
-use Rattle.instants.specs.declared.program_fault.ProgramFault.TheVariants as program
+use Rattle.instants_timeline.specs.Program.{IsBeforeRun, IsRefusedAs}
+use Rattle.instants_timeline.specs.declared.program_fault.ProgramFault.{ProgramFault}
+use Rattle.instants_timeline.specs.declared.program_fault.ProgramFault.TheVariants as program
 use Rattle.instants_memory.proofs.Room.{few_lines}
 use Rattle.instants_c.proofs.instants_sentence.Goals as goal
 
@@ -26,6 +26,6 @@ no_room = omega (arith, few_lines [])
 
 pub returns-in-Err-clause-refused : goal.returns-in-Err-clause-refused
 returns-in-Err-clause-refused c = λ some.
-    let (told, which, status, len, output) = c.write.ensures in
+    let (told, which, status, len, output) = c.write.ensures.told in
     let refused = early _ c.in-Err.fault _ (λ e. c.in-Err.ensures.line_room no_room (ap Err e)) (λ e. c.in-Err.ensures.read (ap Err e)) c.in-Err.ensures.refused in
     (told, told_so _ c.in-Err.fault told which refused, status, len, output)

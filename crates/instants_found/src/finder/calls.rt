@@ -3,16 +3,17 @@ ghost use Rattle.std.specs.Prelude.{◌≡◌, ◌<◌, ◌≤◌, ◌+◌, leng
 ghost use Rattle.instants_sources.specs.Grammar.{grammar_of};
 ghost use Rattle.instants_found.specs.Found.{at_place, found};
 ghost use Rattle.instants_found.specs.Finder.{assumed_of, sources_of};
-ghost use Rattle.instants_found.specs.Keys.{AreKeys, NeedsFour};
-ghost use Rattle.instants_found.specs.Starts.{AreRight, HasNoDate, MarkPlaces};
+ghost use Rattle.instants_found.specs.Keys.{NeedsFour};
+ghost use Rattle.instants_found.specs.Marks.{AreMarks};
+ghost use Rattle.instants_found.specs.Starts.{HasNoDate, MarkPlaces};
 
 use crate::edge::is_edge;
 use crate::finder::Finder;
 use crate::finding::{at_place, behind, may_read};
 use crate::found::Found;
-use crate::keys::{Keys, REACH};
+use crate::keys::REACH;
 use crate::lanes::LANES;
-use crate::start_lanes::StartLanes;
+use crate::marks::Marks;
 use crate::starts::starts;
 use calendar::UtcOffset;
 use instants_sources::Source;
@@ -24,13 +25,12 @@ impl<'a> Finder<'a> {
         ensures assumed { assumed_of result ≡ assumed }
     {
         let starts = starts(&sources);
-        let keys = Keys::of(&sources);
+        let marks = Marks::of(&sources, &starts);
         Finder {
             sources,
             assumed,
             starts,
-            lanes: StartLanes::of(&starts),
-            keys,
+            marks,
         }
     }
 
@@ -128,80 +128,23 @@ impl<'a> Finder<'a> {
         None
     }
 
-    // The same of sixteen bytes from a place on, of which the first ones do not count.
+    // The same of sixteen places from one on, of which the first ones do not count.
     #[inline(always)]
-    fn by_block(&self, lanes: &StartLanes, line: &[u8], start: usize, from: usize) -> Option<usize>
-        requires some { 0 < start }
-        requires ordered { (start ≤ from) × (from ≤ start + LANES) }
-        requires within { start + LANES ≤ length line.now }
-        requires lanes { AreRight self.now.starts lanes.now }
-        ensures none { IfNone result (HasNoDate (assumed_of self.now) (sources_of self.now)
-            line.now from (start + LANES)) }
-        ensures within { IfSome result (λ place. (from ≤ place) × (place < start + LANES)) }
-        ensures passed { IfSome result
-            (HasNoDate (assumed_of self.now) (sources_of self.now) line.now from) }
-    {
-        let marks = lanes.marks(line, start) >> (from - start) as u32;
-        self.by_marks(line, from, start + LANES, marks)
-    }
-
-    // The first place behind one at which a date can begin, looked for sixteen bytes at a time: the last sixteen may begin
-    // before the end of those before them.
-    #[inline(never)]
-    fn by_lanes(&self, lanes: &StartLanes, line: &[u8], from: usize) -> Option<usize>
-        requires some { LANES < length line.now }
-        requires within { (0 < from) × (from ≤ length line.now) }
-        requires lanes { AreRight self.now.starts lanes.now }
-        ensures none { IfNone result
-            (HasNoDate (assumed_of self.now) (sources_of self.now) line.now from (length line.now)) }
-        ensures within { IfSome result (λ start. (from ≤ start) × (start < length line.now)) }
-        ensures passed { IfSome result
-            (HasNoDate (assumed_of self.now) (sources_of self.now) line.now from) }
-    {
-        let mut at = from;
-        while at < line.len() {
-            let behind = at;
-            let start = behind.min(line.len() - LANES);
-            at = start + LANES;
-            if lanes.has_none(line, start) {
-                continue;
-            }
-            if let Some(place) = self.by_block(lanes, line, start, behind) {
-                return Some(place);
-            }
-        }
-        None
-    }
-
-    // The same of sixteen places from one on, of which the first ones do not count, where keys are looked for.
-    #[inline(always)]
-    fn by_keyed_block(
-        &self,
-        keys: &Keys,
-        lanes: &StartLanes,
-        line: &[u8],
-        start: usize,
-        from: usize,
-    ) -> Option<usize>
+    fn in_block(&self, marks: &Marks, line: &[u8], start: usize, from: usize) -> Option<usize>
         requires ordered { (start ≤ from) × (from ≤ start + LANES) }
         requires within { start + REACH ≤ length line.now }
-        requires lanes { AreRight self.now.starts lanes.now }
-        requires keys { AreKeys (sources_of self.now) keys.now }
+        requires marks { AreMarks (sources_of self.now) self.now.starts marks.now }
         ensures none { IfNone result (HasNoDate (assumed_of self.now) (sources_of self.now)
             line.now from (start + LANES)) }
         ensures within { IfSome result (λ place. (from ≤ place) × (place < start + LANES)) }
         ensures passed { IfSome result
             (HasNoDate (assumed_of self.now) (sources_of self.now) line.now from) }
     {
-        let bits = keys.bits(line, start);
+        let bits = marks.bits(line, start) >> (from - start) as u32;
         if bits == 0 {
             return None;
         }
-        let marks = (bits & lanes.bits(line, start)) >> (from - start) as u32;
-        if marks == 0 {
-            return None;
-        }
-        self.by_marks(line, from, start + LANES, marks)
+        self.by_marks(line, from, start + LANES, bits)
     }
 
     // The only place of those behind one at which a date of four bytes can begin, where these have no room for keys.
@@ -223,52 +166,51 @@ impl<'a> Finder<'a> {
         None
     }
 
-    // The first place behind one at which a date can begin, looked for by keys: the last places may begin before the end of
-    // those before them.
-    #[inline(never)]
-    fn by_keys(&self, keys: &Keys, lanes: &StartLanes, line: &[u8], from: usize) -> Option<usize>
+    // The same of the last places, which begin before the end of those before them.
+    #[inline(always)]
+    fn in_last(&self, marks: &Marks, line: &[u8], from: usize) -> Option<usize>
         requires some { REACH ≤ length line.now }
+        requires end { length line.now ≤ from + REACH }
         requires within { from ≤ length line.now }
-        requires lanes { AreRight self.now.starts lanes.now }
-        requires keys { AreKeys (sources_of self.now) keys.now }
+        requires marks { AreMarks (sources_of self.now) self.now.starts marks.now }
         ensures none { IfNone result
             (HasNoDate (assumed_of self.now) (sources_of self.now) line.now from (length line.now)) }
         ensures within { IfSome result (λ start. (from ≤ start) × (start < length line.now)) }
         ensures passed { IfSome result
             (HasNoDate (assumed_of self.now) (sources_of self.now) line.now from) }
     {
+        let start = line.len() - REACH;
+        if from > start + LANES {
+            return self.by_last_four(line, from);
+        }
+        if let Some(place) = self.in_block(marks, line, start, from) {
+            return Some(place);
+        }
+        self.by_last_four(line, start + LANES)
+    }
+
+    // The first place from one on at which a date can begin, looked for by marks.
+    #[inline(never)]
+    fn by_blocks(&self, marks: &Marks, line: &[u8], from: usize) -> Option<usize>
+        requires some { REACH ≤ length line.now }
+        requires within { from ≤ length line.now }
+        requires marks { AreMarks (sources_of self.now) self.now.starts marks.now }
+        ensures none { IfNone result
+            (HasNoDate (assumed_of self.now) (sources_of self.now) line.now from (length line.now)) }
+        ensures within { IfSome result (λ start. (from ≤ start) × (start < length line.now)) }
+        ensures passed { IfSome result
+            (HasNoDate (assumed_of self.now) (sources_of self.now) line.now from) }
+    {
+        let last = line.len() - REACH;
         let mut at = from;
-        while at < line.len() - 4 {
-            let behind = at;
-            let start = behind.min(line.len() - REACH);
-            at = start + LANES;
-            if let Some(place) = self.by_keyed_block(keys, lanes, line, start, behind) {
+        while at < last {
+            let block = at;
+            at = block + LANES;
+            if let Some(place) = self.in_block(marks, line, block, block) {
                 return Some(place);
             }
         }
-        self.by_last_four(line, at)
-    }
-
-    // The first place from one on at which a date can begin, looked for without keys: the first byte has none before it, and
-    // so it is looked at alone.
-    #[inline(never)]
-    fn by_first_and_lanes(&self, lanes: &StartLanes, line: &[u8], from: usize) -> Option<usize>
-        requires some { LANES < length line.now }
-        requires within { from ≤ length line.now }
-        requires lanes { AreRight self.now.starts lanes.now }
-        ensures none { IfNone result
-            (HasNoDate (assumed_of self.now) (sources_of self.now) line.now from (length line.now)) }
-        ensures within { IfSome result (λ start. (from ≤ start) × (start < length line.now)) }
-        ensures passed { IfSome result
-            (HasNoDate (assumed_of self.now) (sources_of self.now) line.now from) }
-    {
-        if from > 0 {
-            return self.by_lanes(lanes, line, from);
-        }
-        if self.has_start(line, 0) {
-            return Some(0);
-        }
-        self.by_lanes(lanes, line, 1)
+        self.in_last(marks, line, at)
     }
 
     // The first place from one on at which a date can begin.
@@ -281,23 +223,19 @@ impl<'a> Finder<'a> {
         ensures passed { IfSome result
             (HasNoDate (assumed_of self.now) (sources_of self.now) line.now from) }
     {
-        let Some(lanes) = &self.lanes else {
+        if line.len() < REACH {
+            return self.by_bytes(line, from);
+        }
+        let Some(marks) = &self.marks else {
             return self.by_bytes(line, from);
         };
-        if line.len() <= LANES {
-            return self.by_bytes(line, from);
-        }
-        if let Some(keys) = &self.keys {
-            if line.len() >= REACH {
-                return self.by_keys(keys, lanes, line, from);
-            }
-        }
-        self.by_first_and_lanes(lanes, line, from)
+        self.by_blocks(marks, line, from)
     }
 
-    /// The first place of a line at which a date can begin. Often none does: `find_from` says so.
+    /// How many bytes at the front of a line are passed over, since no date begins at them: `None` where none begins in the
+    /// whole line. `Some` says nothing of what stands behind them, and not that they are all such bytes.
     #[inline(always)]
-    pub fn first_start(&self, line: &[u8]) -> Option<usize>
+    pub fn undated_len(&self, line: &[u8]) -> Option<usize>
         ensures none { IfNone result
             (found (assumed_of self.now) (sources_of self.now) line.now ≡ None) }
         ensures within { IfSome result (λ start. start < length line.now) }
@@ -307,8 +245,8 @@ impl<'a> Finder<'a> {
         self.next_start(line, 0)
     }
 
-    /// The first date of a line, where none begins before a place, as `find` finds it: `first_start` gives such a place. The two
-    /// calls are for a caller that makes room for a date only where one can begin.
+    /// The first date of a line, where none begins before a place, as `find` finds it: `undated_len` gives such a place. The two
+    /// calls are for a caller that makes room for a date only where one may begin.
     #[inline(never)]
     pub fn find_from(&self, line: &[u8], first: usize) -> Option<Found>
         requires within { first < length line.now }
@@ -338,7 +276,7 @@ impl<'a> Finder<'a> {
         ensures within { IfSome result (λ date. date.end ≤ length line.now) }
         ensures source { IfSome result (λ date. date.source < length (sources_of self.now)) }
     {
-        let Some(start) = self.first_start(line) else {
+        let Some(start) = self.undated_len(line) else {
             return None;
         };
         self.find_from(line, start)

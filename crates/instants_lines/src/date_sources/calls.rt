@@ -6,18 +6,18 @@ ghost use Rattle.instants_answers.specs.Text.{FitsLine};
 ghost use Rattle.instants_found.specs.Starts.{HasNoDate};
 ghost use Rattle.instants_sources.specs.Grammar.{grammar_of};
 ghost use Rattle.instants_sources.specs.Named.{named};
-ghost use Rattle.instants.specs.Place.{place_text, shown_or_refused};
-ghost use Rattle.instants.specs.Refusal.{year};
+ghost use Rattle.instants_timeline.specs.Place.{place_text, shown_or_refused};
+ghost use Rattle.instants_timeline.specs.Refusal.{year};
 ghost use Rattle.instants_lines.specs.Dates.{date_in};
 ghost use Rattle.instants_lines.specs.Showing.{setting_in};
 
 use crate::date_sources::DateSources;
 use calendar::UtcOffset;
 use datetime_types::OffsetDateTime;
-use instants::{answer_by, answer_moment, shown_at};
 use instants_answers::{Answer, Target};
 use instants_found::{Finder, Found};
 use instants_sources::Source;
+use instants_timeline::{answer_by, answer_moment, shown_at};
 
 impl<'a> DateSources<'a> {
     /// Looks for these sources, in order. The target has whole minutes, within 23:59.
@@ -55,15 +55,15 @@ impl<'a> DateSources<'a> {
         self.finder.find(line)
     }
 
-    /// The first place of a line at which a date can begin.
+    /// How many bytes at the front of a line are passed over, since no date begins at them: `None` where none begins at all.
     #[inline(always)]
-    pub(crate) fn first_start(&self, line: &[u8]) -> Option<usize>
+    pub(crate) fn undated_len(&self, line: &[u8]) -> Option<usize>
         ensures none { IfNone result (date_in (setting_in self.now) line.now ≡ None) }
         ensures within { IfSome result (λ start. start < length line.now) }
         ensures passed { IfSome result
             (HasNoDate (setting_in self.now).assumed (setting_in self.now).sources line.now 0) }
     {
-        self.finder.first_start(line)
+        self.finder.undated_len(line)
     }
 
     /// The first date of a line, where none begins before a place.

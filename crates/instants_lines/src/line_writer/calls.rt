@@ -116,7 +116,7 @@ impl<'a, 'b> LineWriter<'a, 'b> {
             ((key_of_line (going_of self.old) line.now ++ tab ∷ line.now) ++ line_feed ∷ [])) }
         ensures err { OnErr result (W.failed writer.new ≡ true) }
     {
-        let Some(first) = self.dates.first_start(line) else {
+        let Some(first) = self.dates.undated_len(line) else {
             return self.write_undated(line, writer);
         };
         self.write_from(first, line, writer)

@@ -2,7 +2,7 @@ use Rattle.std.proofs.Common.{[], ◌∷◌, ◌++◌, sym, ap, ◌∙◌, arith
 use Rattle.base.specs.Bytes.{line_feed}
 use Rattle.instants_laws.specs.Answered.{with_target}
 use Rattle.instants_laws.specs.FixedPoint.{alone}
-use Rattle.instants.specs.Place.{answer_to}
+use Rattle.instants_timeline.specs.Place.{answer_to}
 use Rattle.instants_laws.proofs.Reread.{again, answered_within}
 use Rattle.instants_laws.proofs.lines.fixed_point.Goals as goal
 

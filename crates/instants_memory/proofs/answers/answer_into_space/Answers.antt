@@ -1,8 +1,8 @@
 use Rattle.std.proofs.Common.{◌≡◌, ℕ, ◌++◌, ◌≤◌, List, Err, length, drop, refl, sym, ap, ◌∙◌}
 use Rattle.instants_stream.specs.Answers.{output}
 use Rattle.instants_stream.specs.declared.run.RunFault.TheVariants as run
-use Rattle.instants.specs.declared.program_fault.ProgramFault.TheVariants as program
-use Rattle.instants.specs.Place.{answer_to}
+use Rattle.instants_timeline.specs.declared.program_fault.ProgramFault.TheVariants as program
+use Rattle.instants_timeline.specs.Place.{answer_to}
 use Rattle.instants_memory.proofs.Due.{due_begins}
 use Rattle.instants_memory.proofs.Filling.{held_len, held_space, is_longer, is_front}
 use Rattle.instants_memory.proofs.answers.answer_into_space.Goals as goal

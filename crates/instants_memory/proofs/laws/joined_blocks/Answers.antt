@@ -1,7 +1,7 @@
 use Rattle.std.proofs.Common.{◌≡◌, ◌++◌, sym, ap, ◌∙◌}
 use Rattle.instants_stream.specs.Answers.{output}
 use Rattle.instants_stream.proofs.Lines.{output-append, last_part_none}
-use Rattle.instants.specs.Place.{answer_to}
+use Rattle.instants_timeline.specs.Place.{answer_to}
 use Rattle.instants_memory.proofs.OneSetting.{one_setting}
 use Rattle.instants_memory.proofs.laws.joined_blocks.Goals as goal
 

@@ -1,6 +1,6 @@
 use Rattle.std.proofs.Common.{sym, ap, ◌∙◌}
 use Rattle.instants_stream.specs.Answers.{output}
-use Rattle.instants.specs.Place.{answer_to}
+use Rattle.instants_timeline.specs.Place.{answer_to}
 use Rattle.instants_memory.proofs.OneSetting.{one_setting}
 use Rattle.instants_memory.proofs.laws.one_output.Goals as goal
 

@@ -27,8 +27,8 @@ loop-limit-init g c = record {
   writer_works = c.requires.writer;
 }
 
-pub returns-in_default-write_whole_lines : goal.returns-in_default-write_whole_lines
-returns-in_default-write_whole_lines g c =
+pub returns-in_default-write_whole_lines-clause-ran : goal.returns-in_default-write_whole_lines-clause-ran
+returns-in_default-write_whole_lines-clause-ran g c =
     let i = c.loop-limit.invariant in
     let buffer = c.loop-limit.buffer in
     let start = c.loop-limit.start in
@@ -161,15 +161,15 @@ paused g c none =
     )
 
 -- handing on failed
-pub returns-then-is_err : goal.returns-then-is_err
-returns-then-is_err g c =
+pub returns-then-is_err-clause-ran : goal.returns-then-is_err-clause-ran
+returns-then-is_err-clause-ran g c =
     let i = c.loop-limit.invariant in
     let stays = on_err c.hand_on.result c.is_err.result c.is_err.ensures.value c.if-is_err.true c.hand_on.ensures.kept in
     failed_to_write (fails_to_hand_on _ _ _ _ _ _ _ _ _ _ _ _ i.progress stays) i.reader_works (search rules)
 
 -- a read failed
-pub returns-in_default : goal.returns-in_default
-returns-in_default g c =
+pub returns-in_default-clause-ran : goal.returns-in_default-clause-ran
+returns-in_default-clause-ran g c =
     let i = c.loop-limit.invariant in
     let held = on_ok c.hand_on.result c.is_err.result c.is_err.ensures.value c.if-is_err.false c.hand_on.ensures.held in
     let progress = handed_on _ _ _ _ _ _ _ _ _ _ _ _ i.progress held in
@@ -182,13 +182,13 @@ returns-in_default g c =
     }
 
 -- a write at the end failed
-pub returns-then-is_err-2 : goal.returns-then-is_err-2
-returns-then-is_err-2 g c =
+pub returns-then-is_err-2-clause-ran : goal.returns-then-is_err-2-clause-ran
+returns-then-is_err-2-clause-ran g c =
     let i = c.loop-limit.invariant in
     let buffer = c.loop-limit.buffer in
     let start = c.loop-limit.start in
     let filled = c.loop-limit.filled in
-    let (progress, ends) = paused g (goal.at.returns-then-is_err-2 g c).In-Ok c.if-count-eq0.true in
+    let (progress, ends) = paused g (goal.at.returns-then-is_err-2-clause-ran g c).In-Ok c.if-count-eq0.true in
     let fits : filled ≤ length buffer = omega arith in
     let size = length-pending buffer start filled fits in
     let same = pending_same buffer c.read.new.into start filled (length buffer - filled) i.ordered fits in
@@ -227,16 +227,16 @@ finished g c =
           rw w.writer-is (through _ _ _ _ _ _ _ _ _ (g.W.ByteWriter.held c.hand_on.new.self) _ _ progress w.if-is_long.false line_is ends)
     ]
 
-pub returns-then-is_err-3 : goal.returns-then-is_err-3
-returns-then-is_err-3 g c =
+pub returns-then-is_err-3-clause-ran : goal.returns-then-is_err-3-clause-ran
+returns-then-is_err-3-clause-ran g c =
     let stays = on_err c.flush.result c.is_err-2.result c.is_err-2.ensures.value c.if-is_err-3.true c.flush.ensures.kept in
-    failed_to_write (fails_at_flush _ _ _ _ _ _ _ _ _ (finished g (goal.at.returns-then-is_err-3 g c).After-flush) stays) (search rules) (search rules)
+    failed_to_write (fails_at_flush _ _ _ _ _ _ _ _ _ (finished g (goal.at.returns-then-is_err-3-clause-ran g c).After-flush) stays) (search rules) (search rules)
 
-pub returns : goal.returns
-returns g c =
+pub returns-clause-ran : goal.returns-clause-ran
+returns-clause-ran g c =
     let held = on_ok c.flush.result c.is_err-2.result c.is_err-2.ensures.value c.if-is_err-3.false c.flush.ensures.moved in
     record {
-      whole = done _ _ _ _ _ _ _ _ _ (finished g (goal.at.returns g c).After-flush) held;
+      whole = done _ _ _ _ _ _ _ _ _ (finished g (goal.at.returns-clause-ran g c).After-flush) held;
       flushed = search rules;
       reader_works = search rules;
       writer_works = search rules;

@@ -1,11 +1,11 @@
-use Rattle.std.proofs.Common.{◌≡◌, ◌==◌, ℕ, false, ◌+◌, ◌-◌, List, [], take, drop, refl, ap, ◌∙◌, subst, arith, length-drop}
+use Rattle.std.proofs.Common.{rules, ◌≤◌, ◌≡◌, ◌==◌, ◌||◌, ℕ, ◌+◌, ◌-◌, ◌<◌, cond, List, [], length, nat_le, nat_lt, get_or, take, drop, refl, sym, ap, ◌∙◌, subst, arith, length-drop}
 use Rattle.std.proofs.KnownBytes.{Appends-nil, Appends-trans}
-use Rattle.std.proofs.lemmas.List.{take_rest, length-take-le}
-use Rattle.std.proofs.lemmas.List.Elements.{All-nil}
+use Rattle.std.proofs.lemmas.List.{drop-drop, take_all, length-take-le}
 use Rattle.std.proofs.lemmas.Result.{err_from_is_err_and}
 use Rattle.instants_stream.specs.Lines.{HasNoLineFeed, whole_lines}
 use Rattle.instants_stream.specs.Steps.{seen_after, written}
 use Rattle.instants_stream.specs.Told.{AppendsFront}
+use Rattle.instants_stream.proofs.Bounds.{is_zero, above_limit, is_bound, is_same_test}
 use Rattle.instants_stream.proofs.Lines.{whole_lines_none, last_part_of_none}
 use Rattle.instants_stream.proofs.Written.{written-none, behind-none, written-next, behind-next, written-begins}
 use Rattle.instants_stream.proofs.Told.{AppendsFront-after, AppendsFront-more}
@@ -20,42 +20,80 @@ pub loop-len-init : goal.loop-len-init
 unfolding seen_after
 loop-len-init g c =
     let steps = g.S.WritesLines.steps in
+    let n = length c.args.bytes.now in
+    let start : n - n ≡ 0 = omega arith in
+    let bound : c.if-is_long.bound ≡ cond c.args.is_long 0 (c.args.limit + 1) = search rules in
+    let is_long : (c.if-is_long.bound == 0) ≡ c.args.is_long = is_zero c.args.is_long c.args.limit c.if-is_long.bound bound in
     record {
       within = omega arith;
-      ended = last_part_of_none;
-      first = λ _. refl;
+      rest_is = rw start refl;
+      ended = rw start last_part_of_none;
+      bound_is = rw is_long bound;
+      first = λ _. is_long;
       later = λ h. absurd (omega arith);
-      written = rw (whole_lines_none, written-none g.S.WritesLines.State steps (g.S.WritesLines.state c.args.steps.now)) (Appends-nil _);
-      stands = rw (whole_lines_none, behind-none g.S.WritesLines.State steps (g.S.WritesLines.state c.args.steps.now)) refl;
-      searched = c.requires.searched;
-      free = c.requires.free;
+      written = rw (start, whole_lines_none, written-none g.S.WritesLines.State steps (g.S.WritesLines.state c.args.steps.now)) (Appends-nil _);
+      stands = rw (start, whole_lines_none, behind-none g.S.WritesLines.State steps (g.S.WritesLines.state c.args.steps.now)) refl;
+      inside = c.line_end-len.ensures.within;
+      before = c.line_end-len.ensures.before;
+      line_feed = c.line_end-len.ensures.line_feed;
       works = refl;
     }
+
+-- what is found in the rest is found behind the lines that are done
+record Found (bytes rest : List ℕ) (start len : ℕ) : Type 0 where
+  is : rest ≡ drop start bytes
+  short : len < length rest
+  within : len < length (drop start bytes)
+  line_feed : get_or (drop start bytes) len 0 ≡ 10
+  free : HasNoLineFeed (take len (drop start bytes))
+  line : take len rest ≡ take len (drop start bytes)
+  size : length (take len rest) ≡ len
+  long : length (take len (drop start bytes)) ≡ len
+
+of_rest : (bytes rest : List ℕ) (start len : ℕ) → rest ≡ drop start bytes → len < length rest → get_or rest len 0 ≡ 10 → HasNoLineFeed (take len rest) → Found bytes rest start len
+of_rest bytes rest start len is short line_feed free = record {
+  is = is;
+  short = short;
+  within = subst (λ (l : List ℕ). len < length l) is short;
+  line_feed = subst (λ (l : List ℕ). get_or l len 0 ≡ 10) is line_feed;
+  free = subst (λ (l : List ℕ). HasNoLineFeed (take len l)) is free;
+  line = ap (take len) is;
+  size = length-take-le len rest (omega (arith, short));
+  long = ap length (ap (take len) (sym is)) ∙ length-take-le len rest (omega (arith, short));
+}
 
 pub loop-len-preserved : goal.loop-len-preserved
 loop-len-preserved g c =
     let i = c.loop-len.invariant in
     let bytes = c.args.bytes.now in
-    let start = c.loop-len.start in
-    let len = c.in-Some.len in
-    let whole = take_rest bytes start in
-    let within = rw whole at c.in-Some.ensures.within in
-    let line_feed = rw whole at c.in-Some.ensures.line_feed in
-    let free : HasNoLineFeed (take len (drop start bytes)) = subst (λ (l : List ℕ). HasNoLineFeed (take len l)) whole c.in-Some.ensures.before in
-    let same : start + len - start ≡ len = omega arith in
-    let wrote = rw same at c.in_ok-write_line.ensures.written in
-    let goes = rw same at c.in_ok-write_line.ensures.next in
-    let next = seen_after-next c.args.limit c.args.is_long c.loop-len.is_long (whole_lines (take start bytes)) (take len (drop start bytes)) start len (length-take-le len (drop start bytes) (omega arith)) (λ e. (i.first e, none_before bytes start e)) i.later in
-    let lines = ap (seen_after c.args.limit c.args.is_long) (next_lines bytes start len i.ended within line_feed free) ∙ next in
+    let rest = c.loop-len.rest.now in
+    let behind = c.behind_line-rest.result.now in
+    let start = length bytes - length rest in
+    let len = c.loop-len.len in
+    let short : len < length rest = search rules in
+    let f = of_rest bytes rest start len i.rest_is short (i.line_feed short) i.before in
+    let shorter : length behind ≡ length rest - (len + 1) = ap length c.behind_line-rest.ensures ∙ length-drop (len + 1) rest in
+    let next_start : length bytes - length behind ≡ start + (len + 1) = omega (arith, i.within, f.short, shorter) in
+    let is_long = c.loop-len.bound == 0 in
+    let test : nat_le c.loop-len.bound (length (take len rest)) ≡ (is_long || nat_lt c.args.limit len) = ap (nat_le c.loop-len.bound) f.size ∙ is_same_test is_long c.args.limit len c.loop-len.bound i.bound_is in
+    let wrote = c.in_ok-write_line.ensures.written in
+    let goes = c.in_ok-write_line.ensures.next in
+    let wrote_it = rw (test, f.line) at wrote in
+    let goes_on = rw (test, f.line) at goes in
+    let next = seen_after-next c.args.limit c.args.is_long is_long (whole_lines (take start bytes)) (take len (drop start bytes)) start len f.long (λ e. (i.first e, none_before bytes start e)) i.later in
+    let lines = ap (seen_after c.args.limit c.args.is_long) (next_lines bytes start len i.ended f.within f.line_feed f.free) ∙ next in
     record {
-      within = let h = simp length-drop at within in omega arith;
-      ended = next_ended bytes start len i.ended within line_feed free;
-      first = λ e. absurd (omega arith);
-      later = λ _. (refl, next_some bytes start len i.ended within line_feed free);
-      written = rw (lines, written-next g.S.WritesLines.State g.S.WritesLines.steps (g.S.WritesLines.state c.args.steps.now) (g.S.WritesLines.state c.loop-len.steps) (seen_after c.args.limit c.args.is_long (whole_lines (take start bytes))) _ i.stands) (Appends-trans _ _ _ _ _ i.written wrote);
-      stands = rw (lines, behind-next g.S.WritesLines.State g.S.WritesLines.steps (g.S.WritesLines.state c.args.steps.now) (g.S.WritesLines.state c.loop-len.steps) (seen_after c.args.limit c.args.is_long (whole_lines (take start bytes))) _ i.stands) goes;
-      searched = omega arith;
-      free = All-nil (λ (b : ℕ). (b == 10) ≡ false);
+      within = omega (arith, i.within, shorter);
+      rest_is = c.behind_line-rest.ensures ∙ ap (drop (len + 1)) i.rest_is ∙ drop-drop (len + 1) start bytes ∙ ap (λ (n : ℕ). drop n bytes) (sym next_start);
+      ended = rw next_start (next_ended bytes start len i.ended f.within f.line_feed f.free);
+      bound_is = is_bound c.args.limit;
+      first = λ e. absurd (omega (arith, next_start, e));
+      later = λ _. (above_limit c.args.limit, rw next_start (next_some bytes start len i.ended f.within f.line_feed f.free));
+      written = rw (next_start, lines, written-next g.S.WritesLines.State g.S.WritesLines.steps (g.S.WritesLines.state c.args.steps.now) (g.S.WritesLines.state c.loop-len.steps) (seen_after c.args.limit c.args.is_long (whole_lines (take start bytes))) _ i.stands) (Appends-trans _ _ _ _ _ i.written wrote_it);
+      stands = rw (next_start, lines, behind-next g.S.WritesLines.State g.S.WritesLines.steps (g.S.WritesLines.state c.args.steps.now) (g.S.WritesLines.state c.loop-len.steps) (seen_after c.args.limit c.args.is_long (whole_lines (take start bytes))) _ i.stands) goes_on;
+      inside = c.line_end-len-in-loop-len.ensures.within;
+      before = c.line_end-len-in-loop-len.ensures.before;
+      line_feed = c.line_end-len-in-loop-len.ensures.line_feed;
       works = c.in_ok-write_line.ensures.ok ∙ i.works;
     }
 
@@ -64,45 +102,39 @@ returns-in_err-write_line-clause-front g c =
     let p = err_from_is_err_and c.from_residual.result c.from_residual.ensures.1 in
     let i = c.loop-len.invariant in
     let bytes = c.args.bytes.now in
-    let start = c.loop-len.start in
-    let len = c.in-Some.len in
-    let whole = take_rest bytes start in
-    let within = rw whole at c.in-Some.ensures.within in
-    let line_feed = rw whole at c.in-Some.ensures.line_feed in
-    let free : HasNoLineFeed (take len (drop start bytes)) = subst (λ (l : List ℕ). HasNoLineFeed (take len l)) whole c.in-Some.ensures.before in
-    let same : start + len - start ≡ len = omega arith in
-    let wrote = rw same at c.in_err-write_line.ensures.front in
-    let next = seen_after-next c.args.limit c.args.is_long c.loop-len.is_long (whole_lines (take start bytes)) (take len (drop start bytes)) start len (length-take-le len (drop start bytes) (omega arith)) (λ e. (i.first e, none_before bytes start e)) i.later in
-    let lines = ap (seen_after c.args.limit c.args.is_long) (next_lines bytes start len i.ended within line_feed free) ∙ next in
+    let rest = c.loop-len.rest.now in
+    let start = length bytes - length rest in
+    let len = c.loop-len.len in
+    let short : len < length rest = search rules in
+    let f = of_rest bytes rest start len i.rest_is short (i.line_feed short) i.before in
+    let is_long = c.loop-len.bound == 0 in
+    let test : nat_le c.loop-len.bound (length (take len rest)) ≡ (is_long || nat_lt c.args.limit len) = ap (nat_le c.loop-len.bound) f.size ∙ is_same_test is_long c.args.limit len c.loop-len.bound i.bound_is in
+    let wrote = c.in_err-write_line.ensures.front in
+    let wrote_it = rw (test, f.line) at wrote in
+    let next = seen_after-next c.args.limit c.args.is_long is_long (whole_lines (take start bytes)) (take len (drop start bytes)) start len f.long (λ e. (i.first e, none_before bytes start e)) i.later in
+    let lines = ap (seen_after c.args.limit c.args.is_long) (next_lines bytes start len i.ended f.within f.line_feed f.free) ∙ next in
     let some = seen_after c.args.limit c.args.is_long (whole_lines (take (start + (len + 1)) bytes)) in
     let said : AppendsFront (g.W.ByteWriter.held c.args.writer.now) (g.W.ByteWriter.held c.write_line.new.writer) (written g.S.WritesLines.steps (g.S.WritesLines.state c.args.steps.now) some) =
-    rw (lines, written-next g.S.WritesLines.State g.S.WritesLines.steps (g.S.WritesLines.state c.args.steps.now) (g.S.WritesLines.state c.loop-len.steps) (seen_after c.args.limit c.args.is_long (whole_lines (take start bytes))) _ i.stands) (AppendsFront-after _ _ _ _ _ i.written wrote) in
-    let more = seen_after-front c.args.limit c.args.is_long bytes (start + (len + 1)) (next_ended bytes start len i.ended within line_feed free) in
+    rw (lines, written-next g.S.WritesLines.State g.S.WritesLines.steps (g.S.WritesLines.state c.args.steps.now) (g.S.WritesLines.state c.loop-len.steps) (seen_after c.args.limit c.args.is_long (whole_lines (take start bytes))) _ i.stands) (AppendsFront-after _ _ _ _ _ i.written wrote_it) in
+    let more = seen_after-front c.args.limit c.args.is_long bytes (start + (len + 1)) (next_ended bytes start len i.ended f.within f.line_feed f.free) in
     let begins = written-begins g.S.WritesLines.State g.S.WritesLines.steps (g.S.WritesLines.state c.args.steps.now) (seen_after c.args.limit c.args.is_long (whole_lines bytes)) some more.0 more.1 in
     rw (p.1, begins.1) (AppendsFront-more _ _ _ begins.0 said)
 
+-- no line feed is left
+free : (bytes rest : List ℕ) (start len : ℕ) → rest ≡ drop start bytes → length rest ≤ len → HasNoLineFeed (take len rest) → HasNoLineFeed (drop start bytes)
+free bytes rest start len is all before = subst HasNoLineFeed (take_all len rest all ∙ is) before
+
 pub returns-clause-rest : goal.returns-clause-rest
-returns-clause-rest g c =
-    rest_is_last c.args.bytes.now c.loop-len.start c.loop-len.invariant.ended (subst HasNoLineFeed (take_rest c.args.bytes.now c.loop-len.start) c.in_default.ensures.none)
+returns-clause-rest g c = rest_is_last c.args.bytes.now _ c.loop-len.invariant.ended (free c.args.bytes.now c.loop-len.rest.now _ c.loop-len.len c.loop-len.invariant.rest_is (search rules) c.loop-len.invariant.before)
 
 pub returns-clause-some : goal.returns-clause-some
-returns-clause-some g c =
-    rw (lines_are_all c.args.bytes.now c.loop-len.start c.loop-len.invariant.ended (subst HasNoLineFeed (take_rest c.args.bytes.now c.loop-len.start) c.in_default.ensures.none)) (λ h. (c.loop-len.invariant.later h).1)
+returns-clause-some g c = rw (lines_are_all c.args.bytes.now _ c.loop-len.invariant.ended (free c.args.bytes.now c.loop-len.rest.now _ c.loop-len.len c.loop-len.invariant.rest_is (search rules) c.loop-len.invariant.before)) (λ h. (c.loop-len.invariant.later h).1)
 
 pub returns-clause-none : goal.returns-clause-none
-returns-clause-none g c =
-    rw (lines_are_all c.args.bytes.now c.loop-len.start c.loop-len.invariant.ended (subst HasNoLineFeed (take_rest c.args.bytes.now c.loop-len.start) c.in_default.ensures.none)) (none_before c.args.bytes.now c.loop-len.start)
+returns-clause-none g c = rw (lines_are_all c.args.bytes.now _ c.loop-len.invariant.ended (free c.args.bytes.now c.loop-len.rest.now _ c.loop-len.len c.loop-len.invariant.rest_is (search rules) c.loop-len.invariant.before)) (none_before c.args.bytes.now _)
 
 pub returns-clause-written : goal.returns-clause-written
-returns-clause-written g c =
-    rw (lines_are_all c.args.bytes.now c.loop-len.start c.loop-len.invariant.ended (subst HasNoLineFeed (take_rest c.args.bytes.now c.loop-len.start) c.in_default.ensures.none)) c.loop-len.invariant.written
+returns-clause-written g c = rw (lines_are_all c.args.bytes.now _ c.loop-len.invariant.ended (free c.args.bytes.now c.loop-len.rest.now _ c.loop-len.len c.loop-len.invariant.rest_is (search rules) c.loop-len.invariant.before)) c.loop-len.invariant.written
 
 pub returns-clause-state : goal.returns-clause-state
-returns-clause-state g c =
-    rw (lines_are_all c.args.bytes.now c.loop-len.start c.loop-len.invariant.ended (subst HasNoLineFeed (take_rest c.args.bytes.now c.loop-len.start) c.in_default.ensures.none)) c.loop-len.invariant.stands
-
-pub line_len-requires : goal.line_len-requires
-line_len-requires g c = record {
-  searched = rw (take_rest c.args.bytes.now c.loop-len.start) c.loop-len.invariant.searched;
-  free = rw (take_rest c.args.bytes.now c.loop-len.start) c.loop-len.invariant.free;
-}
+returns-clause-state g c = rw (lines_are_all c.args.bytes.now _ c.loop-len.invariant.ended (free c.args.bytes.now c.loop-len.rest.now _ c.loop-len.len c.loop-len.invariant.rest_is (search rules) c.loop-len.invariant.before)) c.loop-len.invariant.stands

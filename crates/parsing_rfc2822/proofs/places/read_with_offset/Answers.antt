@@ -2,7 +2,4 @@ use Rattle.parsing_fields.proofs.lemmas.Moments.{of_fields}
 use Rattle.parsing_rfc2822.proofs.places.read_with_offset.Goals as goal
 
 pub returns : goal.returns
-returns c =
-    let front = c.in_ok-tens.ensures.front in
-    let shape = c.has_offset.ensures.shape c.if-not-has_offset.false in
-    of_fields _ _ c.fields_behind.result c.fields_behind.ensures (λ f read. read c.args.input.now front.weekday_is (front.reads shape.last_of_day shape.before_month))
+returns c = of_fields _ _ c.read_by_shape.result c.read_by_shape.ensures (λ f read. read c.args.input.now c.in_ok-tens.ensures.front)

@@ -1,13 +1,11 @@
 use Rattle.std.proofs.Common.{map}
 use Rattle.instants_sources.specs.Grammar.{grammar_of}
-use Rattle.instants_found.specs.Keys.{AreKeys}
-use Rattle.instants_found.specs.Starts.{AreRight}
+use Rattle.instants_found.specs.Marks.{AreMarks}
 use Rattle.instants_found.proofs.SourceKeys.{for_some}
 use Rattle.instants_found.proofs.finder.Finder.new.Goals as goal
 
 pub invariant_of-result : goal.invariant_of-result
 invariant_of-result c = record {
   starts_are = rw c.deref.ensures.value at c.starts-starts.ensures;
-  lanes_are = for_some (AreRight c.starts-starts.result) c.of.result c.of.ensures;
-  keys_are = for_some (AreKeys (map grammar_of c.args.sources.items)) c.of-keys.result (rw c.deref-2.ensures.value at c.of-keys.ensures);
+  marks_are = for_some (AreMarks (map grammar_of c.args.sources.items) c.starts-starts.result) c.of-marks.result (rw c.deref-2.ensures.value at c.of-marks.ensures);
 }

@@ -1,4 +1,4 @@
 use Rattle.instants_found.proofs.finder.Finder.next_start.Goals as goal
 
-pub by_keys-requires-clause-keys : goal.by_keys-requires-clause-keys
-by_keys-requires-clause-keys c = c.args.self.now.keys_are c.in-Some-keys.keys c.in-Some-keys.is
+pub by_blocks-requires-clause-marks : goal.by_blocks-requires-clause-marks
+by_blocks-requires-clause-marks c = c.args.self.now.marks_are c.in-Some.marks c.in-Some.is

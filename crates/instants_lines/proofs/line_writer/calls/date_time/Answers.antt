@@ -1,5 +1,5 @@
 use Rattle.std.proofs.Common.{sym}
-use Rattle.instants.specs.Refusal.{year}
+use Rattle.instants_timeline.specs.Refusal.{year}
 use Rattle.instants_lines.specs.Showing.{setting_in}
 use Rattle.instants_lines.specs.Dates.{place_of_date}
 use Rattle.instants_lines.proofs.Outside.{unwritten}

@@ -26,6 +26,11 @@ returns-clause-below g c =
     let (all, _) = written g (goal.at.returns-clause-below g c).After-hand_on in
     OnOk-map c.hand_on.result (λ kept. Keeps-trans _ _ _ all kept) c.hand_on.ensures.held
 
+pub returns-clause-all : goal.returns-clause-all
+returns-clause-all g c =
+    let (_, none) = written g (goal.at.returns-clause-all g c).After-hand_on in
+    OnOk-map c.hand_on.result (λ kept. Keeps-trans _ _ _ (gathered-below _ c.if-self-gt0.self.block.items c.if-self-gt0.self.start _ none) kept) c.hand_on.ensures.all
+
 pub returns-clause-kept : goal.returns-clause-kept
 returns-clause-kept g c =
     let (all, none) = written g (goal.at.returns-clause-kept g c).After-hand_on in

@@ -1,8 +1,0 @@
-use Rattle.std.proofs.Common.{refl}
-use Rattle.instants_sources.specs.Grammar.{grammar_of}
-use Rattle.instants.specs.Settings.{setting_of}
-use Rattle.instants.proofs.FirstNamed.{names_from_next}
-use Rattle.instants.proofs.timeline.Timeline.write_rest.Goals as goal
-
-pub write_behind-requires : goal.write_behind-requires
-write_behind-requires c = names_from_next (setting_of c.args.self.now) c.args.line.now 0 (grammar_of c.first.result.now) refl c.first.ensures (c.cannot_match.ensures c.if-cannot_match.true c.args.self.now.assumed)

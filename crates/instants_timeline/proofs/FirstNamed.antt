@@ -1,0 +1,112 @@
+-- The first source that names a moment.
+use Rattle.std.proofs.Common.{◌≡◌, ◌<◌, ◌≤◌, ◌+◌, ℕ, List, [], ◌∷◌, length, get_or, drop, map, sym, ◌∙◌, Option, None, Some, Result, Ok, Err, refl, ap, unwrap_or, IfSome, ℤ}
+use Rattle.std.proofs.lemmas.List.{drop_more, drop_all, drop-map}
+use Rattle.std.specs.Option.{ok_or, option_map}
+use Rattle.std.specs.Result.{result_ok}
+use Rattle.datetime_wall.specs.Wall.{Shown}
+use Rattle.parsing_fields.specs.Moment.{moment_of}
+use Rattle.parsing_fields.specs.declared.fields.Fields.{Fields}
+use Rattle.parsing_combinator.specs.Fault.{Fault}
+use Rattle.instants_sources.specs.Grammar.{Grammar, grammar_of}
+use Rattle.instants_sources.specs.declared.source.Source.{Source}
+use Rattle.instants_sources.specs.Named.{named}
+use Rattle.instants_timeline.specs.Place.{Setting, or_named, first_named, place_of, answer_to}
+use Rattle.instants_timeline.specs.Refusal.{refusal_of, refusal_text}
+use Rattle.instants_timeline.specs.FirstNamed.{IsAnswerOf, NamesFrom}
+
+here : (o : Result Shown Fault) (others : Option Shown) (moment : Shown) → result_ok o ≡ Some moment → result_ok (or_named o others) ≡ Some moment
+here (Ok m) others moment e = e
+here (Err f) others moment e = absurd cc
+
+-- a source that names one
+pub first_named-here : (assumed : Option ℤ) (grammar : Grammar) (others : List Grammar) (line : List ℕ) (moment : Shown) → result_ok (named assumed grammar line) ≡ Some moment → result_ok (first_named assumed (grammar ∷ others) line) ≡ Some moment
+unfolding first_named
+first_named-here assumed grammar others line moment e = here (named assumed grammar line) (result_ok (first_named assumed others line)) moment e
+
+pub result_ok-ok_or : (o : Option Shown) (fault : Fault) → result_ok (ok_or o fault) ≡ o
+result_ok-ok_or None fault = refl
+result_ok-ok_or (Some m) fault = refl
+
+later : (o : Result Shown Fault) (others : Option Shown) → result_ok o ≡ None → result_ok (or_named o others) ≡ others
+later (Ok m) others e = absurd cc
+later (Err f) others e = result_ok-ok_or others f
+
+-- a source that names none
+pub first_named-later : (assumed : Option ℤ) (grammar : Grammar) (others : List Grammar) (line : List ℕ) → result_ok (named assumed grammar line) ≡ None → result_ok (first_named assumed (grammar ∷ others) line) ≡ result_ok (first_named assumed others line)
+unfolding first_named
+first_named-later assumed grammar others line e = later (named assumed grammar line) (result_ok (first_named assumed others line)) e
+
+-- an answer for a moment, wherever it is named
+pub answer_alike : {setting : Setting} {one other : Option Shown} {bytes : List ℕ} (a : IsAnswerOf setting one bytes) → other ≡ Some a.moment → IsAnswerOf setting other bytes
+answer_alike a e = record {
+  moment = a.moment;
+  is = e;
+  text = a.text;
+  room = a.room;
+  never_long = a.never_long;
+}
+
+-- an answer for the moment that fields name
+pub answer_found : (setting : Setting) (found : Option Fields) (grammar : Grammar) (line bytes : List ℕ) → IfSome found (λ fields. named setting.assumed grammar line ≡ Ok (moment_of fields))
+    → IsAnswerOf setting (option_map moment_of found) bytes → IsAnswerOf setting (result_ok (named setting.assumed grammar line)) bytes
+answer_found setting None grammar line bytes h a = absurd (let no : None ≡ Some a.moment = a.is in cc)
+answer_found setting (Some fields) grammar line bytes h a = answer_alike a (ap result_ok h ∙ a.is)
+
+ok_of : (r : Result Shown Fault) (m : Shown) → result_ok r ≡ Some m → r ≡ Ok m
+ok_of (Ok x) m e = ap (λ (o : Option Shown). Ok (unwrap_or o x)) e
+ok_of (Err f) m e = absurd cc
+
+-- an answer for the moment that is named first
+pub answered : (setting : Setting) (line bytes : List ℕ) → IsAnswerOf setting (result_ok (first_named setting.assumed setting.sources line)) bytes → bytes ≡ answer_to setting line
+unfolding answer_to place_of
+answered setting line bytes a = rw (ok_of (first_named setting.assumed setting.sources line) a.moment a.is) a.text
+
+-- a place's source answers a line for which it names a moment, and those before it none
+pub answered_at : (setting : Setting) (line bytes : List ℕ) (place : ℕ) (grammar : Grammar) (others : List Grammar) → NamesFrom setting line place → drop place setting.sources ≡ grammar ∷ others
+    → IsAnswerOf setting (result_ok (named setting.assumed grammar line)) bytes → bytes ≡ answer_to setting line
+answered_at setting line bytes place grammar others from cut a =
+    let there : result_ok (first_named setting.assumed (drop place setting.sources) line) ≡ Some a.moment = rw cut (first_named-here setting.assumed grammar others line a.moment a.is) in
+    answered setting line bytes (answer_alike a (sym from ∙ there))
+
+behind : (setting : Setting) (line : List ℕ) (place : ℕ) (grammar : Grammar) (others : List Grammar) → NamesFrom setting line place → drop place setting.sources ≡ grammar ∷ others
+    → result_ok (named setting.assumed grammar line) ≡ None → result_ok (first_named setting.assumed setting.sources line) ≡ result_ok (first_named setting.assumed others line)
+behind setting line place grammar others from cut none =
+    let there : result_ok (first_named setting.assumed (drop place setting.sources) line) ≡ result_ok (first_named setting.assumed others line) = rw cut (first_named-later setting.assumed grammar others line none) in
+    sym from ∙ there
+
+-- a place whose source names none names what the next one does
+pub names_from_next : (setting : Setting) (line : List ℕ) (place : ℕ) (grammar : Grammar) → NamesFrom setting line place → drop place setting.sources ≡ grammar ∷ drop (place + 1) setting.sources
+    → result_ok (named setting.assumed grammar line) ≡ None → NamesFrom setting line (place + 1)
+names_from_next setting line place grammar from cut none = sym (behind setting line place grammar (drop (place + 1) setting.sources) from cut none)
+
+fault_of_first : (r : Result Shown Fault) (o : Option Shown) (fault : Fault) → result_ok (or_named r o) ≡ None → r ≡ Err fault → or_named r o ≡ Err fault
+fault_of_first r None fault none e = rw e refl
+fault_of_first r (Some m) fault none e = absurd (let found : Some m ≡ None = ap result_ok (ap (λ (x : Result Shown Fault). or_named x (Some m)) (sym e)) ∙ none in cc)
+
+-- where none does the answer is the first one's fault
+pub answered_fault : (setting : Setting) (line bytes : List ℕ) (grammar : Grammar) (others : List Grammar) (fault : Fault) → setting.sources ≡ grammar ∷ others
+    → result_ok (first_named setting.assumed setting.sources line) ≡ None → named setting.assumed grammar line ≡ Err fault → bytes ≡ refusal_text (refusal_of fault) → bytes ≡ answer_to setting line
+unfolding answer_to place_of first_named
+answered_fault setting line bytes grammar others fault e none refused text =
+    let first : first_named setting.assumed setting.sources line ≡ Err fault = rw e (fault_of_first (named setting.assumed grammar line) (result_ok (first_named setting.assumed others line)) fault (rw e at none) refused) in
+    rw first text
+
+-- the source at a place, before those behind it
+pub source_before : (sources : List Source) (place : ℕ) (source : Source) → place < length sources → source ≡ get_or sources place source
+    → drop place (map grammar_of sources) ≡ grammar_of source ∷ map grammar_of (drop (place + 1) sources)
+source_before sources place source within is =
+    let there : drop place sources ≡ get_or sources place source ∷ drop (place + 1) sources = drop_more sources place source within in
+    let cut : drop place sources ≡ source ∷ drop (place + 1) sources = rw (← is) at there in
+    drop-map grammar_of place sources ∙ ap (map grammar_of) cut
+
+pub source_at : (sources : List Source) (place : ℕ) (source : Source) → place < length sources → source ≡ get_or sources place source
+    → drop place (map grammar_of sources) ≡ grammar_of source ∷ drop (place + 1) (map grammar_of sources)
+source_at sources place source within is =
+    source_before sources place source within is ∙ ap (λ (rest : List Grammar). grammar_of source ∷ rest) (sym (drop-map grammar_of (place + 1) sources))
+
+-- behind all places there is none
+pub none_at_end : (setting : Setting) (line : List ℕ) (place : ℕ) → length setting.sources ≤ place → NamesFrom setting line place → result_ok (first_named setting.assumed setting.sources line) ≡ None
+unfolding first_named
+none_at_end setting line place end from =
+    let over : drop place setting.sources ≡ [] = drop_all place setting.sources end in
+    sym (rw over at from)

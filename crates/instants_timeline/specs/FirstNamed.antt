@@ -1,0 +1,31 @@
+-- What is found of a line before all of its answer is known.
+use Rattle.std.specs.Prelude.{◌≡◌, ◌≢◌, ◌≤◌, ◌+◌, ℕ, List, ◌∷◌, codes, drop, length, Option, Some, Ok, Err}
+use Rattle.std.specs.Result.{result_ok}
+use Rattle.datetime_wall.specs.Wall.{Shown}
+use Rattle.parsing_combinator.specs.Fault.{Fault}
+use Rattle.instants_sources.specs.Grammar.{Grammar}
+use Rattle.instants_sources.specs.Named.{named}
+use Rattle.instants_timeline.specs.Place.{Setting, first_named, place_text, shown_or_refused}
+
+-- the first source that names a moment names this one
+abbrev pub IsFirstNamed : Setting → List ℕ → Shown → Type 0
+IsFirstNamed setting line m = first_named setting.assumed setting.sources line ≡ Ok m
+
+-- what the sources from a place on name is what all of them name
+abbrev pub NamesFrom : Setting → List ℕ → ℕ → Type 0
+NamesFrom setting line place =
+    result_ok (first_named setting.assumed (drop place setting.sources) line) ≡ result_ok (first_named setting.assumed setting.sources line)
+
+-- a moment is named, and these bytes are the answer for it
+pub record IsAnswerOf (setting : Setting) (named : Option Shown) (bytes : List ℕ) : Type 0 where
+  pub moment : Shown
+  pub is : named ≡ Some moment
+  pub text : bytes ≡ place_text (shown_or_refused setting.target (Ok moment))
+  pub room : length bytes ≤ 63
+  pub never_long : bytes ≢ codes "! long"
+
+-- the source at a place finds this fault in a line
+pub record IsFaultAt (setting : Setting) (line : List ℕ) (place : ℕ) (fault : Fault) : Type 0 where
+  pub grammar : Grammar
+  pub stands : drop place setting.sources ≡ grammar ∷ drop (place + 1) setting.sources
+  pub refused : named setting.assumed grammar line ≡ Err fault

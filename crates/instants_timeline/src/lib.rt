@@ -1,0 +1,28 @@
+//! The timeline: sources that are tried in order for a line, the answers to lines, the run over a stream, and all that the
+//! program `instants` does between its words and its end. The crate `instants` gives it on, with what belongs to it.
+#![tactic(auto)]
+
+mod line_fault;
+mod new_fault;
+mod program;
+mod program_fault;
+mod runs;
+mod shown;
+mod timeline;
+
+pub use instants_answers::{
+    Answer, fits_line, fits_utc_line, rfc3339_line, utc_line_by_timestamp, utc_line_by_utc,
+};
+pub use instants_sources::{DescribedItems, DescribedTree, Source};
+pub use instants_stream::{
+    BlockWriter, ByteReader, ByteWriter, CutReader, CutWriter, DeviceFailed, RunFault, StdReader,
+    StdWriter,
+};
+pub use instants_words::{SourceText, Sources, Words, WordsFault, read_words};
+pub use line_fault::LineFault;
+pub use new_fault::NewFault;
+pub use program::run_words;
+pub use program_fault::ProgramFault;
+pub use runs::run;
+pub use shown::{answer_by, answer_moment, shown_at};
+pub use timeline::Timeline;

@@ -1,0 +1,84 @@
+//! One answer for each line of a stream.
+ghost use Rattle.std.specs.Prelude.{◌≡◌, ◌-◌, ◌<◌, ◌≤◌, Err, false, length};
+ghost use Rattle.std.specs.Io.KnownBytes.{Keeps};
+ghost use Rattle.instants_stream.specs.Answers.{by_answers};
+ghost use Rattle.instants_stream.specs.Ran.{Ran};
+ghost use Rattle.instants_timeline.specs.Place.{answer_to};
+ghost use Rattle.instants_timeline.specs.Settings.{setting_of};
+
+use crate::timeline::{AnswerWay, Iso8601Way, Led, PlannedWay, Rfc2822Way, Rfc3339Way, Timeline};
+use instants_sources::Source;
+use instants_stream::{ByteReader, ByteWriter, RunFault, run_lines};
+
+/// Writes the answer to each line that the reader gives, each followed by a line feed. The answers are handed on before
+/// each read, and the writer is flushed at the end.
+///
+/// Lines end in LF; a nonempty last part is a line too. A line that is longer than the limit, which is one less than
+/// the buffer's length, is answered `! long`. The first device that fails ends the run; nothing is tried again. Of what
+/// the buffer holds afterwards nothing is said.
+pub fn run<R: ByteReader, W: ByteWriter>(
+    timeline: &Timeline,
+    buffer: &mut [u8],
+    reader: &mut R,
+    writer: &mut W,
+) -> Result<(), RunFault>
+    requires room { 2 ≤ length buffer.old }
+    requires reader { R.failed reader.old ≡ false }
+    requires writer { W.failed writer.old ≡ false }
+    ensures ran { Ran (by_answers (answer_to (setting_of timeline.now)) (length buffer.old - 1))
+        R.ByteReader reader.old reader.new W.ByteWriter writer.old writer.new result }
+    // Before the read that failed all was handed on.
+    ensures handed_on { result ≡ Err RunFault.Read
+        → Keeps (W.held writer.new) (W.handed_on writer.new) }
+{
+    answer_lines(timeline, buffer.len() - 1, buffer, reader, writer)
+}
+
+// Writes the answer to each line, by the run for a first source of its kind.
+pub(crate) fn answer_lines<R: ByteReader, W: ByteWriter>(
+    timeline: &Timeline,
+    limit: usize,
+    buffer: &mut [u8],
+    reader: &mut R,
+    writer: &mut W,
+) -> Result<(), RunFault>
+    requires room { limit < length buffer.old }
+    requires reader { R.failed reader.old ≡ false }
+    requires writer { W.failed writer.old ≡ false }
+    ensures ran { Ran (by_answers (answer_to (setting_of timeline.now)) limit)
+        R.ByteReader reader.old reader.new W.ByteWriter writer.old writer.new result }
+    // Before the read that failed all was handed on.
+    ensures handed_on { result ≡ Err RunFault.Read
+        → Keeps (W.held writer.new) (W.handed_on writer.new) }
+{
+    match timeline.first() {
+        Source::Rfc3339 => run_by(Rfc3339Way, timeline, limit, buffer, reader, writer),
+        Source::Rfc2822 => run_by(Rfc2822Way, timeline, limit, buffer, reader, writer),
+        Source::Iso8601 => run_by(Iso8601Way, timeline, limit, buffer, reader, writer),
+        Source::Items(_) | Source::V3(_) => {
+            run_by(PlannedWay, timeline, limit, buffer, reader, writer)
+        }
+    }
+}
+
+// The same in one way, whatever the first source.
+#[inline(always)]
+fn run_by<A: AnswerWay + Drop, R: ByteReader, W: ByteWriter>(
+    way: A,
+    timeline: &Timeline,
+    limit: usize,
+    buffer: &mut [u8],
+    reader: &mut R,
+    writer: &mut W,
+) -> Result<(), RunFault>
+    requires room { limit < length buffer.old }
+    requires reader { R.failed reader.old ≡ false }
+    requires writer { W.failed writer.old ≡ false }
+    ensures ran { Ran (by_answers (answer_to (setting_of timeline.now)) limit)
+        R.ByteReader reader.old reader.new W.ByteWriter writer.old writer.new result }
+    // Before the read that failed all was handed on.
+    ensures handed_on { result ≡ Err RunFault.Read
+        → Keeps (W.held writer.new) (W.handed_on writer.new) }
+{
+    run_lines(&Led::new(timeline, way), limit, buffer, reader, writer)
+}

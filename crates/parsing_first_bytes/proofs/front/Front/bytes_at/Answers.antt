@@ -1,0 +1,16 @@
+use Rattle.std.proofs.Common.{◌≡◌, ◌∙◌, false, sym}
+use Rattle.std.proofs.lemmas.Bool.{true≢false}
+use Rattle.parsing_first_bytes.specs.Front.{stands}
+use Rattle.parsing_first_bytes.proofs.Walk.{all_true, set_one}
+use Rattle.parsing_first_bytes.proofs.front.Front.bytes_at.Goals as goal
+
+pub loop-byte-init : goal.loop-byte-init
+loop-byte-init c = λ byte e. absurd (true≢false (sym (all_true 256 byte) ∙ e))
+
+pub loop-byte-preserved : goal.loop-byte-preserved
+loop-byte-preserved c =
+    set_one (λ byte. stands c.args.self.now.bytes c.args.place byte ≡ false) c.loop-byte.bytes c.from.result c.has.result c.loop-byte.invariant (λ e. rw c.from.ensures (sym c.has.ensures ∙ e))
+
+pub returns-2 : goal.returns-2
+returns-2 c =
+    set_one (λ byte. stands c.args.self.now.bytes c.args.place byte ≡ false) c.loop-byte.bytes c.from.result c.has.result c.loop-byte.invariant (λ e. rw c.from.ensures (sym c.has.ensures ∙ e))

@@ -1,0 +1,184 @@
+-- Lanes of vectors.
+use Rattle.std.proofs.Common.{◌≡◌, ◌≤◌, ◌<◌, ◌+◌, ◌*◌, ◌^◌, ◌/◌, ◌%◌, ◌∙◌, ℕ, zero, suc, Bool, true, false, cond, List, [], ◌∷◌, length, get_or, take, drop, map, refl, sym, ap, arith, w8, lit<, inl, inr}
+use Rattle.std.specs.Int.Bits.{bit_and}
+use Rattle.std.specs.Prelude.{nat_le, nat_eq, replicate}
+use Rattle.std.proofs.lemmas.Bool.{cases_lt}
+use Rattle.std.proofs.lemmas.Bool.Decides.{nat_tests}
+use Rattle.std.proofs.lemmas.List.{drop_more, length-drop, length-map, get_or-map}
+use Rattle.std.proofs.lemmas.Simd.{swz_l, get_or-swz_l, get_or_wider, get_or_narrower, below_from_Fits, get_or-zip2, length-zip2, mask_l-mod, get_or-replicate}
+use Rattle.parsing_places.specs.Lanes.{are_moves}
+use lib.Dec.{T, ltb}
+use lib.Lanes.{Each1, zip2, mask_l, top, dots, number_l, digits_l}
+use mir.Val.{zeroes, Fits}
+use mathlib.Core.Bool.{◌&&◌, ◌||◌}
+use mir.ValLaws.{and_both}
+
+pub each_moves : (js : List ℕ) → T (are_moves js) → Each1 (λ j. T (zeroes 16 w8 j || ltb j 16)) js
+each_moves [] h = tt
+each_moves (j ∷ js) h = let b = and_both (zeroes 16 w8 j || ltb j 16) (are_moves js) h in (b.0, each_moves js b.1)
+
+-- ---- all lanes, one by one
+
+none_left : (ys : List ℕ) → length ys ≡ 0 → ys ≡ []
+none_left [] e = refl
+none_left (y ∷ ys) e = absurd (omega (arith, e))
+
+pub expanded : (xs : List ℕ) → length xs ≡ 16 → xs ≡ get_or xs 0 0 ∷ get_or xs 1 0 ∷ get_or xs 2 0 ∷ get_or xs 3 0 ∷ get_or xs 4 0 ∷ get_or xs 5 0 ∷ get_or xs 6 0 ∷ get_or xs 7 0 ∷ get_or xs 8 0 ∷ get_or xs 9 0 ∷ get_or xs 10 0 ∷ get_or xs 11 0 ∷ get_or xs 12 0 ∷ get_or xs 13 0 ∷ get_or xs 14 0 ∷ get_or xs 15 0 ∷ []
+expanded xs n =
+    let s16 : drop 16 xs ≡ [] = none_left (drop 16 xs) (omega (arith, length-drop 16 xs, n)) in
+    let s15 : drop 15 xs ≡ get_or xs 15 0 ∷ [] = drop_more xs 15 0 (omega (arith, n)) ∙ ap (λ t. get_or xs 15 0 ∷ t) s16 in
+    let s14 : drop 14 xs ≡ get_or xs 14 0 ∷ get_or xs 15 0 ∷ [] = drop_more xs 14 0 (omega (arith, n)) ∙ ap (λ t. get_or xs 14 0 ∷ t) s15 in
+    let s13 : drop 13 xs ≡ get_or xs 13 0 ∷ get_or xs 14 0 ∷ get_or xs 15 0 ∷ [] = drop_more xs 13 0 (omega (arith, n)) ∙ ap (λ t. get_or xs 13 0 ∷ t) s14 in
+    let s12 : drop 12 xs ≡ get_or xs 12 0 ∷ get_or xs 13 0 ∷ get_or xs 14 0 ∷ get_or xs 15 0 ∷ [] = drop_more xs 12 0 (omega (arith, n)) ∙ ap (λ t. get_or xs 12 0 ∷ t) s13 in
+    let s11 : drop 11 xs ≡ get_or xs 11 0 ∷ get_or xs 12 0 ∷ get_or xs 13 0 ∷ get_or xs 14 0 ∷ get_or xs 15 0 ∷ [] = drop_more xs 11 0 (omega (arith, n)) ∙ ap (λ t. get_or xs 11 0 ∷ t) s12 in
+    let s10 : drop 10 xs ≡ get_or xs 10 0 ∷ get_or xs 11 0 ∷ get_or xs 12 0 ∷ get_or xs 13 0 ∷ get_or xs 14 0 ∷ get_or xs 15 0 ∷ [] = drop_more xs 10 0 (omega (arith, n)) ∙ ap (λ t. get_or xs 10 0 ∷ t) s11 in
+    let s9 : drop 9 xs ≡ get_or xs 9 0 ∷ get_or xs 10 0 ∷ get_or xs 11 0 ∷ get_or xs 12 0 ∷ get_or xs 13 0 ∷ get_or xs 14 0 ∷ get_or xs 15 0 ∷ [] = drop_more xs 9 0 (omega (arith, n)) ∙ ap (λ t. get_or xs 9 0 ∷ t) s10 in
+    let s8 : drop 8 xs ≡ get_or xs 8 0 ∷ get_or xs 9 0 ∷ get_or xs 10 0 ∷ get_or xs 11 0 ∷ get_or xs 12 0 ∷ get_or xs 13 0 ∷ get_or xs 14 0 ∷ get_or xs 15 0 ∷ [] = drop_more xs 8 0 (omega (arith, n)) ∙ ap (λ t. get_or xs 8 0 ∷ t) s9 in
+    let s7 : drop 7 xs ≡ get_or xs 7 0 ∷ get_or xs 8 0 ∷ get_or xs 9 0 ∷ get_or xs 10 0 ∷ get_or xs 11 0 ∷ get_or xs 12 0 ∷ get_or xs 13 0 ∷ get_or xs 14 0 ∷ get_or xs 15 0 ∷ [] = drop_more xs 7 0 (omega (arith, n)) ∙ ap (λ t. get_or xs 7 0 ∷ t) s8 in
+    let s6 : drop 6 xs ≡ get_or xs 6 0 ∷ get_or xs 7 0 ∷ get_or xs 8 0 ∷ get_or xs 9 0 ∷ get_or xs 10 0 ∷ get_or xs 11 0 ∷ get_or xs 12 0 ∷ get_or xs 13 0 ∷ get_or xs 14 0 ∷ get_or xs 15 0 ∷ [] = drop_more xs 6 0 (omega (arith, n)) ∙ ap (λ t. get_or xs 6 0 ∷ t) s7 in
+    let s5 : drop 5 xs ≡ get_or xs 5 0 ∷ get_or xs 6 0 ∷ get_or xs 7 0 ∷ get_or xs 8 0 ∷ get_or xs 9 0 ∷ get_or xs 10 0 ∷ get_or xs 11 0 ∷ get_or xs 12 0 ∷ get_or xs 13 0 ∷ get_or xs 14 0 ∷ get_or xs 15 0 ∷ [] = drop_more xs 5 0 (omega (arith, n)) ∙ ap (λ t. get_or xs 5 0 ∷ t) s6 in
+    let s4 : drop 4 xs ≡ get_or xs 4 0 ∷ get_or xs 5 0 ∷ get_or xs 6 0 ∷ get_or xs 7 0 ∷ get_or xs 8 0 ∷ get_or xs 9 0 ∷ get_or xs 10 0 ∷ get_or xs 11 0 ∷ get_or xs 12 0 ∷ get_or xs 13 0 ∷ get_or xs 14 0 ∷ get_or xs 15 0 ∷ [] = drop_more xs 4 0 (omega (arith, n)) ∙ ap (λ t. get_or xs 4 0 ∷ t) s5 in
+    let s3 : drop 3 xs ≡ get_or xs 3 0 ∷ get_or xs 4 0 ∷ get_or xs 5 0 ∷ get_or xs 6 0 ∷ get_or xs 7 0 ∷ get_or xs 8 0 ∷ get_or xs 9 0 ∷ get_or xs 10 0 ∷ get_or xs 11 0 ∷ get_or xs 12 0 ∷ get_or xs 13 0 ∷ get_or xs 14 0 ∷ get_or xs 15 0 ∷ [] = drop_more xs 3 0 (omega (arith, n)) ∙ ap (λ t. get_or xs 3 0 ∷ t) s4 in
+    let s2 : drop 2 xs ≡ get_or xs 2 0 ∷ get_or xs 3 0 ∷ get_or xs 4 0 ∷ get_or xs 5 0 ∷ get_or xs 6 0 ∷ get_or xs 7 0 ∷ get_or xs 8 0 ∷ get_or xs 9 0 ∷ get_or xs 10 0 ∷ get_or xs 11 0 ∷ get_or xs 12 0 ∷ get_or xs 13 0 ∷ get_or xs 14 0 ∷ get_or xs 15 0 ∷ [] = drop_more xs 2 0 (omega (arith, n)) ∙ ap (λ t. get_or xs 2 0 ∷ t) s3 in
+    let s1 : drop 1 xs ≡ get_or xs 1 0 ∷ get_or xs 2 0 ∷ get_or xs 3 0 ∷ get_or xs 4 0 ∷ get_or xs 5 0 ∷ get_or xs 6 0 ∷ get_or xs 7 0 ∷ get_or xs 8 0 ∷ get_or xs 9 0 ∷ get_or xs 10 0 ∷ get_or xs 11 0 ∷ get_or xs 12 0 ∷ get_or xs 13 0 ∷ get_or xs 14 0 ∷ get_or xs 15 0 ∷ [] = drop_more xs 1 0 (omega (arith, n)) ∙ ap (λ t. get_or xs 1 0 ∷ t) s2 in
+    let s0 : drop 0 xs ≡ get_or xs 0 0 ∷ get_or xs 1 0 ∷ get_or xs 2 0 ∷ get_or xs 3 0 ∷ get_or xs 4 0 ∷ get_or xs 5 0 ∷ get_or xs 6 0 ∷ get_or xs 7 0 ∷ get_or xs 8 0 ∷ get_or xs 9 0 ∷ get_or xs 10 0 ∷ get_or xs 11 0 ∷ get_or xs 12 0 ∷ get_or xs 13 0 ∷ get_or xs 14 0 ∷ get_or xs 15 0 ∷ [] = drop_more xs 0 0 (omega (arith, n)) ∙ ap (λ t. get_or xs 0 0 ∷ t) s1 in
+    s0
+
+pub first_sum : (xs : List ℕ) → length xs ≡ 16 → get_or (dots xs (1 ∷ 0 ∷ 64 ∷ 0 ∷ 60 ∷ 0 ∷ 1 ∷ 0 ∷ 60 ∷ 0 ∷ 1 ∷ 0 ∷ 1 ∷ 0 ∷ 64 ∷ 0 ∷ [])) 0 0 ≡ get_or xs 0 0 + 64 * get_or xs 2 0
+first_sum xs n = ap (λ v. get_or (dots v (1 ∷ 0 ∷ 64 ∷ 0 ∷ 60 ∷ 0 ∷ 1 ∷ 0 ∷ 60 ∷ 0 ∷ 1 ∷ 0 ∷ 1 ∷ 0 ∷ 64 ∷ 0 ∷ [])) 0 0) (expanded xs n) ∙ omega arith
+
+pub second_sum : (xs : List ℕ) → length xs ≡ 16 → get_or (dots xs (1 ∷ 0 ∷ 64 ∷ 0 ∷ 60 ∷ 0 ∷ 1 ∷ 0 ∷ 60 ∷ 0 ∷ 1 ∷ 0 ∷ 1 ∷ 0 ∷ 64 ∷ 0 ∷ [])) 1 0 ≡ 60 * get_or xs 4 0 + get_or xs 6 0
+second_sum xs n = ap (λ v. get_or (dots v (1 ∷ 0 ∷ 64 ∷ 0 ∷ 60 ∷ 0 ∷ 1 ∷ 0 ∷ 60 ∷ 0 ∷ 1 ∷ 0 ∷ 1 ∷ 0 ∷ 64 ∷ 0 ∷ [])) 1 0) (expanded xs n) ∙ omega arith
+
+pub third_sum : (xs : List ℕ) → length xs ≡ 16 → get_or (dots xs (1 ∷ 0 ∷ 64 ∷ 0 ∷ 60 ∷ 0 ∷ 1 ∷ 0 ∷ 60 ∷ 0 ∷ 1 ∷ 0 ∷ 1 ∷ 0 ∷ 64 ∷ 0 ∷ [])) 2 0 ≡ 60 * get_or xs 8 0 + get_or xs 10 0
+third_sum xs n = ap (λ v. get_or (dots v (1 ∷ 0 ∷ 64 ∷ 0 ∷ 60 ∷ 0 ∷ 1 ∷ 0 ∷ 60 ∷ 0 ∷ 1 ∷ 0 ∷ 1 ∷ 0 ∷ 64 ∷ 0 ∷ [])) 2 0) (expanded xs n) ∙ omega arith
+
+pub fourth_sum : (xs : List ℕ) → length xs ≡ 16 → get_or (dots xs (1 ∷ 0 ∷ 64 ∷ 0 ∷ 60 ∷ 0 ∷ 1 ∷ 0 ∷ 60 ∷ 0 ∷ 1 ∷ 0 ∷ 1 ∷ 0 ∷ 64 ∷ 0 ∷ [])) 3 0 ≡ get_or xs 12 0 + 64 * get_or xs 14 0
+fourth_sum xs n = ap (λ v. get_or (dots v (1 ∷ 0 ∷ 64 ∷ 0 ∷ 60 ∷ 0 ∷ 1 ∷ 0 ∷ 60 ∷ 0 ∷ 1 ∷ 0 ∷ 1 ∷ 0 ∷ 64 ∷ 0 ∷ [])) 3 0) (expanded xs n) ∙ omega arith
+
+-- ---- wider and narrower lanes
+
+word_number : (xs : List ℕ) (i : ℕ) → i + 2 ≤ length xs → number_l 256 (take 2 (drop i xs)) ≡ get_or xs i 0 + get_or xs (i + 1) 0 * 256
+word_number xs i le = ap (λ v. number_l 256 (take 2 v)) (drop_more xs i 0 (omega (arith, le)) ∙ ap (λ t. get_or xs i 0 ∷ t) (drop_more xs (i + 1) 0 (omega (arith, le)))) ∙ omega arith
+
+pub word_at : (xs : List ℕ) (j : ℕ) → length xs ≡ 16 → Each1 (Fits w8) xs → j < 8 → get_or (digits_l 65536 8 (number_l 256 xs)) j 0 ≡ get_or xs (2 * j) 0 + get_or xs (2 * j + 1) 0 * 256
+word_at xs j n fits lt = get_or_wider 256 2 65536 8 xs j refl (below_from_Fits w8 xs fits) lt ∙ word_number xs (2 * j) (omega (arith, n, lt))
+
+pub byte_at : (xs : List ℕ) (j : ℕ) → Each1 (λ x. x < 65536) xs → j < 8 → get_or (digits_l 256 16 (number_l 65536 xs)) (2 * j) 0 ≡ get_or xs j 0 % 256
+byte_at xs j fits lt =
+    let same : 2 * j + 0 ≡ 2 * j = omega arith in
+    let there = get_or_narrower 65536 2 256 16 xs j 0 refl fits (lit< tt) (omega (arith, lt)) in
+    rw same at there ∙ omega arith
+
+pub number_at : (d e : ℕ) → d ≤ 9 → e ≤ 9 → (d + e * 256) * 2561 % 2 ^ 16 / 256 % 256 ≡ d * 10 + e
+number_at d e hd he =
+    let product : (d + e * 256) * 2561 % 2 ^ 16 ≡ d + (d * 10 + e) * 256 = omega arith in
+    omega (arith, product)
+
+abbrev times : ℕ → ℕ → ℕ
+times a b = a * b % 2 ^ 16
+
+abbrev shifted : ℕ → ℕ → ℕ
+shifted a b = a / 2 ^ b
+
+pub numbers_lane : (xs : List ℕ) (j : ℕ) → length xs ≡ 8 → j < 8 → get_or (zip2 shifted (zip2 times xs (replicate 8 2561)) (replicate 8 8)) j 0 ≡ get_or xs j 0 * 2561 % 2 ^ 16 / 256
+numbers_lane xs j n lt =
+    let tens : List ℕ = replicate 8 2561 in
+    let eights : List ℕ = replicate 8 8 in
+    let long : length (zip2 times xs tens) ≡ 8 = length-zip2 times xs tens n ∙ n in
+    let p : get_or (zip2 times xs tens) j 0 ≡ times (get_or xs j 0) (get_or tens j 0) = get_or-zip2 times xs tens j 0 0 0 (omega (arith, n, lt)) lt in
+    let q : get_or (zip2 shifted (zip2 times xs tens) eights) j 0 ≡ shifted (get_or (zip2 times xs tens) j 0) (get_or eights j 0) = get_or-zip2 shifted (zip2 times xs tens) eights j 0 0 0 (omega (arith, long, lt)) lt in
+    let ten : get_or tens j 0 ≡ 2561 = get_or-replicate 8 j 2561 0 lt in
+    let eight : get_or eights j 0 ≡ 8 = get_or-replicate 8 j 8 0 lt in
+    q ∙ ap (λ v. shifted v (get_or eights j 0)) p ∙ ap (λ v. shifted (times (get_or xs j 0) v) (get_or eights j 0)) ten ∙ ap (λ v. shifted (times (get_or xs j 0) 2561) v) eight
+
+-- ---- lanes that are moved
+
+pub taken_lane : (xs js : List ℕ) (k : ℕ) → length js ≡ 16 → k < 16 → get_or js k 0 < 16 → get_or (swz_l w8 16 xs 0 js) k 0 ≡ get_or xs (get_or js k 0) 0
+taken_lane xs js k n lt small =
+    let zeroed : zeroes 16 w8 (get_or js k 0) ≡ false = grind (arith, nat_tests) in
+    let block : 16 * ((0 + k) / 16) + get_or js k 0 ≡ get_or js k 0 = omega arith in
+    get_or-swz_l w8 16 xs 0 js k (omega (arith, n, lt)) ∙ rw (zeroed, block) refl
+
+pub no_lane : (xs js : List ℕ) (k : ℕ) → length js ≡ 16 → k < 16 → 128 ≤ get_or js k 0 → get_or (swz_l w8 16 xs 0 js) k 0 ≡ 0
+no_lane xs js k n lt large =
+    let zeroed : zeroes 16 w8 (get_or js k 0) ≡ true = grind (arith, nat_tests) in
+    get_or-swz_l w8 16 xs 0 js k (omega (arith, n, lt)) ∙ rw zeroed refl
+
+-- ---- a test of all lanes
+
+all_true : (ms : List Bool) (n : ℕ) → length ms ≡ n → mask_l ms + 1 ≡ 2 ^ n → (k : ℕ) → k < n → get_or ms k false ≡ true
+all_true [] n long e k lt = absurd (omega (arith, long, lt))
+all_true (m ∷ ms) zero long e k lt = absurd (omega (arith, lt))
+all_true (true ∷ ms) (suc n) long e zero lt = refl
+all_true (true ∷ ms) (suc n) long e (suc k) lt = all_true ms n (omega (arith, long)) (omega (arith, e)) k (omega (arith, lt))
+all_true (false ∷ ms) (suc n) long e k lt = absurd (omega (arith, e))
+
+at_most : (a b : ℕ) → nat_le a b ≡ true → a ≤ b
+at_most a b e = grind (arith, nat_tests)
+
+abbrev pub tests : List ℕ → List ℕ → List ℕ
+tests = zip2 (λ a b. cond (nat_le a b) 255 0)
+
+three_true : (p q r : Bool) → top 7 (bit_and (bit_and (cond p 255 0) (cond q 255 0)) (cond r 255 0)) ≡ true → (p ≡ true) × (q ≡ true) × (r ≡ true)
+three_true true true true e = (refl, refl, refl)
+three_true true true false e = absurd cc
+three_true true false true e = absurd cc
+three_true true false false e = absurd cc
+three_true false q true e = absurd cc
+three_true false q false e = absurd cc
+
+abbrev is_at_most : ℕ → ℕ → ℕ
+is_at_most a b = cond (nat_le a b) 255 0
+
+tests_long : (xs ys : List ℕ) → length xs ≡ 16 → length ys ≡ 16 → length (tests xs ys) ≡ 16
+tests_long xs ys n m = length-zip2 is_at_most xs ys (n ∙ sym m) ∙ n
+
+test_at : (xs ys : List ℕ) (k : ℕ) → length xs ≡ 16 → length ys ≡ 16 → k < 16 → get_or (tests xs ys) k 0 ≡ cond (nat_le (get_or xs k 0) (get_or ys k 0)) 255 0
+test_at xs ys k n m lt = get_or-zip2 is_at_most xs ys k 0 0 0 (omega (arith, n, lt)) (omega (arith, m, lt))
+
+-- where all bits of a mask are set, each lane has its highest one
+every_lane : (zs : List ℕ) (k : ℕ) → length zs ≡ 16 → nat_eq (mask_l (map (top 7) zs) % 18446744073709551616) 65535 ≡ true → k < 16 → top 7 (get_or zs k 0) ≡ true
+every_lane zs k n e lt =
+    let bits : List Bool = map (top 7) zs in
+    let n4 : length bits ≡ 16 = length-map zs (top 7) ∙ n in
+    let same = mask_l-mod bits 64 (omega (arith, n4)) in
+    let all : mask_l bits % 18446744073709551616 ≡ 65535 = grind (arith, nat_tests, e) in
+    let whole : mask_l bits + 1 ≡ 2 ^ 16 = omega (arith, same, all) in
+    sym (get_or-map (top 7) zs k 0 false (omega (arith, n, lt))) ∙ all_true bits 16 n4 whole k lt
+
+pub all_pass_three : (f fh s sh t th : List ℕ) → length f ≡ 16 → length fh ≡ 16 → length s ≡ 16 → length sh ≡ 16 → length t ≡ 16 → length th ≡ 16
+    → nat_eq (mask_l (map (top 7) (zip2 bit_and (zip2 bit_and (tests f fh) (tests s sh)) (tests t th))) % 18446744073709551616) 65535 ≡ true
+    → (k : ℕ) → k < 16 → (get_or f k 0 ≤ get_or fh k 0) × (get_or s k 0 ≤ get_or sh k 0) × (get_or t k 0 ≤ get_or th k 0)
+all_pass_three f fh s sh t th nf nfh ns nsh nt nth e k lt =
+    let one = tests_long f fh nf nfh in
+    let two = tests_long s sh ns nsh in
+    let three = tests_long t th nt nth in
+    let both = zip2 bit_and (tests f fh) (tests s sh) in
+    let nb : length both ≡ 16 = length-zip2 bit_and (tests f fh) (tests s sh) (one ∙ sym two) ∙ one in
+    let na : length (zip2 bit_and both (tests t th)) ≡ 16 = length-zip2 bit_and both (tests t th) (nb ∙ sym three) ∙ nb in
+    let here = every_lane (zip2 bit_and both (tests t th)) k na e lt in
+    let b : get_or both k 0 ≡ bit_and (get_or (tests f fh) k 0) (get_or (tests s sh) k 0) = get_or-zip2 bit_and (tests f fh) (tests s sh) k 0 0 0 (omega (arith, one, lt)) (omega (arith, two, lt)) in
+    let a : get_or (zip2 bit_and both (tests t th)) k 0 ≡ bit_and (get_or both k 0) (get_or (tests t th) k 0) = get_or-zip2 bit_and both (tests t th) k 0 0 0 (omega (arith, nb, lt)) (omega (arith, three, lt)) in
+    let is : get_or (zip2 bit_and both (tests t th)) k 0 ≡ bit_and (bit_and (cond (nat_le (get_or f k 0) (get_or fh k 0)) 255 0) (cond (nat_le (get_or s k 0) (get_or sh k 0)) 255 0)) (cond (nat_le (get_or t k 0) (get_or th k 0)) 255 0) =
+    a ∙ rw (b, test_at f fh k nf nfh lt, test_at s sh k ns nsh lt, test_at t th k nt nth lt) refl in
+    let all = three_true (nat_le (get_or f k 0) (get_or fh k 0)) (nat_le (get_or s k 0) (get_or sh k 0)) (nat_le (get_or t k 0) (get_or th k 0)) (sym (ap (top 7) is) ∙ here) in
+    (at_most _ _ all.0, at_most _ _ all.1, at_most _ _ all.2)
+
+abbrev plus : ℕ → ℕ → ℕ
+plus a b = (a + b) % 256
+
+pub text_lane : (xs : List ℕ) (k : ℕ) → length xs ≡ 16 → k < 16 → get_or (zip2 plus xs (replicate 16 48)) k 0 ≡ (get_or xs k 0 + 48) % 256
+text_lane xs k n lt =
+    let p : get_or (zip2 plus xs (replicate 16 48)) k 0 ≡ plus (get_or xs k 0) (get_or (replicate 16 48) k 0) = get_or-zip2 plus xs (replicate 16 48) k 0 0 0 (omega (arith, n, lt)) lt in
+    p ∙ ap (λ v. plus (get_or xs k 0) v) (get_or-replicate 16 k 48 0 lt)
+
+one_move : (j : ℕ) (rest : Bool) → (16 ≤ j → 128 ≤ j) → rest ≡ true → ((zeroes 16 w8 j || ltb j 16) && rest) ≡ true
+one_move j rest h e = elim (cases_lt j 16) [
+  | inl small ↦ grind (arith, nat_tests, small, e)
+  | inr large ↦ let zero = h large in grind (arith, nat_tests, zero, e)
+]
+
+pub moves_all : (js : List ℕ) → ((k : ℕ) → k < length js → 16 ≤ get_or js k 0 → 128 ≤ get_or js k 0) → are_moves js ≡ true
+moves_all [] h = refl
+moves_all (j ∷ js) h = one_move j (are_moves js) (h 0 (omega arith)) (moves_all js (λ k lt. h (suc k) (omega (arith, lt))))

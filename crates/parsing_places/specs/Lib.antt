@@ -1,0 +1,10 @@
+pub mod Digits
+pub mod End
+pub mod Lanes
+pub mod Numbers
+pub mod Says
+pub mod Shape
+pub mod Stamp
+pub mod Tail
+pub mod Text
+pub mod Whole

@@ -1,0 +1,41 @@
+-- What is written at the places of a text.
+use Rattle.std.specs.Prelude.{◌≡◌, ◌≤◌, ◌<◌, ◌+◌, ◌-◌, ℕ, List, drop, get_or, length, Some}
+use Rattle.parsing_combinator.specs.Pieces.{digits}
+use Rattle.parsing_combinator.specs.Places.{HasDigit}
+use Rattle.parsing_places.specs.Lanes.{above}
+use Rattle.parsing_places.specs.declared.shape.Shape.{Shape}
+use Rattle.parsing_places.specs.declared.shape.Window.{Window}
+
+-- a lane is the digit at a place of the text, at most so large
+pub record IsDigitAt (v : List ℕ) (lane : ℕ) (text : List ℕ) (place most : ℕ) : Type 0 where
+  pub room : place < length text
+  pub digit : HasDigit text place
+  pub value : get_or v lane 0 ≡ get_or text place 0 - 48
+  pub few : get_or v lane 0 ≤ most
+
+-- two digits at a place write a number
+abbrev pub WritesTwo : List ℕ → ℕ → ℕ → Type 0
+WritesTwo text place number = digits 2 (drop place text) ≡ Some (number, drop (place + 2) text)
+
+-- sixteen bytes from a place on lie within the bounds of a window
+abbrev pub LieIn : Window → List ℕ → ℕ → Type 0
+LieIn window text at = (k : ℕ) → k < 16 → above (get_or text (at + k) 0) (get_or window.low k 0) ≤ get_or window.high k 0
+
+-- a text has a shape
+pub record HasShape (shape : Shape) (text : List ℕ) : Type 0 where
+  pub room : shape.back_at + 16 ≤ length text
+  pub front : LieIn shape.front text 0
+  pub back : LieIn shape.back text shape.back_at
+
+-- the numbers that a text has at the places of a shape
+pub record HasNumbers (shape : Shape) (text : List ℕ) (month day hour minute second : ℕ) : Type 0 where
+  pub month_is : WritesTwo text shape.month month
+  pub day_is : WritesTwo text shape.day day
+  pub hour_is : WritesTwo text shape.hour hour
+  pub minute_is : WritesTwo text shape.minute minute
+  pub second_is : WritesTwo text shape.second second
+  pub month_few : month ≤ 59
+  pub day_few : day ≤ 99
+  pub hour_few : hour ≤ 99
+  pub minute_few : minute ≤ 59
+  pub second_few : second ≤ 59

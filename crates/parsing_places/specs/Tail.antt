@@ -1,0 +1,41 @@
+-- What the last sixteen bytes of a text have.
+use Rattle.std.specs.Prelude.{◌≡◌, ◌≤◌, ◌<◌, ◌+◌, ◌-◌, ℕ, get_or}
+use Rattle.parsing_places.specs.Shape.{Takes}
+use Rattle.parsing_places.specs.declared.ending.Ending.{Ending}
+use Rattle.parsing_places.specs.declared.ending.Ending.TheVariants.{Zulu, Colon}
+use Rattle.parsing_places.specs.declared.shape.Window.{Window}
+
+-- one byte alone can stand at a place
+pub record LetsByte (window : Window) (place byte : ℕ) : Type 0 where
+  pub inside : place < 16
+  pub low : get_or window.low place 0 ≡ byte
+  pub high : get_or window.high place 0 ≡ 0
+
+-- where an offset begins
+abbrev pub offset_at : Ending → ℕ
+offset_at Zulu = 15
+offset_at Colon = 10
+
+-- `+05:30` ends the window
+pub record TakesSigned (window : Window) : Type 0 where
+  pub alone : 128 ≤ get_or window.taken.lanes 12 0
+  pub sign_is : get_or window.taken.lanes 13 0 ≡ 10
+  pub sign_low : get_or window.low 10 0 ≡ 43
+  pub sign_high : get_or window.high 10 0 ≤ 2
+  pub hour_tens : Takes window 8 11 9
+  pub hour_ones : Takes window 9 12 9
+  pub colon : LetsByte window 13 58
+  pub minute_tens : Takes window 10 14 5
+  pub minute_ones : Takes window 11 15 9
+
+-- `Z` ends the window
+pub record TakesZulu (window : Window) : Type 0 where
+  pub zulu : LetsByte window 15 90
+  pub nothing : (k : ℕ) → 8 ≤ k → k < 14 → 128 ≤ get_or window.taken.lanes k 0
+
+-- the first lanes take so many digits, which end at a place, and the others nothing
+pub record TakesFraction (digits : Window) (end count : ℕ) : Type 0 where
+  pub few : count ≤ 9
+  pub room : count < end
+  pub each : (k : ℕ) → k < count → Takes digits k (end - count + k) 9
+  pub nothing : (k : ℕ) → count ≤ k → k < 16 → 128 ≤ get_or digits.taken.lanes k 0

@@ -1,0 +1,29 @@
+//! What follows the front of a text: maybe a fraction of a second, then an offset.
+ghost use Rattle.std.specs.Prelude.{◌≡◌, ◌≤◌, ◌<◌, ◌-◌, ℕ, get_or};
+ghost use Rattle.parsing_places.specs.Shape.{with_moves};
+ghost use Rattle.parsing_places.specs.Tail.{LetsByte, TakesSigned, TakesZulu, TakesFraction, offset_at};
+ghost use Rattle.parsing_places.specs.declared.ending.Ending.TheVariants.{Zulu, Colon};
+
+use crate::ending::Ending;
+use crate::lanes::Moves;
+use crate::shape::Window;
+
+/// The last sixteen bytes of a text.
+#[derive(Clone, Copy)]
+pub(crate) struct Tail {
+    /// Their bounds; its lanes take the numbers of the offset, and its sign.
+    pub(crate) window: Window,
+    /// Its lanes take the digits of the fraction.
+    pub(crate) digits: Moves,
+    /// How many bytes the fraction has, its point among them.
+    pub(crate) fraction: usize,
+    pub(crate) ending: Ending,
+    ghost first_free: { (k : ℕ) → k < 8 → 128 ≤ get_or window.taken.lanes k 0 },
+    ghost second_free: { 128 ≤ get_or window.taken.lanes 14 0 },
+    ghost last_free: { 128 ≤ get_or window.taken.lanes 15 0 },
+    ghost zulu: { ending ≡ Zulu → TakesZulu window },
+    ghost signed: { ending ≡ Colon → TakesSigned window },
+    ghost some: { 0 < fraction → 2 ≤ fraction },
+    ghost point: { 0 < fraction → LetsByte window (offset_at ending - fraction) 46 },
+    ghost fraction_is: { TakesFraction (with_moves window digits) (offset_at ending) (fraction - 1) },
+}

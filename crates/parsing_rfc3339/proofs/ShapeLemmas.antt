@@ -1,0 +1,129 @@
+-- A text that has the shape is read by the direct reading.
+use Rattle.std.proofs.Common.{◌≡◌, ◌≤◌, ◌<◌, ◌+◌, ◌-◌, ◌*◌, ◌∙◌, ℕ, true, false, List, [], length, get_or, drop, Some, Ok, inl, inr, refl, arith, lit<}
+use Rattle.std.specs.Prelude.{◌==◌, ◌||◌, nat_lt, ℤ}
+use Rattle.std.proofs.lemmas.Bool.{cases_lt}
+use Rattle.std.proofs.lemmas.Bool.Decides.{nat_tests}
+use Rattle.std.proofs.lemmas.List.{drop_more, drop-drop, drop_all}
+use Rattle.base.specs.Bytes.{hyphen, plus, colon, upper_z, lower_z}
+use Rattle.parsing_combinator.specs.Pieces.{digits, byte, any_byte, skip_of}
+use Rattle.parsing_combinator.proofs.AtPlaces.{byte_there}
+use Rattle.parsing_fields.specs.declared.fields.Fields.{Fields}
+use Rattle.parsing_fields.specs.Moment as Moment
+use Rattle.parsing_fields.specs.Written.{WriteFraction}
+use Rattle.parsing_places.specs.End.{SaysOffset, SaysSigned, HasFraction}
+use Rattle.parsing_places.specs.Numbers.{LieIn}
+use Rattle.parsing_places.specs.Says.{Says}
+use Rattle.parsing_places.specs.declared.shape.Shape.{Shape}
+use Rattle.parsing_places.proofs.YearLemmas.{byte_in}
+use Rattle.parsing_rfc3339.specs.Direct.{direct}
+use Rattle.parsing_rfc3339.specs.Reading.{date, clock, offset}
+use Rattle.parsing_rfc3339.specs.Shape.{IsShape}
+use Rattle.parsing_rfc3339.proofs.EndLemmas.{FollowsFraction, ReadsNanosecond, IsAllOffset, zulu_zone, zulu_there, zulu_follows, signed_there, sign_follows, no_fraction, fraction_there}
+use Rattle.parsing_rfc3339.proofs.FastLemmas.{AreHoursAndMinutes, fields_read}
+
+-- ---- the pieces
+
+-- any byte separates date and time
+any_there : (text : List ℕ) (place : ℕ) → place < length text → any_byte (drop place text) ≡ Some (tt, drop (place + 1) text)
+unfolding skip_of
+any_there text place lt = rw (drop_more text place 0 lt) refl
+
+some_month : (n : ℕ) → 1 ≤ n → nat_lt 0 n ≡ true
+some_month n some = grind (arith, nat_tests)
+
+date_said : (text : List ℕ) (year month day : ℕ) → 10 ≤ length text → get_or text 4 0 ≡ hyphen → get_or text 7 0 ≡ hyphen → digits 4 (drop 0 text) ≡ Some (year, drop 4 text) → digits 2 (drop 5 text) ≡ Some (month, drop 7 text) → digits 2 (drop 8 text) ≡ Some (day, drop 10 text) → 1 ≤ month → date false text ≡ Ok ((year, month, day), drop 10 text)
+unfolding date
+date_said text year month day room one two years months days some =
+    let first : byte hyphen (drop 4 text) ≡ Some (tt, drop 5 text) = byte_there text 4 hyphen (omega (arith, room)) one in
+    let second : byte hyphen (drop 7 text) ≡ Some (tt, drop 8 text) = byte_there text 7 hyphen (omega (arith, room)) two in
+    rw (years, first, months, some_month month some, second, days) refl
+
+clock_said : (text : List ℕ) (hour minute second : ℕ) → 19 ≤ length text → get_or text 13 0 ≡ colon → get_or text 16 0 ≡ colon → digits 2 (drop 11 text) ≡ Some (hour, drop 13 text) → digits 2 (drop 14 text) ≡ Some (minute, drop 16 text) → digits 2 (drop 17 text) ≡ Some (second, drop 19 text) → clock false (drop 11 text) ≡ Ok ((hour, minute, second), drop 19 text)
+unfolding clock
+clock_said text hour minute second room one two hours minutes seconds =
+    let first : byte colon (drop 13 text) ≡ Some (tt, drop 14 text) = byte_there text 13 colon (omega (arith, room)) one in
+    let next : byte colon (drop 16 text) ≡ Some (tt, drop 17 text) = byte_there text 16 colon (omega (arith, room)) two in
+    rw (hours, first, minutes, next, seconds) refl
+
+-- ---- the offset
+
+zulu_byte : (b : ℕ) → b ≡ 90 → ((b == upper_z) || (b == lower_z)) ≡ true
+zulu_byte b e = rw e refl
+
+plus_byte : (b : ℕ) → b ≡ 43 → ((b == plus) || (b == hyphen)) ≡ true
+plus_byte b e = rw e refl
+
+minus_byte : (b : ℕ) → b ≡ 45 → ((b == plus) || (b == hyphen)) ≡ true
+minus_byte b e = rw e refl
+
+sign_byte : (text : List ℕ) (place : ℕ) (o : ℤ) → (s : SaysSigned text place o) → ((get_or text place 0 == plus) || (get_or text place 0 == hyphen)) ≡ true
+sign_byte text place o s = elim s.sign_is [ inl e ↦ plus_byte _ e | inr e ↦ minus_byte _ e ]
+
+hours_there : (text : List ℕ) (place : ℕ) (o : ℤ) → (s : SaysSigned text place o) → AreHoursAndMinutes (drop (place + 1) text) s.hour s.minute
+hours_there text place o s =
+    let two : place + 1 + 2 ≡ place + 3 = omega arith in
+    let three : place + 1 + 3 ≡ place + 4 = omega arith in
+    let four : place + 3 + 1 ≡ place + 4 = omega arith in
+    let d2 : drop 2 (drop (place + 1) text) ≡ drop (place + 3) text = rw two at (drop-drop 2 (place + 1) text) in
+    let d3 : drop 3 (drop (place + 1) text) ≡ drop (place + 4) text = rw three at (drop-drop 3 (place + 1) text) in
+    let all : drop (place + 4 + 2) text ≡ [] = drop_all (place + 4 + 2) text (omega (arith, s.whole)) in
+    let hour_end : place + 1 + 2 ≡ place + 3 = omega arith in
+    let colon_read = byte_there text (place + 3) colon (omega (arith, s.whole)) s.colon in
+    record {
+      hour_digits = rw d2 (rw hour_end at s.hour_is);
+      colon_there = rw (d2, d3) (rw four at colon_read);
+      minute_digits = rw d3 (rw all at s.minute_is);
+    }
+
+pub all_offset : (text : List ℕ) (place : ℕ) (o : ℤ) → SaysOffset text place o → IsAllOffset (offset false (drop place text)) o
+all_offset text place o (inl z) = (zulu_zone, zulu_there text place (omega (arith, z.whole)) (omega (arith, z.whole)) (zulu_byte _ z.zulu), z.value)
+all_offset text place o (inr s) = (record { is_named = false; is_negative = get_or text place 0 == hyphen; hours = s.hour; minutes = s.minute }, signed_there text place s.hour s.minute (omega (arith, s.whole)) (sign_byte text place o s) (hours_there text place o s) s.hour_few, s.value)
+
+pub offset_follows : (text : List ℕ) (place : ℕ) (o : ℤ) → SaysOffset text place o → FollowsFraction (drop place text)
+offset_follows text place o (inl z) = zulu_follows text place (omega (arith, z.whole)) (zulu_byte _ z.zulu)
+offset_follows text place o (inr s) = sign_follows text place (omega (arith, s.whole)) (sign_byte text place o s)
+
+-- ---- the fraction
+
+nothing_written : (bytes : List ℕ) (count n : ℕ) → count ≡ 0 → WriteFraction bytes count n → n ≡ 0
+nothing_written bytes count n e w = w.value ∙ rw e refl
+
+pub fraction_said : (text : List ℕ) (place end count n : ℕ) → HasFraction text place end count n → FollowsFraction (drop end text) → ReadsNanosecond (drop place text) n (drop end text)
+fraction_said text place end count n h follows = elim (cases_lt 0 count) [
+  | inl some ↦
+      let behind : end - count ≡ place + 1 = omega (arith, h.some some) in
+      let back : count ≡ end - (place + 1) = omega (arith, h.some some) in
+      let w : WriteFraction (drop (place + 1) text) count n = rw behind at h.writes in
+      let w' : WriteFraction (drop (place + 1) text) (end - (place + 1)) n = rw back at w in
+      fraction_there text place end (Some n) (omega (arith, h.some some, h.room)) (omega (arith, h.some some, some)) (h.point some) follows w'
+  | inr none ↦
+      let zero : count ≡ 0 = omega (arith, none) in
+      let same : place ≡ end = h.none zero in
+      rw (nothing_written _ count n zero h.writes, same) (no_fraction (drop end text) follows)
+]
+
+-- ---- the whole
+
+pub read_directly : (shape : Shape) (text : List ℕ) (f : Fields) → ((k : ℕ) → get_or text k 0 < 256) → IsShape shape → Says shape text f → direct text ≡ Ok (Moment.moment_of f)
+read_directly shape text f small x h =
+    let says = h.names in
+    let n = says.numbers in
+    let lies = says.has_shape in
+    let room : 19 ≤ length text = omega (arith, lies.room, x.back_is) in
+    let back : LieIn shape.back text 3 = rw x.back_is at lies.back in
+    let year = rw x.year_is at h.year_is in
+    let month = rw x.month_is at n.month_is in
+    let day = rw x.day_is at n.day_is in
+    let hour = rw x.hour_is at n.hour_is in
+    let minute = rw x.minute_is at n.minute_is in
+    let second = rw x.second_is at n.second_is in
+    let some : 1 ≤ h.month = omega (arith, f.day_is_there.1, h.numbers.same_month) in
+    let offset_there = says.offset_is in
+    let follows = offset_follows text says.end h.offset offset_there in
+    let fraction = fraction_said text 19 says.end says.count h.fraction (rw x.long at says.fraction_is) follows in
+    let minutes : h.minute ≡ says.hour * 60 + says.minute = omega (arith, says.minutes_are) in
+    fields_read f text (drop 10 text) (drop 11 text) (drop 19 text) (drop says.end text) (h.year, h.month, h.day) (says.hour, says.minute, h.second) h.fraction h.offset
+    (date_said text h.year h.month h.day (omega (arith, room)) (byte_in shape.front text 0 4 45 small lies.front x.first_hyphen (lit< tt)) (byte_in shape.front text 0 7 45 small lies.front x.second_hyphen (lit< tt)) year month day some)
+    (any_there text 10 (omega (arith, room)))
+    (clock_said text says.hour says.minute h.second room (byte_in shape.front text 0 13 58 small lies.front x.first_colon (lit< tt)) (byte_in shape.back text 3 13 58 small back x.second_colon (lit< tt)) hour minute second)
+    fraction (all_offset text says.end h.offset offset_there) (rw minutes at h.numbers) (omega (arith, says.hour_few)) n.minute_few says.fraction_few
