@@ -21,7 +21,8 @@
 //!   over memory.
 //! - `read_words` reads the words of the program `instants`, and `run_words` is all that it does between its words
 //!   and its end. `ProgramFault` has the sentence and the status.
-//! - `shown_at`, `answer_moment` and `answer_by` show a moment, and answer a line by one source, as a timeline does.
+//! - `shown_at`, `answer_moment`, `answer_named` and `answer_by` show a moment, a moment that a text names, and answer a line by one
+//!   source, as a timeline does.
 //! - `rfc3339_line` writes a moment as a line. It asks for a year from 0 to 9999 and an offset of whole minutes
 //!   within 23:59, as `fits_line` tests.
 //! - `laws` has what follows from the contracts, as that lines compare as their instants do. A call of a law hands it to a
@@ -32,12 +33,13 @@ pub use instants_answers::{
     Answer, fits_line, fits_utc_line, rfc3339_line, utc_line_by_timestamp, utc_line_by_utc,
 };
 pub use instants_laws as laws;
-pub use instants_sources::{DescribedItems, DescribedTree, Source};
+pub use instants_sources::{DescribedItems, DescribedTree, Named, Source};
 pub use instants_stream::{
     BlockWriter, ByteReader, ByteWriter, CutReader, CutWriter, DeviceFailed, RunFault, StdReader,
     StdWriter,
 };
 pub use instants_timeline::{
-    LineFault, NewFault, ProgramFault, Timeline, answer_by, answer_moment, run, run_words, shown_at,
+    LineFault, NewFault, ProgramFault, Timeline, answer_by, answer_moment, answer_named, run,
+    run_words, shown_at,
 };
 pub use instants_words::{SourceText, Sources, Words, WordsFault, read_words};

@@ -9,7 +9,8 @@ use Rattle.std.proofs.lemmas.Map.Lookups.{exact_bytes}
 use Rattle.std.proofs.lemmas.Bool.{cases_order}
 use Rattle.std.proofs.Math.Nat.{mul-le-mul_right}
 use Rattle.base.specs.Bytes.{digit_zero}
-use Rattle.instants_answers.specs.Decimal.{decimal}
+use Rattle.parsing_fields.specs.Decimal.{decimal}
+use Rattle.parsing_fields.proofs.lemmas.Decimals.{decimal_length}
 
 then_assoc : (o p q : Ordering) → ordering_then o (ordering_then p q) ≡ ordering_then (ordering_then o p) q
 then_assoc Less p q = refl
@@ -59,11 +60,6 @@ cmp_parts b m n h =
     let first : m / b * b + m % b ≡ m = omega arith in
     let second : n / b * b + n % b ≡ n = omega arith in
     cmp_mixed b (m / b) (n / b) (m % b) (n % b) (omega arith) (omega arith) ∙ rw (first, second) refl
-
-pub decimal_length : (width n : ℕ) → length (decimal width n) ≡ width
-unfolding decimal
-decimal_length zero n = refl
-decimal_length (suc width) n = omega (arith, length-append (decimal width (n / 10)) ((digit_zero + n % 10) ∷ []), decimal_length width (n / 10))
 
 last_digit : (o : Ordering) (m n : ℕ) → o ≡ nat_cmp (m / 10) (n / 10) → ordering_then o (ordering_then (nat_cmp (digit_zero + m % 10) (digit_zero + n % 10)) Equal) ≡ nat_cmp m n
 last_digit o m n e = rw e (grind (arith, nat_tests))

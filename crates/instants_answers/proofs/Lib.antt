@@ -1,10 +1,8 @@
-pub mod DecimalLemmas
 pub mod PairLemmas
 pub mod MinuteLemmas
 pub mod TargetLemmas
 pub mod AppendLemmas
 pub mod MovedLemmas
-pub mod DigitLemmas
 pub mod Compares
 pub mod Lines
 pub mod Placed

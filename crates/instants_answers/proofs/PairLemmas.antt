@@ -1,7 +1,7 @@
 -- The tables of the two digits of each number below 100, and of the months.
 use Rattle.std.proofs.Common.{◌≡◌, ℕ, ◌+◌, ◌*◌, ◌/◌, ◌%◌, ◌<◌, ◌≤◌, eqb, Bool, true, ◌&&◌, List, [], ◌∷◌, ◌++◌, get_or, codes, refl, arith}
 use Rattle.std.proofs.lemmas.Bool.{agree_below_at, eqb-true, and_parts}
-use Rattle.instants_answers.specs.Decimal.{decimal}
+use Rattle.parsing_fields.specs.Decimal.{decimal}
 
 -- the table's bytes
 abbrev pub pairs : List ℕ

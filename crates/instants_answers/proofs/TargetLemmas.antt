@@ -1,9 +1,10 @@
 -- The text of an offset, with zeros behind it.
-use Rattle.std.proofs.Common.{◌≡◌, ℕ, ◌+◌, ◌/◌, ◌%◌, ◌≤◌, List, [], ◌∷◌, ◌++◌, length, Bool, true, false, codes, length-append, refl, ◌∙◌, arith, ℤ, pos}
+use Rattle.std.proofs.Common.{◌≡◌, ℕ, ◌+◌, ◌/◌, ◌%◌, ◌-◌, ◌≤◌, List, [], ◌∷◌, ◌++◌, length, take, drop, replicate, lit≤, Bool, true, false, codes, length-append, refl, ◌∙◌, arith, ℤ, pos}
 use Rattle.std.specs.Prelude.{int_lt, unsigned_abs, if◌then◌else◌}
 use Rattle.std.specs.Ordering.{int_eq}
-use Rattle.instants_answers.proofs.DecimalLemmas.{decimal_length}
-use Rattle.instants_answers.specs.Decimal.{decimal}
+use Rattle.std.proofs.lemmas.List.{take_at, drop_at, length-replicate}
+use Rattle.parsing_fields.proofs.lemmas.Decimals.{decimal_length}
+use Rattle.parsing_fields.specs.Decimal.{decimal}
 use Rattle.instants_answers.specs.Text.{offset_text}
 use Rattle.instants_answers.specs.Padded.{padded_offset, offset_len}
 
@@ -36,12 +37,32 @@ unfolding offset_text decimal
 signed_len z s is = rw (is.not_zero, ← is.sign) refl
 
 by_signs : (zero less : Bool) (hours minutes : List ℕ) → length hours ≡ 2 → length minutes ≡ 2
-    → 29 + length (if zero then codes "Z" else (if less then codes "-" else codes "+") ++ hours ++ codes ":" ++ minutes) ≡ (if zero then 30 else 35)
+    → length (if zero then codes "Z" else (if less then codes "-" else codes "+") ++ hours ++ codes ":" ++ minutes) ≡ (if zero then 1 else 6)
 by_signs true less hours minutes h m = refl
 by_signs false true hours minutes h m = let long : length (hours ++ codes ":" ++ minutes) ≡ 5 = length-append (hours ++ codes ":") minutes ∙ omega (arith, length-append hours (codes ":"), h, m) in omega (arith, long)
 by_signs false false hours minutes h m = let long : length (hours ++ codes ":" ++ minutes) ≡ 5 = length-append (hours ++ codes ":") minutes ∙ omega (arith, length-append hours (codes ":"), h, m) in omega (arith, long)
 
--- the length of a line whose offset this is
-pub line_len : (z : ℤ) → 29 + offset_len z ≡ (if int_eq z (pos 0) then 30 else 35)
+pub text_len : (z : ℤ) → offset_len z ≡ (if int_eq z (pos 0) then 1 else 6)
 unfolding offset_text
-line_len z = by_signs (int_eq z (pos 0)) (int_lt z (pos 0)) (decimal 2 (unsigned_abs z / 3600)) (decimal 2 (unsigned_abs z / 60 % 60)) (decimal_length 2 _) (decimal_length 2 _)
+text_len z = by_signs (int_eq z (pos 0)) (int_lt z (pos 0)) (decimal 2 (unsigned_abs z / 3600)) (decimal 2 (unsigned_abs z / 60 % 60)) (decimal_length 2 _) (decimal_length 2 _)
+
+few : (zero : Bool) → (if zero then 1 else 6) ≤ 8
+few true = lit≤ tt
+few false = lit≤ tt
+
+pub text_few : (z : ℤ) → offset_len z ≤ 8
+text_few z = omega (arith, text_len z, few (int_eq z (pos 0)))
+
+pub padded_len : (z : ℤ) → length (padded_offset z) ≡ 8
+padded_len z = length-append (offset_text z) (replicate (8 - offset_len z) 0) ∙ omega (arith, length-replicate {A = ℕ} (8 - offset_len z) 0, text_few z)
+
+pub text_front : (z : ℤ) → take (offset_len z) (padded_offset z) ≡ offset_text z
+text_front z = take_at (offset_text z) (replicate (8 - offset_len z) 0) (offset_len z) refl
+
+pub text_zeros : (z : ℤ) → drop (offset_len z) (padded_offset z) ≡ replicate (8 - offset_len z) 0
+text_zeros z = drop_at (offset_text z) (replicate (8 - offset_len z) 0) (offset_len z) refl
+
+-- the length of a line whose offset is or isn't zero
+pub line_len : (zero : Bool) → 29 + (if zero then 1 else 6) ≡ (if zero then 30 else 35)
+line_len true = refl
+line_len false = refl

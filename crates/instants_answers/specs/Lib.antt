@@ -1,4 +1,3 @@
-pub mod Decimal
 pub mod Text
 pub mod Minute
 pub mod Padded

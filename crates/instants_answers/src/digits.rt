@@ -2,7 +2,7 @@
 
 ghost use Rattle.std.specs.Prelude.{◌≡◌, ◌+◌, ◌/◌, ◌%◌, ◌<◌, ◌≤◌, ◌++◌, codes, length};
 ghost use Rattle.base.specs.Bytes.{digit_zero};
-ghost use Rattle.instants_answers.specs.Decimal.{decimal};
+ghost use Rattle.parsing_fields.specs.Decimal.{decimal};
 
 use crate::answer::Answer;
 
@@ -25,7 +25,7 @@ pub(crate) fn pair(number: u32) -> (u8, u8)
 }
 
 #[inline(always)]
-#[tactic(auto, unfolding(crate::specs::Decimal::decimal))]
+#[tactic(auto, unfolding(parsing_fields::specs::Decimal::decimal))]
 pub(crate) fn push_two(answer: &mut Answer, number: u32)
     requires room { length answer.old + 2 ≤ 64 }
     requires small { number < 100 }
@@ -47,32 +47,4 @@ pub(crate) fn push_month(answer: &mut Answer, month: u32)
     let at = month as usize * 4;
     let text = [MONTHS[at], MONTHS[at + 1], MONTHS[at + 2], MONTHS[at + 3]];
     answer.push_bytes(&text);
-}
-
-#[inline(always)]
-#[tactic(auto, using(crate::proofs::DecimalLemmas::four_digits))]
-pub(crate) fn push_four(answer: &mut Answer, number: u32)
-    requires room { length answer.old + 4 ≤ 64 }
-    requires small { number < 10_000 }
-    ensures digits { answer.new ≡ answer.old ++ decimal 4 number }
-    ensures len { length answer.new ≡ length answer.old + 4 }
-{
-    // (a quotient by 100, with no division)
-    let hundreds = (number * 5243) >> 19;
-    push_two(answer, hundreds);
-    push_two(answer, number - hundreds * 100);
-}
-
-#[inline(always)]
-#[tactic(auto, using(crate::proofs::DecimalLemmas::nine_digits))]
-pub(crate) fn push_nine(answer: &mut Answer, number: u32)
-    requires room { length answer.old + 9 ≤ 64 }
-    requires small { number < 1_000_000_000 }
-    ensures digits { answer.new ≡ answer.old ++ decimal 9 number }
-    ensures len { length answer.new ≡ length answer.old + 9 }
-{
-    let front = number / 10_000;
-    answer.push(b'0' + (front / 10_000) as u8);
-    push_four(answer, front % 10_000);
-    push_four(answer, number % 10_000);
 }

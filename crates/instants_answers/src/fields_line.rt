@@ -1,6 +1,6 @@
 //! The line of the fields of a date-time, shown at another offset.
 
-ghost use Rattle.std.specs.Prelude.{◌≡◌, ◌+◌, ◌*◌, ◌<◌, ◌≤◌, ◌++◌, [], true, false, pos, ◌+ℤ◌, ◌-ℤ◌, int_div, length, unsigned_abs, Some, if◌then◌else◌};
+ghost use Rattle.std.specs.Prelude.{◌≡◌, ◌+◌, ◌*◌, ◌<◌, ◌≤◌, true, false, pos, ◌+ℤ◌, ◌-ℤ◌, int_div, length, Some, if◌then◌else◌};
 ghost use Rattle.std.specs.Ordering.{int_eq};
 ghost use Rattle.calendar.specs.UtcOffset.{IsClockOffset};
 ghost use Rattle.calendar_count.specs.Calendar.{ymd};
@@ -28,20 +28,9 @@ fn write_parts(fields: &Fields, day: u64, minute: u64, target: Target, answer: &
     ensures clock { IsClockOffset target }
 {
     answer.clear();
-    push_date(
-        answer,
-        u32::from(fields.year),
-        u32::from(fields.month),
-        day as u32,
-    );
-    push_clock(
-        answer,
-        minute as usize,
-        fields.second as u32,
-        fields.fraction,
-    );
-    let (text, len) = target.padded_text();
-    answer.push_front(&text, len);
+    push_date(answer, fields.year, u32::from(fields.month), day as u32);
+    push_clock(answer, minute as usize, fields.second, fields.fraction);
+    target.push_text(answer);
 }
 
 // The minutes from four days before the fields' day to their time at the target.
@@ -51,7 +40,7 @@ fn minutes_since(fields: &Fields, target: Target) -> u32
         pos 5760 +ℤ (pos fields.now.minute +ℤ (int_div target (pos 60) -ℤ fields.now.offset)) }
     ensures bound { result ≤ 12_000 }
 {
-    let ahead = target.minutes_ahead() - i32::from(fields.offset);
+    let ahead = target.minutes_ahead() - fields.offset;
     (ahead + i32::from(fields.minute)) as u32
 }
 

@@ -8,10 +8,12 @@ ghost use Rattle.calendar.specs.UtcOffset.{IsClockOffset};
 ghost use Rattle.instants_answers.specs.Text.{FitsLine, has_written_year, moment_text};
 
 use crate::answer::Answer;
-use crate::fields::{push_date, push_offset, push_time};
+use crate::fields::{push_clock, push_date};
+use crate::target::Target;
 use calendar::UtcOffset;
 use calendar_count::closed;
 use datetime_types::OffsetDateTime;
+use parsing_fields::{Fraction, Year};
 
 const GREATEST_OFFSET: u32 = 86_340;
 
@@ -45,16 +47,16 @@ pub fn fits_line(date_time: OffsetDateTime) -> bool
 // The year, the month and the day that are shown.
 #[inline(always)]
 #[tactic(auto, unfolding(crate::specs::Text::has_written_year))]
-fn shown_date(date_time: OffsetDateTime) -> (u32, u32, u32)
+fn shown_date(date_time: OffsetDateTime) -> (u16, u32, u32)
     requires { IsTrue (has_written_year date_time) }
     ensures value { day_at (day_of date_time.wall)
         ≡ record { year = pos result.0; month = result.1; day = result.2 } }
-    ensures year { result.0 < 10_000 }
+    ensures year { result.0 ≤ 9999 }
     ensures month { result.1 ≤ 12 }
     ensures day { result.2 < 100 }
 {
     let (year, month, day) = date_time.date().to_calendar_date();
-    (year as u32, u32::from(month.number()), u32::from(day))
+    (year as u16, u32::from(month.number()), u32::from(day))
 }
 
 /// Writes the line of a moment in place of what the answer held.
@@ -66,12 +68,12 @@ pub fn write_line(date_time: OffsetDateTime, answer: &mut Answer)
     ensures len { length answer.new ≡ (if int_eq date_time.offset (pos 0) then 30 else 35) }
 {
     let (year, month, day) = shown_date(date_time);
-    let time = date_time.time();
+    let (hour, minute, second, nanosecond) = date_time.time().as_hms_nano();
+    let minute = usize::from(hour) * 60 + usize::from(minute);
     answer.clear();
-    push_date(answer, year, month, day);
-    answer.push(b'T');
-    push_time(answer, time.second_of_day(), time.nanosecond());
-    push_offset(answer, date_time.offset().whole_seconds());
+    push_date(answer, Year::new(year), month, day);
+    push_clock(answer, minute, u32::from(second), Fraction::new(nanosecond));
+    Target::new(date_time.offset()).push_text(answer);
 }
 
 /// The moment as RFC 3339, section 5.6, writes it, with nine digits of the second's fraction: 30

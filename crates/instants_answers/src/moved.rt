@@ -30,7 +30,7 @@ pub(crate) fn moved_within_month(fields: &Fields, since: u32) -> Option<(u64, u6
     if !has_day(fields.year, fields.month, day) {
         return None;
     }
-    let year = i32::from(fields.year);
+    let year = i32::from(fields.year.number());
     let _ = (
         march::count_of_day(year, fields.month, fields.day),
         march::count_of_day(year, fields.month, day),

@@ -1,8 +1,11 @@
 //! The offset at which lines are shown.
-ghost use Rattle.std.specs.Prelude.{◌≡◌, ◌≤◌, [], ◌∷◌, pos, ◌+ℤ◌, int_div, int_lt, unsigned_abs, codes, if◌then◌else◌};
+ghost use Rattle.std.specs.Prelude.{◌≡◌, ◌+◌, ◌≤◌, [], ◌∷◌, ◌++◌, length, pos, ◌+ℤ◌, int_div, int_lt, unsigned_abs, codes, if◌then◌else◌};
 ghost use Rattle.calendar.specs.UtcOffset.{IsClockOffset};
+ghost use Rattle.std.specs.Ordering.{int_eq};
 ghost use Rattle.instants_answers.specs.Padded.{padded_offset, offset_len};
+ghost use Rattle.instants_answers.specs.Text as text;
 
+use crate::answer::Answer;
 use crate::digits::pair;
 use calendar::UtcOffset;
 use std::marker::Model;
@@ -118,14 +121,15 @@ impl Target {
         self.minutes_ahead
     }
 
-    /// Its text, with zeros behind it, and how many bytes it has.
+    /// Adds its text to an answer.
     #[inline(always)]
-    pub(crate) fn padded_text(self) -> ([u8; 8], usize)
-        ensures text { result.0 ≡ padded_offset self }
-        ensures len { result.1 ≡ offset_len self }
-        ensures clock { IsClockOffset self }
+    pub(crate) fn push_text(&self, answer: &mut Answer)
+        requires room { length answer.old + 8 ≤ 64 }
+        ensures text { answer.new ≡ answer.old ++ text.offset_text self.now }
+        ensures len { length answer.new
+            ≡ length answer.old + (if int_eq self.now (pos 0) then 1 else 6) }
+        ensures clock { IsClockOffset self.now }
     {
-        let text = self.text;
-        (text, self.line_len - FRONT)
+        answer.push_front(&self.text, self.line_len - FRONT);
     }
 }

@@ -7,10 +7,13 @@ ghost use Rattle.instants_answers.specs.Text.{has_written_year, moment_text};
 ghost use Rattle.instants_answers.specs.Utc.{FitsUtcLine, in_utc};
 
 use crate::answer::Answer;
-use crate::fields::{push_date, push_offset, push_time};
+use crate::fields::{push_clock, push_date};
+use crate::target::Target;
+use calendar::UtcOffset;
 use calendar_count::closed;
 use datetime_calls::Moment;
 use datetime_types::OffsetDateTime;
+use parsing_fields::{Fraction, Year};
 
 /// Whether there is a line of the moment in UTC: the calendar has its day there, in a year of 0 to 9999.
 #[tactic(auto, unfolding(crate::specs::Text::has_written_year))]
@@ -43,16 +46,16 @@ pub fn utc_line_by_utc(date_time: OffsetDateTime) -> Answer
 
 // The year, the month and the day in UTC.
 #[tactic(auto, unfolding(crate::specs::Text::has_written_year))]
-fn utc_date<M: Moment>(moment: M) -> (u32, u32, u32)
+fn utc_date<M: Moment>(moment: M) -> (u16, u32, u32)
     requires { IsTrue (has_written_year (in_utc (M.instant moment))) }
     ensures value { day_at (day_of (M.instant moment))
         ≡ record { year = pos result.0; month = result.1; day = result.2 } }
-    ensures year { result.0 < 10_000 }
+    ensures year { result.0 ≤ 9999 }
     ensures month { result.1 ≤ 12 }
     ensures day { result.2 < 100 }
 {
     let (year, month, day) = moment.to_calendar_date();
-    (year as u32, u32::from(month.number()), u32::from(day))
+    (year as u16, u32::from(month.number()), u32::from(day))
 }
 
 // The line in UTC, by what the moment's own calendar shows.
@@ -64,11 +67,15 @@ fn utc_line<M: Moment>(moment: M) -> Answer
 {
     let (year, month, day) = utc_date(moment);
     let (hour, minute, second, nanosecond) = moment.as_hms_nano();
-    let minutes = u32::from(hour) * 60 + u32::from(minute);
+    let minute = usize::from(hour) * 60 + usize::from(minute);
     let mut line = Answer::new();
-    push_date(&mut line, year, month, day);
-    line.push(b'T');
-    push_time(&mut line, minutes * 60 + u32::from(second), nanosecond);
-    push_offset(&mut line, 0);
+    push_date(&mut line, Year::new(year), month, day);
+    push_clock(
+        &mut line,
+        minute,
+        u32::from(second),
+        Fraction::new(nanosecond),
+    );
+    Target::new(UtcOffset::UTC).push_text(&mut line);
     line
 }

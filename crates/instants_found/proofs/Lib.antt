@@ -10,3 +10,4 @@ pub mod NoDates
 pub mod Next
 pub mod SourceKeys
 pub mod KeyLemmas
+mod FastFront

@@ -1,9 +1,9 @@
 //! A date that was found.
 
-use datetime_types::OffsetDateTime;
+use instants_sources::Named;
 
 /// A date inside a line.
-#[derive(Clone, Copy, Debug)]
+#[derive(Drop)]
 pub struct Found {
     /// The place of its first byte.
     pub start: usize,
@@ -12,5 +12,5 @@ pub struct Found {
     /// The number of the source that reads it, from 0.
     pub source: usize,
     /// The moment that it names.
-    pub moment: OffsetDateTime,
+    pub moment: Named,
 }

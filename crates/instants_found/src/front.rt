@@ -11,10 +11,10 @@ ghost use Rattle.instants_found.specs.Front.{front_named, front_of};
 ghost use Rattle.instants_found.specs.Starts.{HasNoFront};
 
 use crate::edge::byte_at;
+use crate::fast_front::fast_front;
 use calendar::UtcOffset;
-use datetime_types::OffsetDateTime;
 use description_items::{Iso8601, Rfc2822, Rfc3339};
-use instants_sources::{DescribedItems, DescribedTree, Source, starting};
+use instants_sources::{DescribedItems, DescribedTree, Named, Source, starting};
 use parsing_parsable::{Items, Parsable};
 
 // The moment of the record that a front of the bytes sets, and what stands behind it. The record lies here from the start,
@@ -24,7 +24,7 @@ fn read_by<'b, F: Parsable>(
     format: &F,
     bytes: &'b [u8],
     assumed: Option<UtcOffset>,
-) -> Option<(OffsetDateTime, &'b [u8])>
+) -> Option<(Named, &'b [u8])>
     ensures front { option_map (λ x. (x.0, x.1.now)) result
         ≡ front_of (meaning (F.reading format.now) (Tried.beginning assumed) bytes.now) }
     ensures end { IfSome result (λ x. EndsWith bytes.now x.1.now) }
@@ -32,7 +32,7 @@ fn read_by<'b, F: Parsable>(
     let mut parsed = starting(assumed);
     match format.parse_into(bytes, &mut parsed) {
         Ok(rest) => match parsed.offset_date_time() {
-            Ok(moment) => Some((moment, rest)),
+            Ok(moment) => Some((Named::of_moment(moment), rest)),
             Err(_) => None,
         },
         Err(_) => None,
@@ -45,7 +45,7 @@ fn read_items<'b>(
     described: &DescribedItems<'_>,
     bytes: &'b [u8],
     assumed: &Option<UtcOffset>,
-) -> Option<(OffsetDateTime, &'b [u8])>
+) -> Option<(Named, &'b [u8])>
     ensures front { option_map (λ x. (x.0, x.1.now)) result
         ≡ front_named assumed.now (grammar.Items (trees described.now.items.items)) bytes.now }
     ensures end { IfSome result (λ x. EndsWith bytes.now x.1.now) }
@@ -54,7 +54,7 @@ fn read_items<'b>(
         return None;
     }
     if let Some((fields, rest)) = described.read_front(bytes, *assumed) {
-        return Some((fields.moment(), rest));
+        return Some((Named::of_fields(fields), rest));
     }
     read_by(&Items(described.items()), bytes, *assumed)
 }
@@ -65,7 +65,7 @@ fn read_tree<'b>(
     described: &DescribedTree<'_>,
     bytes: &'b [u8],
     assumed: &Option<UtcOffset>,
-) -> Option<(OffsetDateTime, &'b [u8])>
+) -> Option<(Named, &'b [u8])>
     ensures front { option_map (λ x. (x.0, x.1.now)) result
         ≡ front_named assumed.now (grammar.V3 (v3_tree described.now.tree)) bytes.now }
     ensures end { IfSome result (λ x. EndsWith bytes.now x.1.now) }
@@ -74,14 +74,14 @@ fn read_tree<'b>(
         return None;
     }
     if let Some((fields, rest)) = described.read_front(bytes, *assumed) {
-        return Some((fields.moment(), rest));
+        return Some((Named::of_fields(fields), rest));
     }
     read_by(described.tree(), bytes, *assumed)
 }
 
 // The same of RFC 2822, where the bytes begin with a weekday or a day.
 #[tactic(auto, unfolding(crate::specs::Front::front_named))]
-fn read_rfc2822(bytes: &[u8], assumed: Option<UtcOffset>) -> Option<(OffsetDateTime, &[u8])>
+fn read_rfc2822(bytes: &[u8], assumed: Option<UtcOffset>) -> Option<(Named, &[u8])>
     ensures front { option_map (λ x. (x.0, x.1.now)) result
         ≡ front_named assumed grammar.Rfc2822 bytes.now }
     ensures end { IfSome result (λ x. EndsWith bytes.now x.1.now) }
@@ -94,7 +94,7 @@ fn read_rfc2822(bytes: &[u8], assumed: Option<UtcOffset>) -> Option<(OffsetDateT
 
 // The same of RFC 3339, where the bytes begin with a digit and have a hyphen behind a year.
 #[tactic(auto, using(crate::proofs::NoFront::no_digit), unfolding(crate::specs::Front::front_named))]
-fn read_rfc3339(bytes: &[u8], assumed: Option<UtcOffset>) -> Option<(OffsetDateTime, &[u8])>
+fn read_rfc3339(bytes: &[u8], assumed: Option<UtcOffset>) -> Option<(Named, &[u8])>
     ensures front { option_map (λ x. (x.0, x.1.now)) result
         ≡ front_named assumed grammar.Rfc3339 bytes.now }
     ensures end { IfSome result (λ x. EndsWith bytes.now x.1.now) }
@@ -104,6 +104,9 @@ fn read_rfc3339(bytes: &[u8], assumed: Option<UtcOffset>) -> Option<(OffsetDateT
     }
     if !byte_at(bytes, 0).is_ascii_digit() {
         return None;
+    }
+    if let Some((fields, rest)) = fast_front(bytes) {
+        return Some((Named::of_fields(fields), rest));
     }
     read_by(&Rfc3339, bytes, assumed)
 }
@@ -144,7 +147,7 @@ pub fn read_front<'b>(
     source: &Source<'_>,
     bytes: &'b [u8],
     assumed: Option<UtcOffset>,
-) -> Option<(OffsetDateTime, &'b [u8])>
+) -> Option<(Named, &'b [u8])>
     ensures front { option_map (λ x. (x.0, x.1.now)) result
         ≡ front_named assumed (grammar_of source.now) bytes.now }
     ensures end { IfSome result (λ x. EndsWith bytes.now x.1.now) }

@@ -2,6 +2,7 @@
 #![tactic(auto)]
 
 mod edge;
+mod fast_front;
 mod finder;
 mod finding;
 mod found;

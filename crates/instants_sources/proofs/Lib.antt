@@ -1,4 +1,3 @@
-pub mod BothFormats
 pub mod FewNodes
 pub mod Planned
 pub mod Refused

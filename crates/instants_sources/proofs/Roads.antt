@@ -17,7 +17,7 @@ use Rattle.parsing_laws.specs.TwoRoads.{AgreeOn}
 use Rattle.instants_sources.specs.Grammar.{Iso8601}
 use Rattle.instants_sources.specs.Named.{defaults_of, IsNamedBy}
 
-same_moment : (x y : Result Shown Fault) (m : Shown) → result_ok x ≡ result_ok y → x ≡ Ok m → y ≡ Ok m
+pub same_moment : (x y : Result Shown Fault) (m : Shown) → result_ok x ≡ result_ok y → x ≡ Ok m → y ≡ Ok m
 same_moment x (Ok y) m alike e = let is : Some y ≡ Some m = sym alike ∙ ap result_ok e in ap (λ (v : Shown). Ok v) (same y m is)
 same_moment x (Err f) m alike e = absurd (let none : None ≡ Some m = sym alike ∙ ap result_ok e in cc)
 

@@ -2,3 +2,4 @@ pub mod Grammar
 pub mod Named
 pub mod Tried
 pub mod Planned
+pub mod Kept

@@ -5,6 +5,7 @@ ghost use Rattle.std.specs.Result.{result_ok};
 ghost use Rattle.description_items.specs.Tree.{listed, trees};
 ghost use Rattle.description_tree.specs.Description.{v3_tree};
 ghost use Rattle.parsing_components.specs.Component.{reads_component, reads_component_v3};
+ghost use Rattle.parsing_first_bytes.specs.FirstBounds.{AreBoundsOf, ReadsNoneWhole};
 ghost use Rattle.parsing_first_bytes.specs.FirstBytes.{AreOf, IsRefusedAt};
 ghost use Rattle.parsing_combinator.specs.Tame.{EndsWith};
 ghost use Rattle.parsing_fields.specs.Moment.{moment_of};
@@ -16,7 +17,7 @@ use calendar::UtcOffset;
 use description_items::BorrowedFormatItem;
 use description_tree::FormatDescriptionV3;
 use parsing_fields::Fields;
-use parsing_first_bytes::FirstBytes;
+use parsing_first_bytes::{FirstBounds, FirstBytes};
 use parsing_plan::Plan;
 
 /// Items that read a line one after the other.
@@ -24,9 +25,12 @@ use parsing_plan::Plan;
 pub struct DescribedItems<'a> {
     items: Vec<BorrowedFormatItem<'a>>,
     first_bytes: FirstBytes,
+    first_bounds: FirstBounds,
     plan: Option<Plan>,
     ghost first: { AreOf
         (reading_of_all reads_component (listed (trees items.items))) first_bytes },
+    ghost bounds: { AreBoundsOf
+        (reading_of_all reads_component (listed (trees items.items))) first_bounds },
     ghost planned: { ForSome plan
         (λ p. IsPlanOf (reading_of_all reads_component (listed (trees items.items))) p) },
 }
@@ -39,6 +43,7 @@ impl<'a> DescribedItems<'a> {
     {
         DescribedItems {
             first_bytes: FirstBytes::of_items(&items),
+            first_bounds: FirstBounds::of_items(&items),
             plan: Plan::of_items(&items),
             items,
         }
@@ -90,7 +95,16 @@ impl<'a> DescribedItems<'a> {
             (reading_of_all reads_component (listed (trees self.now.items.items)) r line.now)
             ≡ None }
     {
-        self.first_bytes.rule_out(line)
+        self.first_bytes.rule_out(line) || self.first_bounds.rule_out(line)
+    }
+
+    /// Whether its first bytes or its length show that the items don't read a line as a whole.
+    #[inline(always)]
+    pub(crate) fn cannot_match_whole(&self, line: &[u8]) -> bool
+        ensures { result ≡ true → ReadsNoneWhole
+            (reading_of_all reads_component (listed (trees self.now.items.items))) line.now }
+    {
+        self.first_bytes.rule_out(line) || self.first_bounds.rule_out_whole(line)
     }
 
     /// Whether a line that the items read can begin with a byte: `true` says nothing of the line.
@@ -107,8 +121,10 @@ impl<'a> DescribedItems<'a> {
 pub struct DescribedTree<'a> {
     tree: FormatDescriptionV3<'a>,
     first_bytes: FirstBytes,
+    first_bounds: FirstBounds,
     plan: Option<Plan>,
     ghost first: { AreOf (reading reads_component_v3 (v3_tree tree)) first_bytes },
+    ghost bounds: { AreBoundsOf (reading reads_component_v3 (v3_tree tree)) first_bounds },
     ghost planned: { ForSome plan
         (λ p. IsPlanOf (reading reads_component_v3 (v3_tree tree)) p) },
 }
@@ -121,6 +137,7 @@ impl<'a> DescribedTree<'a> {
     {
         DescribedTree {
             first_bytes: FirstBytes::of_description(&tree),
+            first_bounds: FirstBounds::of_description(&tree),
             plan: Plan::of_description(&tree),
             tree,
         }
@@ -170,7 +187,16 @@ impl<'a> DescribedTree<'a> {
         ensures { result ≡ true → (r : Record)
             → result_ok (reading reads_component_v3 (v3_tree self.now.tree) r line.now) ≡ None }
     {
-        self.first_bytes.rule_out(line)
+        self.first_bytes.rule_out(line) || self.first_bounds.rule_out(line)
+    }
+
+    /// Whether its first bytes or its length show that the tree doesn't read a line as a whole.
+    #[inline(always)]
+    pub(crate) fn cannot_match_whole(&self, line: &[u8]) -> bool
+        ensures { result ≡ true
+            → ReadsNoneWhole (reading reads_component_v3 (v3_tree self.now.tree)) line.now }
+    {
+        self.first_bytes.rule_out(line) || self.first_bounds.rule_out_whole(line)
     }
 
     /// Whether a line that the tree reads can begin with a byte: `true` says nothing of the line.

@@ -1,13 +1,14 @@
 //! The sources of lines: what a line may be written in, read from what words say of it.
 #![tactic(auto)]
 
-mod both_formats;
 mod described;
 mod moment;
+mod named;
 mod nodes;
 mod ruled_out;
 mod source;
 
 pub use described::{DescribedItems, DescribedTree};
 pub use moment::{fast_iso8601, fast_rfc2822, fast_rfc3339, is_no_rfc3339};
+pub use named::Named;
 pub use source::{Source, starting};

@@ -8,15 +8,12 @@ ghost use Rattle.instants_sources.specs.Grammar as grammar;
 ghost use Rattle.instants_sources.specs.Named.{named, IsNamedBy, NamesNothing};
 ghost use Rattle.instants_sources.specs.Planned.{IsPlanned};
 
-use crate::both_formats::is_read_alike;
 use crate::ruled_out::{begins_no_day, begins_no_part, has_no_hyphen, has_no_space};
 use crate::source::Source;
 use calendar::UtcOffset;
 use datetime_types::OffsetDateTime;
 use parsing_fields::Fields;
-use parsing_laws::two_roads::{
-    one_road_of_iso8601, two_formats, two_roads_of_rfc2822, two_roads_of_rfc3339,
-};
+use parsing_laws::two_roads::{one_road_of_iso8601, two_roads_of_rfc2822, two_roads_of_rfc3339};
 use parsing_plan::Plan;
 
 /// The fields of the moment of a line of RFC 2822, where the fast way finds them, whatever offset is assumed: `None` says
@@ -38,26 +35,11 @@ pub fn fast_rfc3339(line: &[u8]) -> Option<Fields>
     parsing_rfc3339::read_fields(line)
 }
 
-// The same of a line of ISO 8601 that RFC 3339 reads alike.
-#[inline(always)]
-fn fast_read_alike(line: &[u8]) -> Option<Fields>
-    ensures { IfSome result (λ fields. IsNamedBy grammar.Iso8601 line.now (moment_of fields)) }
-{
-    if !is_read_alike(line) {
-        return None;
-    }
-    two_formats();
-    fast_rfc3339(line)
-}
-
 /// The same of a line of ISO 8601.
 #[inline(always)]
 pub fn fast_iso8601(line: &[u8]) -> Option<Fields>
     ensures { IfSome result (λ fields. IsNamedBy grammar.Iso8601 line.now (moment_of fields)) }
 {
-    if let Some(fields) = fast_read_alike(line) {
-        return Some(fields);
-    }
     one_road_of_iso8601();
     parsing_iso8601::read_fields(line)
 }
@@ -81,15 +63,15 @@ pub fn is_no_rfc3339(line: &[u8]) -> bool
 }
 
 impl<'a> Source<'a> {
-    /// Whether the first bytes of a line show that this source names no moment for it, whatever offset is assumed:
+    /// Whether the first bytes of a line, or its length, show that this source names no moment for it, whatever offset is assumed:
     /// `false` says nothing of the line.
     #[inline(always)]
     pub fn cannot_match(&self, line: &[u8]) -> bool
         ensures { result ≡ true → NamesNothing (grammar_of self.now) line.now }
     {
         match self {
-            Source::Items(described) => described.cannot_match(line),
-            Source::V3(described) => described.cannot_match(line),
+            Source::Items(described) => described.cannot_match_whole(line),
+            Source::V3(described) => described.cannot_match_whole(line),
             Source::Rfc2822 => is_no_rfc2822(line),
             Source::Rfc3339 => is_no_rfc3339(line),
             Source::Iso8601 => begins_no_part(line),

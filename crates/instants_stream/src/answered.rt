@@ -1,5 +1,5 @@
 //! The run where each line is answered by itself.
-ghost use Rattle.std.specs.Prelude.{◌≡◌, ◌<◌, ◌≤◌, true, false, [], ◌∷◌, ◌++◌, codes, length, Err, OnOk, OnErr};
+ghost use Rattle.std.specs.Prelude.{◌≡◌, ◌<◌, true, false, [], ◌∷◌, ◌++◌, codes, length, Err, OnOk, OnErr};
 ghost use Rattle.std.specs.Io.KnownBytes.{Appends, Keeps};
 ghost use Rattle.base.specs.Bytes.{line_feed};
 ghost use Rattle.instants_stream.specs.Told.{AppendsFront};

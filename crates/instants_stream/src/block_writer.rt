@@ -4,6 +4,7 @@ ghost use Rattle.std.specs.Io.KnownBytes.{Appends, Keeps};
 ghost use Rattle.instants_stream.specs.Told.{StaysOrUntold, AppendsFront};
 
 use crate::devices::{ByteWriter, DeviceFailed};
+use std::simd::prelude::*;
 
 /// Writes to another writer, a block at a time.
 ///
@@ -31,6 +32,26 @@ fn put(block: &mut Vec<u8>, at: usize, bytes: &[u8])
     ensures len { vec_len block.new ≡ vec_len block.old }
 {
     block[at..at + bytes.len()].copy_from_slice(bytes);
+}
+
+// The same of 64 bytes, all read before one is written: nothing asks whether they lie apart from the block.
+#[inline(always)]
+fn put_lanes(block: &mut [u8], at: usize, bytes: &[u8; 64])
+    requires { at + 64 ≤ length block.old }
+    ensures front { take (at + length bytes.now) block.new ≡ take at block.old ++ bytes.now }
+    ensures len { length block.new ≡ length block.old }
+{
+    u8x64::from_slice(bytes).copy_to_slice(&mut block[at..]);
+}
+
+#[inline(always)]
+fn put_all(block: &mut Vec<u8>, at: usize, bytes: &[u8; 64])
+    requires { at + 64 ≤ vec_len block.old }
+    ensures front { take (at + length bytes.now) block.new.items
+        ≡ take at block.old.items ++ bytes.now }
+    ensures len { vec_len block.new ≡ vec_len block.old }
+{
+    put_lanes(block, at, bytes);
 }
 
 impl<W: ByteWriter> BlockWriter<W> {
@@ -197,7 +218,7 @@ impl<W: ByteWriter> ByteWriter for BlockWriter<W> {
             return self.write_front_past_end(bytes, len);
         }
         self.is_flushed = false;
-        put(&mut self.block, self.end, bytes);
+        put_all(&mut self.block, self.end, bytes);
         self.end += len;
         Ok(())
     }

@@ -174,7 +174,7 @@ fn sources<'a>(
 
 fn told(date: Option<Found>) -> Told {
     let date = date?;
-    let second = date.moment.unix_timestamp();
+    let second = date.moment.moment().unix_timestamp();
     Some((date.start, date.end, date.source, second))
 }
 
@@ -201,7 +201,7 @@ fn dates(rt: HostRuntime) {
 // The Unix time of a front, and how many bytes stand behind it.
 fn front(source: &Source, bytes: &[u8]) -> Option<(i64, usize)> {
     match read_front(source, bytes, None) {
-        Some((moment, rest)) => Some((moment.unix_timestamp(), rest.len())),
+        Some((named, rest)) => Some((named.moment().unix_timestamp(), rest.len())),
         None => None,
     }
 }

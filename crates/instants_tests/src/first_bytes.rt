@@ -1,7 +1,7 @@
 //! What the first bytes of a line show of a description.
 
 use description::{Description, DescriptionVersion, parse_borrowed, parse_strftime_borrowed};
-use parsing_first_bytes::FirstBytes;
+use parsing_first_bytes::{FirstBounds, FirstBytes};
 use std::alloc::Global;
 
 // A description, a line, and whether the description can't read the line's first bytes.
@@ -133,5 +133,58 @@ fn holds(alloc: Global, row: &str) -> Option<bool> {
 fn rows(rt: HostRuntime) {
     for row in ROWS.lines() {
         assert!(rt; holds(rt.alloc(), row) == Some(true));
+    }
+}
+
+// A description, a line, and whether its first sixteen bytes show that no front of it is read, and whether they or its length
+// show that it is not read as a whole.
+const BOUNDS: &str = r"v3 [day]-[month] [hour]:[minute] => 01-07 10:52 => false false
+v3 [day]-[month] [hour]:[minute] => 01-07 10.52 => true true
+v3 [day]-[month] [hour]:[minute] => 01-07 10 => true true
+v3 [day]-[month]-[year] [hour] => 01-07-203 10 => true true
+v3 [day]-[month]-[year] [hour] => 01-07--2003 10 and more => false false
+v3 [hour]:[minute]:[second]UTC => 10:52:37UTC => false false
+v3 [hour]:[minute]:[second]UTC => 10:52:37GMT => true true
+v3 [hour]:[minute]:[second]UTC => 10:52:3 => true true
+v3 [hour]:[minute]:[second]UTC => 10:52:37UTC, and more => false true
+v3 [hour]:[minute]:[second] => 10:52:37,123 and more => false true
+strftime %d/%b => 01/Jan => false false
+strftime %d/%b => 01/Jan/2024 => false true
+strftime %d/%b => 1/Jan => true true
+strftime %e.%m => /1.01.2024 is a date => false true";
+
+fn bounds_of(alloc: Global, language: &str, text: &str) -> Option<FirstBounds> {
+    if language == "strftime" {
+        let items = parse_strftime_borrowed(alloc, text).ok()?;
+        return Some(FirstBounds::of_items(&items));
+    }
+    match parse_borrowed(alloc, DescriptionVersion::Three, text).ok()? {
+        Description::Items(items) => Some(FirstBounds::of_items(&items)),
+        Description::V3(description) => Some(FirstBounds::of_description(&description)),
+    }
+}
+
+// Whether a row says what is so.
+fn is_bounded(alloc: Global, row: &str) -> Option<bool> {
+    let (row, wanted) = row.rsplit_once(" => ")?;
+    let (description, line) = row.split_once(" => ")?;
+    let (language, text) = description.split_once(' ')?;
+    let bounds = bounds_of(alloc, language, text)?;
+    let ruled_out = match (
+        bounds.rule_out(line.as_bytes()),
+        bounds.rule_out_whole(line.as_bytes()),
+    ) {
+        (true, true) => "true true",
+        (false, true) => "false true",
+        (true, false) => "true false",
+        (false, false) => "false false",
+    };
+    Some(ruled_out == wanted)
+}
+
+#[test]
+fn bounds(rt: HostRuntime) {
+    for row in BOUNDS.lines() {
+        assert!(rt; is_bounded(rt.alloc(), row) == Some(true), "{row}");
     }
 }

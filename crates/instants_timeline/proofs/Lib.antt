@@ -1,3 +1,4 @@
 pub mod Counted
 pub mod FirstNamed
 pub mod Means
+pub mod LineLength

@@ -24,5 +24,5 @@ pub use new_fault::NewFault;
 pub use program::run_words;
 pub use program_fault::ProgramFault;
 pub use runs::run;
-pub use shown::{answer_by, answer_moment, shown_at};
+pub use shown::{answer_by, answer_moment, answer_named, shown_at};
 pub use timeline::Timeline;

@@ -10,8 +10,8 @@ ghost use Rattle.instants_timeline.specs.Refusal.{year};
 use crate::line_fault::LineFault;
 use calendar::UtcOffset;
 use datetime_types::OffsetDateTime;
-use instants_answers::{Answer, Target, has_written_year, rfc3339_line};
-use instants_sources::Source;
+use instants_answers::{Answer, Target, has_written_year, rfc3339_line, write_fields};
+use instants_sources::{Named, Source};
 
 /// A moment as it is shown at the target, if its year there is 0 to 9999.
 #[inline(always)]
@@ -41,6 +41,21 @@ pub fn answer_moment(target: Target, moment: OffsetDateTime) -> Answer
             answer
         }
     }
+}
+
+/// The moment that a text names as an answer: its date-time at the target, or `! year`.
+#[inline(always)]
+pub fn answer_named(target: Target, named: &Named) -> Answer
+    ensures bytes { result ≡ place_text (shown_or_refused target (Ok named.now)) }
+    ensures room { length result ≤ 63 }
+{
+    let mut answer = Answer::new();
+    if let Some(fields) = named.fields() {
+        if write_fields(fields, target, &mut answer) {
+            return answer;
+        }
+    }
+    answer_moment(target, named.moment())
 }
 
 /// What one source says of a line alone, with an offset assumed or none: the answer to it, `! year` included, where the

@@ -1,5 +1,5 @@
 -- Nine digits of a fraction: of a number, and as they are read.
-use Rattle.std.proofs.Common.{◌≡◌, ℕ, zero, suc, ◌+◌, ◌*◌, ◌/◌, ◌%◌, ◌^◌, ◌<◌, ◌≤◌, eqb, leb, List, [], ◌∷◌, ◌++◌, length, get_or, take, drop, Option, true, false, Some, None, w64, refl, sym, ap, ◌∙◌, arith, lit<, take-append-drop, length-drop}
+use Rattle.std.proofs.Common.{◌≡◌, ℕ, ◌+◌, ◌*◌, ◌%◌, ◌^◌, ◌<◌, ◌≤◌, eqb, leb, List, [], ◌∷◌, ◌++◌, length, get_or, take, drop, Option, true, false, Some, None, w64, refl, sym, ap, ◌∙◌, arith, take-append-drop, length-drop}
 use Rattle.std.specs.Borrow.{Bor}
 use Rattle.std.specs.Prelude.{is_some}
 use Rattle.std.specs.Int.{from_le_bytes, to_le_bytes}
@@ -11,12 +11,14 @@ use Rattle.std.proofs.lemmas.List.{append-nil, take_all}
 use Rattle.std.proofs.lemmas.Nat.{le_bytes_8}
 use Rattle.parsing_combinator.specs.Pieces.{digits, digit_count, fraction, cut_view}
 use Rattle.parsing_combinator.specs.Chunks.{IsDigitChunk, padded}
-use Rattle.parsing_combinator.proofs.Decimal.{digit_here, value_append, digit_count_within}
+use Rattle.parsing_combinator.proofs.Decimal.{value_append, count_front, digit_count_within}
 use Rattle.parsing_combinator.proofs.Fixed.{digits_nine, joined}
 use Rattle.parsing_combinator.proofs.FractionDigits.{fraction_of_nine, digits_read}
 use Rattle.parsing_combinator.proofs.PaddingLemmas.{fraction_of_padded, padded_long, padded_fit, padded_whole, padded_rest, padded_below}
 use Rattle.parsing_combinator.proofs.Lanes.{chunk_eight}
-use Rattle.parsing_fields.specs.Digits.{nine_digits, first_digits, AreNineDigits}
+use Rattle.parsing_fields.specs.Decimal.{decimal}
+use Rattle.parsing_fields.specs.Digits.{nine_digits, AreNineDigits}
+use Rattle.parsing_fields.proofs.lemmas.Decimals.{as_digit, decimal_count, decimal_value, digits_fit}
 
 nine_is : (first last : ℕ) (eight : List ℕ) → to_le_bytes w64 first ≡ eight → nine_digits first last ≡ eight ++ last ∷ []
 unfolding nine_digits
@@ -24,46 +26,15 @@ nine_is first last eight is = ap (λ (bytes : List ℕ). bytes ++ last ∷ []) i
 
 -- ---- of a number
 
-eight_fit : (a b c d e f g h : ℕ) → a < 256 → b < 256 → c < 256 → d < 256 → e < 256 → f < 256 → g < 256 → h < 256 → (i : ℕ) → get_or (a ∷ b ∷ c ∷ d ∷ e ∷ f ∷ g ∷ h ∷ []) i 0 < 256
-eight_fit a b c d e f g h ha hb hc hd he hf hg hh zero = ha
-eight_fit a b c d e f g h ha hb hc hd he hf hg hh (suc zero) = hb
-eight_fit a b c d e f g h ha hb hc hd he hf hg hh (suc (suc zero)) = hc
-eight_fit a b c d e f g h ha hb hc hd he hf hg hh (suc (suc (suc zero))) = hd
-eight_fit a b c d e f g h ha hb hc hd he hf hg hh (suc (suc (suc (suc zero)))) = he
-eight_fit a b c d e f g h ha hb hc hd he hf hg hh (suc (suc (suc (suc (suc zero))))) = hf
-eight_fit a b c d e f g h ha hb hc hd he hf hg hh (suc (suc (suc (suc (suc (suc zero)))))) = hg
-eight_fit a b c d e f g h ha hb hc hd he hf hg hh (suc (suc (suc (suc (suc (suc (suc zero))))))) = hh
-eight_fit a b c d e f g h ha hb hc hd he hf hg hh (suc (suc (suc (suc (suc (suc (suc (suc i)))))))) = lit< tt
-
-first_bytes : (n first : ℕ) → n < 1_000_000_000 → first ≡ from_le_bytes w64 (first_digits n) → to_le_bytes w64 first ≡ first_digits n
-first_bytes n first h is = le_bytes_8 (first_digits n) first refl (eight_fit _ _ _ _ _ _ _ _ (omega arith) (omega arith) (omega arith) (omega arith) (omega arith) (omega arith) (omega arith) (omega arith)) is
-
-as_digit : (x : ℕ) → x ≤ 9 → (is_ascii_digit (48 + x) ≡ true) × (digit_value (48 + x) ≡ x)
-as_digit x h =
-    let yes : is_ascii_digit (48 + x) ≡ true = grind (arith, nat_tests) in
-    (yes, let d = digit_here (48 + x) yes in omega (arith, d))
-
-nine_there : (a b c d e f g h i : ℕ) → a ≤ 9 → b ≤ 9 → c ≤ 9 → d ≤ 9 → e ≤ 9 → f ≤ 9 → g ≤ 9 → h ≤ 9 → i ≤ 9
-    → (digit_count ((48 + a) ∷ (48 + b) ∷ (48 + c) ∷ (48 + d) ∷ (48 + e) ∷ (48 + f) ∷ (48 + g) ∷ (48 + h) ∷ (48 + i) ∷ []) ≡ 9)
-    × (digits_value 10 ((48 + a) ∷ (48 + b) ∷ (48 + c) ∷ (48 + d) ∷ (48 + e) ∷ (48 + f) ∷ (48 + g) ∷ (48 + h) ∷ (48 + i) ∷ []) ≡ ((((((((a * 10 + b) * 10 + c) * 10 + d) * 10 + e) * 10 + f) * 10 + g) * 10 + h) * 10 + i))
-nine_there a b c d e f g h i ha hb hc hd he hf hg hh hi =
-    let da = as_digit a ha in
-    let db = as_digit b hb in
-    let dc = as_digit c hc in
-    let dd = as_digit d hd in
-    let de = as_digit e he in
-    let df = as_digit f hf in
-    let dg = as_digit g hg in
-    let dh = as_digit h hh in
-    let di = as_digit i hi in
-    (rw (da.0, db.0, dc.0, dd.0, de.0, df.0, dg.0, dh.0, di.0) refl, rw (da.1, db.1, dc.1, dd.1, de.1, df.1, dg.1, dh.1, di.1) (omega arith))
-
 -- the nine digits of a number write it
-pub of_number : (n first last : ℕ) → n < 1_000_000_000 → first < 2 ^ 64 → first ≡ from_le_bytes w64 (first_digits n) → last ≡ 48 + n % 10 → AreNineDigits first last × (digits_value 10 (nine_digits first last) ≡ n)
+pub of_number : (n first last : ℕ) → n < 1_000_000_000 → first < 2 ^ 64 → first ≡ from_le_bytes w64 (take 8 (decimal 9 n)) → last ≡ 48 + n % 10 → AreNineDigits first last × (digits_value 10 (nine_digits first last) ≡ n)
+unfolding decimal
 of_number n first last h fits is end =
-    let nine = nine_there (n / 100_000_000) (n / 10_000_000 % 10) (n / 1_000_000 % 10) (n / 100_000 % 10) (n / 10_000 % 10) (n / 1000 % 10) (n / 100 % 10) (n / 10 % 10) (n % 10) (omega arith) (omega arith) (omega arith) (omega arith) (omega arith) (omega arith) (omega arith) (omega arith) (omega arith) in
-    let all = nine_is first last (first_digits n) (first_bytes n first h is) in
-    ((fits, rw (all, end) nine.0), rw (all, end) (nine.1 ∙ omega arith))
+    let all : digit_count (decimal 9 n) ≡ 9 = decimal_count 9 n in
+    let eight : to_le_bytes w64 first ≡ take 8 (decimal 9 n) = le_bytes_8 (take 8 (decimal 9 n)) first refl (digits_fit (take 8 (decimal 9 n)) (count_front (decimal 9 n) 8 (omega (arith, all)))) is in
+    let nine : nine_digits first last ≡ decimal 9 n = nine_is first last (take 8 (decimal 9 n)) eight ∙ ap (λ (d : ℕ). take 8 (decimal 9 n) ++ d ∷ []) end in
+    let small : n < 10 ^ 9 = omega (arith, h) in
+    ((fits, ap digit_count nine ∙ all), ap (digits_value 10) nine ∙ decimal_value 9 n small)
 
 -- nine digits are read as their number
 pub all_nine : (first last : ℕ) → AreNineDigits first last → digits 9 (nine_digits first last) ≡ Some (digits_value 10 (nine_digits first last), [])

@@ -2,3 +2,4 @@ pub mod lemmas
 mod DigitLemmas
 mod DigitsBefore
 mod UnixTime
+mod YearLemmas

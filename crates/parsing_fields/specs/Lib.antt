@@ -1,3 +1,4 @@
+pub mod Decimal
 pub mod Digits
 pub mod DigitsBack
 pub mod Moment

@@ -5,6 +5,7 @@ ghost use Rattle.calendar_count.specs.Calendar.{IsDay, days_in_month};
 ghost use Rattle.datetime_wall.specs.Wall.{second_nanos};
 
 use crate::fraction::Fraction;
+use crate::year::Year;
 use calendar::{Date, Time, UtcOffset};
 use calendar_count::{closed, march};
 use datetime_wall::{count_of_seconds, day_of_count, second_of_day};
@@ -15,7 +16,7 @@ use parsing_values::OffsetDateTime;
 #[derive(Clone, Copy)]
 pub struct Fields {
     /// 0 to 9999.
-    pub year: u16,
+    pub year: Year,
     /// 1 to 12.
     pub month: u8,
     /// Of the month, from 1 on.
@@ -23,9 +24,9 @@ pub struct Fields {
     /// Of the day, from 0 on.
     pub minute: u16,
     /// In minutes, above 0 where local time is ahead of UTC.
-    pub offset: i16,
-    /// Of the minute, 0 to 59. (Eight bytes, so that there is no padding, which each move would copy.)
-    pub second: u64,
+    pub offset: i32,
+    /// Of the minute, 0 to 59. (Four bytes, as the offset, so that there is no padding, which each move would copy.)
+    pub second: u32,
     /// Of the second.
     pub fraction: Fraction,
     ghost day_is_there: { IsDay (pos year) month day },
@@ -42,14 +43,15 @@ static SHORTEST: [u8; 13] = [0, 31, 28, 31, 30, 31, 30, 31, 31, 30, 31, 30, 31];
 ///
 /// Only for 29 February, and for days that are not there, more than a table is asked.
 #[inline(always)]
-pub fn has_day(year: u16, month: u8, day: u8) -> bool
+pub fn has_day(year: Year, month: u8, day: u8) -> bool
     requires { month ≤ 12 }
     ensures { IsTrue result ↔ IsInRange 1 (days_in_month (pos year) month) day }
 {
-    if day <= SHORTEST[month as usize] {
-        return day >= 1;
+    // (counted from 0 on, a day 0 is past all)
+    if day.wrapping_sub(1) < SHORTEST[month as usize] {
+        return true;
     }
-    closed::has_day(i32::from(year), month, day)
+    closed::has_day(i32::from(year.number()), month, day)
 }
 
 impl Fields {
@@ -59,7 +61,7 @@ impl Fields {
     /// The fields with these numbers, where there are such fields.
     #[inline(always)]
     pub fn new(
-        year: u16,
+        year: Year,
         month: u8,
         day: u8,
         minute: u16,
@@ -71,7 +73,9 @@ impl Fields {
         ensures numbers { IfSome result
             (λ f. HaveNumbers f year month day minute second fraction offset) }
     {
-        if year > 9999 || minute >= 1440 || offset.unsigned_abs() > 1559 {
+        // (that a year has four digits is told by its number, which leaves no code)
+        let _ = year.number();
+        if minute >= 1440 || offset.unsigned_abs() > 1559 {
             return None;
         }
         Fields::on_day(year, month, day, minute, second, fraction, offset)
@@ -80,7 +84,7 @@ impl Fields {
     /// The same, where only the day and the second can be out of range.
     #[inline(always)]
     pub fn on_day(
-        year: u16,
+        year: Year,
         month: u8,
         day: u8,
         minute: u16,
@@ -107,7 +111,7 @@ impl Fields {
     /// The fields with these numbers, which name fields: `new` is the test.
     #[inline(always)]
     pub fn of_numbers(
-        year: u16,
+        year: Year,
         month: u8,
         day: u8,
         minute: u16,
@@ -123,8 +127,8 @@ impl Fields {
             month,
             day,
             minute,
-            offset,
-            second: u64::from(second),
+            offset: i32::from(offset),
+            second: u32::from(second),
             fraction,
         }
     }
@@ -144,7 +148,7 @@ impl Fields {
         let second = second_of_day(instant);
         let minute = second / 60;
         Some(Fields::of_numbers(
-            year as u16,
+            Year::new(year as u16),
             month,
             day,
             minute as u16,
@@ -159,10 +163,10 @@ impl Fields {
     pub fn moment(self) -> OffsetDateTime
         ensures { result ≡ moment_of self }
     {
-        let count = march::count_of_day(i32::from(self.year), self.month, self.day);
-        let second_of_day = u32::from(self.minute) * 60 + self.second as u32;
+        let count = march::count_of_day(i32::from(self.year.number()), self.month, self.day);
+        let second_of_day = u32::from(self.minute) * 60 + self.second;
         let time = Time::from_seconds_nanoseconds(second_of_day, self.fraction.nanosecond());
-        let offset = match UtcOffset::from_whole_seconds(i32::from(self.offset) * 60) {
+        let offset = match UtcOffset::from_whole_seconds(self.offset * 60) {
             Ok(offset) => offset,
             Err(_) => unreachable!(),
         };

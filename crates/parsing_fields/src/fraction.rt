@@ -3,10 +3,12 @@ ghost use Rattle.std.specs.Prelude.{◌≡◌, ◌+◌, ◌-◌, ◌<◌, ◌≤
 ghost use Rattle.base.specs.Bytes.{digit_zero};
 ghost use Rattle.parsing_combinator.specs.Pieces as Pieces;
 ghost use Rattle.std.specs.Str.Parse.{digits_value};
+ghost use Rattle.parsing_fields.specs.Decimal.{decimal};
 ghost use Rattle.parsing_fields.specs.Digits.{AreNineDigits, nine_digits};
 ghost use Rattle.parsing_fields.specs.Written.{WriteFraction};
 
 use crate::before::digits_before;
+use crate::digit::last_digit;
 use parsing_combinator::{digit_chunk, fraction, one_digit};
 use std::marker::Model;
 
@@ -23,11 +25,12 @@ pub struct Fraction {
 
 // Clauses see the nanoseconds.
 impl Model for Fraction {
-    ghost use Rattle.std.specs.Prelude.{ℕ, ◌+◌, ◌%◌};
+    ghost use Rattle.std.specs.Prelude.{ℕ, ◌+◌, ◌%◌, take};
     ghost use Rattle.std.specs.Int.{w64, from_le_bytes};
     ghost use Rattle.std.specs.Str.Parse.{digits_value};
     ghost use Rattle.base.specs.Bytes.{digit_zero};
-    ghost use Rattle.parsing_fields.specs.Digits.{nine_digits, first_digits, AreNineDigits};
+    ghost use Rattle.parsing_fields.specs.Decimal.{decimal};
+    ghost use Rattle.parsing_fields.specs.Digits.{nine_digits, AreNineDigits};
     ghost use Rattle.parsing_fields.specs.DigitsBack.{first_back, last_back};
 
     ghost Value = { ℕ };
@@ -37,7 +40,7 @@ impl Model for Fraction {
     ghost invariant = { λ f. AreNineDigits f.first f.last };
 
     ghost inverse = { λ n. record {
-      first = from_le_bytes w64 (first_digits n);
+      first = from_le_bytes w64 (take 8 (decimal 9 n));
       last = digit_zero + n % 10;
     } };
 
@@ -45,15 +48,6 @@ impl Model for Fraction {
       first_back f.first f.last h,
       last_back f.first f.last h,
     ) };
-}
-
-// A digit in ASCII.
-#[inline(always)]
-fn digit(value: u32) -> u8
-    requires { value < 10 }
-    ensures { result ≡ digit_zero + value }
-{
-    b'0' + value as u8
 }
 
 // A digit behind so many: where they are fewer than eight, they are all that are there.
@@ -78,18 +72,18 @@ impl Fraction {
         ensures { result ≡ nanosecond }
     {
         let first = [
-            digit(nanosecond / 100_000_000),
-            digit(nanosecond / 10_000_000 % 10),
-            digit(nanosecond / 1_000_000 % 10),
-            digit(nanosecond / 100_000 % 10),
-            digit(nanosecond / 10_000 % 10),
-            digit(nanosecond / 1000 % 10),
-            digit(nanosecond / 100 % 10),
-            digit(nanosecond / 10 % 10),
+            last_digit(nanosecond / 100_000_000),
+            last_digit(nanosecond / 10_000_000),
+            last_digit(nanosecond / 1_000_000),
+            last_digit(nanosecond / 100_000),
+            last_digit(nanosecond / 10_000),
+            last_digit(nanosecond / 1000),
+            last_digit(nanosecond / 100),
+            last_digit(nanosecond / 10),
         ];
         Fraction {
             first: u64::from_le_bytes(first),
-            last: u64::from(digit(nanosecond % 10)),
+            last: u64::from(last_digit(nanosecond)),
         }
     }
 
@@ -152,6 +146,7 @@ impl Fraction {
     /// The nine digits of its nanoseconds, in ASCII.
     #[inline(always)]
     pub fn digits(self) -> [u8; 9]
+        ensures text { result ≡ decimal 9 self }
         ensures digits { Pieces.digits 9 result ≡ Some (self, []) }
         ensures bound { self < 1_000_000_000 }
     {

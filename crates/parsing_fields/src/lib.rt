@@ -2,10 +2,13 @@
 #![tactic(auto)]
 
 mod before;
+mod digit;
 mod fields;
 mod fraction;
 mod minutes;
+mod year;
 
 pub use fields::{Fields, has_day};
 pub use fraction::Fraction;
 pub use minutes::{is_minus, minute_of_day, offset_minutes, signed_minutes};
+pub use year::Year;

@@ -1,5 +1,5 @@
 //! What each text that an item reads begins with.
-ghost use Rattle.std.specs.Prelude.{◌≡◌, ◌≤◌, ℕ, true, false, Bool, List, get_or};
+ghost use Rattle.std.specs.Prelude.{◌≡◌, ◌≤◌, ◌<◌, ℕ, true, false, Bool, List, get_or};
 ghost use Rattle.parsing_combinator.specs.Shape.{digits_as, taken};
 ghost use Rattle.parsing_combinator.specs.Numbers.{padded, signed_if};
 ghost use Rattle.parsing_record.specs.Meaning.{literally, unchanged};
@@ -141,6 +141,25 @@ impl<'a> Front<'a> {
                     byte > b'9'
                 }
             }
+        }
+    }
+
+    /// The lowest and the highest byte that can stand at a place of it.
+    pub(crate) fn range_at(&self, place: usize) -> (u8, u8)
+        ensures low { (byte : ℕ) → byte < result.0 → stands self.now.bytes place byte ≡ false }
+        ensures high { (byte : ℕ) → result.1 < byte → byte < 256
+            → stands self.now.bytes place byte ≡ false }
+    {
+        match self.bytes {
+            Bytes::Text(text) => {
+                let byte = text.get(place).copied().unwrap_or(0);
+                (byte, byte)
+            }
+            Bytes::Digits { spaced: true, .. } => (b' ', b'9'),
+            Bytes::Digits { signed: true, .. } if place == 0 => (b'+', b'9'),
+            Bytes::Digits { .. } => (b'0', b'9'),
+            Bytes::Name { .. } if place == 0 => (0, 255),
+            Bytes::Name { .. } => (b':', 255),
         }
     }
 

@@ -1,8 +1,9 @@
 //! The bytes that can stand at a place of a line, by the items that read it one after the other.
-ghost use Rattle.std.specs.Prelude.{◌≡◌, ℕ, false, true, get_or, map, IfSome};
+ghost use Rattle.std.specs.Prelude.{◌≡◌, ◌<◌, ℕ, false, true, get_or, map, IfSome};
 ghost use Rattle.description_items.specs.Tree.{listed};
 ghost use Rattle.parsing_record.specs.Reads.{reading, reading_of_all};
 ghost use Rattle.parsing_first_bytes.specs.FirstBytes.{IsRefusedAt};
+ghost use Rattle.parsing_first_bytes.specs.FirstBounds.{HasWidth};
 ghost use Rattle.parsing_first_bytes.specs.Front.{Begins, stands};
 
 use crate::components::front_of_component;
@@ -49,4 +50,32 @@ pub(crate) fn bytes_at<N: Node>(items: &[N], place: usize) -> [bool; 256]
         Some((front, place)) => front.bytes_at(place),
         None => [true; 256],
     }
+}
+
+/// The lowest and the highest byte that can stand at a place of a line that all of the items read, one after the other.
+pub(crate) fn range_at<N: Node>(items: &[N], place: usize) -> (u8, u8)
+    ensures low { (byte : ℕ) → byte < result.0
+        → IsRefusedAt (reading_of_all N.language (listed (map N.tree items.now))) place byte }
+    ensures high { (byte : ℕ) → result.1 < byte → byte < 256
+        → IsRefusedAt (reading_of_all N.language (listed (map N.tree items.now))) place byte }
+{
+    match front_at(items, place) {
+        Some((front, place)) => front.range_at(place),
+        None => (0, 255),
+    }
+}
+
+/// How many bytes all of the items read, one after the other, where that is one number for all lines.
+pub(crate) fn width_of<N: Node>(items: &[N]) -> Option<usize>
+    ensures { IfSome result (HasWidth (reading_of_all N.language (listed (map N.tree items.now)))) }
+{
+    let mut width = 0usize;
+    for item in items {
+        let front = front_of(item);
+        if !front.is_whole {
+            return None;
+        }
+        width = width.checked_add(front.least)?;
+    }
+    Some(width)
 }

@@ -2,8 +2,10 @@
 #![tactic(auto)]
 
 mod components;
+mod first_bounds;
 mod first_bytes;
 mod front;
 mod items;
 
+pub use first_bounds::FirstBounds;
 pub use first_bytes::FirstBytes;

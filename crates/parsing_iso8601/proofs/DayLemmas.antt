@@ -1,10 +1,12 @@
 -- Days of a year and days of weeks as days of a month.
-use Rattle.std.proofs.Common.{◌≡◌, ℕ, ◌+◌, ◌-◌, ◌*◌, ◌%◌, ◌<◌, ◌≤◌, true, Ok, refl, sym, ◌∙◌, arith, ℤ, pos, ◌+ℤ◌}
+use Rattle.std.proofs.Common.{◌≡◌, ℕ, ◌+◌, ◌-◌, ◌*◌, ◌/◌, ◌%◌, ◌==◌, ◌⊎◌, Bool, cond, get_or, inl, inr, ◌<◌, ◌≤◌, true, false, Ok, refl, sym, ◌∙◌, arith, ℤ, pos, ◌+ℤ◌}
 use Rattle.std.specs.Int.{IsInRange}
+use Rattle.std.specs.Prelude.{◌&&◌, nat_le, nat_lt}
+use Rattle.std.proofs.lemmas.Bool.{agree_below_at, cases_lt}
 use Rattle.std.proofs.lemmas.Bool.Decides.{nat_tests}
 use Rattle.std.proofs.lemmas.Int.{ints}
 use Rattle.calendar_count.specs.Range.{greatest_year, IsYear, IsCount}
-use Rattle.calendar_count.specs.Calendar.{IsDay, days_in_year, day_at, ymd, ordinal_at, weekday_at, iso_year_at, iso_week_at}
+use Rattle.calendar_count.specs.Calendar.{is_leap_year, IsDay, days_in_year, day_at, ymd, ordinal_at, weekday_at, iso_year_at, iso_week_at}
 use Rattle.calendar_count.specs.Closed.{days_before_year}
 use Rattle.calendar_count.specs.March.{march_days}
 use Rattle.calendar_count.specs.Place.{place_count, IsPlace, first_thursday, iso_count}
@@ -14,7 +16,8 @@ use Rattle.calendar_count.proofs.lemmas.Days.{day_valid}
 use Rattle.calendar_count.proofs.lemmas.Years.{ordinal_after}
 use Rattle.parsing_values.specs.NamedDay.{is_ordinal_day, is_iso_day, ordinal_date_of, iso_week_date_of}
 use Rattle.parsing_values.proofs.NamedDayLemmas.{one_day}
-use Rattle.parsing_iso8601.specs.Days.{NamesOrdinal, NamesWeek}
+use Rattle.parsing_iso8601.specs.declared.calendar_days.TheConstants.{FIRST_THURSDAYS}
+use Rattle.parsing_iso8601.specs.Days.{NamesOrdinal, NamesWeek, first_thursday_of, missing_days}
 
 -- ---- the years of four digits
 
@@ -63,18 +66,80 @@ day_there : (y : ℤ) (m d count : ℕ) → IsCount count → day_at count ≡ y
 day_there y m d count within is = rw is at (day_valid count within)
 
 -- behind February
-pub march_ordinal : (year ordinal k m d : ℕ) → year ≤ 9999 → IsInRange 1 365 ordinal → ordinal + 305 ≡ days_in_year (pos year) + k → march_days m + d ≡ k → k < march_days (m + 1) → 3 ≤ m → m ≤ 12 → NamesOrdinal year ordinal m (d + 1)
+march_ordinal : (year ordinal k m d : ℕ) → year ≤ 9999 → IsInRange 1 365 ordinal → ordinal + 305 ≡ days_in_year (pos year) + k → march_days m + d ≡ k → k < march_days (m + 1) → 3 ≤ m → m ≤ 12 → NamesOrdinal year ordinal m (d + 1)
 march_ordinal year ordinal k m d four range is day next low high =
     let c = place_count (pos year) ordinal in
     let is_day = march_day c (year + greatest_year) k m d (pos year) (since year) (omega (arith, count_is year ordinal, next_year year, is, range.0)) day next low high in
     record { count = c; named = ordinal_named year ordinal four range; day_is = is_day; there = day_there (pos year) m (d + 1) c (count_within year ordinal four range) is_day }
 
 -- in January or February
-pub january_ordinal : (year ordinal k m d : ℕ) → year ≤ 9999 → IsInRange 1 365 ordinal → ordinal + 305 ≡ k → k < days_in_year (pos year) → march_days m + d ≡ k → k < march_days (m + 1) → 13 ≤ m → m ≤ 14 → NamesOrdinal year ordinal (m - 12) (d + 1)
+january_ordinal : (year ordinal k m d : ℕ) → year ≤ 9999 → IsInRange 1 365 ordinal → ordinal + 305 ≡ k → k < days_in_year (pos year) → march_days m + d ≡ k → k < march_days (m + 1) → 13 ≤ m → m ≤ 14 → NamesOrdinal year ordinal (m - 12) (d + 1)
 january_ordinal year ordinal k m d four range is early day next low high =
     let c = place_count (pos year) ordinal in
     let is_day = january_day c (year + greatest_year) k m d (pos year) (since year) (omega (arith, count_is year ordinal, is, range.0)) (omega (arith, count_is year ordinal, next_year year, is, range.0)) day next low high in
     record { count = c; named = ordinal_named year ordinal four range; day_is = is_day; there = day_there (pos year) (m - 12) (d + 1) c (count_within year ordinal four range) is_day }
+
+-- ---- a day of a year split into month and day
+
+abbrev scaled : ℕ → ℕ → ℕ
+scaled length ordinal = 2142 * (ordinal + missing_days length ordinal) + 64_624
+
+abbrev month_of : ℕ → ℕ → ℕ
+month_of length ordinal = scaled length ordinal / 65_536
+
+-- from 0 on
+abbrev day_of : ℕ → ℕ → ℕ
+day_of length ordinal = scaled length ordinal % 65_536 / 2142
+
+-- the month from March on, and its day, by the count of a year's length
+abbrev is_late : ℕ → ℕ → ℕ → ℕ → Bool
+is_late length ordinal m d = (ordinal + 305 == length + (march_days m + d)) && (nat_lt (march_days m + d) (march_days (m + 1)) && nat_le m 12)
+
+abbrev is_early : ℕ → ℕ → ℕ → ℕ → Bool
+is_early length ordinal m d = (march_days (m + 12) + d == ordinal + 305) && (nat_lt (ordinal + 305) (march_days (m + 12 + 1)) && (nat_lt (ordinal + 305) length && nat_le 1 m))
+
+abbrev splits : ℕ → ℕ → Bool
+splits length ordinal = cond (nat_lt 0 ordinal) (cond (nat_lt (month_of length ordinal) 3) (is_early length ordinal (month_of length ordinal) (day_of length ordinal)) (is_late length ordinal (month_of length ordinal) (day_of length ordinal))) true
+
+split_at : (length ordinal : ℕ) → (length ≡ 365) ⊎ (length ≡ 366) → ordinal < 366 → splits length ordinal ≡ true
+split_at length ordinal (inl e) lt = rw e (agree_below_at (splits 365) (λ _. true) 366 ordinal refl lt)
+split_at length ordinal (inr e) lt = rw e (agree_below_at (splits 366) (λ _. true) 366 ordinal refl lt)
+
+abbrev length_by : Bool → ℕ
+length_by b = cond b 366 365
+
+by_leap : (b : Bool) → (length_by b ≡ 365) ⊎ (length_by b ≡ 366)
+by_leap true = inr refl
+by_leap false = inl refl
+
+late : (length ordinal m d : ℕ) → is_late length ordinal m d ≡ true → (ordinal + 305 ≡ length + (march_days m + d)) × (march_days m + d < march_days (m + 1)) × (m ≤ 12)
+late length ordinal m d e = (grind (arith, nat_tests, e), grind (arith, nat_tests, e), grind (arith, nat_tests, e))
+
+early : (length ordinal m d : ℕ) → is_early length ordinal m d ≡ true → (march_days (m + 12) + d ≡ ordinal + 305) × (ordinal + 305 < march_days (m + 12 + 1)) × (ordinal + 305 < length) × (1 ≤ m)
+early length ordinal m d e = (grind (arith, nat_tests, e), grind (arith, nat_tests, e), grind (arith, nat_tests, e), grind (arith, nat_tests, e))
+
+below : (a b : ℕ) → a < b → nat_lt a b ≡ true
+below a b lt = grind (arith, nat_tests)
+
+not_below : (a b : ℕ) → b ≤ a → nat_lt a b ≡ false
+not_below a b le = grind (arith, nat_tests)
+
+named_by : (year ordinal m d length : ℕ) → length ≡ days_in_year (pos year) → year ≤ 9999 → IsInRange 1 365 ordinal → cond (nat_lt m 3) (is_early length ordinal m d) (is_late length ordinal m d) ≡ true → NamesOrdinal year ordinal m (d + 1)
+named_by year ordinal m d length is four range e = elim (cases_lt m 3) [
+  | inl small ↦
+      let h = early length ordinal m d (rw (below m 3 small) at e) in
+      let same : m + 12 - 12 ≡ m = omega arith in
+      rw same at (january_ordinal year ordinal (ordinal + 305) (m + 12) d four range refl (omega (arith, h.2, is)) h.0 h.1 (omega (arith, h.3)) (omega (arith, small)))
+  | inr large ↦
+      let h = late length ordinal m d (rw (not_below m 3 large) at e) in
+      march_ordinal year ordinal (march_days m + d) m d four range (omega (arith, h.0, is)) refl h.1 large h.2
+]
+
+pub ordinal_split : (year ordinal missing : ℕ) → year ≤ 9999 → IsInRange 1 365 ordinal → missing ≡ missing_days (days_in_year (pos year)) ordinal → NamesOrdinal year ordinal ((2142 * (ordinal + missing) + 64_624) / 65_536) ((2142 * (ordinal + missing) + 64_624) % 65_536 / 2142 + 1)
+ordinal_split year ordinal missing four range is =
+    let length : ℕ = days_in_year (pos year) in
+    let all = split_at length ordinal (by_leap (is_leap_year (pos year))) (omega (arith, range.1)) in
+    rw is (named_by year ordinal (month_of length ordinal) (day_of length ordinal) length refl four range (rw (below 0 ordinal (omega (arith, range.0))) at all))
 
 -- ---- days of weeks
 
@@ -100,7 +165,24 @@ week_named year week weekday four some few in_year bound =
     one_day y Week (is_iso_day y week weekday) c (within year four) bound (is_iso y week weekday c at.0 at.1 at.2) (λ k within passes.
     (iso_count-is k n week weekday y (since year) (year_of_iso y week weekday k passes) (week_of_iso y week weekday k passes) (weekday_of_iso y week weekday k passes)).0)
 
-pub week_ordinal : (year week weekday ordinal : ℕ) → year ≤ 9999 → 1 ≤ week → weekday ≤ 6 → IsInRange 1 365 ordinal → (10 - days_before_year (year + greatest_year) % 7) % 7 + 7 * week ≤ 371 → (10 - days_before_year (year + greatest_year) % 7) % 7 + 7 * week + weekday ≡ ordinal + 9 → NamesWeek year week weekday ordinal
+equals : (a b : ℕ) → (a == b) ≡ true → a ≡ b
+equals a b e = grind (arith, nat_tests)
+
+-- 400 years have so many whole weeks
+again : (k q : ℕ) → first_thursday_of (k + 400 * q) ≡ first_thursday_of k
+again k q = let days : days_before_year (k + 400 * q + greatest_year) ≡ days_before_year (k + greatest_year) + 7 * (20_871 * q) = omega arith in omega (arith, days)
+
+abbrev thursday_there : ℕ → Bool
+thursday_there k = (get_or FIRST_THURSDAYS k 0 == first_thursday_of k + 48)
+
+pub thursday_at : (year : ℕ) → get_or FIRST_THURSDAYS (year % 400) 0 ≡ first_thursday_of year + 48
+thursday_at year =
+    let h = agree_below_at thursday_there (λ _. true) 400 (year % 400) refl (omega arith) in
+    let split : year % 400 + 400 * (year / 400) ≡ year = omega arith in
+    let same : first_thursday_of year ≡ first_thursday_of (year % 400) = rw split at (again (year % 400) (year / 400)) in
+    equals (get_or FIRST_THURSDAYS (year % 400) 0) (first_thursday_of (year % 400) + 48) h ∙ rw same refl
+
+pub week_ordinal : (year week weekday ordinal : ℕ) → year ≤ 9999 → 1 ≤ week → weekday ≤ 6 → IsInRange 1 365 ordinal → first_thursday_of year + 7 * week ≤ 371 → first_thursday_of year + 7 * week + weekday ≡ ordinal + 9 → NamesWeek year week weekday ordinal
 week_ordinal year week weekday ordinal four some few range thursday is =
     let start : ℕ = days_before_year (year + greatest_year) in
     let many : 365 ≤ days_in_year (pos year) = grind (arith, nat_tests) in

@@ -1,4 +1,4 @@
--- A calendar date of the extended kind by its pieces.
+-- A calendar date of the extended kind by its pieces, and the days that dates name.
 use Rattle.std.proofs.Common.{◌≡◌, ℕ, zero, suc, ◌≤◌, true, leb, List, Option, Some, Ok, ℤ, refl, sym, ap, ◌∙◌, arith, lit<}
 use Rattle.std.specs.Prelude.{pos}
 use Rattle.std.specs.Int.{is_in_range}
@@ -7,17 +7,18 @@ use Rattle.base.specs.Bytes.{hyphen}
 use Rattle.calendar_count.specs.Month.{month_number}
 use Rattle.calendar_count.specs.declared.month.Month.{Month}
 use Rattle.calendar_count.specs.declared.month.Month.TheVariants.{January, February, March, April, May, June, July, August, September, October, November, December}
-use Rattle.std.specs.Option.{ok_or}
+use Rattle.std.specs.Option.{ok_or, unwrap_or}
 use Rattle.std.proofs.lemmas.Int.{ints}
-use Rattle.calendar_count.specs.Calendar.{is_year, day_at, ymd}
+use Rattle.calendar_count.specs.Calendar.{is_year, day_at, ymd, IsDay}
+use Rattle.calendar_count.specs.TheDay.{the_day, is_day_of}
 use Rattle.calendar_count.specs.ComponentRange.{out_of_conditional_range}
 use Rattle.calendar_count.specs.declared.component_range.ComponentName.TheVariants.{Day}
 use Rattle.parsing_values.specs.NamedDay.{calendar_date_of}
 use Rattle.parsing_fields.proofs.lemmas.Moments.{day_found, day_of_count}
 use Rattle.parsing_iso8601.specs.declared.written.WrittenDate.{WrittenDate}
-use Rattle.parsing_iso8601.specs.Fast.{NamesDay}
 use Rattle.parsing_iso8601.specs.ReadView.{day_named}
 use Rattle.parsing_combinator.specs.Pieces.{digits, byte}
+use Rattle.parsing_iso8601.specs.declared.kind.Kind.{Kind}
 use Rattle.parsing_iso8601.specs.declared.kind.Kind.TheVariants.{Extended}
 use Rattle.parsing_iso8601.specs.declared.written.WrittenDate.TheVariants.{OfMonth}
 use Rattle.parsing_iso8601.specs.Dates.{month_and_day, date_of_month, date_behind, year_and_kind}
@@ -26,6 +27,16 @@ use Rattle.parsing_iso8601.specs.Numbers.{digits_within, numbered, months, year,
 use Rattle.parsing_iso8601.specs.Reading.{dated}
 use Rattle.parsing_iso8601.proofs.Entries.{month_entry}
 use Rattle.parsing_iso8601.proofs.Pieces.{no_sign}
+
+-- a date names the day of these numbers, if the calendar has it
+abbrev pub NamesDay : WrittenDate → ℕ → ℕ → ℕ → Type 0
+NamesDay date year month day =
+    IsDay (pos year) month day → day_named date ≡ Ok (unwrap_or (the_day (is_day_of (pos year) month day)) 0)
+
+-- a date is read that names the day of these numbers
+abbrev pub ReadsDay : List ℕ → ℕ → ℕ → ℕ → Kind → List ℕ → Type 0
+ReadsDay bytes year month day kind rest =
+    (date : WrittenDate) × (dated bytes ≡ Ok ((Ok date, kind), rest)) × NamesDay date year month day
 
 -- four digits are a year
 pub year_of : (bytes : List ℕ) (n : ℕ) (rest : List ℕ) → digits 4 bytes ≡ Some (n, rest) → year bytes ≡ Some (pos n, rest)

@@ -21,14 +21,15 @@ use Rattle.parsing_iso8601.specs.Moment.{IsOfOffset}
 use Rattle.parsing_iso8601.specs.Offsets.{offset}
 use Rattle.parsing_iso8601.specs.Parts.{date_parts, time_parts, offset_parts, all_three, parts_of, offset_parts_of}
 use Rattle.parsing_iso8601.specs.Reading.{dated, iso8601, whole}
-use Rattle.parsing_iso8601.specs.ReadView.{day_named, subsecond}
+use Rattle.parsing_iso8601.specs.ReadView.{day_named}
 use Rattle.parsing_iso8601.specs.Times.{time}
 use Rattle.parsing_iso8601.specs.Times as Times
-use Rattle.parsing_iso8601.specs.Fast.{ReadsDay, ReadsClock, IsAllOffset}
 use Rattle.parsing_fields.specs.declared.fields.Fields.{Fields}
 use Rattle.parsing_fields.specs.Moment as Moment
 use Rattle.parsing_fields.specs.Moment.{day_of_fields, time_of_fields}
 use Rattle.parsing_fields.specs.Numbers.{HaveNumbers}
+use Rattle.parsing_iso8601.proofs.FastDates.{ReadsDay}
+use Rattle.parsing_iso8601.proofs.FastOffsets.{IsAllOffset}
 use Rattle.parsing_fields.proofs.lemmas.Moments.{fields_time, moment_is}
 
 pub date_named : (d : WrittenDate) → named_date (date_parts (Some d)) ≡ in_range (day_named d)
@@ -69,17 +70,16 @@ unfolding whole iso8601
 whole_of bytes b1 b2 d k l t o hd ht ho = rw hd (rw ht (rw ho refl))
 
 -- the moment of fields that have the numbers of such a text
-pub fields_named : (f : Fields) (bytes b1 b2 b3 : List ℕ) (k : Kind) (year month day hour minute second fraction : ℕ) (o : ℤ) → ReadsDay bytes year month day k b1 → ReadsClock k b1 hour minute second b2 → subsecond b2 ≡ Some (fraction, b3) → fraction < 1_000_000_000 → IsAllOffset (offset k b3) o → HaveNumbers f year month day (hour * 60 + minute) second fraction o → hour ≤ 23 → minute ≤ 59
+pub fields_named : (f : Fields) (bytes b1 b3 : List ℕ) (k : Kind) (year month day hour minute second fraction : ℕ) (o : ℤ) → ReadsDay bytes year month day k b1 → time k true b1 ≡ Some ((Times.time_of hour minute second fraction, k), b3) → fraction < 1_000_000_000 → IsAllOffset (offset k b3) o → HaveNumbers f year month day (hour * 60 + minute) second fraction o → hour ≤ 23 → minute ≤ 59
     → IsOfOffset bytes (Moment.moment_of f)
-fields_named f bytes b1 b2 b3 k year month day hour minute second fraction o in_day in_clock in_fraction bound in_offset numbers low small =
+fields_named f bytes b1 b3 k year month day hour minute second fraction o in_day in_clock bound in_offset numbers low small =
     let date = in_day.0 in
     let t : WrittenTime = Times.time_of hour minute second fraction in
     let zone = in_offset.0 in
     let most : second ≤ 59 = omega (arith, numbers.same_second, f.within_a_minute) in
     let plain : (second == 60) ≡ false = grind (arith, nat_tests) in
-    let read : time k true b1 ≡ Some ((t, k), b3) = in_clock fraction b3 in_fraction bound low small (omega arith) in
     let there : IsDay (pos year) month day = rw (← numbers.same_year, ← numbers.same_month, ← numbers.same_day) f.day_is_there in
     let named_day : day_named date ≡ Ok (day_of_fields f) = rw (numbers.same_year, numbers.same_month, numbers.same_day) (in_day.2 there) in
     let named_time = fields_time f _ _ _ _ _ _ _ _ numbers low small bound in
     let named = plain_moment date t zone (day_of_fields f) (time_of_fields f) (pos 60 *ℤ o) plain named_day named_time in_offset.2 in
-    record { written = all_three date t zone; read = rw (whole_of bytes b1 b3 date k k t zone in_day.1 read in_offset.1) refl; offset = refl; named = rw (← moment_is f, numbers.same_offset) named }
+    record { written = all_three date t zone; read = rw (whole_of bytes b1 b3 date k k t zone in_day.1 in_clock in_offset.1) refl; offset = refl; named = rw (← moment_is f, numbers.same_offset) named }

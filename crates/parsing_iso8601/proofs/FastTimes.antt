@@ -1,9 +1,8 @@
 -- A time of day by its pieces, of the extended kind and of the basic one.
-use Rattle.std.proofs.Common.{◌≡◌, ℕ, ◌+◌, ◌<◌, ◌≤◌, true, leb, List, length, drop, Option, Some, None, refl, ◌∙◌, arith, lit<}
+use Rattle.std.proofs.Common.{◌≡◌, ℕ, ◌+◌, ◌<◌, ◌≤◌, true, leb, List, length, Option, Some, None, refl, ◌∙◌, arith, lit<}
 use Rattle.std.specs.Prelude.{nat_lt}
 use Rattle.std.proofs.lemmas.Bool.Decides.{nat_tests}
 use Rattle.base.specs.Bytes.{colon}
-use Rattle.parsing_combinator.specs.Chunks.{IsClock}
 use Rattle.parsing_combinator.specs.Pieces.{digits, fraction, byte}
 use Rattle.parsing_iso8601.specs.Designators.{time_designator}
 use Rattle.parsing_iso8601.specs.Fractions.{rounded_part_of}
@@ -12,7 +11,7 @@ use Rattle.parsing_iso8601.specs.Kinds.{kind_of_time}
 use Rattle.parsing_iso8601.specs.Numbers.{number, decimal_mark, fraction_digits, due_digits}
 use Rattle.parsing_iso8601.specs.ReadView.{subsecond}
 use Rattle.parsing_iso8601.specs.Times.{time_of, subsecond_of, time, designator, from_hour, minutes, from_minute, seconds, basic_seconds, extended_seconds, due_second, to_second}
-use Rattle.parsing_iso8601.proofs.Pieces.{only_byte, no_colon, no_mark, mapped, fraction_run, run_length}
+use Rattle.parsing_iso8601.proofs.Pieces.{only_byte, no_byte, no_mark, mapped, fraction_run, run_length}
 use Rattle.parsing_iso8601.proofs.Rounding.{short_fraction}
 
 -- two digits without a fraction
@@ -43,17 +42,16 @@ time_of_pieces b0 b1 b2 b3 b4 b5 b6 rest h m s run p0 p1 p2 p3 p4 p5 p6 hh hm hs
     let tn : nat_lt (subsecond_of run) 1_000_000_000 ≡ true = grind (arith, nat_tests) in
     rw p0 (rw hour (rw th (rw p2 (rw minute (rw tm (rw p4 (rw second (rw ts (rw tn refl)))))))))
 
--- the same, its first eight bytes behind the `T` read at once
-pub time_of_chunk : (bytes behind : List ℕ) (h m s : ℕ) (after : List ℕ) (n : ℕ) (rest : List ℕ) → byte time_designator bytes ≡ Some (tt, behind) → IsClock behind h m s after → subsecond after ≡ Some (n, rest)
-    → h ≤ 23 → m ≤ 59 → s ≤ 60 → n < 1_000_000_000
-    → time Extended true bytes ≡ Some ((time_of h m s n, Extended), rest)
-unfolding subsecond
-time_of_chunk bytes behind h m s after n rest p c f hh hm hs hn =
-    mapped subsecond_of (fraction_digits after) n rest f (λ run g is.
-    let frac : fraction_digits (drop 8 behind) ≡ Some (run, rest) = rw c.rest_is g in
-    let small : subsecond_of run < 1_000_000_000 = rw is hn in
-    let t = time_of_pieces bytes behind (drop 2 behind) (drop 3 behind) (drop 5 behind) (drop 6 behind) (drop 8 behind) rest h m s run p c.hour_digits c.first_colon c.minute_digits c.second_colon c.second_digits frac hh hm hs small in
-    rw is at t)
+-- the time to a minute, behind which no second stands
+pub minutes_of_pieces : (b0 b1 b2 b3 b4 : List ℕ) (h m : ℕ) → byte time_designator b0 ≡ Some (tt, b1) → digits 2 b1 ≡ Some (h, b2) → byte colon b2 ≡ Some (tt, b3) → digits 2 b3 ≡ Some (m, b4) → decimal_mark b4 ≡ None → byte colon b4 ≡ None
+    → h ≤ 23 → m ≤ 59 → time Extended true b0 ≡ Some ((time_of h m 0 0, Extended), b4)
+unfolding time designator from_hour kind_of_time minutes from_minute seconds extended_seconds
+minutes_of_pieces b0 b1 b2 b3 b4 h m p0 p1 p2 p3 unmarked colonless hh hm =
+    let hour = before_colon b1 h b2 b3 p1 p2 in
+    let minute = whole_number b3 m b4 p3 unmarked in
+    let th : leb h 23 ≡ true = grind (arith, nat_tests) in
+    let tm : leb m 59 ≡ true = grind (arith, nat_tests) in
+    rw p0 (rw hour (rw th (rw p2 (rw minute (rw tm (rw colonless refl))))))
 
 pub before_digits : (bytes : List ℕ) (n : ℕ) (rest : List ℕ) (x : ℕ × List ℕ) → digits 2 bytes ≡ Some (n, rest) → digits 2 rest ≡ Some x → number bytes ≡ Some ((n, None), rest)
 before_digits bytes n rest x e f = whole_number bytes n rest e (no_mark 2 rest x (lit< tt) f)
@@ -67,23 +65,35 @@ basic_time_of_pieces b0 b1 b2 b3 b4 rest h m s run p0 p1 p2 p3 p4 hh hm hs hn =
     let hour = before_digits b1 h b2 (m, b3) p1 p2 in
     let minute = before_digits b2 m b3 (s, b4) p2 p3 in
     let second = number_of b3 s b4 run rest p3 p4 in
-    let colonless = no_colon 2 b2 (m, b3) (lit< tt) p2 in
+    let colonless = no_byte colon 2 b2 (m, b3) refl (lit< tt) p2 in
     let th : leb h 23 ≡ true = grind (arith, nat_tests) in
     let tm : leb m 59 ≡ true = grind (arith, nat_tests) in
     let ts : leb s 60 ≡ true = grind (arith, nat_tests) in
     let tn : nat_lt (subsecond_of run) 1_000_000_000 ≡ true = grind (arith, nat_tests) in
     rw p0 (rw hour (rw th (rw colonless (rw minute (rw tm (rw second (rw ts (rw tn refl))))))))
 
--- the same, the nanoseconds read at once
-pub basic_time_of : (b0 b1 b2 b3 b4 : List ℕ) (h m s n : ℕ) (rest : List ℕ) → byte time_designator b0 ≡ Some (tt, b1) → digits 2 b1 ≡ Some (h, b2) → digits 2 b2 ≡ Some (m, b3) → digits 2 b3 ≡ Some (s, b4) → subsecond b4 ≡ Some (n, rest)
-    → h ≤ 23 → m ≤ 59 → s ≤ 60 → n < 1_000_000_000
-    → time Basic true b0 ≡ Some ((time_of h m s n, Basic), rest)
+no_number : (bytes : List ℕ) → digits 2 bytes ≡ None → number bytes ≡ None
+unfolding number
+no_number bytes e = rw e refl
+
+-- the same to a minute
+pub basic_minutes_of_pieces : (b0 b1 b2 b3 : List ℕ) (h m : ℕ) → byte time_designator b0 ≡ Some (tt, b1) → digits 2 b1 ≡ Some (h, b2) → digits 2 b2 ≡ Some (m, b3) → decimal_mark b3 ≡ None → digits 2 b3 ≡ None
+    → h ≤ 23 → m ≤ 59 → time Basic true b0 ≡ Some ((time_of h m 0 0, Basic), b3)
+unfolding time designator from_hour kind_of_time minutes from_minute seconds basic_seconds
+basic_minutes_of_pieces b0 b1 b2 b3 h m p0 p1 p2 unmarked none hh hm =
+    let hour = before_digits b1 h b2 (m, b3) p1 p2 in
+    let minute = whole_number b2 m b3 p2 unmarked in
+    let colonless = no_byte colon 2 b2 (m, b3) refl (lit< tt) p2 in
+    let th : leb h 23 ≡ true = grind (arith, nat_tests) in
+    let tm : leb m 59 ≡ true = grind (arith, nat_tests) in
+    rw p0 (rw hour (rw th (rw colonless (rw minute (rw tm (rw (no_number b3 none) refl))))))
+
+-- ---- fractions
+
+-- a time whose fraction has these nanoseconds
+pub of_fraction : {C : Type 0} (behind rest : List ℕ) (n : ℕ) → subsecond behind ≡ Some (n, rest) → ((run : Option (List ℕ)) → fraction_digits behind ≡ Some (run, rest) → subsecond_of run ≡ n → C) → C
 unfolding subsecond
-basic_time_of b0 b1 b2 b3 b4 h m s n rest p0 p1 p2 p3 f hh hm hs hn =
-    mapped subsecond_of (fraction_digits b4) n rest f (λ run frac is.
-    let small : subsecond_of run < 1_000_000_000 = rw is hn in
-    let t = basic_time_of_pieces b0 b1 b2 b3 b4 rest h m s run p0 p1 p2 p3 frac hh hm hs small in
-    rw is at t)
+of_fraction behind rest n f on = mapped subsecond_of (fraction_digits behind) n rest f on
 
 -- a fraction of at most nine digits
 pub short_subsecond : (bytes behind rest : List ℕ) (n : ℕ) → decimal_mark bytes ≡ Some (tt, behind) → fraction behind ≡ Some (n, rest) → length behind ≤ length rest + 9 → subsecond bytes ≡ Some (n, rest)

@@ -37,7 +37,10 @@ pub first_digit : (n : ℕ) (c : ℕ) (cs : List ℕ) (x : ℕ × List ℕ) → 
 unfolding digits
 first_digit n c cs x some e = first_counted n (is_ascii_digit c) (digit_count cs) some (passed (leb n (digit_count (c ∷ cs))) _ x e)
 
--- digits have no sign, no decimal mark and no colon before them
+apart : (c a : ℕ) → is_ascii_digit c ≡ true → is_ascii_digit a ≡ false → (c == a) ≡ false
+apart c a is_one is_none = grind (arith, nat_tests)
+
+-- digits have no sign and no decimal mark before them
 pub no_sign : (n : ℕ) (bytes : List ℕ) (x : ℕ × List ℕ) → 1 ≤ n → digits n bytes ≡ Some x → sign bytes ≡ None
 unfolding byte_of
 no_sign n [] x some e = refl
@@ -54,12 +57,13 @@ no_mark n (c ∷ cs) x some e =
     let t : ((c == 46) || (c == 44)) ≡ false = grind (arith, nat_tests) in
     rw t refl
 
-pub no_colon : (n : ℕ) (bytes : List ℕ) (x : ℕ × List ℕ) → 1 ≤ n → digits n bytes ≡ Some x → byte 58 bytes ≡ None
+-- nor any other byte that is no digit
+pub no_byte : (a n : ℕ) (bytes : List ℕ) (x : ℕ × List ℕ) → is_ascii_digit a ≡ false → 1 ≤ n → digits n bytes ≡ Some x → byte a bytes ≡ None
 unfolding skip_of
-no_colon n [] x some e = refl
-no_colon n (c ∷ cs) x some e =
-    let d = digit_here c (first_digit n c cs x some e) in
-    let t : (c == 58) ≡ false = grind (arith, nat_tests) in
+no_byte a n [] x other some e = refl
+no_byte a n (c ∷ cs) x other some e =
+    let d = first_digit n c cs x some e in
+    let t : (c == a) ≡ false = apart c a d other in
     rw t refl
 
 -- a byte is no other one
@@ -92,13 +96,3 @@ mapped {B = B} f (Some x) v rest h on =
 pub fraction_run : {C : Type 0} (bytes : List ℕ) (n : ℕ) (rest : List ℕ) → fraction bytes ≡ Some (n, rest) → ((run : List ℕ) → digit_run bytes ≡ Some (run, rest) → nanoseconds_of run ≡ n → C) → C
 unfolding fraction
 fraction_run bytes n rest h on = mapped nanoseconds_of (digit_run bytes) n rest h on
-
-run_rest : (bytes run rest : List ℕ) → digit_run bytes ≡ Some (run, rest) → drop (digit_count bytes) bytes ≡ rest
-unfolding digit_run
-run_rest bytes run rest e =
-    let k = digit_count bytes in
-    ap (λ (x : List ℕ × List ℕ). x.1) (not_passed (k == 0) (take k bytes, drop k bytes) (run, rest) e)
-
--- what a fraction leaves
-pub fraction_rest : (bytes : List ℕ) (n : ℕ) (rest : List ℕ) → fraction bytes ≡ Some (n, rest) → drop (digit_count bytes) bytes ≡ rest
-fraction_rest bytes n rest h = fraction_run bytes n rest h (λ run e is. run_rest bytes run rest e)

@@ -1,53 +1,58 @@
--- The fronts of texts by the places of their parts.
-use Rattle.std.proofs.Common.{◌≡◌, ◌≤◌, ◌<◌, ◌+◌, ◌-◌, ◌*◌, ◌∙◌, ◌==◌, ℕ, zero, suc, true, false, List, length, get_or, drop, leb, Option, Some, None, Ok, Err, refl, sym, ap, arith, pos, ℤ}
+-- Dates by the places of their parts.
+use Rattle.std.proofs.Common.{◌≡◌, ◌≤◌, ◌<◌, ◌+◌, ◌-◌, ◌*◌, ◌∙◌, ◌==◌, ℕ, zero, suc, Bool, true, false, List, length, get_or, drop, leb, Option, Some, None, Ok, Err, refl, ap, subst, inl, inr, arith, lit<, lit≤, pos, ℤ}
 use Rattle.std.specs.Prelude.{option_map, codes}
 use Rattle.std.specs.Char.{is_ascii_digit}
+use Rattle.std.proofs.Math.Bool.{and-false}
+use Rattle.std.proofs.lemmas.Bool.{cases_lt}
 use Rattle.std.proofs.lemmas.Bool.Decides.{nat_tests}
-use Rattle.std.proofs.lemmas.List.{drop-drop, drop_more, get_or-drop, length-drop}
+use Rattle.std.proofs.lemmas.List.{drop_more, get_or-drop, length-drop}
 use Rattle.base.specs.Bytes.{hyphen}
 use Rattle.calendar_count.specs.Calendar.{IsDay}
-use Rattle.calendar_count.specs.Month.{month_number}
 use Rattle.calendar_count.specs.Weekday.{days_from_monday}
+use Rattle.calendar_count.specs.Month.{month_number}
 use Rattle.calendar_count.specs.declared.month.Month.{Month}
 use Rattle.calendar_count.specs.declared.weekday.Weekday.{Weekday}
 use Rattle.calendar_count.specs.declared.weekday.Weekday.TheVariants.{Monday, Tuesday, Wednesday, Thursday, Friday, Saturday, Sunday}
-use Rattle.parsing_combinator.specs.Chunks.{IsClock}
 use Rattle.parsing_combinator.specs.Fault.{Fault, literal, component}
 use Rattle.parsing_combinator.specs.Pieces.{digits, byte, skip_of}
-use Rattle.parsing_combinator.specs.Places.{HasDigit, HasPair}
-use Rattle.parsing_combinator.proofs.AtPlaces.{is_digit, at_least, first_at, two_there, byte_there}
-use Rattle.parsing_combinator.proofs.Fixed.{digits_one, digits_two, digits_three}
+use Rattle.parsing_combinator.proofs.AtPlaces.{at_least, first_at, byte_there}
+use Rattle.parsing_combinator.proofs.Fixed.{digits_two, digits_three}
+use Rattle.parsing_places.specs.End.{width_of}
+use Rattle.parsing_places.specs.Numbers.{WritesTwo, WritesNumber, HasShape}
+use Rattle.parsing_places.specs.declared.shape.Shape.{Shape}
+use Rattle.parsing_places.proofs.YearLemmas.{byte_in}
 use Rattle.parsing_iso8601.specs.Dates.{month_and_day, date_of_month, date_of_year, date_of_week, week_and_weekday, date_without_month, date_behind, year_and_kind}
 use Rattle.parsing_iso8601.specs.Days.{NamesOrdinal, NamesWeekDay}
 use Rattle.parsing_iso8601.specs.Designators.{time_designator, week_designator}
-use Rattle.parsing_iso8601.specs.Fast.{NamesDay, ReadsDay, ReadsClock}
+use Rattle.parsing_iso8601.specs.Forms.{Lets, EndsWithClock, IsCalendar, IsOrdinal, IsWeek, NamesDate, mark, two_digits, one_digit}
 use Rattle.parsing_iso8601.specs.Kinds.{kind_of_date}
 use Rattle.parsing_iso8601.specs.Numbers.{digits_within, numbered, counted, months, weekdays}
-use Rattle.parsing_iso8601.specs.Places.{HasExtendedClock, HasBasicClock, IsExtendedCalendar, IsExtendedWeek, IsExtendedOrdinal, IsBasicCalendar, IsBasicWeek, IsBasicOrdinal, HasOrdinal}
 use Rattle.parsing_iso8601.specs.Reading.{dated}
+use Rattle.parsing_iso8601.specs.declared.form.Dating.{Dating}
+use Rattle.parsing_iso8601.specs.declared.form.Dating.TheVariants.{Calendar, Ordinal, Week}
+use Rattle.parsing_iso8601.specs.declared.kind.Kind.{Kind}
 use Rattle.parsing_iso8601.specs.declared.kind.Kind.TheVariants.{Basic, Extended}
 use Rattle.parsing_iso8601.specs.declared.written.WrittenDate.TheVariants.{OfMonth, OfYear, OfWeek}
 use Rattle.parsing_iso8601.proofs.Entries.{weekday_entry}
-use Rattle.parsing_iso8601.proofs.FastDates.{year_of, month_of, within, date_of_pieces, named_month, month_names, count_names}
-use Rattle.parsing_iso8601.proofs.FastTimes.{time_of_chunk, basic_time_of}
-use Rattle.parsing_iso8601.proofs.Pieces.{same}
+use Rattle.parsing_iso8601.proofs.FastDates.{NamesDay, ReadsDay, year_of, month_of, within, date_of_pieces, named_month, month_names, count_names}
+use Rattle.parsing_iso8601.proofs.Pieces.{no_byte}
 
 -- ---- what is not there
 
-pub not_digit : (c : ℕ) → 57 < c → is_ascii_digit c ≡ false
+not_digit : (c : ℕ) → 57 < c → is_ascii_digit c ≡ false
 not_digit c high = grind (arith, nat_tests)
 
 -- no two digits, where the first is none
-pub no_two : (text : List ℕ) (place : ℕ) → place + 2 ≤ length text → 57 < get_or text place 0 → digits 2 (drop place text) ≡ None
+no_two : (text : List ℕ) (place : ℕ) → place + 2 ≤ length text → 57 < get_or text place 0 → digits 2 (drop place text) ≡ None
 no_two text place room high =
     let long : leb 2 (length (drop place text)) ≡ true = at_least 2 (length (drop place text)) (omega (arith, length-drop place text)) in
     digits_two (drop place text) ∙ rw (long, first_at text place, not_digit (get_or text place 0) high) refl
 
 -- or the second
-pub no_second : (text : List ℕ) (place : ℕ) → place + 2 ≤ length text → HasDigit text place → 57 < get_or text (place + 1) 0 → digits 2 (drop place text) ≡ None
-no_second text place room h high =
+no_second : (text : List ℕ) (place : ℕ) → place + 2 ≤ length text → 57 < get_or text (place + 1) 0 → digits 2 (drop place text) ≡ None
+no_second text place room high =
     let long : leb 2 (length (drop place text)) ≡ true = at_least 2 (length (drop place text)) (omega (arith, length-drop place text)) in
-    digits_two (drop place text) ∙ rw (long, first_at text place, get_or-drop place text 1 0, is_digit (get_or text place 0) h.low h.high, not_digit (get_or text (place + 1) 0) high) refl
+    digits_two (drop place text) ∙ rw (long, first_at text place, get_or-drop place text 1 0, not_digit (get_or text (place + 1) 0) high, and-false (is_ascii_digit (get_or text place 0))) refl
 
 pub other_byte : (text : List ℕ) (place c : ℕ) → place < length text → (get_or text place 0 ≡ c → ⊥) → byte c (drop place text) ≡ None
 unfolding skip_of
@@ -55,13 +60,9 @@ other_byte text place c lt other =
     let t : (get_or text place 0 == c) ≡ false = grind (arith, nat_tests) in
     rw (drop_more text place 0 lt) (rw t refl)
 
--- three digits, by the number of two
-pub three_behind : (text : List ℕ) (place high : ℕ) → digits 2 (drop place text) ≡ Some (high, drop (place + 2) text) → HasDigit text (place + 2) → place + 3 ≤ length text → digits 3 (drop place text) ≡ Some (high * 10 + (get_or text (place + 2) 0 - 48), drop (place + 3) text)
-three_behind text place high two k room =
-    let long : leb 1 (length (drop (place + 2) text)) ≡ true = at_least 1 (length (drop (place + 2) text)) (omega (arith, length-drop (place + 2) text)) in
-    let behind : place + 2 + 1 ≡ place + 3 = omega arith in
-    let one : digits 1 (drop (place + 2) text) ≡ Some (get_or text (place + 2) 0 - 48, drop (place + 3) text) = digits_one (drop (place + 2) text) ∙ rw (long, first_at text (place + 2), is_digit (get_or text (place + 2) 0) k.low k.high, drop-drop 1 (place + 2) text, behind) refl in
-    digits_three (drop place text) ∙ rw (two, one) refl
+-- three digits, by two and the last
+three_behind : (text : List ℕ) (place high low : ℕ) → digits 2 (drop place text) ≡ Some (high, drop (place + 2) text) → digits 1 (drop (place + 2) text) ≡ Some (low, drop (place + 3) text) → digits 3 (drop place text) ≡ Some (high * 10 + low, drop (place + 3) text)
+three_behind text place high low two one = digits_three (drop place text) ∙ rw (two, one) refl
 
 -- ---- dates by their pieces
 
@@ -147,118 +148,114 @@ numbered_weekday : (bytes rest : List ℕ) (n : ℕ) (w : Weekday) → digits 1 
 unfolding numbered
 numbered_weekday bytes rest n w e some is = rw e (rw (weekday_entry w n some is) refl)
 
-weekday_there : (text : List ℕ) (place : ℕ) (w : Weekday) → place < length text → 49 ≤ get_or text place 0 → get_or text place 0 ≤ 55 → days_from_monday w ≡ get_or text place 0 - 49 → numbered 1 weekdays (drop place text) ≡ Some (w, drop (place + 1) text)
-weekday_there text place w lt low high is =
-    let long : leb 1 (length (drop place text)) ≡ true = at_least 1 (length (drop place text)) (omega (arith, length-drop place text)) in
-    let one : digits 1 (drop place text) ≡ Some (get_or text place 0 - 48, drop (place + 1) text) = digits_one (drop place text) ∙ rw (long, first_at text place, is_digit (get_or text place 0) (omega arith) (omega arith), drop-drop 1 place text) refl in
-    numbered_weekday (drop place text) (drop (place + 1) text) (get_or text place 0 - 48) w one (omega arith) (omega (arith, is))
-
 week_names : (y week weekday m d : ℕ) (w : Weekday) → days_from_monday w ≡ weekday → NamesWeekDay y week weekday m d → NamesDay (OfWeek (pos y) week w) y m d
 week_names y week weekday m d w is named = count_names (OfWeek (pos y) week w) (pos y) y m d named.count (rw is named.named) refl named.day_is
 
-pub extended_week_day : (text : List ℕ) (y week m d : ℕ) → IsExtendedWeek text → digits 4 text ≡ Some (y, drop 4 text) → digits 2 (drop 6 text) ≡ Some (week, drop 8 text) → NamesWeekDay y week (get_or text 9 0 - 49) m d → ReadsDay text y m d Extended (drop 10 text)
-extended_week_day text y week m d s p0 p5 named =
-    let room = s.clock.clock.second.room in
-    let w = weekday_of (get_or text 9 0 - 49) (omega (arith, s.last_weekday)) in
-    let no = no_two text 5 (omega arith) (omega (arith, s.mark)) in (
-      OfWeek (pos y) week w.0,
-      extended_week_pieces text (drop 4 text) (drop 5 text) (drop 6 text) (drop 8 text) (drop 9 text) (drop 10 text) y week w.0 p0 (byte_there text 4 hyphen (omega arith) s.first_hyphen) no (no_three (drop 5 text) no) (byte_there text 5 week_designator (omega arith) s.mark) p5 named.some named.most (byte_there text 8 hyphen (omega arith) s.second_hyphen) (weekday_there text 9 w.0 (omega arith) s.first_weekday s.last_weekday w.1),
-      week_names y week (get_or text 9 0 - 49) m d w.0 w.1 named,
-    )
-
-pub basic_week_day : (text : List ℕ) (y week m d : ℕ) → IsBasicWeek text → digits 4 text ≡ Some (y, drop 4 text) → digits 2 (drop 5 text) ≡ Some (week, drop 7 text) → NamesWeekDay y week (get_or text 7 0 - 49) m d → ReadsDay text y m d Basic (drop 8 text)
-basic_week_day text y week m d s p0 p5 named =
-    let room = s.clock.second.room in
-    let w = weekday_of (get_or text 7 0 - 49) (omega (arith, s.last_weekday)) in
-    let no = no_two text 4 (omega arith) (omega (arith, s.mark)) in (
-      OfWeek (pos y) week w.0,
-      basic_week_pieces text (drop 4 text) (drop 5 text) (drop 7 text) (drop 8 text) y week w.0 p0 (other_byte text 4 hyphen (omega arith) (λ e. omega (arith, e, s.mark))) no (no_three (drop 4 text) no) (byte_there text 4 week_designator (omega arith) s.mark) p5 named.some named.most (weekday_there text 7 w.0 (omega arith) s.first_weekday s.last_weekday w.1),
-      week_names y week (get_or text 7 0 - 49) m d w.0 w.1 named,
-    )
-
-pub extended_ordinal_day : (text : List ℕ) (y m d : ℕ) → IsExtendedOrdinal text → digits 4 text ≡ Some (y, drop 4 text) → HasOrdinal y text 5 m d → ReadsDay text y m d Extended (drop 8 text)
-extended_ordinal_day text y m d s p0 o =
-    let room = s.clock.clock.second.room in (
-      OfYear (pos y) o.ordinal,
-      extended_ordinal_pieces text (drop 4 text) (drop 5 text) (drop 7 text) (drop 8 text) y _ o.ordinal p0 (byte_there text 4 hyphen (omega arith) s.first_hyphen) (two_there text 5 s.first_two) (other_byte text 7 hyphen (omega arith) (λ e. omega (arith, e, s.last.low))) o.digits_are o.some o.most,
-      of_ordinal y o.ordinal m d o.named,
-    )
-
-pub basic_ordinal_day : (text : List ℕ) (y m d : ℕ) → IsBasicOrdinal text → digits 4 text ≡ Some (y, drop 4 text) → HasOrdinal y text 4 m d → ReadsDay text y m d Basic (drop 7 text)
-basic_ordinal_day text y m d s p0 o =
-    let room = s.clock.second.room in (
-      OfYear (pos y) o.ordinal,
-      basic_ordinal_pieces text (drop 4 text) (drop 6 text) (drop 7 text) y _ o.ordinal p0 (other_byte text 4 hyphen (omega arith) (λ e. omega (arith, e, s.first_two.first.low))) (two_there text 4 s.first_two) (no_second text 6 (omega arith) s.last (omega (arith, s.clock.mark))) o.digits_are o.some o.most,
-      of_ordinal y o.ordinal m d o.named,
-    )
-
 -- no month has more than 31 days
-pub few_days : (y : ℤ) (m d : ℕ) → IsDay y m d → d ≤ 31
+few_days : (y : ℤ) (m d : ℕ) → IsDay y m d → d ≤ 31
 few_days y m d h = let most = h.4 in grind (arith, nat_tests)
 
-pub extended_calendar_day : (text : List ℕ) (y m d : ℕ) → IsExtendedCalendar text → digits 4 text ≡ Some (y, drop 4 text) → digits 2 (drop 5 text) ≡ Some (m, drop 7 text) → digits 2 (drop 8 text) ≡ Some (d, drop 10 text) → 1 ≤ m → m ≤ 12 → 1 ≤ d → d ≤ 31 → ReadsDay text y m d Extended (drop 10 text)
-extended_calendar_day text y m d s p0 p2 p3 low high some most =
-    let room = s.clock.clock.second.room in
-    let month = named_month m low high in (
-      OfMonth (pos y) month.0 d,
-      date_of_pieces text (drop 4 text) (drop 5 text) (drop 7 text) (drop 8 text) (drop 10 text) y m d month.0 p0 (byte_there text 4 hyphen (omega arith) s.first_hyphen) p2 month.1 (byte_there text 7 hyphen (omega arith) s.second_hyphen) p3 some most,
-      month_names (pos y) month.0 y m d refl month.1,
-    )
+-- the kind of a text with hyphens and colons, or without
+abbrev pub kind_of : Bool → Kind
+kind_of true = Extended
+kind_of false = Basic
 
-pub basic_calendar_day : (text : List ℕ) (y m d : ℕ) → IsBasicCalendar text → digits 4 text ≡ Some (y, drop 4 text) → digits 2 (drop 4 text) ≡ Some (m, drop 6 text) → digits 2 (drop 6 text) ≡ Some (d, drop 8 text) → 1 ≤ m → m ≤ 12 → 1 ≤ d → d ≤ 31 → ReadsDay text y m d Basic (drop 8 text)
-basic_calendar_day text y m d s p0 p2 p3 low high some most =
-    let room = s.clock.second.room in
-    let month = named_month m low high in (
-      OfMonth (pos y) month.0 d,
-      calendar_pieces text (drop 4 text) (drop 6 text) (drop 8 text) y m d month.0 p0 (other_byte text 4 hyphen (omega arith) (λ e. omega (arith, e, s.month.first.low))) p2 month.1 p3 some most,
-      month_names (pos y) month.0 y m d refl month.1,
-    )
+-- ---- dates by their places
 
--- ---- times of day
+module _ (shape : Shape) (text : List ℕ) (small : (k : ℕ) → get_or text k 0 < 256) (has : HasShape shape text) where
+  -- a byte that alone can stand at a place
+  pub said : (place c : ℕ) → c < 256 → Lets shape place c → get_or text place 0 ≡ c
+  said place c fits lets = elim (cases_lt place 16) [
+    | inl front ↦
+        let here : 0 + place ≡ place = omega arith in
+        rw here at (byte_in shape.front text 0 place c small has.front (lets.front front) fits)
+    | inr back ↦
+        let there : shape.back_at + (place - shape.back_at) ≡ place = omega (arith, lets.behind, back) in
+        rw there at (byte_in shape.back text shape.back_at (place - shape.back_at) c small has.back (lets.back back) fits)
+  ]
 
-pub extended_clock_reads : (text : List ℕ) (place h m s : ℕ) → HasExtendedClock text place → IsClock (drop (place + 1) text) h m s (drop (place + 9) text) → ReadsClock Extended (drop place text) h m s (drop (place + 9) text)
-extended_clock_reads text place h m s k is =
-    let room = k.clock.second.room in
-    λ n rest f bound hh hm hs. time_of_chunk (drop place text) (drop (place + 1) text) h m s (drop (place + 9) text) n rest (byte_there text place time_designator (omega arith) k.mark) is f hh hm hs bound
+  long : 16 ≤ length text
+  long = omega (arith, has.room)
 
-pub basic_clock_reads : (text : List ℕ) (place h m s : ℕ) → HasBasicClock text place → digits 2 (drop (place + 1) text) ≡ Some (h, drop (place + 3) text) → digits 2 (drop (place + 3) text) ≡ Some (m, drop (place + 5) text) → digits 2 (drop (place + 5) text) ≡ Some (s, drop (place + 7) text) → ReadsClock Basic (drop place text) h m s (drop (place + 7) text)
-basic_clock_reads text place h m s k p1 p2 p3 =
-    let room = k.second.room in
-    λ n rest f bound hh hm hs. basic_time_of (drop place text) (drop (place + 1) text) (drop (place + 3) text) (drop (place + 5) text) (drop (place + 7) text) h m s n rest (byte_there text place time_designator (omega arith) k.mark) p1 p2 p3 f hh hm hs bound
+  two_at : (number place value : ℕ) → number ≡ place → WritesNumber text (two_digits number) value → WritesTwo text (place - 1) value
+  two_at number place value e w = rw e at (w.two refl)
 
-pub clock_behind : (text : List ℕ) (place h m s : ℕ) → IsClock (drop (place + 1) text) h m s (drop (place + 1 + 8) text) → IsClock (drop (place + 1) text) h m s (drop (place + 9) text)
-clock_behind text place h m s is = let same : place + 1 + 8 ≡ place + 9 = omega arith in rw same at is
+  module _ (y high low : ℕ) (year : digits 4 text ≡ Some (y, drop 4 text)) (first : WritesNumber text shape.high high) (second : WritesNumber text shape.low low) where
+    calendar_read : (b : Bool) → shape.has_colon ≡ b → IsCalendar shape → IsDay (pos y) high low → ReadsDay text y high low (kind_of b) (drop (8 + 2 * width_of b) text)
+    calendar_read true is s day =
+        let one : shape.high ≡ two_digits 6 = s.month ∙ ap (λ b. two_digits (5 + width_of b)) is in
+        let two : shape.low ≡ two_digits 9 = s.day ∙ ap (λ b. two_digits (7 + 2 * width_of b)) is in
+        let month = named_month high day.1 day.2 in (
+          OfMonth (pos y) month.0 low,
+          date_of_pieces text (drop 4 text) (drop 5 text) (drop 7 text) (drop 8 text) (drop 10 text) y high low month.0 year (byte_there text 4 hyphen (omega (arith, long)) (said 4 hyphen (lit< tt) (s.first_hyphen is))) ((rw one at first).two refl) month.1 (byte_there text 7 hyphen (omega (arith, long)) (said 7 hyphen (lit< tt) (s.second_hyphen is))) ((rw two at second).two refl) day.3 (few_days (pos y) high low day),
+          month_names (pos y) month.0 y high low refl month.1,
+        )
+    calendar_read false is s day =
+        let one : shape.high ≡ two_digits 5 = s.month ∙ ap (λ b. two_digits (5 + width_of b)) is in
+        let two : shape.low ≡ two_digits 7 = s.day ∙ ap (λ b. two_digits (7 + 2 * width_of b)) is in
+        let month = named_month high day.1 day.2 in
+        let digits_are : digits 2 (drop 4 text) ≡ Some (high, drop 6 text) = (rw one at first).two refl in (
+          OfMonth (pos y) month.0 low,
+          calendar_pieces text (drop 4 text) (drop 6 text) (drop 8 text) y high low month.0 year (no_byte hyphen 2 (drop 4 text) (high, drop 6 text) refl (lit≤ tt) digits_are) digits_are month.1 ((rw two at second).two refl) day.3 (few_days (pos y) high low day),
+          month_names (pos y) month.0 y high low refl month.1,
+        )
 
-pub basic_clock_of : (text : List ℕ) (place h m s : ℕ) → HasBasicClock text place → digits 2 (drop (place + 1) text) ≡ Some (h, drop (place + 1 + 2) text) → digits 2 (drop (place + 1 + 2) text) ≡ Some (m, drop (place + 1 + 4) text) → digits 2 (drop (place + 5) text) ≡ Some (s, drop (place + 5 + 2) text) → ReadsClock Basic (drop place text) h m s (drop (place + 7) text)
-basic_clock_of text place h m s k p1 p2 p3 =
-    let third : place + 1 + 2 ≡ place + 3 = omega arith in
-    let fifth : place + 1 + 4 ≡ place + 5 = omega arith in
-    let seventh : place + 5 + 2 ≡ place + 7 = omega arith in
-    basic_clock_reads text place h m s k (rw third at p1) (rw (third, fifth) at p2) (rw seventh at p3)
+    ordinal_read : (b : Bool) (m d : ℕ) → shape.has_colon ≡ b → IsOrdinal shape → 1 ≤ high * 10 + low → high * 10 + low ≤ 365 → NamesOrdinal y (high * 10 + low) m d → ReadsDay text y m d (kind_of b) (drop (7 + width_of b) text)
+    ordinal_read true m d is s some most named =
+        let one : shape.high ≡ two_digits 6 = s.first_two ∙ ap (λ b. two_digits (5 + width_of b)) is in
+        let two : shape.low ≡ one_digit 7 = s.last ∙ ap (λ b. one_digit (6 + width_of b)) is in
+        let front : digits 2 (drop 5 text) ≡ Some (high, drop 7 text) = (rw one at first).two refl in
+        let last : digits 1 (drop 7 text) ≡ Some (low, drop 8 text) = (rw two at second).one refl in (
+          OfYear (pos y) (high * 10 + low),
+          extended_ordinal_pieces text (drop 4 text) (drop 5 text) (drop 7 text) (drop 8 text) y high (high * 10 + low) year (byte_there text 4 hyphen (omega (arith, long)) (said 4 hyphen (lit< tt) (s.first_hyphen is))) front (no_byte hyphen 1 (drop 7 text) (low, drop 8 text) refl (lit≤ tt) last) (three_behind text 5 high low front last) some most,
+          of_ordinal y (high * 10 + low) m d named,
+        )
+    ordinal_read false m d is s some most named =
+        let one : shape.high ≡ two_digits 5 = s.first_two ∙ ap (λ b. two_digits (5 + width_of b)) is in
+        let two : shape.low ≡ one_digit 6 = s.last ∙ ap (λ b. one_digit (6 + width_of b)) is in
+        let front : digits 2 (drop 4 text) ≡ Some (high, drop 6 text) = (rw one at first).two refl in
+        let last : digits 1 (drop 6 text) ≡ Some (low, drop 7 text) = (rw two at second).one refl in
+        let behind = said 7 time_designator (lit< tt) (subst (λ b. Lets shape (7 + width_of b) time_designator) is s.clock.designator) in (
+          OfYear (pos y) (high * 10 + low),
+          basic_ordinal_pieces text (drop 4 text) (drop 6 text) (drop 7 text) y high (high * 10 + low) year (no_byte hyphen 2 (drop 4 text) (high, drop 6 text) refl (lit≤ tt) front) front (no_second text 6 (omega (arith, long)) (omega (arith, behind))) (three_behind text 4 high low front last) some most,
+          of_ordinal y (high * 10 + low) m d named,
+        )
 
--- ---- numbers below sixty
+    week_read : (b : Bool) (m d : ℕ) → shape.has_colon ≡ b → IsWeek shape → 1 ≤ low → low ≤ 7 → NamesWeekDay y high (low - 1) m d → ReadsDay text y m d (kind_of b) (drop (8 + 2 * width_of b) text)
+    week_read true m d is s some most named =
+        let one : shape.high ≡ two_digits 7 = s.week ∙ ap (λ b. two_digits (6 + width_of b)) is in
+        let two : shape.low ≡ one_digit 9 = s.weekday ∙ ap (λ b. one_digit (7 + 2 * width_of b)) is in
+        let mark = said 5 week_designator (lit< tt) (subst (λ b. Lets shape (4 + width_of b) week_designator) is s.designator) in
+        let w = weekday_of (low - 1) (omega (arith, most)) in
+        let no = no_two text 5 (omega (arith, long)) (omega (arith, mark)) in (
+          OfWeek (pos y) high w.0,
+          extended_week_pieces text (drop 4 text) (drop 5 text) (drop 6 text) (drop 8 text) (drop 9 text) (drop 10 text) y high w.0 year (byte_there text 4 hyphen (omega (arith, long)) (said 4 hyphen (lit< tt) (s.first_hyphen is))) no (no_three (drop 5 text) no) (byte_there text 5 week_designator (omega (arith, long)) mark) ((rw one at first).two refl) named.some named.most (byte_there text 8 hyphen (omega (arith, long)) (said 8 hyphen (lit< tt) (s.second_hyphen is))) (numbered_weekday (drop 9 text) (drop 10 text) low w.0 ((rw two at second).one refl) some w.1),
+          week_names y high (low - 1) m d w.0 w.1 named,
+        )
+    week_read false m d is s some most named =
+        let one : shape.high ≡ two_digits 6 = s.week ∙ ap (λ b. two_digits (6 + width_of b)) is in
+        let two : shape.low ≡ one_digit 7 = s.weekday ∙ ap (λ b. one_digit (7 + 2 * width_of b)) is in
+        let mark = said 4 week_designator (lit< tt) (subst (λ b. Lets shape (4 + width_of b) week_designator) is s.designator) in
+        let w = weekday_of (low - 1) (omega (arith, most)) in
+        let no = no_two text 4 (omega (arith, long)) (omega (arith, mark)) in (
+          OfWeek (pos y) high w.0,
+          basic_week_pieces text (drop 4 text) (drop 5 text) (drop 7 text) (drop 8 text) y high w.0 year (other_byte text 4 hyphen (omega (arith, long)) (λ e. omega (arith, e, mark))) no (no_three (drop 4 text) no) (byte_there text 4 week_designator (omega (arith, long)) mark) ((rw one at first).two refl) named.some named.most (numbered_weekday (drop 7 text) (drop 8 text) low w.0 ((rw two at second).one refl) some w.1),
+          week_names y high (low - 1) m d w.0 w.1 named,
+        )
 
--- two digits whose tens are at most 5
-sixty_at : (text : List ℕ) (place n : ℕ) (rest : List ℕ) → HasPair text place → get_or text place 0 ≤ 53 → digits 2 (drop place text) ≡ Some (n, rest) → n ≤ 59
-sixty_at text place n rest pair tens e =
-    let both = same ((get_or text place 0 - 48) * 10 + (get_or text (place + 1) 0 - 48), drop (place + 2) text) (n, rest) (sym (two_there text place pair) ∙ e) in
-    let is : (get_or text place 0 - 48) * 10 + (get_or text (place + 1) 0 - 48) ≡ n = ap (λ (x : ℕ × List ℕ). x.0) both in
-    omega (arith, is, pair.second.high)
-
-pub minute_of_clock : (text : List ℕ) (place h m s : ℕ) (rest : List ℕ) → HasExtendedClock text place → IsClock (drop (place + 1) text) h m s rest → m ≤ 59
-minute_of_clock text place h m s rest k is =
-    let fourth : place + 1 + 3 ≡ place + 4 = omega arith in
-    sixty_at text (place + 4) m _ (rw fourth at k.clock.minute) k.minute_tens (rw (drop-drop 3 (place + 1) text, fourth) at is.minute_digits)
-
-pub second_of_clock : (text : List ℕ) (place h m s : ℕ) (rest : List ℕ) → HasExtendedClock text place → IsClock (drop (place + 1) text) h m s rest → s ≤ 59
-second_of_clock text place h m s rest k is =
-    let seventh : place + 1 + 6 ≡ place + 7 = omega arith in
-    sixty_at text (place + 7) s _ (rw seventh at k.clock.second) k.second_tens (rw (drop-drop 6 (place + 1) text, seventh) at is.second_digits)
-
-pub basic_minute : (text : List ℕ) (place m : ℕ) (rest : List ℕ) → HasBasicClock text place → digits 2 (drop (place + 1 + 2) text) ≡ Some (m, rest) → m ≤ 59
-basic_minute text place m rest k e =
-    let third : place + 1 + 2 ≡ place + 3 = omega arith in
-    sixty_at text (place + 3) m rest k.minute k.minute_tens (rw third at e)
-
-pub basic_second : (text : List ℕ) (place s : ℕ) (rest : List ℕ) → HasBasicClock text place → digits 2 (drop (place + 5) text) ≡ Some (s, rest) → s ≤ 59
-basic_second text place s rest k e = sixty_at text (place + 5) s rest k.second k.second_tens e
+    -- a date of any form, up to the place of the clock
+    pub date_read : (dating : Dating) (m d : ℕ) → (dating ≡ Calendar → IsCalendar shape) → (dating ≡ Ordinal → IsOrdinal shape) → (dating ≡ Week → IsWeek shape) → NamesDate dating y high low m d
+        → (place : ℕ) × EndsWithClock shape place × ReadsDay text y m d (kind_of shape.has_colon) (drop place text)
+    date_read Calendar m d calendar ordinal week n =
+        let s = calendar refl in
+        let same = n.calendar refl in
+        let there : IsDay (pos y) high low = rw (same.0, same.1) at n.there in
+        (8 + 2 * mark shape, s.clock, rw (same.0, same.1) (calendar_read shape.has_colon refl s there))
+    date_read Ordinal m d calendar ordinal week n =
+        let s = ordinal refl in
+        let o = n.ordinal refl in
+        (7 + mark shape, s.clock, ordinal_read shape.has_colon m d refl s o.0 o.1 o.2)
+    date_read Week m d calendar ordinal week n =
+        let s = week refl in
+        let w = n.week refl in
+        (8 + 2 * mark shape, s.clock, week_read shape.has_colon m d refl s w.0 w.1 w.2)

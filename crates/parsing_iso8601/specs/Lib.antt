@@ -2,14 +2,13 @@ pub mod AllOrNothing
 pub mod Dates
 pub mod Days
 pub mod Designators
-pub mod Fast
+pub mod Forms
 pub mod Fractions
 pub mod Kinds
 pub mod Moment
 pub mod Numbers
 pub mod Offsets
 pub mod Parts
-pub mod Places
 pub mod Ranges
 pub mod ReadView
 pub mod Reading

@@ -3,13 +3,13 @@
 
 mod calendar_days;
 mod date;
-mod ends;
+mod form;
+mod forms;
 mod fraction;
 mod kind;
 mod moment;
 mod number;
 mod offset;
-mod places;
 mod reading;
 mod time;
 mod written;

@@ -1,8 +1,11 @@
+pub mod Checks
 mod FractionLemmas
 mod LaneLemmas
-mod ReadLemmas
+mod LastLemmas
+pub mod NumberLemmas
+pub mod ReadLemmas
 mod StampLemmas
-mod SumLemmas
+pub mod SumLemmas
 mod TailLemmas
 mod WholeLemmas
 pub mod YearLemmas

@@ -73,6 +73,7 @@ pub raw_taken : (back : Window) (text : List ℕ) (at : ℕ) (ft ba bt v : List 
 raw_taken back text at ft ba bt v lane place joined nothing seen lt inside is = joined ∙ rw nothing (zero_or (get_or bt lane 0)) ∙ rw is at (seen.taken lane lt (omega (arith, is, inside))) ∙ seen.above_is place inside
 
 pub record Pair (text : List ℕ) (place number most : ℕ) : Type 0 where
+  pub pair : HasPair text place
   pub written : WritesTwo text place number
   pub few : number ≤ most * 10 + 9
 
@@ -80,7 +81,7 @@ pub pair_read : (v n text : List ℕ) (lane place most : ℕ) → IsDigitAt v la
 pair_read v n text lane place most first second is =
     let pair : HasPair text place = record { room = omega (arith, second.room); first = first.digit; second = second.digit } in
     let number : get_or n lane 0 ≡ (get_or text place 0 - 48) * 10 + (get_or text (place + 1) 0 - 48) = rw (first.value, second.value) at is in
-    record { written = rw number (two_there text place pair); few = omega (arith, is, first.few, second.few) }
+    record { pair = pair; written = rw number (two_there text place pair); few = omega (arith, is, first.few, second.few) }
 
 pub window_lies : (window : Window) (text : List ℕ) (at : ℕ) (a t : List ℕ) → Seen window text at a t → LieIn window text at
 window_lies window text at a t seen = λ k lt. rw (seen.above_is k lt) at (seen.fits k lt)

@@ -1,31 +1,31 @@
 -- What the sums of lanes say of a text.
-use Rattle.std.proofs.Common.{◌≡◌, ◌≤◌, ◌<◌, ◌+◌, ◌-◌, ◌*◌, ◌/◌, ◌%◌, ◌∙◌, ℕ, Bool, false, List, length, get_or, drop, refl, sym, inl, inr, arith, lit<, lit≤}
+use Rattle.std.proofs.Common.{◌≡◌, ◌≤◌, ◌<◌, ◌+◌, ◌-◌, ◌*◌, ◌/◌, ◌%◌, ◌∙◌, ℕ, Bool, true, false, leb, List, length, get_or, drop, refl, sym, inl, inr, arith, lit<, lit≤}
 use Rattle.std.specs.Prelude.{◌⊎◌, ◌==◌, nat_eq, ℤ, pos, ◌*ℤ◌, Ok}
 use Rattle.std.specs.Str.Parse.{digits_value}
 use Rattle.std.proofs.lemmas.Bool.{cases_lt}
 use Rattle.std.proofs.lemmas.Bool.Decides.{nat_tests}
 use Rattle.parsing_values.specs.Resolution.{signed_offset_of}
 use Rattle.parsing_places.specs.Text.{Names}
-use Rattle.std.proofs.lemmas.List.{get_or-drop, length-drop}
+use Rattle.std.proofs.lemmas.List.{get_or-drop, length-drop, drop-drop}
+use Rattle.parsing_combinator.specs.Places.{HasDigit}
+use Rattle.parsing_combinator.proofs.AtPlaces.{is_digit, at_least, first_at}
+use Rattle.parsing_combinator.proofs.Fixed.{digits_one}
 use Rattle.parsing_fields.specs.DigitsBack.{digits_below}
 use Rattle.parsing_fields.specs.Digits.{nine_digits, AreNineDigits}
 use Rattle.parsing_places.specs.Lanes.{above}
-use Rattle.parsing_places.specs.End.{HasOffset, HasFraction, SaysOffset}
-use Rattle.parsing_places.specs.Numbers.{HasNumbers}
-use Rattle.parsing_places.specs.Shape.{Takes, TakesPair, TakesNothing}
-use Rattle.parsing_places.specs.Tail.{LetsByte, TakesSigned, TakesZulu, offset_at}
+use Rattle.parsing_places.specs.End.{HasOffset, HasZulu, HasSigned, HasFraction, SaysOffset, width_of}
+use Rattle.parsing_places.specs.Numbers.{WritesTwo, WritesOne, WritesNumber, HasNumbers}
+use Rattle.parsing_places.specs.Shape.{Takes, TakesPair, TakesNumber, TakesNothing}
+use Rattle.parsing_places.specs.Tail.{LetsByte, TakesSigned, TakesZulu, offset_at, is_written}
 use Rattle.parsing_places.specs.Whole.{IsTextDigit, IsFree, HaveLanes, HasSums, end_in}
 use Rattle.parsing_places.specs.declared.ending.Ending.{Ending}
-use Rattle.parsing_places.specs.declared.ending.Ending.TheVariants.{Zulu, Colon}
+use Rattle.parsing_places.specs.declared.ending.Ending.TheVariants.{Zulu, Colon, Plain}
+use Rattle.parsing_places.specs.declared.shape.Number.{Number}
 use Rattle.parsing_places.specs.declared.shape.Shape.{Shape}
 use Rattle.parsing_places.specs.declared.tail.Tail.{Tail}
 use Rattle.parsing_places.proofs.FractionLemmas.{Fractional, fraction_in}
 use Rattle.parsing_places.proofs.ReadLemmas.{Paired, Pair, pair_read}
 use lib.Lanes.{number_l, chunk}
-
-pub record OffsetRead (ending : Ending) (text : List ℕ) (place minutes sign : ℕ) : Type 0 where
-  pub has : HasOffset ending text place minutes sign
-  pub few : sign ≤ 2
 
 exact : (byte low : ℕ) → byte < 256 → low < 256 → above byte low ≤ 0 → byte ≡ low
 exact byte low small fits none = omega (arith, small, fits, none)
@@ -41,6 +41,12 @@ sign_byte byte small few = record { low = omega (arith, small, few); high = omeg
 at_few : (ending : Ending) → offset_at ending ≤ 15
 at_few Zulu = lit≤ tt
 at_few Colon = lit≤ tt
+at_few Plain = lit≤ tt
+
+one_there : (text : List ℕ) (place : ℕ) → place < length text → HasDigit text place → WritesOne text place (get_or text place 0 - 48)
+one_there text place lt d =
+    let long : leb 1 (length (drop place text)) ≡ true = at_least 1 (length (drop place text)) (omega (arith, length-drop place text)) in
+    digits_one (drop place text) ∙ rw (long, first_at text place, is_digit (get_or text place 0) d.low d.high, drop-drop 1 place text) refl
 
 module _ (shape : Shape) (tail : Tail) (text v f n : List ℕ) (h : HaveLanes shape tail text v f) (paired : Paired v n) (small : (k : ℕ) → get_or text k 0 < 256) where
   front_pair : (j place most : ℕ) → j < 8 → most ≤ 9 → 128 ≤ get_or tail.window.taken.lanes (2 * j) 0 → 128 ≤ get_or tail.window.taken.lanes (2 * j + 1) 0 → TakesPair shape.front shape.back shape.back_at (2 * j) place most → Pair text place (get_or n (2 * j) 0) most
@@ -49,31 +55,76 @@ module _ (shape : Shape) (tail : Tail) (text v f n : List ℕ) (h : HaveLanes sh
       let second = h.front (2 * j + 1) (place + 1) 9 (omega (arith, lt)) (lit≤ tt) free' takes.second in
       pair_read v n text (2 * j) place most first second (paired j lt (omega (arith, first.few, few)) second.few)
 
-  pub front_read : HasNumbers shape text (get_or n 0 0) (get_or n 2 0) (get_or n 4 0) (get_or n 6 0) (get_or n 14 0)
-  front_read =
-      let month = front_pair 0 shape.month 5 (lit< tt) (lit≤ tt) (tail.first_free 0 (lit< tt)) (tail.first_free 1 (lit< tt)) shape.month_is in
-      let day = front_pair 1 shape.day 9 (lit< tt) (lit≤ tt) (tail.first_free 2 (lit< tt)) (tail.first_free 3 (lit< tt)) shape.day_is in
-      let hour = front_pair 2 shape.hour 9 (lit< tt) (lit≤ tt) (tail.first_free 4 (lit< tt)) (tail.first_free 5 (lit< tt)) shape.hour_is in
-      let minute = front_pair 3 shape.minute 5 (lit< tt) (lit≤ tt) (tail.first_free 6 (lit< tt)) (tail.first_free 7 (lit< tt)) shape.minute_is in
-      let second = front_pair 7 shape.second 5 (lit< tt) (lit≤ tt) tail.second_free tail.last_free shape.second_is in
-      record {
-        month_is = month.written;
-        day_is = day.written;
-        hour_is = hour.written;
-        minute_is = minute.written;
-        second_is = second.written;
-        month_few = month.few;
-        day_few = day.few;
-        hour_few = hour.few;
-        minute_few = minute.few;
-        second_few = second.few;
-      }
+  pub record OffsetRead (has_offset : List ℕ → ℕ → ℕ → ℕ → Type 0) (place minutes sign : ℕ) : Type 0 where
+    has : has_offset text place minutes sign
+    few : sign ≤ 2
 
   first_free : (lane : ℕ) → lane < 16 → TakesNothing shape.front shape.back lane → IsFree shape lane
   first_free lane lt nothing = record { lt = lt; front = nothing.first_front; back = nothing.first_back }
 
   second_free : (lane : ℕ) → lane + 1 < 16 → TakesNothing shape.front shape.back lane → IsFree shape (lane + 1)
   second_free lane lt nothing = record { lt = lt; front = nothing.second_front; back = nothing.second_back }
+
+  nothing_there : (j : ℕ) → j < 8 → get_or v (2 * j) 0 ≡ 0 → get_or v (2 * j + 1) 0 ≡ 0 → get_or n (2 * j) 0 ≡ 0
+  nothing_there j lt a b = omega (arith, paired j lt (omega (arith, a)) (omega (arith, b)), a, b)
+
+  record NumberRead (number : Number) (value most : ℕ) : Type 0 where
+    written : WritesNumber text number value
+    few : value ≤ most * 10 + 9
+
+  number_by : (tens : Bool) (j place most : ℕ) → j < 8 → most ≤ 9 → 128 ≤ get_or tail.window.taken.lanes (2 * j) 0 → 128 ≤ get_or tail.window.taken.lanes (2 * j + 1) 0 → TakesNumber shape.front shape.back shape.back_at (2 * j) (record { has_tens = tens; place = place }) most → NumberRead (record { has_tens = tens; place = place }) (get_or n (2 * j) 0) most
+  number_by true j place most lt few free free' takes =
+      let behind : place - 1 + 1 ≡ place = omega (arith, takes.behind refl) in
+      let first = h.front (2 * j) (place - 1) most (omega (arith, lt)) few free (takes.tens refl) in
+      let second = h.front (2 * j + 1) place 9 (omega (arith, lt)) (lit≤ tt) free' takes.ones in
+      let pair = pair_read v n text (2 * j) (place - 1) most first (rw behind second) (paired j lt (omega (arith, first.few, few)) second.few) in
+      record { written = record { two = λ _. pair.written; one = λ e. absurd cc }; few = pair.few }
+  number_by false j place most lt few free free' takes =
+      let none = takes.no_tens refl in
+      let first = h.none (2 * j) (record { lt = omega (arith, lt); front = none.front_free; back = none.back_free }) free in
+      let second = h.front (2 * j + 1) place 9 (omega (arith, lt)) (lit≤ tt) free' takes.ones in
+      let sum = paired j lt (omega (arith, first)) second.few in
+      let is : get_or n (2 * j) 0 ≡ get_or text place 0 - 48 = omega (arith, sum, first, second.value) in
+      record { written = record { two = λ e. absurd cc; one = λ _. rw is (one_there text place second.room second.digit) }; few = omega (arith, sum, first, second.few) }
+
+  number_read : (number : Number) (j most : ℕ) → j < 8 → most ≤ 9 → 128 ≤ get_or tail.window.taken.lanes (2 * j) 0 → 128 ≤ get_or tail.window.taken.lanes (2 * j + 1) 0 → TakesNumber shape.front shape.back shape.back_at (2 * j) number most → NumberRead number (get_or n (2 * j) 0) most
+  number_read number j most lt few free free' takes = number_by number.has_tens j number.place most lt few free free' takes
+
+  record SecondRead (has_second : Bool) (value : ℕ) : Type 0 where
+    written : has_second ≡ true → WritesTwo text shape.second value
+    none : has_second ≡ false → value ≡ 0
+    few : value ≤ 59
+
+  second_by : (has_second : Bool) → (has_second ≡ true → TakesPair shape.front shape.back shape.back_at 14 shape.second 5) → (has_second ≡ false → TakesNothing shape.front shape.back 14) → SecondRead has_second (get_or n 14 0)
+  second_by true takes none =
+      let pair = front_pair 7 shape.second 5 (lit< tt) (lit≤ tt) tail.second_free tail.last_free (takes refl) in
+      record { written = λ _. pair.written; none = λ e. absurd cc; few = pair.few }
+  second_by false takes none =
+      let first = h.none 14 (first_free 14 (lit< tt) (none refl)) tail.second_free in
+      let second = h.none 15 (second_free 14 (lit< tt) (none refl)) tail.last_free in
+      let zero = nothing_there 7 (lit< tt) first second in
+      record { written = λ e. absurd cc; none = λ _. zero; few = omega (arith, zero) }
+
+  pub front_read : HasNumbers shape text (get_or n 0 0) (get_or n 2 0) (get_or n 4 0) (get_or n 6 0) (get_or n 14 0)
+  front_read =
+      let high = number_read shape.high 0 5 (lit< tt) (lit≤ tt) (tail.first_free 0 (lit< tt)) (tail.first_free 1 (lit< tt)) shape.high_is in
+      let low = number_read shape.low 1 9 (lit< tt) (lit≤ tt) (tail.first_free 2 (lit< tt)) (tail.first_free 3 (lit< tt)) shape.low_is in
+      let hour = front_pair 2 shape.hour 9 (lit< tt) (lit≤ tt) (tail.first_free 4 (lit< tt)) (tail.first_free 5 (lit< tt)) shape.hour_is in
+      let minute = front_pair 3 shape.minute 5 (lit< tt) (lit≤ tt) (tail.first_free 6 (lit< tt)) (tail.first_free 7 (lit< tt)) shape.minute_is in
+      let second = second_by shape.has_second shape.second_is shape.no_second in
+      record {
+        high_is = high.written;
+        low_is = low.written;
+        hour_is = hour.written;
+        minute_is = minute.written;
+        second_is = second.written;
+        no_second = second.none;
+        high_few = high.few;
+        low_few = low.few;
+        hour_few = hour.few;
+        minute_few = minute.few;
+        second_few = second.few;
+      }
 
   long : 16 ≤ length text
   long = omega (arith, h.has_shape.room)
@@ -91,29 +142,32 @@ module _ (shape : Shape) (tail : Tail) (text v f n : List ℕ) (h : HaveLanes sh
       let there = h.lies place lets.inside in
       exact _ byte (small _) fits (omega (arith, rw (lets.low, lets.high) at there))
 
-  signed_read : TakesSigned tail.window → OffsetRead Colon text (length text - 16 + 10) (60 * get_or n 8 0 + get_or n 10 0) (get_or n 12 0)
-  signed_read s =
+  signed_read : (width at : ℕ) → TakesSigned width tail.window at → OffsetRead (HasSigned width) (length text - 16 + at) (60 * get_or n 8 0 + get_or n 10 0) (get_or n 12 0)
+  signed_read width at s =
       let last : ℕ = length text - 16 in
-      let hour = back_pair 8 11 9 4 refl (lit< tt) (lit≤ tt) shape.offset_hour s.hour_tens s.hour_ones in
-      let minute = back_pair 10 14 5 5 refl (lit< tt) (lit≤ tt) shape.offset_minute s.minute_tens s.minute_ones in
-      let hour_at : last + 11 ≡ last + 10 + 1 = omega arith in
-      let colon_at : last + 13 ≡ last + 10 + 3 = omega arith in
-      let minute_at : last + 14 ≡ last + 10 + 4 = omega arith in
+      let minute_next : at + width + 4 ≡ at + width + 3 + 1 = omega arith in
+      let hour_next : at + 2 ≡ at + 1 + 1 = omega arith in
+      let hour = back_pair 8 (at + 1) 9 4 refl (lit< tt) (lit≤ tt) shape.offset_hour s.hour_tens (rw hour_next at s.hour_ones) in
+      let minute = back_pair 10 (at + width + 3) 5 5 refl (lit< tt) (lit≤ tt) shape.offset_minute s.minute_tens (rw minute_next at s.minute_ones) in
+      let hour_at : last + (at + 1) ≡ last + at + 1 = omega arith in
+      let colon_at : last + (at + 3) ≡ last + at + 3 = omega arith in
+      let minute_at : last + (at + width + 3) ≡ last + at + width + 3 = omega arith in
+      let here : at < 16 = omega (arith, s.end) in
       let twelve : get_or v 12 0 ≡ 0 = h.none 12 (first_free 12 (lit< tt) shape.sign) s.alone in
-      let thirteen : get_or v 13 0 ≡ above (get_or text (last + 10) 0) 43 = rw s.sign_low at (h.raw 13 10 (second_free 12 (lit< tt) shape.sign) (lit< tt) s.sign_is) in
-      let within : above (get_or text (last + 10) 0) 43 ≤ 2 = omega (arith, rw s.sign_low at (h.lies 10 (lit< tt)), s.sign_high) in
-      let byte = sign_byte (get_or text (last + 10) 0) (small _) within in
+      let thirteen : get_or v 13 0 ≡ above (get_or text (last + at) 0) 43 = rw s.sign_low at (h.raw 13 at (second_free 12 (lit< tt) shape.sign) here s.sign_is) in
+      let within : above (get_or text (last + at) 0) 43 ≤ 2 = omega (arith, rw s.sign_low at (h.lies at here), s.sign_high) in
+      let byte = sign_byte (get_or text (last + at) 0) (small _) within in
       let sum : get_or n 12 0 ≡ get_or v 12 0 * 10 + get_or v 13 0 = paired 6 (lit< tt) (omega (arith, twelve)) (omega (arith, thirteen, within)) in
       record {
         has = record {
           hour = get_or n 8 0;
           minute = get_or n 10 0;
-          whole = omega (arith, long);
+          whole = omega (arith, long, s.end);
           sign_low = byte.low;
           sign_high = byte.high;
           sign_is = omega (arith, sum, twelve, thirteen, byte.is);
           hour_is = rw hour_at at hour.written;
-          colon = rw colon_at at (byte_there 13 58 (lit< tt) s.colon);
+          colon = λ some. rw colon_at at (byte_there (at + 3) 58 (lit< tt) (s.colon some));
           minute_is = rw minute_at at minute.written;
           hour_few = hour.few;
           minute_few = minute.few;
@@ -122,10 +176,7 @@ module _ (shape : Shape) (tail : Tail) (text v f n : List ℕ) (h : HaveLanes sh
         few = omega (arith, sum, twelve, thirteen, within);
       }
 
-  nothing_there : (j : ℕ) → j < 8 → get_or v (2 * j) 0 ≡ 0 → get_or v (2 * j + 1) 0 ≡ 0 → get_or n (2 * j) 0 ≡ 0
-  nothing_there j lt a b = omega (arith, paired j lt (omega (arith, a)) (omega (arith, b)), a, b)
-
-  zulu_read : TakesZulu tail.window → OffsetRead Zulu text (length text - 16 + 15) (60 * get_or n 8 0 + get_or n 10 0) (get_or n 12 0)
+  zulu_read : TakesZulu tail.window → OffsetRead HasZulu (length text - 16 + 15) (60 * get_or n 8 0 + get_or n 10 0) (get_or n 12 0)
   zulu_read z =
       let v8 = h.none 8 (first_free 8 (lit< tt) shape.offset_hour) (z.nothing 8 (lit≤ tt) (lit< tt)) in
       let v9 = h.none 9 (second_free 8 (lit< tt) shape.offset_hour) (z.nothing 9 (lit≤ tt) (lit< tt)) in
@@ -141,12 +192,13 @@ module _ (shape : Shape) (tail : Tail) (text v f n : List ℕ) (h : HaveLanes sh
         few = omega (arith, n12);
       }
 
-  offset_of : (e : Ending) → (e ≡ Zulu → TakesZulu tail.window) → (e ≡ Colon → TakesSigned tail.window) → OffsetRead e text (length text - 16 + offset_at e) (60 * get_or n 8 0 + get_or n 10 0) (get_or n 12 0)
-  offset_of Zulu zulu signed = zulu_read (zulu refl)
-  offset_of Colon zulu signed = signed_read (signed refl)
+  offset_of : (e : Ending) → (e ≡ Zulu → TakesZulu tail.window) → (e ≡ Colon → TakesSigned 1 tail.window 10) → (e ≡ Plain → TakesSigned 0 tail.window 11) → OffsetRead (HasOffset e) (length text - 16 + offset_at e) (60 * get_or n 8 0 + get_or n 10 0) (get_or n 12 0)
+  offset_of Zulu zulu colon plain = zulu_read (zulu refl)
+  offset_of Colon zulu colon plain = signed_read 1 10 (colon refl)
+  offset_of Plain zulu colon plain = signed_read 0 11 (plain refl)
 
-  pub offset_read : OffsetRead tail.ending text (end_in tail text) (60 * get_or n 8 0 + get_or n 10 0) (get_or n 12 0)
-  offset_read = offset_of tail.ending tail.zulu tail.signed
+  pub offset_read : OffsetRead (HasOffset tail.ending) (end_in tail text) (60 * get_or n 8 0 + get_or n 10 0) (get_or n 12 0)
+  offset_read = offset_of tail.ending tail.zulu tail.colon tail.plain
 
   count : ℕ
   count = tail.fraction - 1
@@ -192,6 +244,7 @@ module _ (shape : Shape) (tail : Tail) (text v f n : List ℕ) (h : HaveLanes sh
               let place : length text - 16 + (offset_at tail.ending - tail.fraction) ≡ shape.length = omega (arith, total, few, long, e, tail.fraction_is.room) in
               rw place at (byte_there (offset_at tail.ending - tail.fraction) 46 (lit< tt) (tail.point some));
           room = omega (arith, few, long);
+          few = tail.fraction_is.few;
         },
       )
 
@@ -200,8 +253,8 @@ module _ (shape : Shape) (tail : Tail) (text v f n : List ℕ) (h : HaveLanes sh
   sums_read days minutes offset seconds first last d m o s long_f bytes is end total =
       let fraction = fraction_read first last long_f bytes is end total in
       record {
-        month = get_or n 0 0;
-        day = get_or n 2 0;
+        high = get_or n 0 0;
+        low = get_or n 2 0;
         hour = get_or n 4 0;
         minute = get_or n 6 0;
         second = get_or n 14 0;
@@ -225,12 +278,15 @@ minus_is byte sign is low = grind (arith, nat_tests, is, low)
 pub sign_of : (byte sign : ℕ) → sign ≡ byte - 43 → 43 ≤ byte → byte ≤ 45 → sign % 2 ≡ 0 → (byte ≡ 43) ⊎ (byte ≡ 45)
 sign_of byte sign is low high even = elim (cases_lt byte 45) [ inl lt ↦ inl (omega (arith, is, low, even, lt)) | inr le ↦ inr (omega (arith, high, le)) ]
 
-pub offset_says : (e : Ending) (text : List ℕ) (place minutes sign : ℕ) (negative : Bool) (o : ℤ) → HasOffset e text place minutes sign → sign % 2 ≡ 0 → minutes < 1440 → negative ≡ nat_eq sign 2
-    → ((hour minute : ℕ) → minutes ≡ 60 * hour + minute → hour ≤ 23 → minute ≤ 59 → signed_offset_of negative hour minute ≡ Ok (pos 60 *ℤ o)) → SaysOffset text place o
-offset_says Zulu text place minutes sign negative o h even small is value =
+zulu_says : (text : List ℕ) (width place minutes sign : ℕ) (negative : Bool) (o : ℤ) → HasZulu text place minutes sign → minutes < 1440 → negative ≡ nat_eq sign 2
+    → ((hour minute : ℕ) → minutes ≡ 60 * hour + minute → hour ≤ 23 → minute ≤ 59 → signed_offset_of negative hour minute ≡ Ok (pos 60 *ℤ o)) → SaysOffset width text place o
+zulu_says text width place minutes sign negative o h small is value =
     let plain : negative ≡ false = is ∙ rw h.no_sign refl in
     inl (record { whole = h.whole; zulu = h.zulu; value = rw plain at (value 0 0 (omega (arith, h.no_minutes)) (lit≤ tt) (lit≤ tt)) })
-offset_says Colon text place minutes sign negative o h even small is value =
+
+signed_says : (text : List ℕ) (width place minutes sign : ℕ) (negative : Bool) (o : ℤ) → HasSigned width text place minutes sign → sign % 2 ≡ 0 → minutes < 1440 → negative ≡ nat_eq sign 2
+    → ((hour minute : ℕ) → minutes ≡ 60 * hour + minute → hour ≤ 23 → minute ≤ 59 → signed_offset_of negative hour minute ≡ Ok (pos 60 *ℤ o)) → SaysOffset width text place o
+signed_says text width place minutes sign negative o h even small is value =
     let hour_few : h.hour ≤ 23 = omega (arith, h.minutes_are, small) in
     let same : negative ≡ (get_or text place 0 == 45) = is ∙ minus_is (get_or text place 0) sign h.sign_is h.sign_low in
     inr (record {
@@ -246,13 +302,21 @@ offset_says Colon text place minutes sign negative o h even small is value =
       value = rw same at (value h.hour h.minute h.minutes_are hour_few h.minute_few);
     })
 
-pub names_of : (shape : Shape) (tail : Tail) (text : List ℕ) (days minutes offset seconds first last : ℕ) (negative : Bool) (o : ℤ) → HasSums shape tail text days minutes offset seconds first last → minutes < 1440 → offset < 1440 → seconds % 2 ≡ 0 → negative ≡ nat_eq (seconds % 64) 2
+offset_says : (has_colon : Bool) (e : Ending) (text : List ℕ) (place minutes sign : ℕ) (negative : Bool) (o : ℤ) → is_written has_colon e ≡ true → HasOffset e text place minutes sign → sign % 2 ≡ 0 → minutes < 1440 → negative ≡ nat_eq sign 2
+    → ((hour minute : ℕ) → minutes ≡ 60 * hour + minute → hour ≤ 23 → minute ≤ 59 → signed_offset_of negative hour minute ≡ Ok (pos 60 *ℤ o)) → SaysOffset (width_of has_colon) text place o
+offset_says has_colon Zulu text place minutes sign negative o fits h even small is value = zulu_says text (width_of has_colon) place minutes sign negative o h small is value
+offset_says true Colon text place minutes sign negative o fits h even small is value = signed_says text 1 place minutes sign negative o h even small is value
+offset_says false Plain text place minutes sign negative o fits h even small is value = signed_says text 0 place minutes sign negative o h even small is value
+offset_says false Colon text place minutes sign negative o fits h even small is value = absurd cc
+offset_says true Plain text place minutes sign negative o fits h even small is value = absurd cc
+
+pub names_of : (shape : Shape) (tail : Tail) (text : List ℕ) (days minutes offset seconds first last : ℕ) (negative : Bool) (o : ℤ) → HasSums shape tail text days minutes offset seconds first last → is_written shape.has_colon tail.ending ≡ true → (shape.has_second ≡ false → tail.fraction ≡ 0) → minutes < 1440 → offset < 1440 → seconds % 2 ≡ 0 → negative ≡ nat_eq (seconds % 64) 2
     → ((hour minute : ℕ) → offset ≡ 60 * hour + minute → hour ≤ 23 → minute ≤ 59 → signed_offset_of negative hour minute ≡ Ok (pos 60 *ℤ o))
     → Names shape text (days % 64) (days / 64) minutes (seconds / 64) o (digits_value 10 (nine_digits first last))
-names_of shape tail text days minutes offset seconds first last negative o h early small even is value =
+names_of shape tail text days minutes offset seconds first last negative o h fits plain early small even is value =
     let numbers = h.numbers in
-    let month : days % 64 ≡ h.month = omega (arith, h.days_are, numbers.month_few) in
-    let day : days / 64 ≡ h.day = omega (arith, h.days_are, numbers.month_few) in
+    let high : days % 64 ≡ h.high = omega (arith, h.days_are, numbers.high_few) in
+    let low : days / 64 ≡ h.low = omega (arith, h.days_are, numbers.high_few) in
     let second : seconds / 64 ≡ h.second = omega (arith, h.seconds_are, h.sign_few) in
     let sign : seconds % 64 ≡ h.sign = omega (arith, h.seconds_are, h.sign_few) in
     record {
@@ -261,10 +325,11 @@ names_of shape tail text days minutes offset seconds first last negative o h ear
       end = end_in tail text;
       count = tail.fraction - 1;
       has_shape = h.has_shape;
-      numbers = rw (month, day, second) numbers;
+      numbers = rw (high, low, second) numbers;
       hour_few = omega (arith, h.minutes_are, early);
       minutes_are = h.minutes_are;
-      offset_is = offset_says tail.ending text (end_in tail text) offset h.sign negative o h.offset_is (omega (arith, h.seconds_are, even)) small (rw sign at is) value;
+      offset_is = offset_says shape.has_colon tail.ending text (end_in tail text) offset h.sign negative o fits h.offset_is (omega (arith, h.seconds_are, even)) small (rw sign at is) value;
       fraction_is = h.fraction_is;
       fraction_few = digits_below first last h.are_nine;
+      no_fraction = λ e. omega (arith, plain e);
     }

@@ -1,8 +1,8 @@
 -- What the last sixteen bytes of a text have.
-use Rattle.std.specs.Prelude.{◌≡◌, ◌≤◌, ◌<◌, ◌+◌, ◌-◌, ℕ, get_or}
+use Rattle.std.specs.Prelude.{◌≡◌, ◌≤◌, ◌<◌, ◌+◌, ◌-◌, ℕ, Bool, true, not, get_or}
 use Rattle.parsing_places.specs.Shape.{Takes}
 use Rattle.parsing_places.specs.declared.ending.Ending.{Ending}
-use Rattle.parsing_places.specs.declared.ending.Ending.TheVariants.{Zulu, Colon}
+use Rattle.parsing_places.specs.declared.ending.Ending.TheVariants.{Zulu, Colon, Plain}
 use Rattle.parsing_places.specs.declared.shape.Window.{Window}
 
 -- one byte alone can stand at a place
@@ -15,18 +15,32 @@ pub record LetsByte (window : Window) (place byte : ℕ) : Type 0 where
 abbrev pub offset_at : Ending → ℕ
 offset_at Zulu = 15
 offset_at Colon = 10
+offset_at Plain = 11
 
--- `+05:30` ends the window
-pub record TakesSigned (window : Window) : Type 0 where
+-- which row of three it has in a table
+abbrev pub tail_row : Ending → ℕ
+tail_row Zulu = 0
+tail_row Plain = 1
+tail_row Colon = 2
+
+-- whether an offset that has a colon or none is written so
+abbrev pub is_written : Bool → Ending → Bool
+is_written has_colon Zulu = true
+is_written has_colon Colon = has_colon
+is_written has_colon Plain = not has_colon
+
+-- `+05:30` ends the window from a place on, its colon of one byte or none
+pub record TakesSigned (width : ℕ) (window : Window) (place : ℕ) : Type 0 where
+  pub end : place + width + 5 ≡ 16
   pub alone : 128 ≤ get_or window.taken.lanes 12 0
-  pub sign_is : get_or window.taken.lanes 13 0 ≡ 10
-  pub sign_low : get_or window.low 10 0 ≡ 43
-  pub sign_high : get_or window.high 10 0 ≤ 2
-  pub hour_tens : Takes window 8 11 9
-  pub hour_ones : Takes window 9 12 9
-  pub colon : LetsByte window 13 58
-  pub minute_tens : Takes window 10 14 5
-  pub minute_ones : Takes window 11 15 9
+  pub sign_is : get_or window.taken.lanes 13 0 ≡ place
+  pub sign_low : get_or window.low place 0 ≡ 43
+  pub sign_high : get_or window.high place 0 ≤ 2
+  pub hour_tens : Takes window 8 (place + 1) 9
+  pub hour_ones : Takes window 9 (place + 2) 9
+  pub colon : 0 < width → LetsByte window (place + 3) 58
+  pub minute_tens : Takes window 10 (place + width + 3) 5
+  pub minute_ones : Takes window 11 (place + width + 4) 9
 
 -- `Z` ends the window
 pub record TakesZulu (window : Window) : Type 0 where

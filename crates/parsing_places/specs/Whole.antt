@@ -45,15 +45,15 @@ end_in tail text = length text - 16 + offset_at tail.ending
 
 -- the numbers of a text in sums, and the digits of its fraction
 pub record HasSums (shape : Shape) (tail : Tail) (text : List ℕ) (days minutes offset seconds first last : ℕ) : Type 0 where
-  pub month : ℕ
-  pub day : ℕ
+  pub high : ℕ
+  pub low : ℕ
   pub hour : ℕ
   pub minute : ℕ
   pub second : ℕ
   pub sign : ℕ
   pub has_shape : HasShape shape text
-  pub numbers : HasNumbers shape text month day hour minute second
-  pub days_are : days ≡ month + 64 * day
+  pub numbers : HasNumbers shape text high low hour minute second
+  pub days_are : days ≡ high + 64 * low
   pub minutes_are : minutes ≡ 60 * hour + minute
   pub sign_few : sign ≤ 2
   pub seconds_are : seconds ≡ sign + 64 * second

@@ -65,7 +65,7 @@ pub(crate) fn first_nine(bytes: u8x16) -> (u64, u64)
 
 /// The bits of both.
 #[inline(always)]
-pub(crate) fn joined(first: u8x16, second: u8x16) -> u8x16
+pub fn joined(first: u8x16, second: u8x16) -> u8x16
     ensures { (k : ℕ) → k < LANES → get_or result k 0 ≡ bit_or (get_or first k 0) (get_or second k 0) }
 {
     first | second
@@ -116,7 +116,7 @@ fn bytes_of(words: u16x8) -> u8x16
 
 /// Of each two digits the number.
 #[inline(always)]
-pub(crate) fn paired(digits: u8x16) -> u8x16
+pub fn paired(digits: u8x16) -> u8x16
     ensures { (j : ℕ) → j < 8 → get_or digits (2 * j) 0 ≤ 9 → get_or digits (2 * j + 1) 0 ≤ 9 → get_or result (2 * j) 0 ≡ get_or digits (2 * j) 0 * 10 + get_or digits (2 * j + 1) 0 }
 {
     bytes_of(numbers_of(words_of(digits)))
@@ -124,7 +124,7 @@ pub(crate) fn paired(digits: u8x16) -> u8x16
 
 /// Month and day, minute of the day, minutes of the offset, second and sign.
 #[inline(always)]
-pub(crate) fn sums(numbers: u8x16) -> (u32, u32, u32, u32)
+pub fn sums(numbers: u8x16) -> (u32, u32, u32, u32)
     ensures first { result.0 ≡ get_or numbers 0 0 + 64 * get_or numbers 2 0 }
     ensures second { result.1 ≡ 60 * get_or numbers 4 0 + get_or numbers 6 0 }
     ensures third { result.2 ≡ 60 * get_or numbers 8 0 + get_or numbers 10 0 }

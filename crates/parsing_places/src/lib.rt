@@ -8,16 +8,23 @@
 
 mod ending;
 mod lanes;
+mod last;
 mod named;
+mod numbers;
 mod parts;
 mod reading;
 mod shape;
 mod stamp;
 mod tail;
 mod tails;
+mod windows;
 
-pub use lanes::{LANES, Moves};
+pub use lanes::{LANES, Moves, joined, paired, sums};
+pub use last::{LastBytes, fraction_of};
 pub use named::NamedShape;
-pub use reading::read;
-pub use shape::{Shape, Window};
+pub use numbers::Numbers;
+pub use parts::signed;
+pub use reading::{read, read_numbers};
+pub use shape::{Number, Shape, Window};
 pub use stamp::read_stamp;
+pub use windows::Windows;

@@ -1,8 +1,7 @@
-//! The numbers of a text, by a shape and a tail.
+//! The numbers of a text in sums, by a shape and a tail.
 ghost use Rattle.std.specs.Prelude.{◌≡◌, ◌≤◌, ◌<◌, ◌+◌, ◌*◌, ◌*ℤ◌, ℕ, length, pos, unsigned_abs, IfSome, Ok, true};
 ghost use Rattle.parsing_values.specs.Resolution.{signed_offset_of};
 ghost use Rattle.parsing_places.specs.Tail.{offset_at};
-ghost use Rattle.parsing_places.specs.Text.{Names};
 ghost use Rattle.parsing_places.specs.Whole.{HaveLanes, HasSums};
 
 use crate::lanes::{
@@ -10,7 +9,6 @@ use crate::lanes::{
 };
 use crate::shape::Shape;
 use crate::tail::Tail;
-use parsing_fields::Fraction;
 use std::simd::prelude::*;
 
 // Whether a text has the shape and the tail, the digits that lanes take, and nine digits of a fraction.
@@ -42,9 +40,14 @@ fn lanes_of(shape: &Shape, tail: &Tail, text: &[u8]) -> (bool, u8x16, u8x16)
     (fits, digits, fraction)
 }
 
-// Month with 64 days, minute of the day, the offset's minutes, the sign with 64 seconds, and the fraction's digits.
+/// The first number of the date with 64 times the second one, the minute of the day, the offset's minutes, the sign with 64
+/// seconds, and the fraction's digits, where a text has a shape and a tail.
 #[inline(always)]
-fn totals(shape: &Shape, tail: &Tail, text: &[u8]) -> Option<(u32, u32, u32, u32, u64, u64)>
+pub(crate) fn totals(
+    shape: &Shape,
+    tail: &Tail,
+    text: &[u8],
+) -> Option<(u32, u32, u32, u32, u64, u64)>
     requires room { shape.now.back_at + LANES ≤ length text.now }
     requires bytes { length text.now + offset_at tail.now.ending
         ≡ shape.now.length + LANES + tail.now.fraction }
@@ -59,10 +62,10 @@ fn totals(shape: &Shape, tail: &Tail, text: &[u8]) -> Option<(u32, u32, u32, u32
     Some((day, minute, offset, second, first, last))
 }
 
-// The minutes of an offset under its sign.
+/// The minutes of an offset under its sign.
 #[tactic(auto, unfolding(parsing_values::specs::Resolution::signed_offset_of, calendar_clock::specs::UtcOffset::offset_of))]
 #[inline(always)]
-pub(crate) fn signed(minutes: u32, is_negative: bool) -> i16
+pub fn signed(minutes: u32, is_negative: bool) -> i16
     requires { minutes < 1440 }
     ensures value { (hour minute : ℕ) → minutes ≡ 60 * hour + minute → hour ≤ 23 → minute ≤ 59
         → signed_offset_of is_negative hour minute ≡ Ok (pos 60 *ℤ result) }
@@ -70,36 +73,4 @@ pub(crate) fn signed(minutes: u32, is_negative: bool) -> i16
 {
     let minutes = minutes as i16;
     if is_negative { -minutes } else { minutes }
-}
-
-/// The month, the day, the minute of the day, the second, the offset's minutes and the fraction that a text names, where it has
-/// a shape and a tail, an hour, and an offset within a day.
-#[inline(always)]
-pub(crate) fn read_parts(
-    shape: &Shape,
-    tail: &Tail,
-    text: &[u8],
-) -> Option<(u8, u8, u16, u8, i16, Fraction)>
-    requires room { shape.now.back_at + LANES ≤ length text.now }
-    requires bytes { length text.now + offset_at tail.now.ending
-        ≡ shape.now.length + LANES + tail.now.fraction }
-    ensures names { IfSome result (λ v. Names shape.now text.now v.0 v.1 v.2 v.3 v.4 v.5) }
-    ensures minute { IfSome result (λ v. v.2 < 1440) }
-    ensures second { IfSome result (λ v. v.3 < 60) }
-    ensures offset { IfSome result (λ v. unsigned_abs v.4 ≤ 1559) }
-{
-    let (day, minute, offset, second, first, last) = totals(shape, tail, text)?;
-    if minute >= 1440 || offset >= 1440 || second % 2 != 0 {
-        return None;
-    }
-    let offset = signed(offset, second % 64 == 2);
-    let fraction = Fraction::of_nine(first, last);
-    Some((
-        (day % 64) as u8,
-        (day / 64) as u8,
-        minute as u16,
-        (second / 64) as u8,
-        offset,
-        fraction,
-    ))
 }

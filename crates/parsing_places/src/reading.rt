@@ -1,61 +1,80 @@
-//! The fields that a text names, by a shape.
-ghost use Rattle.std.specs.Prelude.{◌≡◌, ◌≤◌, ◌+◌, length, drop, IfSome, Some};
+//! The numbers that a text names, by a shape.
+ghost use Rattle.std.specs.Prelude.{◌≡◌, ◌≤◌, ◌+◌, length, drop, IfSome, Some, true, false};
 ghost use Rattle.parsing_combinator.specs.Pieces.{digits};
 ghost use Rattle.parsing_places.specs.Numbers.{HasShape};
-ghost use Rattle.parsing_places.specs.Says.{Says};
-ghost use Rattle.parsing_places.specs.Tail.{offset_at};
+ghost use Rattle.parsing_places.specs.Says.{Says, SaysNumbers};
+ghost use Rattle.parsing_places.specs.Tail.{offset_at, is_written};
 
-use crate::ending::Ending;
+use crate::ending::ending_of;
 use crate::lanes::LANES;
-use crate::parts::read_parts;
+use crate::numbers::Numbers;
+use crate::parts::{signed, totals};
 use crate::shape::Shape;
 use crate::tail::Tail;
 use crate::tails::tail_of;
-use parsing_combinator::four_digits_at;
-use parsing_fields::{Fields, has_day};
+use parsing_fields::{Fields, Fraction, Year};
 
 #[inline(always)]
-fn year_of(shape: &Shape, text: &[u8]) -> u16
+fn year_of(shape: &Shape, text: &[u8]) -> Year
     requires { HasShape shape.now text.now }
     ensures year { digits 4 (drop shape.now.year text.now)
         ≡ Some (result, drop (shape.now.year + 4) text.now) }
     ensures bound { result ≤ 9999 }
 {
-    four_digits_at(text, shape.year)
+    Year::of_digits(text, shape.year)
 }
 
-// The fields that a text names, where it has a shape and a tail.
+// The numbers that a text names, where it has a shape and a tail, an hour, and an offset within a day.
 #[inline(always)]
-fn read_with(shape: &Shape, tail: &Tail, text: &[u8]) -> Option<Fields>
+fn read_with(shape: &Shape, tail: &Tail, text: &[u8]) -> Option<Numbers>
     requires room { shape.now.back_at + LANES ≤ length text.now }
     requires bytes { length text.now + offset_at tail.now.ending
         ≡ shape.now.length + LANES + tail.now.fraction }
-    ensures { IfSome result (λ f. Says shape.now text.now f) }
+    requires ending { is_written shape.now.has_colon tail.now.ending ≡ true }
+    requires fraction { shape.now.has_second ≡ false → tail.now.fraction ≡ 0 }
+    ensures { IfSome result (λ n. SaysNumbers shape.now text.now n) }
 {
-    let (month, day, minute, second, offset, fraction) = read_parts(shape, tail, text)?;
-    let year = year_of(shape, text);
-    if month < 1 || month > 12 || !has_day(year, month, day) {
+    let (day, minute, offset, second, first, last) = totals(shape, tail, text)?;
+    if minute >= 1440 || offset >= 1440 || second % 2 != 0 {
         return None;
     }
-    Some(Fields::of_numbers(year, month, day, minute, second, fraction, offset))
+    Some(Numbers {
+        year: year_of(shape, text),
+        high: (day % 64) as u8,
+        low: (day / 64) as u8,
+        minute: minute as u16,
+        second: (second / 64) as u8,
+        offset: signed(offset, second % 64 == 2),
+        fraction: Fraction::of_nine(first, last),
+    })
 }
 
-/// The fields that a text of a shape names, with at most nine digits of a fraction and an offset behind: `None` says nothing of
-/// the text.
+/// The numbers that a text of a shape names, with at most nine digits of a fraction behind a second, and an offset behind:
+/// `None` says nothing of the text.
 ///
-/// It finds them where all numbers are in range, with hours of the offset below 24, and where no second is a leap second.
+/// It finds them where the numbers of the time and of the offset are in range, with hours of the offset below 24, and where no
+/// second is a leap second.
+#[inline(always)]
+pub fn read_numbers(shape: &Shape, text: &[u8]) -> Option<Numbers>
+    ensures { IfSome result (λ n. SaysNumbers shape.now text.now n) }
+{
+    if text.len() < LANES {
+        return None;
+    }
+    let ending = ending_of(text[text.len() - 1], shape.has_colon);
+    let tail = tail_of(ending, text.len().wrapping_sub(shape.length))?;
+    if !shape.has_second && tail.fraction > 0 {
+        return None;
+    }
+    read_with(shape, &tail, text)
+}
+
+/// The fields that such a text names, where the numbers of its date are a month and a day of it.
 #[inline(always)]
 pub fn read(shape: &Shape, text: &[u8]) -> Option<Fields>
     ensures { IfSome result (λ f. Says shape.now text.now f) }
 {
-    if text.len() < shape.back_at + LANES {
-        return None;
-    }
-    let ending = if text[text.len() - 1] == b'Z' {
-        Ending::Zulu
-    } else {
-        Ending::Colon
-    };
-    let tail = tail_of(ending, text.len() - shape.length)?;
-    read_with(shape, &tail, text)
+    let numbers = read_numbers(shape, text)?;
+    let fields = numbers.on_day(numbers.high, numbers.low)?;
+    Some(fields)
 }

@@ -7,12 +7,12 @@ use crate::lanes::{LANES, all_above, are_at_most, joined, paired, sixteen_from, 
 use crate::named::NamedShape;
 use crate::parts::signed;
 use crate::shape::Window;
-use parsing_combinator::four_digits_at;
+use parsing_fields::Year;
 use std::simd::prelude::*;
 
-// Whether a text lies within two windows, and the digits that lanes take.
+/// Whether a text lies within two windows, and the digits that lanes take.
 #[inline(always)]
-fn digits_of(front: &Window, back: &Window, back_at: usize, text: &[u8]) -> (bool, u8x16)
+pub(crate) fn digits_of(front: &Window, back: &Window, back_at: usize, text: &[u8]) -> (bool, u8x16)
     requires { back_at + LANES ≤ length text.now }
     ensures { result.0 ≡ true → HaveDigits front.now back.now back_at text.now result.1 }
 {
@@ -41,7 +41,7 @@ fn totals(shape: &NamedShape, text: &[u8]) -> Option<(u32, u32, u32, u32)>
 /// The year, the day of the month, the minute of the day, the second, and the offset's minutes that a text of a shape says, with
 /// an hour and an offset below 24 hours: `None` says nothing of the text.
 #[inline(always)]
-pub fn read_stamp(shape: &NamedShape, text: &[u8]) -> Option<(u16, u8, u16, u8, i16)>
+pub fn read_stamp(shape: &NamedShape, text: &[u8]) -> Option<(Year, u8, u16, u8, i16)>
     ensures says { IfSome result (λ v. SaysStamp shape.now text.now v.0 v.1 v.2 v.3 v.4) }
     ensures year { IfSome result (λ v. v.0 ≤ 9999) }
     ensures minute { IfSome result (λ v. v.2 < 1440) }
@@ -52,11 +52,11 @@ pub fn read_stamp(shape: &NamedShape, text: &[u8]) -> Option<(u16, u8, u16, u8, 
         return None;
     }
     let (day, minute, offset, second) = totals(shape, text)?;
-    if minute >= 1440 || offset >= 1440 || second % 2 != 0 {
+    if minute.max(offset) >= 1440 || second % 2 != 0 {
         return None;
     }
     let offset = signed(offset, second % 64 == 2);
-    let year = four_digits_at(text, shape.year);
+    let year = Year::of_digits(text, shape.year);
     Some((
         year,
         (day / 64) as u8,

@@ -2,7 +2,7 @@
 ghost use Rattle.std.specs.Prelude.{◌≡◌, ◌≤◌, ◌<◌, ◌-◌, ℕ, get_or};
 ghost use Rattle.parsing_places.specs.Shape.{with_moves};
 ghost use Rattle.parsing_places.specs.Tail.{LetsByte, TakesSigned, TakesZulu, TakesFraction, offset_at};
-ghost use Rattle.parsing_places.specs.declared.ending.Ending.TheVariants.{Zulu, Colon};
+ghost use Rattle.parsing_places.specs.declared.ending.Ending.TheVariants.{Zulu, Colon, Plain};
 
 use crate::ending::Ending;
 use crate::lanes::Moves;
@@ -22,7 +22,8 @@ pub(crate) struct Tail {
     ghost second_free: { 128 ≤ get_or window.taken.lanes 14 0 },
     ghost last_free: { 128 ≤ get_or window.taken.lanes 15 0 },
     ghost zulu: { ending ≡ Zulu → TakesZulu window },
-    ghost signed: { ending ≡ Colon → TakesSigned window },
+    ghost colon: { ending ≡ Colon → TakesSigned 1 window 10 },
+    ghost plain: { ending ≡ Plain → TakesSigned 0 window 11 },
     ghost some: { 0 < fraction → 2 ≤ fraction },
     ghost point: { 0 < fraction → LetsByte window (offset_at ending - fraction) 46 },
     ghost fraction_is: { TakesFraction (with_moves window digits) (offset_at ending) (fraction - 1) },

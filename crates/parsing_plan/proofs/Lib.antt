@@ -1,5 +1,5 @@
 mod ItemReads
-mod Lanes
+mod SumLemmas
 mod Steps
 mod Walk
 mod Numbers
@@ -7,3 +7,4 @@ mod Parts
 mod Moments
 mod Timestamps
 mod MonthNames
+mod WeekdayNames

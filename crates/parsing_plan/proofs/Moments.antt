@@ -27,9 +27,8 @@ use Rattle.parsing_record.specs.Whole.{whole, names, moment_named, offset_named,
 use Rattle.parsing_plan.proofs.Walk.{was_read}
 use Rattle.parsing_plan.specs.declared.layout.Layout.{Layout}
 use Rattle.parsing_components.specs.Slot.{Values}
-use Rattle.parsing_plan.specs.Layout.{HasText, Says, read_or, with_values}
+use Rattle.parsing_plan.specs.Layout.{HasText, Says, read_or, with_values, IsFront, HasNoClock}
 use Rattle.parsing_plan.specs.Parts.{SaysDate, SaysClock, SaysFraction, SaysOffset}
-use Rattle.parsing_plan.specs.Bounds.{IsFront, HasNoClock}
 use Rattle.parsing_plan.specs.Plan.{IsLayoutOf, IsSplitOf, NamesFront, beginning}
 
 -- ---- the record

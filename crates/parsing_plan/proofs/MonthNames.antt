@@ -14,54 +14,6 @@ months = 0 ∷ 1_952_665_354 ∷ 1_650_804_226 ∷ 0 ∷ 1_667_580_940 ∷ 1_819
 abbrev left : ℕ → ℕ → ℕ → ℕ → ℕ
 left entry a b c = (entry + (2 ^ 32 - (a * 256 + b * 65_536 + c * 16_777_216))) % 2 ^ 32
 
-name_October : IsNameOf October 79 99 116
-unfolding found begins
-name_October rest = refl
-
-name_February : IsNameOf February 70 101 98
-unfolding found begins
-name_February rest = refl
-
-name_December : IsNameOf December 68 101 99
-unfolding found begins
-name_December rest = refl
-
-name_July : IsNameOf July 74 117 108
-unfolding found begins
-name_July rest = refl
-
-name_November : IsNameOf November 78 111 118
-unfolding found begins
-name_November rest = refl
-
-name_January : IsNameOf January 74 97 110
-unfolding found begins
-name_January rest = refl
-
-name_June : IsNameOf June 74 117 110
-unfolding found begins
-name_June rest = refl
-
-name_May : IsNameOf May 77 97 121
-unfolding found begins
-name_May rest = refl
-
-name_September : IsNameOf September 83 101 112
-unfolding found begins
-name_September rest = refl
-
-name_August : IsNameOf August 65 117 103
-unfolding found begins
-name_August rest = refl
-
-name_March : IsNameOf March 77 97 114
-unfolding found begins
-name_March rest = refl
-
-name_April : IsNameOf April 65 112 114
-unfolding found begins
-name_April rest = refl
-
 month_of_entry : (a b c x y z number : ℕ) (m : Month) → a < 256 → b < 256 → c < 256 → x < 256 → y < 256 → z < 256 → month_number m ≤ 12 → left (month_number m + x * 256 + y * 65_536 + z * 16_777_216) a b c ≡ number → 1 ≤ number → number ≤ 12 → IsNameOf m x y z → HasName a b c number
 month_of_entry a b c x y z number m ha hb hc hx hy hz most e low high name =
     let whole : month_number m + x * 256 + y * 65_536 + z * 16_777_216 ≡ number + (a * 256 + b * 65_536 + c * 16_777_216) = omega arith in
@@ -75,20 +27,21 @@ no_entry : (a b c number : ℕ) → a < 256 → b < 256 → c < 256 → left 0 a
 no_entry a b c number ha hb hc e low high = omega arith
 
 pub month_in : (place a b c number : ℕ) → place < 16 → a < 256 → b < 256 → c < 256 → left (get_or months place 0) a b c ≡ number → 1 ≤ number → number ≤ 12 → HasName a b c number
+unfolding found begins
 month_in zero a b c number lt ha hb hc e low high = absurd (no_entry a b c number ha hb hc e low high)
-month_in (suc zero) a b c number lt ha hb hc e low high = month_of_entry a b c 79 99 116 number October ha hb hc (lit< tt) (lit< tt) (lit< tt) (lit≤ tt) e low high (name_October)
-month_in (suc (suc zero)) a b c number lt ha hb hc e low high = month_of_entry a b c 70 101 98 number February ha hb hc (lit< tt) (lit< tt) (lit< tt) (lit≤ tt) e low high (name_February)
+month_in (suc zero) a b c number lt ha hb hc e low high = month_of_entry a b c 79 99 116 number October ha hb hc (lit< tt) (lit< tt) (lit< tt) (lit≤ tt) e low high (λ rest. refl)
+month_in (suc (suc zero)) a b c number lt ha hb hc e low high = month_of_entry a b c 70 101 98 number February ha hb hc (lit< tt) (lit< tt) (lit< tt) (lit≤ tt) e low high (λ rest. refl)
 month_in (suc (suc (suc zero))) a b c number lt ha hb hc e low high = absurd (no_entry a b c number ha hb hc e low high)
-month_in (suc (suc (suc (suc zero)))) a b c number lt ha hb hc e low high = month_of_entry a b c 68 101 99 number December ha hb hc (lit< tt) (lit< tt) (lit< tt) (lit≤ tt) e low high (name_December)
-month_in (suc (suc (suc (suc (suc zero))))) a b c number lt ha hb hc e low high = month_of_entry a b c 74 117 108 number July ha hb hc (lit< tt) (lit< tt) (lit< tt) (lit≤ tt) e low high (name_July)
-month_in (suc (suc (suc (suc (suc (suc zero)))))) a b c number lt ha hb hc e low high = month_of_entry a b c 78 111 118 number November ha hb hc (lit< tt) (lit< tt) (lit< tt) (lit≤ tt) e low high (name_November)
-month_in (suc (suc (suc (suc (suc (suc (suc zero))))))) a b c number lt ha hb hc e low high = month_of_entry a b c 74 97 110 number January ha hb hc (lit< tt) (lit< tt) (lit< tt) (lit≤ tt) e low high (name_January)
-month_in (suc (suc (suc (suc (suc (suc (suc (suc zero)))))))) a b c number lt ha hb hc e low high = month_of_entry a b c 74 117 110 number June ha hb hc (lit< tt) (lit< tt) (lit< tt) (lit≤ tt) e low high (name_June)
+month_in (suc (suc (suc (suc zero)))) a b c number lt ha hb hc e low high = month_of_entry a b c 68 101 99 number December ha hb hc (lit< tt) (lit< tt) (lit< tt) (lit≤ tt) e low high (λ rest. refl)
+month_in (suc (suc (suc (suc (suc zero))))) a b c number lt ha hb hc e low high = month_of_entry a b c 74 117 108 number July ha hb hc (lit< tt) (lit< tt) (lit< tt) (lit≤ tt) e low high (λ rest. refl)
+month_in (suc (suc (suc (suc (suc (suc zero)))))) a b c number lt ha hb hc e low high = month_of_entry a b c 78 111 118 number November ha hb hc (lit< tt) (lit< tt) (lit< tt) (lit≤ tt) e low high (λ rest. refl)
+month_in (suc (suc (suc (suc (suc (suc (suc zero))))))) a b c number lt ha hb hc e low high = month_of_entry a b c 74 97 110 number January ha hb hc (lit< tt) (lit< tt) (lit< tt) (lit≤ tt) e low high (λ rest. refl)
+month_in (suc (suc (suc (suc (suc (suc (suc (suc zero)))))))) a b c number lt ha hb hc e low high = month_of_entry a b c 74 117 110 number June ha hb hc (lit< tt) (lit< tt) (lit< tt) (lit≤ tt) e low high (λ rest. refl)
 month_in (suc (suc (suc (suc (suc (suc (suc (suc (suc zero))))))))) a b c number lt ha hb hc e low high = absurd (no_entry a b c number ha hb hc e low high)
-month_in (suc (suc (suc (suc (suc (suc (suc (suc (suc (suc zero)))))))))) a b c number lt ha hb hc e low high = month_of_entry a b c 77 97 121 number May ha hb hc (lit< tt) (lit< tt) (lit< tt) (lit≤ tt) e low high (name_May)
-month_in (suc (suc (suc (suc (suc (suc (suc (suc (suc (suc (suc zero))))))))))) a b c number lt ha hb hc e low high = month_of_entry a b c 83 101 112 number September ha hb hc (lit< tt) (lit< tt) (lit< tt) (lit≤ tt) e low high (name_September)
-month_in (suc (suc (suc (suc (suc (suc (suc (suc (suc (suc (suc (suc zero)))))))))))) a b c number lt ha hb hc e low high = month_of_entry a b c 65 117 103 number August ha hb hc (lit< tt) (lit< tt) (lit< tt) (lit≤ tt) e low high (name_August)
+month_in (suc (suc (suc (suc (suc (suc (suc (suc (suc (suc zero)))))))))) a b c number lt ha hb hc e low high = month_of_entry a b c 77 97 121 number May ha hb hc (lit< tt) (lit< tt) (lit< tt) (lit≤ tt) e low high (λ rest. refl)
+month_in (suc (suc (suc (suc (suc (suc (suc (suc (suc (suc (suc zero))))))))))) a b c number lt ha hb hc e low high = month_of_entry a b c 83 101 112 number September ha hb hc (lit< tt) (lit< tt) (lit< tt) (lit≤ tt) e low high (λ rest. refl)
+month_in (suc (suc (suc (suc (suc (suc (suc (suc (suc (suc (suc (suc zero)))))))))))) a b c number lt ha hb hc e low high = month_of_entry a b c 65 117 103 number August ha hb hc (lit< tt) (lit< tt) (lit< tt) (lit≤ tt) e low high (λ rest. refl)
 month_in (suc (suc (suc (suc (suc (suc (suc (suc (suc (suc (suc (suc (suc zero))))))))))))) a b c number lt ha hb hc e low high = absurd (no_entry a b c number ha hb hc e low high)
-month_in (suc (suc (suc (suc (suc (suc (suc (suc (suc (suc (suc (suc (suc (suc zero)))))))))))))) a b c number lt ha hb hc e low high = month_of_entry a b c 77 97 114 number March ha hb hc (lit< tt) (lit< tt) (lit< tt) (lit≤ tt) e low high (name_March)
-month_in (suc (suc (suc (suc (suc (suc (suc (suc (suc (suc (suc (suc (suc (suc (suc zero))))))))))))))) a b c number lt ha hb hc e low high = month_of_entry a b c 65 112 114 number April ha hb hc (lit< tt) (lit< tt) (lit< tt) (lit≤ tt) e low high (name_April)
+month_in (suc (suc (suc (suc (suc (suc (suc (suc (suc (suc (suc (suc (suc (suc zero)))))))))))))) a b c number lt ha hb hc e low high = month_of_entry a b c 77 97 114 number March ha hb hc (lit< tt) (lit< tt) (lit< tt) (lit≤ tt) e low high (λ rest. refl)
+month_in (suc (suc (suc (suc (suc (suc (suc (suc (suc (suc (suc (suc (suc (suc (suc zero))))))))))))))) a b c number lt ha hb hc e low high = month_of_entry a b c 65 112 114 number April ha hb hc (lit< tt) (lit< tt) (lit< tt) (lit≤ tt) e low high (λ rest. refl)
 month_in (suc (suc (suc (suc (suc (suc (suc (suc (suc (suc (suc (suc (suc (suc (suc (suc k)))))))))))))))) a b c number lt ha hb hc e low high = absurd (omega arith)

@@ -1,25 +1,22 @@
 -- What stands at a place of a line, by what its pieces cut off there.
-use Rattle.std.proofs.Common.{bit_and, ◌≡◌, ◌≤◌, ◌<◌, ◌+◌, ◌-◌, ◌*◌, ◌%◌, ◌∙◌, ◌==◌, ◌||◌, ◌&&◌, inl, inr, ℕ, Bool, true, false, List, [], ◌∷◌, take, drop, length, get_or, min, leb, Option, Some, None, Ok, refl, sym, ap, subst, arith, pos}
-use Rattle.std.specs.Prelude.{nat_le, ◌⊎◌, nat_lt, IsTrue, IfSome, option_map, if◌then◌else◌, ℤ, ◌*ℤ◌}
+use Rattle.std.proofs.Common.{bit_and, ◌≡◌, ◌≤◌, ◌<◌, ◌+◌, ◌-◌, ◌*◌, ◌%◌, ◌∙◌, ◌==◌, ◌||◌, inl, inr, ℕ, Bool, true, false, List, ◌∷◌, take, drop, length, get_or, min, leb, Option, Some, None, Ok, refl, sym, ap, arith, pos}
+use Rattle.std.specs.Prelude.{nat_le, ◌⊎◌, IfSome, ℤ, ◌*ℤ◌}
 use Rattle.std.specs.Int.{is_in_range}
 use Rattle.std.proofs.lemmas.Nat.{and_mask}
 use Rattle.std.proofs.lemmas.Bool.Decides.{nat_tests}
-use Rattle.std.proofs.lemmas.List.{drop-drop, drop_more, get_or-drop, length-drop}
+use Rattle.std.proofs.lemmas.List.{drop-drop, drop_more}
 use Rattle.std.specs.Char.{is_ascii_digit}
 use Rattle.calendar_count.specs.declared.month.Month.{Month}
 use Rattle.calendar_count.specs.declared.weekday.Weekday.{Weekday}
 use Rattle.calendar_count.specs.declared.weekday.Weekday.TheVariants as weekdays
 use Rattle.calendar_count.specs.Month.{month_number}
 use Rattle.description_date_modifiers.specs.declared.choices.Padding.TheVariants as padding
-use Rattle.parsing_combinator.proofs.Decimal.{digit_count_within}
 use Rattle.parsing_combinator.proofs.Longest.{taken_digits, taken_exactly}
 use Rattle.parsing_combinator.proofs.SpaceLemmas.{taken_spaced}
-use Rattle.parsing_combinator.specs.Pieces.{fraction, digit_run, nanoseconds_of, digit_count, digits, sign, byte_of}
+use Rattle.parsing_combinator.specs.Pieces.{nanoseconds_of, digit_count, digits, sign, byte_of}
 use Rattle.parsing_values.specs.Resolution.{signed_offset_of}
 use Rattle.parsing_values.proofs.lemmas.Ranges.{offset_ranges}
 use Rattle.parsing_combinator.specs.Shape.{taken, fraction_between, spaced_between, is_space}
-use Rattle.parsing_combinator.specs.Tame.{EndsWith}
-use Rattle.parsing_combinator.proofs.lemmas.Tame.{dropped, joined}
 use Rattle.parsing_combinator.specs.Numbers.{offset_hour}
 use Rattle.parsing_combinator.specs.Names.{named, found, begins, short_months, short_weekdays}
 use Rattle.parsing_combinator.proofs.Components.{taken_offset_hour, taken_padded_exactly}
@@ -28,66 +25,21 @@ use Rattle.parsing_components.specs.Ranged.{kept, between}
 use Rattle.parsing_components.specs.Read as read
 use Rattle.parsing_components.proofs.Entries.{month_entry}
 use Rattle.parsing_combinator.proofs.Decimal.{count_drop}
-use Rattle.parsing_combinator.proofs.Fixed.{some_if, digits_one}
+use Rattle.parsing_combinator.proofs.Fixed.{digits_one}
 use Rattle.parsing_combinator.proofs.FractionDigits.{none_there}
 use Rattle.parsing_fields.specs.Written.{WriteFraction}
-use Rattle.std.proofs.lemmas.Bool.{cases_lt}
 use Rattle.parsing_components.specs.Slot.{slot_piece}
-use Rattle.parsing_plan.specs.declared.bounds.Bounds.{Bounds}
 use Rattle.parsing_plan.specs.declared.layout.Layout.{Layout}
-use Rattle.parsing_plan.specs.Bounds.{LiesWithin, IsPair, IsSixty, HasPair, HasSixty, IsSpaced, HasSpaced, HoldText, BeginsApart}
-use Rattle.parsing_plan.specs.Layout.{HasText}
-use Rattle.parsing_plan.specs.Parts.{WritesAt, WritesDay, WritesOffset, SaysMonth, SaysWeekday, SaysFraction, HasName, IsNameOf, IsWeekdayNameOf}
-use Rattle.parsing_combinator.proofs.Fixed.{digits_two, digits_four}
+use Rattle.parsing_plan.specs.Parts.{WritesAt, WritesDay, WritesOffset, SaysMonth, SaysWeekday, SaysFraction, HasName, IsNameOf, IsWeekdayNameOf, HasSpaced}
+use Rattle.parsing_combinator.proofs.Fixed.{digits_two}
 
 -- ---- numbers
-
-some_same : {A : Type 0} (x y : A) → Some x ≡ Some y → x ≡ y
-some_same x y e = let same : x ≡ y = cc in same
 
 is_digit : (c : ℕ) → 48 ≤ c → c ≤ 57 → is_ascii_digit c ≡ true
 is_digit c low high = grind (arith, nat_tests)
 
 at_least : (n m : ℕ) → n ≤ m → leb n m ≡ true
 at_least n m le = grind (arith, nat_tests)
-
--- two digits that stand there
-pub two_written : (line : List ℕ) (place : ℕ) → HasPair line place → WritesAt 2 line place ((get_or line place 0 - 48) * 10 + (get_or line (place + 1) 0 - 48))
-two_written line place h =
-    let here : place + 0 ≡ place = omega arith in
-    let first : get_or (drop place line) 0 0 ≡ get_or line place 0 = rw here at (get_or-drop place line 0 0) in
-    let second : get_or (drop place line) 1 0 ≡ get_or line (place + 1) 0 = get_or-drop place line 1 0 in
-    let long : leb 2 (length (drop place line)) ≡ true = at_least 2 (length (drop place line)) (omega (arith, length-drop place line, h.room)) in
-    digits_two (drop place line) ∙ rw (long, first, second, is_digit (get_or line place 0) h.first_low h.first_high, is_digit (get_or line (place + 1) 0) h.second_low h.second_high, drop-drop 2 place line) refl
-
-pub four_written : (line : List ℕ) (place high low : ℕ) → WritesAt 2 line place high → WritesAt 2 line (place + 2) low → WritesAt 4 line place (high * 100 + low)
-four_written line place high low first second =
-    let behind : place + 2 + 2 ≡ place + 4 = omega arith in
-    digits_four (drop place line) ∙ rw (first, second, behind) refl
-
-pub pair_there : (b : Bounds) (line : List ℕ) (n place : ℕ) → n ≤ length line → LiesWithin b line n → IsPair b n place → HasPair line place
-pair_there b line n place long within p =
-    let first = within place (omega (arith, p.room)) in
-    let second = within (place + 1) (omega (arith, p.room)) in
-    record {
-      room = omega (arith, long, p.room);
-      first_low = omega (arith, first.0, p.first_low);
-      first_high = omega (arith, first.1, p.first_high);
-      second_low = omega (arith, second.0, p.second_low);
-      second_high = omega (arith, second.1, p.second_high);
-    }
-
-pub sixty_there : (b : Bounds) (line : List ℕ) (n place : ℕ) → n ≤ length line → LiesWithin b line n → IsSixty b n place → HasSixty line place
-sixty_there b line n place long within p = record {
-  pair = pair_there b line n place long within p.pair;
-  tens = omega (arith, (within place (omega (arith, p.pair.room))).1, p.tens);
-}
-
-pub text_there : (b : Bounds) (l : Layout) (line : List ℕ) → LiesWithin b line l.length → HoldText b l → HasText l line
-text_there b l line within hold k e =
-    let text = hold k e in
-    let here = within k text.inside in
-    omega (arith, here.0, here.1, text.low_is, text.high_is)
 
 -- ---- two bytes of which the first may be a space
 
@@ -125,31 +77,6 @@ day_spaced line place h (inr is) =
     let d : ℕ = get_or line (place + 1) 0 in
     let tens : bit_and c 15 * 10 + (d - 48) ≡ d - 48 = omega (arith, low_half c, is) in
     rw tens (ap (taken (spaced_between 2 2)) (two_there line place h.room) ∙ spaced_one c d (drop (place + 2) line) is h.second_low h.second_high)
-
-pub day_of_digits : (line : List ℕ) (place : ℕ) → HasSpaced line place → 48 ≤ get_or line place 0 → WritesDay false line place (bit_and (get_or line place 0) 15 * 10 + (get_or line (place + 1) 0 - 48))
-day_of_digits line place h low =
-    let c : ℕ = get_or line place 0 in
-    let tens : bit_and c 15 ≡ c - 48 = omega (arith, low_half c, low, h.first_high) in
-    rw tens (two_written line place (record { room = h.room; first_low = low; first_high = h.first_high; second_low = h.second_low; second_high = h.second_high }))
-
-pub day_either : (b : Bool) (line : List ℕ) (place day : ℕ) → WritesDay true line place day → (48 ≤ get_or line place 0 → WritesDay false line place day) → (b ≡ false → 48 ≤ get_or line place 0) → WritesDay b line place day
-day_either true line place day spaced digit low = spaced
-day_either false line place day spaced digit low = digit (low refl)
-
-pub tens_there : (b : Bounds) (line : List ℕ) (n place : ℕ) → LiesWithin b line n → IsSpaced b n place → 48 ≤ get_or b.low place 0 → 48 ≤ get_or line place 0
-tens_there b line n place within p low = omega (arith, (within place (omega (arith, p.room))).0, low)
-
-pub spaced_there : (b : Bounds) (line : List ℕ) (n place : ℕ) → n ≤ length line → LiesWithin b line n → IsSpaced b n place → HasSpaced line place
-spaced_there b line n place long within p =
-    let first = within place (omega (arith, p.room)) in
-    let second = within (place + 1) (omega (arith, p.room)) in
-    record {
-      room = omega (arith, long, p.room);
-      first_low = omega (arith, first.0, p.first_low);
-      first_high = omega (arith, first.1, p.first_high);
-      second_low = omega (arith, second.0, p.second_low);
-      second_high = omega (arith, second.1, p.second_high);
-    }
 
 -- ---- slots of numbers in their ranges
 
@@ -225,6 +152,10 @@ signed_hours : (c hours place : ℕ) (cs rest line : List ℕ) → ((c == 43) ||
 unfolding byte_of
 signed_hours c hours place cs rest line sign e = taken_offset_hour padding.Zero true (c ∷ cs) ∙ rw (sign, taken_padded_exactly padding.Zero 2 cs, e) refl
 
+pub either_sign : (c : ℕ) → (c ≡ 43) ⊎ (c ≡ 45) → ((c == 43) || (c == 45)) ≡ true
+either_sign c (inl e) = rw e refl
+either_sign c (inr e) = rw e refl
+
 pub offset_written : (line : List ℕ) (hour minute hours minutes : ℕ) (is_negative : Bool) (offset : ℤ) → hour < length line → ((get_or line hour 0 == 43) || (get_or line hour 0 == 45)) ≡ true → is_negative ≡ (get_or line hour 0 == 45) → WritesAt 2 line (hour + 1) hours → WritesAt 2 line minute minutes → signed_offset_of is_negative hours minutes ≡ Ok (pos 60 *ℤ offset) → WritesOffset line hour minute offset
 unfolding slot_piece
 offset_written line hour minute hours minutes is_negative offset lt sign minus in_hours in_minutes is =
@@ -246,22 +177,8 @@ offset_written line hour minute hours minutes is_negative offset lt sign minus i
 count_short : (count m : ℕ) → count ≤ m → min count m ≡ count
 count_short count m le = omega (arith, le)
 
-run_taken : (b : Bool) (line rest : List ℕ) (n : ℕ) → (digit_count line == 0) ≡ b → option_map {T = List ℕ × List ℕ} {U = ℕ × List ℕ} (λ p. (nanoseconds_of p.0, p.1)) (if b then None else Some (take (digit_count line) line, drop (digit_count line) line)) ≡ Some (n, rest) → length line ≤ length rest + 9 → taken (fraction_between 1 32) line ≡ Some (n, rest)
-run_taken true line rest n is e few = absurd cc
-run_taken false line rest n is e few =
-    let count : ℕ = digit_count line in
-    let cut : (nanoseconds_of (take count line), drop count line) ≡ (n, rest) = some_same (nanoseconds_of (take count line), drop count line) (n, rest) e in
-    let behind : drop count line ≡ rest = ap (λ (p : ℕ × List ℕ). p.1) cut in
-    let few_digits : count ≤ 32 = omega (arith, few, length-drop count line, ap length behind, digit_count_within line) in
-    let some : nat_le 1 count ≡ true = grind (arith, nat_tests) in
-    taken_digits nanoseconds_of 1 32 line (omega arith) ∙ rw (some, count_short count 32 few_digits) e
-
-pub fraction_taken : (line rest : List ℕ) (n : ℕ) → fraction line ≡ Some (n, rest) → length line ≤ length rest + 9 → taken (fraction_between 1 32) line ≡ Some (n, rest)
-unfolding fraction digit_run
-fraction_taken line rest n e few = run_taken (digit_count line == 0) line rest n refl e few
-
 -- so many digits, behind which there is none
-digits_end : (line : List ℕ) (place count nanosecond : ℕ) → 0 < count → count ≤ 32 → digits 1 (drop (place + count) line) ≡ None → WriteFraction (drop (place + count - count) line) count nanosecond → taken (fraction_between 1 32) (drop place line) ≡ Some (nanosecond, drop (place + count) line)
+pub digits_end : (line : List ℕ) (place count nanosecond : ℕ) → 0 < count → count ≤ 32 → digits 1 (drop (place + count) line) ≡ None → WriteFraction (drop (place + count - count) line) count nanosecond → taken (fraction_between 1 32) (drop place line) ≡ Some (nanosecond, drop (place + count) line)
 digits_end line place count nanosecond some few ends w =
     let at : place + count - count ≡ place = omega arith in
     let enough : count ≤ digit_count (drop place line) = rw at at w.enough in
@@ -270,60 +187,6 @@ digits_end line place count nanosecond some few ends w =
     let is : digit_count (drop place line) ≡ count = omega (arith, count_drop count (drop place line) enough, left) in
     let there : nat_le 1 count ≡ true = grind (arith, nat_tests) in
     taken_digits nanoseconds_of 1 32 (drop place line) (omega arith) ∙ rw (is, there, count_short count 32 few, value, drop-drop count place line) refl
-
-pub digits_ended : (line : List ℕ) (place count : ℕ) (o : Option ℕ) → 0 < count → count ≤ 32 → digits 1 (drop (place + count) line) ≡ None → IfSome o (WriteFraction (drop (place + count - count) line) count) → IfSome o (λ n. taken (fraction_between 1 32) (drop place line) ≡ Some (n, drop (place + count) line))
-digits_ended line place count None some few ends w = tt
-digits_ended line place count (Some n) some few ends w = digits_end line place count n some few ends w
-
-run_rest : (b : Bool) (line rest : List ℕ) (n : ℕ) → (digit_count line == 0) ≡ b → option_map {T = List ℕ × List ℕ} {U = ℕ × List ℕ} (λ p. (nanoseconds_of p.0, p.1)) (if b then None else Some (take (digit_count line) line, drop (digit_count line) line)) ≡ Some (n, rest) → rest ≡ drop (length line - length rest) line
-run_rest true line rest n is e = absurd cc
-run_rest false line rest n is e =
-    let count : ℕ = digit_count line in
-    let cut : (nanoseconds_of (take count line), drop count line) ≡ (n, rest) = some_same (nanoseconds_of (take count line), drop count line) (n, rest) e in
-    let behind : drop count line ≡ rest = ap (λ (p : ℕ × List ℕ). p.1) cut in
-    let same : length line - length rest ≡ count = omega (arith, length-drop count line, ap length behind, digit_count_within line) in
-    rw same (sym behind)
-
--- what is left behind a fraction is the end of the bytes
-fraction_rest : (line rest : List ℕ) (n : ℕ) → fraction line ≡ Some (n, rest) → rest ≡ drop (length line - length rest) line
-unfolding fraction digit_run
-fraction_rest line rest n e = run_rest (digit_count line == 0) line rest n refl e
-
-pub fraction_ended : (line rest : List ℕ) (place count n : ℕ) → fraction (drop place line) ≡ Some (n, rest) → length (drop place line) ≤ length rest + 9 → length rest + place + count ≡ length line → taken (fraction_between 1 32) (drop place line) ≡ Some (n, drop (place + count) line)
-fraction_ended line rest place count n e few long =
-    let left : length (drop place line) - length rest ≡ count = omega (arith, length-drop place line) in
-    let is : rest ≡ drop (place + count) line = fraction_rest (drop place line) rest n e ∙ ap (λ (k : ℕ). drop k (drop place line)) left ∙ drop-drop count place line in
-    fraction_taken (drop place line) rest n e few ∙ ap (λ (xs : List ℕ). Some (n, xs)) is
-
-pub fraction_ends : (line rest : List ℕ) (place k n : ℕ) → fraction (drop place line) ≡ Some (n, rest) → EndsWith line (drop k rest)
-fraction_ends line rest place k n e =
-    let bytes : List ℕ = drop place line in
-    let is : drop (length bytes - length rest) bytes ≡ rest = sym (fraction_rest bytes rest n e) in
-    let ends : EndsWith bytes rest = subst (EndsWith bytes) is (dropped (length bytes - length rest) bytes) in
-    joined line bytes (drop k rest) (dropped place line) (joined bytes rest (drop k rest) ends (dropped k rest))
-
--- ---- what stands behind a fraction
-
-apart_byte : (c low high : ℕ) → IsTrue (nat_lt high 48 || nat_lt 57 low) → low ≤ c → c ≤ high → is_ascii_digit c ≡ false
-apart_byte c low high apart a b = grind (arith, nat_tests)
-
-no_digit : (q p : Bool) (v : ℕ) (rest : List ℕ) → p ≡ false → some_if (q && p) v rest ≡ None
-no_digit true p v rest e = rw e refl
-no_digit false p v rest e = refl
-
-nothing_there : (rest : List ℕ) → length rest ≡ 0 → digits 1 rest ≡ None
-unfolding digits
-nothing_there [] e = refl
-nothing_there (x ∷ xs) e = absurd (omega arith)
-
-pub no_digit_there : (b : Bounds) (l : Layout) (rest : List ℕ) → BeginsApart b l → length rest ≡ l.length → LiesWithin b rest l.length → digits 1 rest ≡ None
-no_digit_there b l rest apart long within = elim (cases_lt 0 l.length) [
-  | inl some ↦
-      let here = within 0 some in
-      let other : is_ascii_digit (get_or rest 0 0) ≡ false = apart_byte (get_or rest 0 0) (get_or b.low 0 0) (get_or b.high 0 0) (apart some) here.0 here.1 in
-      digits_one rest ∙ no_digit _ _ _ _ other
-  | inr none ↦ nothing_there rest (omega arith)
-]
 
 -- ---- fractions of so many digits
 

@@ -9,6 +9,7 @@ use Rattle.parsing_record.specs.Record.{Record}
 use Rattle.parsing_plan.specs.declared.layout.Layout.{Layout}
 use Rattle.parsing_components.specs.Slot.{Values}
 use Rattle.parsing_plan.specs.Layout.{with_values}
+use Rattle.parsing_plan.specs.declared.plan.Front.{Front}
 use Rattle.parsing_plan.specs.declared.plan.Places.{Places}
 use Rattle.parsing_plan.specs.declared.plan.Plan.{Plan}
 use Rattle.parsing_plan.specs.declared.plan.Back.{Back}
@@ -64,12 +65,11 @@ none_and_some None x e none = cc
 none_and_some (Some y) x e none = cc
 
 -- a plan of a layout, and a plan of two with a fraction between them
-pub whole_plans : (language : Language) (all left : List Tree) (front : Layout) (o : Option Places) → LeadsTo language all left front → left ≡ [] → IfSome o (λ plan. plan.layout ≡ front) → IfSome o (λ plan. plan.back ≡ None) → IfSome o (ArePlacesOf (reading_of_all language (listed all)))
-whole_plans language all left front None leads end is none = tt
-whole_plans language all left front (Some plan) leads end is none = (λ e. rw is (leads_to_end language all left front leads end), λ back e. absurd (none_and_some plan.back back e none))
+pub whole_plan : (language : Language) (all left : List Tree) (layout : Layout) (plan : Places) → LeadsTo language all left layout → left ≡ [] → plan.front.layout ≡ layout → plan.back ≡ None → ArePlacesOf (reading_of_all language (listed all)) plan
+whole_plan language all left layout plan leads end is none = (λ e. rw is (leads_to_end language all left layout leads end), λ back e. absurd (none_and_some plan.back back e none))
 
 -- a plan with a back
-split_plan : (m : Meaning) (plan : Places) (back : Back) (front behind : Layout) → plan.layout ≡ front → plan.back ≡ Some back → back.layout ≡ behind → IsSplitOf m front behind → ArePlacesOf m plan
+split_plan : (m : Meaning) (plan : Places) (back : Back) (front behind : Layout) → plan.front.layout ≡ front → plan.back ≡ Some back → back.layout ≡ behind → IsSplitOf m front behind → ArePlacesOf m plan
 split_plan m plan back front behind ahead some after split = (
   (λ e. absurd (none_and_some plan.back back some e)),
   (λ x e.
@@ -77,10 +77,10 @@ split_plan m plan back front behind ahead some after split = (
       rw (ahead, same) split),
 )
 
-pub split_plans : (language : Language) (all left ts others : List Tree) (t : Tree) (front behind : Layout) (first : Places) (back : Back) (o : Option Places) → LeadsTo language all left front → left ≡ t ∷ ts → IsFractionOf (reading language t) → LeadsTo language ts others behind → others ≡ [] → first.layout ≡ front → back.layout ≡ behind → IfSome o (λ plan. plan.layout ≡ first.layout) → IfSome o (λ plan. plan.back ≡ Some back) → IfSome o (ArePlacesOf (reading_of_all language (listed all)))
+pub split_plans : (language : Language) (all left ts others : List Tree) (t : Tree) (front behind : Layout) (first : Front) (back : Back) (o : Option Places) → LeadsTo language all left front → left ≡ t ∷ ts → IsFractionOf (reading language t) → LeadsTo language ts others behind → others ≡ [] → first.layout ≡ front → back.layout ≡ behind → IfSome o (λ plan. plan.front ≡ first) → IfSome o (λ plan. plan.back ≡ Some back) → IfSome o (ArePlacesOf (reading_of_all language (listed all)))
 split_plans language all left ts others t front behind first back None leads cut fraction more end in_front in_back is some = tt
 split_plans language all left ts others t front behind first back (Some plan) leads cut fraction more end in_front in_back is some =
-    split_plan (reading_of_all language (listed all)) plan back front behind (is ∙ in_front) some in_back (leads_to_split language all left ts t front behind leads cut fraction (leads_to_end language ts others behind more end))
+    split_plan (reading_of_all language (listed all)) plan back front behind (ap (λ (f : Front). f.layout) is ∙ in_front) some in_back (leads_to_split language all left ts t front behind leads cut fraction (leads_to_end language ts others behind more end))
 
 -- an item that holds others reads what they read, one after the other
 compound_plan : (language : Language) (ts : List Tree) (plan : Plan) → IsPlanOf (reading_of_all language (listed ts)) plan → IsPlanOf (reading language (Compound (listed ts))) plan

@@ -1,5 +1,5 @@
 -- Layouts: what stands at each place of a line, and what a line that has it sets in a record.
-use Rattle.std.specs.Prelude.{◌≡◌, ℕ, ◌+◌, pos, Bool, true, false, List, drop, get_or, Option, Some, None, IfSome, set}
+use Rattle.std.specs.Prelude.{◌≡◌, ◌≤◌, ◌<◌, ℕ, ◌+◌, pos, Bool, true, false, List, drop, get_or, Option, Some, None, IfSome, set}
 use Rattle.parsing_components.specs.Ranged.{under}
 use Rattle.parsing_components.specs.Read.{Read}
 use Rattle.parsing_components.specs.Read as read
@@ -83,3 +83,31 @@ read_or (Some place) new old = new
 -- the record with the values of the slots that have places
 abbrev pub with_values : Layout → Values → Record → Record
 with_values l v r = record r { year = read_or l.year (Some (pos v.year)) r.year; month = read_or l.month (Some v.month) r.month; weekday = read_or l.weekday (Some v.weekday) r.weekday; day = read_or l.day (Some v.day) r.day; hour_24 = read_or l.hour (Some v.hour) r.hour_24; minute = read_or l.minute (Some v.minute) r.minute; second = read_or l.second (Some v.second) r.second; subsecond = read_or l.subsecond (Some v.nanosecond) r.subsecond; offset_hour = read_or l.offset_hour (Some (under v.is_negative v.offset_hour)) r.offset_hour; offset_is_negative = read_or l.offset_hour v.is_negative r.offset_is_negative; offset_minute = read_or l.offset_minute (Some (pos v.offset_minute)) r.offset_minute }
+
+-- a layout has no place for an offset
+pub record HasNoOffset (l : Layout) : Type 0 where
+  pub no_hour : l.offset_hour ≡ None
+  pub no_minute : l.offset_minute ≡ None
+
+-- a layout has no place for a fraction of a second, nor for an offset
+pub record IsFront (l : Layout) : Type 0 where
+  pub no_offset : HasNoOffset l
+  pub no_subsecond : l.subsecond ≡ None
+
+-- so many digits of a fraction, at most eight, end at the ninth place of a line or later, and within a length
+pub record HasRoom (length place digits : ℕ) : Type 0 where
+  pub some : 0 < digits
+  pub few : digits ≤ 8
+  pub far : 8 ≤ place + digits
+  pub within : place + digits ≤ length
+
+-- a layout has no place for a date and a time of day
+pub record HasNoClock (l : Layout) : Type 0 where
+  pub no_year : l.year ≡ None
+  pub no_month : l.month ≡ None
+  pub no_weekday : l.weekday ≡ None
+  pub no_day : l.day ≡ None
+  pub no_hour : l.hour ≡ None
+  pub no_minute : l.minute ≡ None
+  pub no_second : l.second ≡ None
+  pub no_subsecond : l.subsecond ≡ None

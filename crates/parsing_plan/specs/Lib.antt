@@ -1,5 +1,6 @@
 pub mod Layout
-pub mod Bounds
+pub mod Windows
+pub mod Sums
 pub mod Beginning
 pub mod UnixTime
 pub mod Steps

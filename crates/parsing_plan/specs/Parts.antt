@@ -1,5 +1,5 @@
 -- What the slots of a line say of a date, a time of day and an offset.
-use Rattle.std.specs.Prelude.{◌≡◌, ◌≤◌, ℕ, ◌+◌, ◌*◌, Bool, true, List, ◌∷◌, length, drop, Option, Some, None, Ok, IsSome, ℤ, pos, ◌*ℤ◌, false}
+use Rattle.std.specs.Prelude.{◌≡◌, ◌≤◌, ℕ, ◌+◌, ◌*◌, Bool, true, List, ◌∷◌, drop, Option, Some, None, Ok, IsSome, ℤ, pos, ◌*ℤ◌, false, length, get_or}
 use Rattle.std.specs.Option.{unwrap_or}
 use Rattle.calendar_count.specs.declared.month.Month.{Month}
 use Rattle.calendar_count.specs.Month.{month_number}
@@ -13,9 +13,7 @@ use Rattle.parsing_components.specs.Read as read
 use Rattle.parsing_record.specs.Whole.{offset_named}
 use Rattle.parsing_components.specs.Slot.{Values, slot_piece, value_in, width}
 use Rattle.parsing_plan.specs.Layout.{SaysAt, read_or, month_slot, day_slot, with_values}
-use Rattle.parsing_plan.specs.Bounds.{LiesWithin}
 use Rattle.parsing_plan.specs.Beginning.{beginning}
-use Rattle.parsing_plan.specs.declared.bounds.Bounds.{Bounds}
 use Rattle.parsing_plan.specs.declared.layout.Layout.{Layout}
 use Rattle.parsing_components.specs.declared.slot.Slot.TheVariants as slot
 
@@ -27,6 +25,14 @@ WritesAt n line place number = digits n (drop place line) ≡ Some (number, drop
 abbrev pub WritesDay : Bool → List ℕ → ℕ → ℕ → Type 0
 WritesDay true line place number = taken (spaced_between 2 2) (drop place line) ≡ Some (number, drop (place + 2) line)
 WritesDay false line place number = WritesAt 2 line place number
+
+-- a digit stands behind a place, and a byte from a space to a digit at it
+pub record HasSpaced (line : List ℕ) (place : ℕ) : Type 0 where
+  pub room : place + 2 ≤ length line
+  pub first_low : 32 ≤ get_or line place 0
+  pub first_high : get_or line place 0 ≤ 57
+  pub second_low : 48 ≤ get_or line (place + 1) 0
+  pub second_high : get_or line (place + 1) 0 ≤ 57
 
 -- the short name of a month has these letters
 abbrev pub IsNameOf : Month → ℕ → ℕ → ℕ → Type 0
@@ -44,10 +50,9 @@ pub record HasName (first second third number : ℕ) : Type 0 where
 abbrev pub IsWeekdayNameOf : Weekday → ℕ → ℕ → ℕ → Type 0
 IsWeekdayNameOf weekday first second third = (rest : List ℕ) → found true short_weekdays (first ∷ second ∷ third ∷ rest) ≡ Some (weekday, rest)
 
--- a line is not shorter than a layout, and has bytes within its bounds there
-pub record Fits (l : Layout) (b : Bounds) (line : List ℕ) : Type 0 where
-  pub long : l.length ≤ length line
-  pub within : LiesWithin b line l.length
+pub record IsWeekday (first second third : ℕ) : Type 0 where
+  pub weekday : Weekday
+  pub name : IsWeekdayNameOf weekday first second third
 
 -- a month at a place, by its name or its number
 pub record SaysMonth (is_named : Bool) (line : List ℕ) (place number : ℕ) : Type 0 where

@@ -26,7 +26,7 @@ IsSplitOf m front back = (line : List ℕ) (v : Values) (nanosecond : ℕ) (rest
 
 -- the items read as the places say
 abbrev pub ArePlacesOf : Meaning → Places → Type 0
-ArePlacesOf m places = ForNone places.back (IsLayoutOf m places.layout) × ForSome places.back (λ back. IsSplitOf m places.layout back.layout)
+ArePlacesOf m places = ForNone places.back (IsLayoutOf m places.front.layout) × ForSome places.back (λ back. IsSplitOf m places.front.layout back.layout)
 
 -- the items read as the plan says
 abbrev pub IsPlanOf : Meaning → Plan → Type 0

@@ -1,14 +1,15 @@
 //! Plans of descriptions.
-ghost use Rattle.std.specs.Prelude.{◌≡◌, ◌≤◌, ◌+◌, true, false, get_or, Some};
+ghost use Rattle.std.specs.Prelude.{◌≡◌, ◌≤◌, ◌<◌, ◌+◌, true, false, Some};
 ghost use Rattle.std.specs.Option.{ForSome, ForNone};
-ghost use Rattle.parsing_plan.specs.Bounds.{IsPair, IsSixty, IsSpaced, HoldText, HasNoOffset, HasNoClock, HasOffset, IsFront, HasRoom, BeginsApart, IsTail};
+ghost use Rattle.parsing_places.specs.Windows.{LetsAt, TakeTwo, TakeOne, SpareTwo, SpareOne};
+ghost use Rattle.parsing_plan.specs.Layout.{HasNoOffset, HasNoClock, IsFront, HasRoom};
+ghost use Rattle.parsing_plan.specs.Windows.{LetText, LetYear, TakesOffset, SpareOffset, LetLastText, BeginsApart, SparesClock, SparesSign, TakesLastOffset};
 
 mod calls;
 
-use crate::bounds::Bounds;
 use crate::layout::Layout;
-use crate::tail::Tail;
 use crate::unix::UnixTime;
+use parsing_places::{LastBytes, Windows};
 
 /// The places of an offset's hours, behind which its sign stands, and of its minutes.
 #[derive(Clone, Copy)]
@@ -21,24 +22,26 @@ pub(crate) struct OffsetPlaces {
 #[derive(Clone, Copy)]
 pub(crate) struct Back {
     pub(crate) layout: Layout,
-    pub(crate) bounds: Bounds,
+    /// The bytes at its places, and the lanes that take its offset.
+    pub(crate) last: LastBytes,
     pub(crate) offset: Option<OffsetPlaces>,
-    /// The bounds at the end of a line, where they are few.
-    pub(crate) tail: Option<Tail>,
-    ghost text: { HoldText bounds layout },
+    ghost same_length: { last.length ≡ layout.length },
+    ghost text: { LetLastText last.window layout },
     ghost alone: { HasNoClock layout },
-    ghost apart: { BeginsApart bounds layout },
+    ghost apart: { BeginsApart last.window layout.length },
+    ghost no_clock: { SparesClock last.window },
     ghost no_offset: { ForNone offset (HasNoOffset layout) },
-    ghost offset_is: { ForSome offset (λ places. HasOffset layout bounds places.hour places.minute) },
-    ghost tail_is: { ForSome tail (λ t. IsTail t.low t.high bounds layout.length) },
+    ghost no_sign: { ForNone offset (SparesSign last.window) },
+    ghost offset_is: { ForSome offset
+        (λ places. TakesLastOffset last.window layout places.hour places.minute) },
 }
 
-/// Where each component of a line stands, for a description whose items all have fixed widths, but for a fraction of a
-/// second.
+/// Where each component stands at the front of a line, for items that all have fixed widths.
 #[derive(Clone, Copy)]
-pub(crate) struct Places {
+pub(crate) struct Front {
     pub(crate) layout: Layout,
-    pub(crate) bounds: Bounds,
+    /// The bytes at its places, and the lanes that take its numbers.
+    pub(crate) windows: Windows,
     pub(crate) year: usize,
     pub(crate) month: usize,
     pub(crate) day: usize,
@@ -46,31 +49,43 @@ pub(crate) struct Places {
     pub(crate) minute: usize,
     pub(crate) second: usize,
     pub(crate) offset: Option<OffsetPlaces>,
-    /// What follows a fraction of a second behind the layout, where there is one.
-    pub(crate) back: Option<Back>,
     ghost long: { 8 ≤ layout.length },
-    ghost text: { HoldText bounds layout },
+    ghost near: { 0 < windows.back_at → windows.back_at + 16 ≤ layout.length },
+    ghost text: { LetText windows layout },
     ghost year_is: { layout.year ≡ Some year },
     ghost month_is: { layout.month ≡ Some month },
     ghost day_is: { layout.day ≡ Some day },
     ghost hour_is: { layout.hour ≡ Some hour },
     ghost minute_is: { layout.minute ≡ Some minute },
     ghost second_is: { layout.second ≡ Some second },
+    ghost year_digits: { LetYear windows layout.length year },
     ghost month_room: { layout.month_is_named ≡ true → month + 3 ≤ layout.length },
-    ghost month_digits: { layout.month_is_named ≡ false → IsPair bounds layout.length month },
-    ghost century: { IsPair bounds layout.length year },
-    ghost year_in_century: { IsPair bounds layout.length (year + 2) },
+    ghost no_month: { layout.month_is_named ≡ true → SpareTwo windows 0 },
+    ghost month_digits: { layout.month_is_named ≡ false → TakeTwo windows 0 month 5 },
     ghost weekday_room: { ForSome layout.weekday (λ place. place + 3 ≤ layout.length) },
-    ghost day_digits: { IsSpaced bounds layout.length day },
-    ghost day_tens: { layout.day_is_spaced ≡ false → 48 ≤ get_or bounds.low day 0 },
-    ghost hour_digits: { IsPair bounds layout.length hour },
-    ghost minute_digits: { IsSixty bounds layout.length minute },
-    ghost second_digits: { IsSixty bounds layout.length second },
+    ghost day_digits: { layout.day_is_spaced ≡ false → TakeTwo windows 2 day 9 },
+    ghost no_tens: { layout.day_is_spaced ≡ true → SpareOne windows 2 },
+    ghost day_tens: { layout.day_is_spaced ≡ true → LetsAt windows day 32 25 },
+    ghost day_ones: { layout.day_is_spaced ≡ true → TakeOne windows 3 (day + 1) },
+    ghost hour_digits: { TakeTwo windows 4 hour 9 },
+    ghost minute_digits: { TakeTwo windows 6 minute 5 },
+    ghost second_digits: { TakeTwo windows 14 second 5 },
     ghost no_offset: { ForNone offset (HasNoOffset layout) },
-    ghost offset_is: { ForSome offset (λ places. HasOffset layout bounds places.hour places.minute) },
+    ghost no_sign: { ForNone offset (SpareTwo windows 12) },
+    ghost offset_is: { ForSome offset (λ places. TakesOffset windows layout places.hour places.minute) },
     ghost subsecond_room: { ForSome layout.subsecond
         (λ place. HasRoom layout.length place layout.subsecond_digits) },
-    ghost one_fraction: { ForSome back (λ _. IsFront layout) },
+}
+
+/// Where each component of a line stands, for a description whose items all have fixed widths, but for a fraction of a
+/// second.
+#[derive(Clone, Copy)]
+pub(crate) struct Places {
+    pub(crate) front: Front,
+    /// What follows a fraction of a second behind the front, where there is one.
+    pub(crate) back: Option<Back>,
+    ghost one_fraction: { ForSome back (λ _. IsFront front.layout) },
+    ghost one_offset: { ForSome back (λ _. SpareOffset front.windows) },
 }
 
 /// How lines of a description are read by places: each component where it stands, or Unix time alone.

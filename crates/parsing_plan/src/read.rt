@@ -1,55 +1,24 @@
 //! The fields of a front of a line, by the places of its parts.
-ghost use Rattle.std.specs.Prelude.{◌≡◌, ◌<◌, ◌≤◌, ◌+◌, ◌-◌, ◌*◌, ◌*ℤ◌, pos, Ok, Some, None, true, false, drop, get_or, length, unsigned_abs, IfSome, Option};
+ghost use Rattle.std.specs.Prelude.{◌≡◌, ◌<◌, ◌≤◌, ◌+◌, ◌-◌, ◌*◌, ◌*ℤ◌, pos, Ok, Some, None, true, false, drop, get_or, length, unsigned_abs, IfSome, Option, List, ℕ};
 ghost use Rattle.std.specs.Option.{ForSome, ForNone};
 ghost use Rattle.calendar_count.specs.Calendar.{IsDay};
 ghost use Rattle.parsing_combinator.specs.Pieces.{digits};
-ghost use Rattle.parsing_combinator.specs.Shape.{taken, fraction_between};
 ghost use Rattle.parsing_fields.specs.Moment.{moment_of};
 ghost use Rattle.parsing_record.specs.Meaning.{Meaning};
 ghost use Rattle.parsing_record.specs.Whole.{offset_named};
-ghost use Rattle.parsing_plan.specs.Bounds.{HasPair, HasSixty, HasSpaced, HasNoOffset, HasOffset, IsFront};
-ghost use Rattle.parsing_plan.specs.Parts.{Fits, HasName, IsWeekdayNameOf, WritesAt, WritesDay, WritesOffset, SaysMonth, SaysWeekday, SaysDate, SaysClock, SaysFraction, SaysOffset};
+ghost use Rattle.parsing_plan.specs.Layout.{HasNoOffset, IsFront};
+ghost use Rattle.parsing_plan.specs.Parts.{HasName, IsWeekday, WritesAt, WritesDay, WritesOffset, SaysMonth, SaysWeekday, SaysDate, SaysClock, SaysFraction, SaysOffset, HasSpaced};
 ghost use Rattle.parsing_plan.specs.Beginning.{beginning};
+ghost use Rattle.parsing_plan.specs.Sums.{HasSums, HasOffsetSums};
+ghost use Rattle.parsing_plan.specs.Windows.{SpareOffset};
+ghost use Rattle.parsing_plan.specs.declared.layout.Layout.{Layout};
 ghost use Rattle.parsing_plan.specs.Plan.{IsLayoutOf, IsSplitOf, NamesFront};
 
-use crate::bounds::{Bounds, from};
-use crate::layout::Layout;
-use crate::plan::{Back, OffsetPlaces, Places};
-use calendar::{Month, UtcOffset, Weekday};
-use parsing_fields::{Fields, Fraction, has_day, is_minus, offset_minutes};
-
-// The number of the two digits at a place.
-#[inline(always)]
-fn two_digits_at(line: &[u8], place: usize) -> u8
-    requires { HasPair line.now place }
-    ensures writes { WritesAt 2 line.now place result }
-    ensures value { result
-        ≡ (get_or line.now place 0 - 48) * 10 + (get_or line.now (place + 1) 0 - 48) }
-    ensures bound { result ≤ 99 }
-{
-    (line[place] - b'0') * 10 + (line[place + 1] - b'0')
-}
-
-// The number below 60 at a place.
-#[inline(always)]
-fn sixty_at(line: &[u8], place: usize) -> u8
-    requires { HasSixty line.now place }
-    ensures writes { WritesAt 2 line.now place result }
-    ensures bound { result ≤ 59 }
-{
-    two_digits_at(line, place)
-}
-
-// The number of the four digits at a place.
-#[inline(always)]
-fn four_digits_at(line: &[u8], place: usize) -> u16
-    requires high { HasPair line.now place }
-    requires low { HasPair line.now (place + 2) }
-    ensures writes { WritesAt 4 line.now place result }
-    ensures bound { result ≤ 9999 }
-{
-    u16::from(two_digits_at(line, place)) * 100 + u16::from(two_digits_at(line, place + 2))
-}
+use crate::plan::{Back, Front, OffsetPlaces};
+use crate::sums::{Sums, split_sums_of, sums_of};
+use calendar::{Month, UtcOffset};
+use parsing_fields::{Fields, Fraction, Year, has_day};
+use parsing_places::{LANES, signed};
 
 // `Oct`, `Feb`, `Dec`, `Jul`, `Nov`, `Jan`, `Jun`, `May`, `Sep`, `Aug`, `Mar`, `Apr`, in one number each, the first letter
 // lowest, behind the number of its month. The highest bits of a product of the letters say where in the table they would
@@ -97,14 +66,13 @@ fn month_name_at(line: &[u8], place: usize) -> Option<u8>
     month_number(line[place], line[place + 1], line[place + 2])
 }
 
-// The number of the month whose number is at a place.
+// The month that has a number, which is written at a place.
 #[inline(always)]
-fn month_number_at(line: &[u8], place: usize) -> Option<u8>
-    requires { HasPair line.now place }
+fn month_of_number(line: &[u8], place: usize, number: u8) -> Option<u8>
+    requires { WritesAt 2 line.now place number }
     ensures says { IfSome result (SaysMonth false line.now place) }
     ensures bound { IfSome result (λ n. (1 ≤ n) × (n ≤ 12)) }
 {
-    let number = two_digits_at(line, place);
     if number < 1 || number > 12 {
         return None;
     }
@@ -113,52 +81,74 @@ fn month_number_at(line: &[u8], place: usize) -> Option<u8>
     Some(number)
 }
 
-// The number of a month at a place.
+// The number of the month of a line, whose number stands there where it has no name.
 #[inline(always)]
-fn month_at(line: &[u8], place: usize, is_named: bool) -> Option<u8>
-    requires room { is_named ≡ true → place + 3 ≤ length line.now }
-    requires digits { is_named ≡ false → HasPair line.now place }
-    ensures says { IfSome result (SaysMonth is_named line.now place) }
+fn month_of(front: &Front, line: &[u8], number: u8) -> Option<u8>
+    requires long { front.now.layout.length ≤ length line.now }
+    requires digits { front.now.layout.month_is_named ≡ false
+        → WritesAt 2 line.now front.now.month number }
+    ensures says { IfSome result (SaysMonth front.now.layout.month_is_named line.now front.now.month) }
     ensures bound { IfSome result (λ n. (1 ≤ n) × (n ≤ 12)) }
 {
-    if is_named {
-        month_name_at(line, place)
+    if front.layout.month_is_named {
+        month_name_at(line, front.month)
     } else {
-        month_number_at(line, place)
+        month_of_number(line, front.month, number)
     }
 }
 
-// The number of a day at a place, which may have a space in front. Of a space the low half is 0, and of a digit its number.
+// The day behind a byte that may be a space, and the ones at the next place. Of a space the low half is 0, and of a digit its
+// number.
 #[inline(always)]
-fn day_at(line: &[u8], place: usize) -> Option<u8>
-    requires { HasSpaced line.now place }
-    ensures spaced { IfSome result (WritesDay true line.now place) }
-    ensures digits { IfSome result
-        (λ d. 48 ≤ get_or line.now place 0 → WritesDay false line.now place d) }
+fn spaced_day(line: &[u8], place: usize, ones: u8) -> Option<u8>
+    requires bytes { HasSpaced line.now place }
+    requires ones { ones ≡ get_or line.now (place + 1) 0 - 48 }
+    ensures { IfSome result (WritesDay true line.now place) }
 {
     let first = line[place];
     if first > b' ' && first < b'0' {
         return None;
     }
-    Some((first & 15) * 10 + (line[place + 1] - b'0'))
+    Some((first & 15) * 10 + ones)
 }
 
-// The weekday that has these letters.
+// The number of the day of a line, or of its ones where its tens may be a space.
 #[inline(always)]
-#[tactic(auto, unfolding(parsing_combinator::specs::Names::found, parsing_combinator::specs::Names::begins))]
-fn weekday_of(first: u8, second: u8, third: u8) -> Option<Weekday>
-    ensures { IfSome result (λ weekday. IsWeekdayNameOf weekday first second third) }
+fn day_of(front: &Front, line: &[u8], number: u8) -> Option<u8>
+    requires digits { front.now.layout.day_is_spaced ≡ false
+        → WritesAt 2 line.now front.now.day number }
+    requires spaced { front.now.layout.day_is_spaced ≡ true → HasSpaced line.now front.now.day }
+    requires ones { front.now.layout.day_is_spaced ≡ true
+        → number ≡ get_or line.now (front.now.day + 1) 0 - 48 }
+    ensures { IfSome result (WritesDay front.now.layout.day_is_spaced line.now front.now.day) }
 {
-    match first {
-        b'M' if second == b'o' && third == b'n' => Some(Weekday::Monday),
-        b'T' if second == b'u' && third == b'e' => Some(Weekday::Tuesday),
-        b'W' if second == b'e' && third == b'd' => Some(Weekday::Wednesday),
-        b'T' if second == b'h' && third == b'u' => Some(Weekday::Thursday),
-        b'F' if second == b'r' && third == b'i' => Some(Weekday::Friday),
-        b'S' if second == b'a' && third == b't' => Some(Weekday::Saturday),
-        b'S' if second == b'u' && third == b'n' => Some(Weekday::Sunday),
-        _ => None,
+    if front.layout.day_is_spaced {
+        spaced_day(line, front.day, number)
+    } else {
+        Some(number)
     }
+}
+
+// `Fri`, `Tue`, `Sat`, `Mon`, `Sun`, `Wed`, `Thu`, as in `MONTHS`, with nothing behind them; the last entry is none.
+static WEEKDAYS: [u32; 8] = [
+    0x6972_4600,
+    0x6575_5400,
+    0x7461_5300,
+    0x6e6f_4d00,
+    0x6e75_5300,
+    0x6465_5700,
+    0x7568_5400,
+    1,
+];
+
+// Whether a weekday has these letters.
+#[inline(always)]
+fn is_weekday(first: u8, second: u8, third: u8) -> bool
+    ensures { result ≡ true → IsWeekday first second third }
+{
+    let word = u32::from_le_bytes([0, first, second, third]);
+    let place = word.wrapping_mul(0x7c) >> 29;
+    WEEKDAYS[place as usize] == word
 }
 
 // Whether a weekday stands where one has to.
@@ -170,16 +160,13 @@ fn has_weekday(place: Option<usize>, line: &[u8]) -> bool
     let Some(at) = place else {
         return true;
     };
-    let Some(_weekday) = weekday_of(line[at], line[at + 1], line[at + 2]) else {
-        return false;
-    };
-    true
+    is_weekday(line[at], line[at + 1], line[at + 2])
 }
 
 // Whether a year of four digits has the day.
 #[inline(always)]
 #[tactic(auto, using(crate::proofs::Parts::short_months))]
-fn has_day_of_month(year: u16, month: u8, day: u8) -> bool
+fn has_day_of_month(year: Year, month: u8, day: u8) -> bool
     requires year { year ≤ 9999 }
     requires month { (1 ≤ month) × (month ≤ 12) }
     ensures day { result ≡ true → IsDay (pos year) month day }
@@ -188,20 +175,21 @@ fn has_day_of_month(year: u16, month: u8, day: u8) -> bool
     has_day(year, month, day)
 }
 
-// The year, the month and the day of a line that has the layout of a plan.
+// The year, the month and the day of a line that begins with the layout of a front.
 #[inline(always)]
-pub(crate) fn date(plan: &Places, line: &[u8]) -> Option<(u16, u8, u8)>
-    requires { Fits plan.now.layout plan.now.bounds line.now }
-    ensures says { IfSome result (λ d. SaysDate plan.now.layout line.now d.0 d.1 d.2) }
+pub(crate) fn date(front: &Front, line: &[u8], sums: Sums) -> Option<(Year, u8, u8)>
+    requires long { front.now.layout.length ≤ length line.now }
+    requires sums { HasSums front.now line.now sums }
+    ensures says { IfSome result (λ d. SaysDate front.now.layout line.now d.0 d.1 d.2) }
     ensures day { IfSome result (λ d. IsDay (pos d.0) d.1 d.2) }
     ensures year { IfSome result (λ d. d.0 ≤ 9999) }
 {
-    if !has_weekday(plan.layout.weekday, line) {
+    if !has_weekday(front.layout.weekday, line) {
         return None;
     }
-    let month = month_at(line, plan.month, plan.layout.month_is_named)?;
-    let day = day_at(line, plan.day)?;
-    let year = four_digits_at(line, plan.year);
+    let month = month_of(front, line, (sums.day % 64) as u8)?;
+    let day = day_of(front, line, (sums.day / 64) as u8)?;
+    let year = Year::of_digits(line, front.year);
     if !has_day_of_month(year, month, day) {
         return None;
     }
@@ -210,36 +198,16 @@ pub(crate) fn date(plan: &Places, line: &[u8]) -> Option<(u16, u8, u8)>
 
 // The minute of the day, and the second.
 #[inline(always)]
-pub(crate) fn clock(plan: &Places, line: &[u8]) -> Option<(u16, u8)>
-    requires { Fits plan.now.layout plan.now.bounds line.now }
-    ensures says { IfSome result (λ t. SaysClock plan.now.layout line.now t.0 t.1) }
+pub(crate) fn clock(front: &Front, line: &[u8], sums: Sums) -> Option<(u16, u8)>
+    requires { HasSums front.now line.now sums }
+    ensures says { IfSome result (λ t. SaysClock front.now.layout line.now t.0 t.1) }
     ensures minute { IfSome result (λ t. t.0 < 1440) }
     ensures second { IfSome result (λ t. t.1 < 60) }
 {
-    let hour = two_digits_at(line, plan.hour);
-    if hour > 23 {
+    if sums.minute >= 1440 {
         return None;
     }
-    let minute = sixty_at(line, plan.minute);
-    let second = sixty_at(line, plan.second);
-    Some((u16::from(hour) * 60 + u16::from(minute), second))
-}
-
-// The minutes of an offset whose hours and minutes are at these places.
-#[inline(always)]
-fn written_offset(line: &[u8], hour: usize, minute: usize) -> Option<i16>
-    requires hour { HasPair line.now (hour + 1) }
-    requires minute { HasSixty line.now minute }
-    ensures writes { IfSome result (WritesOffset line.now hour minute) }
-    ensures bound { IfSome result (λ o. unsigned_abs o ≤ 1559) }
-{
-    let is_negative = is_minus(line[hour])?;
-    let hours = two_digits_at(line, hour + 1);
-    if hours > 25 {
-        return None;
-    }
-    let minutes = sixty_at(line, minute);
-    Some(offset_minutes(is_negative, hours, minutes))
+    Some((sums.minute as u16, (sums.second / 64) as u8))
 }
 
 // The minutes of an assumed offset, of which the seconds don't count.
@@ -251,23 +219,34 @@ fn assumed_minutes(offset: UtcOffset) -> i16
     offset.whole_minutes()
 }
 
-// The minutes of the offset, of the line or else of the one that is assumed.
+// The minutes of the offset that stands at these places of a text.
+#[inline(always)]
+fn written_offset(places: OffsetPlaces, sums: Sums) -> Option<i16>
+    ensures writes { (l : Layout) (text : List ℕ)
+        → HasOffsetSums l text places.hour places.minute sums
+        → IfSome result (WritesOffset text places.hour places.minute) }
+    ensures bound { IfSome result (λ o. unsigned_abs o ≤ 1559) }
+{
+    if sums.offset >= 1440 || sums.second % 2 != 0 {
+        return None;
+    }
+    Some(signed(sums.offset, sums.second % 64 == 2))
+}
+
+// The minutes of the offset, of a text that has a layout or else of the one that is assumed.
 #[inline(always)]
 pub(crate) fn offset(
-    layout: &Layout,
-    bounds: &Bounds,
     places: Option<OffsetPlaces>,
-    line: &[u8],
+    sums: Sums,
     assumed: Option<UtcOffset>,
 ) -> Option<i16>
-    requires fits { Fits layout.now bounds.now line.now }
-    requires none { ForNone places (HasNoOffset layout.now) }
-    requires some { ForSome places (λ p. HasOffset layout.now bounds.now p.hour p.minute) }
-    ensures says { IfSome result (SaysOffset layout.now line.now assumed) }
+    ensures says { (l : Layout) (text : List ℕ) → ForNone places (HasNoOffset l)
+        → ForSome places (λ p. HasOffsetSums l text p.hour p.minute sums)
+        → IfSome result (SaysOffset l text assumed) }
     ensures bound { IfSome result (λ o. unsigned_abs o ≤ 1559) }
 {
     match places {
-        Some(at) => written_offset(line, at.hour, at.minute),
+        Some(at) => written_offset(at, sums),
         None => {
             let offset = assumed?;
             Some(assumed_minutes(offset))
@@ -275,87 +254,69 @@ pub(crate) fn offset(
     }
 }
 
-// The fraction of the digits from a place on, so many, at most nine, behind which no digit stands.
-#[inline(always)]
-pub(crate) fn fraction_at(line: &[u8], place: usize, count: usize) -> Option<Fraction>
-    requires some { 0 < count }
-    requires room { 8 ≤ place }
-    requires within { place + count ≤ length line.now }
-    requires ends { digits 1 (drop (place + count) line.now) ≡ None }
-    ensures taken { IfSome result (λ f. taken (fraction_between 1 32) (drop place line.now)
-        ≡ Some (f, drop (place + count) line.now)) }
-    ensures bound { IfSome result (λ f. f < 1_000_000_000) }
-{
-    if count <= 8 {
-        return Fraction::of_digits(line, place + count, count);
-    }
-    let Some(cut) = Fraction::read(from(line, place)) else {
-        return None;
-    };
-    let (fraction, rest) = (cut.0, cut.1);
-    if rest.len() + place + count != line.len() {
-        return None;
-    }
-    Some(fraction)
-}
-
 // The fraction of a second, of which the digits are there, where it has a place.
 #[inline(always)]
-pub(crate) fn fraction(plan: &Places, line: &[u8]) -> Option<Fraction>
-    requires { Fits plan.now.layout plan.now.bounds line.now }
-    ensures says { IfSome result (SaysFraction plan.now.layout line.now) }
+pub(crate) fn fraction(front: &Front, line: &[u8]) -> Option<Fraction>
+    requires { front.now.layout.length ≤ length line.now }
+    ensures says { IfSome result (SaysFraction front.now.layout line.now) }
     ensures bound { IfSome result (λ f. f < 1_000_000_000) }
 {
-    match plan.layout.subsecond {
+    match front.layout.subsecond {
         None => Some(Fraction::new(0)),
         Some(place) => {
-            let digits = plan.layout.subsecond_digits;
+            let digits = front.layout.subsecond_digits;
             Fraction::of_digits(line, place + digits, digits)
         }
     }
 }
 
-// The fields of a line that has a fraction of a second behind the layout of a plan, and then what follows one.
+// The fields of a line that begins with a layout, then so many digits of a fraction, and what follows one, up
+// to an end.
 #[inline(always)]
 pub(crate) fn split_fields(
-    plan: &Places,
+    front: &Front,
     back: &Back,
     line: &[u8],
-    fraction: Fraction,
-    rest: &[u8],
+    end: usize,
+    count: usize,
     assumed: Option<UtcOffset>,
 ) -> Option<Fields>
-    requires front { IsFront plan.now.layout }
-    requires fits { Fits plan.now.layout plan.now.bounds line.now }
-    requires fraction { taken (fraction_between 1 32) (drop plan.now.layout.length line.now)
-        ≡ Some (fraction, rest.now) }
-    requires bound { fraction < 1_000_000_000 }
-    requires behind { Fits back.now.layout back.now.bounds rest.now }
-    ensures { (m : Meaning) → IsSplitOf m plan.now.layout back.now.layout
+    requires one_fraction { IsFront front.now.layout }
+    requires one_offset { SpareOffset front.now.windows }
+    requires all { front.now.layout.length + count + back.now.layout.length ≡ end }
+    requires long { LANES ≤ end }
+    requires within { end ≤ length line.now }
+    requires some { 0 < count }
+    requires few { count ≤ 9 }
+    requires near { count + back.now.layout.length ≤ LANES }
+    requires ends { back.now.layout.length ≡ 0 → digits 1 (drop end line.now) ≡ None }
+    ensures { (m : Meaning) → IsSplitOf m front.now.layout back.now.layout
         → IfSome result (λ f. NamesFront m (beginning assumed) line.now
-        (drop back.now.layout.length rest.now) (moment_of f)) }
+        (drop end line.now) (moment_of f)) }
 {
-    let (year, month, day) = date(plan, line)?;
-    let (minute, second) = clock(plan, line)?;
-    let offset = offset(&back.layout, &back.bounds, back.offset, rest, assumed)?;
+    let (sums, fraction) = split_sums_of(front, back, line, end, count)?;
+    let (year, month, day) = date(front, line, sums)?;
+    let (minute, second) = clock(front, line, sums)?;
+    let offset = offset(back.offset, sums, assumed)?;
     Some(Fields::of_numbers(year, month, day, minute, second, fraction, offset))
 }
 
-// The fields of a line that has the layout of a plan at its front.
+// The fields of a line that begins with a layout.
 #[inline(always)]
 pub(crate) fn layout_fields(
-    plan: &Places,
+    front: &Front,
     line: &[u8],
     assumed: Option<UtcOffset>,
 ) -> Option<Fields>
-    requires { Fits plan.now.layout plan.now.bounds line.now }
-    ensures { (m : Meaning) → IsLayoutOf m plan.now.layout
+    requires { front.now.layout.length ≤ length line.now }
+    ensures { (m : Meaning) → IsLayoutOf m front.now.layout
         → IfSome result (λ f. NamesFront m (beginning assumed) line.now
-        (drop plan.now.layout.length line.now) (moment_of f)) }
+        (drop front.now.layout.length line.now) (moment_of f)) }
 {
-    let (year, month, day) = date(plan, line)?;
-    let (minute, second) = clock(plan, line)?;
-    let fraction = fraction(plan, line)?;
-    let offset = offset(&plan.layout, &plan.bounds, plan.offset, line, assumed)?;
+    let sums = sums_of(front, line)?;
+    let (year, month, day) = date(front, line, sums)?;
+    let (minute, second) = clock(front, line, sums)?;
+    let fraction = fraction(front, line)?;
+    let offset = offset(front.offset, sums, assumed)?;
     Some(Fields::of_numbers(year, month, day, minute, second, fraction, offset))
 }

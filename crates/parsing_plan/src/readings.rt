@@ -1,79 +1,104 @@
 //! Readings of lines and of their fronts.
 ghost use Rattle.std.specs.Prelude.{◌≡◌, ◌<◌, ◌≤◌, ◌+◌, Ok, None, true, drop, length, IfSome, Option};
+ghost use Rattle.parsing_combinator.specs.Pieces.{digits};
 ghost use Rattle.parsing_combinator.specs.Tame.{EndsWith};
 ghost use Rattle.parsing_fields.specs.Moment.{moment_of};
 ghost use Rattle.parsing_record.specs.Meaning.{Meaning};
 ghost use Rattle.parsing_record.specs.Record.{Record};
 ghost use Rattle.parsing_record.specs.Whole.{whole, names, moment_named, starting};
-ghost use Rattle.parsing_plan.specs.Bounds.{IsFront};
-ghost use Rattle.parsing_plan.specs.Parts.{Fits};
+ghost use Rattle.parsing_plan.specs.Layout.{IsFront};
+ghost use Rattle.parsing_plan.specs.Windows.{SpareOffset};
 ghost use Rattle.parsing_plan.specs.Beginning.{beginning};
 ghost use Rattle.parsing_plan.specs.Plan.{ArePlacesOf, IsPlanOf, IsSplitOf, NamesFront};
 
-use crate::bounds::{LANES, from};
-use crate::plan::{Back, Places, Plan};
-use crate::read::{clock, date, fraction, fraction_at, layout_fields, offset, split_fields};
+use crate::plan::{Back, Front, Places, Plan};
+use crate::read::{clock, date, fraction, layout_fields, offset, split_fields};
+use crate::sums::sums_of;
 use calendar::UtcOffset;
-use parsing_fields::{Fields, Fraction};
+use parsing_fields::Fields;
+use parsing_places::LANES;
 
-// Whether what stands behind a fraction, up to the end of a line, lies within its bounds.
+// The most digits of a fraction.
+const MOST_DIGITS: usize = 9;
+
+// The bytes from a place on.
 #[inline(always)]
-fn has_back(back: &Back, line: &[u8], place: usize) -> bool
-    requires { place + back.now.layout.length ≡ length line.now }
-    ensures { result ≡ true → Fits back.now.layout back.now.bounds (drop place line.now) }
+#[tactic(auto, using(std::proofs::lemmas::List::take_rest))]
+fn from(bytes: &[u8], place: usize) -> &[u8]
+    requires { place ≤ length bytes.now }
+    ensures bytes { result.now ≡ drop place bytes.now }
+    ensures len { length result.now + place ≡ length bytes.now }
 {
-    match &back.tail {
-        Some(tail) if line.len() >= LANES => tail.has(line),
-        _ => back.bounds.has(from(line, place), back.layout.length),
-    }
+    &bytes[place..]
 }
 
 // The fields of a line that has a fraction of a second: its digits are all that the rest of its length leaves.
 #[inline(always)]
-fn read_split(plan: &Places, back: &Back, line: &[u8], assumed: Option<UtcOffset>) -> Option<Fields>
-    requires { IsFront plan.now.layout }
+fn read_split(front: &Front, back: &Back, line: &[u8], assumed: Option<UtcOffset>) -> Option<Fields>
+    requires one_fraction { IsFront front.now.layout }
+    requires one_offset { SpareOffset front.now.windows }
     ensures { (m : Meaning) (defaults : Option Record)
-        → IsSplitOf m plan.now.layout back.now.layout → starting defaults ≡ beginning assumed
+        → IsSplitOf m front.now.layout back.now.layout → starting defaults ≡ beginning assumed
         → IfSome result (λ f. names moment_named (whole m defaults line.now) ≡ Ok (moment_of f)) }
 {
-    let length = plan.layout.length;
-    if line.len() <= length || line.len() - length <= back.layout.length {
+    let end = line.len();
+    if end < LANES || end <= front.layout.length {
         return None;
     }
-    let place = line.len() - back.layout.length;
-    if !plan.bounds.has(line, length) || !has_back(back, line, place) {
+    let left = end - front.layout.length;
+    if left > LANES || left <= back.layout.length {
         return None;
     }
-    let fraction = fraction_at(line, length, place - length)?;
-    split_fields(plan, back, line, fraction, from(line, place), assumed)
+    let count = left - back.layout.length;
+    if count > MOST_DIGITS {
+        return None;
+    }
+    split_fields(front, back, line, end, count, assumed)
+}
+
+// How many digits stand at a place, up to ten.
+fn digits_at(line: &[u8], place: usize) -> usize
+    requires { place ≤ length line.now }
+    ensures within { place + result ≤ length line.now }
+    ensures ends { result ≤ 9 → digits 1 (drop (place + result) line.now) ≡ None }
+{
+    for count in 0..MOST_DIGITS + 1 {
+        let at = place + count;
+        if at >= line.len() || !line[at].is_ascii_digit() {
+            return count;
+        }
+    }
+    MOST_DIGITS + 1
 }
 
 // The fields of a front of a line that has a fraction of a second, and what stands behind the front.
 #[inline(always)]
 fn read_split_front<'l>(
-    plan: &Places,
+    front: &Front,
     back: &Back,
     line: &'l [u8],
     assumed: Option<UtcOffset>,
 ) -> Option<(Fields, &'l [u8])>
-    requires { IsFront plan.now.layout }
-    ensures front { (m : Meaning) → IsSplitOf m plan.now.layout back.now.layout → IfSome result
+    requires one_fraction { IsFront front.now.layout }
+    requires one_offset { SpareOffset front.now.windows }
+    ensures front { (m : Meaning) → IsSplitOf m front.now.layout back.now.layout → IfSome result
         (λ x. NamesFront m (beginning assumed) line.now x.1.now (moment_of x.0)) }
     ensures end { IfSome result (λ x. EndsWith line.now x.1.now) }
 {
-    let length = plan.layout.length;
-    if line.len() < length || !plan.bounds.has(line, length) {
+    if line.len() < front.layout.length {
         return None;
     }
-    let Some(cut) = Fraction::read(from(line, length)) else {
-        return None;
-    };
-    let (fraction, rest) = (cut.0, cut.1);
-    if rest.len() < back.layout.length || !back.bounds.has(rest, back.layout.length) {
+    let count = digits_at(line, front.layout.length);
+    if count < 1 || count > MOST_DIGITS || count > LANES - back.layout.length {
         return None;
     }
-    let fields = split_fields(plan, back, line, fraction, rest, assumed)?;
-    Some((fields, from(rest, back.layout.length)))
+    let place = front.layout.length + count;
+    if line.len() - place < back.layout.length || place + back.layout.length < LANES {
+        return None;
+    }
+    let end = place + back.layout.length;
+    let fields = split_fields(front, back, line, end, count, assumed)?;
+    Some((fields, from(line, end)))
 }
 
 impl Places {
@@ -86,16 +111,18 @@ impl Places {
             (λ f. names moment_named (whole m defaults line.now) ≡ Ok (moment_of f)) }
     {
         if let Some(back) = &self.back {
-            return read_split(self, back, line, assumed);
+            return read_split(&self.front, back, line, assumed);
         }
-        if line.len() != self.layout.length || !self.bounds.has(line, line.len()) {
+        let front = &self.front;
+        if line.len() != front.layout.length {
             return None;
         }
         // As in `layout_fields`: fields that a call hands on would take some twenty instructions a line.
-        let (year, month, day) = date(self, line)?;
-        let (minute, second) = clock(self, line)?;
-        let fraction = fraction(self, line)?;
-        let offset = offset(&self.layout, &self.bounds, self.offset, line, assumed)?;
+        let sums = sums_of(front, line)?;
+        let (year, month, day) = date(front, line, sums)?;
+        let (minute, second) = clock(front, line, sums)?;
+        let fraction = fraction(front, line)?;
+        let offset = offset(front.offset, sums, assumed)?;
         Some(Fields::of_numbers(year, month, day, minute, second, fraction, offset))
     }
 
@@ -111,13 +138,13 @@ impl Places {
         ensures end { IfSome result (λ x. EndsWith line.now x.1.now) }
     {
         if let Some(back) = &self.back {
-            return read_split_front(self, back, line, assumed);
+            return read_split_front(&self.front, back, line, assumed);
         }
-        let length = self.layout.length;
-        if line.len() < length || !self.bounds.has(line, length) {
+        let length = self.front.layout.length;
+        if line.len() < length {
             return None;
         }
-        let fields = layout_fields(self, line, assumed)?;
+        let fields = layout_fields(&self.front, line, assumed)?;
         Some((fields, from(line, length)))
     }
 }

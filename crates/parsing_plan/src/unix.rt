@@ -55,8 +55,9 @@ fn fraction_behind(line: &[u8], finer: usize) -> Option<Fraction>
 }
 
 impl UnixTime {
-    /// The fields of a line, in UTC: `None` says nothing of the line.
-    #[inline(always)]
+    /// The fields of a line, in UTC: `None` says nothing of the line. A call of its own, so that `Plan::read` stays small enough to be
+    /// inlined into a loop over lines.
+    #[inline(never)]
     pub(crate) fn read(&self, line: &[u8]) -> Option<Fields>
         ensures { (m : Meaning) (defaults : Option Record) (assumed : Option ℤ)
             → IsUnixOf m self.now.finer → starting defaults ≡ beginning assumed

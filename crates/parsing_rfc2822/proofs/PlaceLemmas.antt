@@ -1,7 +1,9 @@
 -- What stands at the places of a text, and what is read of it.
-use Rattle.std.proofs.Common.{◌≡◌, ◌≤◌, ◌<◌, ◌+◌, ◌-◌, ◌*◌, ◌∙◌, ◌==◌, ◌||◌, ℕ, true, false, List, [], ◌∷◌, length, get_or, take, drop, eqb, leb, Option, Some, None, Ok, refl, ap, arith, lit<, ℤ, pos}
-use Rattle.std.specs.Prelude.{◌*ℤ◌, IfSome}
+use Rattle.std.proofs.Common.{◌≡◌, ◌≤◌, ◌<◌, ◌+◌, ◌-◌, ◌*◌, ◌∙◌, ◌==◌, ◌||◌, ℕ, inl, inr, Bool, true, false, List, [], ◌∷◌, length, get_or, take, drop, eqb, leb, Option, Some, None, Ok, refl, ap, arith, lit<, ℤ, pos}
+use Rattle.std.specs.Prelude.{◌*ℤ◌, IfSome, IsTrue}
+use Rattle.std.specs.Option.{unwrap_or}
 use Rattle.std.specs.Char.{to_ascii_lowercase}
+use Rattle.std.proofs.lemmas.Bool.{cases_lt}
 use Rattle.std.proofs.lemmas.Bool.Decides.{nat_tests}
 use Rattle.std.proofs.lemmas.List.{drop-drop, drop_all, drop_more, get_or-drop, get_or-take, length-drop, take_all, take_rest}
 use Rattle.base.specs.Bytes.{colon, hyphen, plus}
@@ -186,6 +188,10 @@ front_of_two input date long b tens =
 
 -- ---- the month and the year
 
+pub not_before : (before : Bool) (year first : ℕ) → (IsTrue before → year < first) × (year < first → IsTrue before) → before ≡ false → first ≡ 1900 → 1900 ≤ year
+not_before before year first tells not is =
+    elim (cases_lt year 1900) [ inl lt ↦ let told : before ≡ true = tells.1 (omega arith) in absurd cc | inr le ↦ le ]
+
 month_reads : (b0 b1 b2 b3 b4 b5 : List ℕ) (m : Month) (y : ℕ) → comments_and_white_space b0 ≡ Some b1 → month b1 ≡ Some (m, b2) → comments_and_white_space b2 ≡ Some b3 → digits 4 b3 ≡ Some (y, b4) → leb 1900 y ≡ true → folding_white_space b4 ≡ Some b5 → month_and_year b0 ≡ Ok ((m, y), b5)
 unfolding month_and_year year full_year
 month_reads b0 b1 b2 b3 b4 b5 m y e0 e1 e2 e3 e4 e5 = rw (e0, e1, e2, e3, e4, e5) refl
@@ -281,14 +287,17 @@ all_read : (b0 b1 b2 b3 : List ℕ) (d : Option Weekday × ℕ) (m : Month × �
 unfolding rfc2822
 all_read b0 b1 b2 b3 d m t z e0 e1 e2 e3 = rw (e0, e1, e2, e3) refl
 
-all_resolved : (b0 : List ℕ) (w : Rfc2822Parts) (o : ℤ) (date second time : ℕ) → rfc2822 false b0 ≡ Ok (w, []) → w.second ≡ Some second → date_of (pos w.year) (month_number w.month) w.day ≡ Ok date → time_of w.hour w.minute second 0 ≡ Ok time → signed_offset_of w.zone.is_negative w.zone.hours w.zone.minutes ≡ Ok o → direct b0 ≡ Ok (record { wall = wall_clock date time; offset = o })
+all_resolved : (b0 : List ℕ) (w : Rfc2822Parts) (o : ℤ) (date second time : ℕ) → rfc2822 false b0 ≡ Ok (w, []) → unwrap_or w.second 0 ≡ second → date_of (pos w.year) (month_number w.month) w.day ≡ Ok date → time_of w.hour w.minute second 0 ≡ Ok time → signed_offset_of w.zone.is_negative w.zone.hours w.zone.minutes ≡ Ok o → direct b0 ≡ Ok (record { wall = wall_clock date time; offset = o })
 unfolding direct moment moment_of permitted_time_of leap_checked
 all_resolved b0 w o date second time read in_second in_day in_time in_zone = rw (read, in_day, in_second, no_leap w.hour w.minute second 0 time in_time, in_time, in_zone) refl
 
 -- the moment of fields that have the numbers of the parts
+pub parts_read : (f : Fields) (input : List ℕ) (w : Rfc2822Parts) (o : ℤ) → rfc2822 false input ≡ Ok (w, []) → signed_offset_of w.zone.is_negative w.zone.hours w.zone.minutes ≡ Ok (pos 60 *ℤ o) → HaveNumbers f w.year (month_number w.month) w.day (w.hour * 60 + w.minute) (unwrap_or w.second 0) 0 o → w.hour ≤ 23 → w.minute ≤ 59 → direct input ≡ Ok (Moment.moment_of f)
+parts_read f input w o read in_zone have low small =
+    rw (← moment_is f, have.same_offset) (all_resolved input w (pos 60 *ℤ o) (day_of_fields f) (unwrap_or w.second 0) (time_of_fields f) read refl (fields_date f _ _ _ _ _ _ _ have) (fields_time f _ _ _ _ _ _ _ _ have low small (lit< tt)) in_zone)
+
 pub fields_read : (f : Fields) (input text : List ℕ) (d : Option Weekday × ℕ) (year number h m n : ℕ) (o : ℤ) → HasShape text → day false input ≡ Ok (d, drop 1 text) → ReadsMonth text year number → IsClock (drop 11 text) h m n (drop 19 text) → ReadsZone text o → HaveNumbers f year number d.1 (h * 60 + m) n 0 o → h ≤ 23 → m ≤ 59 → direct input ≡ Ok (Moment.moment_of f)
 fields_read f input text d year number h m n o s in_day in_month in_clock in_zone have low small =
     let w = numbers d (in_month.month_is, year) (h, m, Some n) in_zone.zone_is in
     let read = all_read input (drop 1 text) (drop 11 text) (drop 19 text) d (in_month.month_is, year) (h, m, Some n) in_zone.zone_is in_day in_month.reads (clock_read text h m n s in_clock) in_zone.reads in
-    let same = rw (← in_month.number_is) at have in
-    rw (← moment_is f, have.same_offset) (all_resolved input w (pos 60 *ℤ o) (day_of_fields f) n (time_of_fields f) read refl (fields_date f _ _ _ _ _ _ _ same) (fields_time f _ _ _ _ _ _ _ _ have low small (lit< tt)) in_zone.minutes_are)
+    parts_read f input w o read in_zone.minutes_are (rw (← in_month.number_is) at have) low small

@@ -9,6 +9,7 @@ pub mod laws;
 mod letters;
 mod names;
 mod parts;
+mod pieces;
 mod places;
 mod reading;
 mod shape;

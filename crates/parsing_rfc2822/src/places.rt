@@ -11,9 +11,10 @@ ghost use Rattle.parsing_rfc2822.specs.Reading as Reading;
 
 use crate::letters::{has_weekday, month_number};
 use crate::names::zone_of;
+use crate::pieces::read_by_pieces;
 use crate::shape::shape;
-use parsing_combinator::{are_between, clock_at, four_digits_at};
-use parsing_fields::{Fields, Fraction, has_day, minute_of_day, offset_minutes};
+use parsing_combinator::{are_between, clock_at};
+use parsing_fields::{Fields, Fraction, Year, has_day, minute_of_day, offset_minutes};
 use parsing_places::read_stamp;
 
 // The first year that four digits may write.
@@ -86,14 +87,14 @@ fn named_offset(text: &[u8]) -> Option<i16>
 
 // The year and the number of the month.
 #[inline(always)]
-fn year_and_month(text: &[u8]) -> Option<(u16, u8)>
+fn year_and_month(text: &[u8]) -> Option<(Year, u8)>
     requires { HasShape text.now }
     ensures reads { IfSome result (λ x. ReadsMonth text.now x.0 x.1) }
     ensures year { IfSome result (λ x. x.0 ≤ 9999) }
 {
     let month = month_number(&text[1..])?;
-    let year = four_digits_at(text, 6);
-    if year < FIRST_YEAR {
+    let year = Year::of_digits(text, 6);
+    if year.is_before(Year::new(FIRST_YEAR)) {
         return None;
     }
     Some((year, month))
@@ -125,7 +126,7 @@ fn read_by_shape(tens: u8, text: &[u8]) -> Option<Fields>
 {
     let (year, ones, minute, second, offset) = read_stamp(&shape(), text)?;
     let month = month_number(&text[1..])?;
-    if year < FIRST_YEAR {
+    if year.is_before(Year::new(FIRST_YEAR)) {
         return None;
     }
     let day = tens * 10 + ones;
@@ -158,33 +159,36 @@ fn read_with_name(input: &[u8]) -> Option<Fields>
     fields_behind(tens * 10 + (text[0] - b'0'), offset, text)
 }
 
-// The fields of a text of another length than those of a weekday and an offset in digits. A call of its own, so that
-// `read_fields` stays small enough to be inlined into a loop over lines.
+// The fields of a text of another shape than one with a weekday, single spaces and an offset in digits. A call of its own, so
+// that `read_fields` stays small enough to be inlined into a loop over lines.
 #[inline(never)]
-fn read_other_length(input: &[u8]) -> Option<Fields>
+fn read_other_shape(input: &[u8]) -> Option<Fields>
     ensures { IfSome result (λ fields. direct input.now ≡ Ok (moment_of fields)) }
 {
-    match input.len() {
+    let fields = match input.len() {
         25 | 26 => read_with_offset(input),
         23 | 24 | 28 | 29 => read_with_name(input),
         _ => None,
+    };
+    match fields {
+        Some(fields) => Some(fields),
+        None => read_by_pieces(input),
     }
 }
 
-/// The fields of a text, where the fast way finds them: `None` says nothing of the text.
+/// The fields of a text, where all its numbers are in range and its second is no leap second: `None` says nothing of the
+/// text.
 ///
-/// It finds those of most texts: single spaces between their parts, all numbers of the clock, no leap second and no
-/// comment.
+/// The soonest read are those with single spaces between their parts and all numbers of the clock.
 #[inline(always)]
 pub fn read_fields(input: &[u8]) -> Option<Fields>
     ensures { IfSome result (λ fields. direct input.now ≡ Ok (moment_of fields)) }
 {
     // The lengths of texts with a weekday and an offset in digits.
-    match input.len() {
-        30 | 31 => read_with_offset(input),
-        _ => {
-            let fields = read_other_length(input)?;
-            Some(fields)
+    if input.len() == 30 || input.len() == 31 {
+        if let Some(fields) = read_with_offset(input) {
+            return Some(fields);
         }
     }
+    read_other_shape(input)
 }

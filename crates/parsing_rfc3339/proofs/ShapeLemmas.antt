@@ -56,30 +56,31 @@ plus_byte b e = rw e refl
 minus_byte : (b : ℕ) → b ≡ 45 → ((b == plus) || (b == hyphen)) ≡ true
 minus_byte b e = rw e refl
 
-sign_byte : (text : List ℕ) (place : ℕ) (o : ℤ) → (s : SaysSigned text place o) → ((get_or text place 0 == plus) || (get_or text place 0 == hyphen)) ≡ true
+sign_byte : (text : List ℕ) (place : ℕ) (o : ℤ) → (s : SaysSigned 1 text place o) → ((get_or text place 0 == plus) || (get_or text place 0 == hyphen)) ≡ true
 sign_byte text place o s = elim s.sign_is [ inl e ↦ plus_byte _ e | inr e ↦ minus_byte _ e ]
 
-hours_there : (text : List ℕ) (place : ℕ) (o : ℤ) → (s : SaysSigned text place o) → AreHoursAndMinutes (drop (place + 1) text) s.hour s.minute
+hours_there : (text : List ℕ) (place : ℕ) (o : ℤ) → (s : SaysSigned 1 text place o) → AreHoursAndMinutes (drop (place + 1) text) s.hour s.minute
 hours_there text place o s =
     let two : place + 1 + 2 ≡ place + 3 = omega arith in
     let three : place + 1 + 3 ≡ place + 4 = omega arith in
     let four : place + 3 + 1 ≡ place + 4 = omega arith in
     let d2 : drop 2 (drop (place + 1) text) ≡ drop (place + 3) text = rw two at (drop-drop 2 (place + 1) text) in
     let d3 : drop 3 (drop (place + 1) text) ≡ drop (place + 4) text = rw three at (drop-drop 3 (place + 1) text) in
+    let last : place + 1 + 3 ≡ place + 4 = omega arith in
     let all : drop (place + 4 + 2) text ≡ [] = drop_all (place + 4 + 2) text (omega (arith, s.whole)) in
     let hour_end : place + 1 + 2 ≡ place + 3 = omega arith in
-    let colon_read = byte_there text (place + 3) colon (omega (arith, s.whole)) s.colon in
+    let colon_read = byte_there text (place + 3) colon (omega (arith, s.whole)) (s.colon (lit< tt)) in
     record {
       hour_digits = rw d2 (rw hour_end at s.hour_is);
       colon_there = rw (d2, d3) (rw four at colon_read);
-      minute_digits = rw d3 (rw all at s.minute_is);
+      minute_digits = rw d3 (rw all at (rw last at s.minute_is));
     }
 
-pub all_offset : (text : List ℕ) (place : ℕ) (o : ℤ) → SaysOffset text place o → IsAllOffset (offset false (drop place text)) o
+pub all_offset : (text : List ℕ) (place : ℕ) (o : ℤ) → SaysOffset 1 text place o → IsAllOffset (offset false (drop place text)) o
 all_offset text place o (inl z) = (zulu_zone, zulu_there text place (omega (arith, z.whole)) (omega (arith, z.whole)) (zulu_byte _ z.zulu), z.value)
 all_offset text place o (inr s) = (record { is_named = false; is_negative = get_or text place 0 == hyphen; hours = s.hour; minutes = s.minute }, signed_there text place s.hour s.minute (omega (arith, s.whole)) (sign_byte text place o s) (hours_there text place o s) s.hour_few, s.value)
 
-pub offset_follows : (text : List ℕ) (place : ℕ) (o : ℤ) → SaysOffset text place o → FollowsFraction (drop place text)
+pub offset_follows : (text : List ℕ) (place : ℕ) (o : ℤ) → SaysOffset 1 text place o → FollowsFraction (drop place text)
 offset_follows text place o (inl z) = zulu_follows text place (omega (arith, z.whole)) (zulu_byte _ z.zulu)
 offset_follows text place o (inr s) = sign_follows text place (omega (arith, s.whole)) (sign_byte text place o s)
 
@@ -106,24 +107,25 @@ fraction_said text place end count n h follows = elim (cases_lt 0 count) [
 
 pub read_directly : (shape : Shape) (text : List ℕ) (f : Fields) → ((k : ℕ) → get_or text k 0 < 256) → IsShape shape → Says shape text f → direct text ≡ Ok (Moment.moment_of f)
 read_directly shape text f small x h =
-    let says = h.names in
+    let said = h.said in
+    let says = h.says.names in
     let n = says.numbers in
     let lies = says.has_shape in
     let room : 19 ≤ length text = omega (arith, lies.room, x.back_is) in
     let back : LieIn shape.back text 3 = rw x.back_is at lies.back in
-    let year = rw x.year_is at h.year_is in
-    let month = rw x.month_is at n.month_is in
-    let day = rw x.day_is at n.day_is in
+    let year = rw x.year_is at h.says.year_is in
+    let month = (rw x.month_is at n.high_is).two refl in
+    let day = (rw x.day_is at n.low_is).two refl in
     let hour = rw x.hour_is at n.hour_is in
     let minute = rw x.minute_is at n.minute_is in
-    let second = rw x.second_is at n.second_is in
-    let some : 1 ≤ h.month = omega (arith, f.day_is_there.1, h.numbers.same_month) in
-    let offset_there = says.offset_is in
-    let follows = offset_follows text says.end h.offset offset_there in
-    let fraction = fraction_said text 19 says.end says.count h.fraction (rw x.long at says.fraction_is) follows in
-    let minutes : h.minute ≡ says.hour * 60 + says.minute = omega (arith, says.minutes_are) in
-    fields_read f text (drop 10 text) (drop 11 text) (drop 19 text) (drop says.end text) (h.year, h.month, h.day) (says.hour, says.minute, h.second) h.fraction h.offset
-    (date_said text h.year h.month h.day (omega (arith, room)) (byte_in shape.front text 0 4 45 small lies.front x.first_hyphen (lit< tt)) (byte_in shape.front text 0 7 45 small lies.front x.second_hyphen (lit< tt)) year month day some)
+    let second = rw x.second_is at (n.second_is x.second_there) in
+    let some : 1 ≤ said.high = omega (arith, f.day_is_there.1, h.numbers.same_month) in
+    let offset_there : SaysOffset 1 text says.end said.offset = rw x.colon_there at says.offset_is in
+    let follows = offset_follows text says.end said.offset offset_there in
+    let fraction = fraction_said text 19 says.end says.count said.fraction (rw x.long at says.fraction_is) follows in
+    let minutes : said.minute ≡ says.hour * 60 + says.minute = omega (arith, says.minutes_are) in
+    fields_read f text (drop 10 text) (drop 11 text) (drop 19 text) (drop says.end text) (said.year, said.high, said.low) (says.hour, says.minute, said.second) said.fraction said.offset
+    (date_said text said.year said.high said.low (omega (arith, room)) (byte_in shape.front text 0 4 45 small lies.front x.first_hyphen (lit< tt)) (byte_in shape.front text 0 7 45 small lies.front x.second_hyphen (lit< tt)) year month day some)
     (any_there text 10 (omega (arith, room)))
-    (clock_said text says.hour says.minute h.second room (byte_in shape.front text 0 13 58 small lies.front x.first_colon (lit< tt)) (byte_in shape.back text 3 13 58 small back x.second_colon (lit< tt)) hour minute second)
-    fraction (all_offset text says.end h.offset offset_there) (rw minutes at h.numbers) (omega (arith, says.hour_few)) n.minute_few says.fraction_few
+    (clock_said text says.hour says.minute said.second room (byte_in shape.front text 0 13 58 small lies.front x.first_colon (lit< tt)) (byte_in shape.back text 3 13 58 small back x.second_colon (lit< tt)) hour minute second)
+    fraction (all_offset text says.end said.offset offset_there) (rw minutes at h.numbers) (omega (arith, says.hour_few)) n.minute_few says.fraction_few

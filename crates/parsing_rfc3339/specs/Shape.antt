@@ -1,5 +1,5 @@
 -- Where the parts of a text of RFC 3339 stand.
-use Rattle.std.specs.Prelude.{◌≡◌}
+use Rattle.std.specs.Prelude.{◌≡◌, true}
 use Rattle.base.specs.Bytes.{hyphen, colon}
 use Rattle.parsing_places.specs.Tail.{LetsByte}
 use Rattle.parsing_places.specs.declared.shape.Shape.{Shape}
@@ -9,11 +9,13 @@ pub record IsShape (shape : Shape) : Type 0 where
   pub long : shape.length ≡ 19
   pub back_is : shape.back_at ≡ 3
   pub year_is : shape.year ≡ 0
-  pub month_is : shape.month ≡ 5
-  pub day_is : shape.day ≡ 8
+  pub month_is : shape.high ≡ record { has_tens = true; place = 6 }
+  pub day_is : shape.low ≡ record { has_tens = true; place = 9 }
   pub hour_is : shape.hour ≡ 11
   pub minute_is : shape.minute ≡ 14
+  pub second_there : shape.has_second ≡ true
   pub second_is : shape.second ≡ 17
+  pub colon_there : shape.has_colon ≡ true
   pub first_hyphen : LetsByte shape.front 4 hyphen
   pub second_hyphen : LetsByte shape.front 7 hyphen
   pub first_colon : LetsByte shape.front 13 colon

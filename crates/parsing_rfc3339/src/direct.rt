@@ -8,6 +8,7 @@ ghost use Rattle.parsing_combinator.specs.Readings.{value_read};
 ghost use Rattle.parsing_fields.specs.Moment as Moment;
 
 use crate::parts::Rfc3339Parts;
+use crate::pieces::read_by_pieces;
 use crate::reading::parse_prefix;
 use crate::shape::shape;
 use parsing_combinator::{Parse, ParseFromDescription, four_digits};
@@ -40,7 +41,8 @@ const SHORTEST: usize = 20;
 
 /// The fields of a text, where the fast way finds them: `None` says nothing of the text.
 ///
-/// It finds those of most texts: at most nine digits of a fraction, no leap second, a big `Z` or an offset below 24 hours.
+/// It finds those of all texts whose numbers are in range and whose second is no leap second. The soonest read are those with at
+/// most nine digits of a fraction and a big `Z` or an offset in digits.
 #[inline(always)]
 pub fn read_fields(input: &[u8]) -> Option<Fields>
     ensures { IfSome result (λ fields. direct input.now ≡ Ok (Moment.moment_of fields)) }
@@ -49,7 +51,10 @@ pub fn read_fields(input: &[u8]) -> Option<Fields>
     if input.len() < SHORTEST || input[4] != b'-' {
         return None;
     }
-    read(&shape(), input)
+    match read(&shape(), input) {
+        Some(fields) => Some(fields),
+        None => read_by_pieces(input),
+    }
 }
 
 /// The moment that a text names, where the fast way finds one: `None` says nothing of the text.

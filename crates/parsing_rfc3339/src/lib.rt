@@ -4,6 +4,7 @@
 mod direct;
 pub mod laws;
 mod parts;
+mod pieces;
 mod reading;
 mod shape;
 

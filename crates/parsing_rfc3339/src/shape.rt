@@ -1,7 +1,7 @@
 //! Where the parts of a text stand.
 ghost use Rattle.parsing_rfc3339.specs.Shape.{IsShape};
 
-use parsing_places::{Moves, Shape, Window};
+use parsing_places::{Moves, Number, Shape, Window};
 
 /// The shape of `1985-04-12T23:20:50`, where any byte separates date and time.
 #[inline(always)]
@@ -30,10 +30,18 @@ pub(crate) fn shape() -> Shape
         length: 19,
         back_at: 3,
         year: 0,
-        month: 5,
-        day: 8,
+        high: Number {
+            has_tens: true,
+            place: 6,
+        },
+        low: Number {
+            has_tens: true,
+            place: 9,
+        },
         hour: 11,
         minute: 14,
+        has_second: true,
         second: 17,
+        has_colon: true,
     }
 }

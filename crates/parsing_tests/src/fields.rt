@@ -3,8 +3,10 @@
 use calendar::UtcOffset;
 use description::{Description, DescriptionVersion, parse_borrowed, parse_strftime_borrowed};
 use parsing_combinator::digit_chunk;
-use parsing_fields::{Fields, Fraction, minute_of_day, signed_minutes};
-use parsing_places::{Moves, NamedShape, Shape, Window, read, read_stamp};
+use parsing_fields::{Fields, Fraction, Year, minute_of_day, signed_minutes};
+use parsing_places::{
+    Moves, NamedShape, Number, Numbers, Shape, Window, Windows, read, read_numbers, read_stamp,
+};
 use parsing_plan::Plan;
 use std::alloc::Global;
 
@@ -23,12 +25,12 @@ fn moments() -> [Option<(i64, u32)>; 6] {
     let half = Fraction::new(500_000_000);
     let none = Fraction::new(0);
     [
-        instant(Fields::new(2021, 1, 2, 184, 5, half, 60)),
-        instant(Fields::new(2000, 2, 29, 0, 0, none, 0)),
-        instant(Fields::new(2021, 2, 29, 0, 0, none, 0)),
-        instant(Fields::new(2021, 1, 2, 184, 60, none, 0)),
-        instant(Fields::on_day(2021, 1, 2, 184, 5, half, 60)),
-        instant(Fields::on_day(2021, 2, 29, 0, 0, none, 0)),
+        instant(Fields::new(Year::new(2021), 1, 2, 184, 5, half, 60)),
+        instant(Fields::new(Year::new(2000), 2, 29, 0, 0, none, 0)),
+        instant(Fields::new(Year::new(2021), 2, 29, 0, 0, none, 0)),
+        instant(Fields::new(Year::new(2021), 1, 2, 184, 60, none, 0)),
+        instant(Fields::on_day(Year::new(2021), 1, 2, 184, 5, half, 60)),
+        instant(Fields::on_day(Year::new(2021), 2, 29, 0, 0, none, 0)),
     ]
 }
 
@@ -124,11 +126,19 @@ fn basic() -> Shape {
         length: 15,
         back_at: 0,
         year: 0,
-        month: 4,
-        day: 6,
+        high: Number {
+            has_tens: true,
+            place: 5,
+        },
+        low: Number {
+            has_tens: true,
+            place: 7,
+        },
         hour: 9,
         minute: 11,
+        has_second: true,
         second: 13,
+        has_colon: true,
     }
 }
 
@@ -143,9 +153,81 @@ fn shaped() -> [Option<(i64, u32)>; 5] {
     ]
 }
 
+// The fields of a text, and those of the day after.
+fn numbered(text: &[u8]) -> Option<[Option<(i64, u32)>; 2]> {
+    let numbers: Numbers = read_numbers(&basic(), text)?;
+    let same = numbers.on_day(numbers.high, numbers.low);
+    let next = numbers.on_day(numbers.high, numbers.low.wrapping_add(1));
+    Some([instant(same), instant(next)])
+}
+
 #[test]
 fn fields_of_a_shape(rt: HostRuntime) {
     assert!(rt; shaped() == [HALF, HALF, WHOLE, None, None]);
+    let numbers = [
+        numbered(b"20210102T030405.5+01:00"),
+        numbered(b"20210132T030405Z"),
+        numbered(b"20210102T240405Z"),
+    ];
+    let next = Some((1_609_639_445, 500_000_000));
+    assert!(rt; numbers == [Some([HALF, next]), Some([None, None]), None]);
+}
+
+// What the windows of `basic` let, take and spare.
+fn windows() -> [bool; 12] {
+    let shape = basic();
+    let windows = Windows {
+        front: shape.front,
+        back: shape.back,
+        back_at: 0,
+    };
+    [
+        Moves::checked([16; 16]).is_none(),
+        Moves::checked([15; 16]).is_some(),
+        shape.back.taken.spares(0),
+        shape.front.lets(8, b'T', 0),
+        shape.front.takes(0, 4, 1),
+        windows.lets(8, b'T', 0),
+        windows.take_one(3, 7),
+        windows.take_two(4, 9, 2),
+        windows.spare_one(8),
+        windows.spare_two(8),
+        !windows.take_sign(3),
+        windows.digits_of(b"20210102T030405Z").0,
+    ]
+}
+
+#[test]
+fn windows_of_a_layout(rt: HostRuntime) {
+    assert!(rt; windows() == [true; 12]);
+}
+
+// The year of a text, by its digits and by its number, whether it is before 2024, and whether a year of that number is.
+fn year_of(text: &[u8]) -> Option<([u8; 4], u16, bool, bool)> {
+    let numbers = read_numbers(&basic(), text)?;
+    let (year, limit) = (numbers.year, Year::new(2024));
+    let again = Year::new(year.number());
+    Some((
+        year.digits(),
+        year.number(),
+        year.is_before(limit),
+        again.is_before(limit),
+    ))
+}
+
+#[test]
+fn years_as_digits(rt: HostRuntime) {
+    let read = [
+        year_of(b"20231231T235959Z"),
+        year_of(b"20240101T000000Z"),
+        year_of(b"00070101T000000Z"),
+    ];
+    let wanted = [
+        Some((*b"2023", 2023, true, true)),
+        Some((*b"2024", 2024, false, false)),
+        Some((*b"0007", 7, true, true)),
+    ];
+    assert!(rt; read == wanted);
 }
 
 // `01/May/2024:10:00:01 +0200`, as web servers write it.
@@ -181,13 +263,18 @@ fn logged() -> NamedShape {
     }
 }
 
+// The year, the day, the minute of the day, the second and the offset of a text.
+fn stamp(text: &[u8]) -> Option<(u16, u8, u16, u8, i16)> {
+    let (year, day, minute, second, offset) = read_stamp(&logged(), text)?;
+    Some((year.number(), day, minute, second, offset))
+}
+
 #[test]
 fn numbers_of_a_named_shape(rt: HostRuntime) {
-    let shape = logged();
     let read = [
-        read_stamp(&shape, b"01/May/2024:10:00:01 +0200"),
-        read_stamp(&shape, b"31/Dec/1999:23:59:59 -0330"),
-        read_stamp(&shape, b"01/May/2024:24:00:01 +0200"),
+        stamp(b"01/May/2024:10:00:01 +0200"),
+        stamp(b"31/Dec/1999:23:59:59 -0330"),
+        stamp(b"01/May/2024:24:00:01 +0200"),
     ];
     let wanted = [
         Some((2024, 1, 600, 1, 120)),

@@ -16,8 +16,8 @@ use calendar::UtcOffset;
 use datetime_types::OffsetDateTime;
 use instants_answers::{Answer, Target};
 use instants_found::{Finder, Found};
-use instants_sources::Source;
-use instants_timeline::{answer_by, answer_moment, shown_at};
+use instants_sources::{Named, Source};
+use instants_timeline::{answer_by, answer_named, shown_at};
 
 impl<'a> DateSources<'a> {
     /// Looks for these sources, in order. The target has whole minutes, within 23:59.
@@ -86,15 +86,15 @@ impl<'a> DateSources<'a> {
         shown_at(self.target, moment)
     }
 
-    /// A moment as an answer: its date-time at the target, or `! year`. A call of its own, so that the answer lies in memory,
-    /// from where it is copied at once and not byte by byte.
+    /// The moment of a date as an answer: its date-time at the target, or `! year`. A call of its own, so that the answer lies
+    /// in memory, from where it is copied at once and not byte by byte.
     #[inline(never)]
-    pub(crate) fn answer_moment(&self, moment: OffsetDateTime) -> Answer
+    pub(crate) fn answer_named(&self, named: &Named) -> Answer
         ensures bytes { result ≡
-            place_text (shown_or_refused (setting_in self.now).target (Ok moment)) }
+            place_text (shown_or_refused (setting_in self.now).target (Ok named.now)) }
         ensures room { length result ≤ 63 }
     {
-        answer_moment(self.target, moment)
+        answer_named(self.target, named)
     }
 
     /// What one source says of a line alone: the answer to it where the source names a moment for it, and else its fault.

@@ -92,7 +92,7 @@ impl<'a, 'b> LineWriter<'a, 'b> {
         let Some(date) = self.dates.date_from(line, first) else {
             return self.write_undated(line, writer);
         };
-        let key = self.dates.answer_moment(date.moment);
+        let key = self.dates.answer_named(&date.moment);
         self.keep(key);
         write_behind(writer, &key, line)
     }
@@ -151,7 +151,7 @@ fn date_time(dates: &DateSources<'_>, line: &[u8]) -> Option<(usize, usize, Answ
     let Some(date) = dates.date_in(line) else {
         return None;
     };
-    let Some(moment) = dates.at_target(date.moment) else {
+    let Some(moment) = dates.at_target(date.moment.moment()) else {
         return None;
     };
     Some((date.start, date.end, rfc3339_line(moment)))

@@ -1,36 +1,43 @@
 //! The plans of descriptions.
-ghost use Rattle.std.specs.Prelude.{◌≡◌, ◌+◌, ◌≤◌, true, false, get_or, Some, None, map, IfSome};
+ghost use Rattle.std.specs.Prelude.{◌≡◌, ◌+◌, ◌≤◌, true, false, Some, None, map, IfSome};
 ghost use Rattle.std.specs.Option.{ForSome, ForNone};
 ghost use Rattle.description_items.specs.Tree.{trees, listed};
 ghost use Rattle.description_tree.specs.Description.{v3_tree};
 ghost use Rattle.parsing_components.specs.Component.{reads_component, reads_component_v3};
 ghost use Rattle.parsing_record.specs.Reads.{reading, reading_of_all};
-ghost use Rattle.parsing_plan.specs.Bounds.{IsPair, IsSixty, IsSpaced, HasNoOffset, HasNoClock, HasOffset, IsFront, HasRoom, BeginsApart, IsTail};
+ghost use Rattle.parsing_places.specs.Windows.{LetsAt, TakeTwo, TakeOne, SpareTwo, SpareOne};
+ghost use Rattle.parsing_plan.specs.Layout.{HasNoOffset, HasNoClock, IsFront, HasRoom};
+ghost use Rattle.parsing_plan.specs.Windows.{LetText, LetYear, TakesOffset, SpareOffset, LetLastText, BeginsApart, SparesClock, SparesSign, TakesLastOffset};
 ghost use Rattle.parsing_plan.specs.Plan.{ArePlacesOf, IsPlanOf};
 
-use crate::bounds::Bounds;
 use crate::items::{is_fraction, lead, unix_of};
 use crate::layout::{LENGTH, Layout};
-use crate::plan::{Back, OffsetPlaces, Places, Plan};
-use crate::tail::Tail;
+use crate::plan::{Back, Front, OffsetPlaces, Places, Plan};
+use crate::windows::{last_window_of, windows_of};
 use description_items::BorrowedFormatItem;
 use description_tree::FormatDescriptionV3;
+use parsing_places::{LANES, LastBytes, Window, Windows};
 use parsing_record::{Node, NodeStep};
 
-// The places of an offset, or that there is none: `None` where it has hours or minutes alone, or other bytes than digits
-// can stand for it.
-fn offset_of(layout: &Layout, bounds: &Bounds) -> Option<Option<OffsetPlaces>>
+// The places of an offset, or that there is none: `None` where it has hours or minutes alone, or the windows don't take it.
+fn offset_of(layout: &Layout, windows: &Windows) -> Option<Option<OffsetPlaces>>
     ensures none { IfSome result (λ places. ForNone places (HasNoOffset layout.now)) }
+    ensures no_sign { IfSome result (λ places. ForNone places (SpareTwo windows.now 12)) }
     ensures some { IfSome result (λ places. ForSome places
-        (λ p. HasOffset layout.now bounds.now p.hour p.minute)) }
+        (λ p. TakesOffset windows.now layout.now p.hour p.minute)) }
 {
     match (layout.offset_hour, layout.offset_minute) {
-        (None, None) => Some(None),
-        (Some(hour), Some(minute)) => {
-            if hour >= LENGTH || !bounds.is_pair(layout.length, hour + 1) {
+        (None, None) => {
+            if !windows.spare_two(12) {
                 return None;
             }
-            if !bounds.is_sixty(layout.length, minute) {
+            Some(None)
+        }
+        (Some(hour), Some(minute)) => {
+            if hour >= LENGTH || minute >= LENGTH || !windows.take_sign(hour) {
+                return None;
+            }
+            if !windows.take_two(8, hour + 1, 9) || !windows.take_two(10, minute, 5) {
                 return None;
             }
             Some(Some(OffsetPlaces { hour, minute }))
@@ -39,18 +46,65 @@ fn offset_of(layout: &Layout, bounds: &Bounds) -> Option<Option<OffsetPlaces>>
     }
 }
 
-// Whether there is room for a month's name, or the bounds let digits alone stand for its number.
-fn is_month(layout: &Layout, bounds: &Bounds, place: usize) -> bool
+// Whether the window of the last bytes takes an offset at these places of the layout that ends a line.
+fn takes_last_offset(last: &Window, layout: &Layout, hour: usize, minute: usize) -> bool
+    requires hour { layout.now.offset_hour ≡ Some hour }
+    requires minute { layout.now.offset_minute ≡ Some minute }
+    requires few { layout.now.length ≤ LANES }
+    ensures { result ≡ true → TakesLastOffset last.now layout.now hour minute }
+{
+    let first = LANES - layout.length;
+    if hour >= LENGTH || minute >= LENGTH || !last.taken.spares(12) {
+        return false;
+    }
+    if usize::from(last.taken.lanes[13]) != first + hour || !last.lets(first + hour, b'+', 2) {
+        return false;
+    }
+    last.takes(8, first + hour + 1, 9)
+        && last.takes(9, first + hour + 2, 9)
+        && last.takes(10, first + minute, 5)
+        && last.takes(11, first + minute + 1, 9)
+}
+
+// The places of an offset behind a fraction, or that there is none: `None` where it has hours or minutes alone, or the window
+// doesn't take it.
+fn last_offset_of(layout: &Layout, last: &Window) -> Option<Option<OffsetPlaces>>
+    requires { layout.now.length ≤ LANES }
+    ensures none { IfSome result (λ places. ForNone places (HasNoOffset layout.now)) }
+    ensures no_sign { IfSome result (λ places. ForNone places (SparesSign last.now)) }
+    ensures some { IfSome result (λ places. ForSome places
+        (λ p. TakesLastOffset last.now layout.now p.hour p.minute)) }
+{
+    match (layout.offset_hour, layout.offset_minute) {
+        (None, None) => {
+            if !last.taken.spares(12) || !last.taken.spares(13) {
+                return None;
+            }
+            Some(None)
+        }
+        (Some(hour), Some(minute)) => {
+            if !takes_last_offset(last, layout, hour, minute) {
+                return None;
+            }
+            Some(Some(OffsetPlaces { hour, minute }))
+        }
+        _ => None,
+    }
+}
+
+// Whether there is room for a month's name, or the windows take its number.
+fn is_month(layout: &Layout, windows: &Windows, place: usize) -> bool
     ensures room { result ≡ true
         → layout.now.month_is_named ≡ true → place + 3 ≤ layout.now.length }
+    ensures none { result ≡ true → layout.now.month_is_named ≡ true → SpareTwo windows.now 0 }
     ensures digits { result ≡ true
-        → layout.now.month_is_named ≡ false → IsPair bounds.now layout.now.length place }
+        → layout.now.month_is_named ≡ false → TakeTwo windows.now 0 place 5 }
 {
     let length = layout.length;
     if layout.month_is_named {
-        return length >= 3 && place <= length - 3;
+        return length >= 3 && place <= length - 3 && windows.spare_two(0);
     }
-    bounds.is_pair(length, place)
+    place < LENGTH && windows.take_two(0, place, 5)
 }
 
 // Whether there is room for a weekday's name, if the layout has one.
@@ -64,53 +118,113 @@ fn has_weekday_room(layout: &Layout) -> bool
     }
 }
 
-// Whether the bounds let digits alone stand for a day, or for its ones, where it may have a space in front.
-fn is_day(layout: &Layout, bounds: &Bounds, place: usize) -> bool
-    ensures digits { result ≡ true → IsSpaced bounds.now layout.now.length place }
+// Whether the windows take a day, or its ones, where it may have a space in front.
+fn is_day(layout: &Layout, windows: &Windows, place: usize) -> bool
+    ensures digits { result ≡ true
+        → layout.now.day_is_spaced ≡ false → TakeTwo windows.now 2 place 9 }
+    ensures none { result ≡ true → layout.now.day_is_spaced ≡ true → SpareOne windows.now 2 }
     ensures tens { result ≡ true
-        → layout.now.day_is_spaced ≡ false → 48 ≤ get_or bounds.now.low place 0 }
+        → layout.now.day_is_spaced ≡ true → LetsAt windows.now place 32 25 }
+    ensures ones { result ≡ true
+        → layout.now.day_is_spaced ≡ true → TakeOne windows.now 3 (place + 1) }
 {
-    if place >= LENGTH || !bounds.is_spaced(layout.length, place) {
+    if place >= LENGTH {
         return false;
     }
-    layout.day_is_spaced || bounds.low[place] >= b'0'
-}
-
-// Whether the bounds let digits alone stand for a year.
-fn is_year(bounds: &Bounds, length: usize, place: usize) -> bool
-    ensures century { result ≡ true → IsPair bounds.now length place }
-    ensures year { result ≡ true → IsPair bounds.now length (place + 2) }
-{
-    bounds.is_pair(length, place) && bounds.is_pair(length, place + 2)
-}
-
-// The same for a time of day, whose minute and second are below 60.
-fn is_clock(bounds: &Bounds, length: usize, hour: usize, minute: usize, second: usize) -> bool
-    ensures hour { result ≡ true → IsPair bounds.now length hour }
-    ensures minute { result ≡ true → IsSixty bounds.now length minute }
-    ensures second { result ≡ true → IsSixty bounds.now length second }
-{
-    bounds.is_pair(length, hour)
-        && bounds.is_sixty(length, minute)
-        && bounds.is_sixty(length, second)
-}
-
-// Whether no digit can stand behind a fraction.
-fn begins_apart(layout: &Layout, bounds: &Bounds) -> bool
-    ensures { result ≡ true → BeginsApart bounds.now layout.now }
-{
-    layout.length == 0 || bounds.high[0] < b'0' || bounds.low[0] > b'9'
-}
-
-// The bounds at the end of a line, where they are few.
-fn tail_of(bounds: &Bounds, count: usize) -> Option<Tail>
-    ensures { ForSome result (λ t. IsTail t.low t.high bounds.now count) }
-{
-    let tail = Tail::of(bounds, count);
-    if !tail.is_of(bounds, count) {
-        return None;
+    if layout.day_is_spaced {
+        return windows.spare_one(2)
+            && windows.lets(place, b' ', 25)
+            && windows.take_one(3, place + 1);
     }
-    Some(tail)
+    windows.take_two(2, place, 9)
+}
+
+// Whether the windows let digits alone stand for a year.
+fn is_year(windows: &Windows, length: usize, year: usize) -> bool
+    ensures { result ≡ true → LetYear windows.now length year }
+{
+    if year >= LENGTH || year + 4 > length {
+        return false;
+    }
+    windows.lets(year, b'0', 9)
+        && windows.lets(year + 1, b'0', 9)
+        && windows.lets(year + 2, b'0', 9)
+        && windows.lets(year + 3, b'0', 9)
+}
+
+// Whether the windows take a time of day, whose minute and second are below 60.
+fn is_clock(windows: &Windows, hour: usize, minute: usize, second: usize) -> bool
+    ensures hour { result ≡ true → TakeTwo windows.now 4 hour 9 }
+    ensures minute { result ≡ true → TakeTwo windows.now 6 minute 5 }
+    ensures second { result ≡ true → TakeTwo windows.now 14 second 5 }
+{
+    if hour >= LENGTH || minute >= LENGTH || second >= LENGTH {
+        return false;
+    }
+    windows.take_two(4, hour, 9)
+        && windows.take_two(6, minute, 5)
+        && windows.take_two(14, second, 5)
+}
+
+// Whether the windows let the literals of a layout alone stand where they have to.
+fn let_text(windows: &Windows, layout: &Layout) -> bool
+    ensures { result ≡ true → LetText windows.now layout.now }
+{
+    for place in 0..LENGTH {
+        if layout.mask[place] == 255 && !windows.lets(place, layout.text[place], 0) {
+            return false;
+        }
+    }
+    true
+}
+
+// Whether the window of the last bytes lets the literals alone stand of the layout that ends a line.
+fn let_last_text(last: &Window, layout: &Layout) -> bool
+    requires { layout.now.length ≤ LANES }
+    ensures { result ≡ true → LetLastText last.now layout.now }
+{
+    let first = LANES - layout.length;
+    for place in 0..LENGTH {
+        if layout.mask[place] != 255 {
+            continue;
+        }
+        if place >= layout.length || !last.lets(first + place, layout.text[place], 0) {
+            return false;
+        }
+    }
+    true
+}
+
+// Whether no digit can stand behind a fraction, where so many bytes do.
+fn begins_apart(last: &Window, length: usize) -> bool
+    requires { length ≤ LANES }
+    ensures { result ≡ true → BeginsApart last.now length }
+{
+    if length == 0 {
+        return true;
+    }
+    let low = last.low[LANES - length];
+    let most = last.high[LANES - length];
+    most < 255 - low && (low > b'9' || low + most < b'0')
+}
+
+// Whether the window of the last bytes takes no number of a date and a time of day.
+fn spares_clock(last: &Window) -> bool
+    ensures { result ≡ true → SparesClock last.now }
+{
+    for lane in 0..8 {
+        if !last.taken.spares(lane) {
+            return false;
+        }
+    }
+    last.taken.spares(14) && last.taken.spares(15)
+}
+
+// Whether windows take no offset.
+fn spare_offset(windows: &Windows) -> bool
+    ensures { result ≡ true → SpareOffset windows.now }
+{
+    windows.spare_two(8) && windows.spare_two(10) && windows.spare_two(12)
 }
 
 // Whether a layout has no place for a fraction of a second, nor for an offset.
@@ -155,20 +269,22 @@ fn has_no_clock(layout: &Layout) -> bool
 fn back_of(layout: Layout) -> Option<Back>
     ensures { IfSome result (λ back. back.layout ≡ layout) }
 {
-    let bounds = Bounds::of(&layout);
-    if !bounds.hold_text(&layout) {
+    let window = last_window_of(&layout)?;
+    let last = LastBytes::of(window, layout.length)?;
+    if layout.length > LANES || !let_last_text(&last.window, &layout) {
         return None;
     }
-    if !has_no_clock(&layout) || !begins_apart(&layout, &bounds) {
+    if !has_no_clock(&layout) || !begins_apart(&last.window, layout.length) {
         return None;
     }
-    let offset = offset_of(&layout, &bounds)?;
-    let tail = tail_of(&bounds, layout.length);
+    if !spares_clock(&last.window) {
+        return None;
+    }
+    let offset = last_offset_of(&layout, &last.window)?;
     Some(Back {
         layout,
-        bounds,
+        last,
         offset,
-        tail,
     })
 }
 
@@ -177,9 +293,10 @@ fn places_of<N: Node>(items: &[N]) -> Option<Places>
     ensures { IfSome result
         (ArePlacesOf (reading_of_all N.language (listed (map N.tree items.now)))) }
 {
-    let (front, count) = lead(items);
+    let (layout, count) = lead(items);
+    let front = Front::of_layout(layout)?;
     if count == items.len() {
-        return Places::of_layout(front);
+        return Some(Places::of_front(front));
     }
     if !is_fraction(&items[count]) {
         return None;
@@ -189,7 +306,8 @@ fn places_of<N: Node>(items: &[N]) -> Option<Places>
     if others < rest.len() {
         return None;
     }
-    Places::of_layout(front)?.with_back(back_of(behind)?)
+    let back = back_of(behind)?;
+    Places::with_back(front, back)
 }
 
 // The plan of items that are read one after the other.
@@ -234,53 +352,54 @@ impl Plan {
 }
 
 impl Places {
+    // The places of a front alone.
+    fn of_front(front: Front) -> Places
+        ensures front { result.front ≡ front }
+        ensures back { result.back ≡ None }
+    {
+        Places { front, back: None }
+    }
+
     // The places with a layout behind a fraction, where there is but one offset.
-    fn with_back(self, back: Back) -> Option<Places>
-        ensures front { IfSome result (λ places. places.layout ≡ self.layout) }
+    fn with_back(front: Front, back: Back) -> Option<Places>
+        ensures front { IfSome result (λ places. places.front ≡ front) }
         ensures back { IfSome result (λ places. places.back ≡ Some back) }
     {
-        if !is_front(&self.layout) {
+        if !is_front(&front.layout) || !spare_offset(&front.windows) {
             return None;
         }
         Some(Places {
-            layout: self.layout,
-            bounds: self.bounds,
-            year: self.year,
-            month: self.month,
-            day: self.day,
-            hour: self.hour,
-            minute: self.minute,
-            second: self.second,
-            offset: self.offset,
+            front,
             back: Some(back),
         })
     }
+}
 
+impl Front {
     // The places of a layout that has places for all of a date and a time of day.
-    fn of_layout(layout: Layout) -> Option<Places>
-        ensures front { IfSome result (λ places. places.layout ≡ layout) }
-        ensures back { IfSome result (λ places. places.back ≡ None) }
+    fn of_layout(layout: Layout) -> Option<Front>
+        ensures { IfSome result (λ front. front.layout ≡ layout) }
     {
         let (year, month, day) = (layout.year?, layout.month?, layout.day?);
         let (hour, minute, second) = (layout.hour?, layout.minute?, layout.second?);
-        let bounds = Bounds::of(&layout);
+        let windows = windows_of(&layout)?;
         let length = layout.length;
-        if length < 8 || !bounds.hold_text(&layout) {
+        if length < 8 || !let_text(&windows, &layout) {
             return None;
         }
-        if !is_year(&bounds, length, year) || !is_month(&layout, &bounds, month) {
+        if !is_year(&windows, length, year) || !is_month(&layout, &windows, month) {
             return None;
         }
-        if !is_day(&layout, &bounds, day) || !has_weekday_room(&layout) {
+        if !is_day(&layout, &windows, day) || !has_weekday_room(&layout) {
             return None;
         }
-        if !is_clock(&bounds, length, hour, minute, second) || !has_subsecond_room(&layout) {
+        if !is_clock(&windows, hour, minute, second) || !has_subsecond_room(&layout) {
             return None;
         }
-        let offset = offset_of(&layout, &bounds)?;
-        Some(Places {
+        let offset = offset_of(&layout, &windows)?;
+        Some(Front {
             layout,
-            bounds,
+            windows,
             year,
             month,
             day,
@@ -288,7 +407,6 @@ impl Places {
             minute,
             second,
             offset,
-            back: None,
         })
     }
 }

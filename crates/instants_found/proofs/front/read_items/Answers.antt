@@ -11,4 +11,4 @@ use Rattle.instants_found.proofs.front.read_items.Goals as goal
 pub returns-in-Some-clause-front : goal.returns-in-Some-clause-front
 unfolding front_named
 returns-in-Some-clause-front c =
-    rw c.moment.ensures (sym (named_front (reading_of_all reads_component (listed (trees c.args.described.now.items.items))) (beginning c.args.assumed.now) c.args.bytes.now c.in-Some.rest.now (moment_of c.in-Some.fields) c.in-Some.ensures.front))
+    rw c.of_fields.ensures (sym (named_front (reading_of_all reads_component (listed (trees c.args.described.now.items.items))) (beginning c.args.assumed.now) c.args.bytes.now c.in-Some.rest.now (moment_of c.in-Some.fields) c.in-Some.ensures.front))

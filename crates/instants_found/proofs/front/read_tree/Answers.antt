@@ -11,4 +11,4 @@ use Rattle.instants_found.proofs.front.read_tree.Goals as goal
 pub returns-in-Some-clause-front : goal.returns-in-Some-clause-front
 unfolding front_named
 returns-in-Some-clause-front c =
-    rw c.moment.ensures (sym (named_front (reading reads_component_v3 (v3_tree c.args.described.now.tree)) (beginning c.args.assumed.now) c.args.bytes.now c.in-Some.rest.now (moment_of c.in-Some.fields) c.in-Some.ensures.front))
+    rw c.of_fields.ensures (sym (named_front (reading reads_component_v3 (v3_tree c.args.described.now.tree)) (beginning c.args.assumed.now) c.args.bytes.now c.in-Some.rest.now (moment_of c.in-Some.fields) c.in-Some.ensures.front))

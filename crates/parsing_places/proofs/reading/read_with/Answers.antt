@@ -1,16 +1,15 @@
-use Rattle.std.proofs.Common.{◌≡◌, rules, arith, w16, to_z, of_z}
+use Rattle.std.proofs.Common.{◌≡◌, ◌%◌, refl, arith, w16, to_z, of_z}
 use Rattle.std.proofs.lemmas.Int.{ints}
+use Rattle.parsing_places.proofs.SumLemmas.{names_of}
 use Rattle.parsing_places.proofs.reading.read_with.Goals as goal
 
-pub of_numbers-requires : goal.of_numbers-requires
-of_numbers-requires c =
-    let read = c.in_ok-month in
-    let same : to_z w16 (of_z w16 read.offset) ≡ read.offset = omega (arith, ints) in
-    let range = c.has_day.ensures.0 (search rules) in
+pub returns : goal.returns
+returns c =
+    let read = c.in_ok-day in
+    let o = c.signed.result in
+    let same : to_z w16 (of_z w16 o) ≡ o = omega (arith, ints) in
+    let even : read.second % 2 ≡ 0 = omega (arith, c.if-second-ne0.false) in
     record {
-      day_is_there = (search (rules, c.year_of-year.ensures.bound), omega (arith, c.if-month-lt1.false), omega (arith, c.if-month-gt12.false), range.0, range.1);
-      four_digits = c.year_of-year.ensures.bound;
-      within_a_day = read.ensures.minute;
-      within_a_minute = read.ensures.second;
-      is_offset = rw same read.ensures.offset;
+      year_is = c.year_of.ensures.year;
+      names = rw (same, c.of_nine.ensures) (names_of c.args.shape.now c.args.tail.now c.args.text.now read.day read.minute read.offset read.second read.first read.last _ o read.ensures c.requires.ending c.requires.fraction (omega (arith, c.if-minute-ge1440.false)) (omega (arith, c.if-offset-ge1440.false)) even refl c.signed.ensures.value);
     }

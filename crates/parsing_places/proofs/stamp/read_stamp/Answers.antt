@@ -4,13 +4,13 @@ use Rattle.parsing_places.proofs.StampLemmas.{stamp_says}
 use Rattle.parsing_places.proofs.YearLemmas.{year_high, year_low}
 use Rattle.parsing_places.proofs.stamp.read_stamp.Goals as goal
 
-pub four_digits_at-year-requires-clause-high : goal.four_digits_at-year-requires-clause-high
-four_digits_at-year-requires-clause-high c =
+pub of_digits-year-requires-clause-high : goal.of_digits-year-requires-clause-high
+of_digits-year-requires-clause-high c =
     let shape = c.args.shape.now in
     year_high shape.front c.args.text.now shape.year (λ k. (omega (arith, c.type_inv.text k))) c.in_ok-day.ensures.front_lies shape.year_is (omega (arith, shape.long, c.if-text-shape.false))
 
-pub four_digits_at-year-requires-clause-low : goal.four_digits_at-year-requires-clause-low
-four_digits_at-year-requires-clause-low c =
+pub of_digits-year-requires-clause-low : goal.of_digits-year-requires-clause-low
+of_digits-year-requires-clause-low c =
     let shape = c.args.shape.now in
     year_low shape.front c.args.text.now shape.year (λ k. (omega (arith, c.type_inv.text k))) c.in_ok-day.ensures.front_lies shape.year_is (omega (arith, shape.long, c.if-text-shape.false))
 
@@ -26,4 +26,4 @@ returns-clause-says c =
     let room : 16 ≤ length text = omega (arith, shape.long, c.if-text-shape.false) in
     let high = year_high shape.front text shape.year small read.ensures.front_lies shape.year_is room in
     let low = year_low shape.front text shape.year small read.ensures.front_lies shape.year_is room in
-    rw same (stamp_says shape text read.day read.minute read.offset read.second _ _ o read.ensures (omega (arith, c.if-text-shape.false)) high low c.four_digits_at-year.ensures.digits (omega (arith, c.if-minute-ge1440.false)) (omega (arith, c.if-offset-ge1440.false)) even refl c.signed-offset.ensures.value)
+    rw same (stamp_says shape text read.day read.minute read.offset read.second _ _ o read.ensures (omega (arith, c.if-text-shape.false)) high low c.of_digits-year.ensures.digits (omega (arith, c.max.ensures, c.if-max-ge1440.false)) (omega (arith, c.max.ensures, c.if-max-ge1440.false)) even refl c.signed-offset.ensures.value)

@@ -5,4 +5,6 @@ pub returns-in_default : goal.returns-in_default
 returns-in_default c = λ e. rw c.in_default.is (no_weekday c.args.line.now)
 
 pub returns : goal.returns
-returns c = λ e. rw c.in-Some.is (weekday_named c.in-Some.at c.args.line.now c.in-Some-weekday_of._weekday (c.requires c.in-Some.at c.in-Some.is) c.in-Some-weekday_of.ensures)
+returns c = λ e.
+    let is = c.is_weekday.ensures e in
+    rw c.in-Some.is (weekday_named c.in-Some.at c.args.line.now is.weekday (c.requires c.in-Some.at c.in-Some.is) is.name)

@@ -1,11 +1,16 @@
-use Rattle.std.proofs.Common.{◌≡◌, ◌≤◌, arith, to_z, of_z, w16}
+use Rattle.std.proofs.Common.{◌≡◌, ◌≤◌, ◌%◌, arith, to_z, of_z, w16}
 use Rattle.std.specs.Prelude.{unsigned_abs}
 use Rattle.std.proofs.lemmas.Int.{ints}
-use Rattle.parsing_plan.proofs.Numbers.{offset_written}
+use Rattle.parsing_places.proofs.SumLemmas.{minus_is, sign_of}
+use Rattle.parsing_plan.proofs.Numbers.{offset_written, either_sign}
 use Rattle.parsing_plan.proofs.read.written_offset.Goals as goal
 
 pub returns-clause-writes : goal.returns-clause-writes
-returns-clause-writes c =
-    let few : unsigned_abs c.offset_minutes.result ≤ 1559 = c.offset_minutes.ensures.bound in
-    let whole : to_z w16 (of_z w16 c.offset_minutes.result) ≡ c.offset_minutes.result = omega (arith, ints) in
-    rw whole (offset_written c.args.line.now c.args.hour c.args.minute c.two_digits_at-hours.result c.sixty_at-minutes.result c.in_ok-is_negative.is_negative c.offset_minutes.result (omega (arith, c.requires.hour.room)) c.in_ok-is_negative.ensures.sign c.in_ok-is_negative.ensures.minus c.two_digits_at-hours.ensures.writes c.sixty_at-minutes.ensures.writes c.offset_minutes.ensures.value)
+returns-clause-writes c = λ l text h.
+    let few : unsigned_abs c.signed.result ≤ 1559 = c.signed.ensures.bound in
+    let whole : to_z w16 (of_z w16 c.signed.result) ≡ c.signed.result = omega (arith, ints) in
+    let even : c.args.sums.second % 64 % 2 ≡ 0 = omega (arith, c.if-sums-ne0.false) in
+    let sign = sign_of _ (c.args.sums.second % 64) h.sign_is h.sign_low h.sign_high even in
+    let minus = minus_is _ (c.args.sums.second % 64) h.sign_is h.sign_low in
+    let value = c.signed.ensures.value h.hour h.minute h.offset_are (omega (arith, h.offset_are, c.if-sums-ge1440.false)) h.minute_few in
+    rw whole (offset_written text c.args.places.hour c.args.places.minute h.hour h.minute _ c.signed.result h.room (either_sign _ sign) minus h.hour_is h.minute_is value)

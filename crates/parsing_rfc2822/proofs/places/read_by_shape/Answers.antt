@@ -2,6 +2,7 @@ use Rattle.std.proofs.Common.{◌≡◌, ◌∙◌, rules, arith, w16, to_z, of_
 use Rattle.std.proofs.lemmas.Int.{ints}
 use Rattle.std.proofs.lemmas.List.{take_rest, get_or-drop}
 use Rattle.calendar_count.proofs.lemmas.Steps.{month_bound}
+use Rattle.parsing_rfc2822.proofs.PlaceLemmas.{not_before}
 use Rattle.parsing_rfc2822.proofs.ShapeLemmas.{shape_there, stamp_read}
 use Rattle.parsing_rfc2822.proofs.places.read_by_shape.Goals as goal
 
@@ -38,4 +39,4 @@ returns c =
     let s = c.in_ok-year in
     let o = s.offset in
     let same : to_z w16 (of_z w16 o) ≡ o = omega (arith, ints) in
-    λ input front. stamp_read c.shape.result input text c.of_numbers.result s.year c.args.tens s.ones s.minute s.second c.in_ok-month.month o (λ k. (omega (arith, c.type_inv.text k))) c.shape.ensures s.ensures.says front (rw (take_rest text 1) at c.in_ok-month.ensures) (omega (arith, c.if-year-lt-FIRST_YEAR.false)) (rw (same, c.new-fraction.ensures) at c.of_numbers.ensures)
+    λ input front. stamp_read c.shape.result input text c.of_numbers.result s.year c.args.tens s.ones s.minute s.second c.in_ok-month.month o (λ k. (omega (arith, c.type_inv.text k))) c.shape.ensures s.ensures.says front (rw (take_rest text 1) at c.in_ok-month.ensures) (not_before _ _ _ c.is_before.ensures c.if-is_before.false c.new.ensures) (rw (same, c.new-fraction.ensures) at c.of_numbers.ensures)

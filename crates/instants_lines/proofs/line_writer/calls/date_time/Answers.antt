@@ -8,4 +8,5 @@ use Rattle.instants_lines.proofs.line_writer.calls.date_time.Goals as goal
 pub returns-in_default-at_target-clause-none : goal.returns-in_default-at_target-clause-none
 unfolding place_of_date
 returns-in_default-at_target-clause-none c =
-    unwritten (setting_in c.args.dates.now) c.args.line.now c.in-Some.date year (sym c.in-Some.ensures.found) (sym c.in_default-at_target.ensures.shown)
+    let shown = sym c.in_default-at_target.ensures.shown in
+    unwritten (setting_in c.args.dates.now) c.args.line.now c.in-Some.date year (sym c.in-Some.ensures.found) (rw c.moment.ensures at shown)

@@ -7,4 +7,4 @@ returns-clause-written g c =
     let self = c.args.self.now in
     let within : self.end ≤ length self.block.items = search rules in
     let few : c.args.len ≤ length c.args.bytes.now = search rules in
-    gathered-front (g.W.ByteWriter.held self.inner) self.block.items c.put.new.block.items c.args.bytes.now self.start self.end c.args.len (omega arith) within few c.put.ensures.front
+    gathered-front (g.W.ByteWriter.held self.inner) self.block.items c.put_all.new.block.items c.args.bytes.now self.start self.end c.args.len (omega arith) within few c.put_all.ensures.front

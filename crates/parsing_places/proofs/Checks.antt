@@ -1,0 +1,53 @@
+-- Facts of windows that are constants, by tests that compute.
+use Rattle.std.proofs.Common.{◌≡◌, ◌≤◌, ◌-◌, ℕ, Bool, true, false, cond, List, get_or, refl, arith}
+use Rattle.std.specs.Prelude.{◌==◌, ◌&&◌, nat_le, nat_lt}
+use Rattle.std.proofs.lemmas.Bool.Decides.{nat_tests}
+use Rattle.parsing_places.specs.Shape.{Takes, TakesFrom, TakesDigit}
+use Rattle.parsing_places.specs.Tail.{LetsByte}
+use Rattle.parsing_places.specs.declared.shape.Window.{Window}
+
+-- a lane takes a digit
+abbrev pub takes : List ℕ → List ℕ → List ℕ → ℕ → ℕ → ℕ → Bool
+takes low high lanes lane place most = nat_lt place 16 && (get_or lanes lane 0 == place) && (get_or low place 0 == 48) && nat_le (get_or high place 0) most
+
+pub takes_is : (w : Window) (lane place most : ℕ) → takes w.low w.high w.taken.lanes lane place most ≡ true → Takes w lane place most
+takes_is w lane place most e = record {
+  inside = grind (arith, nat_tests, e);
+  is_there = grind (arith, nat_tests, e);
+  low = grind (arith, nat_tests, e);
+  high = grind (arith, nat_tests, e);
+}
+
+-- one byte alone can stand at a place
+abbrev pub lets : List ℕ → List ℕ → ℕ → ℕ → Bool
+lets low high place byte = nat_lt place 16 && (get_or low place 0 == byte) && (get_or high place 0 == 0)
+
+pub lets_is : (w : Window) (place byte : ℕ) → lets w.low w.high place byte ≡ true → LetsByte w place byte
+lets_is w place byte e = record {
+  inside = grind (arith, nat_tests, e);
+  low = grind (arith, nat_tests, e);
+  high = grind (arith, nat_tests, e);
+}
+
+pub both_are : (a b : Bool) → (a && b) ≡ true → (a ≡ true) × (b ≡ true)
+both_are true b e = (refl, e)
+both_are false b e = absurd cc
+
+-- a lane takes a digit, of one of two windows
+abbrev pub digit : List ℕ → List ℕ → List ℕ → List ℕ → List ℕ → List ℕ → ℕ → ℕ → ℕ → ℕ → Bool
+digit fl fh fm bl bh bm back_at lane place most =
+    cond (nat_lt (get_or fm lane 0) 128) (takes fl fh fm lane place most && nat_le 128 (get_or bm lane 0)) (nat_le back_at place && takes bl bh bm lane (place - back_at) most)
+
+pub digit_is : (front back : Window) (back_at lane place most : ℕ) → digit front.low front.high front.taken.lanes back.low back.high back.taken.lanes back_at lane place most ≡ true → TakesDigit front back back_at lane place most
+digit_is front back back_at lane place most e = record {
+  here = λ small.
+      let both : (takes front.low front.high front.taken.lanes lane place most && nat_le 128 (get_or back.taken.lanes lane 0)) ≡ true = grind (arith, nat_tests, e, small) in
+      let free : nat_le 128 (get_or back.taken.lanes lane 0) ≡ true = (both_are _ _ both).1 in
+      record { takes = takes_is front lane place most (both_are _ _ both).0; alone = grind (arith, nat_tests, free) };
+  there = λ large.
+      let both : (nat_le back_at place && takes back.low back.high back.taken.lanes lane (place - back_at) most) ≡ true = grind (arith, nat_tests, e, large) in
+      let behind : nat_le back_at place ≡ true = (both_are _ _ both).0 in
+      let le : back_at ≤ place = grind (arith, nat_tests, behind) in
+      let from : TakesFrom back front lane (place - back_at) most = record { takes = takes_is back lane (place - back_at) most (both_are _ _ both).1; alone = large } in
+      (le, from);
+}

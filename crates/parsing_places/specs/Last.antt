@@ -1,0 +1,20 @@
+-- What the last bytes of a text have behind a fraction of a second.
+use Rattle.std.specs.Prelude.{◌≡◌, ◌≤◌, ◌<◌, ◌+◌, ◌-◌, ℕ, List, get_or}
+use Rattle.parsing_places.specs.Lanes.{above}
+use Rattle.parsing_places.specs.Numbers.{IsDigitAt, LieIn}
+use Rattle.parsing_places.specs.Shape.{Takes}
+use Rattle.parsing_places.specs.declared.last.LastBytes.{LastBytes}
+
+-- the first lanes are so many digits that stand at a place, and the others 0
+pub record HaveFraction (text : List ℕ) (place count : ℕ) (digits : List ℕ) : Type 0 where
+  pub few : count ≤ 9
+  pub each : (k : ℕ) → k < count → IsDigitAt digits k text (place + k) 9
+  pub zeros : (k : ℕ) → count ≤ k → k < 16 → get_or digits k 0 ≡ 0
+
+-- a text up to an end has so many digits of a fraction, and what has to stand behind it: lanes v take that, and others the digits
+pub record HaveLast (last : LastBytes) (text : List ℕ) (end count : ℕ) (v digits : List ℕ) : Type 0 where
+  pub lies : LieIn last.window text (end - 16)
+  pub taken : (lane place most : ℕ) → lane < 16 → most ≤ 9 → Takes last.window lane place most → IsDigitAt v lane text (end - 16 + place) most
+  pub none : (lane : ℕ) → lane < 16 → 128 ≤ get_or last.window.taken.lanes lane 0 → get_or v lane 0 ≡ 0
+  pub raw : (lane place : ℕ) → lane < 16 → place < 16 → get_or last.window.taken.lanes lane 0 ≡ place → get_or v lane 0 ≡ above (get_or text (end - 16 + place) 0) (get_or last.window.low place 0)
+  pub fraction : HaveFraction text (end - last.length - count) count digits

@@ -1,0 +1,174 @@
+//! Two windows over a text, made for any layout and then checked.
+ghost use Rattle.std.specs.Prelude.{◌≡◌, ◌≤◌, ◌<◌, ◌+◌, ℕ, length, get_or, true, IfSome};
+ghost use Rattle.parsing_places.specs.Windows.{LetsIn, LetsAt, TakeTwo, TakeOne, SpareTwo, SpareOne, TakeSign, Taken};
+ghost use Rattle.parsing_places.specs.Shape.{Takes, TakesFrom, TakesDigit};
+
+use crate::lanes::{LANES, Moves};
+use crate::shape::Window;
+use crate::stamp::digits_of;
+use std::simd::prelude::*;
+
+/// Sixteen bytes at the front of a text, and sixteen from a place on.
+#[derive(Clone, Copy)]
+pub struct Windows {
+    pub front: Window,
+    pub back: Window,
+    /// Where the second window begins.
+    pub back_at: usize,
+}
+
+impl Moves {
+    /// The moves of these lanes, where each takes one of sixteen bytes, or nothing.
+    pub fn checked(lanes: [u8; LANES]) -> Option<Moves>
+        ensures { IfSome result (λ m. m.lanes ≡ lanes) }
+    {
+        for lane in 0..LANES {
+            if lanes[lane] >= 16 && lanes[lane] < 128 {
+                return None;
+            }
+        }
+        Some(Moves { lanes })
+    }
+
+    /// Whether a lane takes nothing.
+    pub fn spares(&self, lane: usize) -> bool
+        requires { lane < LANES }
+        ensures { result ≡ true → 128 ≤ get_or self.now.lanes lane 0 }
+    {
+        self.lanes[lane] >= 128
+    }
+}
+
+impl Window {
+    /// Whether a byte from the lowest on, and at most so far above it, alone can stand at a place.
+    pub fn lets(&self, place: usize, low: u8, most: u8) -> bool
+        ensures { result ≡ true → LetsIn self.now place low most }
+    {
+        place < LANES && self.low[place] == low && self.high[place] <= most
+    }
+
+    /// Whether a lane takes a digit at a place, at most so large.
+    pub fn takes(&self, lane: usize, place: usize, most: u8) -> bool
+        requires { lane < LANES }
+        ensures { result ≡ true → Takes self.now lane place most }
+    {
+        self.lets(place, b'0', most) && usize::from(self.taken.lanes[lane]) == place
+    }
+
+    // The same, and that another window takes nothing for the lane.
+    fn takes_alone(&self, other: &Window, lane: usize, place: usize, most: u8) -> bool
+        requires { lane < LANES }
+        ensures { result ≡ true → TakesFrom self.now other.now lane place most }
+    {
+        self.takes(lane, place, most) && other.taken.spares(lane)
+    }
+}
+
+impl Windows {
+    /// Whether a byte from the lowest on, and at most so far above it, alone can stand at a place of a text.
+    pub fn lets(&self, place: usize, low: u8, most: u8) -> bool
+        ensures { result ≡ true → LetsAt self.now place low most }
+    {
+        if place < LANES {
+            return self.front.lets(place, low, most);
+        }
+        place >= self.back_at && self.back.lets(place - self.back_at, low, most)
+    }
+
+    // Whether a lane takes a digit at a place of a text, at most so large.
+    fn takes_digit(&self, lane: usize, place: usize, most: u8) -> bool
+        requires { lane < LANES }
+        ensures { result ≡ true → TakesDigit self.now.front self.now.back self.now.back_at lane place most }
+    {
+        if self.front.taken.spares(lane) {
+            return place >= self.back_at
+                && self
+                    .back
+                    .takes_alone(&self.front, lane, place - self.back_at, most);
+        }
+        self.front.takes_alone(&self.back, lane, place, most)
+    }
+
+    /// Whether a lane takes a digit at a place of a text.
+    pub fn take_one(&self, lane: usize, place: usize) -> bool
+        requires { lane < LANES }
+        ensures { result ≡ true → TakeOne self.now lane place }
+    {
+        self.takes_digit(lane, place, 9)
+    }
+
+    /// Whether two lanes take two digits at a place of a text, the first of them at most so large.
+    pub fn take_two(&self, lane: usize, place: usize, most: u8) -> bool
+        requires lane { lane + 1 < LANES }
+        requires place { place < 1000 }
+        ensures { result ≡ true → TakeTwo self.now lane place most }
+    {
+        self.takes_digit(lane, place, most) && self.takes_digit(lane + 1, place + 1, 9)
+    }
+
+    /// Whether a lane takes nothing.
+    pub fn spare_one(&self, lane: usize) -> bool
+        requires { lane < LANES }
+        ensures { result ≡ true → SpareOne self.now lane }
+    {
+        self.front.taken.spares(lane) && self.back.taken.spares(lane)
+    }
+
+    /// Whether two lanes take nothing.
+    pub fn spare_two(&self, lane: usize) -> bool
+        requires { lane + 1 < LANES }
+        ensures { result ≡ true → SpareTwo self.now lane }
+    {
+        self.spare_one(lane) && self.spare_one(lane + 1)
+    }
+
+    /// Whether the lane of a sign takes one at a place of a text, in the second window.
+    pub fn take_sign(&self, place: usize) -> bool
+        ensures { result ≡ true → TakeSign self.now place }
+    {
+        if place < self.back_at || !self.back.lets(place - self.back_at, b'+', 2) {
+            return false;
+        }
+        self.spare_one(12)
+            && self.front.taken.spares(13)
+            && usize::from(self.back.taken.lanes[13]) == place - self.back_at
+    }
+}
+
+// The bytes of a text that is shorter than a window, and zeros behind them.
+fn padded(text: &[u8]) -> [u8; LANES]
+    requires { length text.now < LANES }
+    ensures { (k : ℕ) → get_or result k 0 ≡ get_or text.now k 0 }
+{
+    let mut bytes = [0; LANES];
+    for place in 0..text.len() {
+        bytes[place] = text[place];
+    }
+    bytes
+}
+
+impl Windows {
+    // The digits of a text that is shorter than a window.
+    #[cold]
+    #[inline(never)]
+    fn digits_of_few(&self, text: &[u8]) -> (bool, u8x16)
+        requires few { length text.now < LANES }
+        requires front { self.now.back_at ≡ 0 }
+        ensures { result.0 ≡ true → Taken self.now text.now result.1 }
+    {
+        digits_of(&self.front, &self.back, self.back_at, &padded(text))
+    }
+
+    /// Whether a text lies within both windows, and the digits that lanes take of it. It may be shorter than a window that
+    /// begins at its front.
+    #[inline(always)]
+    pub fn digits_of(&self, text: &[u8]) -> (bool, u8x16)
+        requires { 0 < self.now.back_at → self.now.back_at + LANES ≤ length text.now }
+        ensures { result.0 ≡ true → Taken self.now text.now result.1 }
+    {
+        if text.len() < LANES {
+            return self.digits_of_few(text);
+        }
+        digits_of(&self.front, &self.back, self.back_at, text)
+    }
+}

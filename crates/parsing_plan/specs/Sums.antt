@@ -1,0 +1,50 @@
+-- The numbers of a line in the sums of lanes.
+use Rattle.std.specs.Prelude.{◌≡◌, ◌≤◌, ◌<◌, ◌+◌, ◌-◌, ◌*◌, ◌%◌, ℕ, List, get_or, length, true, false, Some}
+use Rattle.parsing_combinator.specs.Places.{HasPair}
+use Rattle.parsing_plan.specs.Layout.{HasText}
+use Rattle.parsing_plan.specs.Parts.{WritesAt, HasSpaced}
+use Rattle.parsing_plan.specs.declared.layout.Layout.{Layout}
+use Rattle.parsing_plan.specs.declared.plan.Front.{Front}
+use Rattle.parsing_plan.specs.declared.sums.Sums.{Sums}
+
+-- those that stand at the places of a front
+pub record HasSums (front : Front) (line : List ℕ) (sums : Sums) : Type 0 where
+  pub month : ℕ
+  pub day : ℕ
+  pub hour : ℕ
+  pub minute : ℕ
+  pub second : ℕ
+  pub sign : ℕ
+  pub text : HasText front.layout line
+  pub century : HasPair line front.year
+  pub last_two : HasPair line (front.year + 2)
+  pub month_is : front.layout.month_is_named ≡ false → WritesAt 2 line front.month month
+  pub day_is : front.layout.day_is_spaced ≡ false → WritesAt 2 line front.day day
+  pub spaced : front.layout.day_is_spaced ≡ true → HasSpaced line front.day
+  pub ones_are : front.layout.day_is_spaced ≡ true → day ≡ get_or line (front.day + 1) 0 - 48
+  pub hour_is : WritesAt 2 line front.hour hour
+  pub minute_is : WritesAt 2 line front.minute minute
+  pub second_is : WritesAt 2 line front.second second
+  pub month_few : month ≤ 59
+  pub day_few : day ≤ 99
+  pub minute_few : minute ≤ 59
+  pub second_few : second ≤ 59
+  pub sign_few : sign ≤ 2
+  pub days_are : sums.day ≡ month + 64 * day
+  pub minutes_are : sums.minute ≡ 60 * hour + minute
+  pub seconds_are : sums.second ≡ sign + 64 * second
+
+-- those of an offset that a layout has at these places, with how far its sign lies above a plus
+pub record HasOffsetSums (l : Layout) (line : List ℕ) (hour_place minute_place : ℕ) (sums : Sums) : Type 0 where
+  pub hour_there : l.offset_hour ≡ Some hour_place
+  pub minute_there : l.offset_minute ≡ Some minute_place
+  pub hour : ℕ
+  pub minute : ℕ
+  pub room : hour_place < length line
+  pub sign_low : 43 ≤ get_or line hour_place 0
+  pub sign_high : get_or line hour_place 0 ≤ 45
+  pub sign_is : sums.second % 64 ≡ get_or line hour_place 0 - 43
+  pub hour_is : WritesAt 2 line (hour_place + 1) hour
+  pub minute_is : WritesAt 2 line minute_place minute
+  pub minute_few : minute ≤ 59
+  pub offset_are : sums.offset ≡ 60 * hour + minute
