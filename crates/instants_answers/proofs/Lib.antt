@@ -1,4 +1,4 @@
-pub mod PairLemmas
+pub mod MonthLemmas
 pub mod MinuteLemmas
 pub mod TargetLemmas
 pub mod AppendLemmas

@@ -1,28 +1,13 @@
 //! Decimal digits of fixed width, added to an answer.
 
-ghost use Rattle.std.specs.Prelude.{◌≡◌, ◌+◌, ◌/◌, ◌%◌, ◌<◌, ◌≤◌, ◌++◌, codes, length};
-ghost use Rattle.base.specs.Bytes.{digit_zero};
+ghost use Rattle.std.specs.Prelude.{◌≡◌, ◌+◌, ◌<◌, ◌≤◌, ◌++◌, codes, length};
 ghost use Rattle.parsing_fields.specs.Decimal.{decimal};
 
 use crate::answer::Answer;
-
-// The two digits of each number below 100.
-static PAIRS: [u8; 200] =
-    *b"0001020304050607080910111213141516171819202122232425262728293031323334353637383940414243444546474849\
-    5051525354555657585960616263646566676869707172737475767778798081828384858687888990919293949596979899";
+use parsing_fields::digit_pair;
 
 // Each month between hyphens, by its number: there is none before the first one.
 static MONTHS: [u8; 52] = *b"-00--01--02--03--04--05--06--07--08--09--10--11--12-";
-
-#[inline(always)]
-pub(crate) fn pair(number: u32) -> (u8, u8)
-    requires { number < 100 }
-    ensures tens { result.0 ≡ digit_zero + number / 10 }
-    ensures ones { result.1 ≡ digit_zero + number % 10 }
-{
-    let at = number as usize * 2;
-    (PAIRS[at], PAIRS[at + 1])
-}
 
 #[inline(always)]
 #[tactic(auto, unfolding(parsing_fields::specs::Decimal::decimal))]
@@ -32,7 +17,7 @@ pub(crate) fn push_two(answer: &mut Answer, number: u32)
     ensures digits { answer.new ≡ answer.old ++ decimal 2 number }
     ensures len { length answer.new ≡ length answer.old + 2 }
 {
-    let (tens, ones) = pair(number);
+    let (tens, ones) = digit_pair(number);
     answer.push_bytes(&[tens, ones]);
 }
 

@@ -6,8 +6,8 @@ ghost use Rattle.instants_answers.specs.Padded.{padded_offset, offset_len};
 ghost use Rattle.instants_answers.specs.Text as text;
 
 use crate::answer::Answer;
-use crate::digits::pair;
 use calendar::UtcOffset;
+use parsing_fields::digit_pair;
 use std::marker::Model;
 
 // The bytes of a line before its offset.
@@ -70,8 +70,8 @@ fn offset_text(seconds: i32) -> ([u8; 8], usize)
         return ([b'Z', 0, 0, 0, 0, 0, 0, 0], 1);
     }
     let minutes = seconds.unsigned_abs() / 60;
-    let hours = pair(minutes / 60);
-    let minutes = pair(minutes % 60);
+    let hours = digit_pair(minutes / 60);
+    let minutes = digit_pair(minutes % 60);
     (
         [
             sign(seconds),

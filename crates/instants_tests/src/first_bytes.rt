@@ -143,6 +143,12 @@ v3 [day]-[month] [hour]:[minute] => 01-07 10.52 => true true
 v3 [day]-[month] [hour]:[minute] => 01-07 10 => true true
 v3 [day]-[month]-[year] [hour] => 01-07-203 10 => true true
 v3 [day]-[month]-[year] [hour] => 01-07--2003 10 and more => false false
+v3 [year]-[month]-[day] => 2024-01-02 => false false
+v3 [year]-[month]-[day] => 2024/01/02 => true true
+v3 [year]-[month]-[day] => 2024-01-02T10 => false true
+v3 [year]-[month]-[day] => +2024/01/02 and more => false false
+v3 [hour] [year]:[second] => 10 2024.37 => true true
+v3 [hour] [year]:[second] => 10 -2024:37 => false false
 v3 [hour]:[minute]:[second]UTC => 10:52:37UTC => false false
 v3 [hour]:[minute]:[second]UTC => 10:52:37GMT => true true
 v3 [hour]:[minute]:[second]UTC => 10:52:3 => true true

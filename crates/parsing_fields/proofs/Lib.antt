@@ -1,5 +1,6 @@
 pub mod lemmas
 mod DigitLemmas
+mod DigitPairs
 mod DigitsBefore
 mod UnixTime
 mod YearLemmas

@@ -8,7 +8,7 @@ ghost use Rattle.parsing_fields.specs.Digits.{AreNineDigits, nine_digits};
 ghost use Rattle.parsing_fields.specs.Written.{WriteFraction};
 
 use crate::before::digits_before;
-use crate::digit::last_digit;
+use crate::digits::digit_pair;
 use parsing_combinator::{digit_chunk, fraction, one_digit};
 use std::marker::Model;
 
@@ -71,19 +71,15 @@ impl Fraction {
         requires { nanosecond < 1_000_000_000 }
         ensures { result ≡ nanosecond }
     {
-        let first = [
-            last_digit(nanosecond / 100_000_000),
-            last_digit(nanosecond / 10_000_000),
-            last_digit(nanosecond / 1_000_000),
-            last_digit(nanosecond / 100_000),
-            last_digit(nanosecond / 10_000),
-            last_digit(nanosecond / 1000),
-            last_digit(nanosecond / 100),
-            last_digit(nanosecond / 10),
-        ];
+        let (first, second) = digit_pair(nanosecond / 10_000_000);
+        let (third, fourth) = digit_pair(nanosecond / 100_000 % 100);
+        let (fifth, sixth) = digit_pair(nanosecond / 1000 % 100);
+        let (seventh, eighth) = digit_pair(nanosecond / 10 % 100);
+        let eight = [first, second, third, fourth, fifth, sixth, seventh, eighth];
+        let ninth = b'0' + (nanosecond % 10) as u8;
         Fraction {
-            first: u64::from_le_bytes(first),
-            last: u64::from(last_digit(nanosecond)),
+            first: u64::from_le_bytes(eight),
+            last: u64::from(ninth),
         }
     }
 

@@ -2,13 +2,14 @@
 #![tactic(auto)]
 
 mod before;
-mod digit;
+mod digits;
 mod fields;
 mod fraction;
 mod minutes;
 mod year;
 
+pub use digits::digit_pair;
 pub use fields::{Fields, has_day};
 pub use fraction::Fraction;
-pub use minutes::{is_minus, minute_of_day, offset_minutes, signed_minutes};
+pub use minutes::{minute_of_day, offset_minutes, signed_minutes};
 pub use year::Year;

@@ -1,6 +1,5 @@
 //! Minutes of the day, and offsets in minutes.
-ghost use Rattle.std.specs.Prelude.{◌≡◌, ◌+◌, ◌*◌, ◌≤◌, ◌==◌, ◌||◌, ◌↔◌, true, false, IsSome, IfSome, IfNone, IsOk, Ok, pos, ◌*ℤ◌, unsigned_abs};
-ghost use Rattle.base.specs.Bytes.{plus, hyphen};
+ghost use Rattle.std.specs.Prelude.{◌≡◌, ◌+◌, ◌*◌, ◌≤◌, ◌↔◌, IsSome, IfSome, IsOk, Ok, pos, ◌*ℤ◌, unsigned_abs};
 ghost use Rattle.parsing_values.specs.Resolution.{signed_offset_of};
 
 /// The minute of the day of an hour below 24 and a minute below 60.
@@ -13,24 +12,6 @@ pub fn minute_of_day(hour: u8, minute: u8) -> Option<u16>
         return None;
     }
     Some(u16::from(hour) * 60 + u16::from(minute))
-}
-
-/// Whether a sign is a minus: `None` where the byte is no sign.
-///
-/// Which of the two it is can't be foreseen, so no jump tells it: a plus is 0 above itself and a minus 2, and no other number
-/// is below 2 once its lowest bit is its highest one.
-#[inline(always)]
-pub fn is_minus(sign: u8) -> Option<bool>
-    ensures sign { IfSome result (λ _. ((sign == plus) || (sign == hyphen)) ≡ true) }
-    ensures other { IfNone result (((sign == plus) || (sign == hyphen)) ≡ false) }
-    ensures minus { IfSome result (λ minus. minus ≡ (sign == hyphen)) }
-{
-    let above = sign.wrapping_sub(b'+');
-    let turned = above / 2 + above % 2 * 128;
-    if turned > 1 {
-        return None;
-    }
-    Some(sign == b'-')
 }
 
 /// The minutes of an offset of hours and minutes under one sign, where it has at most 25 hours and 59 minutes.

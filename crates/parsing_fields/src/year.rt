@@ -4,7 +4,7 @@ ghost use Rattle.parsing_combinator.specs.Pieces as Pieces;
 ghost use Rattle.parsing_combinator.specs.Places.{HasPair};
 ghost use Rattle.parsing_fields.specs.Decimal.{decimal};
 
-use crate::digit::last_digit;
+use crate::digits::digit_pair;
 use parsing_combinator::four_digits_at;
 use std::marker::Model;
 use std::simd::prelude::*;
@@ -46,14 +46,10 @@ impl Year {
         ensures { result ≡ number }
     {
         let number = u32::from(number);
-        let digits = [
-            last_digit(number / 1000),
-            last_digit(number / 100),
-            last_digit(number / 10),
-            last_digit(number),
-        ];
+        let (thousands, hundreds) = digit_pair(number / 100);
+        let (tens, ones) = digit_pair(number % 100);
         Year {
-            digits: u32::from_le_bytes(digits),
+            digits: u32::from_le_bytes([thousands, hundreds, tens, ones]),
         }
     }
 

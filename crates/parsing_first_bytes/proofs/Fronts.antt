@@ -10,6 +10,7 @@ use Rattle.description_items.specs.Tree.{Literal, Part}
 use Rattle.parsing_combinator.specs.Fault.{Fault, literal}
 use Rattle.parsing_combinator.specs.Pieces.{Piece}
 use Rattle.parsing_combinator.specs.Readings.{piece_or, then_read, give}
+use Rattle.parsing_combinator.specs.Shape.{is_sign}
 use Rattle.parsing_components.specs.Ranged.{kept}
 use Rattle.parsing_components.specs.Read.{Read}
 use Rattle.parsing_components.specs.Put.{put}
@@ -18,31 +19,39 @@ use Rattle.parsing_record.specs.Reads.{Language, reading, reads}
 use Rattle.parsing_record.specs.Record.{Record}
 use Rattle.parsing_first_bytes.specs.declared.front.Bytes.TheVariants.{Text}
 use Rattle.parsing_first_bytes.specs.declared.front.Front.{Front}
-use Rattle.parsing_first_bytes.specs.Front.{Leaves, HasFront, ReadsFront, Begins}
+use Rattle.parsing_first_bytes.specs.Front.{Leaves, HasFront, HasWidthUnsigned, ReadsFront, Begins}
 use Rattle.parsing_first_bytes.proofs.Shapes.{front_of}
 
 -- ---- a component
 
-said_front : {B : Type 0} (f : Front) (line rest : List ℕ) (fault : Fault) (said : Option B) → Leaves f line rest → IfOk (piece_or fault (option_map (λ y. (y, rest)) said)) (λ x. Leaves f line x.1)
-said_front f line rest fault None h = tt
-said_front f line rest fault (Some y) h = h
+said_rest : {B : Type 0} (P : List ℕ → Type 0) (rest : List ℕ) (fault : Fault) (said : Option B) → P rest → IfOk (piece_or fault (option_map (λ y. (y, rest)) said)) (λ x. P x.1)
+said_rest P rest fault None h = tt
+said_rest P rest fault (Some y) h = h
 
-kept_at : {A B : Type 0} (f : Front) (line : List ℕ) (says : A → Option B) (fault : Fault) (o : Option (A × List ℕ)) → IfSome o (λ x. Leaves f line x.1) → IfOk (piece_or fault (kept says o)) (λ x. Leaves f line x.1)
-kept_at f line says fault None h = tt
-kept_at f line says fault (Some x) h = said_front f line x.1 fault (says x.0) h
+-- what holds of what a piece leaves holds of what a reading of it leaves
+kept_rest : {A B : Type 0} (P : List ℕ → Type 0) (says : A → Option B) (fault : Fault) (o : Option (A × List ℕ)) → IfSome o (λ x. P x.1) → IfOk (piece_or fault (kept says o)) (λ x. P x.1)
+kept_rest P says fault None h = tt
+kept_rest P says fault (Some x) h = said_rest P x.1 fault (says x.0) h
 
 pub kept_front : {A B : Type 0} (f : Front) (piece : Piece A) (says : A → Option B) (fault : Fault) → HasFront f piece → ReadsFront f (λ line. piece_or fault (kept says (piece line)))
-kept_front f piece says fault h line = kept_at f line says fault (piece line) (h line)
+kept_front f piece says fault h line = kept_rest (Leaves f line) says fault (piece line) (h line)
+
+pub kept_width : {A B : Type 0} (width : ℕ) (piece : Piece A) (says : A → Option B) (fault : Fault) → ((line : List ℕ) → is_sign (get_or line 0 0) ≡ false → IfSome (piece line) (λ x. x.1 ≡ drop width line)) → HasWidthUnsigned width (λ line. piece_or fault (kept says (piece line)))
+kept_width width piece says fault h line e = kept_rest (λ rest. rest ≡ drop width line) says fault (piece line) (h line e)
 
 -- ---- items
 
-put_at : (f : Front) (line : List ℕ) (r : Record) (x : Result (Read × List ℕ) Fault) → IfOk x (λ y. Leaves f line y.1) → IfOk (then_read x (λ said. give (put said r))) (λ y. Leaves f line y.1)
-put_at f line r (Ok y) h = h
-put_at f line r (Err e) h = tt
+put_at : (P : List ℕ → Type 0) (r : Record) (x : Result (Read × List ℕ) Fault) → IfOk x (λ y. P y.1) → IfOk (then_read x (λ said. give (put said r))) (λ y. P y.1)
+put_at P r (Ok y) h = h
+put_at P r (Err e) h = tt
 
 pub part_begins : (language : Language) (c : Component) (f : Front) → ReadsFront f (language c) → Begins f (reading language (Part c))
 unfolding reads
-part_begins language c f h r line = put_at f line r (language c line) (h line)
+part_begins language c f h r line = put_at (Leaves f line) r (language c line) (h line)
+
+pub part_width : (language : Language) (c : Component) (width : ℕ) (line : List ℕ) → IfOk (language c line) (λ x. x.1 ≡ drop width line) → (r : Record) → IfOk (reading language (Part c) r line) (λ x. x.1 ≡ drop width line)
+unfolding reads
+part_width language c width line h r = put_at (λ rest. rest ≡ drop width line) r (language c line) h
 
 text_fits : (text line : List ℕ) (place : ℕ) → take (length text) line ≡ text → place < length text → get_or text place 0 ≡ get_or line place 0
 text_fits text line place e lt = sym (ap (λ t. get_or t place 0) e) ∙ get_or-take (length text) line place 0 lt

@@ -4,3 +4,4 @@ pub mod Shapes
 pub mod Walk
 mod Widths
 mod Ranges
+mod Years

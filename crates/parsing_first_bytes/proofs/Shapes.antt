@@ -41,7 +41,7 @@ or_each : {A : Type 0} (P : A → Type 0) (x before : Option A) → IfSome x P �
 or_each P (Some x) before h k = h
 or_each P None before h k = k
 
-greatest_each : {A : Type 0} (P : A → Type 0) (f : ℕ → Option A) (n : ℕ) → ((k : ℕ) → k ≤ n → IfSome (f k) P) → IfSome (greatest f n) P
+pub greatest_each : {A : Type 0} (P : A → Type 0) (f : ℕ → Option A) (n : ℕ) → ((k : ℕ) → k ≤ n → IfSome (f k) P) → IfSome (greatest f n) P
 greatest_each P f zero h = h 0 (omega arith)
 greatest_each P f (suc n) h = or_each P (f (suc n)) (greatest f n) (h (suc n) (omega arith)) (greatest_each P f n (λ k le. h k (omega (arith, le))))
 
@@ -203,11 +203,11 @@ signed_if_hold false spaced w v least with_sign without h k = signed_hold spaced
 
 -- ---- padded so
 
-padded_zero_hold : (n m least : ℕ) (spaced whole : Bool) → least ≤ n → (whole ≡ true → (n ≡ least) × (m ≡ least)) → Holds (front_of (Digits spaced false) least whole) (padded padding.Zero n m)
+pub padded_zero_hold : (n m least : ℕ) (spaced whole : Bool) → least ≤ n → (whole ≡ true → (n ≡ least) × (m ≡ least)) → Holds (front_of (Digits spaced false) least whole) (padded padding.Zero n m)
 unfolding padded
 padded_zero_hold n m least spaced whole le exact = digits_hold _ n m least spaced false whole le exact
 
-padded_space_hold : (n m least : ℕ) (whole : Bool) → least ≤ n → (whole ≡ true → (n ≡ least) × (m ≡ least)) → Holds (front_of (Digits true false) least whole) (padded padding.Space n m)
+pub padded_space_hold : (n m least : ℕ) (whole : Bool) → least ≤ n → (whole ≡ true → (n ≡ least) × (m ≡ least)) → Holds (front_of (Digits true false) least whole) (padded padding.Space n m)
 unfolding padded
 padded_space_hold n m least whole le exact = spaced_hold n m least false whole le exact
 

@@ -1,5 +1,5 @@
 -- Items one after the other: a byte that can't stand in one of them can't stand at its place of the line.
-use Rattle.std.proofs.Common.{◌≡◌, ◌≤◌, ◌<◌, ◌-◌, ◌+◌, ◌∙◌, ◌&&◌, ℕ, zero, suc, Bool, true, false, not, List, [], ◌∷◌, get_or, replicate, None, Ok, Err, refl, sym, ap, arith}
+use Rattle.std.proofs.Common.{◌≡◌, ◌<◌, ◌+◌, ◌∙◌, ◌&&◌, ℕ, zero, suc, Bool, true, false, not, List, [], ◌∷◌, drop, get_or, replicate, Option, Some, None, Ok, Err, refl, sym, ap, arith}
 use Rattle.std.specs.Prelude.{IfOk, set}
 use Rattle.std.specs.Result.{result_ok}
 use Rattle.std.proofs.lemmas.List.{get_or-drop}
@@ -7,7 +7,9 @@ use Rattle.description_items.specs.Tree.{Tree, Compound, listed}
 use Rattle.parsing_record.specs.Meaning.{Meaning, Answer, Counted, then_counted, all_of}
 use Rattle.parsing_record.specs.Reads.{Language, reading, reading_of_all, reads, each_reads}
 use Rattle.parsing_record.specs.Record.{Record}
+use Rattle.parsing_combinator.specs.Shape.{is_sign}
 use Rattle.parsing_first_bytes.specs.declared.front.Front.{Front}
+use Rattle.parsing_first_bytes.specs.FirstBounds.{IsUnsigned}
 use Rattle.parsing_first_bytes.specs.Front.{Leaves, Begins, stands}
 use Rattle.parsing_first_bytes.specs.declared.first_bytes.FirstBytes.{FirstBytes}
 use Rattle.parsing_first_bytes.specs.FirstBytes.{fits_at, rule_out, IsRefusedAt, AreOf}
@@ -23,16 +25,26 @@ here_refused language t ts f place byte h lt none line at r =
     counted_none f line (reads language t r line).0 (reads language t r line).1 (all_of (each_reads language (listed ts))) (h r line)
     (λ next rest leaves. let never : true ≡ false = sym (leaves.0 place lt) ∙ rw at none in absurd cc)
 
--- the byte can't stand behind the first item, which has so many bytes
-pub next_refused : (language : Language) (t : Tree) (ts : List Tree) (f : Front) (place byte : ℕ) → Begins f (reading language t) → f.is_whole ≡ true → f.least ≤ place → IsRefusedAt (reading_of_all language (listed ts)) (place - f.least) byte
-    → IsRefusedAt (reading_of_all language (listed (t ∷ ts))) place byte
+-- a line is refused, whatever record reading begins with
+abbrev pub Refuses : Meaning → List ℕ → Type 0
+Refuses m line = (r : Record) → result_ok (m r line) ≡ None
+
+-- the item at the place of the sign begins with none
+pub unsigned_there : (sign : Option ℕ) (start : ℕ) (line : List ℕ) → IsUnsigned sign line → sign ≡ Some start → is_sign (get_or (drop start line) 0 0) ≡ false
+unsigned_there sign start line unsigned e =
+    let here : start + 0 ≡ start = omega arith in
+    ap is_sign (get_or-drop start line 0 0 ∙ ap (λ n. get_or line n 0) here) ∙ unsigned start e
+
+counted_behind : (width : ℕ) (line : List ℕ) (x : Answer) (n : ℕ) (next : Counted) → IfOk x (λ y. y.1 ≡ drop width line) → ((r : Record) → result_ok (next r (drop width line)).0 ≡ None) → result_ok (then_counted x n next).0 ≡ None
+counted_behind width line (Ok y) n next h k = ap (λ rest. result_ok (next y.0 rest).0) h ∙ k y.0
+counted_behind width line (Err e) n next h k = refl
+
+-- what follows the first item is refused, which has so many bytes
+pub next_refuses : (language : Language) (t : Tree) (ts : List Tree) (width : ℕ) (line : List ℕ) → ((r : Record) → IfOk (reading language t r line) (λ x. x.1 ≡ drop width line)) → Refuses (reading_of_all language (listed ts)) (drop width line)
+    → Refuses (reading_of_all language (listed (t ∷ ts))) line
 unfolding each_reads all_of
-next_refused language t ts f place byte h whole le others line at r =
-    counted_none f line (reads language t r line).0 (reads language t r line).1 (all_of (each_reads language (listed ts))) (h r line)
-    (λ next rest leaves.
-    let behind : f.least + (place - f.least) ≡ place = omega (arith, le) in
-    let there : get_or rest (place - f.least) 0 ≡ byte = ap (λ xs. get_or xs (place - f.least) 0) (leaves.1 whole) ∙ get_or-drop f.least line (place - f.least) 0 ∙ ap (λ n. get_or line n 0) behind ∙ at in
-    others rest there next)
+next_refuses language t ts width line h others r =
+    counted_behind width line (reads language t r line).0 (reads language t r line).1 (all_of (each_reads language (listed ts))) (h r) others
 
 nothing_behind : (x : Answer) (n : ℕ) → result_ok (then_counted x n (all_of [])).0 ≡ None → result_ok x ≡ None
 unfolding all_of

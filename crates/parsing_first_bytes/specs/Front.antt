@@ -1,5 +1,5 @@
 -- What the texts of an item begin with.
-use Rattle.std.specs.Prelude.{◌≡◌, ◌<◌, ◌==◌, ◌&&◌, ◌||◌, ℕ, Bool, true, List, drop, get_or, nat_lt, IfOk, IfSome, if◌then◌else◌}
+use Rattle.std.specs.Prelude.{◌≡◌, ◌<◌, ◌==◌, ◌&&◌, ◌||◌, ℕ, Bool, true, false, List, drop, get_or, nat_lt, IfOk, IfSome, if◌then◌else◌}
 use Rattle.std.specs.Char.{is_ascii_digit, to_ascii_lowercase}
 use Rattle.std.specs.List.{list_any}
 use Rattle.description_items.specs.declared.component.Component.{Component}
@@ -38,6 +38,10 @@ ReadsFront front reading = (line : List ℕ) → IfOk (reading line) (λ x. Leav
 -- all that a component reads begins so, in version 3 and in the languages before it
 abbrev pub ComponentBegins : Front → Component → Type 0
 ComponentBegins front c = ReadsFront front (reads_component c) × ReadsFront front (reads_component_v3 c)
+
+-- of a line that begins with no sign so many bytes are read
+abbrev pub HasWidthUnsigned : {A : Type 0} → ℕ → Reading A → Type 0
+HasWidthUnsigned width reading = (line : List ℕ) → is_sign (get_or line 0 0) ≡ false → IfOk (reading line) (λ x. x.1 ≡ drop width line)
 
 -- all that is read begins so, whatever the record
 abbrev pub Begins : Front → Meaning → Type 0

@@ -1,5 +1,9 @@
 //! What the texts of each component begin with.
-ghost use Rattle.parsing_first_bytes.specs.Front.{ComponentBegins};
+ghost use Rattle.std.specs.Prelude.{◌≡◌, ℕ, Bool, List, false, drop, get_or, IfSome};
+ghost use Rattle.parsing_combinator.specs.Numbers.{year};
+ghost use Rattle.parsing_combinator.specs.Shape.{is_sign, taken};
+ghost use Rattle.parsing_components.specs.Component.{reads_component, reads_component_v3};
+ghost use Rattle.parsing_first_bytes.specs.Front.{ComponentBegins, HasWidthUnsigned};
 
 use crate::front::Front;
 use description_items::Component;
@@ -82,5 +86,32 @@ fn front_of_timestamp(component: &Component) -> Front<'static>
         Component::UnixTimestampMicrosecond(_) => Front::of_signed(Padding::Zero, 1),
         Component::UnixTimestampNanosecond(_) => Front::of_signed(Padding::Zero, 1),
         _ => Front::unknown(),
+    }
+}
+
+// How many bytes a year has that is padded so and begins with no sign, where that is one number for all.
+fn year_width(padding: Padding) -> Option<usize>
+    ensures { IfSome result (λ width. (mandatory extended : Bool) (line : List ℕ)
+        → is_sign (get_or line 0 0) ≡ false
+        → IfSome (taken (year padding mandatory extended) line) (λ x. x.1 ≡ drop width line)) }
+{
+    match padding {
+        Padding::Zero => Some(4),
+        Padding::Space => Some(4),
+        Padding::None => None,
+    }
+}
+
+/// How many bytes a component reads where it begins with no sign, if it is a year and that is one number for all.
+pub(crate) fn unsigned_width(component: &Component) -> Option<usize>
+    ensures { IfSome result (λ width. HasWidthUnsigned width (reads_component component.now)
+        × HasWidthUnsigned width (reads_component_v3 component.now)) }
+{
+    match component {
+        Component::CalendarYearFullExtendedRange(m) => year_width(m.padding),
+        Component::CalendarYearFullStandardRange(m) => year_width(m.padding),
+        Component::IsoYearFullExtendedRange(m) => year_width(m.padding),
+        Component::IsoYearFullStandardRange(m) => year_width(m.padding),
+        _ => None,
     }
 }

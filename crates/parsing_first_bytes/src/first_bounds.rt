@@ -5,9 +5,9 @@ ghost use Rattle.description_tree.specs.Description.{v3_tree};
 ghost use Rattle.parsing_components.specs.Component.{reads_component, reads_component_v3};
 ghost use Rattle.parsing_record.specs.Meaning.{Meaning};
 ghost use Rattle.parsing_record.specs.Reads.{reading, reading_of_all};
-ghost use Rattle.parsing_first_bytes.specs.FirstBounds.{AreBoundsOf, IsOutside, ReadsNoneWhole};
+ghost use Rattle.parsing_first_bytes.specs.FirstBounds.{AreBoundsOf, IsOutside, IsUnsigned, ReadsNoneWhole};
 
-use crate::items::{range_at, width_of};
+use crate::items::{range_at, sign_place, width_of};
 use description_items::BorrowedFormatItem;
 use description_tree::FormatDescriptionV3;
 use parsing_record::{Node, NodeStep};
@@ -19,11 +19,15 @@ const PLACES: usize = 16;
 
 /// The lowest and the highest byte that can stand at each of the first sixteen places of a line, and how many bytes are
 /// read where that is one number.
+///
+/// Behind a year both are known of lines in which it has no sign.
 #[derive(Clone, Copy)]
 pub struct FirstBounds {
     low: [u8; PLACES],
     high: [u8; PLACES],
     width: Option<usize>,
+    // Where a year stands that may have a sign.
+    sign: Option<usize>,
 }
 
 impl FirstBounds {
@@ -51,26 +55,42 @@ impl FirstBounds {
     {
         let mut low = [0; PLACES];
         let mut high = [255; PLACES];
+        let sign = sign_place(items);
         for place in 0..PLACES {
-            let (lowest, highest) = range_at(items, place);
+            let (lowest, highest) = range_at(items, sign, place);
             low[place] = lowest;
             high[place] = highest;
         }
         FirstBounds {
             low,
             high,
-            width: width_of(items),
+            width: width_of(items, sign),
+            sign,
         }
     }
 
-    // Whether the byte at a place of a line can't stand there; behind the line stands NUL.
+    // Whether no sign stands where a year may have one; behind the line stands NUL.
+    #[inline(always)]
+    fn is_unsigned(&self, line: &[u8]) -> bool
+        ensures { result ≡ true → IsUnsigned self.now.sign line.now }
+    {
+        match self.sign {
+            Some(place) => {
+                let byte = line.get(place).copied().unwrap_or(0);
+                byte != b'+' && byte != b'-'
+            }
+            None => true,
+        }
+    }
+
+    // Whether the byte at a place of a line can't stand there, and the bounds hold for the line; behind the line stands NUL.
     #[inline(always)]
     fn is_outside(&self, line: &[u8], place: usize) -> bool
         requires { place < PLACES }
         ensures { result ≡ true → IsOutside self.now line.now }
     {
         let byte = line.get(place).copied().unwrap_or(0);
-        byte < self.low[place] || byte > self.high[place]
+        (byte < self.low[place] || byte > self.high[place]) && self.is_unsigned(line)
     }
 
     // The same of one of the first places of a line that may have fewer.
@@ -111,7 +131,7 @@ impl FirstBounds {
             → ReadsNoneWhole m line.now }
     {
         if let Some(width) = self.width {
-            if line.len() > width {
+            if line.len() > width && self.is_unsigned(line) {
                 return true;
             }
         }

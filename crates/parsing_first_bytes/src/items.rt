@@ -1,12 +1,14 @@
 //! The bytes that can stand at a place of a line, by the items that read it one after the other.
-ghost use Rattle.std.specs.Prelude.{◌≡◌, ◌<◌, ℕ, false, true, get_or, map, IfSome};
+ghost use Rattle.std.specs.Prelude.{◌≡◌, ◌<◌, ℕ, List, false, true, Some, drop, get_or, map, IfOk, IfSome};
 ghost use Rattle.description_items.specs.Tree.{listed};
+ghost use Rattle.parsing_combinator.specs.Shape.{is_sign};
 ghost use Rattle.parsing_record.specs.Reads.{reading, reading_of_all};
+ghost use Rattle.parsing_record.specs.Record.{Record};
 ghost use Rattle.parsing_first_bytes.specs.FirstBytes.{IsRefusedAt};
-ghost use Rattle.parsing_first_bytes.specs.FirstBounds.{HasWidth};
+ghost use Rattle.parsing_first_bytes.specs.FirstBounds.{HasWidth, IsRefusedUnsigned};
 ghost use Rattle.parsing_first_bytes.specs.Front.{Begins, stands};
 
-use crate::components::front_of_component;
+use crate::components::{front_of_component, unsigned_width};
 use crate::front::Front;
 use parsing_record::{Node, NodeStep};
 
@@ -21,22 +23,63 @@ fn front_of<N: Node>(node: &N) -> Front<'_>
     }
 }
 
-// What the item begins with in which a place of the line lies, and the place in it, where all items before it have a fixed
-// width: `None` says nothing.
-fn front_at<N: Node>(items: &[N], place: usize) -> Option<(Front<'_>, usize)>
-    ensures { IfSome result (λ at. (byte : ℕ) → stands at.0.bytes at.1 byte ≡ false
-        → IsRefusedAt (reading_of_all N.language (listed (map N.tree items.now))) place byte) }
+// How many bytes a node reads, where that is one number for all lines, or for all that begin with no sign.
+fn width_of_node<N: Node>(node: &N, is_unsigned: bool) -> Option<usize>
+    ensures { IfSome result (λ width. (line : List ℕ)
+        → (is_unsigned ≡ true → is_sign (get_or line 0 0) ≡ false) → (r : Record)
+        → IfOk (reading N.language (N.tree node.now) r line) (λ x. x.1 ≡ drop width line)) }
 {
-    let mut place = place;
+    let front = front_of(node);
+    if front.is_whole {
+        return Some(front.least);
+    }
+    match node.step() {
+        NodeStep::Component(component) if is_unsigned => unsigned_width(&component),
+        _ => None,
+    }
+}
+
+// Whether a year that may have a sign stands at a place.
+fn begins_at(sign: Option<usize>, place: usize) -> bool
+    ensures { result ≡ true → sign ≡ Some place }
+{
+    match sign {
+        Some(at) => at == place,
+        None => false,
+    }
+}
+
+/// The place of the first year that may have a sign, where all items before it have a fixed width.
+pub(crate) fn sign_place<N: Node>(items: &[N]) -> Option<usize> {
+    let mut place = 0usize;
+    for item in items {
+        match width_of_node(item, false) {
+            Some(width) => place = place.checked_add(width)?,
+            None => return Some(place),
+        }
+    }
+    None
+}
+
+// What the item begins with in which a place of the line lies, and the place in it, where all items before it have a fixed
+// width, a year without its sign: `None` says nothing.
+fn front_at<N: Node>(items: &[N], sign: Option<usize>, place: usize) -> Option<(Front<'_>, usize)>
+    ensures { IfSome result (λ at. (byte : ℕ) → stands at.0.bytes at.1 byte ≡ false
+        → IsRefusedUnsigned (reading_of_all N.language (listed (map N.tree items.now)))
+        sign place byte) }
+{
+    let mut start = 0;
     for item in items {
         let front = front_of(item);
-        if place < front.least {
-            return Some((front, place));
+        let left = place - start;
+        if left < front.least {
+            return Some((front, left));
         }
-        if !front.is_whole {
+        let width = width_of_node(item, begins_at(sign, start))?;
+        if width > left {
             return None;
         }
-        place -= front.least;
+        start += width;
     }
     None
 }
@@ -46,36 +89,38 @@ pub(crate) fn bytes_at<N: Node>(items: &[N], place: usize) -> [bool; 256]
     ensures { (byte : ℕ) → get_or result byte true ≡ false
         → IsRefusedAt (reading_of_all N.language (listed (map N.tree items.now))) place byte }
 {
-    match front_at(items, place) {
+    match front_at(items, None, place) {
         Some((front, place)) => front.bytes_at(place),
         None => [true; 256],
     }
 }
 
-/// The lowest and the highest byte that can stand at a place of a line that all of the items read, one after the other.
-pub(crate) fn range_at<N: Node>(items: &[N], place: usize) -> (u8, u8)
+/// The lowest and the highest byte that can stand at a place of a line that all of the items read, one after the other, where
+/// a year at that other place has no sign.
+pub(crate) fn range_at<N: Node>(items: &[N], sign: Option<usize>, place: usize) -> (u8, u8)
     ensures low { (byte : ℕ) → byte < result.0
-        → IsRefusedAt (reading_of_all N.language (listed (map N.tree items.now))) place byte }
+        → IsRefusedUnsigned (reading_of_all N.language (listed (map N.tree items.now)))
+        sign place byte }
     ensures high { (byte : ℕ) → result.1 < byte → byte < 256
-        → IsRefusedAt (reading_of_all N.language (listed (map N.tree items.now))) place byte }
+        → IsRefusedUnsigned (reading_of_all N.language (listed (map N.tree items.now)))
+        sign place byte }
 {
-    match front_at(items, place) {
+    match front_at(items, sign, place) {
         Some((front, place)) => front.range_at(place),
         None => (0, 255),
     }
 }
 
-/// How many bytes all of the items read, one after the other, where that is one number for all lines.
-pub(crate) fn width_of<N: Node>(items: &[N]) -> Option<usize>
-    ensures { IfSome result (HasWidth (reading_of_all N.language (listed (map N.tree items.now)))) }
+/// How many bytes all of the items read, one after the other, where that is one number for all lines, or for all without a
+/// sign at that place.
+pub(crate) fn width_of<N: Node>(items: &[N], sign: Option<usize>) -> Option<usize>
+    ensures { IfSome result
+        (HasWidth (reading_of_all N.language (listed (map N.tree items.now))) sign) }
 {
     let mut width = 0usize;
     for item in items {
-        let front = front_of(item);
-        if !front.is_whole {
-            return None;
-        }
-        width = width.checked_add(front.least)?;
+        let more = width_of_node(item, begins_at(sign, width))?;
+        width = width.checked_add(more)?;
     }
     Some(width)
 }

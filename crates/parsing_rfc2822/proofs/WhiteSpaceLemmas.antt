@@ -139,15 +139,25 @@ white_step bytes rest e = many_step white_or_comment bytes rest white_or_comment
 pub white_end : (bytes : List ℕ) → white_or_comment bytes ≡ None → many white_or_comment bytes ≡ bytes
 white_end bytes e = many_end white_or_comment bytes e
 
--- a byte that neither is white space nor opens a comment
-pub white_none : (c : ℕ) (rest : List ℕ) → 41 ≤ c → white_or_comment (c ∷ rest) ≡ None
-unfolding white_or_comment folding_white_space lone_white folded_line line_end folded_blanks past_some byte_where comment
-white_none c rest h =
+-- a byte that is no white space
+folding_none : (c : ℕ) (rest : List ℕ) → 41 ≤ c → folding_white_space (c ∷ rest) ≡ None
+unfolding folding_white_space lone_white folded_line line_end folded_blanks past_some byte_where
+folding_none c rest h =
     let a : eqb c 13 ≡ false = grind (arith, nat_tests) in
     let b : eqb c 32 ≡ false = grind (arith, nat_tests) in
     let d : eqb c 9 ≡ false = grind (arith, nat_tests) in
+    rw (a, b, d) refl
+
+pub folding_none_there : (bytes : List ℕ) → 1 ≤ length bytes → 41 < get_or bytes 0 0 → folding_white_space bytes ≡ None
+folding_none_there [] le h = absurd (omega arith)
+folding_none_there (c ∷ rest) le h = folding_none c rest (omega arith)
+
+-- .. and opens no comment
+pub white_none : (c : ℕ) (rest : List ℕ) → 41 ≤ c → white_or_comment (c ∷ rest) ≡ None
+unfolding white_or_comment comment byte_where
+white_none c rest h =
     let e : eqb c 40 ≡ false = grind (arith, nat_tests) in
-    rw (a, b, d, e) refl
+    rw (folding_none c rest h, e) refl
 
 pub none_at : (c : ℕ) (rest : List ℕ) → 41 ≤ c → comments_and_white_space (c ∷ rest) ≡ None
 unfolding comments_and_white_space

@@ -8,6 +8,7 @@ use crate::bytes::{byte, past_all};
 use crate::folding::folding_white_space;
 
 #[tactic(auto, unfolding(crate::specs::WhiteSpace::is_comment_text))]
+#[inline(always)]
 fn is_comment_text(byte: u8) -> bool
     ensures { result ≡ White.is_comment_text byte }
 {
@@ -29,6 +30,7 @@ fn is_obsolete_text(byte: u8) -> bool
 }
 
 #[tactic(auto, unfolding(crate::specs::Skips::byte_where))]
+#[inline(always)]
 fn text(bytes: &[u8]) -> Option<&[u8]>
     ensures skips { option_map (λ r. r.now) result
         ≡ Skips.byte_where White.is_comment_text bytes.now }
@@ -121,13 +123,26 @@ fn comment(levels: u8, bytes: &[u8]) -> Option<&[u8]>
     byte(b')', contents(levels - 1, rest))
 }
 
+// Folding white space, which no byte above the parentheses begins.
+#[tactic(auto, using(crate::proofs::WhiteSpaceLemmas::folding_none_there))]
+#[inline(always)]
+fn leading_white_space(bytes: &[u8]) -> Option<&[u8]>
+    ensures skips { option_map (λ r. r.now) result ≡ White.folding_white_space bytes.now }
+    ensures shorter { IfSome result (λ r. length r.now < length bytes.now) }
+{
+    match bytes {
+        [first, ..] if *first > b')' => None,
+        _ => folding_white_space(bytes),
+    }
+}
+
 #[cycle(comments)]
 #[tactic(auto, unfolding(crate::specs::WhiteSpace::content))]
 fn content(levels: u8, bytes: &[u8]) -> Option<&[u8]>
     ensures skips { option_map (λ r. r.now) result ≡ White.content levels bytes.now }
     ensures shorter { IfSome result (λ r. length r.now < length bytes.now) }
 {
-    if let Some(rest) = folding_white_space(bytes) {
+    if let Some(rest) = leading_white_space(bytes) {
         return Some(rest);
     }
     if let Some(rest) = text(bytes) {

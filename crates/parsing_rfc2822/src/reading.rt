@@ -77,6 +77,7 @@ fn full_year(year: u16, bytes: &[u8]) -> Result<(u16, &[u8]), ParseFromDescripti
 }
 
 #[tactic(auto, unfolding(crate::specs::Reading::short_year))]
+#[inline(always)]
 fn short_year(bytes: &[u8]) -> Result<(u16, &[u8]), ParseFromDescription>
     ensures { Gives (λ x. (x.0, x.1.now)) reading_fault result (Reading.short_year bytes.now) }
 {
@@ -110,6 +111,7 @@ fn month_and_year(bytes: &[u8]) -> Result<((Month, u16), &[u8]), ParseFromDescri
 }
 
 #[tactic(auto, unfolding(crate::specs::Reading::hour_and_minute))]
+#[inline(always)]
 fn hour_and_minute(is_strict: bool, bytes: &[u8]) -> Result<((u8, u8), &[u8]), ParseFromDescription>
     ensures { Gives (λ x. (x.0, x.1.now)) reading_fault result
         (Reading.hour_and_minute is_strict bytes.now) }
@@ -127,6 +129,7 @@ fn hour_and_minute(is_strict: bool, bytes: &[u8]) -> Result<((u8, u8), &[u8]), P
 }
 
 #[tactic(auto, unfolding(crate::specs::Reading::due_second))]
+#[inline(always)]
 fn due_second(is_strict: bool, bytes: &[u8]) -> Result<(Option<u8>, &[u8]), ParseFromDescription>
     ensures { Gives (λ x. (x.0, x.1.now)) reading_fault result
         (Reading.due_second is_strict bytes.now) }
@@ -139,6 +142,7 @@ fn due_second(is_strict: bool, bytes: &[u8]) -> Result<(Option<u8>, &[u8]), Pars
 }
 
 #[tactic(auto, unfolding(crate::specs::Reading::second))]
+#[inline(always)]
 fn second(is_strict: bool, bytes: &[u8]) -> Result<(Option<u8>, &[u8]), ParseFromDescription>
     ensures { Gives (λ x. (x.0, x.1.now)) reading_fault result
         (Reading.second is_strict bytes.now) }
@@ -150,6 +154,7 @@ fn second(is_strict: bool, bytes: &[u8]) -> Result<(Option<u8>, &[u8]), ParseFro
 }
 
 #[tactic(auto, unfolding(crate::specs::Reading::clock))]
+#[inline(always)]
 fn clock(
     is_strict: bool,
     bytes: &[u8],
@@ -163,6 +168,7 @@ fn clock(
 
 // Hours and minutes behind a sign, both under it.
 #[tactic(auto, unfolding(crate::specs::Reading::signed_zone))]
+#[inline(always)]
 fn signed_zone(
     is_strict: bool,
     mark: u8,
@@ -191,6 +197,7 @@ fn signed_zone(
 }
 
 #[tactic(auto, unfolding(crate::specs::Reading::named_zone))]
+#[inline(always)]
 fn named_zone(bytes: &[u8]) -> Result<(Zone, &[u8]), ParseFromDescription>
     ensures gives { Gives (λ x. (x.0, x.1.now)) reading_fault result
         (Reading.named_zone bytes.now) }
@@ -208,6 +215,7 @@ fn named_zone(bytes: &[u8]) -> Result<(Zone, &[u8]), ParseFromDescription>
 }
 
 #[tactic(auto, unfolding(crate::specs::Reading::zone))]
+#[inline(always)]
 fn zone(is_strict: bool, bytes: &[u8]) -> Result<(Zone, &[u8]), ParseFromDescription>
     ensures gives { Gives (λ x. (x.0, x.1.now)) reading_fault result
         (Reading.zone is_strict bytes.now) }
@@ -221,6 +229,7 @@ fn zone(is_strict: bool, bytes: &[u8]) -> Result<(Zone, &[u8]), ParseFromDescrip
 }
 
 #[tactic(auto, unfolding(crate::specs::Reading::spaced_zone))]
+#[inline(always)]
 fn spaced_zone(is_strict: bool, bytes: &[u8]) -> Result<(Zone, &[u8]), ParseFromDescription>
     ensures gives { Gives (λ x. (x.0, x.1.now)) reading_fault result
         (Reading.spaced_zone is_strict bytes.now) }

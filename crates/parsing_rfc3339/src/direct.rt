@@ -39,6 +39,22 @@ fn resolved(parts: Rfc3339Parts, rest: &[u8]) -> Result<OffsetDateTime, Parse>
 // The bytes of a text without a fraction, in UTC: no text has fewer.
 const SHORTEST: usize = 20;
 
+// The bytes of a text with nine digits of a fraction, in UTC.
+const LONGEST_IN_UTC: usize = 30;
+
+// The same with an offset in digits.
+const LONGEST: usize = 35;
+
+// Whether a text can be right that has not the shape: it is longer than those that have, or ends in a small `z`.
+#[inline(always)]
+fn is_rare(input: &[u8]) -> bool {
+    match input {
+        [.., b'Z'] => input.len() > LONGEST_IN_UTC,
+        [.., b'z'] => true,
+        _ => input.len() > LONGEST,
+    }
+}
+
 /// The fields of a text, where the fast way finds them: `None` says nothing of the text.
 ///
 /// It finds those of all texts whose numbers are in range and whose second is no leap second. The soonest read are those with at
@@ -53,7 +69,8 @@ pub fn read_fields(input: &[u8]) -> Option<Fields>
     }
     match read(&shape(), input) {
         Some(fields) => Some(fields),
-        None => read_by_pieces(input),
+        None if is_rare(input) => read_by_pieces(input),
+        None => None,
     }
 }
 

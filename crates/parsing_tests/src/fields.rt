@@ -3,7 +3,7 @@
 use calendar::UtcOffset;
 use description::{Description, DescriptionVersion, parse_borrowed, parse_strftime_borrowed};
 use parsing_combinator::digit_chunk;
-use parsing_fields::{Fields, Fraction, Year, minute_of_day, signed_minutes};
+use parsing_fields::{Fields, Fraction, Year, digit_pair, minute_of_day, signed_minutes};
 use parsing_places::{
     Moves, NamedShape, Number, Numbers, Shape, Window, Windows, read, read_numbers, read_stamp,
 };
@@ -34,18 +34,19 @@ fn moments() -> [Option<(i64, u32)>; 6] {
     ]
 }
 
-fn minutes() -> [bool; 2] {
+fn minutes() -> [bool; 3] {
     let minutes = [signed_minutes(true, 5, 30), signed_minutes(false, 26, 0)];
     [
         [minute_of_day(23, 59), minute_of_day(24, 0)] == [Some(1439), None],
         minutes == [Some(-330), None],
+        [digit_pair(7), digit_pair(42)] == [(b'0', b'7'), (b'4', b'2')],
     ]
 }
 
 #[test]
 fn moments_and_minutes(rt: HostRuntime) {
     let wanted = [HALF, Some((951_782_400, 0)), None, None, HALF, None];
-    assert!(rt; moments() == wanted && minutes() == [true; 2]);
+    assert!(rt; moments() == wanted && minutes() == [true; 3]);
 }
 
 // The nine digits, the nanosecond, and how many bytes are left.

@@ -1,5 +1,5 @@
 use Rattle.std.proofs.Common.{List, ℕ, ◌++◌, ap, ◌∙◌}
-use Rattle.instants_answers.proofs.PairLemmas.{month_at}
+use Rattle.instants_answers.proofs.MonthLemmas.{month_at}
 use Rattle.instants_answers.proofs.digits.push_month.Goals as goal
 
 pub returns-clause-text : goal.returns-clause-text

@@ -19,7 +19,7 @@ signs c =
 pub returns-clause-text : goal.returns-clause-text
 returns-clause-text c =
     let whole : c.unsigned_abs-minutes.result ≡ unsigned_abs c.args.seconds = search rules in
-    signed_text c.args.seconds c.sign.result _ _ _ _ (signs c) (rw (← whole) c.pair-hours.ensures.tens) (rw (← whole) c.pair-hours.ensures.ones) (rw (← whole) c.pair-minutes.ensures.tens) (rw (← whole) c.pair-minutes.ensures.ones)
+    signed_text c.args.seconds c.sign.result _ _ _ _ (signs c) (rw (← whole) c.digit_pair-hours.ensures.tens) (rw (← whole) c.digit_pair-hours.ensures.ones) (rw (← whole) c.digit_pair-minutes.ensures.tens) (rw (← whole) c.digit_pair-minutes.ensures.ones)
 
 pub returns-clause-len : goal.returns-clause-len
 returns-clause-len c = signed_len c.args.seconds c.sign.result (signs c)

@@ -1,4 +1,4 @@
-use Rattle.std.proofs.Common.{◌≡◌, take, ◌∙◌, arith, w64}
+use Rattle.std.proofs.Common.{◌≡◌, take, arith, w64}
 use Rattle.std.specs.Int.{from_le_bytes}
 use Rattle.parsing_fields.specs.Decimal.{decimal}
 use Rattle.parsing_fields.proofs.DigitLemmas.{of_number}
@@ -6,10 +6,10 @@ use Rattle.parsing_fields.proofs.fraction.Fraction.new.Goals as goal
 
 is : (c : goal.After-from) → c.from_le_bytes.result ≡ from_le_bytes w64 (take 8 (decimal 9 c.args.nanosecond))
 unfolding decimal
-is c = omega (arith, c.from_le_bytes.ensures, c.last_digit.ensures, c.last_digit-2.ensures, c.last_digit-3.ensures, c.last_digit-4.ensures, c.last_digit-5.ensures, c.last_digit-6.ensures, c.last_digit-7.ensures, c.last_digit-8.ensures)
+is c = omega (arith, c.from_le_bytes.ensures, c.digit_pair-first.ensures.tens, c.digit_pair-first.ensures.ones, c.digit_pair-third.ensures.tens, c.digit_pair-third.ensures.ones, c.digit_pair-fifth.ensures.tens, c.digit_pair-fifth.ensures.ones, c.digit_pair-seventh.ensures.tens, c.digit_pair-seventh.ensures.ones)
 
 pub invariant_of-result : goal.invariant_of-result
-invariant_of-result c = (of_number c.args.nanosecond c.from_le_bytes.result c.from.result c.requires (omega arith) (is c) (c.from.ensures ∙ c.last_digit-9.ensures)).0
+invariant_of-result c = (of_number c.args.nanosecond c.from_le_bytes.result c.from.result c.requires (omega arith) (is c) (omega (arith, c.from.ensures))).0
 
 pub returns : goal.returns
-returns c = (of_number c.args.nanosecond c.from_le_bytes.result c.from.result c.requires (omega arith) (is c) (c.from.ensures ∙ c.last_digit-9.ensures)).1
+returns c = (of_number c.args.nanosecond c.from_le_bytes.result c.from.result c.requires (omega arith) (is c) (omega (arith, c.from.ensures))).1

@@ -6,7 +6,7 @@ use Rattle.parsing_fields.proofs.year.Year.new.Goals as goal
 
 is : (c : goal.After-from_le_bytes) → c.from_le_bytes.result ≡ from_le_bytes w32 (decimal 4 c.args.number)
 unfolding decimal
-is c = omega (arith, c.from-number.ensures, c.from_le_bytes.ensures, c.last_digit.ensures, c.last_digit-2.ensures, c.last_digit-3.ensures, c.last_digit-4.ensures)
+is c = omega (arith, c.from-number.ensures, c.from_le_bytes.ensures, c.digit_pair-thousands.ensures.tens, c.digit_pair-thousands.ensures.ones, c.digit_pair-tens.ensures.tens, c.digit_pair-tens.ensures.ones)
 
 pub invariant_of-result : goal.invariant_of-result
 invariant_of-result c = (of_number c.args.number c.from_le_bytes.result c.requires (omega arith) (is c)).0

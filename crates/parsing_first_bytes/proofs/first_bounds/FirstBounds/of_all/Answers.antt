@@ -10,7 +10,7 @@ loop-place-preserved g c =
     let m = reading_of_all g.N.Node.language (listed (map g.N.Node.tree c.args.items.now)) in
     let l = c.loop-place in
     let r = c.range_at-lowest in
-    (length-set l.low l.place r.result.0 ∙ l.invariant.0, length-set l.high l.place r.result.1 ∙ l.invariant.1, set_lowest m l.low l.place r.result.0 (omega (arith, l.invariant.0)) l.invariant.2 r.ensures.low, set_highest m l.high l.place r.result.1 (omega (arith, l.invariant.1)) l.invariant.3 r.ensures.high)
+    (length-set l.low l.place r.result.0 ∙ l.invariant.0, length-set l.high l.place r.result.1 ∙ l.invariant.1, set_lowest m c.sign_place-sign.result l.low l.place r.result.0 (omega (arith, l.invariant.0)) l.invariant.2 r.ensures.low, set_highest m c.sign_place-sign.result l.high l.place r.result.1 (omega (arith, l.invariant.1)) l.invariant.3 r.ensures.high)
 
 pub returns : goal.returns
 returns g c =

@@ -1,5 +1,5 @@
-use Rattle.instants_answers.proofs.PairLemmas.{tens_at, ones_at}
-use Rattle.instants_answers.proofs.digits.pair.Goals as goal
+use Rattle.parsing_fields.proofs.DigitPairs.{tens_at, ones_at}
+use Rattle.parsing_fields.proofs.digits.digit_pair.Goals as goal
 
 pub returns : goal.returns
 returns c = record {
