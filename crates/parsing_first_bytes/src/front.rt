@@ -1,5 +1,5 @@
 //! What each text that an item reads begins with.
-ghost use Rattle.std.specs.Prelude.{◌≡◌, ◌≤◌, ◌<◌, ℕ, true, false, Bool, List, get_or};
+ghost use Rattle.std.specs.Prelude.{◌≡◌, ◌≤◌, ◌<◌, ◌⊎◌, ℕ, true, false, Bool, List, get_or};
 ghost use Rattle.parsing_combinator.specs.Shape.{digits_as, taken};
 ghost use Rattle.parsing_combinator.specs.Numbers.{padded, signed_if};
 ghost use Rattle.parsing_record.specs.Meaning.{literally, unchanged};
@@ -27,6 +27,25 @@ pub(crate) struct Front<'a> {
     pub(crate) least: usize,
     /// It has no more.
     pub(crate) is_whole: bool,
+}
+
+// Whether a byte is neither below the lowest nor above the highest.
+fn is_between(low: u8, high: u8, byte: u8) -> bool
+    ensures { result ≡ false → (byte < low) ⊎ (high < byte) }
+{
+    low <= byte && byte <= high
+}
+
+// The bytes from one to another.
+fn bytes_between(low: u8, high: u8) -> [bool; 256]
+    ensures { (byte : ℕ) → get_or result byte true ≡ false
+        → (byte < low) ⊎ ((high < byte) × (byte < 256)) }
+{
+    let mut bytes = [true; 256];
+    for byte in 0..=255u8 {
+        bytes[usize::from(byte)] = is_between(low, high, byte);
+    }
+    bytes
 }
 
 impl<'a> Front<'a> {
@@ -168,8 +187,9 @@ impl<'a> Front<'a> {
         ensures { (byte : ℕ) → get_or result byte true ≡ false
             → stands self.now.bytes place byte ≡ false }
     {
-        let mut bytes = [true; 256];
-        for byte in 0..=255u8 {
+        let (low, high) = self.range_at(place);
+        let mut bytes = bytes_between(low, high);
+        for byte in low..=high {
             bytes[usize::from(byte)] = self.has(place, byte);
         }
         bytes

@@ -1,11 +1,13 @@
-use Rattle.std.proofs.Common.{◌≡◌, ◌∙◌, false, sym}
-use Rattle.std.proofs.lemmas.Bool.{true≢false}
+use Rattle.std.proofs.Common.{◌≡◌, ◌∙◌, false, inl, inr, sym}
 use Rattle.parsing_first_bytes.specs.Front.{stands}
-use Rattle.parsing_first_bytes.proofs.Walk.{all_true, set_one}
+use Rattle.parsing_first_bytes.proofs.Walk.{set_one}
 use Rattle.parsing_first_bytes.proofs.front.Front.bytes_at.Goals as goal
 
 pub loop-byte-init : goal.loop-byte-init
-loop-byte-init c = λ byte e. absurd (true≢false (sym (all_true 256 byte) ∙ e))
+loop-byte-init c = λ byte e. elim (c.bytes_between-bytes.ensures byte e) [
+  | inl below ↦ c.range_at-low.ensures.low byte below
+  | inr above ↦ c.range_at-low.ensures.high byte above.0 above.1
+]
 
 pub loop-byte-preserved : goal.loop-byte-preserved
 loop-byte-preserved c =
