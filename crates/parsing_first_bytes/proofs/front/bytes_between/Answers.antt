@@ -1,4 +1,4 @@
-use Rattle.std.proofs.Common.{◌≡◌, ◌<◌, ◌⊎◌, ◌∙◌, ℕ, false, inl, inr, sym, arith}
+use Rattle.std.proofs.Common.{◌≡◌, ◌<◌, ◌⊎◌, ◌∙◌, ℕ, inl, inr, sym, arith}
 use Rattle.std.proofs.lemmas.Bool.{true≢false}
 use Rattle.parsing_first_bytes.proofs.Walk.{all_true, set_one}
 use Rattle.parsing_first_bytes.proofs.front.bytes_between.Goals as goal

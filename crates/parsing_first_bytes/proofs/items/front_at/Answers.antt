@@ -20,14 +20,17 @@ returns-then-left-front g c = λ byte none line unsigned at.
     c.loop-item.invariant.1 line unsigned (rw cut (here_refused g.N.Node.language (g.N.Node.tree item) (map g.N.Node.tree (drop (i + 1) items)) c.front_of-front.result left byte c.front_of-front.ensures c.if-left-front.true none (drop start line) stands_there))
 
 pub loop-item-preserved : goal.loop-item-preserved
-loop-item-preserved g c = (omega (arith, c.loop-item.invariant.0, c.if-width-left.false), λ line unsigned h.
-    let items = c.args.items.now in
-    let i = c.loop-item.item-index in
-    let item = c.item-item.result in
-    let start = c.loop-item.start in
-    let width = c.in_ok-width.width in
-    let there : drop i items ≡ get_or items i item ∷ drop (i + 1) items = drop_more items i item c.loop-item-test.true in
-    let cut : drop i items ≡ item ∷ drop (i + 1) items = rw (← c.item-item.is) at there in
-    let again : drop width (drop start line) ≡ drop (start + width) line = drop-drop width start line in
-    let read = c.in_ok-width.ensures (drop start line) (λ asked. unsigned_there c.args.sign start line unsigned (c.begins_at.ensures asked)) in
-    c.loop-item.invariant.1 line unsigned (rw cut (next_refuses g.N.Node.language (g.N.Node.tree item) (map g.N.Node.tree (drop (i + 1) items)) width (drop start line) read (rw again h))))
+loop-item-preserved g c = (
+  omega (arith, c.loop-item.invariant.0, c.if-width-left.false),
+  λ line unsigned h.
+      let items = c.args.items.now in
+      let i = c.loop-item.item-index in
+      let item = c.item-item.result in
+      let start = c.loop-item.start in
+      let width = c.in_ok-width.width in
+      let there : drop i items ≡ get_or items i item ∷ drop (i + 1) items = drop_more items i item c.loop-item-test.true in
+      let cut : drop i items ≡ item ∷ drop (i + 1) items = rw (← c.item-item.is) at there in
+      let again : drop width (drop start line) ≡ drop (start + width) line = drop-drop width start line in
+      let read = c.in_ok-width.ensures (drop start line) (λ asked. unsigned_there c.args.sign start line unsigned (c.begins_at.ensures asked)) in
+      c.loop-item.invariant.1 line unsigned (rw cut (next_refuses g.N.Node.language (g.N.Node.tree item) (map g.N.Node.tree (drop (i + 1) items)) width (drop start line) read (rw again h))),
+)
