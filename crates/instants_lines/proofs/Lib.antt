@@ -6,3 +6,4 @@ pub mod Keys
 pub mod Joined
 pub mod Explaining
 pub mod Keyed
+mod Saying

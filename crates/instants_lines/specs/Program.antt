@@ -5,7 +5,8 @@ use Rattle.instants_words.specs.declared.fault.WordsFault.TheVariants as words
 use Rattle.instants_words.specs.declared.words.Words.{Words}
 use Rattle.instants_timeline.specs.Place.{Setting}
 use Rattle.instants_timeline.specs.Program.{Asks}
-use Rattle.instants_timeline.specs.declared.new_fault.NewFault.TheVariants as new
+use Rattle.instants_timeline.specs.Program as instants
+use Rattle.instants_timeline.specs.declared.program_fault.ProgramFault.TheVariants as program
 use Rattle.instants_lines.specs.Going.{Going, beginning}
 use Rattle.instants_lines.specs.Words.{mode_words_said}
 use Rattle.instants_lines.specs.declared.mode.Mode.{Mode}
@@ -25,36 +26,22 @@ pub record AsksFor (words : List (List ℕ)) (going : Going) (limit : ℕ) : Typ
 -- how the run ended, where one was begun
 abbrev pub run_of : Result (Unit {0}) LinesFault → Option (Result (Unit {0}) RunFault)
 run_of (Ok done) = Some (Ok done)
-run_of (Err (lines.Run fault)) = Some (Err fault)
 run_of (Err lines.UnknownMode) = None
-run_of (Err (lines.Words fault)) = None
-run_of (Err (lines.New fault)) = None
-run_of (Err lines.Memory) = None
+run_of (Err (lines.Program fault)) = instants.run_of (Err fault)
 
 -- a fault that comes before anything is read or written
 abbrev pub IsBeforeRun : LinesFault → Type 0
-IsBeforeRun (lines.Run fault) = ⊥
-IsBeforeRun _ = ⊤
+IsBeforeRun lines.UnknownMode = ⊤
+IsBeforeRun (lines.Program fault) = instants.IsBeforeRun fault
 
 -- the words are wrong
 abbrev pub IsOfWords : LinesFault → Type 0
 IsOfWords lines.UnknownMode = ⊤
-IsOfWords (lines.Words words.Memory) = ⊥
-IsOfWords (lines.Words _) = ⊤
-IsOfWords _ = ⊥
-
--- a fault that reading words can have
-abbrev pub IsSaidOfWords : LinesFault → Type 0
-IsSaidOfWords lines.UnknownMode = ⊤
-IsSaidOfWords (lines.Words fault) = ⊤
-IsSaidOfWords _ = ⊥
+IsOfWords (lines.Program (program.Words words.Memory)) = ⊥
+IsOfWords (lines.Program (program.Words _)) = ⊤
+IsOfWords (lines.Program _) = ⊥
 
 -- memory ran out
 abbrev pub IsMemory : LinesFault → Type 0
 IsMemory lines.UnknownMode = ⊥
-IsMemory (lines.Words words.Memory) = ⊤
-IsMemory (lines.Words _) = ⊥
-IsMemory (lines.Run fault) = ⊥
-IsMemory (lines.New new.Memory) = ⊤
-IsMemory (lines.New (new.Source place fault)) = ⊥
-IsMemory lines.Memory = ⊤
+IsMemory (lines.Program fault) = instants.IsMemory fault

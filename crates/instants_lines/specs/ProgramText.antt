@@ -2,27 +2,15 @@
 use Rattle.std.specs.Prelude.{ℕ, List, ◌++◌, codes}
 use Rattle.instants_timeline.specs.ProgramText.{text_of}
 use Rattle.instants_timeline.specs.ProgramText as instants
-use Rattle.instants_timeline.specs.declared.program_fault.ProgramFault.{ProgramFault}
-use Rattle.instants_timeline.specs.declared.program_fault.ProgramFault.TheVariants as program
 use Rattle.instants_lines.specs.declared.lines_fault.LinesFault.{LinesFault}
 use Rattle.instants_lines.specs.declared.lines_fault.LinesFault.TheVariants as lines
-
--- behind this program's name, with its words
-abbrev named : ProgramFault → List ℕ
-named fault = codes "instants-lines" ++ text_of (codes "instants-lines MODE TARGET ASSUMED LIMIT SOURCE...") fault
 
 -- the sentence for a fault, without a line feed
 abbrev pub sentence : LinesFault → List ℕ
 sentence lines.UnknownMode = codes "instants-lines: the mode must be key, carry, replace or explain"
-sentence (lines.Words fault) = named (program.Words fault)
-sentence (lines.New fault) = named (program.New fault)
-sentence (lines.Run fault) = named (program.Run fault)
-sentence lines.Memory = named program.Memory
+sentence (lines.Program fault) = codes "instants-lines" ++ text_of (codes "instants-lines MODE TARGET ASSUMED LIMIT SOURCE...") fault
 
 -- 2 where the words or a description among them are wrong, 1 where memory, reading or writing failed
 abbrev pub status_of : LinesFault → ℕ
 status_of lines.UnknownMode = 2
-status_of (lines.Words fault) = instants.status_of (program.Words fault)
-status_of (lines.New fault) = instants.status_of (program.New fault)
-status_of (lines.Run fault) = 1
-status_of lines.Memory = 1
+status_of (lines.Program fault) = instants.status_of fault

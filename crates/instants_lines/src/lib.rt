@@ -20,10 +20,10 @@ mod lines_fault;
 mod mode;
 mod parts;
 mod program;
-mod words;
 
 pub use instants_timeline::{
-    BlockWriter, ByteReader, ByteWriter, NewFault, RunFault, StdReader, StdWriter, WordsFault,
+    BlockWriter, ByteReader, ByteWriter, NewFault, ProgramFault, RunFault, StdReader, StdWriter,
+    WordsFault,
 };
 pub use lines_fault::LinesFault;
 pub use mode::Mode;

@@ -6,6 +6,7 @@ ghost use Rattle.instants_words.specs.declared.words.Words.{Words};
 ghost use Rattle.instants_lines.specs.Showing.{setting_in};
 ghost use Rattle.instants_timeline.specs.Sources.{IsRefusal};
 ghost use Rattle.instants_timeline.specs.declared.new_fault.NewFault.{NewFault};
+ghost use Rattle.instants_timeline.specs.declared.program_fault.ProgramFault.{ProgramFault};
 ghost use Rattle.instants_lines.specs.Going.{Going, beginning, lines_steps};
 ghost use Rattle.instants_lines.specs.Program.{AsksFor, IsBeforeRun, IsMemory, IsOfWords, run_of};
 ghost use Rattle.instants_lines.specs.Words.{mode_words_said};
@@ -15,14 +16,29 @@ ghost use Rattle.instants_lines.specs.declared.mode.Mode.{Mode};
 use crate::date_sources::DateSources;
 use crate::line_writer::LineWriter;
 use crate::lines_fault::LinesFault;
-use crate::mode::Mode;
-use crate::words::read_mode_words;
+use crate::mode::{Mode, split_mode};
 use instants_stream::write_lines;
-use instants_timeline::{ByteReader, ByteWriter, RunFault, Timeline};
+use instants_timeline::{ByteReader, ByteWriter, RunFault, RunsLines, Timeline, run_words_by};
 use std::alloc::Global;
 
-// Bytes that are read at once where they are there, beside those of a line.
-const BLOCK: usize = 65_536;
+impl RunsLines for Mode {
+    ghost use Rattle.instants_stream.specs.Steps.{by_steps};
+    ghost use Rattle.instants_lines.specs.Going.{beginning, lines_steps};
+
+    ghost writing = { λ mode setting limit. by_steps lines_steps (beginning mode setting) limit };
+
+    fn run<R: ByteReader, W: ByteWriter>(
+        &self,
+        timeline: Timeline<'_>,
+        limit: usize,
+        buffer: &mut [u8],
+        reader: &mut R,
+        writer: &mut W,
+    ) -> Result<(), RunFault> {
+        let dates = DateSources::of_timeline(timeline);
+        run_in_mode(*self, &dates, limit, buffer, reader, writer)
+    }
+}
 
 /// Writes for each line that the reader gives what the words say, hands it on before each read, and flushes the writer at
 /// the end.
@@ -51,7 +67,7 @@ pub fn run_words<'a, R: ByteReader, W: ByteWriter>(
     ensures only_wrong { IfErr result (λ fault. IsOfWords fault
         → mode_words_said (map (λ word. word.now) words.now) ≡ Err fault) }
     // A source that is no description is refused by its place and its fault; it is the first such one.
-    ensures new { (fault : NewFault) → result ≡ Err (LinesFault.New fault)
+    ensures new { (fault : NewFault) → result ≡ Err (LinesFault.Program (ProgramFault.New fault))
         → (mode : Mode) × (said : Words)
         × (mode_words_said (map (λ word. word.now) words.now) ≡ Ok (mode, said))
         × IsRefusal said.sources fault }
@@ -60,42 +76,14 @@ pub fn run_words<'a, R: ByteReader, W: ByteWriter>(
     ensures before { IfErr result (λ fault.
         IsBeforeRun fault → (reader.new ≡ reader.old) × (writer.new ≡ writer.old)) }
 {
-    let (mode, said) = read_mode_words(alloc, words)?;
-    let timeline = Timeline::new(alloc, said.sources.as_slice(), said.target, said.assumed)?;
-    let dates = DateSources::new(timeline.into_sources(), said.target, said.assumed);
-    let mut buffer = vec![in alloc; 0; said.limit + BLOCK]?;
-    run_and_flush(
-        mode,
-        &dates,
-        said.limit,
-        buffer.as_mut_slice(),
-        reader,
-        writer,
-    )?;
-    Ok(())
-}
-
-// Writes for each line, and flushes what was written also where a read failed.
-fn run_and_flush<R: ByteReader, W: ByteWriter>(
-    mode: Mode,
-    dates: &DateSources<'_>,
-    limit: usize,
-    buffer: &mut [u8],
-    reader: &mut R,
-    writer: &mut W,
-) -> Result<(), RunFault>
-    requires room { limit < length buffer.old }
-    requires reader { R.failed reader.old ≡ false }
-    requires writer { W.failed writer.old ≡ false }
-    ensures { RanAndFlushed (by_steps lines_steps (beginning mode (setting_in dates.now)) limit)
-        R.ByteReader reader.old reader.new W.ByteWriter writer.old writer.new result }
-{
-    let answered = run_in_mode(mode, dates, limit, buffer, reader, writer);
-    if answered == Err(RunFault::Read) && !writer.has_failed() {
-        // The read stays the fault.
-        let _ = writer.flush();
+    let (mode, others) = match split_mode(words) {
+        Ok(split) => split,
+        Err(fault) => return Err(fault),
+    };
+    match run_words_by(&mode, alloc, others, reader, writer) {
+        Ok(()) => Ok(()),
+        Err(fault) => Err(LinesFault::Program(fault)),
     }
-    answered
 }
 
 // Writes for each line. A function of its own, in which the reader, the writer and the buffer are known to lie apart.

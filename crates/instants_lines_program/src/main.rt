@@ -2,7 +2,7 @@
 //! to standard output: behind the date-time at the target offset, or with that in place of its date.
 #![tactic(auto)]
 
-use instants_lines::{BlockWriter, LinesFault, StdReader, StdWriter, run_words};
+use instants_lines::{BlockWriter, LinesFault, ProgramFault, StdReader, StdWriter, run_words};
 use std::alloc::Global;
 use std::env;
 use std::process::ExitCode;
@@ -19,7 +19,7 @@ fn main(rt: HostRuntime) -> ExitCode {
 
 // The program's name and the words behind it.
 fn words(rt: &HostRuntime) -> Result<Vec<String>, LinesFault<'static>> {
-    let args = env::args(rt).map_err(|_| LinesFault::Memory)?;
+    let args = env::args(rt).map_err(|_| LinesFault::Program(ProgramFault::Memory))?;
     Ok(args.collect(rt.alloc())?)
 }
 

@@ -2,7 +2,9 @@
 
 ghost use Rattle.std.specs.Prelude.{◌≡◌, false};
 
-use instants::{ByteReader, ByteWriter, CutReader, CutWriter, NewFault, RunFault, WordsFault};
+use instants::{
+    ByteReader, ByteWriter, CutReader, CutWriter, NewFault, ProgramFault, RunFault, WordsFault,
+};
 use instants_lines::{LinesFault, run_words};
 use std::alloc::{AllocError, Global};
 use std::test::Fail;
@@ -107,8 +109,8 @@ fn fails_so(alloc: Global, row: &(Option<usize>, Option<usize>, usize)) -> bool 
     let (words, stream, output) = ROWS[1];
     let output = &output[..written.min(output.len())];
     match ended(alloc, words, (stream, output), 7, (read_fails, write_fails)) {
-        Some((Err(LinesFault::Run(RunFault::Read)), true, 1)) => read_fails.is_some(),
-        Some((Err(LinesFault::Run(RunFault::Write)), true, 0)) => write_fails.is_some(),
+        Some((Err(LinesFault::Program(ProgramFault::Run(RunFault::Read))), true, 1)) => read_fails.is_some(),
+        Some((Err(LinesFault::Program(ProgramFault::Run(RunFault::Write))), true, 0)) => write_fails.is_some(),
         _ => false,
     }
 }
@@ -184,9 +186,9 @@ fn memory_refused(rt: HostRuntime) -> Result<(), Fail> {
             Ok(())
         }
         Err(
-            LinesFault::Words(WordsFault::Memory)
-            | LinesFault::New(NewFault::Memory)
-            | LinesFault::Memory,
+            LinesFault::Program(ProgramFault::Words(WordsFault::Memory))
+            | LinesFault::Program(ProgramFault::New(NewFault::Memory))
+            | LinesFault::Program(ProgramFault::Memory),
         ) => {
             assert!(rt; writer.written().is_empty());
             Err(Fail::from(AllocError))

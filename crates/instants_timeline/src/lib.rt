@@ -21,8 +21,8 @@ pub use instants_stream::{
 pub use instants_words::{SourceText, Sources, Words, WordsFault, read_words};
 pub use line_fault::LineFault;
 pub use new_fault::NewFault;
-pub use program::run_words;
-pub use program_fault::ProgramFault;
+pub use program::{RunsLines, run_words, run_words_by};
+pub use program_fault::{FaultText, ProgramFault};
 pub use runs::run;
 pub use shown::{answer_by, answer_moment, answer_named, shown_at};
 pub use timeline::Timeline;

@@ -1,7 +1,8 @@
 //! The program between its words and its end.
 ghost use Rattle.std.specs.Prelude.{◌≡◌, ◌<◌, ℕ, false, length, map, Err, IsOk, IfSome, IfErr};
 ghost use Rattle.instants_stream.specs.Answers.{by_answers};
-ghost use Rattle.instants_stream.specs.Ran.{RanAndFlushed};
+ghost use Rattle.instants_stream.specs.Ran.{Ran, RanAndFlushed};
+ghost use Rattle.instants_stream.specs.Writing.{Writing};
 ghost use Rattle.instants_words.specs.declared.fault.WordsFault.{WordsFault};
 ghost use Rattle.instants_words.specs.Words.{words_said};
 ghost use Rattle.instants_timeline.specs.Place.{Setting, answer_to};
@@ -17,6 +18,50 @@ use std::alloc::Global;
 
 // Bytes that are read at once where they are there, beside those of a line.
 const BLOCK: usize = 65_536;
+
+/// What a program writes for the lines of a stream, by a timeline that its words ask for.
+pub trait RunsLines {
+    /// What there is to write, by a setting, where a line with more bytes than a limit is too long.
+    ghost writing: { Self → Setting → ℕ → Writing };
+
+    /// Writes it for each line that the reader gives. The buffer is longer than the limit. The writer is flushed once, before
+    /// `Ok`; a reader or a writer that failed isn't tried again.
+    fn run<R: ByteReader, W: ByteWriter>(
+        &self,
+        timeline: Timeline<'_>,
+        limit: usize,
+        buffer: &mut [u8],
+        reader: &mut R,
+        writer: &mut W,
+    ) -> Result<(), RunFault>
+        requires room { limit < length buffer.old }
+        requires reader { R.failed reader.old ≡ false }
+        requires writer { W.failed writer.old ≡ false }
+        ensures { Ran (writing self.now (setting_of timeline.entry) limit)
+            R.ByteReader reader.old reader.new W.ByteWriter writer.old writer.new result };
+}
+
+// Writes the answer to each line.
+#[derive(Drop)]
+struct Answers;
+
+impl RunsLines for Answers {
+    ghost use Rattle.instants_stream.specs.Answers.{by_answers};
+    ghost use Rattle.instants_timeline.specs.Place.{answer_to};
+
+    ghost writing = { λ _ setting limit. by_answers (answer_to setting) limit };
+
+    fn run<R: ByteReader, W: ByteWriter>(
+        &self,
+        timeline: Timeline<'_>,
+        limit: usize,
+        buffer: &mut [u8],
+        reader: &mut R,
+        writer: &mut W,
+    ) -> Result<(), RunFault> {
+        answer_lines(&timeline, limit, buffer, reader, writer)
+    }
+}
 
 /// Answers each line that the reader gives as the words say, each answer followed by a line feed, hands the answers on
 /// before each read, and flushes the writer at the end.
@@ -47,16 +92,57 @@ pub fn run_words<'a, R: ByteReader, W: ByteWriter>(
     ensures memory { IfErr result (λ fault.
         IsMemory fault → IsOk (words_said (map (λ word. word.now) words.now))) }
 {
+    run_words_by(&Answers, alloc, words, reader, writer)
+}
+
+/// Writes for each line that the reader gives what a program has to write by its words, hands it on before each read where the
+/// program does, and flushes the writer at the end, and also behind a read that failed.
+///
+/// The words are `TARGET ASSUMED LIMIT SOURCE...`. They are all looked at, and all memory is taken, before anything is
+/// read. The first device that fails ends the run.
+pub fn run_words_by<'a, P: RunsLines, R: ByteReader, W: ByteWriter>(
+    program: &P,
+    alloc: Global,
+    words: &[&'a str],
+    reader: &mut R,
+    writer: &mut W,
+) -> Result<(), ProgramFault<'a>>
+    requires reader { R.failed reader.old ≡ false }
+    requires writer { W.failed writer.old ≡ false }
+    // What the words ask for was written, as far as the run came.
+    ensures ran { IfSome (run_of result) (λ ended. (setting : Setting) × (limit : ℕ)
+        × AsksFor (map (λ word. word.now) words.now) setting limit
+        × RanAndFlushed (P.writing program.now setting limit)
+        R.ByteReader reader.old reader.new W.ByteWriter writer.old writer.new ended) }
+    // Words that are wrong are refused, whatever the devices have.
+    ensures refused { (fault : WordsFault)
+        → words_said (map (λ word. word.now) words.now) ≡ Err fault
+        → result ≡ Err (ProgramFault.Words fault) }
+    // No others are refused, and what is refused before the run leaves the devices as they were.
+    ensures before { IfErr result (λ fault. IsBeforeRun fault
+        → IsRefusedAs (map (λ word. word.now) words.now) fault
+        × (reader.new ≡ reader.old) × (writer.new ≡ writer.old)) }
+    ensures memory { IfErr result (λ fault.
+        IsMemory fault → IsOk (words_said (map (λ word. word.now) words.now))) }
+{
     let said = read_words(alloc, words)?;
     let timeline = Timeline::new(alloc, said.sources.as_slice(), said.target, said.assumed)?;
     let mut buffer = vec![in alloc; 0; said.limit + BLOCK]?;
-    run_and_flush(&timeline, said.limit, buffer.as_mut_slice(), reader, writer)?;
+    run_and_flush(
+        program,
+        timeline,
+        said.limit,
+        buffer.as_mut_slice(),
+        reader,
+        writer,
+    )?;
     Ok(())
 }
 
-// Answers each line, and flushes what was answered also where a read failed.
-fn run_and_flush<R: ByteReader, W: ByteWriter>(
-    timeline: &Timeline,
+// Writes for each line, and flushes what was written also where a read failed.
+fn run_and_flush<P: RunsLines, R: ByteReader, W: ByteWriter>(
+    program: &P,
+    timeline: Timeline<'_>,
     limit: usize,
     buffer: &mut [u8],
     reader: &mut R,
@@ -65,13 +151,13 @@ fn run_and_flush<R: ByteReader, W: ByteWriter>(
     requires room { limit < length buffer.old }
     requires reader { R.failed reader.old ≡ false }
     requires writer { W.failed writer.old ≡ false }
-    ensures { RanAndFlushed (by_answers (answer_to (setting_of timeline.now)) limit)
+    ensures { RanAndFlushed (P.writing program.now (setting_of timeline.entry) limit)
         R.ByteReader reader.old reader.new W.ByteWriter writer.old writer.new result }
 {
-    let answered = answer_lines(timeline, limit, buffer, reader, writer);
-    if answered == Err(RunFault::Read) && !writer.has_failed() {
+    let ended = program.run(timeline, limit, buffer, reader, writer);
+    if ended == Err(RunFault::Read) && !writer.has_failed() {
         // The read stays the fault.
         let _ = writer.flush();
     }
-    answered
+    ended
 }

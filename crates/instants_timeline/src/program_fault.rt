@@ -44,31 +44,55 @@ impl fmt::Display for ProgramFault<'_> {
     ghost output = { λ fault. Some (sentence fault) };
 
     fn fmt<W: fmt::Write>(&self, f: &mut fmt::Formatter<W>) -> fmt::Result {
-        match self {
-            ProgramFault::Words(WordsFault::Usage) => {
-                f.write_str("instants: usage: instants TARGET ASSUMED LIMIT SOURCE...")
-            }
+        let text = FaultText {
+            fault: *self,
+            usage: USAGE,
+        };
+        write!(f, "instants{text}")
+    }
+}
+
+// The words of the program behind its name.
+const USAGE: &str = "instants TARGET ASSUMED LIMIT SOURCE...";
+
+/// What a program says of a fault behind its name, as `: reading failed`.
+#[derive(Clone, Copy, Debug, PartialEq, Eq)]
+pub struct FaultText<'a, 'b> {
+    pub fault: ProgramFault<'a>,
+    /// How the program is called.
+    pub usage: &'b str,
+}
+
+impl fmt::Display for FaultText<'_, '_> {
+    ghost use Rattle.std.specs.Prelude.{Some};
+    ghost use Rattle.instants_timeline.specs.ProgramText.{text_of};
+
+    ghost output = { λ text. Some (text_of text.usage.now text.fault) };
+
+    fn fmt<W: fmt::Write>(&self, f: &mut fmt::Formatter<W>) -> fmt::Result {
+        let usage = self.usage;
+        match &self.fault {
+            ProgramFault::Words(WordsFault::Usage) => write!(f, ": usage: {usage}"),
             ProgramFault::Words(WordsFault::Target) => {
-                f.write_str("instants: the target offset must be +HH:MM or -HH:MM")
+                f.write_str(": the target offset must be +HH:MM or -HH:MM")
             }
             ProgramFault::Words(WordsFault::Assumed) => {
-                f.write_str("instants: the assumed offset must be +HH:MM, -HH:MM or -")
+                f.write_str(": the assumed offset must be +HH:MM, -HH:MM or -")
             }
             ProgramFault::Words(WordsFault::Limit) => {
-                f.write_str("instants: the limit must be a number from 1 to 1048576")
+                f.write_str(": the limit must be a number from 1 to 1048576")
             }
-            ProgramFault::Words(WordsFault::Source(place)) => write!(
-                f,
-                "instants: source {place} is not a known source with its description"
-            ),
+            ProgramFault::Words(WordsFault::Source(place)) => {
+                write!(f, ": source {place} is not a known source with its description")
+            }
             ProgramFault::New(NewFault::Source { place, fault }) => {
-                write!(f, "instants: source {place}: {fault}")
+                write!(f, ": source {place}: {fault}")
             }
-            ProgramFault::Run(RunFault::Read) => f.write_str("instants: reading failed"),
-            ProgramFault::Run(RunFault::Write) => f.write_str("instants: writing failed"),
+            ProgramFault::Run(RunFault::Read) => f.write_str(": reading failed"),
+            ProgramFault::Run(RunFault::Write) => f.write_str(": writing failed"),
             ProgramFault::Words(WordsFault::Memory)
             | ProgramFault::New(NewFault::Memory)
-            | ProgramFault::Memory => f.write_str("instants: out of memory"),
+            | ProgramFault::Memory => f.write_str(": out of memory"),
         }
     }
 }

@@ -1,39 +1,32 @@
 //! The dates of lines, and what one source says of a line.
 ghost use Rattle.std.specs.Prelude.{◌≡◌, ◌<◌, ◌≤◌, ◌↔◌, length, map, None, Ok, IsOk, IfOk, IfErr, IfSome, IfNone};
 ghost use Rattle.std.specs.Option.{ok_or};
-ghost use Rattle.calendar.specs.UtcOffset.{IsClockOffset};
 ghost use Rattle.instants_answers.specs.Text.{FitsLine};
 ghost use Rattle.instants_found.specs.Starts.{HasNoDate};
 ghost use Rattle.instants_sources.specs.Grammar.{grammar_of};
 ghost use Rattle.instants_sources.specs.Named.{named};
 ghost use Rattle.instants_timeline.specs.Place.{place_text, shown_or_refused};
 ghost use Rattle.instants_timeline.specs.Refusal.{year};
+ghost use Rattle.instants_timeline.specs.Settings.{setting_of};
 ghost use Rattle.instants_lines.specs.Dates.{date_in};
 ghost use Rattle.instants_lines.specs.Showing.{setting_in};
 
 use crate::date_sources::DateSources;
-use calendar::UtcOffset;
 use datetime_types::OffsetDateTime;
-use instants_answers::{Answer, Target};
+use instants_answers::Answer;
 use instants_found::{Finder, Found};
 use instants_sources::{Named, Source};
-use instants_timeline::{answer_by, answer_named, shown_at};
+use instants_timeline::{Timeline, answer_by, answer_named, shown_at};
 
 impl<'a> DateSources<'a> {
-    /// Looks for these sources, in order. The target has whole minutes, within 23:59.
-    pub(crate) fn new(
-        sources: Vec<Source<'a>>,
-        target: UtcOffset,
-        assumed: Option<UtcOffset>,
-    ) -> DateSources<'a>
-        requires { IsClockOffset target }
-        ensures sources { (setting_in result).sources ≡ map grammar_of sources.entry.items }
-        ensures target { (setting_in result).target ≡ target }
-        ensures assumed { (setting_in result).assumed ≡ assumed }
+    /// Looks for the sources of a timeline, in order, and shows moments as it does.
+    pub(crate) fn of_timeline(timeline: Timeline<'a>) -> DateSources<'a>
+        ensures { setting_in result ≡ setting_of timeline.entry }
     {
+        let (target, assumed) = (timeline.target(), timeline.assumed());
         DateSources {
-            finder: Finder::new(sources, assumed),
-            target: Target::new(target),
+            finder: Finder::new(timeline.into_sources(), assumed),
+            target,
         }
     }
 

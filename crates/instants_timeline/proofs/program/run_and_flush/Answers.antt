@@ -6,12 +6,12 @@ use Rattle.instants_timeline.proofs.program.run_and_flush.Goals.{else-eq-via-the
 
 pub returns-else-eq : goal.returns-else-eq
 returns-else-eq g c =
-    unflushed _ _ _ _ _ _ _ c.answer_lines-answered.result (λ e. elim c.else-eq.branch [
+    unflushed _ _ _ _ _ _ _ c.run-ended.result (λ e. elim c.else-eq.branch [
       | else-eq-via-then-eq+else-not-has_failed w ↦ cc
       | else-eq-via-else-eq w ↦ let eq = rw e at c.eq.ensures in absurd cc
-    ]) c.answer_lines-answered.ensures.ran
+    ]) c.run-ended.ensures
 
 pub returns-then-not-has_failed : goal.returns-then-not-has_failed
 returns-then-not-has_failed g c =
-    let is : c.answer_lines-answered.result ≡ Err Read = search rules in
-    rw is (flushed_behind _ _ _ _ _ _ _ c.answer_lines-answered.new.writer (rw is at c.answer_lines-answered.ensures.ran) c.flush.result c.flush.ensures.moved c.flush.ensures.flushed c.flush.ensures.err c.flush.ensures.kept)
+    let is : c.run-ended.result ≡ Err Read = search rules in
+    rw is (flushed_behind _ _ _ _ _ _ _ c.run-ended.new.writer (rw is at c.run-ended.ensures) c.flush.result c.flush.ensures.moved c.flush.ensures.flushed c.flush.ensures.err c.flush.ensures.kept)

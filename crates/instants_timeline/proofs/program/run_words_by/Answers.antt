@@ -2,8 +2,8 @@ use Rattle.std.proofs.Common.{map, refl}
 use Rattle.std.proofs.lemmas.Result.{err_from_is_err_and}
 use Rattle.instants_timeline.specs.Program.{AsksFor}
 use Rattle.instants_timeline.specs.Settings.{setting_of}
-use Rattle.instants_timeline.proofs.program.run_words.Goals as goal
-use Rattle.instants_timeline.proofs.program.run_words.Goals.{In_ok-timeline}
+use Rattle.instants_timeline.proofs.program.run_words_by.Goals as goal
+use Rattle.instants_timeline.proofs.program.run_words_by.Goals.{In_ok-timeline}
 
 -- the words ask for what is run
 asked : (g : _) (c : In_ok-timeline g) → AsksFor (map (λ word. word.now) c.args.words.now) (setting_of c.in_ok-timeline.timeline) c.in_ok-said.said.limit
