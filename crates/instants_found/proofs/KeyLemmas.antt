@@ -1,5 +1,5 @@
 -- Places at which no date begins, by keys.
-use Rattle.std.proofs.Common.{◌≡◌, ◌<◌, ◌≤◌, ◌+◌, ◌-◌, ◌/◌, ◌^◌, ◌==◌, inl, inr, ℕ, Bool, false, List, length, get_or, drop, Option, None, ◌∙◌, ap, subst, arith, ℤ}
+use Rattle.std.proofs.Common.{◌≡◌, ◌<◌, ◌≤◌, ◌+◌, ◌-◌, ◌==◌, inl, inr, ℕ, Bool, false, List, length, get_or, drop, Option, None, ◌∙◌, ap, subst, arith, ℤ}
 use Rattle.std.specs.Prelude.{All}
 use Rattle.std.specs.Int.{bit_at}
 use Rattle.std.proofs.lemmas.Bool.{cases_lt}
@@ -14,7 +14,7 @@ use Rattle.instants_found.specs.declared.keys.Keys.{Keys}
 use Rattle.instants_found.specs.Marks.{AreMarks, IsUnmarked}
 use Rattle.instants_found.specs.declared.marks.Marks.{Marks}
 use Rattle.instants_found.proofs.NoDates.{none_starts}
-use Rattle.instants_found.proofs.Next.{no_front_there, marks_later}
+use Rattle.instants_found.proofs.Next.{no_front_there}
 
 -- ---- places
 
@@ -44,13 +44,10 @@ module _ (assumed : Option ℤ) (sources : List Grammar) (line : List ℕ) where
         | inr first ↦ none_starts assumed sources starts line start are (right.first (get_or line start 0) (few start) first)
       ]
 
-  -- the bits of the marks of sixteen places, and those of them behind so many
-  pub marks_of : (starts : List Bool) (marks : Marks) (at bits from : ℕ) → at ≤ from → AreStarts sources starts → AreMarks sources starts marks → AreBytes line
-      → ((k : ℕ) → k < 16 → bit_at bits k ≡ 0 → IsUnmarked marks line (at + k)) → MarkPlaces assumed sources line from (at + 16) (bits / 2 ^ (from - at))
-  marks_of starts marks at bits from le are right few is_bits =
-      let there : at + (from - at) ≡ from = omega (arith, le) in
-      let all : MarkPlaces assumed sources line at (at + 16) bits = λ k lt none. unmarked_none starts marks (at + k) are right few (is_bits k (omega (arith, lt)) none) in
-      subst (λ (place : ℕ). MarkPlaces assumed sources line place (at + 16) (bits / 2 ^ (from - at))) there (marks_later assumed sources line at (at + 16) bits (from - at) all)
+  -- the bits of the marks of sixteen places
+  pub marks_of : (starts : List Bool) (marks : Marks) (at bits : ℕ) → AreStarts sources starts → AreMarks sources starts marks → AreBytes line
+      → ((k : ℕ) → k < 16 → bit_at bits k ≡ 0 → IsUnmarked marks line (at + k)) → MarkPlaces assumed sources line at (at + 16) bits
+  marks_of starts marks at bits are right few is_bits = λ k lt none. unmarked_none starts marks (at + k) are right few (is_bits k (omega (arith, lt)) none)
 
   -- only the first of the last four places may have a date
   pub none_at_end : (from : ℕ) → All NeedsFour sources → length line ≤ from + 4 → (length line ≡ from + 4 → at_place assumed sources line from ≡ None) → HasNoDate assumed sources line from (length line)

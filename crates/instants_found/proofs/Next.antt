@@ -53,10 +53,10 @@ module _ (assumed : Option ℤ) (sources : List Grammar) (line : List ℕ) where
       let P : ℕ → Type 0 = λ j. at_place assumed sources line j ≡ None in
       subst P place (marks (n + 1 + k) (omega (arith, lt)) (sym moved ∙ none))
 
-  -- the bits behind so many
-  pub marks_later : (from to bits n : ℕ) → MarkPlaces assumed sources line from to bits → MarkPlaces assumed sources line (from + n) to (bits / 2 ^ n)
-  marks_later from to bits n marks = λ k lt none.
-      let place : from + (n + k) ≡ from + n + k = omega arith in
-      let moved : bit_at (bits / 2 ^ n) k ≡ bit_at bits (n + k) = ap (λ (m : ℕ). m % 2) (shr-shr bits n k) in
+  -- the bits of the places from another one on
+  pub marks_from : (at from to bits : ℕ) → at ≤ from → MarkPlaces assumed sources line at to bits → MarkPlaces assumed sources line from to (bits / 2 ^ (from - at))
+  marks_from at from to bits le marks = λ k lt none.
+      let place : at + (from - at + k) ≡ from + k = omega (arith, le) in
+      let moved : bit_at (bits / 2 ^ (from - at)) k ≡ bit_at bits (from - at + k) = ap (λ (m : ℕ). m % 2) (shr-shr bits (from - at) k) in
       let P : ℕ → Type 0 = λ j. at_place assumed sources line j ≡ None in
-      subst P place (marks (n + k) (omega (arith, lt)) (sym moved ∙ none))
+      subst P place (marks (from - at + k) (omega (arith, lt, le)) (sym moved ∙ none))

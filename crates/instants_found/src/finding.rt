@@ -7,7 +7,7 @@ ghost use Rattle.instants_found.specs.Starts.{HasNoFront};
 
 use crate::edge::is_edge;
 use crate::found::Found;
-use crate::front::{read_front, rules_out};
+use crate::front::{lacks_byte, read_front, rules_out};
 use calendar::UtcOffset;
 use instants_sources::Source;
 
@@ -22,6 +22,7 @@ fn front_length(bytes: &[u8], rest: &[u8]) -> usize
 }
 
 // The date that a source of this number reads at a place.
+#[inline(always)]
 #[tactic(auto, unfolding(crate::specs::Found::date_at))]
 fn date_at(
     source: &Source<'_>,
@@ -53,6 +54,7 @@ fn date_at(
 }
 
 // The date of the first source that reads one at a place.
+#[inline(always)]
 fn by_sources(
     sources: &[Source<'_>],
     assumed: &Option<UtcOffset>,
@@ -67,7 +69,11 @@ fn by_sources(
     ensures source { IfSome result (λ date. date.source < length sources.now) }
 {
     for number in 0..sources.len() {
-        if let Some(date) = date_at(&sources[number], assumed, line, start, number) {
+        let source = &sources[number];
+        if lacks_byte(source, behind(line, start)) {
+            continue;
+        }
+        if let Some(date) = date_at(source, assumed, line, start, number) {
             return Some(date);
         }
     }
@@ -98,7 +104,7 @@ pub(crate) fn may_read(sources: &[Source<'_>], bytes: &[u8]) -> bool
 }
 
 /// The date that begins at a place, where it isn't inside a word.
-#[inline(never)]
+#[inline(always)]
 #[tactic(auto, unfolding(crate::specs::Found::at_place))]
 pub(crate) fn at_place(
     sources: &[Source<'_>],

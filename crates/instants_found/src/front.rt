@@ -39,7 +39,7 @@ fn read_by<'b, F: Parsable>(
     }
 }
 
-// The same of a description's items, where the first bytes don't show that they read none.
+// The same of a description's items: by the plan, and else exactly, where the first bytes don't show that they read none.
 #[tactic(auto, using(crate::proofs::NoFront::none_front), unfolding(crate::specs::Front::front_named))]
 fn read_items<'b>(
     described: &DescribedItems<'_>,
@@ -50,11 +50,11 @@ fn read_items<'b>(
         ≡ front_named assumed.now (grammar.Items (trees described.now.items.items)) bytes.now }
     ensures end { IfSome result (λ x. EndsWith bytes.now x.1.now) }
 {
-    if described.cannot_match(bytes) {
-        return None;
-    }
     if let Some((fields, rest)) = described.read_front(bytes, *assumed) {
         return Some((Named::of_fields(fields), rest));
+    }
+    if described.cannot_match(bytes) {
+        return None;
     }
     read_by(&Items(described.items()), bytes, *assumed)
 }
@@ -70,11 +70,11 @@ fn read_tree<'b>(
         ≡ front_named assumed.now (grammar.V3 (v3_tree described.now.tree)) bytes.now }
     ensures end { IfSome result (λ x. EndsWith bytes.now x.1.now) }
 {
-    if described.cannot_match(bytes) {
-        return None;
-    }
     if let Some((fields, rest)) = described.read_front(bytes, *assumed) {
         return Some((Named::of_fields(fields), rest));
+    }
+    if described.cannot_match(bytes) {
+        return None;
     }
     read_by(described.tree(), bytes, *assumed)
 }
@@ -92,16 +92,13 @@ fn read_rfc2822(bytes: &[u8], assumed: Option<UtcOffset>) -> Option<(Named, &[u8
     read_by(&Rfc2822, bytes, assumed)
 }
 
-// The same of RFC 3339, where the bytes begin with a digit and have a hyphen behind a year.
+// The same of RFC 3339, where the bytes begin with a digit.
 #[tactic(auto, using(crate::proofs::NoFront::no_digit), unfolding(crate::specs::Front::front_named))]
 fn read_rfc3339(bytes: &[u8], assumed: Option<UtcOffset>) -> Option<(Named, &[u8])>
     ensures front { option_map (λ x. (x.0, x.1.now)) result
         ≡ front_named assumed grammar.Rfc3339 bytes.now }
     ensures end { IfSome result (λ x. EndsWith bytes.now x.1.now) }
 {
-    if byte_at(bytes, 4) != b'-' {
-        return None;
-    }
     if !byte_at(bytes, 0).is_ascii_digit() {
         return None;
     }
@@ -123,8 +120,20 @@ fn is_no_rfc2822(bytes: &[u8]) -> bool
     byte_at(bytes, 3) != b','
 }
 
-/// Whether the first bytes show that no front of them names a moment by a source, whatever offset is assumed: `false` says
-/// nothing of them.
+/// Whether a byte that is due in each date of a format is not there, so that no front of the bytes names a moment by a source,
+/// whatever offset is assumed: `false` says nothing of them.
+#[inline(always)]
+pub(crate) fn lacks_byte(source: &Source<'_>, bytes: &[u8]) -> bool
+    ensures { result ≡ true → HasNoFront bytes.now (grammar_of source.now) }
+{
+    match source {
+        Source::Rfc3339 => byte_at(bytes, 4) != b'-',
+        Source::Rfc2822 => is_no_rfc2822(bytes),
+        _ => false,
+    }
+}
+
+/// Whether the first bytes show that: `false` says nothing of them.
 #[inline(always)]
 pub(crate) fn rules_out(source: &Source<'_>, bytes: &[u8]) -> bool
     ensures { result ≡ true → HasNoFront bytes.now (grammar_of source.now) }
@@ -132,9 +141,7 @@ pub(crate) fn rules_out(source: &Source<'_>, bytes: &[u8]) -> bool
     match source {
         Source::Items(described) => described.cannot_match(bytes),
         Source::V3(described) => described.cannot_match(bytes),
-        Source::Rfc3339 => byte_at(bytes, 4) != b'-',
-        Source::Rfc2822 => is_no_rfc2822(bytes),
-        Source::Iso8601 => false,
+        _ => lacks_byte(source, bytes),
     }
 }
 

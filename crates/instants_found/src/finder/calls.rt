@@ -60,16 +60,6 @@ impl<'a> Finder<'a> {
 
     // The same, where what stands there is looked at too.
     #[inline(always)]
-    fn may_begin(&self, line: &[u8], start: usize) -> bool
-        requires { start < length line.now }
-        ensures { result ≡ false
-            → at_place (assumed_of self.now) (sources_of self.now) line.now start ≡ None }
-    {
-        may_read(self.sources.as_slice(), behind(line, start))
-    }
-
-    // Both.
-    #[inline(always)]
     fn has_start(&self, line: &[u8], start: usize) -> bool
         requires { start < length line.now }
         ensures { result ≡ false
@@ -78,7 +68,7 @@ impl<'a> Finder<'a> {
         if !self.can_start(line, start) {
             return false;
         }
-        self.may_begin(line, start)
+        may_read(self.sources.as_slice(), behind(line, start))
     }
 
     // The first place behind one at which a date can begin, looked for byte by byte.
@@ -119,7 +109,7 @@ impl<'a> Finder<'a> {
                 return None;
             }
             let start = at + behind as usize;
-            if self.has_start(line, start) {
+            if self.can_start(line, start) {
                 return Some(start);
             }
             left = (left >> behind) >> 1u32;
@@ -140,11 +130,11 @@ impl<'a> Finder<'a> {
         ensures passed { IfSome result
             (HasNoDate (assumed_of self.now) (sources_of self.now) line.now from) }
     {
-        let bits = marks.bits(line, start) >> (from - start) as u32;
+        let bits = marks.bits(line, start);
         if bits == 0 {
             return None;
         }
-        self.by_marks(line, from, start + LANES, bits)
+        self.by_marks(line, from, start + LANES, bits >> (from - start) as u32)
     }
 
     // The only place of those behind one at which a date of four bytes can begin, where these have no room for keys.
@@ -160,36 +150,14 @@ impl<'a> Finder<'a> {
         ensures passed { IfSome result
             (HasNoDate (assumed_of self.now) (sources_of self.now) line.now from) }
     {
-        if from == line.len() - 4 && self.has_start(line, from) {
+        if from == line.len() - 4 && self.can_start(line, from) {
             return Some(from);
         }
         None
     }
 
-    // The same of the last places, which begin before the end of those before them.
-    #[inline(always)]
-    fn in_last(&self, marks: &Marks, line: &[u8], from: usize) -> Option<usize>
-        requires some { REACH ≤ length line.now }
-        requires end { length line.now ≤ from + REACH }
-        requires within { from ≤ length line.now }
-        requires marks { AreMarks (sources_of self.now) self.now.starts marks.now }
-        ensures none { IfNone result
-            (HasNoDate (assumed_of self.now) (sources_of self.now) line.now from (length line.now)) }
-        ensures within { IfSome result (λ start. (from ≤ start) × (start < length line.now)) }
-        ensures passed { IfSome result
-            (HasNoDate (assumed_of self.now) (sources_of self.now) line.now from) }
-    {
-        let start = line.len() - REACH;
-        if from > start + LANES {
-            return self.by_last_four(line, from);
-        }
-        if let Some(place) = self.in_block(marks, line, start, from) {
-            return Some(place);
-        }
-        self.by_last_four(line, start + LANES)
-    }
-
-    // The first place from one on at which a date can begin, looked for by marks.
+    // The first place from one on at which a date can begin, looked for by marks. The last sixteen places begin before the end of
+    // those before them.
     #[inline(never)]
     fn by_blocks(&self, marks: &Marks, line: &[u8], from: usize) -> Option<usize>
         requires some { REACH ≤ length line.now }
@@ -201,16 +169,18 @@ impl<'a> Finder<'a> {
         ensures passed { IfSome result
             (HasNoDate (assumed_of self.now) (sources_of self.now) line.now from) }
     {
-        let last = line.len() - REACH;
+        // (a copy, which is known to stay the same in the loop)
+        let marks = *marks;
+        let end = line.len() - (REACH - LANES);
         let mut at = from;
-        while at < last {
-            let block = at;
-            at = block + LANES;
-            if let Some(place) = self.in_block(marks, line, block, block) {
+        while at < end {
+            let block = at.min(end - LANES);
+            if let Some(place) = self.in_block(&marks, line, block, at) {
                 return Some(place);
             }
+            at = block + LANES;
         }
-        self.in_last(marks, line, at)
+        self.by_last_four(line, at)
     }
 
     // The first place from one on at which a date can begin.

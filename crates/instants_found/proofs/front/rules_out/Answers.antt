@@ -1,7 +1,6 @@
 use Rattle.description_items.specs.Tree.{trees}
 use Rattle.description_tree.specs.Description.{v3_tree}
-use Rattle.instants_sources.proofs.RuledOut.{not_true}
-use Rattle.instants_found.proofs.NoStart.{items_no_front, tree_no_front, year_no_front}
+use Rattle.instants_found.proofs.NoStart.{items_no_front, tree_no_front}
 use Rattle.instants_found.proofs.front.rules_out.Goals as goal
 
 pub returns-in-Items : goal.returns-in-Items
@@ -9,9 +8,3 @@ returns-in-Items c = λ e. rw c.in-Items.is (items_no_front (trees c.in-Items.de
 
 pub returns-in-V3 : goal.returns-in-V3
 returns-in-V3 c = λ e. rw c.in-V3.is (tree_no_front (v3_tree c.in-V3.described.tree) c.args.bytes.now (c.cannot_match-in-V3.ensures e))
-
-pub returns-in-Rfc3339 : goal.returns-in-Rfc3339
-returns-in-Rfc3339 c = λ e. rw c.in-Rfc3339.is (year_no_front c.args.bytes.now (rw c.byte_at.ensures at (not_true _ e)))
-
-pub returns-in-Rfc2822 : goal.returns-in-Rfc2822
-returns-in-Rfc2822 c = λ e. rw c.in-Rfc2822.is (c.is_no_rfc2822.ensures e)

@@ -16,8 +16,8 @@ returns-then-behind-to-clause-none c =
     let end : l.at + (c.args.to - l.at) ≡ c.args.to = omega arith in
     none_more assumed sources line c.args.from l.at c.args.to l.invariant.passed (subst (HasNoDate assumed sources line l.at) end none)
 
-pub returns-then-has_start-clause-passed : goal.returns-then-has_start-clause-passed
-returns-then-has_start-clause-passed c =
+pub returns-then-can_start-clause-passed : goal.returns-then-can_start-clause-passed
+returns-then-can_start-clause-passed c =
     let assumed = assumed_of c.args.self.now in
     let sources = sources_of c.args.self.now in
     let line = c.args.line.now in
@@ -38,7 +38,7 @@ loop-left-preserved c =
     record {
       low = omega arith;
       high = omega arith;
-      passed = none_at_more assumed sources line c.args.from (l.at + behind) passed (c.has_start.ensures c.if-has_start.false);
+      passed = none_at_more assumed sources line c.args.from (l.at + behind) passed (c.can_start.ensures c.if-can_start.false);
       marks = marks_behind assumed sources line l.at c.args.to l.left behind l.invariant.marks;
     }
 

@@ -1,6 +1,6 @@
 use Rattle.instants_found.specs.Finder.{assumed_of, sources_of}
 use Rattle.instants_found.proofs.Next.{no_front_there}
-use Rattle.instants_found.proofs.finder.Finder.may_begin.Goals as goal
+use Rattle.instants_found.proofs.finder.Finder.has_start.Goals as goal
 
 pub returns : goal.returns
 returns c = λ e.
