@@ -20,9 +20,9 @@
  * Lengths and counts are in bytes.
  *
  * Who owns what. All memory that a call is lent stays the caller's, and the call is done with it when it returns. What it
- * takes for itself, by malloc and realloc, it gives back by free before it returns: some 64 KiB, as many bytes as the limit
- * says, and what the descriptions need. Nothing is kept from call to call, so threads may call at once, each with an output
- * of its own. No call may be made from a signal's handler, nor in the forked child of a process with threads.
+ * takes for itself, by malloc and realloc, it gives back by free before it returns: what a list of the words and the
+ * descriptions need. Nothing is kept from call to call, so threads may call at once, each with an output of its own. No call
+ * may be made from a signal's handler, nor in the forked child of a process with threads.
  *
  * Where it runs. The library is for x86-64 Linux. A call needs less than 256 KiB of stack: 152 KiB were measured for a
  * description that is nested as deep as it may be, 40 KiB for long ones that are not, 24 KiB for the formats.

@@ -1,5 +1,3 @@
-pub mod Filling
-pub mod Due
 pub mod OneSetting
 pub mod Short
 pub mod Room

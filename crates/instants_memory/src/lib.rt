@@ -14,8 +14,5 @@
 
 mod answers;
 pub mod laws;
-mod run_end;
-mod space_reader;
-mod space_writer;
 
 pub use answers::{LINE_ROOM, answer_lines};

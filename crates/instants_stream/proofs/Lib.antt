@@ -1,4 +1,6 @@
 pub mod Lines
+pub mod NextAnswer
+pub mod Pieces
 pub mod Seen
 pub mod Written
 pub mod Progress

@@ -29,6 +29,8 @@ mod nodes;
 #[cfg(test)]
 mod ordered_lines;
 #[cfg(test)]
+mod over_lines;
+#[cfg(test)]
 mod page;
 #[cfg(test)]
 mod printed;

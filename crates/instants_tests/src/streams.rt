@@ -2,7 +2,9 @@
 
 use crate::support::{Counting, End, Full, OUTPUT, STREAM, end_of, wanted_end, written_before};
 use instants_answers::Answer;
-use instants_stream::{AnswersLines, CutReader, CutWriter, RunFault, StdWriter, run_lines};
+use instants_stream::{
+    AnswersLines, CutReader, CutWriter, RunFault, StdWriter, TooLittleRoom, lines_over, run_lines,
+};
 
 // Answers each long line with a date-time, and each short one with a refusal.
 #[derive(Drop)]
@@ -94,6 +96,38 @@ fn end_well(row: &(usize, &[u8], &[u8]), read: usize) -> bool {
         }
     }
     true
+}
+
+// What is answered where the lines of a stream lie, in room for so many bytes, and whether this fills it.
+fn over(
+    limit: usize,
+    stream: &[u8],
+    room: usize,
+    wanted: &[u8],
+) -> (Result<usize, TooLittleRoom>, bool) {
+    let mut space = [0; 48];
+    let room = &mut space[..room.min(48)];
+    let answer = lines_over(&ByLength, limit, stream, room);
+    (answer, &*room == wanted)
+}
+
+// Whether a row's output is written into room for just that, and cut where there is a byte less.
+fn are_answered_over(row: &(usize, &[u8], &[u8])) -> bool {
+    let (limit, stream, output) = *row;
+    if over(limit, stream, output.len(), output) != (Ok(output.len()), true) {
+        return false;
+    }
+    let Some((_, front)) = output.split_last() else {
+        return true;
+    };
+    over(limit, stream, front.len(), front) == (Err(TooLittleRoom), true)
+}
+
+#[test]
+fn lines_in_place(rt: HostRuntime) {
+    for row in &STREAMS {
+        assert!(rt; are_answered_over(row));
+    }
 }
 
 #[test]

@@ -16,13 +16,13 @@ pub use instants_answers::{
 pub use instants_sources::{DescribedItems, DescribedTree, Source};
 pub use instants_stream::{
     BlockWriter, ByteReader, ByteWriter, CutReader, CutWriter, DeviceFailed, RunFault, StdReader,
-    StdWriter,
+    StdWriter, TooLittleRoom,
 };
 pub use instants_words::{SourceText, Sources, Words, WordsFault, read_words};
 pub use line_fault::LineFault;
 pub use new_fault::NewFault;
 pub use program::{RunsLines, run_words, run_words_by};
 pub use program_fault::{FaultText, ProgramFault};
-pub use runs::run;
+pub use runs::{run, run_over};
 pub use shown::{answer_by, answer_moment, answer_named, shown_at};
 pub use timeline::Timeline;

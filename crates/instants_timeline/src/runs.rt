@@ -1,14 +1,14 @@
-//! One answer for each line of a stream.
-ghost use Rattle.std.specs.Prelude.{◌≡◌, ◌-◌, ◌<◌, ◌≤◌, Err, false, length};
+//! One answer for each line of a stream, or of a slice.
+ghost use Rattle.std.specs.Prelude.{◌≡◌, ◌-◌, ◌<◌, ◌≤◌, ◌++◌, Err, false, length, take, drop, IfOk, OnErr};
 ghost use Rattle.std.specs.Io.KnownBytes.{Keeps};
-ghost use Rattle.instants_stream.specs.Answers.{by_answers};
+ghost use Rattle.instants_stream.specs.Answers.{by_answers, output};
 ghost use Rattle.instants_stream.specs.Ran.{Ran};
 ghost use Rattle.instants_timeline.specs.Place.{answer_to};
 ghost use Rattle.instants_timeline.specs.Settings.{setting_of};
 
 use crate::timeline::{AnswerWay, Iso8601Way, Led, PlannedWay, Rfc2822Way, Rfc3339Way, Timeline};
 use instants_sources::Source;
-use instants_stream::{ByteReader, ByteWriter, RunFault, run_lines};
+use instants_stream::{ByteReader, ByteWriter, RunFault, TooLittleRoom, lines_over, run_lines};
 
 /// Writes the answer to each line that the reader gives, each followed by a line feed. The answers are handed on before
 /// each read, and the writer is flushed at the end.
@@ -81,4 +81,36 @@ fn run_by<A: AnswerWay + Drop, R: ByteReader, W: ByteWriter>(
         → Keeps (W.held writer.new) (W.handed_on writer.new) }
 {
     run_lines(&Led::new(timeline, way), limit, buffer, reader, writer)
+}
+
+/// Writes the answer to each line of the input, each followed by a line feed, into the front of the room. How many bytes the
+/// answers have.
+///
+/// Lines end in LF; a nonempty last part is a line too. A line that is longer than the limit is answered `! long`. The lines are
+/// answered where they lie, and no memory is taken.
+pub fn run_over(
+    timeline: &Timeline,
+    limit: usize,
+    input: &[u8],
+    room: &mut [u8],
+) -> Result<usize, TooLittleRoom>
+    // Exactly the answers are written, and what lies behind them stays.
+    ensures len { IfOk result
+        (λ len. len ≡ length (output (answer_to (setting_of timeline.now)) limit input.now)) }
+    ensures written { IfOk result (λ len. room.new
+        ≡ output (answer_to (setting_of timeline.now)) limit input.now ++ drop len room.old) }
+    // They are longer than the room, which holds their beginning.
+    ensures longer { OnErr result (length room.old
+        < length (output (answer_to (setting_of timeline.now)) limit input.now)) }
+    ensures full { OnErr result (room.new ≡ take (length room.old)
+        (output (answer_to (setting_of timeline.now)) limit input.now)) }
+{
+    match timeline.first() {
+        Source::Rfc3339 => lines_over(&Led::new(timeline, Rfc3339Way), limit, input, room),
+        Source::Rfc2822 => lines_over(&Led::new(timeline, Rfc2822Way), limit, input, room),
+        Source::Iso8601 => lines_over(&Led::new(timeline, Iso8601Way), limit, input, room),
+        Source::Items(_) | Source::V3(_) => {
+            lines_over(&Led::new(timeline, PlannedWay), limit, input, room)
+        }
+    }
 }
