@@ -3,12 +3,12 @@
 
     tools/try_bindings.py [--lines N]
 
-The packages of Debian: binutils gcc valgrind cargo rustc python3 libsqlite3-dev sqlite3. The program and the library are
+The packages of Debian: binutils gcc g++ valgrind cargo rustc python3 libsqlite3-dev sqlite3. The program and the library are
 those that were built last; where they are not, or are older than their sources, they are proved and built first
 (tools/build_program.py, tools/build_library.py).
 
 - The numbers of the header are those of the sources and of the other languages (tools/header_numbers.py), it says how much
-  stack a call needs, and it is valid C and C++ by itself.
+  stack a call needs, and it is valid C and C++ by itself. `bindings/c/answers.cc` calls it in C++, over strings.
 - C: `bindings/c/answer.c` answers 100,000 mixed lines (bench/lines.py), with some that are empty, too long, no text or hold a
   NUL, byte for byte as the program does, with the sanitizers of addresses and of what is undefined, and under valgrind, with
   no leak. It refuses words as the program does: by its sentence and its status. `limits.c` ends early in all ways, with the
@@ -138,8 +138,12 @@ def try_header(library):
     wrong = header_numbers.wrong_numbers()
     tell("the header: its numbers", not wrong, "; ".join(wrong))
     tell("the header: it says how much stack a call needs", "@STACK@" not in header_numbers.HEADER.read_text(), "@STACK@ is no number")
+    strict = ["-Wall", "-Wextra", "-Wpedantic", "-Werror"]
     for language in ("c", "c++"):
-        tell_run(f"the header: valid {language}", ["gcc", "-x", language, "-Wall", "-Wextra", "-Wpedantic", "-Werror", "-fsyntax-only", header_numbers.HEADER])
+        tell_run(f"the header: valid {language}", ["gcc", "-x", language, *strict, "-fsyntax-only", header_numbers.HEADER])
+    made = library.room / "answers"
+    if tell_run("C++: answers.cc compiles", ["g++", "-std=c++17", *strict, f"-I{INCLUDE}", "-o", made, BINDINGS / "c" / "answers.cc", LIBRARY]):
+        tell_run("C++: answers.cc", [made])
 
 
 def try_c(library):
@@ -258,7 +262,7 @@ def main():
     words = argparse.ArgumentParser(description=__doc__, formatter_class=argparse.RawDescriptionHelpFormatter)
     words.add_argument("--lines", type=int, default=100_000, metavar="N")
     given = words.parse_args()
-    missing = [it for it in ("gcc", "valgrind", "cargo", "sqlite3") if not shutil.which(it)]
+    missing = [it for it in ("gcc", "g++", "valgrind", "cargo", "sqlite3") if not shutil.which(it)]
     if missing:
         words.error(f"there is no command {missing[0]}")
     try:
