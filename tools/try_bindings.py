@@ -3,7 +3,8 @@
 
     tools/try_bindings.py [--lines N]
 
-The packages of Debian: binutils gcc g++ valgrind cargo rustc python3 libsqlite3-dev sqlite3. The program and the library are
+The packages of Debian: binutils gcc g++ valgrind cargo rustc mypy python3 python3-venv python3-numpy python3-pandas
+libsqlite3-dev sqlite3. The program and the library are
 those that were built last; where they are not, or are older than their sources, they are proved and built first
 (tools/build_program.py, tools/build_library.py).
 
@@ -14,7 +15,9 @@ those that were built last; where they are not, or are older than their sources,
   no leak. It refuses words as the program does: by its sentence and its status. `limits.c` ends early in all ways, with the
   sanitizers and under valgrind, and `memory.c` refuses each allocation in turn.
 - Rust: the tests of `bindings/rust`, and its example `answer` as that in C, without the sanitizers.
-- Python: the tests of `bindings/python`, and the same lines by its two calls.
+- Python: the tests of `bindings/python`, by Debian's Python, which has numpy and pandas where their packages are there; its
+  types, by `mypy --strict`; the same lines by its calls; `pip install`, without a network, into an environment of its own,
+  where the package answers with no variable set; and what is said where there is no library, or one of another version.
 - SQLite: `bindings/sqlite/instant.c` answers the lines that are text as the program does; the answers are the key of a table,
   and of an index that SQLite uses; bad calls are errors; all of it on 2,000 lines under valgrind.
 
@@ -25,6 +28,7 @@ import argparse
 import os
 import pathlib
 import random
+import re
 import shutil
 import subprocess
 import sys
@@ -48,6 +52,8 @@ LOG = "%d/%b/%Y:%H:%M:%S %z"
 SOURCES = ["rfc3339", "rfc2822", "strftime", LOG]
 WORDS = ["+00:00", "-", "100", *SOURCES]
 GREATEST = str(header_numbers.in_header("GREATEST_LIMIT"))
+# Debian's own, which has the modules of Debian's packages.
+PYTHON = "/usr/bin/python3"
 WARNINGS = ["-std=c11", "-Wall", "-Wextra", "-Werror"]
 SANITIZERS = ["-g", "-O1", "-fsanitize=address,undefined", "-fno-sanitize-recover=all"]
 VALGRIND = ["valgrind", "--quiet", "--error-exitcode=99", "--leak-check=full", "--errors-for-leak-kinds=all"]
@@ -173,17 +179,52 @@ def try_rust(library):
         tell_same("Rust, under valgrind", said if status == 0 else wrong, library.answers)
 
 
+def tell_refused_library(what, named, printed):
+    """Says whether a library that INSTANTS_LIBRARY names is refused with a text."""
+    places = {**os.environ, "INSTANTS_LIBRARY": str(named), "PYTHONPATH": str(BINDINGS / "python")}
+    status, _, wrong = ran([PYTHON, "-B", "-c", "import instants"], env=places)
+    tell(f"Python: {what}", status != 0 and b"ImportError: instants: " in wrong and printed in wrong, wrong.decode(errors="replace"))
+
+
+def try_library_of_python(library):
+    """Tries a library that is not there, and one of another version."""
+    tell_refused_library("no library", library.room / "none.so", b"INSTANTS_LIBRARY")
+    source, made = library.room / "other.c", library.room / "other.so"
+    source.write_text("unsigned instants_version(void) { return 20000; }\nvoid instants_answer_lines(void) {}\nvoid instants_sentence(void) {}\n")
+    if tell_run("Python: another library compiles", ["gcc", "-shared", "-fPIC", "-o", made, source]):
+        tell_refused_library("a library of another version", made, b"is of version 2.0.0, and this package is of 0.1.0")
+
+
+def try_pip(library):
+    """Tries whether pip installs the package without a network."""
+    room, places = library.room / "venv", {it: text for it, text in os.environ.items() if it not in ("INSTANTS_LIBRARY", "PYTHONPATH")}
+    if not tell_run("Python: an environment", [PYTHON, "-m", "venv", room]):
+        return
+    install = [room / "bin" / "pip", "install", "--no-index", "--disable-pip-version-check", BINDINGS / "python"]
+    if tell_run("Python: pip install", install, env=places, cwd=library.room):
+        code = "import instants, sys; sys.stdout.buffer.write(instants.answer_bytes(sys.stdin.buffer.read(), sys.argv[1:]))"
+        status, said, wrong = ran([room / "bin" / "python", "-c", code, *WORDS], library.input, env=places, cwd=library.room)
+        tell_same("Python: the installed package", said if status == 0 else wrong, library.answers)
+
+
 def try_python(library):
-    """Tries the module."""
+    """Tries the package."""
     os.environ["INSTANTS_LIBRARY"] = str(SHARED)
-    tell_run("Python: its tests", [sys.executable, "-B", BINDINGS / "python" / "test_instants.py", "--quiet"])
+    status, _, said = ran([PYTHON, "-B", BINDINGS / "python" / "test_instants.py", "--verbose"])
+    tell("Python: its tests", status == 0, said.decode(errors="replace"))
+    for missing in sorted(set(re.findall("skipped '(.*)'", said.decode(errors="replace")))):
+        print(f"skipped: Python: {missing}")
+    strict = ["mypy", "--strict", "--cache-dir", library.room / "mypy", "instants", "wheel_of_package.py"]
+    tell_run("Python: its types", strict, cwd=BINDINGS / "python")
     sys.path.insert(0, str(BINDINGS / "python"))
     import instants
 
     tell_same("Python: bytes", instants.answer_bytes(library.input, WORDS), library.answers)
-    read = library.input.split(b"\n")
-    listed = instants.answers(read, target="+00:00", sources=SOURCES, limit=100)
-    tell_same("Python: a list", "\n".join([*listed, ""]).encode(), library.answers)
+    for what, lines in (("a list", library.input.split(b"\n")), ("a block", library.input)):
+        listed = instants.answers(lines, target="+00:00", sources=SOURCES, limit=100)
+        tell_same(f"Python: {what}", "\n".join([*listed, ""]).encode(), library.answers)
+    try_library_of_python(library)
+    try_pip(library)
 
 
 def quoted(words):
@@ -262,7 +303,7 @@ def main():
     words = argparse.ArgumentParser(description=__doc__, formatter_class=argparse.RawDescriptionHelpFormatter)
     words.add_argument("--lines", type=int, default=100_000, metavar="N")
     given = words.parse_args()
-    missing = [it for it in ("gcc", "g++", "valgrind", "cargo", "sqlite3") if not shutil.which(it)]
+    missing = [it for it in ("gcc", "g++", "valgrind", "cargo", "mypy", "sqlite3") if not shutil.which(it)]
     if missing:
         words.error(f"there is no command {missing[0]}")
     try:
