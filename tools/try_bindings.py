@@ -19,7 +19,8 @@ those that were built last; where they are not, or are older than their sources,
   types, by `mypy --strict`; the same lines by its calls; `pip install`, without a network, into an environment of its own,
   where the package answers with no variable set; and what is said where there is no library, or one of another version.
 - SQLite: `bindings/sqlite/instant.c` answers the lines that are text as the program does; the answers are the key of a table,
-  and of an index that SQLite uses; bad calls are errors; all of it on 2,000 lines under valgrind.
+  of an index that SQLite uses, and of generated columns, also where the schema is not trusted; bad calls are errors; all of
+  it on 2,000 lines under valgrind.
 
 The last line counts what passed; the status is 1 where anything failed.
 """
@@ -258,6 +259,20 @@ SELECT moment FROM log;
     index = f"{table}CREATE INDEX by_moment ON lines ({call});\nEXPLAIN QUERY PLAN SELECT * FROM lines WHERE {call} > '2021';\n"
     status, said, wrong = queried(library, index, wrapper)
     tell(f"{what}: an index", status == 0 and b"USING INDEX by_moment" in said, (said + wrong).decode(errors="replace"))
+    status, said, wrong = queried(library, columns_of(table, call), wrapper)
+    tell_same(f"{what}: columns", said if status == 0 else wrong, due + b"0|1\n")
+
+
+def columns_of(table, call):
+    """Returns statements with both functions in generated columns, and an index over one, in a schema that is not trusted."""
+    columns = f"moment TEXT AS ({call}) STORED, fault TEXT AS ({call.replace('instant(', 'instant_fault(')}) STORED"
+    return f"""PRAGMA trusted_schema = OFF;
+{table}CREATE TABLE log (line TEXT NOT NULL, {columns});
+CREATE INDEX log_by_moment ON log (moment);
+INSERT INTO log (line) SELECT line FROM lines ORDER BY rowid;
+SELECT coalesce('! ' || fault, moment) FROM log ORDER BY rowid;
+SELECT sum((fault IS NULL) = (moment LIKE '!%')), sum(moment = {call}) = count(*) FROM log;
+"""
 
 
 def try_bad_calls(library):
@@ -268,6 +283,8 @@ def try_bad_calls(library):
         (["+00:00", "rfc", "x"], b"source 1 is not a known source"),
         (["+00:00", "v1", "[x]", "x"], b"source 1: "),
         (["+00:00", "rfc3339\n", "x"], b"a word has a line feed"),
+        (["+00:00", "+25:00", "rfc3339", "x"], b"the assumed offset must be"),
+        (["+00:00", "+00:00", "x"], b"usage: "),
     ):
         status, said, wrong = queried(library, f"SELECT instant({quoted(arguments)});")
         tell(f"SQLite: refuses {arguments}", status != 0 and printed in wrong, f"{said} {wrong}")
@@ -278,6 +295,12 @@ def try_bad_calls(library):
         ("instant('+00:00', 'rfc3339', '2021-01-02T03:04:05Z' || char(0))", b"! trailing\n"),
         ("instant('+00:00', 'rfc3339', x'ff')", b"! component year\n"),
         ("instant('+00:00', 'v3', '[unix_timestamp]', 1609556645)", b"2021-01-02T03:04:05.000000000Z\n"),
+        ("instant('+00:00', '+00:00', 'strftime', '%F %T', '2021-01-02 03:04:05')", b"2021-01-02T03:04:05.000000000Z\n"),
+        ("instant('+01:00', '-', 'strftime', '%F %T%z', '2021-01-02 03:04:05+0100')", b"2021-01-02T03:04:05.000000000+01:00\n"),
+        ("instant_fault('+00:00', 'rfc3339', 'yesterday')", b"component year\n"),
+        ("instant_fault('+00:00', 'rfc3339', '2021-01-02T03:04:05Z' || char(10) || 'b')", b"component year\n"),
+        ("instant_fault('+00:00', 'rfc3339', '2021-01-02T03:04:05Z') IS NULL", b"1\n"),
+        ("instant_fault('+00:00', 'rfc3339', NULL) IS NULL", b"1\n"),
     ):
         status, said, wrong = queried(library, f"SELECT {call};", VALGRIND)
         tell(f"SQLite: {call}", status == 0 and said == printed, f"{said} {wrong}")
@@ -296,6 +319,7 @@ def try_sqlite(library):
     try_bad_calls(library)
     status, said, wrong = ran(["sqlite3", "-batch", "-bail"], (BINDINGS / "sqlite" / "example.sql").read_bytes(), cwd=library.room)
     due = b"2021-01-02T03:04:06.000000000Z|Sat, 02 Jan 2021 03:04:06 +0000\n2021-01-02T03:04:07.000000000Z|01/Jan/2021:22:04:07 -0500\n"
+    due += b"2021-01-02T03:04:05.000000000Z|\n! component year|component year\n"
     tell_same("SQLite: the example", said if status == 0 else wrong, due)
 
 
