@@ -67,7 +67,7 @@ CHECKS = (
 )
 SECONDS = 60
 # Fences of code that is read and not run.
-NOT_RUN = ("sh builds", "rust")
+NOT_RUN = ("sh builds", "rust", "sql")
 
 # What stands in the source of a manual page for a byte.
 ESCAPES = {r"\e": "\\", r"\-": "-", r"\&": "", r"\(aq": "'", r"\(dq": '"', r"\(ha": "^", r"\(ti": "~"}
