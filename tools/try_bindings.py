@@ -3,8 +3,8 @@
 
     tools/try_bindings.py [--lines N]
 
-The packages of Debian: binutils gcc g++ valgrind cargo rustc mypy python3 python3-venv python3-numpy python3-pandas
-libsqlite3-dev sqlite3. The program and the library are
+The packages of Debian: binutils gcc g++ valgrind cargo rustc mypy pkg-config python3 python3-venv python3-numpy
+python3-pandas libsqlite3-dev sqlite3. The program and the library are
 those that were built last; where they are not, or are older than their sources, they are proved and built first
 (tools/build_program.py, tools/build_library.py).
 
@@ -14,7 +14,9 @@ those that were built last; where they are not, or are older than their sources,
   NUL, byte for byte as the program does, with the sanitizers of addresses and of what is undefined, and under valgrind, with
   no leak. It refuses words as the program does: by its sentence and its status. `limits.c` ends early in all ways, with the
   sanitizers and under valgrind, and `memory.c` refuses each allocation in turn.
-- Rust: the tests of `bindings/rust`, and its example `answer` as that in C, without the sanitizers.
+- Rust: the tests of `bindings/rust`, and its example `answer` as that in C, without the sanitizers. Both crates are packed
+  without a network, and what was packed is unpacked and tried outside of the repository, with the library that
+  INSTANTS_LIB_DIR names and with that which pkg-config finds; where there is none the build says how to get it.
 - Python: the tests of `bindings/python`, by Debian's Python, which has numpy and pandas where their packages are there; its
   types, by `mypy --strict`; the same lines by its calls; `pip install`, without a network, into an environment of its own,
   where the package answers with no variable set; and what is said where there is no library, or one of another version.
@@ -170,7 +172,7 @@ def try_rust(library):
     copy = library.room / "rust"
     shutil.copytree(BINDINGS / "rust", copy, ignore=shutil.ignore_patterns("target", "Cargo.lock"))
     built = copy / "target"
-    places = {it: text for it, text in os.environ.items() if it != "CARGO_TARGET_DIR"}
+    places = {it: text for it, text in os.environ.items() if it not in ("CARGO_TARGET_DIR", "INSTANTS_LIB_DIR")}
     how = {"cwd": copy, "env": {**places, "INSTANTS_LIB_DIR": str(LIBRARY.parent)}}
     tell_run("Rust: its tests", ["cargo", "test", "--quiet", "--offline"], **how)
     if tell_run("Rust: its example compiles", ["cargo", "build", "--quiet", "--offline", "--release", "--example", "answer"], **how):
@@ -178,6 +180,38 @@ def try_rust(library):
         library.tell_alike("Rust", [answer])
         status, said, wrong = ran([*VALGRIND_OF_RUST, answer, *WORDS], library.input)
         tell_same("Rust, under valgrind", said if status == 0 else wrong, library.answers)
+    try_crates(library, places)
+
+
+def packed(name, source, room, places):
+    """Packs a crate, and unpacks it where cargo finds it in place of a registry."""
+    copy = room / "sources" / name
+    shutil.copytree(source, copy, ignore=shutil.ignore_patterns("target", "Cargo.lock"))
+    how = {"cwd": copy, "env": {**places, "INSTANTS_LIB_DIR": str(LIBRARY.parent)}}
+    if tell_run(f"Rust: {name} is packed", ["cargo", "package", "--quiet", "--offline"], **how):
+        (made,) = (copy / "target" / "package").glob("*.crate")
+        shutil.unpack_archive(made, room / "registry", "gztar")
+        (room / "registry" / made.stem / ".cargo-checksum.json").write_text('{"files":{}}')
+
+
+def try_crates(library, places):
+    """Tries both crates as they are packed."""
+    room = library.room / "crates"
+    (room / ".cargo").mkdir(parents=True)
+    (room / "registry").mkdir()
+    config = '[source.crates-io]\nreplace-with = "here"\n[source.here]\ndirectory = "registry"\n'
+    (room / ".cargo" / "config.toml").write_text(config)
+    packed("instants-sys", BINDINGS / "rust" / "sys", room, places)
+    packed("instants", BINDINGS / "rust", room, places)
+    (found,) = (room / "registry").glob("instants-[0-9]*")
+    shutil.copytree(found, room / "unpacked")
+    pkg_config = (ROOT / "packaging" / "instants.pc.in").read_text().replace("@LIBDIR@", str(LIBRARY.parent))
+    (room / "instants.pc").write_text(pkg_config.replace("@PREFIX@", str(ROOT)).replace("@VERSION@", "0.1.0"))
+    test = ["cargo", "test", "--quiet", "--offline"]
+    for what, named in (("INSTANTS_LIB_DIR", LIBRARY.parent), ("PKG_CONFIG_PATH", room)):
+        tell_run(f"Rust: the packed crates, by {what}", test, cwd=room / "unpacked", env={**places, what: str(named)})
+    status, _, wrong = ran(test, cwd=room / "unpacked", env={**places, "PKG_CONFIG_LIBDIR": str(room / "registry")})
+    tell("Rust: no library", status != 0 and b"name the folder of libinstants.a in INSTANTS_LIB_DIR" in wrong, wrong.decode(errors="replace"))
 
 
 def tell_refused_library(what, named, printed):
@@ -327,7 +361,7 @@ def main():
     words = argparse.ArgumentParser(description=__doc__, formatter_class=argparse.RawDescriptionHelpFormatter)
     words.add_argument("--lines", type=int, default=100_000, metavar="N")
     given = words.parse_args()
-    missing = [it for it in ("gcc", "g++", "valgrind", "cargo", "mypy", "sqlite3") if not shutil.which(it)]
+    missing = [it for it in ("gcc", "g++", "valgrind", "cargo", "mypy", "pkg-config", "sqlite3") if not shutil.which(it)]
     if missing:
         words.error(f"there is no command {missing[0]}")
     try:
