@@ -64,6 +64,17 @@ VALGRIND = ["valgrind", "--quiet", "--error-exitcode=99", "--leak-check=full", "
 VALGRIND_OF_RUST = [*VALGRIND[:-1], "--errors-for-leak-kinds=definite,indirect,possible"]
 # Lines for valgrind through SQLite, where each is a call of its own.
 FEW = 2_000
+# A caller in Python, for its types.
+CALLER = """
+from __future__ import annotations
+from datetime import datetime
+import instants
+texts: list[str] = instants.answers(open("lines"), target="+00:00", sources=["rfc3339"], limit=100)
+block: list[str] = instants.answers(memoryview(b""), target="+00:00", sources=("rfc3339",), raising=True)
+faults: list[str | None] = [it.fault for it in instants.parse([b"", bytearray()], target="+00:00", sources=["rfc3339"])]
+moments: list[datetime | None] = instants.datetimes(["x"], sources=["rfc3339"], assumed="+00:00")
+written: bytes = instants.answer_bytes(b"", ["+00:00", "-", "100", "rfc3339"])
+"""
 WRONG_WORDS = (
     [],
     ["+00:00", "-", "100"],
@@ -240,6 +251,9 @@ def try_pip(library):
         code = "import instants, sys; sys.stdout.buffer.write(instants.answer_bytes(sys.stdin.buffer.read(), sys.argv[1:]))"
         status, said, wrong = ran([room / "bin" / "python", "-c", code, *WORDS], library.input, env=places, cwd=library.room)
         tell_same("Python: the installed package", said if status == 0 else wrong, library.answers)
+        (library.room / "caller.py").write_text(CALLER)
+        strict = ["mypy", "--strict", "--cache-dir", library.room / "mypy", "--python-executable", room / "bin" / "python", "caller.py"]
+        tell_run("Python: the types of a caller", strict, cwd=library.room, env=places)
 
 
 def try_python(library):

@@ -26,12 +26,13 @@ MODULES = "/usr/local/lib/python3.11/dist-packages"
 LINE, ANSWER = b"2021-01-02T04:04:05+01:00\n", b"2021-01-02T03:04:05.000000000Z\n"
 WORDS = ["+00:00", "-", "100", "rfc3339"]
 IN_PYTHON = f"import instants; print(*instants.answers({LINE.decode()!r}, target='+00:00', sources=['rfc3339']))"
-# How each program is called, with its input and what it answers.
+# How each program is called, with its input and what it answers, and a first word that bash knows.
 CALLS = {
-    "instants": (WORDS, LINE, ANSWER),
-    "instants-lines": (["key", *WORDS], LINE, ANSWER[:-1] + b"\t" + LINE),
-    "description_check": (["strftime"], b"%s", b"well formed\n"),
+    "instants": (WORDS, LINE, ANSWER, b"+00:00"),
+    "instants-lines": (["key", *WORDS], LINE, ANSWER[:-1] + b"\t" + LINE, b"carry"),
+    "description_check": (["strftime"], b"%s", b"well formed\n", b"strftime"),
 }
+COMPLETE = '. "$0" && complete -p "$1" > /dev/null && COMP_WORDS=("$1" "") COMP_CWORD=1 && _instants && echo "${COMPREPLY[@]}"'
 # What of this machine the root has: packages that others depend upon, and what scripts of packages call.
 BELOW = ("libc6", "python3", "python3-minimal", "python3.11", "python3.11-minimal", "libpython3-stdlib", "libpython3.11-minimal",
          "libpython3.11-stdlib")
@@ -115,12 +116,12 @@ def try_installed(what, root, prefix, libdir):
     """Tries what was installed in a root."""
     pages = root / prefix[1:] / "share"
     for name in programs():
-        words, given, due = CALLS[name]
+        words, given, due, known = CALLS[name]
         ran = ran_in(root, [f"{prefix}/bin/{name}", *words], given)
         tell(f"{what}: {name} answers", ran.returncode == 0 and ran.stdout.startswith(due), f"{ran}")
         page = next((pages / "man/man1").glob(f"{name}.1*"), None)
-        completed = run(["bash", "-c", f'. "$0" && complete -p {name}', pages / "bash-completion/completions" / name])
-        tell(f"{what}: {name} has a manual page and completions", page and b"_instants" in completed, f"{page} {completed}")
+        completed = run(["bash", "-c", COMPLETE, pages / "bash-completion/completions" / name, name])
+        tell(f"{what}: {name} has a manual page and completions", page and known in completed.split(), f"{page} {completed}")
     ran = ran_in(root, ["/usr/bin/python3.11", "-B", "-c", IN_PYTHON])
     tell(f"{what}: Python answers", ran.returncode == 0 and ran.stdout == ANSWER, f"{ran}")
     missing = missing_pages(pages / "doc" / "instants")

@@ -16,6 +16,7 @@
 #include "mb/pg_wchar.h"
 #include "utils/array.h"
 #include "utils/builtins.h"
+#include "utils/memutils.h"
 
 #include <instants.h>
 
@@ -124,6 +125,8 @@ answer(FunctionCallInfo fcinfo)
 		refuse(&words);
 	if (status != INSTANTS_OK)
 		ereport(ERROR, (errcode(ERRCODE_OUT_OF_MEMORY), errmsg("instants: out of memory")));
+	if (output.len > MaxAllocSize)
+		ereport(ERROR, (errcode(ERRCODE_PROGRAM_LIMIT_EXCEEDED), errmsg("instants: the answers are too long")));
 	pfree(input);
 	pfree(words.data);
 	return output;

@@ -4,6 +4,7 @@ import array
 import doctest
 import io
 import pathlib
+import pickle
 import tempfile
 import unittest
 from datetime import datetime, timedelta, timezone
@@ -132,6 +133,7 @@ class Values(unittest.TestCase):
             fault = caught.exception
             self.assertEqual((fault.place, fault.line, fault.fault), (1, b"yesterday", "component year"))
             self.assertEqual(str(fault), "line 2, 'yesterday': component year")
+            self.assertEqual(vars(pickle.loads(pickle.dumps(fault))), vars(fault))
 
     def test_datetimes(self):
         moment = datetime(2021, 1, 2, 3, 4, 5, 123456, timezone.utc)

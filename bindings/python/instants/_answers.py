@@ -34,6 +34,9 @@ class Fault(ValueError):
         super().__init__(f"line {place + 1}, {line.decode(errors='replace')!r}: {fault}")
         self.place, self.line, self.fault = place, line, fault
 
+    def __reduce__(self) -> tuple[type[Fault], tuple[int, bytes, str]]:
+        return Fault, (self.place, self.line, self.fault)
+
 
 def fault_at(stream: bytes, place: int, fault: str) -> Fault:
     """Returns the fault of the line at a place of a stream."""

@@ -8,7 +8,8 @@ from ._answers import fault_at
 from ._lines import Lines, Words, answer_bytes, stream_of
 
 if TYPE_CHECKING:
-    import numpy
+    # (a caller may have no numpy)
+    import numpy  # type: ignore[import]
 
 # A date-time in UTC has so many bytes, `2021-01-02T03:04:05.000000000Z`.
 WIDTH = 30
