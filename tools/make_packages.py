@@ -20,8 +20,8 @@ PACKAGING = ROOT / "packaging"
 PROGRAMS = {name: Program(crate, name) for crate, name in (("instants_program", "instants"), ("instants_lines_program", "instants-lines"))}
 CHECK = Program("description_check", "description_check")
 # What of the documents is for those who use the programs or the library.
-DOCUMENTS = ("README.md", "docs/GUIDE.md", "docs/FORMATS.md", "docs/DESCRIPTIONS.md", "docs/LIBRARIES.md", "docs/CLAIMS.md",
-             "docs/DIFFERENCES.md", "docs/SPEED.md")
+DOCUMENTS = ("README.md", "docs/GUIDE.md", "docs/FORMATS.md", "docs/DESCRIPTIONS.md", "docs/LIBRARIES.md", "docs/SCALE.md",
+             "docs/CLAIMS.md", "docs/DIFFERENCES.md", "docs/SPEED.md")
 PAGES = ("instants.1", "instants-lines.1", "instants-descriptions.7")
 # Which of the bindings are handed on as sources.
 SOURCES = ("c", "postgres", "sqlite")
@@ -107,8 +107,8 @@ def lay_out(top):
         put(ROOT / "docs" / name, top / "man" / name)
     for name in DOCUMENTS:
         put(None, top / "doc" / name, linked(name))
-    for name in SOURCES:
-        shutil.copytree(ROOT / "bindings" / name, top / "bindings" / name)
+    for name in run(["git", "ls-files", *(f"bindings/{it}" for it in SOURCES)], cwd=ROOT).decode().split():
+        put(ROOT / name, top / name)
     put(ROOT / "LICENSE", top / "LICENSE")
     wheel(top / "python", top / "lib" / build_library.SHARED)
 

@@ -3,14 +3,16 @@
 import array
 import doctest
 import io
+import os
 import pathlib
 import pickle
+import subprocess
 import tempfile
 import unittest
 from datetime import datetime, timedelta, timezone
 
 import instants
-from instants import _library
+from instants import _library, dask
 
 try:
     import numpy
@@ -183,6 +185,42 @@ class Arrays(unittest.TestCase):
         frame["moment"] = self.read(frame["line"])
         self.assertEqual(list(frame["moment"].isna()), [False, True])
         self.assertEqual(frame["moment"][0].tz_localize("UTC"), pandas.Timestamp(LINE))
+
+
+class Parts(unittest.TestCase):
+    """How a file is cut for many machines."""
+
+    def cut(self, text, size, begins=None):
+        with tempfile.TemporaryDirectory() as folder:
+            file = pathlib.Path(folder, "lines")
+            file.write_bytes(text)
+            return [text[it.start : it.stop] for it in dask.parts_of(str(file), size, begins)]
+
+    def test_whole_lines(self):
+        for text in (b"", b"\n", b"a", b"ab\nc\n\ndefg\nh", b"ab\nc\n\ndefg\n"):
+            for size in range(1, 12):
+                parts = self.cut(text, size)
+                self.assertEqual(b"".join(parts), text)
+                self.assertTrue(all(it.endswith(b"\n") for it in parts[:-1]))
+                self.assertTrue(all(it and b"\n" not in it[size - 1 : -1] for it in parts))
+
+    def test_lines_that_may_begin_a_part(self):
+        text = b"1 a\n x\n y\n2 b\n3 c\n z\n"
+        for size in range(1, 30):
+            parts = self.cut(text, size, rb"\d")
+            self.assertEqual(b"".join(parts), text)
+            self.assertTrue(all(it[:1].isdigit() for it in parts))
+        self.assertEqual(self.cut(text, 1, rb"\d"), [b"1 a\n x\n y\n", b"2 b\n", b"3 c\n z\n"])
+
+    def test_one_part(self):
+        with tempfile.TemporaryDirectory() as folder:
+            file = pathlib.Path(folder, "lines")
+            file.write_text("a\nb\nc\n")
+            made = dask.answer_part(str(file), dask.Part(2, 4), ["cat"], folder)
+            self.assertEqual(pathlib.Path(made).read_text(), "b\n")
+            with self.assertRaises(subprocess.CalledProcessError):
+                dask.answer_part(str(file), dask.Part(0, 2), ["false"], folder)
+            self.assertEqual(len([it for it in os.listdir(folder) if it.isdigit()]), 1)
 
 
 class Library(unittest.TestCase):
