@@ -82,4 +82,6 @@ def main(scheduler: str, file: str, output: str, *command: str) -> None:
 
 
 if __name__ == "__main__":
+    if len(sys.argv) < 5:
+        sys.exit(__doc__)
     main(*sys.argv[1:])
