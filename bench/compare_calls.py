@@ -3,7 +3,8 @@
 
     bench/compare_calls.py [--lines N]
 
-The packages of Debian: binutils gcc cargo rustc librust-time-dev python3 python3-ciso8601 python3-dateutil libsqlite3-dev sqlite3.
+The packages of Debian: binutils gcc cargo rustc librust-time-dev python3 python3-ciso8601 python3-dateutil
+python3-numpy libsqlite3-dev sqlite3.
 The library is the one that was built last (`tools/build_library.py` builds it).
 
 Each cell is how many nanoseconds of processor time a line takes, in the quickest of some rounds, in calls of one line, of 100 and of
@@ -78,6 +79,8 @@ def rows(room, file, count):
         ("Rust: the crate `time` 0.3.9, `parse`, `to_offset`, `format_into`", [rust] * 3),
         ("Python: `answer_bytes`", in_python("answer_bytes", COUNTS)),
         ("Python: `answers`", in_python("answers", COUNTS)),
+        ("Python: `datetimes`", in_python("datetimes", COUNTS)),
+        ("Python: `to_datetime64`, of bytes", in_python("to_datetime64", COUNTS)),
         ("Python: `ciso8601`, `astimezone`, `isoformat`", in_python("ciso8601", COUNTS[2:]) * 3),
         ("Python: `python-dateutil`, `isoparse`, `astimezone`, `isoformat`", in_python("dateutil", COUNTS[2:]) * 3),
         ("SQLite: `instant('+00:00', 'rfc3339', line)`", [of_sqlite(room, file, count), None, None]),

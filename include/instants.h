@@ -4,10 +4,9 @@
  *
  *     const char words[] = "+00:00\n-\n100\nrfc3339";
  *     const char input[] = "2021-01-02T04:04:05+01:00\n";
- *     uint8_t output[INSTANTS_ROOM(1)];
+ *     char output[INSTANTS_ROOM(1)];
  *     size_t written;
- *     uint8_t status = instants_answer_lines((const uint8_t *)words, strlen(words), (const uint8_t *)input, strlen(input),
- *                                            output, sizeof output, &written);
+ *     uint8_t status = instants_answer_lines(words, strlen(words), input, strlen(input), output, sizeof output, &written);
  *     // 0, and the first 31 bytes of the output are 2021-01-02T03:04:05.000000000Z and a line feed
  *
  * Words. They are those of the program, `TARGET ASSUMED LIMIT SOURCE...`, in UTF-8, as one text with a line feed between
@@ -28,7 +27,8 @@
  * description that is nested as deep as it may be, 40 KiB for long ones that are not, 24 KiB for the formats.
  *
  * The caller sees to it
- * - that no pointer is NULL, also where the length is 0, and that as many bytes as it says lie behind each pointer;
+ * - that no pointer is NULL, also where the length is 0 (there any address will do, as that of ""), and that as many bytes as
+ *   the length says lie behind each pointer;
  * - that what a call writes to overlaps with nothing else that it is lent;
  * - that while a call runs nobody changes the words or the input, and nobody reads or writes the output, `*written` or
  *   `*sentence_len`;
@@ -75,8 +75,8 @@ extern "C" {
  * which are longer; with no room at all that is no byte. INSTANTS_ROOM bytes are never too few.
  * INSTANTS_REFUSED: `*written` is 0, and nothing is written. `instants_sentence` says what is refused.
  */
-uint8_t instants_answer_lines(const uint8_t *words, size_t words_len, const uint8_t *input, size_t input_len,
-                              uint8_t *output, size_t output_len, size_t *written);
+uint8_t instants_answer_lines(const void *words, size_t words_len, const void *input, size_t input_len,
+                              void *output, size_t output_len, size_t *written);
 
 /*
  * Looks at the words alone, and writes the sentence of what is refused to the output: that which the program prints, without
@@ -86,7 +86,7 @@ uint8_t instants_answer_lines(const uint8_t *words, size_t words_len, const uint
  * INSTANTS_FAILED: the sentence is `instants: out of memory`, as it also is where the words are not UTF-8.
  * INSTANTS_REFUSED: the words are wrong, or a source among them is no description.
  */
-uint8_t instants_sentence(const uint8_t *words, size_t words_len, uint8_t *output, size_t output_len, size_t *sentence_len);
+uint8_t instants_sentence(const void *words, size_t words_len, void *output, size_t output_len, size_t *sentence_len);
 
 /* The version of the library, as INSTANTS_VERSION has that of the header. */
 uint32_t instants_version(void);

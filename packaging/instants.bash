@@ -1,4 +1,5 @@
-# Completion of the words of instants(1): TARGET ASSUMED LIMIT SOURCE...
+# Completion of the words of instants(1), TARGET ASSUMED LIMIT SOURCE..., of instants-lines(1), which has a mode before them,
+# and of description_check(1).
 
 _instants()
 {
@@ -8,7 +9,14 @@ _instants()
     if declare -F _get_comp_words_by_ref > /dev/null; then
         _get_comp_words_by_ref -n : -c word -p before -i place
     fi
+    case ${COMP_WORDS[0]##*/} in
+        instants-lines) place=$((place - 1)) ;;
+        description_check) place=$((place == 1 ? -1 : -2)) ;;
+    esac
     case $place in
+        -2) ;;
+        -1) words='v1 v2 v3 strftime' ;;
+        0) words='key carry replace explain' ;;
         1) words='+00:00 -00:00' ;;
         2) words='- +00:00' ;;
         # (the second is INSTANTS_GREATEST_LIMIT of instants.h)
@@ -27,4 +35,4 @@ _instants()
     fi
 }
 
-complete -F _instants instants
+complete -F _instants instants instants-lines description_check

@@ -15,14 +15,17 @@ NUMBER = r"(\d[\d_]*)"
 # Where each number of the header stands elsewhere: a file, and what is around it there.
 PLACES = (
     ("LINE_ROOM", "crates/instants_memory/src/answers.rt", rf"^pub const LINE_ROOM: usize = {NUMBER};"),
-    ("LINE_ROOM", "bindings/rust/src/lib.rs", rf"^pub const LINE_ROOM: usize = {NUMBER};"),
-    ("LINE_ROOM", "bindings/python/instants.py", rf"^LINE_ROOM = {NUMBER}$"),
+    ("LINE_ROOM", "bindings/rust/sys/src/lib.rs", rf"^pub const LINE_ROOM: usize = {NUMBER};"),
+    ("LINE_ROOM", "bindings/python/instants/_library.py", rf"^LINE_ROOM = {NUMBER}$"),
     ("GREATEST_LIMIT", "crates/instants_words/src/pieces.rt", rf"^const GREATEST_LIMIT: u32 = {NUMBER};"),
     ("GREATEST_LIMIT", "crates/instants_words/specs/Pieces.antt", rf"^limit_said word = number_said 1 {NUMBER} 7 word$"),
     ("GREATEST_LIMIT", "crates/instants_timeline/specs/ProgramText.antt", rf"the limit must be a number from 1 to {NUMBER}\""),
-    ("GREATEST_LIMIT", "bindings/python/instants.py", rf"^GREATEST_LIMIT = {NUMBER}$"),
+    ("GREATEST_LIMIT", "bindings/python/instants/_library.py", rf"^GREATEST_LIMIT = {NUMBER}$"),
     ("GREATEST_LIMIT", "packaging/instants.bash", rf"^ *3\) words='100 {NUMBER}' ;;"),
     ("VERSION", "crates/instants_c/src/lib.rt", rf"^const VERSION: u32 = {NUMBER};"),
+    ("GREATEST_LIMIT", "bindings/rust/sys/src/lib.rs", rf"^pub const GREATEST_LIMIT: usize = {NUMBER};"),
+    ("VERSION", "bindings/rust/sys/src/lib.rs", rf"^pub const VERSION: u32 = {NUMBER};"),
+    ("VERSION", "bindings/python/instants/_library.py", rf"^VERSION = {NUMBER}$"),
 )
 
 

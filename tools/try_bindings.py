@@ -3,20 +3,26 @@
 
     tools/try_bindings.py [--lines N]
 
-The packages of Debian: binutils gcc valgrind cargo rustc python3 libsqlite3-dev sqlite3. The program and the library are
+The packages of Debian: binutils gcc g++ valgrind cargo rustc mypy pkg-config python3 python3-venv python3-numpy
+python3-pandas libsqlite3-dev sqlite3. The program and the library are
 those that were built last; where they are not, or are older than their sources, they are proved and built first
 (tools/build_program.py, tools/build_library.py).
 
 - The numbers of the header are those of the sources and of the other languages (tools/header_numbers.py), it says how much
-  stack a call needs, and it is valid C and C++ by itself.
+  stack a call needs, and it is valid C and C++ by itself. `bindings/c/answers.cc` calls it in C++, over strings.
 - C: `bindings/c/answer.c` answers 100,000 mixed lines (bench/lines.py), with some that are empty, too long, no text or hold a
   NUL, byte for byte as the program does, with the sanitizers of addresses and of what is undefined, and under valgrind, with
   no leak. It refuses words as the program does: by its sentence and its status. `limits.c` ends early in all ways, with the
   sanitizers and under valgrind, and `memory.c` refuses each allocation in turn.
-- Rust: the tests of `bindings/rust`, and its example `answer` as that in C, without the sanitizers.
-- Python: the tests of `bindings/python`, and the same lines by its two calls.
+- Rust: the tests of `bindings/rust`, and its example `answer` as that in C, without the sanitizers. Both crates are packed
+  without a network, and what was packed is unpacked and tried outside of the repository, with the library that
+  INSTANTS_LIB_DIR names and with that which pkg-config finds; where there is none the build says how to get it.
+- Python: the tests of `bindings/python`, by Debian's Python, which has numpy and pandas where their packages are there; its
+  types, by `mypy --strict`; the same lines by its calls; `pip install`, without a network, into an environment of its own,
+  where the package answers with no variable set; and what is said where there is no library, or one of another version.
 - SQLite: `bindings/sqlite/instant.c` answers the lines that are text as the program does; the answers are the key of a table,
-  and of an index that SQLite uses; bad calls are errors; all of it on 2,000 lines under valgrind.
+  of an index that SQLite uses, and of generated columns, also where the schema is not trusted; bad calls are errors; all of
+  it on 2,000 lines under valgrind.
 
 The last line counts what passed; the status is 1 where anything failed.
 """
@@ -25,6 +31,7 @@ import argparse
 import os
 import pathlib
 import random
+import re
 import shutil
 import subprocess
 import sys
@@ -48,6 +55,8 @@ LOG = "%d/%b/%Y:%H:%M:%S %z"
 SOURCES = ["rfc3339", "rfc2822", "strftime", LOG]
 WORDS = ["+00:00", "-", "100", *SOURCES]
 GREATEST = str(header_numbers.in_header("GREATEST_LIMIT"))
+# Debian's own, which has the modules of Debian's packages.
+PYTHON = "/usr/bin/python3"
 WARNINGS = ["-std=c11", "-Wall", "-Wextra", "-Werror"]
 SANITIZERS = ["-g", "-O1", "-fsanitize=address,undefined", "-fno-sanitize-recover=all"]
 VALGRIND = ["valgrind", "--quiet", "--error-exitcode=99", "--leak-check=full", "--errors-for-leak-kinds=all"]
@@ -55,6 +64,17 @@ VALGRIND = ["valgrind", "--quiet", "--error-exitcode=99", "--leak-check=full", "
 VALGRIND_OF_RUST = [*VALGRIND[:-1], "--errors-for-leak-kinds=definite,indirect,possible"]
 # Lines for valgrind through SQLite, where each is a call of its own.
 FEW = 2_000
+# A caller in Python, for its types.
+CALLER = """
+from __future__ import annotations
+from datetime import datetime
+import instants
+texts: list[str] = instants.answers(open("lines"), target="+00:00", sources=["rfc3339"], limit=100)
+block: list[str] = instants.answers(memoryview(b""), target="+00:00", sources=("rfc3339",), raising=True)
+faults: list[str | None] = [it.fault for it in instants.parse([b"", bytearray()], target="+00:00", sources=["rfc3339"])]
+moments: list[datetime | None] = instants.datetimes(["x"], sources=["rfc3339"], assumed="+00:00")
+written: bytes = instants.answer_bytes(b"", ["+00:00", "-", "100", "rfc3339"])
+"""
 WRONG_WORDS = (
     [],
     ["+00:00", "-", "100"],
@@ -138,8 +158,12 @@ def try_header(library):
     wrong = header_numbers.wrong_numbers()
     tell("the header: its numbers", not wrong, "; ".join(wrong))
     tell("the header: it says how much stack a call needs", "@STACK@" not in header_numbers.HEADER.read_text(), "@STACK@ is no number")
+    strict = ["-Wall", "-Wextra", "-Wpedantic", "-Werror"]
     for language in ("c", "c++"):
-        tell_run(f"the header: valid {language}", ["gcc", "-x", language, "-Wall", "-Wextra", "-Wpedantic", "-Werror", "-fsyntax-only", header_numbers.HEADER])
+        tell_run(f"the header: valid {language}", ["gcc", "-x", language, *strict, "-fsyntax-only", header_numbers.HEADER])
+    made = library.room / "answers"
+    if tell_run("C++: answers.cc compiles", ["g++", "-std=c++17", *strict, f"-I{INCLUDE}", "-o", made, BINDINGS / "c" / "answers.cc", LIBRARY]):
+        tell_run("C++: answers.cc", [made])
 
 
 def try_c(library):
@@ -159,7 +183,7 @@ def try_rust(library):
     copy = library.room / "rust"
     shutil.copytree(BINDINGS / "rust", copy, ignore=shutil.ignore_patterns("target", "Cargo.lock"))
     built = copy / "target"
-    places = {it: text for it, text in os.environ.items() if it != "CARGO_TARGET_DIR"}
+    places = {it: text for it, text in os.environ.items() if it not in ("CARGO_TARGET_DIR", "INSTANTS_LIB_DIR")}
     how = {"cwd": copy, "env": {**places, "INSTANTS_LIB_DIR": str(LIBRARY.parent)}}
     tell_run("Rust: its tests", ["cargo", "test", "--quiet", "--offline"], **how)
     if tell_run("Rust: its example compiles", ["cargo", "build", "--quiet", "--offline", "--release", "--example", "answer"], **how):
@@ -167,19 +191,89 @@ def try_rust(library):
         library.tell_alike("Rust", [answer])
         status, said, wrong = ran([*VALGRIND_OF_RUST, answer, *WORDS], library.input)
         tell_same("Rust, under valgrind", said if status == 0 else wrong, library.answers)
+    try_crates(library, places)
+
+
+def packed(name, source, room, places):
+    """Packs a crate, and unpacks it where cargo finds it in place of a registry."""
+    copy = room / "sources" / name
+    shutil.copytree(source, copy, ignore=shutil.ignore_patterns("target", "Cargo.lock"))
+    how = {"cwd": copy, "env": {**places, "INSTANTS_LIB_DIR": str(LIBRARY.parent)}}
+    if tell_run(f"Rust: {name} is packed", ["cargo", "package", "--quiet", "--offline"], **how):
+        (made,) = (copy / "target" / "package").glob("*.crate")
+        shutil.unpack_archive(made, room / "registry", "gztar")
+        (room / "registry" / made.stem / ".cargo-checksum.json").write_text('{"files":{}}')
+
+
+def try_crates(library, places):
+    """Tries both crates as they are packed."""
+    room = library.room / "crates"
+    (room / ".cargo").mkdir(parents=True)
+    (room / "registry").mkdir()
+    config = '[source.crates-io]\nreplace-with = "here"\n[source.here]\ndirectory = "registry"\n'
+    (room / ".cargo" / "config.toml").write_text(config)
+    packed("instants-sys", BINDINGS / "rust" / "sys", room, places)
+    packed("instants", BINDINGS / "rust", room, places)
+    (found,) = (room / "registry").glob("instants-[0-9]*")
+    shutil.copytree(found, room / "unpacked")
+    pkg_config = (ROOT / "packaging" / "instants.pc.in").read_text().replace("@LIBDIR@", str(LIBRARY.parent))
+    (room / "instants.pc").write_text(pkg_config.replace("@PREFIX@", str(ROOT)).replace("@VERSION@", "0.1.0"))
+    test = ["cargo", "test", "--quiet", "--offline"]
+    for what, named in (("INSTANTS_LIB_DIR", LIBRARY.parent), ("PKG_CONFIG_PATH", room)):
+        tell_run(f"Rust: the packed crates, by {what}", test, cwd=room / "unpacked", env={**places, what: str(named)})
+    status, _, wrong = ran(test, cwd=room / "unpacked", env={**places, "PKG_CONFIG_LIBDIR": str(room / "registry")})
+    tell("Rust: no library", status != 0 and b"name the folder of libinstants.a in INSTANTS_LIB_DIR" in wrong, wrong.decode(errors="replace"))
+
+
+def tell_refused_library(what, named, printed):
+    """Says whether a library that INSTANTS_LIBRARY names is refused with a text."""
+    places = {**os.environ, "INSTANTS_LIBRARY": str(named), "PYTHONPATH": str(BINDINGS / "python")}
+    status, _, wrong = ran([PYTHON, "-B", "-c", "import instants"], env=places)
+    tell(f"Python: {what}", status != 0 and b"ImportError: instants: " in wrong and printed in wrong, wrong.decode(errors="replace"))
+
+
+def try_library_of_python(library):
+    """Tries a library that is not there, and one of another version."""
+    tell_refused_library("no library", library.room / "none.so", b"INSTANTS_LIBRARY")
+    source, made = library.room / "other.c", library.room / "other.so"
+    source.write_text("unsigned instants_version(void) { return 20000; }\nvoid instants_answer_lines(void) {}\nvoid instants_sentence(void) {}\n")
+    if tell_run("Python: another library compiles", ["gcc", "-shared", "-fPIC", "-o", made, source]):
+        tell_refused_library("a library of another version", made, b"is of version 2.0.0, and this package is of 0.1.0")
+
+
+def try_pip(library):
+    """Tries whether pip installs the package without a network."""
+    room, places = library.room / "venv", {it: text for it, text in os.environ.items() if it not in ("INSTANTS_LIBRARY", "PYTHONPATH")}
+    if not tell_run("Python: an environment", [PYTHON, "-m", "venv", room]):
+        return
+    install = [room / "bin" / "pip", "install", "--no-index", "--disable-pip-version-check", BINDINGS / "python"]
+    if tell_run("Python: pip install", install, env=places, cwd=library.room):
+        code = "import instants, sys; sys.stdout.buffer.write(instants.answer_bytes(sys.stdin.buffer.read(), sys.argv[1:]))"
+        status, said, wrong = ran([room / "bin" / "python", "-c", code, *WORDS], library.input, env=places, cwd=library.room)
+        tell_same("Python: the installed package", said if status == 0 else wrong, library.answers)
+        (library.room / "caller.py").write_text(CALLER)
+        strict = ["mypy", "--strict", "--cache-dir", library.room / "mypy", "--python-executable", room / "bin" / "python", "caller.py"]
+        tell_run("Python: the types of a caller", strict, cwd=library.room, env=places)
 
 
 def try_python(library):
-    """Tries the module."""
+    """Tries the package."""
     os.environ["INSTANTS_LIBRARY"] = str(SHARED)
-    tell_run("Python: its tests", [sys.executable, "-B", BINDINGS / "python" / "test_instants.py", "--quiet"])
+    status, _, said = ran([PYTHON, "-B", BINDINGS / "python" / "test_instants.py", "--verbose"])
+    tell("Python: its tests", status == 0, said.decode(errors="replace"))
+    for missing in sorted(set(re.findall("skipped '(.*)'", said.decode(errors="replace")))):
+        print(f"skipped: Python: {missing}")
+    strict = ["mypy", "--strict", "--cache-dir", library.room / "mypy", "instants", "wheel_of_package.py"]
+    tell_run("Python: its types", strict, cwd=BINDINGS / "python")
     sys.path.insert(0, str(BINDINGS / "python"))
     import instants
 
     tell_same("Python: bytes", instants.answer_bytes(library.input, WORDS), library.answers)
-    read = library.input.split(b"\n")
-    listed = instants.answers(read, target="+00:00", sources=SOURCES, limit=100)
-    tell_same("Python: a list", "\n".join([*listed, ""]).encode(), library.answers)
+    for what, lines in (("a list", library.input.split(b"\n")), ("a block", library.input)):
+        listed = instants.answers(lines, target="+00:00", sources=SOURCES, limit=100)
+        tell_same(f"Python: {what}", "\n".join([*listed, ""]).encode(), library.answers)
+    try_library_of_python(library)
+    try_pip(library)
 
 
 def quoted(words):
@@ -213,6 +307,20 @@ SELECT moment FROM log;
     index = f"{table}CREATE INDEX by_moment ON lines ({call});\nEXPLAIN QUERY PLAN SELECT * FROM lines WHERE {call} > '2021';\n"
     status, said, wrong = queried(library, index, wrapper)
     tell(f"{what}: an index", status == 0 and b"USING INDEX by_moment" in said, (said + wrong).decode(errors="replace"))
+    status, said, wrong = queried(library, columns_of(table, call), wrapper)
+    tell_same(f"{what}: columns", said if status == 0 else wrong, due + b"0|1\n")
+
+
+def columns_of(table, call):
+    """Returns statements with both functions in generated columns, and an index over one, in a schema that is not trusted."""
+    columns = f"moment TEXT AS ({call}) STORED, fault TEXT AS ({call.replace('instant(', 'instant_fault(')}) STORED"
+    return f"""PRAGMA trusted_schema = OFF;
+{table}CREATE TABLE log (line TEXT NOT NULL, {columns});
+CREATE INDEX log_by_moment ON log (moment);
+INSERT INTO log (line) SELECT line FROM lines ORDER BY rowid;
+SELECT coalesce('! ' || fault, moment) FROM log ORDER BY rowid;
+SELECT sum((fault IS NULL) = (moment LIKE '!%')), sum(moment = {call}) = count(*) FROM log;
+"""
 
 
 def try_bad_calls(library):
@@ -223,6 +331,8 @@ def try_bad_calls(library):
         (["+00:00", "rfc", "x"], b"source 1 is not a known source"),
         (["+00:00", "v1", "[x]", "x"], b"source 1: "),
         (["+00:00", "rfc3339\n", "x"], b"a word has a line feed"),
+        (["+00:00", "+25:00", "rfc3339", "x"], b"the assumed offset must be"),
+        (["+00:00", "+00:00", "x"], b"usage: "),
     ):
         status, said, wrong = queried(library, f"SELECT instant({quoted(arguments)});")
         tell(f"SQLite: refuses {arguments}", status != 0 and printed in wrong, f"{said} {wrong}")
@@ -233,6 +343,12 @@ def try_bad_calls(library):
         ("instant('+00:00', 'rfc3339', '2021-01-02T03:04:05Z' || char(0))", b"! trailing\n"),
         ("instant('+00:00', 'rfc3339', x'ff')", b"! component year\n"),
         ("instant('+00:00', 'v3', '[unix_timestamp]', 1609556645)", b"2021-01-02T03:04:05.000000000Z\n"),
+        ("instant('+00:00', '+00:00', 'strftime', '%F %T', '2021-01-02 03:04:05')", b"2021-01-02T03:04:05.000000000Z\n"),
+        ("instant('+01:00', '-', 'strftime', '%F %T%z', '2021-01-02 03:04:05+0100')", b"2021-01-02T03:04:05.000000000+01:00\n"),
+        ("instant_fault('+00:00', 'rfc3339', 'yesterday')", b"component year\n"),
+        ("instant_fault('+00:00', 'rfc3339', '2021-01-02T03:04:05Z' || char(10) || 'b')", b"component year\n"),
+        ("instant_fault('+00:00', 'rfc3339', '2021-01-02T03:04:05Z') IS NULL", b"1\n"),
+        ("instant_fault('+00:00', 'rfc3339', NULL) IS NULL", b"1\n"),
     ):
         status, said, wrong = queried(library, f"SELECT {call};", VALGRIND)
         tell(f"SQLite: {call}", status == 0 and said == printed, f"{said} {wrong}")
@@ -251,6 +367,7 @@ def try_sqlite(library):
     try_bad_calls(library)
     status, said, wrong = ran(["sqlite3", "-batch", "-bail"], (BINDINGS / "sqlite" / "example.sql").read_bytes(), cwd=library.room)
     due = b"2021-01-02T03:04:06.000000000Z|Sat, 02 Jan 2021 03:04:06 +0000\n2021-01-02T03:04:07.000000000Z|01/Jan/2021:22:04:07 -0500\n"
+    due += b"2021-01-02T03:04:05.000000000Z|\n! component year|component year\n"
     tell_same("SQLite: the example", said if status == 0 else wrong, due)
 
 
@@ -258,7 +375,7 @@ def main():
     words = argparse.ArgumentParser(description=__doc__, formatter_class=argparse.RawDescriptionHelpFormatter)
     words.add_argument("--lines", type=int, default=100_000, metavar="N")
     given = words.parse_args()
-    missing = [it for it in ("gcc", "valgrind", "cargo", "sqlite3") if not shutil.which(it)]
+    missing = [it for it in ("gcc", "g++", "valgrind", "cargo", "mypy", "pkg-config", "sqlite3") if not shutil.which(it)]
     if missing:
         words.error(f"there is no command {missing[0]}")
     try:

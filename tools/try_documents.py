@@ -48,6 +48,7 @@ DOCUMENTS = (
     "docs/LIBRARIES.md",
     "docs/DESCRIPTIONS.md",
     "docs/FORMATS.md",
+    "docs/SCALE.md",
     "docs/instants.1",
     "docs/instants-lines.1",
 )
@@ -67,7 +68,7 @@ CHECKS = (
 )
 SECONDS = 60
 # Fences of code that is read and not run.
-NOT_RUN = ("sh builds", "rust")
+NOT_RUN = ("sh builds", "rust", "sql", "python")
 
 # What stands in the source of a manual page for a byte.
 ESCAPES = {r"\e": "\\", r"\-": "-", r"\&": "", r"\(aq": "'", r"\(dq": '"', r"\(ha": "^", r"\(ti": "~"}

@@ -1,8 +1,9 @@
 """calls.py FILE LINES CALL WORD..: answers a file of lines by calls of Python of so many lines each, and prints the nanoseconds
 that a line takes, the least of the rounds.
 
-CALL is `answer_bytes` or `answers` of the module `instants`, or `ciso8601` or `dateutil`, which read RFC 3339 and no words:
-each line's moment is read, moved to UTC and written with six digits of a fraction, which is all that they keep.
+CALL is `answer_bytes`, `answers`, `datetimes` or `to_datetime64` of the package `instants`, or `ciso8601` or `dateutil`, which
+read RFC 3339 and no words: each line's moment is read, moved to UTC and written with six digits of a fraction, which is all that
+they keep. `answer_bytes` and `to_datetime64` are given blocks of bytes, the others lists of texts.
 """
 
 import sys
@@ -34,17 +35,18 @@ def call_named(name, words):
         return moved(parser.isoparse)
     import instants
 
-    if name == "answers":
-        target, assumed, limit, *sources = words
-        return lambda lines: instants.answers(lines, target=target, assumed=assumed, limit=int(limit), sources=sources)
-    return lambda lines: instants.answer_bytes(lines, words)
+    if name == "answer_bytes":
+        return lambda lines: instants.answer_bytes(lines, words)
+    target, assumed, limit, *sources = words
+    how = {"assumed": assumed, "limit": int(limit), "sources": sources, **({} if name == "to_datetime64" else {"target": target})}
+    return lambda lines: getattr(instants, name)(lines, **how)
 
 
 def main(file, count, name, *words):
     with open(file, encoding="ascii") as read:
         lines = read.read().split("\n")[:-1]
     pieces = [lines[at : at + int(count)] for at in range(0, len(lines), int(count))]
-    if name == "answer_bytes":
+    if name in ("answer_bytes", "to_datetime64"):
         pieces = ["".join(line + "\n" for line in piece).encode() for piece in pieces]
     call, taken = call_named(name, words), []
     while len(taken) < ROUNDS or sum(taken) < BUDGET:

@@ -60,8 +60,8 @@ static void try_call(const struct call *call)
     uint8_t output[100];
     size_t written = 12345;
     memset(output, '.', sizeof output);
-    uint8_t status = instants_answer_lines((const uint8_t *)call->words, call->words_len, (const uint8_t *)call->input,
-                                           call->input_len, output, call->room, &written);
+    uint8_t status =
+        instants_answer_lines(call->words, call->words_len, call->input, call->input_len, output, call->room, &written);
     bool is_well = status == call->status && written == call->written && !memcmp(output, call->output, written);
     for (size_t at = written; at < sizeof output; at++)
         is_well = is_well && output[at] == '.';
@@ -73,7 +73,7 @@ static void try_sentence(const char *what, const char *words, size_t room, uint8
     uint8_t output[100];
     size_t len = 12345;
     memset(output, '.', sizeof output);
-    uint8_t answered = instants_sentence((const uint8_t *)words, strlen(words), output, room, &len);
+    uint8_t answered = instants_sentence(words, strlen(words), output, room, &len);
     size_t written = len < room ? len : room;
     bool is_well = answered == status && len == strlen(sentence) && !memcmp(output, sentence, written);
     for (size_t at = written; at < sizeof output; at++)
@@ -85,13 +85,11 @@ static void try_sentence(const char *what, const char *words, size_t room, uint8
 static void try_blocks(void)
 {
     const char *both = LINE "yesterday\n";
-    uint8_t whole[INSTANTS_ROOM(2)], parts[INSTANTS_ROOM(2)];
-    size_t whole_len, first, second;
-    const uint8_t *words = (const uint8_t *)WORDS, *input = (const uint8_t *)both;
-    size_t words_len = strlen(WORDS), line_len = strlen(LINE);
-    instants_answer_lines(words, words_len, input, strlen(both), whole, sizeof whole, &whole_len);
-    instants_answer_lines(words, words_len, input, line_len, parts, sizeof parts, &first);
-    instants_answer_lines(words, words_len, input + line_len, strlen(both) - line_len, parts + first, sizeof parts - first, &second);
+    char whole[INSTANTS_ROOM(2)], parts[INSTANTS_ROOM(2)];
+    size_t whole_len, first, second, words_len = strlen(WORDS), line_len = strlen(LINE);
+    instants_answer_lines(WORDS, words_len, both, strlen(both), whole, sizeof whole, &whole_len);
+    instants_answer_lines(WORDS, words_len, both, line_len, parts, sizeof parts, &first);
+    instants_answer_lines(WORDS, words_len, both + line_len, strlen(both) - line_len, parts + first, sizeof parts - first, &second);
     tell("two blocks", first + second == whole_len && !memcmp(whole, parts, whole_len));
 }
 

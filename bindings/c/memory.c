@@ -53,8 +53,7 @@ static bool is_well(long allocations, bool *is_done)
     size_t written = 12345;
     memset(output, '.', sizeof output);
     granted = allocations;
-    uint8_t status = instants_answer_lines((const uint8_t *)words, strlen(words), (const uint8_t *)input, strlen(input), output,
-                                           sizeof output, &written);
+    uint8_t status = instants_answer_lines(words, strlen(words), input, strlen(input), output, sizeof output, &written);
     *is_done = status == INSTANTS_OK;
     if (held != 0)
         return false;
@@ -68,7 +67,7 @@ static bool is_told(long allocations, bool *is_done)
     uint8_t output[200];
     size_t len = 12345;
     granted = allocations;
-    uint8_t status = instants_sentence((const uint8_t *)refused, strlen(refused), output, sizeof output, &len);
+    uint8_t status = instants_sentence(refused, strlen(refused), output, sizeof output, &len);
     *is_done = status == INSTANTS_REFUSED;
     if (held != 0)
         return false;

@@ -1,35 +1,94 @@
-"""Tries the module where it answers, and where it refuses."""
+"""Tries the package where it answers, and where it refuses."""
 
+import array
 import doctest
+import io
+import os
+import pathlib
+import pickle
+import subprocess
+import tempfile
 import unittest
+from datetime import datetime, timedelta, timezone
 
 import instants
+from instants import _library, dask
+
+try:
+    import numpy
+except ImportError:
+    numpy = None
+try:
+    import pandas
+except ImportError:
+    pandas = None
 
 WORDS = ["+00:00", "-", "100", "rfc3339"]
 LINE, ANSWER = "2021-01-02T04:04:05+01:00", "2021-01-02T03:04:05.000000000Z"
+NO_YEAR = "! component year"
+
+
+def how(**others):
+    return {"target": "+00:00", "sources": ["rfc3339"], **others}
 
 
 def answers(lines, **others):
-    return instants.answers(lines, **{"target": "+00:00", "sources": ["rfc3339"], **others})
+    return instants.answers(lines, **how(**others))
 
 
-class Calls(unittest.TestCase):
+class Lines(unittest.TestCase):
     def test_lines(self):
         self.assertEqual(answers([LINE, LINE.encode()]), [ANSWER, ANSWER])
         self.assertEqual(answers([]), [])
-        self.assertEqual(answers([""]), ["! component year"])
+        self.assertEqual(answers([""]), [NO_YEAR])
         self.assertEqual(answers([LINE + "\0"]), ["! trailing"])
-        self.assertEqual(answers([b"\xff", "\udcff"]), ["! component year"] * 2)
+        self.assertEqual(answers([b"\xff", "\udcff"]), [NO_YEAR] * 2)
         self.assertEqual(answers(["9" * 101], limit=100), ["! long"])
         self.assertEqual(answers(["9" * 101]), ["! literal"])
 
-    def test_bytes(self):
-        self.assertEqual(instants.answer_bytes(LINE.encode(), WORDS), ANSWER.encode() + b"\n")
+    def test_bytes_of_each_kind(self):
+        for kind in (bytes, bytearray, memoryview):
+            self.assertEqual(answers([kind(LINE.encode())]), [ANSWER])
+            self.assertEqual(answers(kind(f"{LINE}\n\n{LINE}".encode())), [ANSWER, NO_YEAR, ANSWER])
+            self.assertEqual(instants.answer_bytes(kind(LINE.encode()), WORDS), ANSWER.encode() + b"\n")
         self.assertEqual(instants.answer_bytes(b"", WORDS), b"")
 
-    def test_version(self):
-        self.assertEqual(instants.version(), 100)
+    def test_one_text(self):
+        self.assertEqual(answers(f"{LINE}\n\n{LINE}"), [ANSWER, NO_YEAR, ANSWER])
+        self.assertEqual(answers(f"{LINE}\n"), [ANSWER])
+        self.assertEqual(answers(""), [])
 
+    def test_iterables(self):
+        self.assertEqual(answers(it for it in (LINE, "")), [ANSWER, NO_YEAR])
+        self.assertEqual(answers({LINE: 1}), [ANSWER])
+
+    def test_files(self):
+        with tempfile.TemporaryDirectory() as folder:
+            file = pathlib.Path(folder, "lines")
+            file.write_text(f"{LINE}\n\n{LINE}")
+            for mode in ("r", "rb"):
+                with open(file, mode) as lines:
+                    self.assertEqual(answers(lines), [ANSWER, NO_YEAR, ANSWER])
+        self.assertEqual(answers(io.BytesIO(LINE.encode())), [ANSWER])
+
+    def test_a_line_feed(self):
+        self.assertEqual(answers([LINE + "\n", "\n"]), [ANSWER, NO_YEAR])
+        with self.assertRaises(ValueError):
+            answers([LINE + "\n" + LINE])
+        with self.assertRaises(ValueError):
+            answers([LINE + "\n\n", LINE])
+
+    def test_what_is_no_line(self):
+        for lines in ([5], [LINE, 5], [b"", 5], [None], 5, None, [[LINE]], array.array("i", [1])):
+            with self.assertRaises(TypeError):
+                answers(lines)
+        with self.assertRaises(TypeError):
+            instants.answer_bytes(5, WORDS)
+        with self.assertRaises(TypeError):
+            instants.answer_bytes(LINE, WORDS)
+
+
+class Words(unittest.TestCase):
     def test_refused(self):
         for words, sentence in (
             ({"sources": []}, "instants: usage: instants TARGET ASSUMED LIMIT SOURCE..."),
@@ -41,6 +100,13 @@ class Calls(unittest.TestCase):
                 answers([LINE], **words)
             self.assertEqual(str(caught.exception), sentence)
 
+    def test_what_are_no_words(self):
+        for sources in ("rfc3339", b"rfc3339", [b"rfc3339"], [5], 5):
+            with self.assertRaises(TypeError):
+                answers([LINE], sources=sources)
+        with self.assertRaises(TypeError):
+            instants.answer_bytes(b"", "rfc3339")
+
     def test_a_long_sentence(self):
         name = "x" * 1000
         with self.assertRaisesRegex(instants.Refused, name):
@@ -50,10 +116,122 @@ class Calls(unittest.TestCase):
         with self.assertRaises(MemoryError):
             answers([LINE], sources=["v1", "\udcff"])
 
-    def test_a_line_feed(self):
-        self.assertEqual(answers([LINE + "\n", "\n"]), [ANSWER, "! component year"])
-        with self.assertRaises(ValueError):
-            answers([LINE + "\n" + LINE])
+    def test_an_assumed_offset(self):
+        sources = ["strftime", "%Y-%m-%d %H:%M:%S"]
+        self.assertEqual(answers(["2021-01-02 04:04:05"], sources=sources, assumed="+01:00"), [ANSWER])
+
+
+class Values(unittest.TestCase):
+    def test_answers(self):
+        good, bad = instants.parse([LINE, "yesterday"], **how())
+        self.assertEqual((good.text, good.fault, str(good)), (ANSWER, None, ANSWER))
+        self.assertEqual((bad.text, bad.fault), (NO_YEAR, "component year"))
+
+    def test_raising(self):
+        for call in (instants.answers, instants.parse, instants.datetimes):
+            self.assertEqual(len(call([LINE, LINE], raising=True, **how())), 2)
+            with self.assertRaises(instants.Fault) as caught:
+                call([LINE, "yesterday", ""], raising=True, **how())
+            fault = caught.exception
+            self.assertEqual((fault.place, fault.line, fault.fault), (1, b"yesterday", "component year"))
+            self.assertEqual(str(fault), "line 2, 'yesterday': component year")
+            self.assertEqual(vars(pickle.loads(pickle.dumps(fault))), vars(fault))
+
+    def test_datetimes(self):
+        moment = datetime(2021, 1, 2, 3, 4, 5, 123456, timezone.utc)
+        lines = ["2021-01-02T03:04:05.123456999Z", "yesterday", "0000-01-02T03:04:05Z"]
+        self.assertEqual(instants.datetimes(lines, sources=["rfc3339"]), [moment, None, None])
+        (moved,) = instants.datetimes(lines[:1], target="-05:30", sources=["rfc3339"])
+        self.assertEqual((moved, moved.utcoffset()), (moment, timedelta(hours=-5, minutes=-30)))
+        with self.assertRaisesRegex(instants.Fault, "line 1, .*: datetime has no year 0"):
+            instants.datetimes(lines[2:], sources=["rfc3339"], raising=True)
+
+
+@unittest.skipUnless(numpy, "numpy is missing: Debian has it as python3-numpy")
+class Arrays(unittest.TestCase):
+    def read(self, lines, **others):
+        return instants.to_datetime64(lines, sources=["rfc3339"], **others)
+
+    def test_moments(self):
+        lines = ["2021-01-02T04:04:05.123456789+01:00", "yesterday", "", "1969-12-31T23:59:59.999999999Z", "2000-02-29T00:00:00Z"]
+        due = ["2021-01-02T03:04:05.123456789", "NaT", "NaT", "1969-12-31T23:59:59.999999999", "2000-02-29"]
+        found = self.read(lines)
+        self.assertEqual(found.dtype, numpy.dtype("datetime64[ns]"))
+        numpy.testing.assert_array_equal(found, numpy.array(due, dtype="datetime64[ns]"))
+        self.assertEqual(len(self.read([])), 0)
+        self.assertTrue(numpy.isnat(self.read(["", "yesterday"])).all())
+
+    def test_as_numpy_reads_them(self):
+        start, step = datetime(1678, 1, 1), timedelta(days=7, seconds=86_399, microseconds=123_457)
+        lines = [f"{(start + at * step).isoformat(timespec='microseconds')}Z" for at in range(20_000)]
+        due = numpy.array([it[:-1] for it in lines], dtype="datetime64[ns]")
+        numpy.testing.assert_array_equal(self.read(lines), due)
+
+    def test_the_ends(self):
+        ends = ["1677-09-21T00:12:43.145224193", "2262-04-11T23:47:16.854775807"]
+        self.assertEqual([str(it) for it in self.read([it + "Z" for it in ends])], ends)
+        outside = ["1677-09-21T00:12:43.145224191Z", "2262-04-11T23:47:16.854775808Z", "0000-01-01T00:00:00Z", "9999-12-31T00:00:00Z"]
+        self.assertTrue(numpy.isnat(self.read(outside)).all())
+
+    def test_raising(self):
+        with self.assertRaisesRegex(instants.Fault, "line 2, 'x': component year"):
+            self.read([LINE, "x"], raising=True)
+        with self.assertRaisesRegex(instants.Fault, "datetime64.ns. does not reach to 9999"):
+            self.read(["9999-12-31T00:00:00Z"], raising=True)
+
+    @unittest.skipUnless(pandas, "pandas is missing: Debian has it as python3-pandas")
+    def test_pandas(self):
+        frame = pandas.DataFrame({"line": [LINE, "yesterday"]})
+        frame["moment"] = self.read(frame["line"])
+        self.assertEqual(list(frame["moment"].isna()), [False, True])
+        self.assertEqual(frame["moment"][0].tz_localize("UTC"), pandas.Timestamp(LINE))
+
+
+class Parts(unittest.TestCase):
+    """How a file is cut for many machines."""
+
+    def cut(self, text, size, begins=None):
+        with tempfile.TemporaryDirectory() as folder:
+            file = pathlib.Path(folder, "lines")
+            file.write_bytes(text)
+            return [text[it.start : it.stop] for it in dask.parts_of(str(file), size, begins)]
+
+    def test_whole_lines(self):
+        for text in (b"", b"\n", b"a", b"ab\nc\n\ndefg\nh", b"ab\nc\n\ndefg\n"):
+            for size in range(1, 12):
+                parts = self.cut(text, size)
+                self.assertEqual(b"".join(parts), text)
+                self.assertTrue(all(it.endswith(b"\n") for it in parts[:-1]))
+                self.assertTrue(all(it and b"\n" not in it[size - 1 : -1] for it in parts))
+
+    def test_lines_that_may_begin_a_part(self):
+        text = b"1 a\n x\n y\n2 b\n3 c\n z\n"
+        for size in range(1, 30):
+            parts = self.cut(text, size, rb"\d")
+            self.assertEqual(b"".join(parts), text)
+            self.assertTrue(all(it[:1].isdigit() for it in parts))
+        self.assertEqual(self.cut(text, 1, rb"\d"), [b"1 a\n x\n y\n", b"2 b\n", b"3 c\n z\n"])
+
+    def test_one_part(self):
+        with tempfile.TemporaryDirectory() as folder:
+            file = pathlib.Path(folder, "lines")
+            file.write_text("a\nb\nc\n")
+            made = dask.answer_part(str(file), dask.Part(2, 4), ["cat"], folder)
+            self.assertEqual(pathlib.Path(made).read_text(), "b\n")
+            with self.assertRaises(subprocess.CalledProcessError):
+                dask.answer_part(str(file), dask.Part(0, 2), ["false"], folder)
+            self.assertEqual(len([it for it in os.listdir(folder) if it.isdigit()]), 1)
+
+
+class Library(unittest.TestCase):
+    def test_version(self):
+        self.assertEqual(instants.version(), _library.VERSION)
+
+    def test_another_version(self):
+        _library.check_version(_library.VERSION + 1)
+        for found in (_library.VERSION + 100, _library.VERSION + 10_000, 0):
+            with self.assertRaisesRegex(ImportError, "INSTANTS_LIBRARY"):
+                _library.check_version(found)
 
 
 def load_tests(loader, tests, ignore):

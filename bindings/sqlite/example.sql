@@ -12,3 +12,12 @@ SELECT * FROM log WHERE moment >= '2021-01-02T03:04:06';
 -- or a key of the table of lines
 CREATE INDEX lines_by_moment
 ON lines (instant('+00:00', 'rfc3339', 'rfc2822', 'strftime', '%d/%b/%Y:%H:%M:%S %z', line));
+
+-- or columns of it, which also tell what is wrong with a line
+CREATE TABLE told (
+    line TEXT NOT NULL,
+    moment TEXT AS (instant('+00:00', '+00:00', 'rfc3339', 'strftime', '%F %T', line)) STORED,
+    fault TEXT AS (instant_fault('+00:00', '+00:00', 'rfc3339', 'strftime', '%F %T', line)) STORED
+);
+INSERT INTO told VALUES ('2021-01-02 03:04:05'), ('yesterday');
+SELECT moment, fault FROM told;

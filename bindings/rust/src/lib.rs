@@ -1,46 +1,10 @@
-//! Lines with dates onto one timeline, by calls of the proved library `instants`.
-//!
-//! ```
-//! let words = ["+00:00", "-", "100", "rfc3339", "strftime", "%d/%b/%Y:%H:%M:%S %z"];
-//! let answers = instants::answers(&words, b"2021-01-02T04:04:05+01:00\n01/Jan/2021:22:04:07 -0500\n")?;
-//! assert_eq!(answers, b"2021-01-02T03:04:05.000000000Z\n2021-01-02T03:04:07.000000000Z\n");
-//! # Ok::<(), instants::Fault>(())
-//! ```
-//!
-//! The words are those of the program, `TARGET ASSUMED LIMIT SOURCE...`. What is said of a call in `instants.h` holds here
-//! too; what a caller in C has to see to, these calls do.
+#![doc = include_str!("../README.md")]
+#![deny(missing_docs)]
 
 use std::fmt;
 
-/// Bytes that always suffice for a line's answer and its line feed, as `instants.h` has them.
-pub const LINE_ROOM: usize = 36;
-
-const OK: u8 = 0;
-const REFUSED: u8 = 2;
-
-mod library {
-    extern "C" {
-        pub fn instants_answer_lines(
-            words: *const u8,
-            words_len: usize,
-            input: *const u8,
-            input_len: usize,
-            output: *mut u8,
-            output_len: usize,
-            written: *mut usize,
-        ) -> u8;
-
-        pub fn instants_sentence(
-            words: *const u8,
-            words_len: usize,
-            output: *mut u8,
-            output_len: usize,
-            sentence_len: *mut usize,
-        ) -> u8;
-
-        pub fn instants_version() -> u32;
-    }
-}
+pub use instants_sys::{GREATEST_LIMIT, LINE_ROOM};
+use instants_sys::{OK, REFUSED};
 
 /// Why lines are not answered.
 #[derive(Clone, Debug, PartialEq, Eq)]
@@ -66,17 +30,30 @@ impl fmt::Display for Fault {
 impl std::error::Error for Fault {}
 
 /// The version of the library: ten thousand times the major one, a hundred times the minor one, and the patch.
+///
+/// ```
+/// assert_eq!(instants::version() / 10_000, 0);
+/// ```
 pub fn version() -> u32 {
     // It takes nothing.
-    unsafe { library::instants_version() }
+    unsafe { instants_sys::instants_version() }
 }
 
 /// Bytes that always suffice for the answers to an input.
+///
+/// ```
+/// assert_eq!(instants::room(b"2021-01-02T04:04:05Z"), instants::LINE_ROOM);
+/// ```
 pub fn room(input: &[u8]) -> usize {
     LINE_ROOM * (input.iter().filter(|byte| **byte == b'\n').count() + 1)
 }
 
 /// Answers each line of the input as the words say, each answer followed by a line feed.
+///
+/// ```
+/// let fault = instants::answers(&["+25:00", "-", "100", "rfc3339"], b"").unwrap_err();
+/// assert_eq!(fault.to_string(), "instants: the target offset must be +HH:MM or -HH:MM");
+/// ```
 pub fn answers(words: &[&str], input: &[u8]) -> Result<Vec<u8>, Fault> {
     let mut output = vec![0; room(input)];
     let len = answer_into(words, input, &mut output)?;
@@ -85,17 +62,24 @@ pub fn answers(words: &[&str], input: &[u8]) -> Result<Vec<u8>, Fault> {
 }
 
 /// The same into the front of the output. How many bytes the answers have.
+///
+/// ```
+/// let mut output = [0; instants::LINE_ROOM];
+/// let len = instants::answer_into(&["+00:00", "-", "100", "rfc3339"], b"2021-01-02T03:04:05Z", &mut output)?;
+/// assert_eq!(&output[..len], b"2021-01-02T03:04:05.000000000Z\n");
+/// # Ok::<(), instants::Fault>(())
+/// ```
 pub fn answer_into(words: &[&str], input: &[u8], output: &mut [u8]) -> Result<usize, Fault> {
     let words = joined(words)?;
     let mut written = 0;
     // Slices are never null, and an output that is borrowed mutably overlaps with nothing.
     let status = unsafe {
-        library::instants_answer_lines(
-            words.as_ptr(),
+        instants_sys::instants_answer_lines(
+            words.as_ptr().cast(),
             words.len(),
-            input.as_ptr(),
+            input.as_ptr().cast(),
             input.len(),
-            output.as_mut_ptr(),
+            output.as_mut_ptr().cast(),
             output.len(),
             &mut written,
         )
@@ -123,10 +107,10 @@ fn sentence(words: &str) -> Result<String, Fault> {
         let mut len = 0;
         // As in `answer_into`.
         let status = unsafe {
-            library::instants_sentence(
-                words.as_ptr(),
+            instants_sys::instants_sentence(
+                words.as_ptr().cast(),
                 words.len(),
-                sentence.as_mut_ptr(),
+                sentence.as_mut_ptr().cast(),
                 sentence.len(),
                 &mut len,
             )

@@ -1,0 +1,39 @@
+CREATE EXTENSION instants;
+-- answers, and what is wrong
+SELECT instant('+00:00', '{rfc3339}', '2021-01-02T04:04:05+01:00');
+SELECT instant('-05:30', ARRAY['rfc3339', 'strftime', '%d/%b/%Y:%H:%M:%S %z'], '01/Jan/2021:22:04:07 -0500');
+SELECT instant('+00:00', '{strftime,%F %T}', '2021-01-02 03:04:05', assumed => '+01:00');
+SELECT line, instant('+00:00', '{rfc3339}', line), instant_fault('+00:00', '{rfc3339}', line)
+FROM (VALUES ('2021-02-30T00:00:00Z'), (''), ('2021-01-02T03:04:05Z')) AS given (line);
+SELECT instant('+00:00', '{rfc3339}', E'2021-01-02T03:04:05Z\nyesterday');
+SELECT instant_fault('+00:00', '{rfc3339}', E'2021-01-02T03:04:05Z\nyesterday');
+SELECT instant('+00:00', '{rfc3339}', repeat('9', 2000000));
+-- no answer
+SELECT instant('+00:00', '{rfc3339}', NULL) IS NULL AS is_null;
+SELECT instant('+25:00', '{rfc3339}', 'x');
+SELECT instant('+00:00', '{}', 'x');
+SELECT instant('+00:00', '{rfc}', 'x');
+SELECT instant('+00:00', '{rfc3339,NULL}', 'x');
+SELECT instant('+00:00', ARRAY[E'rfc3339\n'], 'x');
+-- what the planner is told
+SELECT proname, provolatile, proisstrict, proparallel FROM pg_proc WHERE proname LIKE 'instant%' ORDER BY proname;
+-- an index, a generated column and a condition
+CREATE TABLE log (line text, moment text COLLATE "C" GENERATED ALWAYS AS (instant('+00:00', '{rfc3339}', line)) STORED);
+INSERT INTO log SELECT to_char(timestamp '2021-01-01' + make_interval(mins => at), 'YYYY-MM-DD"T"HH24:MI:SS"+01:00"')
+FROM generate_series(1, 5000) AS at;
+CREATE INDEX log_by_moment ON log (instant('+00:00', '{rfc3339}', line) COLLATE "C");
+ANALYZE log;
+EXPLAIN (COSTS OFF)
+SELECT line FROM log WHERE instant('+00:00', '{rfc3339}', line) COLLATE "C" BETWEEN '2021-01-02T03' AND '2021-01-02T03:03';
+SELECT line FROM log WHERE instant('+00:00', '{rfc3339}', line) COLLATE "C" BETWEEN '2021-01-02T03' AND '2021-01-02T03:03'
+ORDER BY moment;
+SELECT count(*), min(moment), max(moment) FROM log;
+ALTER TABLE log ADD CHECK (instant_fault('+00:00', '{rfc3339}', line) IS NULL);
+INSERT INTO log VALUES ('30 February');
+-- several processes
+SET parallel_setup_cost = 0;
+SET parallel_tuple_cost = 0;
+SET min_parallel_table_scan_size = 0;
+SET max_parallel_workers_per_gather = 2;
+EXPLAIN (COSTS OFF) SELECT count(*) FROM log WHERE instant('+01:00', '{rfc3339}', line) > '2021-01-02';
+SELECT count(*) FROM log WHERE instant('+01:00', '{rfc3339}', line) > '2021-01-02';

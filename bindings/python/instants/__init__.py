@@ -1,0 +1,36 @@
+"""Lines with dates onto one timeline, by calls of the proved library `instants`.
+
+    >>> import instants
+    >>> lines = ["2021-01-02T04:04:05+01:00", "01/Jan/2021:22:04:07 -0500", "yesterday"]
+    >>> how = {"target": "+00:00", "sources": ["rfc3339", "strftime", "%d/%b/%Y:%H:%M:%S %z"]}
+    >>> instants.answers(lines, **how)
+    ['2021-01-02T03:04:05.000000000Z', '2021-01-02T03:04:07.000000000Z', '! component year']
+    >>> instants.parse(lines, **how)[2].fault
+    'component year'
+    >>> instants.datetimes(lines, **how)[0]
+    datetime.datetime(2021, 1, 2, 3, 4, 5, tzinfo=datetime.timezone.utc)
+
+Lines are texts or bytes, one after the other, or one text, one block of bytes or an open file that has them. The shared
+library is the file that INSTANTS_LIBRARY names, else that of this package, else `libinstants.so.0` where the system looks.
+"""
+
+from ._answers import Answer, Fault, answers, datetimes, parse
+from ._arrays import to_datetime64
+from ._library import GREATEST_LIMIT, LINE_ROOM, version
+from ._lines import Line, Lines, Refused, answer_bytes
+
+__all__ = [
+    "GREATEST_LIMIT",
+    "LINE_ROOM",
+    "Answer",
+    "Fault",
+    "Line",
+    "Lines",
+    "Refused",
+    "answer_bytes",
+    "answers",
+    "datetimes",
+    "parse",
+    "to_datetime64",
+    "version",
+]

@@ -1,0 +1,58 @@
+#![doc = include_str!("../README.md")]
+#![deny(missing_docs)]
+#![no_std]
+
+use core::ffi::c_void;
+
+/// The version that this crate is of: ten thousand times the major one, a hundred times the minor one, and the patch.
+pub const VERSION: u32 = 100;
+
+/// All lines are answered, or the words are accepted.
+pub const OK: u8 = 0;
+/// There is too little room, or no memory, or the words are not UTF-8.
+pub const FAILED: u8 = 1;
+/// The words are wrong, or a source among them is no description.
+pub const REFUSED: u8 = 2;
+
+/// The greatest limit that words can name: how many bytes a line has at most that is not too long.
+pub const GREATEST_LIMIT: usize = 1_048_576;
+/// Bytes that always suffice for a line's answer and its line feed.
+pub const LINE_ROOM: usize = 36;
+
+extern "C" {
+    /// Answers each line of the input as the words say, each answer followed by a line feed, into the front of the output.
+    ///
+    /// # Safety
+    ///
+    /// No pointer is null, also where its length is 0, and as many bytes as the length says lie behind each; the output and
+    /// `written` overlap with nothing else; while the call runs nobody else writes what it reads, or uses what it writes.
+    pub fn instants_answer_lines(
+        words: *const c_void,
+        words_len: usize,
+        input: *const c_void,
+        input_len: usize,
+        output: *mut c_void,
+        output_len: usize,
+        written: *mut usize,
+    ) -> u8;
+
+    /// Looks at the words alone, and writes the sentence of what is refused to the output, cut to the room.
+    ///
+    /// # Safety
+    ///
+    /// As for `instants_answer_lines`, with `sentence_len` in the place of `written`.
+    pub fn instants_sentence(
+        words: *const c_void,
+        words_len: usize,
+        output: *mut c_void,
+        output_len: usize,
+        sentence_len: *mut usize,
+    ) -> u8;
+
+    /// The version of the library, as `VERSION` is that of this crate.
+    ///
+    /// # Safety
+    ///
+    /// It asks for nothing.
+    pub fn instants_version() -> u32;
+}

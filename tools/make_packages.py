@@ -1,0 +1,163 @@
+"""What tools/package.py makes: the folder that is packed, the archive, and Debian's packages by debhelper."""
+
+import gzip
+import os
+import pathlib
+import re
+import shutil
+import subprocess
+import sys
+import tarfile
+import tempfile
+
+sys.dont_write_bytecode = True
+
+import build_library
+import build_program
+from program import ROOT, Program
+
+PACKAGING = ROOT / "packaging"
+PROGRAMS = {name: Program(crate, name) for crate, name in (("instants_program", "instants"), ("instants_lines_program", "instants-lines"))}
+CHECK = Program("description_check", "description_check")
+# What of the documents is for those who use the programs or the library.
+DOCUMENTS = ("README.md", "docs/GUIDE.md", "docs/FORMATS.md", "docs/DESCRIPTIONS.md", "docs/LIBRARIES.md", "docs/SCALE.md",
+             "docs/CLAIMS.md", "docs/DIFFERENCES.md", "docs/SPEED.md")
+PAGES = ("instants.1", "instants-lines.1", "instants-descriptions.7")
+# Which of the bindings are handed on as sources.
+SOURCES = ("c", "postgres", "sqlite")
+LINK = re.compile(r"\[([^\]]*)\]\(([^)#\s]*)(#[^)\s]*)?\)")
+
+
+class PackagingFailed(Exception):
+    """A package can't be made; the text says why."""
+
+
+def run(command, **how):
+    """Returns what a command prints, or raises PackagingFailed."""
+    ran = subprocess.run(command, stdin=subprocess.DEVNULL, stdout=subprocess.PIPE, stderr=subprocess.STDOUT, check=False, **how)
+    if ran.returncode:
+        raise PackagingFailed(f"{' '.join(map(str, command))} failed:\n{ran.stdout.decode(errors='replace')}")
+    return ran.stdout
+
+
+def version():
+    """Returns the version, which the program's caller and the header have to agree upon."""
+    said = re.search(r'"instants (\d+)\.(\d+)\.(\d+)"', (ROOT / "instants").read_text())
+    number = sum(int(it) * scale for it, scale in zip(said.groups(), (10_000, 100, 1)))
+    if f"#define INSTANTS_VERSION {number}\n" not in (ROOT / "include" / "instants.h").read_text():
+        raise PackagingFailed(f"the header is not of version {number}")
+    return ".".join(said.groups())
+
+
+def programs():
+    """Returns the programs that are packaged, by their names."""
+    return {**PROGRAMS, **({CHECK.name: CHECK} if CHECK.is_current() else {})}
+
+
+class Commit:
+    """The commit that is packaged: when it was made, and by whom."""
+
+    def __init__(self):
+        how = {"cwd": ROOT, "capture_output": True, "text": True, "check": True}
+        told = subprocess.run(["git", "log", "-1", "--format=%ct%n%an <%ae>%n%aD"], **how).stdout.splitlines()
+        self.time, self.maintainer, self.date = int(told[0]), told[1], told[2]
+
+
+def put(source, target, text=None):
+    """Copies a file, or writes a text, into a folder that is made."""
+    target.parent.mkdir(parents=True, exist_ok=True)
+    if text is None:
+        shutil.copyfile(source, target)
+    else:
+        target.write_text(text)
+
+
+def linked(name):
+    """Returns a document in which a link to a page that is not packaged is its words alone."""
+    page = ROOT / name
+
+    def kept(link):
+        words, to, _ = link.groups()
+        is_there = not to or ":" in to or any((page.parent / to).resolve() == ROOT / it for it in DOCUMENTS)
+        return link[0] if is_there else words
+
+    fences = re.split(r"(^```.*?^```$)", page.read_text(), flags=re.M | re.S)
+    return "".join(it if it.startswith("```") else LINK.sub(kept, it) for it in fences)
+
+
+def wheel(folder, library):
+    """Makes the wheel for Python, with a library in it, or with none where that is empty."""
+    folder.mkdir(parents=True)
+    code = f"import wheel_of_package; wheel_of_package.build_wheel({str(folder)!r})"
+    run([sys.executable, "-B", "-c", code], cwd=ROOT / "bindings" / "python", env=dict(os.environ, INSTANTS_LIBRARY=str(library)))
+
+
+def lay_out(top):
+    """Lays out the archive's folder."""
+    for name in ("Makefile", "instants.bash"):
+        put(PACKAGING / name, top / name)
+    put(None, top / "instants.pc.in", (PACKAGING / "instants.pc.in").read_text().replace("@VERSION@", version()))
+    for name, program in programs().items():
+        put(program.file, top / "bin" / name)
+        run(["strip", "--strip-unneeded", "--remove-section=.comment", top / "bin" / name])
+    for name in (build_library.ARCHIVE, build_library.SHARED):
+        put(build_library.out() / name, top / "lib" / name)
+    put(ROOT / "include" / "instants.h", top / "include" / "instants.h")
+    for name in (*PAGES, *([f"{CHECK.name}.1"] if CHECK.name in programs() else [])):
+        put(ROOT / "docs" / name, top / "man" / name)
+    for name in DOCUMENTS:
+        put(None, top / "doc" / name, linked(name))
+    for name in run(["git", "ls-files", *(f"bindings/{it}" for it in SOURCES)], cwd=ROOT).decode().split():
+        put(ROOT / name, top / name)
+    put(ROOT / "LICENSE", top / "LICENSE")
+    wheel(top / "python", top / "lib" / build_library.SHARED)
+
+
+def settle(top, commit):
+    """Gives all files of a folder the commit's time, and the modes of what is installed."""
+    for at, folders, names in os.walk(top, topdown=False):
+        for name in [*names, *folders]:
+            path = pathlib.Path(at, name)
+            path.chmod(0o755 if path.is_dir() or path.parent.name == "bin" or name == "rules" else 0o644)
+            os.utime(path, (commit.time, commit.time))
+
+
+def pack(top, made, commit):
+    """Makes the archive of a folder."""
+
+    def owned(entry):
+        entry.uid = entry.gid = 0
+        entry.uname = entry.gname = "root"
+        return entry
+
+    with open(made, "wb") as raw, gzip.GzipFile("", "wb", 9, raw, commit.time) as packed:
+        with tarfile.open(fileobj=packed, mode="w", format=tarfile.GNU_FORMAT) as archive:
+            for path in [top, *sorted(top.rglob("*"))]:
+                archive.add(path, path.relative_to(top.parent), recursive=False, filter=owned)
+
+
+def debian(top, commit):
+    """Makes Debian's packages of the archive's folder, beside it, and returns their files."""
+    shutil.copytree(PACKAGING / "debian", top / "debian")
+    control = top / "debian" / "control"
+    control.write_text(control.read_text().replace("@MAINTAINER@", commit.maintainer))
+    entry = f"instants ({version()}) unstable; urgency=medium\n\n  * The programs, the library, and the package for Python.\n\n -- {commit.maintainer}  {commit.date}\n"
+    put(None, top / "debian" / "changelog", entry)
+    put(None, top / "debian" / "source" / "format", "3.0 (native)\n")
+    wheel(top / "debian" / "wheel", "")
+    settle(top, commit)
+    # (what it is built of is there already)
+    run(["dpkg-buildpackage", "--build=binary", "--no-sign", "--no-check-builddeps"], cwd=top)
+    return sorted(top.parent.glob("*.deb"))
+
+
+def make(folder, commit):
+    """Makes all packages in a folder, and returns their files, the archive first."""
+    with tempfile.TemporaryDirectory(prefix="package-") as room:
+        name = f"instants-{version()}"
+        top = pathlib.Path(room, name)
+        lay_out(top)
+        settle(pathlib.Path(room), commit)
+        archive = folder / f"{name}-x86_64-linux.tar.gz"
+        pack(top, archive, commit)
+        return [archive, *(pathlib.Path(shutil.copy(it, folder)) for it in debian(top, commit))]

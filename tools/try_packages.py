@@ -1,0 +1,156 @@
+"""Tries the packages that tools/package.py makes: called by it, with --try, as root.
+
+`lintian --pedantic` has nothing to say of Debian's packages. Then these and the archive are installed, tried and removed in a
+root that holds this machine's C library, shell, Python and dpkg, and nothing else (`dpkg --root`, `make install DESTDIR=`):
+
+- each program answers there, and `import instants` does;
+- a program in C, compiled with what was installed, by pkg-config, answers there, with the shared library and with the static one;
+- the manual pages and bash's completions lie where they are looked for, and each link in an installed document leads to a page
+  that is there;
+- after the removal nothing is left.
+"""
+
+import os
+import pathlib
+import re
+import shutil
+import subprocess
+import tempfile
+
+from make_packages import LINK, programs, put, run
+from program import ROOT
+
+LIBDIR = "/usr/lib/x86_64-linux-gnu"
+# Where Debian's Python looks for what pip installs.
+MODULES = "/usr/local/lib/python3.11/dist-packages"
+LINE, ANSWER = b"2021-01-02T04:04:05+01:00\n", b"2021-01-02T03:04:05.000000000Z\n"
+WORDS = ["+00:00", "-", "100", "rfc3339"]
+IN_PYTHON = f"import instants; print(*instants.answers({LINE.decode()!r}, target='+00:00', sources=['rfc3339']))"
+# How each program is called, with its input and what it answers, and a first word that bash knows.
+CALLS = {
+    "instants": (WORDS, LINE, ANSWER, b"+00:00"),
+    "instants-lines": (["key", *WORDS], LINE, ANSWER[:-1] + b"\t" + LINE, b"carry"),
+    "description_check": (["strftime"], b"%s", b"well formed\n", b"strftime"),
+}
+COMPLETE = '. "$0" && complete -p "$1" > /dev/null && COMP_WORDS=("$1" "") COMP_CWORD=1 && _instants && echo "${COMPREPLY[@]}"'
+# What of this machine the root has: packages that others depend upon, and what scripts of packages call.
+BELOW = ("libc6", "python3", "python3-minimal", "python3.11", "python3.11-minimal", "libpython3-stdlib", "libpython3.11-minimal",
+         "libpython3.11-stdlib")
+COMMANDS = ("/bin/sh", "/usr/bin/dpkg", "/usr/bin/dpkg-query", "/usr/bin/python3.11")
+
+counts = {True: 0, False: 0}
+
+
+def tell(what, is_well, why=""):
+    counts[bool(is_well)] += 1
+    print(f"{'passed' if is_well else 'FAILED'}: {what}{f': {why}' if why and not is_well else ''}", flush=True)
+
+
+def told():
+    """Says how many tries passed, and returns the status."""
+    print(f"{counts[True]} passed, {counts[False]} failed")
+    return int(counts[False] > 0)
+
+
+def put_linked(file, root):
+    """Copies a file, and the libraries that it is linked with, into a root."""
+    for name in (file, *re.findall(r"(?:=> |^\s*)(/\S+)", run(["ldd", file]).decode(), re.M)):
+        put(pathlib.Path(name).resolve(), root / name[1:])
+        (root / name[1:]).chmod(0o755)
+
+
+def empty_root(root):
+    """Makes a root with the C library, the shell, Python and dpkg, and records of these packages alone."""
+    for name in run(["dpkg", "-L", *(it for it in BELOW if it.startswith(("python3", "libpython3")))]).decode().split("\n"):
+        path = pathlib.Path(name)
+        if path.is_file() and not name.startswith("/usr/share/doc"):
+            (root / name[1:]).parent.mkdir(parents=True, exist_ok=True)
+            shutil.copy2(path, root / name[1:], follow_symlinks=False)
+    for name in (*COMMANDS, *map(str, pathlib.Path("/usr/lib/python3.11/lib-dynload").glob("_ctypes.*"))):
+        put_linked(name, root)
+    for name in ("info", "updates", "triggers"):
+        (root / "var/lib/dpkg" / name).mkdir(parents=True)
+    put(None, root / "var/lib/dpkg" / "status", run(["dpkg-query", "-s", *BELOW]).decode())
+    put(None, root / "var/lib/dpkg" / "available", "")
+    for name in BELOW:
+        put(None, root / "var/lib/dpkg/info" / f"{name}{':amd64' if name.startswith('lib') else ''}.list", "")
+    # (what scripts of packages throw away)
+    put(None, root / "dev" / "null", "")
+    (root / "tmp").mkdir()
+
+
+def files_in(root):
+    """Returns the files that a root has, beside the records of its packages."""
+    return {str(it.relative_to(root)) for it in root.rglob("*") if not it.is_dir() and not it.is_relative_to(root / "var")}
+
+
+def ran_in(root, command, given=b"", **places):
+    return subprocess.run(["chroot", root, *command], input=given, capture_output=True, check=False, env={**os.environ, **places})
+
+
+def missing_pages(folder):
+    """Returns the links of documents that lead to no page."""
+    wrong = []
+    for page in sorted(folder.rglob("*.md")):
+        outside = re.sub(r"^```.*?^```$", "", page.read_text(), flags=re.M | re.S)
+        links = [it[1] for it in LINK.findall(outside) if it[1] and ":" not in it[1]]
+        wrong += [f"{page.relative_to(folder)}: {it}" for it in links if not (page.parent / it).exists()]
+    return wrong
+
+
+def try_in_c(what, root, libdir):
+    """Tries a program in C, compiled with what was installed, with the shared library and the static one."""
+    places = dict(os.environ, PKG_CONFIG_SYSROOT_DIR=str(root), PKG_CONFIG_LIBDIR=f"{root}{libdir}/pkgconfig")
+    # (what is the system's own folder there is none here)
+    places |= {"PKG_CONFIG_ALLOW_SYSTEM_CFLAGS": "1", "PKG_CONFIG_ALLOW_SYSTEM_LIBS": "1"}
+    flags = run(["pkg-config", "--cflags", "--libs", "instants"], env=places).decode().split()
+    for kind, link in (("shared", flags), ("static", [it.replace("-linstants", "-l:libinstants.a") for it in flags])):
+        made = root / "tmp" / "answer"
+        run(["gcc", "-std=c11", "-o", made, ROOT / "bindings" / "c" / "answer.c", *link])
+        ran = ran_in(root, ["/tmp/answer", *WORDS], LINE, LD_LIBRARY_PATH=libdir)
+        tell(f"{what}: a program in C answers, {kind} library", ran.returncode == 0 and ran.stdout == ANSWER, f"{ran}")
+        made.unlink()
+
+
+def try_installed(what, root, prefix, libdir):
+    """Tries what was installed in a root."""
+    pages = root / prefix[1:] / "share"
+    for name in programs():
+        words, given, due, known = CALLS[name]
+        ran = ran_in(root, [f"{prefix}/bin/{name}", *words], given)
+        tell(f"{what}: {name} answers", ran.returncode == 0 and ran.stdout.startswith(due), f"{ran}")
+        page = next((pages / "man/man1").glob(f"{name}.1*"), None)
+        completed = run(["bash", "-c", COMPLETE, pages / "bash-completion/completions" / name, name])
+        tell(f"{what}: {name} has a manual page and completions", page and known in completed.split(), f"{page} {completed}")
+    ran = ran_in(root, ["/usr/bin/python3.11", "-B", "-c", IN_PYTHON])
+    tell(f"{what}: Python answers", ran.returncode == 0 and ran.stdout == ANSWER, f"{ran}")
+    missing = missing_pages(pages / "doc" / "instants")
+    tell(f"{what}: the links of {len(list((pages / 'doc').rglob('*.md')))} documents", not missing, "; ".join(missing))
+    try_in_c(what, root, libdir)
+
+
+def try_packages(archive, packages, version):
+    """Installs all in an empty root, tries and removes them."""
+    said = subprocess.run(["lintian", "--pedantic", "--allow-root", *packages], capture_output=True, text=True, check=False)
+    tell("lintian", said.returncode == 0 and not said.stdout.strip(), said.stdout + said.stderr)
+    with tempfile.TemporaryDirectory(prefix="root-") as room:
+        root = pathlib.Path(room, "root")
+        empty_root(root)
+        before = files_in(root)
+        run(["dpkg", f"--root={root}", "--install", *packages])
+        try_installed("Debian's packages", root, "/usr", LIBDIR)
+        run(["dpkg", f"--root={root}", "--purge", "instants", "libinstants0", "libinstants-dev", "python3-instants"])
+        left = files_in(root) ^ before
+        tell("Debian's packages: nothing is left", not left, f"{sorted(left)}")
+        run(["tar", "-xzf", archive, "-C", room])
+        top = pathlib.Path(room, f"instants-{version}")
+        install = ["make", "-C", top, f"DESTDIR={root}", "PREFIX=/usr/local"]
+        run([*install, "install"])
+        modules = root / MODULES[1:]
+        (wheel,) = (top / "python").glob("*.whl")
+        run(["python3", "-m", "zipfile", "-e", wheel, modules])
+        try_installed("the archive", root, "/usr/local", "/usr/local/lib")
+        shutil.rmtree(modules)
+        run([*install, "uninstall"])
+        left = files_in(root) ^ before
+        tell("the archive: nothing is left", not left, f"{sorted(left)}")
