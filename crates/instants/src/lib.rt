@@ -36,10 +36,10 @@ pub use instants_laws as laws;
 pub use instants_sources::{DescribedItems, DescribedTree, Named, Source};
 pub use instants_stream::{
     BlockWriter, ByteReader, ByteWriter, CutReader, CutWriter, DeviceFailed, RunFault, StdReader,
-    StdWriter,
+    StdWriter, TooLittleRoom,
 };
 pub use instants_timeline::{
-    LineFault, NewFault, ProgramFault, Timeline, answer_by, answer_moment, answer_named, run,
-    run_words, shown_at,
+    FaultText, LineFault, NewFault, ProgramFault, RunsLines, Timeline, answer_by, answer_moment,
+    answer_named, run, run_over, run_words, run_words_by, shown_at,
 };
 pub use instants_words::{SourceText, Sources, Words, WordsFault, read_words};

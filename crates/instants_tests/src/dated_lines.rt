@@ -2,10 +2,12 @@
 
 ghost use Rattle.std.specs.Prelude.{◌≡◌, false};
 
+use calendar::UtcOffset;
 use instants::{
-    ByteReader, ByteWriter, CutReader, CutWriter, NewFault, ProgramFault, RunFault, WordsFault,
+    ByteReader, ByteWriter, CutReader, CutWriter, NewFault, ProgramFault, RunFault, SourceText,
+    Timeline, WordsFault, run_words_by,
 };
-use instants_lines::{LinesFault, run_words};
+use instants_lines::{LinesFault, Mode, run_words};
 use std::alloc::{AllocError, Global};
 use std::test::Fail;
 
@@ -170,6 +172,40 @@ fn is_refused(alloc: Global, row: &(&'static str, u8, &str)) -> bool {
 fn words_that_are_wrong(rt: HostRuntime) {
     for row in &FAULTS {
         assert!(rt; is_refused(rt.alloc(), row));
+    }
+}
+
+// The words behind a mode, which is handed over by itself.
+#[test]
+fn runs_in_a_mode(rt: HostRuntime) {
+    let words = ["+00:00", "-", "40", "rfc3339"];
+    let mut space = [0; 100];
+    let mut reader = CutReader::new(b"at 2021-01-02T04:04:05+01:00", 7, None);
+    let mut writer = CutWriter::new(&mut space, 7, None);
+    let ended = run_words_by(
+        &Mode::Replace,
+        rt.alloc(),
+        &words,
+        &mut reader,
+        &mut writer,
+    );
+    assert!(rt; ended == Ok(()));
+    assert!(rt; writer.written() == b"at 2021-01-02T03:04:05.000000000Z\n".as_slice());
+}
+
+// What a timeline is made of.
+#[test]
+fn offsets_of_a_timeline(rt: HostRuntime) -> Result<(), Fail> {
+    let target = UtcOffset::from_hms(5, 30, 0).expect(&rt, "an offset");
+    let assumed = UtcOffset::from_hms(-1, 0, 0).expect(&rt, "an offset");
+    match Timeline::new(rt.alloc(), &[SourceText::Rfc3339], target, Some(assumed)) {
+        Ok(timeline) => {
+            assert!(rt; timeline.target().offset() == target);
+            assert!(rt; timeline.assumed() == Some(assumed));
+            assert!(rt; timeline.into_sources().len() == 1);
+            Ok(())
+        }
+        Err(_) => Err(Fail::from(AllocError)),
     }
 }
 
