@@ -20,8 +20,18 @@
  *
  * Who owns what. All memory that a call is lent stays the caller's, and the call is done with it when it returns. What it
  * takes for itself, by malloc and realloc, it gives back by free before it returns: what a list of the words and the
- * descriptions need. Nothing is kept from call to call, so threads may call at once, each with an output of its own. No call
- * may be made from a signal's handler, nor in the forked child of a process with threads.
+ * descriptions need. An open handle keeps what the descriptions need, and the text of the words, until it is closed; nothing
+ * else is kept from call to call, so threads may call at once, each with an output of its own. No call may be made from a
+ * signal's handler, nor in the forked child of a process with threads.
+ *
+ * Handles. Words that are asked again and again are read once, as a handle is opened. A call by the handle then looks at no
+ * words and takes no memory:
+ *
+ *     struct instants_handle handle = {0};
+ *     if (instants_open(words, strlen(words), &handle) == INSTANTS_OK) {
+ *         instants_answer(handle.at, input, strlen(input), output, sizeof output, &written);
+ *         instants_close(handle.at);
+ *     }
  *
  * Where it runs. The library is for x86-64 Linux. A call needs less than 256 KiB of stack: 152 KiB were measured for a
  * description that is nested as deep as it may be, 40 KiB for long ones that are not, 24 KiB for the formats.
@@ -32,6 +42,12 @@
  * - that what a call writes to overlaps with nothing else that it is lent;
  * - that while a call runs nobody changes the words or the input, and nobody reads or writes the output, `*written` or
  *   `*sentence_len`;
+ * - that a handle is `{0}` where it is opened, so that none is opened while it is open;
+ * - that the text of the words with which a handle was opened stays where and as it is until the handle is closed;
+ * - that a handle is answered by after it was opened and before it is closed, and that it is closed once and not used
+ *   afterwards, a copy of it neither. Several threads may answer at once by one handle, and each may open and close handles
+ *   of its own; a handle that one thread opened is another's once they have ordered that, by a lock or as a thread begins, and
+ *   it is closed when all calls by it have returned;
  * - that malloc, realloc and free are of one allocator, and that it aligns its blocks to 16 bytes, as the C library does: a
  *   program may replace all three of them, and none alone.
  * Nothing here tests this.
@@ -87,6 +103,34 @@ uint8_t instants_answer_lines(const void *words, size_t words_len, const void *i
  * INSTANTS_REFUSED: the words are wrong, or a source among them is no description.
  */
 uint8_t instants_sentence(const void *words, size_t words_len, void *output, size_t output_len, size_t *sentence_len);
+
+/* A handle: `{0}` where it is not open. What it points to is the library's. */
+struct instants_handle {
+    void *at;
+};
+
+/*
+ * Opens a handle on what the words ask for.
+ *
+ * INSTANTS_OK: the handle is open, and is given to `instants_close` in the end.
+ * INSTANTS_FAILED: there is no memory, or the words are not UTF-8; the handle is as it was, and no memory is kept.
+ * INSTANTS_REFUSED: the words are wrong, or a source among them is no description; the handle is as it was, and no memory is
+ * kept. `instants_sentence` says what is refused.
+ */
+uint8_t instants_open(const void *words, size_t words_len, struct instants_handle *handle);
+
+/*
+ * Answers each line of the input by an open handle, whose `at` it is: as `instants_answer_lines` does by the words with which
+ * the handle was opened. It takes no memory.
+ *
+ * INSTANTS_OK: `*written` bytes are written, and those behind them are as they were.
+ * INSTANTS_FAILED: there is too little room. The output is full, and has the beginning of the answers, which are longer.
+ * INSTANTS_ROOM bytes are never too few.
+ */
+uint8_t instants_answer(const void *at, const void *input, size_t input_len, void *output, size_t output_len, size_t *written);
+
+/* Closes an open handle, whose `at` it is, and gives back all memory that it keeps. */
+void instants_close(void *at);
 
 /* The version of the library, as INSTANTS_VERSION has that of the header. */
 uint32_t instants_version(void);

@@ -58,12 +58,12 @@ MODULES = {
 }
 
 # How a call that is of no type begins, an export for C among them.
-FREE = r'pub (?:extern "C" )?fn '
+FREE = r'pub (?:unsafe )?(?:extern "C" )?fn '
 
 HEAD = """\
 # The calls, with their contracts
 
-Written by `tools/calls_page.py` from the sources: the five named crates first, each with what it gives on of the crates below it; then the crates of dates inside lines, of `instants-lines`, of calls over memory and for C; at the end the calls of crates below these of which [CLAIMS.md](CLAIMS.md) speaks. Under each call stand its conditions (`requires`), which a caller proves, and what it promises, each clause behind its name. `self` and the arguments are the values at the call; of what is behind a `&` that is `.now`, of what is behind a `&mut` `.old` before the call and `.new` after it. `≡` is equality, `→` implies, `↔` if and only if, `×` and. What stands behind an operator says what it asks and gives, behind `Display` what is written where it answers `Ok`, behind a call of a trait `for` a type what that type promises beside the trait. The words of the clauses are told in [DEFINITIONS.md](DEFINITIONS.md); how a program uses these crates, in [LIBRARIES.md](LIBRARIES.md).
+Written by `tools/calls_page.py` from the sources: the five named crates first, each with what it gives on of the crates below it; then the crates of dates inside lines, of `instants-lines`, of calls over memory and for C; at the end the calls of crates below these of which [CLAIMS.md](CLAIMS.md) speaks. Under each call stand its conditions (`requires`), which a caller proves, and what it promises, each clause behind its name. `self` and the arguments are the values at the call; of what is behind a `&` that is `.now`, of what is behind a `&mut` `.old` before the call and `.new` after it. `≡` is equality, `→` implies, `↔` if and only if, `×` and. What stands behind an operator says what it asks and gives, behind `Display` what is written where it answers `Ok`, behind a call of a trait `for` a type what that type promises beside the trait. Behind a star, as in `requires*`, stands what memory is lent or handed over, and a contract with a `ghost` value holds whatever that is. The words of the clauses are told in [DEFINITIONS.md](DEFINITIONS.md); how a program uses these crates, in [LIBRARIES.md](LIBRARIES.md).
 """
 
 # A call: the type or trait that it is of, or none; how it is written; its clauses; the file where it stands.
@@ -101,7 +101,7 @@ def closing(text, at):
 def clauses_in(text):
     """Returns the clauses that a text begins with, each on a line of its own."""
     clauses, at = [], 0
-    while found := re.compile(r"(?:\s|//[^\n]*\n)*(requires|ensures)\s*(\w*)\s*\{").match(text, at):
+    while found := re.compile(r"(?:\s|//[^\n]*\n)*(requires\*?|ensures\*?|ghost)\s*(\w*)\s*:?\s*\{").match(text, at):
         at = closing(text, found.end() - 1)
         what = re.sub(r"\s+", " ", text[found.end() : at - 1]).strip()
         clauses.append(f"  {found[1]}{f' {found[2]}' if found[2] else ''}: {what}")

@@ -13,7 +13,8 @@ those that were built last; where they are not, or are older than their sources,
 - C: `bindings/c/answer.c` answers 100,000 mixed lines (bench/lines.py), with some that are empty, too long, no text or hold a
   NUL, byte for byte as the program does, with the sanitizers of addresses and of what is undefined, and under valgrind, with
   no leak. It refuses words as the program does: by its sentence and its status. `limits.c` ends early in all ways, with the
-  sanitizers and under valgrind, and `memory.c` refuses each allocation in turn.
+  sanitizers and under valgrind, `handle.c` answers by handles from four threads, with the sanitizers, under valgrind and under
+  helgrind, and prints how long a call of one line takes; `memory.c` refuses each allocation in turn.
 - Rust: the tests of `bindings/rust`, and its example `answer` as that in C, without the sanitizers. Both crates are packed
   without a network, and what was packed is unpacked and tried outside of the repository, with the library that
   INSTANTS_LIB_DIR names and with that which pkg-config finds; where there is none the build says how to get it.
@@ -62,6 +63,10 @@ SANITIZERS = ["-g", "-O1", "-fsanitize=address,undefined", "-fno-sanitize-recove
 VALGRIND = ["valgrind", "--quiet", "--error-exitcode=99", "--leak-check=full", "--errors-for-leak-kinds=all"]
 # (Rust's standard output keeps its buffer to the end)
 VALGRIND_OF_RUST = [*VALGRIND[:-1], "--errors-for-leak-kinds=definite,indirect,possible"]
+HELGRIND = ["valgrind", "--quiet", "--error-exitcode=99", "--tool=helgrind"]
+THREADED = ["-pthread"]
+# Calls of one line that are measured in a round.
+CALLS = "200000"
 # Lines for valgrind through SQLite, where each is a call of its own.
 FEW = 2_000
 # A caller in Python, for its types.
@@ -174,8 +179,18 @@ def try_c(library):
     status, said, wrong = ran([*VALGRIND, answer, *WORDS], library.input)
     tell_same("C, under valgrind", said if status == 0 else wrong, library.answers)
     tell_run("C: early ends, under valgrind", [*VALGRIND, limits])
+    try_handles(library)
     wrapped = ["-Wl,--wrap=malloc,--wrap=realloc,--wrap=free"]
     tell_run("C: each allocation refused", [compiled("memory", library, link=wrapped)])
+
+
+def try_handles(library):
+    """Tries handles, and prints how long a call of one line takes."""
+    tell_run("C: handles, with sanitizers", [compiled("handle", library, SANITIZERS, THREADED)])
+    handle = compiled("handle", library, link=THREADED)
+    tell_run("C: handles, under valgrind", [*VALGRIND, handle])
+    tell_run("C: handles, under helgrind", [*HELGRIND, handle])
+    print(ran([handle, CALLS])[1].decode(), end="", flush=True)
 
 
 def try_rust(library):

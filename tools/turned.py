@@ -30,7 +30,7 @@ ROOT = pathlib.Path(__file__).resolve().parent.parent
 PARTS = ("src", "specs", "proofs")
 TIERS = ("must-fail", "edits")
 
-FUNCTION = re.compile(r'( *)(pub(?:\(\w+\))? )?(?:const |final |extern "C" )?fn (\w+)')
+FUNCTION = re.compile(r'( *)(pub(?:\(\w+\))? )?(?:const |final |unsafe )?(?:extern "C" )?fn (\w+)')
 IMPL = re.compile(r"impl\b(.*) \{$")
 COMMENT = re.compile(r"//[^\n]*|/\*.*?\*/", re.S)
 

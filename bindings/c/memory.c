@@ -1,6 +1,6 @@
 /*
  * Refuses each allocation of a call in turn, and sees that the call ends with INSTANTS_FAILED, writes nothing and gives back
- * what it took. Link it with `-Wl,--wrap=malloc,--wrap=realloc,--wrap=free`. Ends with status 1 where something failed.
+ * what it took, and that a handle gives back what it kept. Link it with `-Wl,--wrap=malloc,--wrap=realloc,--wrap=free`. Ends with status 1 where something failed.
  */
 #include <instants.h>
 
@@ -74,6 +74,23 @@ static bool is_told(long allocations, bool *is_done)
     return *is_done || (status == INSTANTS_FAILED && len == strlen(memory) && !memcmp(output, memory, len));
 }
 
+/* The same of a handle: opened, answered by with no allocation, and closed. */
+static bool is_opened(long allocations, bool *is_done)
+{
+    uint8_t output[100];
+    size_t written = 12345;
+    struct instants_handle handle = {0};
+    granted = allocations;
+    uint8_t status = instants_open(words, strlen(words), &handle);
+    *is_done = status == INSTANTS_OK;
+    if (!*is_done)
+        return status == INSTANTS_FAILED && !handle.at && held == 0;
+    granted = 0;
+    status = instants_answer(handle.at, input, strlen(input), output, sizeof output, &written);
+    instants_close(handle.at);
+    return status == INSTANTS_OK && written == 31 && held == 0;
+}
+
 static bool try_each(const char *what, bool (*call)(long, bool *))
 {
     bool is_done = false;
@@ -92,5 +109,6 @@ int main(void)
 {
     bool answers = try_each("lines", is_well);
     bool sentences = try_each("a sentence", is_told);
-    return !(answers && sentences);
+    bool handles = try_each("a handle", is_opened);
+    return !(answers && sentences && handles);
 }

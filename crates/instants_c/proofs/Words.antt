@@ -28,6 +28,11 @@ pub no_fault : (text bytes : List ℕ) (fault : WordsFault) → text ≡ bytes �
 unfolding parts words_in
 no_fault text bytes fault same ok e = accepted_is_no_fault (words_said (words_in text)) fault ok (rw same e)
 
+-- words of a text that are accepted are accepted between line feeds
+pub accepted : (text bytes : List ℕ) → text ≡ bytes → IsOk (words_said (words_in text)) → IsOk (words_said (parts bytes))
+unfolding parts words_in
+accepted text bytes same ok = rw (← same) ok
+
 -- wrong words have status 2
 pub wrong_status : (fault : WordsFault) → (fault ≡ Memory → ⊥) → status_of (program.Words fault) ≡ 2
 wrong_status Usage h = refl

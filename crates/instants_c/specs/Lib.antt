@@ -1,1 +1,3 @@
+pub mod Answered
+pub mod Held
 pub mod Refused

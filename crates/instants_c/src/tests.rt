@@ -1,5 +1,6 @@
 //! The calls, on their happy path and where words are wrong.
 
+use crate::kept::{answer, keep};
 use crate::{instants_answer_lines, instants_sentence, instants_version};
 use std::alloc::Global;
 
@@ -16,6 +17,28 @@ fn told(alloc: Global, words: &[u8]) -> (u8, usize, [u8; 15]) {
     let (mut output, mut len) = ([b'.'; 15], 0);
     let status = instants_sentence(alloc, words, &mut output, &mut len);
     (status, len, output)
+}
+
+// The status of words that can't be kept, or that of a line by what is kept, how many bytes are written, and the room.
+fn answered_by_kept(alloc: Global, words: &'static [u8]) -> Result<(u8, usize, [u8; 36]), u8> {
+    let kept = match keep(alloc, words) {
+        Ok(kept) => kept,
+        Err(fault) => return Err(fault.status()),
+    };
+    let (mut output, mut written) = ([b'.'; 36], 0);
+    let input = b"2021-01-02T04:04:05+01:00\n";
+    let status = answer(&kept, input, &mut output, &mut written);
+    Ok((status, written, output))
+}
+
+#[test]
+fn keeps(rt: HostRuntime) {
+    let whole = *b"2021-01-02T03:04:05.000000000Z\n.....";
+    assert!(rt;
+        answered_by_kept(rt.alloc(), b"+00:00\n-\n100\nrfc3339") == Ok((0, 31, whole))
+            && answered_by_kept(rt.alloc(), b"+00:00\n-\n100") == Err(2)
+            && answered_by_kept(rt.alloc(), b"+00:00\n-\n100\nv1\n[x]") == Err(2)
+    );
 }
 
 #[test]

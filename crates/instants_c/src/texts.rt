@@ -1,5 +1,5 @@
 //! Words that stand in one text.
-ghost use Rattle.std.specs.Prelude.{◌≡◌, ◌≢◌, ◌<◌, ◌≤◌, ◌*◌, ◌++◌, ℕ, List, map, length, take, drop, Err, IfOk, IfErr};
+ghost use Rattle.std.specs.Prelude.{◌≡◌, ◌≢◌, ◌<◌, ◌≤◌, ◌*◌, ◌++◌, ℕ, List, map, length, take, drop, Err, IsOk, IfOk, IfErr};
 ghost use Rattle.std.specs.Str.{IsUtf8};
 ghost use Rattle.instants_stream.specs.Lines.{lines, parts};
 ghost use Rattle.instants_stream.specs.declared.run.RunFault.{RunFault};
@@ -20,8 +20,28 @@ fn words_of(alloc: Global, text: &str) -> Result<Vec<&str>, AllocError>
     text.split('\n').collect(alloc)
 }
 
-/// Answers lines as `instants_memory::answer_lines` does, by words with a line feed between them. Words that are not UTF-8
-/// are not to be had, as for the program.
+/// A list of the words with a line feed between them, which are looked at first. Words that are not UTF-8 are not to be had,
+/// as for the program.
+pub(crate) fn words_in<'a>(alloc: Global, words: &'a [u8]) -> Result<Vec<&'a str>, ProgramFault<'a>>
+    ensures ok { IfOk result (λ list. map (λ word. word.now) list.items ≡ parts words.now) }
+    ensures accepted { IfOk result (λ _. IsOk (words_said (parts words.now))) }
+    ensures refused { IfErr result (IsRefusedAs (parts words.now)) }
+    // Wrong words are refused so, also where there is no memory for a list of them.
+    ensures wrong { IsUtf8 words.now → (fault : WordsFault)
+        → words_said (parts words.now) ≡ Err fault
+        → (result ≡ Err (ProgramFault.Words fault)) × (fault ≢ WordsFault.Memory) }
+{
+    let Ok(text) = str::from_utf8(words) else {
+        return Err(ProgramFault::Memory);
+    };
+    if let Some(fault) = fault_in_text(text) {
+        return Err(ProgramFault::Words(fault));
+    }
+    let list = words_of(alloc, text)?;
+    Ok(list)
+}
+
+/// Answers lines as `instants_memory::answer_lines` does, by words with a line feed between them.
 pub(crate) fn answer_lines<'a>(
     alloc: Global,
     words: &'a [u8],
@@ -43,12 +63,6 @@ pub(crate) fn answer_lines<'a>(
         → words_said (parts words.now) ≡ Err fault
         → (result ≡ Err (ProgramFault.Words fault)) × (fault ≢ WordsFault.Memory) }
 {
-    let Ok(text) = str::from_utf8(words) else {
-        return Err(ProgramFault::Memory);
-    };
-    if let Some(fault) = fault_in_text(text) {
-        return Err(ProgramFault::Words(fault));
-    }
-    let words = words_of(alloc, text)?;
+    let words = words_in(alloc, words)?;
     instants_memory::answer_lines(alloc, words.as_slice(), input, output)
 }

@@ -1,0 +1,42 @@
+-- `forget` lets go what a handle holds.
+use Rattle.std.proofs.Common.{List, [], ◌∷◌, ◌++◌, refl, sym, subst}
+use mir.Syntax.{impl, tnil, dnil}
+use mir.Val.{Val, vunit}
+use base.Logic.{SProp, ent, emp, id⊢}
+use base.Fml.{ftrue, fsep}
+use prog.Wp.{WpFn}
+use types.Kit.{‵, raw, ◌⊛◌, ◌$◌, ◌∵◌, !, qed, by, keep, drop, use0, split, fsplit, fjoin, feq_i, suffices}
+use types.Run.{of_opd, unit_lit, returns, enter}
+use types.ByLocal.{alloc_all, pass_all, free_all, look_at, sets}
+use contract.Running.{tables}
+use denote.Exit.{yes}
+use denote.Signature.{plain}
+use denote.RattleType.{RattleType}
+use denote.Steps.{nothing}
+use denote.Triple.Walked.{Stays, stay_dropped, Goes-dropped, walk_of}
+use Rattle.std.proofs.alloc.Calls.{handle_tells}
+use Rattle.std.proofs.raw_atomic.Walks.{proved_at, leaves}
+use Rattle.std.specs.contracts.impls.GlobalAllocator.TheImpl.{dict}
+use Rattle.instants_c.specs.contracts.handle.Handle as handle
+use Rattle.instants_c.proofs.handle.Handle.TheLaws as laws
+use Rattle.instants_c.specs.contracts.handle.Handle.forget as f
+use Rattle.instants_c.proofs.handle.Handle.forget.Statement.{statement}
+use Rattle.instants_c.proofs.handle.Handle.forget.Code as code
+
+abbrev From : RattleType
+From = handle.the_row
+
+abbrev stayed : Stays f.ended.signature.params f.ended.kept
+stayed = (stay_dropped (plain (λ _. From)) yes, tt)
+
+pub forget_spec : {M : Type 1} → statement M
+forget_spec 𝓤 𝓛 𝓜 𝓡 wired =
+    let H = 𝓛.H in let 𝓣 = tables 𝓤 H 𝓜 𝓡 𝓡.env in let fn = code.function in let c = f.clauses 𝓛 𝓜.mem 𝓡.returns in
+    proved_at 𝓛 f.ended stayed c 𝓜 𝓡 (Goes-dropped 𝓛 0 (plain (λ _. From)) yes (λ κs x h. refl), tt) f.Key.name fn (code.unfolded 𝓤 H 𝓜 𝓡 wired) (λ z are.
+    let Post : Val → SProp 𝓤 = (walk_of 𝓛 f.ended stayed c).post z in let Run : List Val → SProp 𝓤 = λ ws. WpFn 𝓤 H 𝓣.C 𝓣.Λ fn ws Post in
+    qed 𝓛 ((‵ ftrue ⊛ ‵ (fsep (From.own_val z.0.3.0 z.0.4.0) ftrue)) ∷ raw (emp 𝓤) ∷ []) ∵ split ! $ drop ! $ fsplit ! $
+    handle_tells (record { row = From; laws = laws.the_row_laws; g = record { dealloc_token = λ a σ p. ftrue }; d = dict; drops = impl [] tnil dnil }) ! z.0.3.0 z.0.4.0 (λ w ew fw. drop ! $
+    suffices ! (Run (w ∷ [])) (subst (λ (us : List Val). ent 𝓤 (Run (w ∷ [])) (Run us)) (sym (λ i. ew i ++ [])) (id⊢ 𝓤 (Run (w ∷ [])))) $
+    enter ! 𝓣.C 𝓣.Λ fn (w ∷ []) Post $ alloc_all ! (λ ls. pass_all ! refl (fw, tt) $ sets ! (of_opd ! (unit_lit !)) refl (tt, tt) $
+    use0 𝓛 (raw (emp 𝓤)) (id⊢ 𝓤 (emp 𝓤)) $ feq_i ! (List Val) (vunit ∷ []) (vunit ∷ []) refl $ nothing ! $ nothing ! $ fjoin ! $ nothing ! $
+    returns ! (look_at ! 0 refl) $ free_all ! refl $ keep ! (0 ∷ 1 ∷ 2 ∷ 3 ∷ []) $ by ! (leaves 𝓛 f.ended stayed c z vunit tt (tt, tt) (tt, tt)))))

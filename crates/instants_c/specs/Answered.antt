@@ -1,0 +1,22 @@
+-- What a call on an open handle does.
+use Rattle.std.specs.Prelude.{◌≡◌, ◌<◌, ◌≤◌, ◌+◌, ◌*◌, ◌==◌, ℕ, List, ◌++◌, length, take, drop, count_by}
+use Rattle.base.specs.Bytes.{line_feed}
+use Rattle.instants_stream.specs.Answers.{output}
+use Rattle.instants_stream.specs.Lines.{lines}
+use Rattle.instants_timeline.specs.Place.{answer_to}
+use Rattle.instants_timeline.specs.Settings.{setting_of}
+use Rattle.instants_c.specs.declared.kept.Kept.{Kept}
+
+-- what is due for an input by what is kept
+abbrev pub due_by : Kept → List ℕ → List ℕ
+due_by kept = output (answer_to (setting_of kept.timeline)) kept.limit
+
+-- exactly what is due is written into the front of a room, and what lies behind stays; or it is longer than the room, which is full of its beginning
+pub record IsAnswered (kept : Kept) (input : List ℕ) (status written : ℕ) (before after : List ℕ) : Type 0 where
+  pub either : status ≤ 1
+  pub ok : status ≡ 0 → (written ≡ length (due_by kept input)) × (after ≡ due_by kept input ++ drop written before)
+  pub short : status ≡ 1 → (length before < length (due_by kept input)) × (written ≡ length before) × (after ≡ take written (due_by kept input))
+  -- 36 bytes a line are room enough
+  pub line_room : 36 * length (lines input) ≤ length before → status ≡ 0
+  -- so are as many for each line feed, and once more
+  pub feed_room : 36 * (count_by (λ b. b == line_feed) input + 1) ≤ length before → status ≡ 0
