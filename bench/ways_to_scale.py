@@ -5,8 +5,8 @@
 
 The packages of Debian: parallel python3-distributed. The program is the one that was built last (`./instants --build`).
 
-The lines are mixed ones (bench/lines.py). Each way writes its output to the disk, and joins it where it is in parts; all have
-the same bytes. A cell is the least of three runs, by the clock. Dask's scheduler and its workers, which talk over TCP, are there
+The lines are mixed ones (bench/lines.py). Each way writes its output to the disk, and joins it where it is in parts, but for the
+row that says so; all have the same bytes. A cell is the least of three runs, by the clock. Dask's scheduler and its workers, which talk over TCP, are there
 before; GNU parallel and the processes side by side are started in the time that is measured.
 """
 
@@ -34,7 +34,8 @@ ROUNDS, WORKERS = 3, (1, 2, 4)
 # So many mixed lines are made, and repeated.
 MADE = 1_000_000
 COMMAND = shlex.join([str(try_dask.PROGRAM), *try_dask.WORDS])
-SIDE_BY_SIDE = "for k in $(seq {0}); do split -n l/$k/{0} lines | {1} > part.$k & done; wait; cat $(seq -f part.%.0f {0}) > output; rm part.*"
+SIDE_BY_SIDE = "for k in $(seq {0}); do split -n l/$k/{0} lines | {1} > part.$k & done; wait"
+JOIN = "cat $(seq -f part.%.0f {0}) > output; rm part.*"
 PARALLEL = "parallel --will-cite -k -j {0} --pipepart -a lines --block -4 {1} > output"
 DASK = """
 import sys, time
@@ -48,13 +49,14 @@ with Client(scheduler_file=sys.argv[1]) as client:
 """
 
 
-def by_shell(room, command):
-    """Returns the seconds that a command of the shell takes."""
+def by_shell(room, command, after="true"):
+    """Returns the seconds that a command of the shell takes, without what comes after it."""
     taken = []
     for _ in range(ROUNDS):
         began = time.monotonic()
         subprocess.run(["bash", "-c", command], cwd=room, check=True)
         taken.append(time.monotonic() - began)
+        subprocess.run(["bash", "-c", after], cwd=room, check=True)
     return min(taken)
 
 
@@ -88,7 +90,8 @@ def main():
         count = write_lines(room / "lines", given.megabytes)
         due = None
         rows = [("one process", [by_shell(room, f"{COMMAND} < lines > output"), None, None])]
-        ways = [("`split -n l/K/N`, side by side", lambda it: by_shell(room, SIDE_BY_SIDE.format(it, COMMAND))),
+        ways = [("`split -n l/K/N`, parts left apart", lambda it: by_shell(room, SIDE_BY_SIDE.format(it, COMMAND), JOIN.format(it))),
+                ("`split -n l/K/N`, joined", lambda it: by_shell(room, f"{SIDE_BY_SIDE}; {JOIN}".format(it, COMMAND))),
                 ("`parallel --pipepart -k`", lambda it: by_shell(room, PARALLEL.format(it, shlex.quote(COMMAND)))),
                 ("Dask, workers over TCP", lambda it: by_dask(room, it))]
         for title, way in ways:

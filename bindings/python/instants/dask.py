@@ -10,7 +10,6 @@ Dask gives the part of a worker that is gone to another one. The parts are joine
 from __future__ import annotations
 
 import os
-import pathlib
 import re
 import shutil
 import socket
@@ -58,19 +57,26 @@ def answer_part(file: str, part: Part, command: Sequence[str], folder: str) -> s
     return made
 
 
-def answer_file(client: Any, file: str, command: Sequence[str], output: str, size: int = PART_SIZE, begins: bytes | None = None) -> None:
-    """Writes what a command prints for a file to the output, part by part on the workers of a client of Dask distributed."""
-    folder = pathlib.Path(f"{output}.parts")
+def answer_parts(client: Any, file: str, command: Sequence[str], folder: str, size: int = PART_SIZE, begins: bytes | None = None) -> list[str]:
+    """Runs a command on the parts of a file, on the workers of a client of Dask distributed, and returns the files with what it
+    prints, in order. They are in a folder that is made for them, in the place of what was there."""
     shutil.rmtree(folder, ignore_errors=True)
-    folder.mkdir()
+    os.makedirs(folder)
     parts = parts_of(file, size, begins)
-    made = client.gather(client.map(lambda part: answer_part(file, part, command, str(folder)), parts, pure=False))
-    with open(folder / "whole", "wb") as whole:
+    made: list[str] = client.gather(client.map(lambda part: answer_part(file, part, command, folder), parts, pure=False))
+    return made
+
+
+def answer_file(client: Any, file: str, command: Sequence[str], output: str, size: int = PART_SIZE, begins: bytes | None = None) -> None:
+    """The same, with the parts joined in the output."""
+    folder = f"{output}.parts"
+    made = answer_parts(client, file, command, folder, size, begins)
+    with open(f"{folder}/whole", "wb") as whole:
         for name in made:
             with open(name, "rb") as part:
                 shutil.copyfileobj(part, whole, 1 << 20)
             os.unlink(name)
-    os.replace(folder / "whole", output)
+    os.replace(f"{folder}/whole", output)
     shutil.rmtree(folder)
 
 
