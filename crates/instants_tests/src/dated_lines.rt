@@ -111,8 +111,10 @@ fn fails_so(alloc: Global, row: &(Option<usize>, Option<usize>, usize)) -> bool 
     let (words, stream, output) = ROWS[1];
     let output = &output[..written.min(output.len())];
     match ended(alloc, words, (stream, output), 7, (read_fails, write_fails)) {
-        Some((Err(LinesFault::Program(ProgramFault::Run(RunFault::Read))), true, 1)) => read_fails.is_some(),
-        Some((Err(LinesFault::Program(ProgramFault::Run(RunFault::Write))), true, 0)) => write_fails.is_some(),
+        Some((Err(LinesFault::Program(ProgramFault::Run(RunFault::Read))), true, 1)) =>
+            read_fails.is_some(),
+        Some((Err(LinesFault::Program(ProgramFault::Run(RunFault::Write))), true, 0)) =>
+            write_fails.is_some(),
         _ => false,
     }
 }
@@ -182,13 +184,7 @@ fn runs_in_a_mode(rt: HostRuntime) {
     let mut space = [0; 100];
     let mut reader = CutReader::new(b"at 2021-01-02T04:04:05+01:00", 7, None);
     let mut writer = CutWriter::new(&mut space, 7, None);
-    let ended = run_words_by(
-        &Mode::Replace,
-        rt.alloc(),
-        &words,
-        &mut reader,
-        &mut writer,
-    );
+    let ended = run_words_by(&Mode::Replace, rt.alloc(), &words, &mut reader, &mut writer);
     assert!(rt; ended == Ok(()));
     assert!(rt; writer.written() == b"at 2021-01-02T03:04:05.000000000Z\n".as_slice());
 }

@@ -83,7 +83,10 @@ impl fmt::Display for FaultText<'_, '_> {
                 f.write_str(": the limit must be a number from 1 to 1048576")
             }
             ProgramFault::Words(WordsFault::Source(place)) => {
-                write!(f, ": source {place} is not a known source with its description")
+                write!(
+                    f,
+                    ": source {place} is not a known source with its description"
+                )
             }
             ProgramFault::New(NewFault::Source { place, fault }) => {
                 write!(f, ": source {place}: {fault}")
