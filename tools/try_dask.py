@@ -9,7 +9,8 @@ A scheduler and four workers are started, which talk over TCP, each a process of
 puts a file of mixed lines through `instants` in some thirty parts. While parts are written, a worker is killed (`kill -9`) that
 is at work on one. The output is byte for byte that of one process, and beside it nothing is left. The same for `instants-lines`
 in mode `carry`, where a part begins with a line that has a date, and for the module as a command, without a kill. A program
-that fails fails the whole, and leaves no output. The last line counts what passed; the status is 1 where anything failed.
+that fails fails the whole, and leaves no output; what stands where the parts would is left alone. The last line counts what
+passed; the status is 1 where anything failed.
 """
 
 import argparse
@@ -155,7 +156,13 @@ def try_a_command(cluster, file):
     tell_same("python3 -m instants.dask", ran, output, one_process([PROGRAM, *WORDS], file))
     ran, output = cluster.run(file, [PROGRAM, "+25:00", *WORDS[1:]], file.stat().st_size)
     ran.communicate()
-    tell("a program that fails", ran.returncode != 0 and not output.exists())
+    tell("a program that fails", ran.returncode != 0 and not output.exists() and not pathlib.Path(f"{output}.parts").exists())
+    kept = pathlib.Path(f"{output}.parts", "kept")
+    kept.parent.mkdir()
+    kept.touch()
+    ran, _ = cluster.run(file, [PROGRAM, *WORDS], file.stat().st_size)
+    ran.communicate()
+    tell("a folder that is there already", ran.returncode != 0 and kept.exists() and not output.exists())
 
 
 def main():

@@ -2,26 +2,20 @@
 
 from __future__ import annotations
 
-from dataclasses import dataclass
 from datetime import datetime
-from typing import Iterable
+from typing import Iterable, NamedTuple
 
 from ._lines import Lines, Words, answer_bytes, stream_of
 
-# The bytes of a date-time without its offset, and as far as its microseconds.
-CLOCK, MICROSECONDS = 29, 26
+# The bytes of a date-time as far as its microseconds.
+MICROSECONDS = 26
 
 
-@dataclass(frozen=True)
-class Answer:
-    """The answer to a line: a date-time, or a fault."""
+class Answer(NamedTuple):
+    """The answer to a line: a date-time, or a fault behind `! `; and the fault, as `component year`, or None."""
 
     text: str
-
-    @property
-    def fault(self) -> str | None:
-        """What is wrong with the line, as `component year`, or None."""
-        return self.text[2:] if self.text.startswith("!") else None
+    fault: str | None
 
     def __str__(self) -> str:
         return self.text
@@ -73,8 +67,9 @@ def answers(
 def parse(
     lines: Lines, *, target: str, sources: Iterable[str], assumed: str = "-", limit: int | None = None, raising: bool = False
 ) -> list[Answer]:
-    """Returns the same answers as values, which tell date-times from faults."""
-    return [Answer(it) for it in answers(lines, target=target, sources=sources, assumed=assumed, limit=limit, raising=raising)]
+    """Returns the same answers as values, which tell date-times from faults: `for text, fault in parse(..)`."""
+    texts = answers(lines, target=target, sources=sources, assumed=assumed, limit=limit, raising=raising)
+    return [Answer(it, it[2:] if it[0] == "!" else None) for it in texts]
 
 
 def datetimes(

@@ -62,22 +62,23 @@ def _moments(written: bytes) -> numpy.ndarray[Any, numpy.dtype[numpy.datetime64]
     return found
 
 
-def _eight(rows: Any, at: int) -> Any:
-    """Returns the low halves of eight bytes of each row as one number, in which the first byte is the lowest."""
+def _pairs(rows: Any, at: int) -> Any:
+    """Returns eight bytes of each row as one number, whose second byte and all above it have what two digits write: those that
+    stood there and one byte below."""
     import numpy
 
-    return numpy.ascontiguousarray(rows[:, at : at + 8]).view("<u8")[:, 0] & LOW_HALVES
+    return (numpy.ascontiguousarray(rows[:, at : at + 8]).view("<u8")[:, 0] & LOW_HALVES) * TENS
 
 
-def _pair(eight: Any, at: int) -> Any:
+def _pair(pairs: Any, at: int) -> Any:
     """Returns what the digits at a place and behind it write."""
-    return (eight * TENS >> 8 * (at + 1) & 0xFF).view("int64")
+    return (pairs >> 8 * (at + 1) & 0xFF).view("int64")
 
 
 def _nanoseconds(rows: Any) -> Any:
     """Returns what the nine digits of the fraction write."""
-    pairs = _eight(rows, 20) * TENS >> 8 & SECONDS
-    eight = (pairs * HUNDREDS >> 16 & PAIRS) * MYRIADS >> 32
+    fours = (_pairs(rows, 20) >> 8 & SECONDS) * HUNDREDS >> 16
+    eight = (fours & PAIRS) * MYRIADS >> 32
     return eight.view("int64") * 10 + (rows[:, 28] & 0x0F)
 
 
@@ -85,7 +86,7 @@ def _read(rows: Any) -> Any:
     """Returns the moments of date-times, which are rows of bytes."""
     import numpy
 
-    months, days, clocks = _eight(rows, 0), _eight(rows, 8), _eight(rows, 12)
+    months, days, clocks = _pairs(rows, 0), _pairs(rows, 8), _pairs(rows, 12)
     month = (_pair(months, 0) * 100 + _pair(months, 2)) * 12 + _pair(months, 5) - MONTHS_BEFORE
     day = month.astype("datetime64[M]").astype("datetime64[D]").view("int64") + _pair(days, 0) - 1
     second = ((day * 24 + _pair(days, 3)) * 60 + _pair(days, 6)) * 60 + _pair(clocks, 5)

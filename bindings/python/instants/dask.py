@@ -59,25 +59,29 @@ def answer_part(file: str, part: Part, command: Sequence[str], folder: str) -> s
 
 def answer_parts(client: Any, file: str, command: Sequence[str], folder: str, size: int = PART_SIZE, begins: bytes | None = None) -> list[str]:
     """Runs a command on the parts of a file, on the workers of a client of Dask distributed, and returns the files with what it
-    prints, in order. They are in a folder that is made for them, in the place of what was there."""
-    shutil.rmtree(folder, ignore_errors=True)
-    os.makedirs(folder)
+    prints, in order. They are in a folder, which is made, or is empty."""
+    os.makedirs(folder, exist_ok=True)
+    if os.listdir(folder):
+        raise FileExistsError(f"{folder} is not empty")
     parts = parts_of(file, size, begins)
     made: list[str] = client.gather(client.map(lambda part: answer_part(file, part, command, folder), parts, pure=False))
     return made
 
 
 def answer_file(client: Any, file: str, command: Sequence[str], output: str, size: int = PART_SIZE, begins: bytes | None = None) -> None:
-    """The same, with the parts joined in the output."""
+    """The same, with the parts joined in the output. Meanwhile they are in the folder `OUTPUT.parts`, which must not be there."""
     folder = f"{output}.parts"
-    made = answer_parts(client, file, command, folder, size, begins)
-    with open(f"{folder}/whole", "wb") as whole:
-        for name in made:
-            with open(name, "rb") as part:
-                shutil.copyfileobj(part, whole, 1 << 20)
-            os.unlink(name)
-    os.replace(f"{folder}/whole", output)
-    shutil.rmtree(folder)
+    os.mkdir(folder)
+    try:
+        made = answer_parts(client, file, command, folder, size, begins)
+        with open(f"{folder}/whole", "wb") as whole:
+            for name in made:
+                with open(name, "rb") as part:
+                    shutil.copyfileobj(part, whole, 1 << 20)
+                os.unlink(name)
+        os.replace(f"{folder}/whole", output)
+    finally:
+        shutil.rmtree(folder, ignore_errors=True)
 
 
 def main(scheduler: str, file: str, output: str, *command: str) -> None:
