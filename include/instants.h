@@ -34,7 +34,8 @@
  *     }
  *
  * Where it runs. The library is for x86-64 Linux. A call needs less than 256 KiB of stack: 152 KiB were measured for a
- * description with the deepest nesting that is allowed, 40 KiB for long descriptions without nesting, 24 KiB for the formats.
+ * description with the deepest nesting that is allowed, 40 KiB for long descriptions that are not nested like that, 24 KiB for
+ * the formats.
  *
  * The caller has to make sure of the following. The library does not check it.
  * - No pointer is NULL, also where the length is 0; any address will do there, such as that of "". As many bytes as the length
