@@ -19,7 +19,7 @@ those that were built last; where they are not, or are older than their sources,
   without a network, and what was packed is unpacked and tried outside of the repository, with the library that
   INSTANTS_LIB_DIR names and with that which pkg-config finds; where there is none the build says how to get it.
 - Python: the tests of `bindings/python`, by Debian's Python, which has numpy and pandas where their packages are there; its
-  types, by `mypy --strict`; the same lines by its calls; `pip install`, without a network, into an environment of its own,
+  types, by `mypy --strict`; the same lines by its calls, and one by one by a timeline; `pip install`, without a network, into an environment of its own,
   where the package answers with no variable set; and what is said where there is no library, or one of another version.
 - SQLite: `bindings/sqlite/instant.c` answers the lines that are text as the program does; the answers are the key of a table,
   of an index that SQLite uses, and of generated columns, also where the schema is not trusted; bad calls are errors; words
@@ -79,6 +79,12 @@ block: list[str] = instants.answers(memoryview(b""), target="+00:00", sources=("
 faults: list[str | None] = [it.fault for it in instants.parse([b"", bytearray()], target="+00:00", sources=["rfc3339"])]
 moments: list[datetime | None] = instants.datetimes(["x"], sources=["rfc3339"], assumed="+00:00")
 written: bytes = instants.answer_bytes(b"", ["+00:00", "-", "100", "rfc3339"])
+with instants.Timeline(target="+00:00", sources=["rfc3339"], limit=100) as timeline:
+    text: str = timeline.answer(b"x", raising=False)
+    texts = timeline.answers(open("lines", "rb"))
+    faults = [it.fault for it in timeline.parse("x")]
+    moments = timeline.datetimes(["x"], raising=True)
+timeline.close()
 """
 WRONG_WORDS = (
     [],
@@ -297,6 +303,9 @@ def try_python(library):
     for what, lines in (("a list", library.input.split(b"\n")), ("a block", library.input)):
         listed = instants.answers(lines, target="+00:00", sources=SOURCES, limit=100)
         tell_same(f"Python: {what}", "\n".join([*listed, ""]).encode(), library.answers)
+    with instants.Timeline(target="+00:00", sources=SOURCES, limit=100) as timeline:
+        listed = [timeline.answer(line) for line in library.input.split(b"\n")]
+    tell_same("Python: line by line", "\n".join([*listed, ""]).encode(), library.answers)
     try_library_of_python(library)
     try_pip(library)
 
