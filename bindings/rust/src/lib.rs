@@ -1,10 +1,13 @@
 #![doc = include_str!("../README.md")]
 #![deny(missing_docs)]
 
+mod timeline;
+
 use std::fmt;
 
 pub use instants_sys::{GREATEST_LIMIT, LINE_ROOM};
 use instants_sys::{OK, REFUSED};
+pub use timeline::Timeline;
 
 /// Why lines are not answered.
 #[derive(Clone, Debug, PartialEq, Eq)]
