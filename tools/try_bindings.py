@@ -406,8 +406,10 @@ def try_changing_words(library):
             columns = dict(zip(("target", "kind", "description", "line"), row))
             target, kind, description, line = (constant or columns[column] for constant, column in words)
             due += library.answered(line.encode(), [target, "-", GREATEST, kind, description])
-        status, said, wrong = queried(library, f"{table}SELECT {call} FROM given ORDER BY rowid;", VALGRIND)
-        tell_same(f"SQLite: {call}", said if status == 0 else wrong, due)
+        for encoding in ("UTF-8", "UTF-16le"):
+            text = f"PRAGMA encoding = '{encoding}';\n{table}SELECT {call} FROM given ORDER BY rowid;"
+            status, said, wrong = queried(library, text, VALGRIND)
+            tell_same(f"SQLite: {call} in {encoding}", said if status == 0 else wrong, due)
     places = "instant('+00:00', 'rfc3339', line) || instant_fault('+00:00', 'strftime', '%FT%TZ', line)"
     text = f"WITH given (line) AS (VALUES ('x'), ('2021-01-02T03:04:05Z'), ('y')) SELECT {places} FROM given;"
     status, said, wrong = queried(library, text, VALGRIND)

@@ -241,6 +241,18 @@ class Timelines(unittest.TestCase):
                 it.join()
         self.assertEqual(ended, ["instants: the timeline is closed"] * 8)
 
+    def test_words_stay_read(self):
+        library = _handle.LIBRARY
+        with mock.patch.object(library, "instants_open", wraps=library.instants_open) as opened:
+            with mock.patch.object(library, "instants_close", wraps=library.instants_close) as closed:
+                for limit in [101, 102, 101, 102]:
+                    self.assertEqual(answers([LINE], limit=limit), [ANSWER])
+                self.assertEqual(opened.call_count, 2)
+                for limit in range(103, 153):
+                    self.assertEqual(answers([LINE], limit=limit), [ANSWER])
+                self.assertEqual(opened.call_count, 52)
+                self.assertGreaterEqual(closed.call_count, 36)
+
     def test_copies(self):
         with instants.Timeline(**how(target="+01:00", assumed="+02:00", limit=19, sources=iter(["strftime", "%F %T"]))) as timeline:
             copy = pickle.loads(pickle.dumps(timeline))

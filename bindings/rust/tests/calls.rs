@@ -19,6 +19,7 @@ fn lines() {
     assert_eq!(answers(&WORDS, b"").as_deref(), Ok(b"".as_slice()));
     assert_eq!(answers(&WORDS, b"\0\n").as_deref(), Ok(b"! component year\n".as_slice()));
     assert_eq!(room(LINE), 72);
+    assert_eq!(room(&[b'\n'; 1000]), 36_036);
     assert_eq!(version(), 100);
 }
 
