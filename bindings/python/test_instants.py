@@ -256,6 +256,8 @@ class Timelines(unittest.TestCase):
     def test_copies(self):
         with instants.Timeline(**how(target="+01:00", assumed="+02:00", limit=19, sources=iter(["strftime", "%F %T"]))) as timeline:
             copy = pickle.loads(pickle.dumps(timeline))
+            with self.assertRaises(ValueError):
+                pickle.dumps(timeline._open())
         self.assertEqual(copy.answers(["2021-01-02 04:04:05", "2021-01-02 04:04:05."]), ["2021-01-02T03:04:05.000000000+01:00", "! long"])
 
 

@@ -42,7 +42,8 @@ class Handle:
     """An open handle on the program's words. It is closed when nobody has it any more, as a call has it until it returns; so it
     is open while it is asked, by several threads too."""
 
-    __slots__ = ("_opened", "__weakref__")
+    # (`_opened` is kept since it lets nobody pickle a handle)
+    __slots__ = ("_at", "_opened", "__weakref__")
 
     def __init__(self, words: list[str]) -> None:
         text, self._opened = joined(words), Opened()
@@ -51,6 +52,7 @@ class Handle:
             raise Refused(sentence(text))
         if status != OK:
             raise MemoryError(sentence(text) or "instants: out of memory")
+        self._at = self._opened.at
         # (as the interpreter ends other threads may still have it, and the system takes the memory back)
         weakref.finalize(self, close, self._opened, text).atexit = False
 
@@ -59,11 +61,13 @@ class Handle:
         output = bytearray(LINE_ROOM * (stream.count(b"\n") + 1))
         written = ctypes.c_size_t()
         room = ctypes.byref(ctypes.c_char.from_buffer(output))
-        LIBRARY.instants_answer(self._opened.at, stream, len(stream), room, len(output), ctypes.byref(written))
+        LIBRARY.instants_answer(self._at, stream, len(stream), room, len(output), ctypes.byref(written))
         return bytes(memoryview(output)[: written.value])
 
     def answer_line(self, line: bytes) -> str:
-        """Returns the answer to a line, which ends in its line feed."""
+        """Returns the answer to a line without its line feed."""
         output, written = ROOM(), ctypes.c_size_t()
-        LIBRARY.instants_answer(self._opened.at, line, len(line), output, LINE_ROOM, ctypes.byref(written))
+        # (without a line feed an empty line is none)
+        line = line or b"\n"
+        LIBRARY.instants_answer(self._at, line, len(line), output, LINE_ROOM, ctypes.byref(written))
         return output.raw[: written.value - 1].decode("ascii")

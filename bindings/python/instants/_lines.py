@@ -37,10 +37,15 @@ def _stream_of_list(lines: list[Any]) -> bytes:
 
 def line_of(line: Any) -> bytes:
     """Returns the bytes of a line without the line feed at its end."""
-    if not isinstance(line, (str, bytes, bytearray, memoryview)):
+    if isinstance(line, str):
+        read = line.encode("utf-8", "surrogateescape")
+    elif isinstance(line, (bytes, bytearray, memoryview)):
+        read = bytes(line)
+    else:
         raise TypeError(f"a line is a text or bytes, and not {type(line).__name__}")
-    read = line.encode(errors="surrogateescape") if isinstance(line, str) else bytes(line)
-    read = read[:-1] if read.endswith(b"\n") else read
-    if b"\n" in read:
+    end = read.find(b"\n")
+    if end < 0:
+        return read
+    if end + 1 < len(read):
         raise ValueError("a line has a line feed within it")
-    return read
+    return read[:end]

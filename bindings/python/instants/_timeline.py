@@ -66,7 +66,7 @@ class Timeline:
     def answer(self, line: Line, *, raising: bool = False) -> str:
         """Returns the answer to one line."""
         read = line_of(line)
-        text = self._open().answer_line(read + b"\n")
+        text = self._open().answer_line(read)
         if raising and text[0] == "!":
             raise fault_at(read, 0, text[2:])
         return text
