@@ -414,6 +414,9 @@ def try_changing_words(library):
     text = f"WITH given (line) AS (VALUES ('x'), ('2021-01-02T03:04:05Z'), ('y')) SELECT {places} FROM given;"
     status, said, wrong = queried(library, text, VALGRIND)
     tell_same("SQLite: two places", said if status == 0 else wrong, b"! component yearcomponent year\n2021-01-02T03:04:05.000000000Zinsufficient\n! component yearcomponent year\n")
+    text = "SELECT instant(column1, 'rfc3339', 'x') FROM (VALUES ('+00:00'), ('+25:00'));"
+    status, said, wrong = queried(library, text, VALGRIND)
+    tell("SQLite: words that are refused at the second row", status == 1 and b"the target offset must be" in wrong, f"{status} {said} {wrong}")
 
 
 def try_sqlite(library):
