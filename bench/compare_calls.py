@@ -1,5 +1,5 @@
 #!/usr/bin/env python3
-"""Measures calls of the library from C, Python and SQLite beside other libraries, and prints a table.
+"""Measures calls of the library from C, Rust, Python and SQLite beside other libraries, and prints a table.
 
     bench/compare_calls.py [--lines N]
 
@@ -8,10 +8,11 @@ python3-numpy libsqlite3-dev sqlite3.
 The library is the one that was built last (`tools/build_library.py` builds it).
 
 Each cell is how many nanoseconds of processor time a line takes, in the quickest of some rounds, in calls of one line, of 100 and of
-all 100,000. The lines are of RFC 3339 (`bench/lines.py`), the target is UTC. A call looks at the words, takes memory and gives
-it back, so a call of one line is mostly that; for the row of three sources a description of strftime is read too, each time.
+all 100,000. The lines are of RFC 3339 (`bench/lines.py`), the target is UTC. A call by words looks at them, takes memory and
+gives it back, so a call of one line is mostly that; for the row of three sources a description of strftime is read too, each
+time. A call by a handle does none of it; the timelines of Rust and Python, Python's other calls and SQLite's function have one.
 The crate `time`, `ciso8601` and `python-dateutil` read line by line, whatever a call has; they are measured once. In SQLite
-each row is a call.
+each row is a call, and what a query without it takes is not counted.
 """
 
 import argparse
@@ -33,8 +34,11 @@ OUT = ROOT / "crates" / "instants_c" / "out"
 # Debian's own, which has the modules of Debian's packages.
 PYTHON = "/usr/bin/python3"
 COUNTS = (1, 100, 100_000)
+RUST = "bench/calls/rust"
 ALONE = ["+00:00", "-", "100", "rfc3339"]
-THREE = [*ALONE, "rfc2822", "strftime", "%d/%b/%Y:%H:%M:%S %z"]
+LOG = "%d/%b/%Y:%H:%M:%S %z"
+THREE = [*ALONE, "rfc2822", "strftime", LOG]
+LOG_CALL = f"instant('+00:00', 'strftime', '{LOG}', line)"
 
 
 def printed(command, **how):
@@ -48,42 +52,49 @@ def build(room):
     subprocess.run([*flags, "-o", room / "calls", BENCH / "calls" / "calls.c", OUT / "libinstants.a"], check=True)
     extension = ROOT / "bindings" / "sqlite" / "instant.c"
     subprocess.run([*flags, "-fPIC", "-shared", "-o", room / "instant.so", extension, OUT / "libinstants.a"], check=True)
-    copy = room / "rust"
-    shutil.copytree(BENCH / "calls" / "rust", copy)
-    (copy / ".cargo").mkdir()
+    for crate in (RUST, "bindings/rust"):
+        shutil.copytree(ROOT / crate, room / crate, ignore=shutil.ignore_patterns("target", "Cargo.lock"))
+    (room / RUST / ".cargo").mkdir()
     config = f'[source.crates-io]\nreplace-with = "debian"\n[source.debian]\ndirectory = "{registry()}"\n'
-    (copy / ".cargo" / "config.toml").write_text(config)
-    subprocess.run(["cargo", "build", "--release", "--quiet", "--offline"], cwd=copy, check=True)
+    (room / RUST / ".cargo" / "config.toml").write_text(config)
+    places = {**os.environ, "INSTANTS_LIB_DIR": str(OUT)}
+    subprocess.run(["cargo", "build", "--release", "--quiet", "--offline"], cwd=room / RUST, env=places, check=True)
 
 
-def of_sqlite(room, file, count):
-    """Returns the nanoseconds that a row takes in SQLite, less those of a query without the function."""
+def of_sqlite(room, file, count, call):
+    """Returns the nanoseconds that a row takes in SQLite by a call, less those of a query without it."""
     def taken(call):
         script = f".load {room}/instant\nCREATE TABLE lines (line TEXT);\n.import {file} lines\n.timer on\nSELECT count({call}) FROM lines;\n"
         said = subprocess.run(["sqlite3", "-batch", ":memory:"], input=script, stdout=subprocess.PIPE, text=True, check=True).stdout
         return float(re.search(r"user (\S+)", said)[1]) + float(re.search(r"sys (\S+)", said)[1])
 
-    call = "instant('+00:00', 'rfc3339', line)"
     return (min(taken(call) for _ in range(9)) - min(taken("line") for _ in range(9))) / count * 1e9
 
 
 def rows(room, file, count):
     """Returns the rows: a title and a cell for each length of a call."""
     places = dict(os.environ, INSTANTS_LIBRARY=str(OUT / "libinstants.so.0"), PYTHONPATH=str(ROOT / "bindings" / "python"))
-    in_c = lambda words: [printed([room / "calls", file, str(min(it, count)), *words]) for it in COUNTS]
+    in_c = lambda how, words: [printed([room / "calls", how, file, str(min(it, count)), *words]) for it in COUNTS]
     in_python = lambda name, counts: [printed([PYTHON, "-B", BENCH / "calls" / "calls.py", file, str(min(it, count)), name, *ALONE], env=places) for it in counts]
-    rust = printed([room / "rust" / "target" / "release" / "calls", file])
+    in_rust = lambda counts: [printed([room / RUST / "target" / "release" / "calls", str(it), file]) for it in counts]
+    in_sqlite = lambda lines, call: [of_sqlite(room, lines, count, call), None, None]
     return [
-        ("C: `instants_answer_lines`, RFC 3339 alone", in_c(ALONE)),
-        ("C: the same, three sources", in_c(THREE)),
-        ("Rust: the crate `time` 0.3.9, `parse`, `to_offset`, `format_into`", [rust] * 3),
+        ("C: `instants_answer_lines`, by words, RFC 3339 alone", in_c("words", ALONE)),
+        ("C: the same, three sources", in_c("words", THREE)),
+        ("C: `instants_answer`, by a handle, RFC 3339 alone", in_c("handle", ALONE)),
+        ("C: the same, three sources", in_c("handle", THREE)),
+        ("Rust: `Timeline::append_to`", in_rust(COUNTS)),
+        ("Rust: the crate `time` 0.3.9, `parse`, `to_offset`, `format_into`", in_rust(["time"]) * 3),
+        ("Python: `Timeline.answer`", [*in_python("Timeline.answer", COUNTS[:1]), None, None]),
+        ("Python: `Timeline.answers`", in_python("Timeline.answers", COUNTS)),
         ("Python: `answer_bytes`", in_python("answer_bytes", COUNTS)),
         ("Python: `answers`", in_python("answers", COUNTS)),
         ("Python: `datetimes`", in_python("datetimes", COUNTS)),
         ("Python: `to_datetime64`, of bytes", in_python("to_datetime64", COUNTS)),
         ("Python: `ciso8601`, `astimezone`, `isoformat`", in_python("ciso8601", COUNTS[2:]) * 3),
         ("Python: `python-dateutil`, `isoparse`, `astimezone`, `isoformat`", in_python("dateutil", COUNTS[2:]) * 3),
-        ("SQLite: `instant('+00:00', 'rfc3339', line)`", [of_sqlite(room, file, count), None, None]),
+        ("SQLite: `instant('+00:00', 'rfc3339', line)`", in_sqlite(file, "instant('+00:00', 'rfc3339', line)")),
+        ("SQLite: the same by `'strftime', '%d/%b/%Y:%H:%M:%S %z'`, of a web server's lines", in_sqlite(file.with_name("log.txt"), LOG_CALL)),
     ]
 
 

@@ -19,11 +19,11 @@ those that were built last; where they are not, or are older than their sources,
   without a network, and what was packed is unpacked and tried outside of the repository, with the library that
   INSTANTS_LIB_DIR names and with that which pkg-config finds; where there is none the build says how to get it.
 - Python: the tests of `bindings/python`, by Debian's Python, which has numpy and pandas where their packages are there; its
-  types, by `mypy --strict`; the same lines by its calls; `pip install`, without a network, into an environment of its own,
+  types, by `mypy --strict`; the same lines by its calls, and one by one by a timeline; `pip install`, without a network, into an environment of its own,
   where the package answers with no variable set; and what is said where there is no library, or one of another version.
 - SQLite: `bindings/sqlite/instant.c` answers the lines that are text as the program does; the answers are the key of a table,
-  of an index that SQLite uses, and of generated columns, also where the schema is not trusted; bad calls are errors; all of
-  it on 2,000 lines under valgrind.
+  of an index that SQLite uses, and of generated columns, also where the schema is not trusted; bad calls are errors; words
+  that stay from row to row, and words that change, are answered alike; all of it on 2,000 lines under valgrind.
 
 The last line counts what passed; the status is 1 where anything failed.
 """
@@ -79,6 +79,12 @@ block: list[str] = instants.answers(memoryview(b""), target="+00:00", sources=("
 faults: list[str | None] = [it.fault for it in instants.parse([b"", bytearray()], target="+00:00", sources=["rfc3339"])]
 moments: list[datetime | None] = instants.datetimes(["x"], sources=["rfc3339"], assumed="+00:00")
 written: bytes = instants.answer_bytes(b"", ["+00:00", "-", "100", "rfc3339"])
+with instants.Timeline(target="+00:00", sources=["rfc3339"], limit=100) as timeline:
+    text: str = timeline.answer(b"x", raising=False)
+    texts = timeline.answers(open("lines", "rb"))
+    faults = [it.fault for it in timeline.parse("x")]
+    moments = timeline.datetimes(["x"], raising=True)
+timeline.close()
 """
 WRONG_WORDS = (
     [],
@@ -91,6 +97,16 @@ WRONG_WORDS = (
     ["+00:00", "-", "100", "v1", "[day", "v2", "[x]"],
     ["+00:00", "-", "100", "v3", "[optional [[day]]"],
     ["+00:00", "-", "100", "strftime", "%Q"],
+)
+
+# Words and lines of SQLite's rows: what changes from row to row are the target, the description, all of it, or nothing.
+CHANGING = (
+    ("+00:00", "strftime", "%F %T%z", "2021-01-02 04:04:05+0100"),
+    ("+00:00", "strftime", "%F %T%z", "30 February"),
+    ("+01:00", "strftime", "%F %T%z", "2021-01-02 04:04:05+0100"),
+    ("+01:00", "v3", "[unix_timestamp]", "1609556645"),
+    ("+01:00", "strftime", "%s", "1609556645"),
+    ("+00:00", "strftime", "%F %T%z", "2021-01-02 04:04:05+0100"),
 )
 
 counts = {True: 0, False: 0}
@@ -287,6 +303,9 @@ def try_python(library):
     for what, lines in (("a list", library.input.split(b"\n")), ("a block", library.input)):
         listed = instants.answers(lines, target="+00:00", sources=SOURCES, limit=100)
         tell_same(f"Python: {what}", "\n".join([*listed, ""]).encode(), library.answers)
+    with instants.Timeline(target="+00:00", sources=SOURCES, limit=100) as timeline:
+        listed = [timeline.answer(line) for line in library.input.split(b"\n")]
+    tell_same("Python: line by line", "\n".join([*listed, ""]).encode(), library.answers)
     try_library_of_python(library)
     try_pip(library)
 
@@ -355,6 +374,8 @@ def try_bad_calls(library):
         ("instant('+00:00', 'rfc3339', NULL) IS NULL", b"1\n"),
         ("instant('+00:00', 'rfc3339', '')", b"! component year\n"),
         ("instant('+00:00', 'rfc3339', 'a' || char(10) || 'b')", b"! component year\n! component year\n"),
+        ("instant('+00:00', 'rfc3339', 'a' || char(10))", b"! component year\n! component year\n"),
+        ("length(instant('+00:00', 'rfc3339', replace(hex(zeroblob(50)), '0', char(10))))", b"1716\n"),
         ("instant('+00:00', 'rfc3339', '2021-01-02T03:04:05Z' || char(0))", b"! trailing\n"),
         ("instant('+00:00', 'rfc3339', x'ff')", b"! component year\n"),
         ("instant('+00:00', 'v3', '[unix_timestamp]', 1609556645)", b"2021-01-02T03:04:05.000000000Z\n"),
@@ -369,6 +390,35 @@ def try_bad_calls(library):
         tell(f"SQLite: {call}", status == 0 and said == printed, f"{said} {wrong}")
 
 
+def try_changing_words(library):
+    """Tries words that change from row to row, words that stay, and two places with words of their own, under valgrind."""
+    rows = ",\n".join(f"({quoted(it)})" for it in CHANGING)
+    table = f"CREATE TABLE given (target TEXT, kind TEXT, description TEXT, line TEXT);\nINSERT INTO given VALUES {rows};\n"
+    for call in (
+        "instant(target, kind, description, line)",
+        "instant('+01:00', kind, description, line)",
+        "instant(target, 'strftime', '%F %T%z', line)",
+        "instant('+01:00', 'strftime', '%F %T%z', line)",
+    ):
+        named = [re.findall(r"'([^']*)'|(\w+)", call.partition("(")[2])] * len(CHANGING)
+        due = b""
+        for words, row in zip(named, CHANGING):
+            columns = dict(zip(("target", "kind", "description", "line"), row))
+            target, kind, description, line = (constant or columns[column] for constant, column in words)
+            due += library.answered(line.encode(), [target, "-", GREATEST, kind, description])
+        for encoding in ("UTF-8", "UTF-16le"):
+            text = f"PRAGMA encoding = '{encoding}';\n{table}SELECT {call} FROM given ORDER BY rowid;"
+            status, said, wrong = queried(library, text, VALGRIND)
+            tell_same(f"SQLite: {call} in {encoding}", said if status == 0 else wrong, due)
+    places = "instant('+00:00', 'rfc3339', line) || instant_fault('+00:00', 'strftime', '%FT%TZ', line)"
+    text = f"WITH given (line) AS (VALUES ('x'), ('2021-01-02T03:04:05Z'), ('y')) SELECT {places} FROM given;"
+    status, said, wrong = queried(library, text, VALGRIND)
+    tell_same("SQLite: two places", said if status == 0 else wrong, b"! component yearcomponent year\n2021-01-02T03:04:05.000000000Zinsufficient\n! component yearcomponent year\n")
+    text = "SELECT instant(column1, 'rfc3339', 'x') FROM (VALUES ('+00:00'), ('+25:00'));"
+    status, said, wrong = queried(library, text, VALGRIND)
+    tell("SQLite: words that are refused at the second row", status == 1 and b"the target offset must be" in wrong, f"{status} {said} {wrong}")
+
+
 def try_sqlite(library):
     """Tries the function that SQLite loads."""
     flags = [*WARNINGS, "-O2", "-fPIC", "-shared", f"-I{INCLUDE}"]
@@ -380,6 +430,7 @@ def try_sqlite(library):
     try_key(library, read, call)
     try_key(library, read[:FEW], call, VALGRIND, "SQLite, under valgrind")
     try_bad_calls(library)
+    try_changing_words(library)
     status, said, wrong = ran(["sqlite3", "-batch", "-bail"], (BINDINGS / "sqlite" / "example.sql").read_bytes(), cwd=library.room)
     due = b"2021-01-02T03:04:06.000000000Z|Sat, 02 Jan 2021 03:04:06 +0000\n2021-01-02T03:04:07.000000000Z|01/Jan/2021:22:04:07 -0500\n"
     due += b"2021-01-02T03:04:05.000000000Z|\n! component year|component year\n"

@@ -9,8 +9,8 @@ were built last (tools/build_program.py, tools/build_library.py).
 The extension `bindings/postgres` is built, and installed below a folder; a server is started there, which listens to nobody
 else, as an ordinary user: the caller, or where that is root the user `postgres`. Then
 
-- the regression test of the extension passes (`make installcheck`): answers, refusals, an index that is used, a generated
-  column, a condition, a query by several processes;
+- the regression test of the extension passes (`make installcheck`): answers, refusals, words that change from row to row, an
+  index that is used, a generated column, a condition, a query by several processes;
 - the answers to mixed lines are those of the program, byte by byte, and so is their order by an index;
 - a log is read by `COPY .. FROM PROGRAM 'instants-lines ..'`: by a superuser and by who has the role for it, and by nobody else.
 

@@ -1,6 +1,6 @@
 /*
- * calls FILE LINES WORD..: answers a file of lines again and again by calls of so many lines each, and prints the nanoseconds
- * that a line takes, the least of the rounds.
+ * calls HOW FILE LINES WORD..: answers a file of lines again and again by calls of so many lines each, and prints the
+ * nanoseconds that a line takes, the least of the rounds. HOW is `words`, or `handle`, which reads the words once.
  */
 #define _POSIX_C_SOURCE 199309L
 
@@ -50,9 +50,10 @@ static size_t *cuts(const uint8_t *bytes, size_t len, size_t lines, size_t *coun
     return places;
 }
 
+/* What is answered, and by which words; by a handle on them where it is open. */
 struct run {
-    const uint8_t *words;
-    size_t words_len;
+    const char *words;
+    struct instants_handle handle;
     const uint8_t *input;
     const size_t *places;
     size_t count;
@@ -60,14 +61,21 @@ struct run {
     size_t room;
 };
 
+/* Answers some of the input, and returns the status. */
+static uint8_t answer(const struct run *run, const uint8_t *input, size_t len)
+{
+    size_t written;
+    if (run->handle.at)
+        return instants_answer(run->handle.at, input, len, run->output, run->room, &written);
+    return instants_answer_lines(run->words, strlen(run->words), input, len, run->output, run->room, &written);
+}
+
 /* The nanoseconds that all calls take, or a negative number where one fails. */
 static double answer_all(const struct run *run)
 {
     double began = now();
     for (size_t at = 0, start = 0; at < run->count; start = run->places[at++]) {
-        size_t written;
-        if (instants_answer_lines(run->words, run->words_len, run->input + start, run->places[at] - start, run->output, run->room,
-                                  &written))
+        if (answer(run, run->input + start, run->places[at] - start))
             return -1;
     }
     return now() - began;
@@ -76,16 +84,18 @@ static double answer_all(const struct run *run)
 int main(int count, char **arguments)
 {
     static char words[4096];
-    size_t len, lines = 0, lines_a_call = count > 3 ? strtoul(arguments[2], NULL, 10) : 0;
-    uint8_t *input = lines_a_call ? read_file(arguments[1], &len) : NULL;
+    size_t len, lines = 0, lines_a_call = count > 4 ? strtoul(arguments[3], NULL, 10) : 0;
+    uint8_t *input = lines_a_call ? read_file(arguments[2], &len) : NULL;
     if (!input)
         return 2;
-    for (int at = 3; at < count; at++)
-        snprintf(words + strlen(words), sizeof words - strlen(words), "%s%s", at > 3 ? "\n" : "", arguments[at]);
+    for (int at = 4; at < count; at++)
+        snprintf(words + strlen(words), sizeof words - strlen(words), "%s%s", at > 4 ? "\n" : "", arguments[at]);
     for (size_t at = 0; at < len; at++)
         lines += input[at] == '\n';
-    struct run run = {(const uint8_t *)words, strlen(words), input, NULL, 0, malloc(INSTANTS_ROOM(lines_a_call)), INSTANTS_ROOM(lines_a_call)};
+    struct run run = {words, {0}, input, NULL, 0, malloc(INSTANTS_ROOM(lines_a_call)), INSTANTS_ROOM(lines_a_call)};
     run.places = cuts(input, len, lines_a_call, &run.count);
+    if (!strcmp(arguments[1], "handle") && instants_open(words, strlen(words), &run.handle))
+        return 1;
     double least = run.output && run.places ? answer_all(&run) : -1, spent = least;
     for (int round = 1; least >= 0 && (round < ROUNDS || spent < BUDGET); round++) {
         double taken = answer_all(&run);
@@ -93,5 +103,7 @@ int main(int count, char **arguments)
         spent += taken;
     }
     printf("%.1f\n", least / (double)lines);
+    if (run.handle.at)
+        instants_close(run.handle.at);
     return least < 0;
 }

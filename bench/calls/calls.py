@@ -1,9 +1,10 @@
 """calls.py FILE LINES CALL WORD..: answers a file of lines by calls of Python of so many lines each, and prints the nanoseconds
 that a line takes, the least of the rounds.
 
-CALL is `answer_bytes`, `answers`, `datetimes` or `to_datetime64` of the package `instants`, or `ciso8601` or `dateutil`, which
-read RFC 3339 and no words: each line's moment is read, moved to UTC and written with six digits of a fraction, which is all that
-they keep. `answer_bytes` and `to_datetime64` are given blocks of bytes, the others lists of texts.
+CALL is `answer_bytes`, `answers`, `datetimes` or `to_datetime64` of the package `instants`, or `Timeline.answer` or
+`Timeline.answers`, by one timeline, the first for each line; or `ciso8601` or `dateutil`, which read RFC 3339 and no words: each
+line's moment is read, moved to UTC and written with six digits of a fraction, which is all that they keep. `answer_bytes` and
+`to_datetime64` are given blocks of bytes, the others lists of texts.
 """
 
 import sys
@@ -39,6 +40,11 @@ def call_named(name, words):
         return lambda lines: instants.answer_bytes(lines, words)
     target, assumed, limit, *sources = words
     how = {"assumed": assumed, "limit": int(limit), "sources": sources, **({} if name == "to_datetime64" else {"target": target})}
+    if name == "Timeline.answers":
+        return instants.Timeline(**how).answers
+    if name == "Timeline.answer":
+        answer = instants.Timeline(**how).answer
+        return lambda lines: [answer(line) for line in lines]
     return lambda lines: getattr(instants, name)(lines, **how)
 
 

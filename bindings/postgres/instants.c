@@ -7,6 +7,9 @@
  *
  * Targets, sources and offsets are the program's words. They decide the answer alone, so both functions are immutable. Of a
  * text with line feeds the answer is those to its lines, with a line feed between them, and the fault the first of these.
+ *
+ * Words that stay from row to row are read once: a reader of them is kept with the call in the query, and is asked as long as
+ * the arguments are those that it was made of.
  */
 #include "postgres.h"
 
@@ -24,11 +27,23 @@ PG_MODULE_MAGIC;
 PG_FUNCTION_INFO_V1(instant);
 PG_FUNCTION_INFO_V1(instant_fault);
 
-/* The answers to a text, each with its line feed. */
+/* The answers to a text, each with its line feed, in a text of which the length is not set. */
 struct answers
 {
-	char	   *bytes;
+	text	   *text;
 	size_t		len;
+};
+
+/* An open handle, its words, and the arguments of which they are made: all in a context, with whose end the handle is closed. */
+struct reader
+{
+	MemoryContext context;
+	MemoryContextCallback at_end;
+	struct instants_handle handle;
+	StringInfoData words;
+	text	   *target,
+			   *assumed;
+	ArrayType  *sources;
 };
 
 static void
@@ -67,21 +82,17 @@ put_sources(StringInfo words, ArrayType *sources)
 	}
 }
 
-/* The words of a call in one text: the limit is as long as the line. */
-static StringInfoData
-words_of(FunctionCallInfo fcinfo, size_t len)
+/* Puts the words of a reader in one text: the limit is the greatest. */
+static void
+put_words(struct reader *reader)
 {
-	StringInfoData words;
-	size_t		limit = Min(Max(len, 1), INSTANTS_GREATEST_LIMIT);
-
 	if (GetDatabaseEncoding() != PG_UTF8 && GetDatabaseEncoding() != PG_SQL_ASCII)
 		ereport(ERROR, (errcode(ERRCODE_FEATURE_NOT_SUPPORTED), errmsg("instants: the database is not in UTF-8")));
-	initStringInfo(&words);
-	put_word(&words, PG_GETARG_TEXT_PP(0));
-	put_word(&words, PG_GETARG_TEXT_PP(3));
-	appendStringInfo(&words, "\n%zu", limit);
-	put_sources(&words, PG_GETARG_ARRAYTYPE_P(1));
-	return words;
+	initStringInfo(&reader->words);
+	put_word(&reader->words, reader->target);
+	put_word(&reader->words, reader->assumed);
+	appendStringInfo(&reader->words, "\n%d", INSTANTS_GREATEST_LIMIT);
+	put_sources(&reader->words, reader->sources);
 }
 
 /* Raises what is refused of the words. */
@@ -106,46 +117,120 @@ line_feeds(const char *bytes, size_t len)
 	return count;
 }
 
-/* Answers the lines of a text; an empty one is a line. */
+static void
+close_reader(void *kept)
+{
+	struct reader *reader = kept;
+
+	if (reader->handle.at)
+		instants_close(reader->handle.at);
+}
+
+/* Makes a reader, without words, which is kept from now on. */
+static struct reader *
+make_reader(FmgrInfo *call)
+{
+	MemoryContext context = AllocSetContextCreate(call->fn_mcxt, "instants", ALLOCSET_SMALL_SIZES);
+	struct reader *reader = MemoryContextAllocZero(context, sizeof *reader);
+
+	reader->context = context;
+	reader->at_end.func = close_reader;
+	reader->at_end.arg = reader;
+	MemoryContextRegisterResetCallback(context, &reader->at_end);
+	call->fn_extra = reader;
+	return reader;
+}
+
+/* Opens a reader of the arguments, or raises why there is none. */
+static void
+open_reader(struct reader *reader, FunctionCallInfo fcinfo)
+{
+	MemoryContext before = MemoryContextSwitchTo(reader->context);
+	uint8_t		status;
+
+	reader->target = PG_GETARG_TEXT_P_COPY(0);
+	reader->sources = PG_GETARG_ARRAYTYPE_P_COPY(1);
+	reader->assumed = PG_GETARG_TEXT_P_COPY(3);
+	put_words(reader);
+	status = instants_open(reader->words.data, reader->words.len, &reader->handle);
+	if (status == INSTANTS_REFUSED)
+		refuse(&reader->words);
+	if (status != INSTANTS_OK)
+		ereport(ERROR, (errcode(ERRCODE_OUT_OF_MEMORY), errmsg("instants: out of memory")));
+	MemoryContextSwitchTo(before);
+}
+
+/* Whether two values have the same bytes. */
+static bool
+is_same(const void *left, const void *right)
+{
+	size_t		len = VARSIZE_ANY_EXHDR(left);
+
+	return len == VARSIZE_ANY_EXHDR(right) && memcmp(VARDATA_ANY(left), VARDATA_ANY(right), len) == 0;
+}
+
+/* The reader of the arguments: that which is kept, or a new one, which is kept in its place. */
+static struct reader *
+reader_of(FunctionCallInfo fcinfo)
+{
+	FmgrInfo   *call = fcinfo->flinfo;
+	struct reader *reader = call->fn_extra;
+
+	if (reader && reader->handle.at && is_same(reader->target, PG_GETARG_TEXT_PP(0)) &&
+		is_same(reader->sources, PG_GETARG_ARRAYTYPE_P(1)) && is_same(reader->assumed, PG_GETARG_TEXT_PP(3)))
+		return reader;
+	call->fn_extra = NULL;
+	if (reader)
+		MemoryContextDelete(reader->context);
+	reader = make_reader(call);
+	open_reader(reader, fcinfo);
+	return reader;
+}
+
+/* Puts the answers to lines behind others; there is room for them. */
+static void
+put_answers(struct answers *answers, const void *at, const char *lines, size_t len, size_t room)
+{
+	size_t		written;
+
+	instants_answer(at, lines, len, VARDATA(answers->text) + answers->len, room - answers->len, &written);
+	answers->len += written;
+}
+
+/* Answers the lines of a text; behind its last line feed, and where it is empty, there is an empty one. */
 static struct answers
 answer(FunctionCallInfo fcinfo)
 {
-	text	   *line = PG_GETARG_TEXT_PP(2);
-	size_t		len = VARSIZE_ANY_EXHDR(line);
-	size_t		room = INSTANTS_ROOM(line_feeds(VARDATA_ANY(line), len));
-	char	   *input = palloc(len + 1);
-	struct answers output = {palloc_extended(room, MCXT_ALLOC_HUGE), 0};
-	StringInfoData words = words_of(fcinfo, len);
-	uint8_t		status;
+	const void *at = reader_of(fcinfo)->handle.at;
+	text	   *given = PG_GETARG_TEXT_PP(2);
+	const char *lines = VARDATA_ANY(given);
+	size_t		len = VARSIZE_ANY_EXHDR(given),
+				room = INSTANTS_ROOM(line_feeds(lines, len));
+	struct answers answers = {palloc_extended(VARHDRSZ + room, MCXT_ALLOC_HUGE), 0};
 
-	memcpy(input, VARDATA_ANY(line), len);
-	input[len] = '\n';
-	status = instants_answer_lines(words.data, words.len, input, len + 1, output.bytes, room, &output.len);
-	if (status == INSTANTS_REFUSED)
-		refuse(&words);
-	if (status != INSTANTS_OK)
-		ereport(ERROR, (errcode(ERRCODE_OUT_OF_MEMORY), errmsg("instants: out of memory")));
-	if (output.len > MaxAllocSize)
+	put_answers(&answers, at, lines, len, room);
+	if (len == 0 || lines[len - 1] == '\n')
+		put_answers(&answers, at, "\n", 1, room);
+	if (VARHDRSZ + answers.len > MaxAllocSize)
 		ereport(ERROR, (errcode(ERRCODE_PROGRAM_LIMIT_EXCEEDED), errmsg("instants: the answers are too long")));
-	pfree(input);
-	pfree(words.data);
-	return output;
+	return answers;
 }
 
 Datum
 instant(PG_FUNCTION_ARGS)
 {
-	struct answers output = answer(fcinfo);
+	struct answers answers = answer(fcinfo);
 
-	PG_RETURN_TEXT_P(cstring_to_text_with_len(output.bytes, (int) output.len - 1));
+	SET_VARSIZE(answers.text, VARHDRSZ + answers.len - 1);
+	PG_RETURN_TEXT_P(answers.text);
 }
 
 Datum
 instant_fault(PG_FUNCTION_ARGS)
 {
-	struct answers output = answer(fcinfo);
-	const char *at = output.bytes,
-			   *end = at + output.len;
+	struct answers answers = answer(fcinfo);
+	const char *at = VARDATA(answers.text),
+			   *end = at + answers.len;
 
 	while (at < end && *at != '!')
 		at = (const char *) memchr(at, '\n', end - at) + 1;

@@ -8,11 +8,13 @@ import pathlib
 import pickle
 import subprocess
 import tempfile
+import threading
 import unittest
 from datetime import datetime, timedelta, timezone
+from unittest import mock
 
 import instants
-from instants import _library, dask
+from instants import _handle, _library, _timeline, dask
 
 try:
     import numpy
@@ -147,6 +149,118 @@ class Values(unittest.TestCase):
             instants.datetimes(lines[2:], sources=["rfc3339"], raising=True)
 
 
+class Timelines(unittest.TestCase):
+    def test_the_calls(self):
+        with instants.Timeline(**how()) as timeline:
+            for lines in ([LINE, "", b"yesterday\n"], f"{LINE}\n\nyesterday", io.StringIO(f"{LINE}\n\nyesterday\n")):
+                self.assertEqual(timeline.answers(lines), [ANSWER, NO_YEAR, NO_YEAR])
+            self.assertEqual(timeline.parse([LINE, ""]), [(ANSWER, None), (NO_YEAR, "component year")])
+            self.assertEqual(timeline.datetimes([LINE, "0000-01-01T00:00:00Z"]), [datetime(2021, 1, 2, 3, 4, 5, 0, timezone.utc), None])
+
+    def test_one_line(self):
+        with instants.Timeline(**how(limit=25)) as timeline:
+            for line in (LINE, LINE.encode(), LINE + "\n", memoryview(LINE.encode())):
+                self.assertEqual(timeline.answer(line), ANSWER)
+            for line, answer in (("", NO_YEAR), ("\n", NO_YEAR), (LINE + "1", "! long"), ("2021-02-30T00:00:00Z", "! range day"), ("\0", NO_YEAR)):
+                self.assertEqual(timeline.answer(line), answer)
+            with self.assertRaisesRegex(instants.Fault, "line 1, 'x': component year"):
+                timeline.answer("x\n", raising=True)
+            with self.assertRaises(ValueError):
+                timeline.answer("\n\n")
+            with self.assertRaises(TypeError):
+                timeline.answer(5)
+
+    def test_longest_answer(self):
+        with instants.Timeline(target="-00:30", sources=["rfc3339"]) as timeline:
+            self.assertEqual(timeline.answer(LINE), "2021-01-02T02:34:05.000000000-00:30")
+
+    def test_refused(self):
+        for words in ({"sources": []}, {"target": "+25:00"}, {"sources": ["v1", "[day]\n"]}, {"limit": 0}):
+            with self.assertRaises(instants.Refused):
+                instants.Timeline(**how(**words))
+        for words in ({"sources": "rfc3339"}, {"target": 5}, {"assumed": None}):
+            with self.assertRaises(TypeError):
+                instants.Timeline(**how(**words))
+
+    def test_closed(self):
+        timeline = instants.Timeline(**how())
+        with timeline as same:
+            self.assertIs(same, timeline)
+        for call in (timeline.answers, timeline.parse, timeline.datetimes, timeline.to_datetime64, timeline.answer):
+            with self.assertRaisesRegex(ValueError, "the timeline is closed"):
+                call(LINE)
+        for call in (timeline.__enter__, lambda: pickle.dumps(timeline)):
+            with self.assertRaisesRegex(ValueError, "the timeline is closed"):
+                call()
+        timeline.close()
+
+    def test_when_it_closes(self):
+        with mock.patch.object(_handle.LIBRARY, "instants_close", wraps=_handle.LIBRARY.instants_close) as close:
+            timelines = [instants.Timeline(**how()) for _ in range(3)]
+            timelines.pop()
+            self.assertEqual(close.call_count, 1)
+            with timelines.pop():
+                pass
+            self.assertEqual(close.call_count, 2)
+            timelines[0].close()
+            timelines[0].close()
+            self.assertEqual(close.call_count, 3)
+            timelines.clear()
+            with self.assertRaises(instants.Refused):
+                instants.Timeline(**how(sources=["v1", "[x]"]))
+            self.assertEqual(close.call_count, 3)
+
+    def test_a_call_outlasts_it(self):
+        with mock.patch.object(_handle.LIBRARY, "instants_close", wraps=_handle.LIBRARY.instants_close) as close:
+            timeline = instants.Timeline(**how())
+            handle = timeline._open()
+            timeline.close()
+            self.assertEqual((handle.answer(LINE.encode()), close.call_count), (ANSWER.encode() + b"\n", 0))
+            del handle
+            self.assertEqual(close.call_count, 1)
+
+    def test_threads(self):
+        lines, ended = [LINE, "", LINE] * 100, []
+
+        def ask(timeline):
+            try:
+                while timeline.answers(lines) == [ANSWER, NO_YEAR, ANSWER] * 100 and timeline.answer(LINE) == ANSWER:
+                    asked.set()
+                ended.append("another answer")
+            except ValueError as fault:
+                ended.append(str(fault))
+
+        for description in (["rfc3339"], ["v3", "[year]-[month]-[day]T[hour]:[minute]:[second][offset_hour sign:mandatory]:[offset_minute]"]):
+            timeline, asked = instants.Timeline(**how(sources=description)), threading.Event()
+            threads = [threading.Thread(target=ask, args=(timeline,)) for _ in range(4)]
+            for it in threads:
+                it.start()
+            asked.wait()
+            timeline.close()
+            for it in threads:
+                it.join()
+        self.assertEqual(ended, ["instants: the timeline is closed"] * 8)
+
+    def test_words_stay_read(self):
+        library = _handle.LIBRARY
+        with mock.patch.object(library, "instants_open", wraps=library.instants_open) as opened:
+            with mock.patch.object(library, "instants_close", wraps=library.instants_close) as closed:
+                for limit in [101, 102, 101, 102]:
+                    self.assertEqual(answers([LINE], limit=limit), [ANSWER])
+                self.assertEqual(opened.call_count, 2)
+                for limit in range(103, 153):
+                    self.assertEqual(answers([LINE], limit=limit), [ANSWER])
+                self.assertEqual(opened.call_count, 52)
+                self.assertGreaterEqual(closed.call_count, 36)
+
+    def test_copies(self):
+        with instants.Timeline(**how(target="+01:00", assumed="+02:00", limit=19, sources=iter(["strftime", "%F %T"]))) as timeline:
+            copy = pickle.loads(pickle.dumps(timeline))
+            with self.assertRaises(ValueError):
+                pickle.dumps(timeline._open())
+        self.assertEqual(copy.answers(["2021-01-02 04:04:05", "2021-01-02 04:04:05."]), ["2021-01-02T03:04:05.000000000+01:00", "! long"])
+
+
 @unittest.skipUnless(numpy, "numpy is missing: Debian has it as python3-numpy")
 class Arrays(unittest.TestCase):
     def read(self, lines, **others):
@@ -166,6 +280,14 @@ class Arrays(unittest.TestCase):
         lines = [f"{(start + at * step).isoformat(timespec='microseconds')}Z" for at in range(20_000)]
         due = numpy.array([it[:-1] for it in lines], dtype="datetime64[ns]")
         numpy.testing.assert_array_equal(self.read(lines), due)
+
+    def test_other_targets(self):
+        lines = ["2021-01-02T04:04:05.123456789+01:00", "yesterday", "1969-12-31T23:59:59.999999999Z", "1677-09-21T00:12:43.145224193Z"]
+        for target in ("+00:00", "-00:00", "+01:00", "-05:30", "+23:59"):
+            with instants.Timeline(target=target, sources=["rfc3339"]) as timeline:
+                numpy.testing.assert_array_equal(timeline.to_datetime64(lines), self.read(lines))
+                with self.assertRaisesRegex(instants.Fault, "line 2, 'yesterday': component year"):
+                    timeline.to_datetime64(lines, raising=True)
 
     def test_the_ends(self):
         ends = ["1677-09-21T00:12:43.145224193", "2262-04-11T23:47:16.854775807"]
@@ -236,6 +358,7 @@ class Library(unittest.TestCase):
 
 def load_tests(loader, tests, ignore):
     tests.addTests(doctest.DocTestSuite(instants))
+    tests.addTests(doctest.DocTestSuite(_timeline, globs={"instants": instants}))
     return tests
 
 

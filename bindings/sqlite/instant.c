@@ -15,22 +15,44 @@
  * Answers of one target compare as texts as their moments do, so the function serves as a key, also of an index. It is NULL
  * where one of its arguments is. Of a text with line feeds it is the answers to its lines, with a line feed between them, and
  * `instant_fault` is the first fault among these.
+ *
+ * Words that are the same for all rows of a statement are read once: a reader of them is kept by SQLite with the target, while
+ * that is constant, and it is asked as long as the arguments are those that it was made of.
  */
 #include <instants.h>
 #include <sqlite3ext.h>
 
 #include <stdbool.h>
-#include <stdio.h>
 #include <string.h>
 
 SQLITE_EXTENSION_INIT1
 
-enum { SENTENCE_ROOM = 1024 };
+/* A text of at most so many line feeds needs no memory for its answers. */
+enum { SENTENCE_ROOM = 1024, FEW = 15 };
+
+#define TEXT_OF(number) #number
+#define DIGITS_OF(number) TEXT_OF(number)
 
 /* A block of memory that bytes are put into, one after the other. */
 struct block {
     char *bytes;
     size_t len;
+};
+
+/* A text of SQLite's. */
+struct text {
+    const char *bytes;
+    size_t len;
+};
+
+/*
+ * An open handle, and what has to stay while it is open: the words. The arguments of which they are made are kept beside them,
+ * each with a line feed behind it.
+ */
+struct reader {
+    struct instants_handle handle;
+    struct block words, arguments;
+    char room[];
 };
 
 static void put(struct block *block, const void *bytes, size_t len)
@@ -40,9 +62,19 @@ static void put(struct block *block, const void *bytes, size_t len)
     block->len += len;
 }
 
+static void put_text(struct block *block, const char *text)
+{
+    put(block, text, strlen(text));
+}
+
 static size_t length_of(sqlite3_value *value)
 {
     return (size_t)sqlite3_value_bytes(value);
+}
+
+static void put_value(struct block *block, sqlite3_value *value)
+{
+    put(block, sqlite3_value_text(value), length_of(value));
 }
 
 /* Whether an argument is NULL, or there is no memory for its text; in that case the error is told. */
@@ -66,32 +98,55 @@ static bool is_assumed(sqlite3_value *value)
     return *word == '+' || *word == '-';
 }
 
-/* Puts an argument. Whether it has no line feed of its own. */
-static bool put_word(struct block *words, sqlite3_value *value)
+/* Puts the words of the arguments, with a line feed between them; the limit is the greatest. */
+static void put_words(struct block *words, int count, sqlite3_value **values)
 {
-    const unsigned char *word = sqlite3_value_text(value);
-    put(words, word, length_of(value));
-    return !memchr(word, '\n', length_of(value));
+    int at = 1;
+    put_value(words, values[0]);
+    put_text(words, "\n");
+    if (is_assumed(values[at]))
+        put_value(words, values[at++]);
+    else
+        put_text(words, "-");
+    put_text(words, "\n" DIGITS_OF(INSTANTS_GREATEST_LIMIT));
+    for (; at < count; at++) {
+        put_text(words, "\n");
+        put_value(words, values[at]);
+    }
 }
 
-/* Puts the words, with a line feed between them. Whether none of the arguments has one of its own. */
-static bool put_words(struct block *words, int count, sqlite3_value **values, size_t text_len)
+/* Puts the arguments, with a line feed behind each. Whether none of them has one of its own. */
+static bool put_arguments(struct block *arguments, int count, sqlite3_value **values)
 {
-    char limit[32];
-    size_t greatest = text_len < INSTANTS_GREATEST_LIMIT ? text_len : INSTANTS_GREATEST_LIMIT;
-    int limit_len = snprintf(limit, sizeof limit, "\n%zu", greatest > 0 ? greatest : 1), at = 1;
-    bool is_well = put_word(words, values[0]);
-    put(words, "\n", 1);
-    if (is_assumed(values[at]))
-        is_well = put_word(words, values[at++]) && is_well;
-    else
-        put(words, "-", 1);
-    put(words, limit, (size_t)limit_len);
-    for (; at < count; at++) {
-        put(words, "\n", 1);
-        is_well = put_word(words, values[at]) && is_well;
+    bool is_well = true;
+    for (int at = 0; at < count; at++) {
+        is_well = is_well && !memchr(sqlite3_value_text(values[at]), '\n', length_of(values[at]));
+        put_value(arguments, values[at]);
+        put_text(arguments, "\n");
     }
     return is_well;
+}
+
+/* Whether a reader was made of just these arguments; of one place in a statement there are always as many. */
+static bool is_of(const struct reader *reader, int count, sqlite3_value **values)
+{
+    const char *rest = reader->arguments.bytes, *end = rest + reader->arguments.len;
+    for (int at = 0; at < count; at++) {
+        size_t len = length_of(values[at]);
+        if ((size_t)(end - rest) <= len || memcmp(rest, sqlite3_value_text(values[at]), len) || rest[len] != '\n')
+            return false;
+        rest += len + 1;
+    }
+    return rest == end;
+}
+
+/* Closes a reader. */
+static void close_reader(void *kept)
+{
+    struct reader *reader = kept;
+    if (reader->handle.at)
+        instants_close(reader->handle.at);
+    sqlite3_free(reader);
 }
 
 /* Tells what is refused of the words. */
@@ -101,6 +156,40 @@ static void refuse(sqlite3_context *context, const struct block *words)
     size_t len;
     instants_sentence(words->bytes, words->len, sentence, sizeof sentence, &len);
     sqlite3_result_error(context, sentence, (int)(len < sizeof sentence ? len : sizeof sentence));
+}
+
+/* Opens a reader whose memory is there. Whether it is open; else the error is told. */
+static bool is_opened(sqlite3_context *context, struct reader *reader, int count, sqlite3_value **values)
+{
+    if (!put_arguments(&reader->arguments, count, values)) {
+        sqlite3_result_error(context, "instant: a word has a line feed", -1);
+        return false;
+    }
+    put_words(&reader->words, count, values);
+    uint8_t status = instants_open(reader->words.bytes, reader->words.len, &reader->handle);
+    if (status == INSTANTS_REFUSED)
+        refuse(context, &reader->words);
+    else if (status != INSTANTS_OK)
+        sqlite3_result_error_nomem(context);
+    return status == INSTANTS_OK;
+}
+
+/* Makes a reader of the arguments, or NULL where that fails and the error is told. */
+static struct reader *make_reader(sqlite3_context *context, int count, sqlite3_value **values)
+{
+    size_t arguments_room = 0, words_room = sizeof "\n-\n" DIGITS_OF(INSTANTS_GREATEST_LIMIT);
+    for (int at = 0; at < count; at++)
+        arguments_room += length_of(values[at]) + 1;
+    struct reader *reader = sqlite3_malloc64(sizeof *reader + words_room + 2 * arguments_room);
+    if (!reader) {
+        sqlite3_result_error_nomem(context);
+        return NULL;
+    }
+    *reader = (struct reader){.arguments = {reader->room, 0}, .words = {reader->room + arguments_room, 0}};
+    if (is_opened(context, reader, count, values))
+        return reader;
+    close_reader(reader);
+    return NULL;
 }
 
 /* Gives the first fault among answers, without its mark; where there is none the result stays NULL. */
@@ -113,28 +202,47 @@ static void give_fault(sqlite3_context *context, const struct block *answers)
         sqlite3_result_text(context, at + 2, (int)((const char *)memchr(at, '\n', (size_t)(end - at)) - at) - 2, SQLITE_TRANSIENT);
 }
 
-/* Answers the lines of the input, of which each but the last has its line feed within the text. */
-static void answer(sqlite3_context *context, const struct block *words, const struct block *input, struct block *output)
+/* Puts the answers to lines behind others; there is room for them. */
+static void put_answers(struct block *answers, const void *at, const void *lines, size_t len, size_t room)
 {
-    size_t room = output->len;
-    uint8_t status =
-        instants_answer_lines(words->bytes, words->len, input->bytes, input->len, output->bytes, room, &output->len);
-    if (status == INSTANTS_REFUSED)
-        refuse(context, words);
-    else if (status != INSTANTS_OK)
-        sqlite3_result_error_nomem(context);
-    else if (sqlite3_user_data(context))
-        give_fault(context, output);
-    else
-        sqlite3_result_text(context, output->bytes, (int)output->len - 1, SQLITE_TRANSIENT);
+    size_t written;
+    instants_answer(at, lines, len, answers->bytes + answers->len, room - answers->len, &written);
+    answers->len += written;
 }
 
-static size_t line_feeds(const unsigned char *bytes, size_t len)
+/* Answers the lines of a text; behind its last line feed, and where it is empty, there is an empty one. */
+static void answer(sqlite3_context *context, const void *at, const struct text *text, struct block *answers, size_t room)
+{
+    put_answers(answers, at, text->bytes, text->len, room);
+    if (text->len == 0 || text->bytes[text->len - 1] == '\n')
+        put_answers(answers, at, "\n", 1, room);
+    if (sqlite3_user_data(context))
+        give_fault(context, answers);
+    else
+        sqlite3_result_text(context, answers->bytes, (int)answers->len - 1, SQLITE_TRANSIENT);
+}
+
+static size_t line_feeds(const struct text *text)
 {
     size_t count = 0;
-    for (size_t at = 0; at < len; at++)
-        count += bytes[at] == '\n';
+    for (size_t at = 0; at < text->len; at++)
+        count += text->bytes[at] == '\n';
     return count;
+}
+
+/* The same, in memory of its own where there are many lines. */
+static void answer_text(sqlite3_context *context, const void *at, sqlite3_value *value)
+{
+    char few[INSTANTS_ROOM(FEW)];
+    struct text text = {(const char *)sqlite3_value_text(value), length_of(value)};
+    size_t feeds = line_feeds(&text), room = INSTANTS_ROOM(feeds);
+    struct block answers = {feeds <= FEW ? few : sqlite3_malloc64(room), 0};
+    if (!answers.bytes)
+        sqlite3_result_error_nomem(context);
+    else
+        answer(context, at, &text, &answers, room);
+    if (answers.bytes != few)
+        sqlite3_free(answers.bytes);
 }
 
 /* Both functions; the one that tells faults has user data. */
@@ -146,23 +254,17 @@ static void instant(sqlite3_context *context, int count, sqlite3_value **values)
     }
     if (is_missing(context, count, values))
         return;
-    const unsigned char *text = sqlite3_value_text(values[count - 1]);
-    size_t text_len = length_of(values[count - 1]), words_room = 32, answers_room = INSTANTS_ROOM(line_feeds(text, text_len));
-    for (int at = 0; at < count - 1; at++)
-        words_room += length_of(values[at]) + 1;
-    char *bytes = sqlite3_malloc64(words_room + text_len + 1 + answers_room);
-    if (!bytes) {
-        sqlite3_result_error_nomem(context);
+    struct reader *kept = sqlite3_get_auxdata(context, 0);
+    if (kept && is_of(kept, count - 1, values)) {
+        answer_text(context, kept->handle.at, values[count - 1]);
         return;
     }
-    struct block words = {bytes, 0}, input = {bytes + words_room, 0}, output = {bytes + words_room + text_len + 1, answers_room};
-    put(&input, text, text_len);
-    put(&input, "\n", 1);
-    if (put_words(&words, count - 1, values, text_len))
-        answer(context, &words, &input, &output);
-    else
-        sqlite3_result_error(context, "instant: a word has a line feed", -1);
-    sqlite3_free(bytes);
+    struct reader *made = make_reader(context, count - 1, values);
+    if (!made)
+        return;
+    answer_text(context, made->handle.at, values[count - 1]);
+    /* (SQLite closes it, which it may do at once) */
+    sqlite3_set_auxdata(context, 0, made, close_reader);
 }
 
 int sqlite3_instant_init(sqlite3 *database, char **error, const sqlite3_api_routines *api)

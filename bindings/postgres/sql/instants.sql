@@ -7,6 +7,8 @@ SELECT line, instant('+00:00', '{rfc3339}', line), instant_fault('+00:00', '{rfc
 FROM (VALUES ('2021-02-30T00:00:00Z'), (''), ('2021-01-02T03:04:05Z')) AS given (line);
 SELECT instant('+00:00', '{rfc3339}', E'2021-01-02T03:04:05Z\nyesterday');
 SELECT instant_fault('+00:00', '{rfc3339}', E'2021-01-02T03:04:05Z\nyesterday');
+SELECT instant('+00:00', '{rfc3339}', E'2021-01-02T03:04:05Z\n');
+SELECT length(instant('+00:00', '{rfc3339}', repeat(E'\n', 100000)));
 SELECT instant('+00:00', '{rfc3339}', repeat('9', 2000000));
 -- no answer
 SELECT instant('+00:00', '{rfc3339}', NULL) IS NULL AS is_null;
@@ -15,6 +17,21 @@ SELECT instant('+00:00', '{}', 'x');
 SELECT instant('+00:00', '{rfc}', 'x');
 SELECT instant('+00:00', '{rfc3339,NULL}', 'x');
 SELECT instant('+00:00', ARRAY[E'rfc3339\n'], 'x');
+-- words that change from row to row, and words that stay
+CREATE TABLE given (target text, sources text[], assumed text, line text);
+INSERT INTO given VALUES
+('+00:00', '{strftime,%F %T}', '+01:00', '2021-01-02 04:04:05'), ('+00:00', '{strftime,%F %T}', '+01:00', '30 February'),
+('+01:00', '{strftime,%F %T}', '+01:00', '2021-01-02 04:04:05'), ('+01:00', '{strftime,%F %T}', '+00:00', '2021-01-02 04:04:05'),
+('+01:00', '{strftime,%s}', '+00:00', '1609556645'), ('+00:00', '{strftime,%F %T}', '+01:00', '2021-01-02 04:04:05');
+SELECT instant(target, sources, line, assumed), instant('+00:00', sources, line, assumed),
+    instant('+00:00', '{strftime,%F %T}', line, '+01:00'), instant_fault('+00:00', '{strftime,%F %T}', line, '+01:00') FROM given;
+-- a refusal among them, which a function takes up
+CREATE FUNCTION tried(target text, line text) RETURNS text LANGUAGE plpgsql AS $$
+BEGIN RETURN instant(target, '{rfc3339}', line); EXCEPTION WHEN invalid_parameter_value THEN RETURN 'refused'; END $$;
+SELECT tried(target, '2021-01-02T03:04:05Z')
+FROM (VALUES ('+00:00'), ('+25:00'), ('+25:00'), ('+00:00'), ('+01:00')) AS targets (target);
+SELECT count(DISTINCT tried((ARRAY['+00:00', '+25:00', '+01:00'])[1 + at % 3], '2021-01-02T03:04:05Z'))
+FROM generate_series(1, 3000) AS at;
 -- what the planner is told
 SELECT proname, provolatile, proisstrict, proparallel FROM pg_proc WHERE proname LIKE 'instant%' ORDER BY proname;
 -- an index, a generated column and a condition

@@ -10,14 +10,21 @@
     >>> instants.datetimes(lines, **how)[0]
     datetime.datetime(2021, 1, 2, 3, 4, 5, tzinfo=datetime.timezone.utc)
 
+A timeline has the words, which it reads once, for those who ask with one line at a time:
+
+    >>> with instants.Timeline(**how) as timeline:
+    ...     [timeline.answer(line) for line in lines]
+    ['2021-01-02T03:04:05.000000000Z', '2021-01-02T03:04:07.000000000Z', '! component year']
+
 Lines are texts or bytes, one after the other, or one text, one block of bytes or an open file that has them. The shared
 library is the file that INSTANTS_LIBRARY names, else that of this package, else `libinstants.so.0` where the system looks.
 """
 
-from ._answers import Answer, Fault, answers, datetimes, parse
-from ._arrays import to_datetime64
+from ._answers import Answer, Fault
+from ._handle import Refused
 from ._library import GREATEST_LIMIT, LINE_ROOM, version
-from ._lines import Line, Lines, Refused, answer_bytes
+from ._lines import Line, Lines
+from ._timeline import Timeline, answer_bytes, answers, datetimes, parse, to_datetime64
 
 __all__ = [
     "GREATEST_LIMIT",
@@ -27,6 +34,7 @@ __all__ = [
     "Line",
     "Lines",
     "Refused",
+    "Timeline",
     "answer_bytes",
     "answers",
     "datetimes",

@@ -2,17 +2,18 @@
 
 from __future__ import annotations
 
-from typing import TYPE_CHECKING, Any, Iterable
+from typing import TYPE_CHECKING, Any
 
 from ._answers import fault_at
-from ._lines import Lines, Words, answer_bytes, stream_of
 
 if TYPE_CHECKING:
     # (a caller may have no numpy)
     import numpy  # type: ignore[import]
 
-# A date-time in UTC has so many bytes, `2021-01-02T03:04:05.000000000Z`.
-WIDTH = 30
+    Moments = numpy.ndarray[Any, numpy.dtype[numpy.datetime64]]
+
+# A date-time has so many bytes before its offset, `2021-01-02T03:04:05.000000000`.
+WIDTH = 29
 # The low halves of eight bytes, each second byte of eight, and two of each four.
 LOW_HALVES, SECONDS, PAIRS = 0x0F0F_0F0F_0F0F_0F0F, 0x00FF_00FF_00FF_00FF, 0x0000_FFFF_0000_FFFF
 # Factors that add a digit to ten times the one before it, a pair to a hundred times, four digits to ten thousand times.
@@ -23,28 +24,19 @@ MONTHS_BEFORE = 1970 * 12 + 1
 STEP = 4_096
 
 
-def to_datetime64(
-    lines: Lines, *, sources: Iterable[str], assumed: str = "-", limit: int | None = None, raising: bool = False
-) -> numpy.ndarray[Any, numpy.dtype[numpy.datetime64]]:
-    """Returns the moments of lines, in UTC, as an array of `datetime64[ns]`, with NaT for each line that has none.
-
-    That type reaches from 1677-09-21T00:12:43.145224193 to 2262-04-11T23:47:16.854775807; a moment before or behind is NaT.
-    With `raising` the first line that would be NaT raises `Fault`.
-    """
+def raise_first_missing(stream: bytes, written: bytes, moments: Moments) -> None:
+    """Raises the fault of the first line that has no moment."""
     import numpy
 
-    stream = stream_of(lines)
-    written = answer_bytes(stream, Words("+00:00", sources, assumed, limit).listed(stream))
-    moments = _moments(written)
-    if raising and (missing := numpy.isnat(moments)).any():
+    missing = numpy.isnat(moments)
+    if missing.any():
         place = int(missing.argmax())
         text = written.split(b"\n", place + 1)[place].decode("ascii")
         raise fault_at(stream, place, text[2:] if text.startswith("!") else f"datetime64[ns] does not reach to {text}")
-    return moments
 
 
-def _moments(written: bytes) -> numpy.ndarray[Any, numpy.dtype[numpy.datetime64]]:
-    """Returns the moments that answers in UTC name."""
+def moments_of(written: bytes, target: str) -> Moments:
+    """Returns the moments, in UTC, that answers at the target offset name."""
     import numpy
 
     text = numpy.frombuffer(written, dtype=numpy.uint8)
@@ -52,14 +44,19 @@ def _moments(written: bytes) -> numpy.ndarray[Any, numpy.dtype[numpy.datetime64]
     starts = numpy.zeros_like(ends)
     starts[1:] = ends[:-1] + 1
     found = numpy.full(len(ends), "NaT", dtype="datetime64[ns]")
-    # (a fault of that many bytes begins with its mark)
-    places = numpy.flatnonzero((ends - starts == WIDTH) & (text[starts] != ord("!")))
+    places = numpy.flatnonzero(text[starts] != ord("!"))
     if len(places):
         windows = numpy.lib.stride_tricks.sliding_window_view(text, WIDTH)
         for at in range(0, len(places), STEP):
             step = places[at : at + STEP]
-            found[step] = _read(windows[starts[step]])
+            found[step] = _read(windows[starts[step]], _seconds(target))
     return found
+
+
+def _seconds(target: str) -> int:
+    """Returns the seconds of an offset, `+HH:MM` or `-HH:MM`."""
+    seconds = (int(target[1:3]) * 60 + int(target[4:6])) * 60
+    return -seconds if target[0] == "-" else seconds
 
 
 def _pairs(rows: Any, at: int) -> Any:
@@ -82,14 +79,14 @@ def _nanoseconds(rows: Any) -> Any:
     return eight.view("int64") * 10 + (rows[:, 28] & 0x0F)
 
 
-def _read(rows: Any) -> Any:
-    """Returns the moments of date-times, which are rows of bytes."""
+def _read(rows: Any, offset: int) -> Any:
+    """Returns the moments of date-times at an offset in seconds, which are rows of bytes."""
     import numpy
 
     months, days, clocks = _pairs(rows, 0), _pairs(rows, 8), _pairs(rows, 12)
     month = (_pair(months, 0) * 100 + _pair(months, 2)) * 12 + _pair(months, 5) - MONTHS_BEFORE
     day = month.astype("datetime64[M]").astype("datetime64[D]").view("int64") + _pair(days, 0) - 1
-    second = ((day * 24 + _pair(days, 3)) * 60 + _pair(days, 6)) * 60 + _pair(clocks, 5)
+    second = ((day * 24 + _pair(days, 3)) * 60 + _pair(days, 6)) * 60 + _pair(clocks, 5) - offset
     moment = second * 1_000_000_000 + _nanoseconds(rows)
     # (what does not fit wraps round, and reads back as another second)
     moment[moment // 1_000_000_000 != second] = numpy.iinfo(numpy.int64).min

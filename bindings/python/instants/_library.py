@@ -34,20 +34,36 @@ def check_version(found: int) -> None:
         raise ImportError(f"instants: the library {place()} is of version {told[0]}, and this package is of {told[1]}; {HOW_TO_GET}")
 
 
+class Opened(ctypes.Structure):
+    """A handle as C has it: null where it is not open."""
+
+    _fields_ = [("at", ctypes.c_void_p)]
+
+
+def declare(library: ctypes.CDLL) -> None:
+    """Says what the calls take and return."""
+    read, size, size_at, write = ctypes.c_char_p, ctypes.c_size_t, ctypes.POINTER(ctypes.c_size_t), ctypes.c_void_p
+    status, handle = ctypes.c_uint8, ctypes.c_void_p
+    for name, takes, returns in (
+        ("instants_sentence", (read, size, write, size, size_at), status),
+        ("instants_open", (read, size, ctypes.POINTER(Opened)), status),
+        ("instants_answer", (handle, read, size, write, size, size_at), status),
+        ("instants_close", (handle,), None),
+    ):
+        call = getattr(library, name)
+        call.argtypes, call.restype = takes, returns
+
+
 def load() -> ctypes.CDLL:
     """Returns the library, or raises ImportError."""
     try:
         library = ctypes.CDLL(place())
         version = library.instants_version
+        version.argtypes, version.restype = (), ctypes.c_uint32
+        check_version(version())
+        declare(library)
     except (OSError, AttributeError) as fault:
         raise ImportError(f"instants: no library ({fault}); {HOW_TO_GET}") from fault
-    read, size, size_at, write = ctypes.c_char_p, ctypes.c_size_t, ctypes.POINTER(ctypes.c_size_t), ctypes.c_void_p
-    library.instants_answer_lines.argtypes = (read, size, read, size, write, size, size_at)
-    library.instants_answer_lines.restype = ctypes.c_uint8
-    library.instants_sentence.argtypes = (read, size, write, size, size_at)
-    library.instants_sentence.restype = ctypes.c_uint8
-    version.argtypes, version.restype = (), ctypes.c_uint32
-    check_version(version())
     return library
 
 
@@ -57,15 +73,6 @@ LIBRARY = load()
 def version() -> int:
     """Returns the version of the library: ten thousand times the major one, a hundred times the minor one, and the patch."""
     return int(LIBRARY.instants_version())
-
-
-def answer(words: bytes, stream: bytes) -> tuple[int, bytes]:
-    """Returns the status of a call over the lines of a stream, and what it writes. Other threads run meanwhile."""
-    output = bytearray(LINE_ROOM * (stream.count(b"\n") + 1))
-    written = ctypes.c_size_t()
-    room = ctypes.byref(ctypes.c_char.from_buffer(output))
-    status = LIBRARY.instants_answer_lines(words, len(words), stream, len(stream), room, len(output), ctypes.byref(written))
-    return status, bytes(memoryview(output)[: written.value])
 
 
 def sentence(words: bytes) -> str:

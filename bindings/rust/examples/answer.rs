@@ -4,7 +4,7 @@
 use std::io::{self, Read, Write};
 use std::process::ExitCode;
 
-use instants::Fault;
+use instants::{Fault, Timeline};
 
 const BLOCK: usize = 1 << 20;
 
@@ -26,8 +26,9 @@ impl From<Fault> for Ended {
 }
 
 fn answer_all(words: &[&str]) -> Result<(), Ended> {
+    let timeline = Timeline::new(words)?;
     let (mut reader, mut writer) = (io::stdin().lock(), io::stdout().lock());
-    let mut input = Vec::new();
+    let (mut input, mut output) = (Vec::new(), Vec::new());
     loop {
         let count = reader.by_ref().take(BLOCK as u64).read_to_end(&mut input)?;
         let whole = match input.iter().rposition(|byte| *byte == b'\n') {
@@ -35,7 +36,9 @@ fn answer_all(words: &[&str]) -> Result<(), Ended> {
             None if count > 0 => 0,
             _ => input.len(),
         };
-        writer.write_all(&instants::answers(words, &input[..whole])?)?;
+        timeline.append_to(&input[..whole], &mut output);
+        writer.write_all(&output)?;
+        output.clear();
         input.drain(..whole);
         if count == 0 {
             return Ok(writer.flush()?);

@@ -1,10 +1,13 @@
 #![doc = include_str!("../README.md")]
 #![deny(missing_docs)]
 
+mod timeline;
+
 use std::fmt;
 
 pub use instants_sys::{GREATEST_LIMIT, LINE_ROOM};
 use instants_sys::{OK, REFUSED};
+pub use timeline::Timeline;
 
 /// Why lines are not answered.
 #[derive(Clone, Debug, PartialEq, Eq)]
@@ -45,7 +48,12 @@ pub fn version() -> u32 {
 /// assert_eq!(instants::room(b"2021-01-02T04:04:05Z"), instants::LINE_ROOM);
 /// ```
 pub fn room(input: &[u8]) -> usize {
-    LINE_ROOM * (input.iter().filter(|byte| **byte == b'\n').count() + 1)
+    LINE_ROOM * (input.chunks(255).map(line_feeds).sum::<usize>() + 1)
+}
+
+/// How many line feeds there are among at most 255 bytes: counted in a byte, of which the processor adds many at once.
+fn line_feeds(bytes: &[u8]) -> usize {
+    usize::from(bytes.iter().map(|byte| u8::from(*byte == b'\n')).sum::<u8>())
 }
 
 /// Answers each line of the input as the words say, each answer followed by a line feed.

@@ -1,6 +1,6 @@
 //! The calls on their happy path, and where they end early.
 
-use instants::{answer_into, answers, room, version, Fault};
+use instants::{answer_into, answers, room, version, Fault, Timeline};
 
 const WORDS: [&str; 4] = ["+00:00", "-", "100", "rfc3339"];
 const LINE: &[u8] = b"2021-01-02T04:04:05+01:00\n";
@@ -19,6 +19,7 @@ fn lines() {
     assert_eq!(answers(&WORDS, b"").as_deref(), Ok(b"".as_slice()));
     assert_eq!(answers(&WORDS, b"\0\n").as_deref(), Ok(b"! component year\n".as_slice()));
     assert_eq!(room(LINE), 72);
+    assert_eq!(room(&[b'\n'; 1000]), 36_036);
     assert_eq!(version(), 100);
 }
 
@@ -39,4 +40,58 @@ fn wrong_words() {
     assert_eq!(refused(&["+00:00", "-", "100", "v1", "[day]\n"]), "instants: word 5 has a line feed");
     let long = format!("[{}]", "x".repeat(1000));
     assert!(refused(&["+00:00", "-", "100", "v1", &long]).contains(&long[1..1001]));
+}
+
+#[test]
+fn timelines() -> Result<(), Fault> {
+    let mut timelines = Vec::new();
+    for _ in 0..20 {
+        timelines.push(Timeline::new(&WORDS)?);
+    }
+    let moved = timelines.swap_remove(3);
+    drop(timelines);
+    assert_eq!(moved.answers(LINE), ANSWER);
+    assert_eq!(moved.answers(b""), b"");
+    assert_eq!(moved.answers(b"\n\0"), b"! component year\n! component year\n");
+    let mut output = b"before ".to_vec();
+    moved.append_to(LINE, &mut output);
+    assert_eq!(output, [b"before ", ANSWER].concat());
+    assert_eq!(format!("{moved:?}"), r#"Timeline { words: "+00:00\n-\n100\nrfc3339", .. }"#);
+    Ok(())
+}
+
+#[test]
+fn timelines_without_room() -> Result<(), Fault> {
+    let (timeline, mut output) = (Timeline::new(&WORDS)?, [b'.'; 31]);
+    assert_eq!(timeline.answer_into(LINE, &mut output[..30]), Err(Fault::NoRoom));
+    assert_eq!(&output, b"2021-01-02T03:04:05.000000000Z.");
+    assert_eq!(timeline.answer_into(LINE, &mut []), Err(Fault::NoRoom));
+    assert_eq!(timeline.answer_into(LINE, &mut output), Ok(31));
+    assert_eq!(timeline.answer_into(b"", &mut []), Ok(0));
+    Ok(())
+}
+
+#[test]
+fn timelines_of_wrong_words() {
+    for words in [&[][..], &["+25:00", "-", "100", "rfc3339"], &["+00:00", "-", "100", "v1", "[x]"], &["+00:00\n", "-"]] {
+        assert_eq!(Timeline::new(words).unwrap_err(), answers(words, LINE).unwrap_err());
+    }
+}
+
+#[test]
+fn threads_share_a_timeline() -> Result<(), Fault> {
+    let timeline = Timeline::new(&["+00:00", "-", "100", "v3", "[unix_timestamp]", "rfc3339"])?;
+    std::thread::scope(|scope| {
+        for _ in 0..4 {
+            scope.spawn(|| {
+                for _ in 0..1000 {
+                    assert_eq!(timeline.answers(LINE), ANSWER);
+                    assert_eq!(timeline.answers(b"1609556645"), ANSWER);
+                }
+            });
+        }
+    });
+    let other = std::thread::spawn(move || timeline.answers(LINE));
+    assert_eq!(other.join().ok().as_deref(), Some(ANSWER));
+    Ok(())
 }

@@ -1,6 +1,8 @@
-//! `calls FILE`: answers a file of lines of RFC 3339 again and again by the crate `time`, line by line: `parse`, `to_offset`,
-//! `format_into`. Prints the nanoseconds that a line takes, the least of the rounds.
+//! `calls time FILE`: answers a file of lines of RFC 3339 again and again by the crate `time`, line by line: `parse`,
+//! `to_offset`, `format_into`. `calls LINES FILE`: by a `Timeline`, so many lines a call. Prints the nanoseconds that a line
+//! takes, the least of the rounds.
 
+use instants::Timeline;
 use std::time::Instant;
 use time::format_description::well_known::Rfc3339;
 use time::format_description::FormatItem;
@@ -23,16 +25,34 @@ fn answer(line: &str, output: &mut Vec<u8>) {
     }
 }
 
-fn main() {
-    let file = std::env::args().nth(1).expect("a file");
-    let text = std::fs::read_to_string(file).expect("lines");
-    let mut output = Vec::with_capacity(2 * text.len());
-    let mut least = f64::INFINITY;
+/// The lines of a text in pieces of so many, each with its line feeds.
+fn pieces(text: &str, count: usize) -> Vec<String> {
+    let lines: Vec<&str> = text.split_inclusive('\n').collect();
+    lines.chunks(count).map(<[&str]>::concat).collect()
+}
+
+/// The nanoseconds of the quickest round, each of which answers all pieces into the output.
+fn least(pieces: &[String], answer: impl Fn(&str, &mut Vec<u8>)) -> f64 {
+    let (mut output, mut least) = (Vec::new(), f64::INFINITY);
     for _ in 0..ROUNDS {
         output.clear();
         let began = Instant::now();
-        text.lines().for_each(|line| answer(line, &mut output));
+        pieces.iter().for_each(|piece| answer(piece, &mut output));
         least = least.min(began.elapsed().as_nanos() as f64);
     }
-    println!("{:.1}", least / text.lines().count() as f64);
+    least
+}
+
+fn main() {
+    let words: Vec<String> = std::env::args().skip(1).collect();
+    let [how, file] = &words[..] else { panic!("calls time FILE, or calls LINES FILE") };
+    let text = std::fs::read_to_string(file).expect("lines");
+    let taken = match how.parse() {
+        Ok(count) => {
+            let timeline = Timeline::new(&["+00:00", "-", "100", "rfc3339"]).expect("these are words");
+            least(&pieces(&text, count), |piece, output| timeline.append_to(piece.as_bytes(), output))
+        }
+        Err(_) => least(&pieces(&text, 1), |line, output| answer(line.trim_end(), output)),
+    };
+    println!("{:.1}", taken / text.lines().count() as f64);
 }

@@ -19,6 +19,14 @@ pub const GREATEST_LIMIT: usize = 1_048_576;
 /// Bytes that always suffice for a line's answer and its line feed.
 pub const LINE_ROOM: usize = 36;
 
+/// A handle: `at` is null where it is not open. What it points to is the library's.
+#[repr(C)]
+#[derive(Debug)]
+pub struct Handle {
+    /// What the calls by the handle take.
+    pub at: *mut c_void,
+}
+
 extern "C" {
     /// Answers each line of the input as the words say, each answer followed by a line feed, into the front of the output.
     ///
@@ -48,6 +56,35 @@ extern "C" {
         output_len: usize,
         sentence_len: *mut usize,
     ) -> u8;
+
+    /// Opens a handle on what the words ask for.
+    ///
+    /// # Safety
+    ///
+    /// As for `instants_sentence`, with `handle` in the place of `sentence_len`. The handle is not open. The text of the words
+    /// stays where and as it is until the handle is closed.
+    pub fn instants_open(words: *const c_void, words_len: usize, handle: *mut Handle) -> u8;
+
+    /// Answers each line of the input by an open handle, whose `at` it is.
+    ///
+    /// # Safety
+    ///
+    /// As for `instants_answer_lines`. The handle was opened, by this thread or before this call, and is not closed.
+    pub fn instants_answer(
+        at: *const c_void,
+        input: *const c_void,
+        input_len: usize,
+        output: *mut c_void,
+        output_len: usize,
+        written: *mut usize,
+    ) -> u8;
+
+    /// Closes an open handle, whose `at` it is.
+    ///
+    /// # Safety
+    ///
+    /// The handle is open, no call by it runs, and neither it nor a copy of it is used from now on.
+    pub fn instants_close(at: *mut c_void);
 
     /// The version of the library, as `VERSION` is that of this crate.
     ///
