@@ -2,7 +2,7 @@
 
 ghost use Rattle.std.specs.Prelude.{◌≡◌, false};
 
-use calendar::UtcOffset;
+use crate::ordered_lines::target_of;
 use instants::{
     ByteReader, ByteWriter, CutReader, CutWriter, NewFault, ProgramFault, RunFault, SourceText,
     Timeline, WordsFault, run_words_by,
@@ -192,8 +192,8 @@ fn runs_in_a_mode(rt: HostRuntime) {
 // What a timeline is made of.
 #[test]
 fn offsets_of_a_timeline(rt: HostRuntime) -> Result<(), Fail> {
-    let target = UtcOffset::from_hms(5, 30, 0).expect(&rt, "an offset");
-    let assumed = UtcOffset::from_hms(-1, 0, 0).expect(&rt, "an offset");
+    let target = target_of(&rt, 330);
+    let assumed = target_of(&rt, -60);
     match Timeline::new(rt.alloc(), &[SourceText::Rfc3339], target, Some(assumed)) {
         Ok(timeline) => {
             assert!(rt; timeline.target().offset() == target);

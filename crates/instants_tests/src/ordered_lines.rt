@@ -48,7 +48,7 @@ static TARGETS: [i16; 4] = [-1439, 0, 330, 1439];
 type Answered = (Answer, i128, Answer);
 
 // A target of so many minutes.
-fn target(rt: &impl Abort, minutes: i16) -> UtcOffset
+pub fn target_of(rt: &impl Abort, minutes: i16) -> UtcOffset
     ensures { IsClockOffset result }
 {
     let offset = UtcOffset::from_whole_seconds(i32::from(minutes) * 60).expect(rt, "an offset");
@@ -116,7 +116,7 @@ fn are_in_order(answers: &[Answered]) -> bool {
 
 // Whether there are many answers at a target, and they are in order once they are sorted as bytes.
 fn are_sorted(rt: &impl Abort, alloc: Global, minutes: i16) -> bool {
-    let target = target(rt, minutes);
+    let target = target_of(rt, minutes);
     let timeline = timeline_of(rt, alloc, &[SourceText::Rfc3339], target, None);
     let mut answers = answer_days(rt, alloc, &timeline);
     let sorted = answers.sort_by(|one, other| one.0.as_bytes().cmp(other.0.as_bytes()));
@@ -162,7 +162,7 @@ fn assumed(rt: &impl Abort, is_assumed: bool) -> Option<UtcOffset>
     ensures { IfSome result IsClockOffset }
 {
     if is_assumed {
-        Some(target(rt, 1439))
+        Some(target_of(rt, 1439))
     } else {
         None
     }
@@ -179,9 +179,9 @@ fn all_read_again(
 ) -> bool
     requires { 0 < length sources.now }
 {
-    let (here, assumed_here) = (target(rt, -1439), assumed(rt, is_assumed));
+    let (here, assumed_here) = (target_of(rt, -1439), assumed(rt, is_assumed));
     let again = timeline_of(rt, alloc, sources, here, assumed_here);
-    let (other, assumed_there) = (target(rt, 1439), assumed(rt, is_assumed));
+    let (other, assumed_there) = (target_of(rt, 1439), assumed(rt, is_assumed));
     let from_answers = timeline_of(rt, alloc, sources, other, assumed_there);
     are_read_again(&again, from_lines, &from_answers, answers)
 }
@@ -204,7 +204,7 @@ fn each_reads_again(
 
 #[test]
 fn lines_read_again(rt: HostRuntime) {
-    let (here, other) = (target(&rt, -1439), target(&rt, 1439));
+    let (here, other) = (target_of(&rt, -1439), target_of(&rt, 1439));
     let here = timeline_of(&rt, rt.alloc(), &[SourceText::Rfc3339], here, None);
     let answers = answer_days(&rt, rt.alloc(), &here);
     let from_lines = timeline_of(&rt, rt.alloc(), &[SourceText::Rfc3339], other, None);
@@ -234,7 +234,7 @@ fn laws(rt: HostRuntime) {
     order_of_lines();
     reread();
     difference();
-    let target = target(&rt, -30);
+    let target = target_of(&rt, -30);
     let timeline = timeline_of(&rt, rt.alloc(), &[SourceText::Rfc3339], target, None);
     let (first, last) = (b"0000-01-01T00:30:00Z", b"9999-12-31T23:59:59.999999999Z");
     assert!(rt; led_by_difference(&timeline, first, last) == Some([true; 2]));
