@@ -21,7 +21,7 @@ PROGRAMS = {name: Program(crate, name) for crate, name in (("instants_program", 
 CHECK = Program("description_check", "description_check")
 # What of the documents is for those who use the programs or the library.
 DOCUMENTS = ("README.md", "docs/GUIDE.md", "docs/FORMATS.md", "docs/DESCRIPTIONS.md", "docs/LIBRARIES.md", "docs/SCALE.md",
-             "docs/CLAIMS.md", "docs/DIFFERENCES.md", "docs/SPEED.md")
+             "docs/CLAIMS.md", "docs/DIFFERENCES.md", "docs/PEERS.md", "docs/SPEED.md")
 PAGES = ("instants.1", "instants-lines.1", "instants-descriptions.7")
 # Which of the bindings are handed on as sources.
 SOURCES = ("c", "postgres", "sqlite")
