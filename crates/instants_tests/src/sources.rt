@@ -38,7 +38,7 @@ yesterday => None None true
     (
         SourceText::V2("[year]-[month]-[day] [hour]:[minute]"),
         "1970-01-01 01:01 => Some(60) Some(60) false
-1970-01-01 01:01x => None None false
+1970-01-01 01:01x => None None true
 yesterday => None None true
 01/01/1970 01:01 => None None true",
     ),
