@@ -3,28 +3,42 @@
 
     tools/build_library.py
 
-`rt lib` proves the crate `instants_c` and those below it, as far as no check on this machine has, and builds an archive. That
-archive and the kit's few lines of C, by which Rattle takes memory, become one object, in which the calls of
-`include/instants.h` are the only names that others see; both libraries are made of that. The packages of Debian: binutils gcc.
+The crate `instants_c` and those below it are proved by `rt ci` over a copy of them (tools/build_program.py), so a crate that
+was proved for a program is not proved again. Rattle's compiler makes an archive of them; that and the kit's few lines of C, by
+which Rattle takes memory, become one object, in which the calls of `include/instants.h` are the only names that others see.
+Both libraries are made of that. The packages of Debian: binutils gcc.
 """
 
 import pathlib
 import shutil
 import subprocess
 import sys
-import tempfile
 
 sys.dont_write_bytecode = True
 
-from program import ROOT, Program
+import build_program
+from program import ROOT, BuildFailed, Program, uses
 
 CRATE = "instants_c"
 CALLS = ("instants_answer_lines", "instants_open", "instants_answer", "instants_close", "instants_sentence", "instants_version")
 ARCHIVE, SHARED = "libinstants.a", "libinstants.so.0"
 
 
-class BuildFailed(Exception):
-    """The library can't be built; the text says why."""
+class Library(Program):
+    """The library for C, in its two files."""
+
+    def __init__(self):
+        super().__init__(CRATE, "libinstants", SHARED)
+
+    def is_current(self):
+        return super().is_current() and (out() / ARCHIVE).is_file()
+
+    def made_in(self, room):
+        """Makes both libraries of the crates that `rt ci` proved in a copy of them, and returns them by name."""
+        self.say("the crates are proved; compiling the library")
+        compile_archive(self.crates(), room)
+        join(room)
+        return {name: room / name for name in (ARCHIVE, SHARED)}
 
 
 def out():
@@ -39,17 +53,31 @@ def run(command, folder):
         raise BuildFailed(f"{' '.join(map(str, command))} failed:\n{ran.stdout}")
 
 
-def library_of_kit():
-    """Returns the kit's archive of C."""
+def kit():
+    """Returns the kit's folder."""
     rt = shutil.which("rt")
     if not rt:
         raise BuildFailed("the library has to be built, and there is no command rt")
-    return pathlib.Path(rt).resolve().parent.parent / "c" / "liblibc_c.a"
+    return pathlib.Path(rt).resolve().parent.parent
 
 
-def join(proved, room):
-    """Makes both libraries in the folder room of the archive that was proved."""
-    run(["ld", "-r", "-o", "instants.o", "--whole-archive", proved, "--no-whole-archive", library_of_kit()], room)
+def compile_archive(crates, room):
+    """Has Rattle's compiler make the archive of the proved crates. It checks the topmost crate once more, and the others' seals."""
+    rlib = lambda it: room / "crates" / it / "out" / "rlib"
+    used = ["std", *(it for it in uses()[CRATE])]
+    externs = [f"{it}={rlib(it) / it}.rlib" if it in crates else f"{it}={kit()}/rlibs/{it}.rlib" for it in used]
+    folders = [f"{kit()}/rlibs", *(rlib(it) for it in crates if it != CRATE)]
+    command = [kit() / "bin" / "rattle", "build", "--crate-name", CRATE, "src/lib.rt", "--crate-type", "staticlib"]
+    command += [word for it in externs for word in ("--extern", it)]
+    command += [word for it in folders for word in ("-L", f"dependency={it}")]
+    command += ["--antt-project", kit() / "rattle" / "logic" / "antt-project.json", "--logic-built", kit() / "logic_built"]
+    command += ["--toolchain", kit() / "toolchain", "--backend", "llvm", "-o", room / "proved.a"]
+    run(["nice", "-n", "10", *command], room / "crates" / CRATE)
+
+
+def join(room):
+    """Makes both libraries in the folder room of the archive there."""
+    run(["ld", "-r", "-o", "instants.o", "--whole-archive", "proved.a", "--no-whole-archive", kit() / "c" / "liblibc_c.a"], room)
     run(["objcopy", *(f"--keep-global-symbol={it}" for it in CALLS), "instants.o"], room)
     run(["objcopy", "--strip-unneeded", "--remove-section=.comment", "instants.o"], room)
     run(["ar", "rcsD", ARCHIVE, "instants.o"], room)
@@ -60,17 +88,7 @@ def join(proved, room):
 
 def build():
     """Proves and builds the library unless it is current, or raises BuildFailed."""
-    proved, made = (Program(CRATE, "libinstants", it) for it in (f"lib{CRATE}.a", SHARED))
-    if proved.is_current() and made.is_current() and made.file.stat().st_mtime_ns >= proved.file.stat().st_mtime_ns:
-        return
-    if not proved.is_current():
-        made.say("proving and building the library, as far as that is not done")
-        run(["nice", "-n", "10", "rt", "lib"], ROOT / "crates" / CRATE)
-    with tempfile.TemporaryDirectory(prefix="library-") as folder:
-        room = pathlib.Path(folder)
-        join(proved.file, room)
-        for it in (ARCHIVE, SHARED):
-            shutil.copy(room / it, out() / it)
+    build_program.build(Library())
 
 
 if __name__ == "__main__":

@@ -1,12 +1,13 @@
 #!/usr/bin/env python3
-"""Proves and builds a program of this repository.
+"""Proves and builds programs of this repository.
 
-    tools/build_program.py CRATE    as in tools/build_program.py description_check
+    tools/build_program.py CRATE..    as in tools/build_program.py description_check
 
-The build is `rt ci` over a copy of the program's crates alone, without tests and edits: it proves them side by side, has
-both compilers make the program, and compares what it writes with the stored run. The longest chain of crates, which no
+The build is `rt ci` over a copy of the programs' crates alone, without tests and edits: it proves them side by side, has
+both compilers make each program, and compares what it writes with the stored run. The longest chain of crates, which no
 number of processors makes shorter, is proved beside it by runs of its own, and each proof there gets as many processors as
-it can use; the other run takes what they leave. What is proved is kept for the repository's own `rt ci` on this machine.
+it can use; the other run takes what they leave. What is proved is kept for the repository's own `rt ci` on this machine, and
+for later builds. tools/build_all.py builds both programs and the library for C in one such run.
 """
 
 import contextlib
@@ -23,7 +24,7 @@ import threading
 import time
 
 from ended_with_caller import ended_with_caller
-from program import PARTS, ROOT, Program, uses
+from program import PARTS, ROOT, BuildFailed, Program, lines_of_crates, uses
 
 # What of a program's crate its stored run reads.
 RUN = ("args", "stdin", "stdout", "status")
@@ -34,57 +35,66 @@ FOREKNOWN = 300
 USUAL, LARGE = 100, 0.03
 
 
-class BuildFailed(Exception):
-    """The program can't be built; the text says why."""
-
-
-def build(program):
-    """Proves and builds a program unless it is current, one call at a time, or raises BuildFailed."""
+def build(*programs):
+    """Proves and builds those of the programs that are not current in one run, one call at a time, or raises BuildFailed."""
     if not shutil.which("rt"):
-        raise BuildFailed("the program has to be built, and there is no command rt")
-    room = room_of(program)
-    with in_turn(program, room.with_suffix(".lock")):
-        if program.is_current():
+        raise BuildFailed("there is something to build, and there is no command rt")
+    room = room_of_checkout()
+    with in_turn(programs, room.with_suffix(".lock")):
+        lacking = [it for it in programs if not it.is_current()]
+        if not lacking:
             return
         try:
-            # (what is changed from here on is newer than the program)
+            # (what is changed from here on is newer than the programs)
             began = time.time_ns()
-            lay_out(program, room)
-            put_in_place(program, prove(program, room), began)
+            lay_out(crates_of(lacking), room)
+            prove(lacking, room)
+            for program in lacking:
+                put_in_place(program, room, began)
         finally:
             shutil.rmtree(room, ignore_errors=True)
 
 
-def room_of(program):
-    """Returns the folder where this checkout builds the program; what an ended build left there goes with the next one."""
+def crates_of(programs):
+    """Returns the crates that the programs are made of, each behind those that it uses."""
+    return list(dict.fromkeys(crate for program in programs for crate in program.crates()))
+
+
+def room_of_checkout():
+    """Returns the folder where this checkout builds; what an ended build left there goes with the next one."""
     home = pathlib.Path(tempfile.gettempdir(), f"fuzhelik-{os.getuid()}")
     home.mkdir(mode=0o700, exist_ok=True)
     if home.is_symlink() or home.stat().st_uid != os.getuid():
         raise BuildFailed(f"{home} is not this user's own folder")
-    return home / hashlib.sha256(f"{ROOT} {program.crate}".encode()).hexdigest()[:16]
+    return home / hashlib.sha256(str(ROOT).encode()).hexdigest()[:16]
 
 
 @contextlib.contextmanager
-def in_turn(program, file):
-    """Waits while another call builds the program."""
+def in_turn(programs, file):
+    """Waits while another call builds in this checkout."""
     with open(file, "w") as lock:
         try:
             fcntl.flock(lock, fcntl.LOCK_EX | fcntl.LOCK_NB)
         except BlockingIOError:
-            program.say("another call is building the program; waiting for it")
+            say(programs, "another call is building here; waiting for it")
             fcntl.flock(lock, fcntl.LOCK_EX)
         yield
 
 
-def lay_out(program, room):
-    """Copies the sources of the program's crates, and its stored run."""
+def say(programs, text):
+    """Says something of a build of these programs."""
+    print(f"{', '.join(it.name for it in programs)}: {text}", file=sys.stderr, flush=True)
+
+
+def lay_out(crates, room):
+    """Copies the sources of the crates, and the stored run of each program."""
     shutil.rmtree(room, ignore_errors=True)
     # (rt ci wants the top of a repository)
     (room / ".git").mkdir(parents=True)
-    used = uses()
-    (room / "crates.txt").write_text("".join(f"{it}: {' '.join(used[it])}\n" for it in program.crates()))
+    said = lines_of_crates()
+    (room / "crates.txt").write_text("".join(said[it] for it in crates))
     shutil.copy(ROOT / "HANDLES", room / "HANDLES")
-    for crate in program.crates():
+    for crate in crates:
         for part in (*PARTS, *RUN):
             source, target = ROOT / "crates" / crate / part, room / "crates" / crate / part
             if source.is_dir():
@@ -93,22 +103,20 @@ def lay_out(program, room):
                 shutil.copy(source, target)
 
 
-def prove(program, room):
-    """Proves and builds what is laid out there, tells of each crate, and returns the program's file."""
-    began, log, progress = time.monotonic(), [], Progress(program)
+def prove(programs, room):
+    """Proves and builds what is laid out there, and tells of each crate."""
+    began, log, progress = time.monotonic(), [], Progress(programs)
     how = {"cwd": room, "stdin": subprocess.DEVNULL, "stdout": subprocess.PIPE, "stderr": subprocess.STDOUT, "text": True}
     whole = ["nice", "-n", "10", "rt", "ci"]
-    with hurrying(program, room), subprocess.Popen(whole, errors="replace", preexec_fn=ended_with_caller(), **how) as ran:
+    with hurrying(crates_of(programs), room), subprocess.Popen(whole, errors="replace", preexec_fn=ended_with_caller(), **how) as ran:
         for line in ran.stdout:
             log.append(line)
             proved = re.match(r"rt: (\w+) (?:proved$|is kept: )", line)
             if proved:
                 progress.tell(proved[1], time.monotonic() - began)
-    made = room / "crates" / program.crate / "out" / program.crate
-    if ran.returncode or not made.is_file():
+    if ran.returncode:
         sys.stderr.writelines(log)
         raise BuildFailed("the build failed")
-    return made
 
 
 def known_times():
@@ -117,23 +125,23 @@ def known_times():
     return {name: int(seconds) for name, seconds in rows}
 
 
-def longest_chain(program):
-    """Returns those of a program's crates that stand on one another and take longest together, the lowest first."""
+def longest_chain(crates):
+    """Returns those of the crates that stand on one another and take longest together, the lowest first."""
     known, used, chains = known_times(), uses(), {}
     lasts = lambda chain: sum(known.get(it, USUAL) for it in chain)
-    for crate in program.crates():
+    for crate in crates:
         chains[crate] = [*max((chains[it] for it in used[crate] if it in chains), key=lasts, default=[]), crate]
-    return chains[program.crate]
+    return max(chains.values(), key=lasts)
 
 
 @contextlib.contextmanager
-def hurrying(program, room):
+def hurrying(crates, room):
     """Proves the longest chain meanwhile, up to each of its long proofs in turn."""
     known, is_over = known_times(), threading.Event()
-    least = LARGE * sum(known.get(it, USUAL) for it in program.crates())
+    least = LARGE * sum(known.get(it, USUAL) for it in crates)
 
     def hurry():
-        for crate in longest_chain(program):
+        for crate in longest_chain(crates):
             if known.get(crate, USUAL) < least:
                 continue
             how = {"cwd": room, "stdin": subprocess.DEVNULL, "stdout": subprocess.DEVNULL, "stderr": subprocess.DEVNULL}
@@ -153,13 +161,15 @@ def hurrying(program, room):
         thread.join()
 
 
-def put_in_place(program, made, began):
-    """Puts the program where it is looked for, as old as what it was made from."""
-    program.file.parent.mkdir(exist_ok=True)
-    arriving = program.file.with_suffix(".new")
-    shutil.copy(made, arriving)
-    os.utime(arriving, ns=(began, began))
-    os.replace(arriving, program.file)
+def put_in_place(program, room, began):
+    """Puts what was made where it is looked for, as old as what it was made from."""
+    folder = program.file.parent
+    folder.mkdir(exist_ok=True)
+    for name, made in program.made_in(room).items():
+        arriving = folder / f"{name}.new"
+        shutil.copy(made, arriving)
+        os.utime(arriving, ns=(began, began))
+        os.replace(arriving, folder / name)
 
 
 def told(seconds):
@@ -167,14 +177,20 @@ def told(seconds):
     return f"{seconds:.0f} s" if seconds < 100 else f"{seconds / 60:.0f} min"
 
 
+def expected(*programs):
+    """Returns how many seconds a build of the programs from nothing takes on these processors, as the proofs took for docs/GATE.md."""
+    known = known_times()
+    return sum(known.get(it, USUAL) for it in crates_of(programs)) / len(os.sched_getaffinity(0))
+
+
 class Progress:
     """How far a build is, and how long the rest is likely to take: as the proofs took for docs/GATE.md, at the pace so far."""
 
-    def __init__(self, program):
+    def __init__(self, programs):
         known = known_times()
-        self.program, self.due, self.worked = program, {it: known.get(it, USUAL) for it in program.crates()}, 0
+        self.programs, self.due, self.worked = programs, {it: known.get(it, USUAL) for it in crates_of(programs)}, 0
         self.count = len(self.due)
-        program.say(f"proving and building the program, {self.count} crates, in {told(self.left(0))} or so")
+        say(programs, f"proving and building {self.count} crates, in {told(expected(*programs))} or so, or less where they were proved here before")
 
     def left(self, passed):
         """Returns how many seconds the crates that are due are likely to take."""
@@ -185,13 +201,13 @@ class Progress:
         """Says that a crate is proved, so many seconds after the beginning."""
         self.worked += self.due.pop(crate)
         left = f", {told(self.left(passed))} or so left" if self.due else ""
-        self.program.say(f"{crate} is proved, {self.count - len(self.due)} of {self.count} crates, {passed:.0f} s{left}")
+        say(self.programs, f"{crate} is proved, {self.count - len(self.due)} of {self.count} crates, {passed:.0f} s{left}")
 
 
 if __name__ == "__main__":
-    if len(sys.argv) != 2 or sys.argv[1] not in uses():
+    if len(sys.argv) < 2 or not set(sys.argv[1:]) <= set(uses()):
         sys.exit(__doc__)
     try:
-        build(Program(sys.argv[1], sys.argv[1]))
+        build(*(Program(it, it) for it in sys.argv[1:]))
     except BuildFailed as fault:
-        sys.exit(f"{sys.argv[1]}: {fault}")
+        sys.exit(f"{', '.join(sys.argv[1:])}: {fault}")

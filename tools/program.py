@@ -8,10 +8,19 @@ ROOT = pathlib.Path(__file__).resolve().parent.parent
 PARTS = ("src", "specs", "proofs")
 
 
+class BuildFailed(Exception):
+    """Something can't be built; the text says why."""
+
+
+def lines_of_crates():
+    """Returns each crate's line of crates.txt."""
+    lines = (ROOT / "crates.txt").read_text().splitlines(keepends=True)
+    return {it.split(":")[0].split()[0]: it for it in lines if ":" in it and not it.startswith("#")}
+
+
 def uses():
     """Returns what each crate uses, by crates.txt."""
-    lines = [it.partition(":") for it in (ROOT / "crates.txt").read_text().splitlines() if ":" in it and not it.startswith("#")]
-    return {head.split()[0]: used.split() for head, _, used in lines}
+    return {name: it.partition(":")[2].split() for name, it in lines_of_crates().items()}
 
 
 class Program:
@@ -24,6 +33,10 @@ class Program:
 
     def say(self, text):
         print(f"{self.name}: {text}", file=sys.stderr, flush=True)
+
+    def made_in(self, room):
+        """Returns what `rt ci` made of it in a copy of the crates, by name."""
+        return {self.file.name: room / "crates" / self.crate / "out" / self.crate}
 
     def crates(self):
         """Returns the crates that the program is made of, each behind those that it uses."""

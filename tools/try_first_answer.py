@@ -7,9 +7,12 @@ ROWS are files with a JSON object on each line: `words`, a list, and `stdin`, wh
 through one trial of the program (`rt try --cases`) and through the proved program, which is to be built here; what both write
 and their statuses have to be the same. Then, in copies of the sources:
 
-- the first call answers within a minute, with one line on standard error, and wrong words get their sentence and status 2;
+- a call without arguments gives the usage at once;
+- the first call answers within a minute, and says on standard error first that it builds a trial, then that this is not
+  proved; wrong words get their sentence and status 2;
+- a terminal and an input that is too long are refused, with the command that builds the proved program;
 - a pipe that is silent for five seconds loses nothing;
-- ten calls that need the proved program build it once (this takes as long as a build, unless `rt ci` has kept its proofs);
+- ten calls of `--build` build the program once (this takes as long as a build, unless `rt ci` has kept its proofs);
 - a caller that is ended while it tries or builds, by whatever signal, leaves no process behind.
 
 The last line counts what passed; the status is 1 where anything failed. It needs Linux and some minutes.
@@ -18,6 +21,7 @@ The last line counts what passed; the status is 1 where anything failed. It need
 import json
 import os
 import pathlib
+import pty
 import re
 import signal
 import subprocess
@@ -96,11 +100,33 @@ def try_first_call(wrapper):
         out, said = ran.communicate(b"".join(LINES))
     passed = time.monotonic() - began
     tell(f"the first answer comes within {A_MINUTE} s (load {os.getloadavg()[0]:.1f})", out == ANSWERS and passed < A_MINUTE, f"{passed:.0f} s")
-    tell("one line says that it is not proved here, and how to prove it", said.count(b"\n") == 1 and b"--build" in said, said.decode().strip())
+    first, _, last = said.decode().strip().partition("\n")
+    tell("it says first what it does and how long that takes", "builds a trial" in first and "half a minute" in first, first)
+    tell("it says that the answers are not proved, and how to prove the program", "not proved" in last and "--build" in last, last)
     with call(wrapper, [*WORDS[:3], "v1", "[foo"], stdin=subprocess.DEVNULL) as ran:
         out, said = ran.communicate()
     is_told = said.endswith(b"\ninstants: source 1: unclosed opening bracket at byte index 0\n")
     tell("wrong words are refused by a trial", ran.returncode == 2 and not out and is_told, said.decode().strip().split("\n")[-1])
+
+
+def try_no_arguments(wrapper):
+    began = time.monotonic()
+    with call(wrapper, [], stdin=subprocess.DEVNULL) as ran:
+        out, said = ran.communicate()
+    is_usage = said == b"instants: usage: instants TARGET ASSUMED LIMIT SOURCE...\n"
+    tell("no arguments give the usage at once", ran.returncode == 2 and not out and is_usage and time.monotonic() - began < 1, said.decode().strip())
+
+
+def try_what_no_trial_serves(wrapper):
+    reads, writes = pty.openpty()
+    with call(wrapper, WORDS, stdin=writes) as ran:
+        out, said = ran.communicate()
+    os.close(reads)
+    os.close(writes)
+    tell("a terminal is refused, with the command that builds the program", ran.returncode == 1 and not out and b"terminal" in said and b"--build" in said, said.decode().strip())
+    with call(wrapper, WORDS, stdin=subprocess.PIPE) as ran:
+        out, said = ran.communicate(LINES[0] * 40_000)
+    tell("so is a longer input than a trial answers", ran.returncode == 1 and not out and b"MiB" in said and b"--build" in said, said.decode().strip())
 
 
 def try_silent_pipe(wrapper):
@@ -143,7 +169,9 @@ def main(files):
         compare_rows(files)
     with tempfile.TemporaryDirectory(prefix="first-answer-") as room:
         wrapper = copy_to(room)
+        try_no_arguments(wrapper)
         try_first_call(wrapper)
+        try_what_no_trial_serves(wrapper)
         try_silent_pipe(wrapper)
         for number in (signal.SIGTERM, signal.SIGINT, signal.SIGKILL):
             try_ended_caller(wrapper, WORDS, number, 8)
