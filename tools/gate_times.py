@@ -34,7 +34,7 @@ from ended_with_caller import ended_with_caller
 ROOT = pathlib.Path(__file__).resolve().parent.parent
 TABLE = ROOT / "docs" / "GATE.md"
 TICKS = os.sysconf("SC_CLK_TCK")
-EVERY = 0.2
+EVERY = 1
 PARTS = ("proof", "tests", "edits")
 # The bounds, in minutes of a processor: for everything, and for a crate with its tests and edits.
 BOUND, CRATE_BOUND = 90, 6
