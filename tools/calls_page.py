@@ -67,6 +67,8 @@ FREE = r'pub (?:unsafe )?(?:extern "C" )?fn '
 
 # The heading of the index.
 INDEX = "Index of names"
+# The lines of the index are a little longer than this.
+WIDTH = 140
 # Where a value is longer than this, a constant stands without it.
 SHORT = 40
 
@@ -301,8 +303,18 @@ def index_of(found):
             for name in sorted({name_of(it) for it in calls} - {None}):
                 having[name].append((title, places[at, number]))
         names = [name_link(name, having[name]) for name in sorted(having)]
-        lines += [f"**{head}**: {', '.join(links)}", "", " · ".join(names), ""]
+        lines += [f"**{head}**:", *filled(links, ","), "", *filled(names, " ·"), ""]
     return lines
+
+
+def filled(pieces, between):
+    """Returns pieces in lines of some length, so that a search shows few of them."""
+    lines = [""]
+    for at, piece in enumerate(pieces, 1):
+        lines[-1] += f"{' ' if lines[-1] else ''}{piece}{between if at < len(pieces) else ''}"
+        if len(lines[-1]) > WIDTH:
+            lines.append("")
+    return lines if lines[-1] else lines[:-1]
 
 
 def name_link(name, having):
