@@ -1,6 +1,8 @@
 #!/usr/bin/env python3
 """Says which definitions the contract of `run_words` rests on: file by file of the crates' specs/, how many lines of definitions
-are reached from its clauses, and writes the table into docs/CLAIMS.md, between the lines that name this tool.
+are reached from its clauses, and writes the table into docs/CLAIMS.md, between the lines that name this tool, and how long all of
+them take to read into the sentence there that begins with their number. It also writes there how many checks `rt ci` counts: one for each
+crate of crates.txt, and one for each file in a `must-fail/`.
 
     tools/believed_files.py            writes it
     tools/believed_files.py --check    says whether it is as it would be written, with status 1 where it is not
@@ -12,10 +14,18 @@ import pathlib
 import re
 import sys
 
+sys.dont_write_bytecode = True
+
+import program
+
 ROOT = pathlib.Path(__file__).resolve().parent.parent
 CRATES, PAGE = ROOT / "crates", ROOT / "docs" / "CLAIMS.md"
 BEGIN, END = "<!-- tools/believed_files.py begins -->", "<!-- tools/believed_files.py ends -->"
 LAYERS = {"instants": "lines and answers", "parsing": "reading", "description": "descriptions", "datetime": "date-times", "calendar": "calendar", "base": "bytes"}
+# How many lines of definitions are read in a minute, and the sentence with how long all of them take.
+PACE = 15
+COUNTED = re.compile(r"\d+ lines of definitions in \d+ files, some \d+ hours? at \d+ lines a minute")
+PASSED = re.compile(r"`\d+ passed, 0 failed`")
 WORD = r"[^\s(){}\[\].,;=:λ→]+(?:\.[^\s(){}\[\].,;=:λ→]+)*|◌[^\s(){},;]*◌"
 
 
@@ -130,6 +140,7 @@ def believed():
 
 
 def table(seen):
+    """Returns the table, and the sentence with how long its definitions take to read."""
     crates = {}
     for (file, _), body in seen.items():
         crate, _, module = file.relative_to(CRATES).parts
@@ -140,7 +151,9 @@ def table(seen):
             lines = {module: sum(len(it.split("\n")) for it in bodies) for module, bodies in sorted(crates[crate].items())}
             rows.append(f"| {told} | `{crate}` | {', '.join(f'`{module}` {size}' for module, size in lines.items())} |")
             files, count, told = files + len(lines), count + sum(lines.values()), ""
-    return "\n".join([*rows, f"| all | {len(rows) - 2} crates | {files} files, {count} lines |"])
+    hours = max(1, round(count / PACE / 60))
+    counted = f"{count} lines of definitions in {files} files, some {hours} hour{'s' if hours > 1 else ''} at {PACE} lines a minute"
+    return "\n".join([*rows, f"| all | {len(rows) - 2} crates | {files} files, {count} lines |"]), counted
 
 
 def main(words):
@@ -149,8 +162,10 @@ def main(words):
         print("\n".join(sorted(f"{file.relative_to(CRATES)} {name}" for file, name in seen)))
         return 0
     text = PAGE.read_text()
-    before, behind = text.split(BEGIN)[0], text.split(END)[1]
-    written = f"{before}{BEGIN}\n\n{table(seen)}\n\n{END}{behind}"
+    rows, counted = table(seen)
+    before, behind = COUNTED.sub(counted, text.split(BEGIN)[0]), text.split(END)[1]
+    checks = len(program.uses()) + len([*CRATES.glob("*/must-fail/*")])
+    written = f"{PASSED.sub(f'`{checks} passed, 0 failed`', before)}{BEGIN}\n\n{rows}\n\n{END}{behind}"
     if words == ["--check"]:
         print(f"the table of {PAGE.relative_to(ROOT)} is {'as' if written == text else 'not as'} the definitions have it")
         return int(written != text)

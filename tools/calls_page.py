@@ -1,6 +1,7 @@
 #!/usr/bin/env python3
-"""Writes docs/CALLS.md: the public calls of the five named crates, of the programs' crates, and of crates below those of which
-docs/CLAIMS.md speaks, type by type, each with the clauses of its contract as its source has them.
+"""Writes docs/CALLS.md: an index of names; then the public calls and constants of the five named crates, of the programs' crates,
+and of crates below those of which docs/CLAIMS.md speaks, type by type. Each has the first sentence of its doc comment, and the
+clauses of its contract as its source has them.
 
     tools/calls_page.py            writes it
     tools/calls_page.py --check    says whether it is as it would be written, with status 1 where it is not
@@ -10,6 +11,10 @@ import collections
 import pathlib
 import re
 import sys
+
+sys.dont_write_bytecode = True
+
+from page_links import slug
 
 ROOT = pathlib.Path(__file__).resolve().parent.parent
 PAGE = ROOT / "docs" / "CALLS.md"
@@ -60,14 +65,49 @@ MODULES = {
 # How a call that is of no type begins, an export for C among them.
 FREE = r'pub (?:unsafe )?(?:extern "C" )?fn '
 
+# The heading of the index.
+INDEX = "Index of names"
+# The lines of the index are a little longer than this.
+WIDTH = 140
+# Where a value is longer than this, a constant stands without it.
+SHORT = 40
+
 HEAD = """\
 # The calls, with their contracts
 
-Written by `tools/calls_page.py` from the sources: the five named crates first, each with what it gives on of the crates below it; then the crates of dates inside lines, of `instants-lines`, of calls over memory and for C; at the end the calls of crates below these of which [CLAIMS.md](CLAIMS.md) speaks. Under each call stand its conditions (`requires`), which a caller proves, and what it promises, each clause behind its name. `self` and the arguments are the values at the call; of what is behind a `&` that is `.now`, of what is behind a `&mut` `.old` before the call and `.new` after it. `≡` is equality, `→` implies, `↔` if and only if, `×` and. What stands behind an operator says what it asks and gives, behind `Display` what is written where it answers `Ok`, behind a call of a trait `for` a type what that type promises beside the trait. Behind a star, as in `requires*`, stands what memory is lent or handed over, and a contract with a `ghost` value holds whatever that is. The words of the clauses are told in [DEFINITIONS.md](DEFINITIONS.md); how a program uses these crates, in [LIBRARIES.md](LIBRARIES.md).
+`tools/calls_page.py` writes this page from the sources. First comes the index of names. Then come the five named crates, each with what it re-exports from the crates below it. After them come the crates for dates inside lines, for `instants-lines`, for calls over memory and for C. At the end are those calls of crates below these that [CLAIMS.md](CLAIMS.md) names.
+
+How to read an entry:
+
+- The line with `///` is the first sentence of the doc comment.
+- `requires` is a condition that the caller has to prove. `ensures` is what the call promises. A word after either is the name of the clause.
+- `requires*` and `ensures*` are about memory that is lent or handed over. A contract with a `ghost` value holds for every such value.
+- `self` and the arguments are the values at the call. `x.now` is what a `&` points to. `x.old` and `x.new` are what a `&mut` points to, before and after the call.
+- `≡` is equality, `→` is "implies", `↔` is "if and only if", `×` is "and".
+- An entry for an operator has its condition and its result. An entry for `Display` has the bytes that are written where it returns `Ok`. An entry `impl TRAIT for TYPE: fn ..` has what the type promises in addition to the trait.
+- A constant has its value here if the value is short; the laws of its crate state the value of the others.
+
+[DEFINITIONS.md](DEFINITIONS.md) explains the words of the clauses. [LIBRARIES.md](LIBRARIES.md) shows how a program uses these crates.
 """
 
-# A call: the type or trait that it is of, or none; how it is written; its clauses; the file where it stands.
-Call = collections.namedtuple("Call", "of written clauses file")
+# A call: the type or trait that it is of, or none; how it is written; its clauses; the file where it stands; the first sentence of
+# its doc comment, or an empty text. A constant is one too, without clauses.
+Call = collections.namedtuple("Call", "of written clauses file doc")
+# A file: its path, and its text.
+Source = collections.namedtuple("Source", "path text")
+
+
+def doc_before(text, at):
+    """Returns the first sentence of the doc comment that ends right before a place of a text, or an empty text."""
+    lines = []
+    for line in reversed(text[:at].split("\n")[:-1]):
+        if line.strip().startswith("///"):
+            lines.insert(0, line.strip()[3:].strip())
+        elif lines or not line.strip().startswith(("#[", "//")):
+            break
+    first = " ".join(lines[: lines.index("")] if "" in lines else lines)
+    sentence = re.match(r"(?:[^.!?`]|`[^`]*`|[.!?](?!\s))*[.!?](?=\s|$)", first)
+    return sentence[0] if sentence else first
 
 
 def exported(crate):
@@ -115,44 +155,64 @@ def owner(head):
     return re.match(r"impl(?:<[^{]*?>)? (\w+)(?:<.*>)? \{$", head)[1] if " for " not in head else None
 
 
-def operator_in(block, file):
+def operator_in(block, at, source):
     """Returns what an operator asks and gives, or what is printed, as a call of its type, if the block is of one."""
     head = re.match(r"impl(?:<[^{]*?>)? ((?:fmt::)?\w+(?:<.*>)?) for (\w+)(?:<.*>)? \{$", block.split("\n")[0])
     begun = re.finditer(r"^    ghost (can_\w+|\w+_gives|output|styled_output) = \{", block, re.M) if head else ()
     members = [(it[1], re.sub(r"\s+", " ", block[it.end() : closing(block, it.end() - 1) - 1]).strip()) for it in begun]
-    return [Call(head[2], f"impl {head[1]} for {head[2]}", [f"  {name}: {what}" for name, what in members], file)] if members else []
+    clauses = [f"  {name}: {what}" for name, what in members]
+    return [Call(head[2], f"impl {head[1]} for {head[2]}", clauses, source.path, doc_before(source.text, at))] if members else []
 
 
-def call_at(block, begun, of, file, of_impl=""):
-    """Returns the call whose head begins at a place of a block."""
-    at = closing(block, block.index("(", begun.end()))
-    gives = re.compile(r"\s*->(?:\[[^\]\n]*\]|[^{;\n\[])*").match(block, at)
-    end = gives.end() if gives else at
+def call_at(block, begun, of, at, source, of_impl=""):
+    """Returns the call whose head begins at a place of a block, which begins at a place of its file."""
+    end = closing(block, block.index("(", begun.end()))
+    gives = re.compile(r"\s*->(?:\[[^\]\n]*\]|[^{;\n\[])*").match(block, end)
+    end = gives.end() if gives else end
     written = re.sub(r"\s+", " ", block[begun.start() : end]).strip().removeprefix("pub ")
     written = re.sub(r",? \)", ")", re.sub(r"\( ", "(", written))
-    return Call(of, of_impl + written, clauses_in(block[end:]), file)
+    return Call(of, of_impl + written, clauses_in(block[end:]), source.path, doc_before(source.text, at + begun.start()))
 
 
-def own_promises_in(block, file):
+def own_promises_in(block, at, source):
     """Returns the calls of a trait that promise more for a type than the trait does for all, if the block is of such a type."""
     head = re.match(r"impl(?:<[^{]*?>)? (\w+)(?:<.*>)? for (\w+)(?:<.*>)? \{$", block.split("\n")[0])
     begun = re.finditer(r"^    fn ", block, re.M) if head else ()
-    found = [call_at(block, it, head[2], file, f"impl {head[1]} for {head[2]}: ") for it in begun]
+    found = [call_at(block, it, head[2], at, source, f"impl {head[1]} for {head[2]}: ") for it in begun]
     return [it for it in found if it.clauses]
 
 
-def calls_in(file):
-    """Returns the public calls of a file, in order."""
+def constants_in(block, of, at, source):
+    """Returns the public constants of a block."""
     found = []
-    for block in re.split(rf"^(?=impl\b|pub trait |{FREE}|fn |mod )", file.read_text(), flags=re.M):
+    for begun in re.finditer(r"^ *pub (const (\w+): [^=]+?) = ([^;]+);", block, re.M):
+        value = re.sub(r"\s+", " ", begun[3]).replace(", }", " }")
+        written = begun[1] + (f" = {value}" if len(value) <= SHORT else "")
+        found.append(Call(of, written, [], source.path, doc_before(source.text, at + begun.start())))
+    return found
+
+
+def calls_in(file):
+    """Returns the public calls and constants of a file, in order."""
+    source = Source(file, file.read_text())
+    found, at = [], 0
+    for block in re.split(rf"^(?=impl\b|pub trait |pub const |{FREE}|fn |mod )", source.text, flags=re.M):
         head = block.split("\n")[0]
         of = owner(head) if head.startswith(("impl", "pub trait ")) else None
-        found += [*operator_in(block, file), *own_promises_in(block, file)]
-        if of is None and not re.match(FREE, head):
-            continue
-        for begun in re.finditer(r"^ *(?:pub |final )?fn " if head.startswith("pub trait ") else rf"^ *{FREE}", block, re.M):
-            found.append(call_at(block, begun, of, file))
+        found += [*operator_in(block, at, source), *own_promises_in(block, at, source)]
+        if of is not None or head.startswith("pub const "):
+            found += constants_in(block, of, at, source)
+        if of is not None or re.match(FREE, head):
+            written = r"^ *(?:pub |final )?fn " if head.startswith("pub trait ") else rf"^ *{FREE}"
+            found += [call_at(block, it, of, at, source) for it in re.finditer(written, block, re.M)]
+        at += len(block)
     return found
+
+
+def name_of(call):
+    """Returns the name of a call or of a constant, or none of an operator."""
+    name = re.search(r"(?:fn|const) (\w+)", call.written)
+    return name[1] if name else None
 
 
 def calls_of(crates, names):
@@ -162,7 +222,7 @@ def calls_of(crates, names):
         for call in calls_in(file):
             if call.of in names:
                 by_type[call.of].append(call)
-            elif call.of is None and re.search(r"fn (\w+)", call.written)[1] in names:
+            elif call.of is None and name_of(call) in names:
                 free.append(call)
     return by_type, free
 
@@ -183,7 +243,7 @@ def groups_of(family):
 
 def groups_alone(crate):
     """Returns the same of a crate by itself, whose exports for C are its calls too."""
-    exports = {re.search(r"fn (\w+)", it.written)[1] for it in calls_in(ROOT / "crates" / crate / "src" / "lib.rt")}
+    exports = {name_of(it) for it in calls_in(ROOT / "crates" / crate / "src" / "lib.rt")}
     by_type, free = calls_of([crate], exported(crate) | exports)
     groups = [(f"{crate}::{it}", by_type[it]) for it in sorted(by_type)]
     return [*([(f"{crate}::", free)] if free else []), *groups, *modules_of(crate)]
@@ -205,19 +265,69 @@ def sections():
     return [*named, *alone, ("Below these crates", groups_below())]
 
 
+def entry_of(call):
+    """Returns the page's lines for a call."""
+    return [*([f"/// {call.doc}"] if call.doc else []), call.written, *call.clauses]
+
+
 def blocks_of(head, groups):
     """Returns the page's lines for a section."""
     lines = [f"## {head}", ""]
     for title, calls in groups:
-        lines += [f"### `{title}`", "", "```text"]
-        for call in calls:
-            lines += [call.written, *call.clauses]
-        lines += ["```", ""]
+        lines += [f"### `{title}`", "", "```text", *(line for it in calls for line in entry_of(it)), "```", ""]
     return lines
 
 
+def places_of(found):
+    """Returns where the link to each group leads, by the number of its section and its own, as the headings of the page are counted."""
+    taken, places = collections.Counter({slug(HEAD.split("\n")[0][2:]): 1, slug(INDEX): 1}), {}
+
+    def place(heading):
+        name = slug(heading)
+        taken[name] += 1
+        return name if taken[name] == 1 else f"{name}-{taken[name] - 1}"
+
+    for at, (head, groups) in enumerate(found):
+        place(head)
+        places |= {(at, number): place(f"`{title}`") for number, (title, _) in enumerate(groups)}
+    return places
+
+
+def index_of(found):
+    """Returns the lines of the index: of each section the groups, and then each name with the groups that have it."""
+    lines, places = [f"## {INDEX}", ""], places_of(found)
+    for at, (head, groups) in enumerate(found):
+        links = [f"[`{title}`](#{places[at, number]})" for number, (title, _) in enumerate(groups)]
+        having = collections.defaultdict(list)
+        for number, (title, calls) in enumerate(groups):
+            for name in sorted({name_of(it) for it in calls} - {None}):
+                having[name].append((title, places[at, number]))
+        names = [name_link(name, having[name]) for name in sorted(having)]
+        lines += [f"**{head}**:", *filled(links, ","), "", *filled(names, " ·"), ""]
+    return lines
+
+
+def filled(pieces, between):
+    """Returns pieces in lines of some length, so that a search shows few of them."""
+    lines = [""]
+    for at, piece in enumerate(pieces, 1):
+        lines[-1] += f"{' ' if lines[-1] else ''}{piece}{between if at < len(pieces) else ''}"
+        if len(lines[-1]) > WIDTH:
+            lines.append("")
+    return lines if lines[-1] else lines[:-1]
+
+
+def name_link(name, having):
+    """Returns the links of a name: itself where one group has it, and otherwise those of the groups behind it."""
+    if len(having) == 1:
+        return f"[{name}](#{having[0][1]})"
+    return f"{name} ({', '.join(f'[{title}](#{place})' for title, place in having)})"
+
+
 def page():
-    return HEAD + "\n" + "\n".join(line for it in sections() for line in blocks_of(*it)).rstrip() + "\n"
+    found = sections()
+    lines = [*index_of(found), *(line for it in found for line in blocks_of(*it))]
+    return HEAD + "\n" + "\n".join(lines).rstrip() + "\n"
 
 
 def main(words):

@@ -14,6 +14,7 @@ sys.dont_write_bytecode = True
 
 import build_library
 import build_program
+from page_links import LINK
 from program import ROOT, Program
 
 PACKAGING = ROOT / "packaging"
@@ -22,10 +23,11 @@ CHECK = Program("description_check", "description_check")
 # What of the documents is for those who use the programs or the library.
 DOCUMENTS = ("README.md", "docs/GUIDE.md", "docs/FORMATS.md", "docs/DESCRIPTIONS.md", "docs/LIBRARIES.md", "docs/SCALE.md",
              "docs/CLAIMS.md", "docs/DIFFERENCES.md", "docs/PEERS.md", "docs/SPEED.md")
+# The pictures of these documents.
+PICTURES = ("docs/speed.svg",)
 PAGES = ("instants.1", "instants-lines.1", "instants-descriptions.7")
 # Which of the bindings are handed on as sources.
 SOURCES = ("c", "postgres", "sqlite")
-LINK = re.compile(r"\[([^\]]*)\]\(([^)#\s]*)(#[^)\s]*)?\)")
 
 
 class PackagingFailed(Exception):
@@ -78,7 +80,7 @@ def linked(name):
 
     def kept(link):
         words, to, _ = link.groups()
-        is_there = not to or ":" in to or any((page.parent / to).resolve() == ROOT / it for it in DOCUMENTS)
+        is_there = not to or ":" in to or any((page.parent / to).resolve() == ROOT / it for it in (*DOCUMENTS, *PICTURES))
         return link[0] if is_there else words
 
     fences = re.split(r"(^```.*?^```$)", page.read_text(), flags=re.M | re.S)
@@ -90,6 +92,14 @@ def wheel(folder, library):
     folder.mkdir(parents=True)
     code = f"import wheel_of_package; wheel_of_package.build_wheel({str(folder)!r})"
     run([sys.executable, "-B", "-c", code], cwd=ROOT / "bindings" / "python", env=dict(os.environ, INSTANTS_LIBRARY=str(library)))
+
+
+def lay_out_documents(folder):
+    """Lays out the documents as they are installed."""
+    for name in DOCUMENTS:
+        put(None, folder / name, linked(name))
+    for name in PICTURES:
+        put(ROOT / name, folder / name)
 
 
 def lay_out(top):
@@ -105,8 +115,7 @@ def lay_out(top):
     put(ROOT / "include" / "instants.h", top / "include" / "instants.h")
     for name in (*PAGES, *([f"{CHECK.name}.1"] if CHECK.name in programs() else [])):
         put(ROOT / "docs" / name, top / "man" / name)
-    for name in DOCUMENTS:
-        put(None, top / "doc" / name, linked(name))
+    lay_out_documents(top / "doc")
     for name in run(["git", "ls-files", *(f"bindings/{it}" for it in SOURCES)], cwd=ROOT).decode().split():
         put(ROOT / name, top / name)
     put(ROOT / "LICENSE", top / "LICENSE")

@@ -65,6 +65,8 @@ CHECKS = (
     ("believed_files.py", "--check"),
     ("clause_words.py", "--check"),
     ("header_numbers.py", "--check"),
+    ("pictures.py", "--check"),
+    ("page_links.py", "--check"),
 )
 SECONDS = 60
 # Fences of code that is read and not run.

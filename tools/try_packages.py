@@ -17,7 +17,8 @@ import shutil
 import subprocess
 import tempfile
 
-from make_packages import LINK, programs, put, run
+from make_packages import programs, put, run
+from page_links import lost_in
 from program import ROOT
 
 LIBDIR = "/usr/lib/x86_64-linux-gnu"
@@ -88,16 +89,6 @@ def ran_in(root, command, given=b"", **places):
     return subprocess.run(["chroot", root, *command], input=given, capture_output=True, check=False, env={**os.environ, **places})
 
 
-def missing_pages(folder):
-    """Returns the links of documents that lead to no page."""
-    wrong = []
-    for page in sorted(folder.rglob("*.md")):
-        outside = re.sub(r"^```.*?^```$", "", page.read_text(), flags=re.M | re.S)
-        links = [it[1] for it in LINK.findall(outside) if it[1] and ":" not in it[1]]
-        wrong += [f"{page.relative_to(folder)}: {it}" for it in links if not (page.parent / it).exists()]
-    return wrong
-
-
 def try_in_c(what, root, libdir):
     """Tries a program in C, compiled with what was installed, with the shared library and the static one."""
     places = dict(os.environ, PKG_CONFIG_SYSROOT_DIR=str(root), PKG_CONFIG_LIBDIR=f"{root}{libdir}/pkgconfig")
@@ -124,8 +115,9 @@ def try_installed(what, root, prefix, libdir):
         tell(f"{what}: {name} has a manual page and completions", page and known in completed.split(), f"{page} {completed}")
     ran = ran_in(root, ["/usr/bin/python3.11", "-B", "-c", IN_PYTHON])
     tell(f"{what}: Python answers", ran.returncode == 0 and ran.stdout == ANSWER, f"{ran}")
-    missing = missing_pages(pages / "doc" / "instants")
-    tell(f"{what}: the links of {len(list((pages / 'doc').rglob('*.md')))} documents", not missing, "; ".join(missing))
+    documents = sorted((pages / "doc" / "instants").rglob("*.md"))
+    lost = lost_in(pages / "doc" / "instants", documents)
+    tell(f"{what}: the links of {len(documents)} documents", not lost, "; ".join(lost))
     try_in_c(what, root, libdir)
 
 

@@ -1,0 +1,230 @@
+#!/usr/bin/env python3
+"""Makes the pictures of the documents from what stands in the repository.
+
+    tools/pictures.py            makes those that are not current, and writes the text beside them
+    tools/pictures.py --check    says whether each is current, with status 1 where one is not; it takes a second
+
+- docs/crates.svg, by graphviz: the crates of crates.txt, one row for each family, with arrows to the crates on which each stands.
+  An arrow is left out where other arrows lead there too. Dashed arrows lead to other families. Crates of tests are left out. The
+  crates whose files docs/ARCHITECTURE.md names in its section on the way of a line are bold, and so are the arrows between
+  them. The same arrows stand as text in docs/ARCHITECTURE.md.
+- docs/speed.svg, by gnuplot: the speeds in the two tables of docs/SPEED.md which bench/compare_programs.py prints.
+
+Each picture begins with a checksum of what graphviz or gnuplot was given, so that `--check` needs neither of them. The packages
+of Debian: graphviz, gnuplot-nox.
+"""
+
+import hashlib
+import pathlib
+import re
+import subprocess
+import sys
+
+sys.dont_write_bytecode = True
+
+from program import ROOT, uses
+
+DOCS = ROOT / "docs"
+ARCHITECTURE, SPEED = DOCS / "ARCHITECTURE.md", DOCS / "SPEED.md"
+ROWS = ("programs", "instants", "parsing", "description", "datetime", "calendar", "base")
+PROGRAM = re.compile(r"_program$|_check$|^examples_|^rows$|^instants_c$")
+BEGIN, END = "<!-- tools/pictures.py begins -->", "<!-- tools/pictures.py ends -->"
+FONT = 'fontname="DejaVu Sans,sans-serif" fontsize=13'
+BOX = f'node [shape=box {FONT} height=0.32 margin="0.09,0.04"]'
+# Where the first box of a row lies, in points, and how far two rows are apart.
+LEFT, GAP = 105, 46
+# The marks of the programs in the picture of speeds, in the order of the tables; the first program is the measure.
+MARKS = (None, 12, 8, 4, 2, 7, 1, 3)
+
+
+class PictureFailed(Exception):
+    """A picture can't be made; the text says why."""
+
+
+def run(command, given):
+    """Returns what a command prints."""
+    try:
+        ran = subprocess.run(command, input=given, capture_output=True, text=True, check=False)
+    except FileNotFoundError:
+        raise PictureFailed(f"{command[0]} is not installed") from None
+    if ran.returncode:
+        raise PictureFailed(f"{command[0]}: {ran.stderr}")
+    return ran.stdout
+
+
+def row_of(crate):
+    return "programs" if PROGRAM.search(crate) else crate.split("_")[0]
+
+
+def label_of(crate):
+    return crate.removeprefix(row_of(crate) + "_")
+
+
+class Crates:
+    """The crates but those of tests: on which each stands, and on which a line passes."""
+
+    def __init__(self):
+        used = uses()
+        self.names = [it for it in used if not it.endswith("_tests")]
+        self.used = {it: [below for below in used[it] if below in used] for it in self.names}
+        self.below = {}
+        for it in self.names:
+            self.below[it] = set(self.used[it]).union(*(self.below_of(lower) for lower in self.used[it]))
+        way = re.search(r"^## The way of a line\n(.*?)^## ", ARCHITECTURE.read_text(), re.M | re.S)[1]
+        self.way = [it for it in self.names if re.search(rf"`{it}/src/", way)]
+
+    def below_of(self, crate):
+        """Returns all crates below one; crates.txt lists each after those that it uses, or else they are found here."""
+        if crate not in self.below:
+            self.below[crate] = set(self.used[crate]).union(*(self.below_of(it) for it in self.used[crate]))
+        return self.below[crate]
+
+    def direct(self, crate, among):
+        """Returns on which of some crates a crate stands, but those to which it stands by way of another of them."""
+        stands = [it for it in self.used[crate] if it in among]
+        return [it for it in stands if not any(it in self.below[other] for other in stands)]
+
+    def arrows(self):
+        """Returns the arrows, each with whether a line passes along it."""
+        plain = {(it, below) for it in self.names for below in self.direct(it, self.names)}
+        bold = {(it, below) for it in self.way for below in self.direct(it, self.way)}
+        order = {it: at for at, it in enumerate(self.names)}
+        return [(*it, it in bold) for it in sorted(plain | bold, key=lambda it: (order[it[0]], order[it[1]]))]
+
+    def place_row(self, row):
+        """Returns where dot puts the boxes of a row, in points, and how high and wide they are, in inches."""
+        mine = [it for it in self.names if row_of(it) == row]
+        lines = [f"digraph {{ rankdir={'TB' if row == 'programs' else 'LR'}; nodesep=0.16; ranksep=0.45; {BOX};"]
+        lines += [f'{it} [label="{label_of(it)}"];' for it in mine]
+        lines += [f"{below} -> {it};" for it in mine for below in self.direct(it, self.names) if below in mine]
+        words = [line.split() for line in run(["dot", "-Tplain"], "\n".join([*lines, "}"])).splitlines()]
+        places = {it[1]: (float(it[2]) * 72, float(it[3]) * 72, float(it[4]), float(it[5])) for it in words if it[0] == "node"}
+        return places, float(words[0][3]) * 72
+
+    def given(self):
+        """Returns what the picture is made of, whatever graphviz makes of it: crates, arrows, the way of a line."""
+        return "\n".join([*self.names, *(" ".join(map(str, it)) for it in self.arrows()), *self.way, BOX])
+
+
+def programs_in_order(crates, places):
+    """Returns the places of the programs, so that those come first which stand on crates at the left."""
+    mine = [it for it in crates.names if row_of(it) == "programs"]
+    over = {it: [places[below][0] for below in crates.direct(it, crates.names)] for it in mine}
+    x, moved = LEFT, {}
+    for it in sorted(mine, key=lambda it: sum(over[it]) / len(over[it])):
+        width = places[it][2] * 72
+        moved[it] = (x + width / 2, *places[it][1:])
+        x += width + 14
+    return moved
+
+
+def picture_of_crates(crates):
+    """Returns the picture of the crates."""
+    places, height, labels = {}, 0, []
+    for row in ROWS:
+        placed, high = crates.place_row(row)
+        height -= high
+        places |= {it: (LEFT + x, height + y, *size) for it, (x, y, *size) in placed.items()}
+        labels.append(f'row_{row} [shape=plaintext label=<<b>{row}</b>> pos="45,{height + high / 2:.0f}!"];')
+        height -= GAP
+    places |= programs_in_order(crates, places)
+    lines = [f'digraph crates {{ splines=true; esep="+1"; sep="+2"; bgcolor=white; outputorder=edgesfirst; {BOX}; edge [arrowsize=0.7];']
+    lines += labels
+    for it, (x, y, wide, high) in places.items():
+        bold = "penwidth=3" if it in crates.way else ""
+        lines.append(f'{it} [label="{label_of(it)}" style=filled fillcolor=white pos="{x:.0f},{y:.0f}!" width={wide:.2f} height={high:.2f} {bold}];')
+    for it, below, is_bold in crates.arrows():
+        style = "penwidth=3" if is_bold else "style=dashed" if row_of(it) != row_of(below) else ""
+        lines.append(f"{it} -> {below} [{style}];")
+    return run(["neato", "-n2", "-Tsvg"], "\n".join([*lines, "}"]))
+
+
+def text_of_crates(crates):
+    """Returns the arrows of the picture as text, a line for each crate; `*` is before those that a line passes."""
+    wide = max(map(len, crates.names)) + 2
+    lines = []
+    for row in reversed(ROWS):
+        for it in (it for it in crates.names if row_of(it) == row):
+            below = [other for name, other, _ in crates.arrows() if name == it]
+            lines.append(f"{'*' if it in crates.way else ' '} {it:{wide}}{' '.join(below)}".rstrip())
+    return "\n".join([BEGIN, "", "```text", *lines, "```", "", END])
+
+
+def speeds():
+    """Returns the names of the programs, and for each file its name and the speeds of the programs on it, as SPEED.md has them."""
+    tables = re.findall(r"^\| program \|.*\n\|[-|]+\n(?:\|.*\n)+", SPEED.read_text(), re.M)
+    names, files = [], []
+    for table in tables:
+        head, _, *rows = [[cell.strip() for cell in row.strip("|\n").split("|")] for row in table.strip().split("\n")]
+        names = names or [re.sub(r"^the crate |`|, `.*", "", row[0]) for row in rows]
+        for at in range(2, len(head), 2):
+            files.append((head[at - 1].split(",")[0].strip("`"), [row[at] for row in rows] + ["–"] * (len(names) - len(rows))))
+    if len(names) != len(MARKS):
+        raise PictureFailed(f"SPEED.md has {len(names)} programs in its table in place of {len(MARKS)}")
+    return names, files
+
+
+def script_of_speeds():
+    """Returns what gnuplot is given: a row for each file, a mark for each program, on a logarithmic axis."""
+    names, files = speeds()
+    mine = names.index("instants")
+    lines = ['set terminal svg size 960,440 font "DejaVu Sans,sans-serif,13" background "#ffffff"', "set logscale x 10",
+             "set xrange [0.1:40]", f"set yrange [{len(files) + 0.5}:0.5]", "set grid xtics ytics lt 1 lc rgb '#bbbbbb' lw 0.5",
+             'set xtics ("0.1" 0.1, "0.2" 0.2, "0.5" 0.5, "1" 1, "2" 2, "5" 5, "10" 10, "20" 20, "40" 40)',
+             f'set xlabel "speed, where that of {names[0]} is 1 (more is faster)\\nthe number after the name of a file is the speed of instants"',
+             "set key outside right center vertical Left reverse samplen 1 spacing 1.3",
+             "set arrow 1 from 1,graph 0 to 1,graph 1 nohead lw 2 lc rgb '#000000'", "set tics nomirror"]
+    marks = ", ".join(f'"{name}: {values[mine]}" {at}'.replace("%", "%%") for at, (name, values) in enumerate(files, 1))
+    lines.append(f"set ytics ({marks})")
+    plots = []
+    # (the marks of others are drawn over the grey ones of `instants`)
+    for at in sorted(range(1, len(names)), key=lambda it: it != mine):
+        lines += [f"$p{at} << EOD", *(f"{values[at]} {row}" for row, (_, values) in enumerate(files, 1) if values[at] != "–"), "EOD"]
+        style = 'ps 1.5 lc rgb "#888888"' if at == mine else 'ps 0.9 lw 1.5 lc rgb "#000000"'
+        plots.append(f'$p{at} using 1:2 with points pt {MARKS[at]} {style} title "{names[at]}"')
+    return "\n".join([*lines, f"plot {', '.join(plots)}", ""])
+
+
+def marked(made, given):
+    """Returns a picture without what depends on the release that made it, behind a line with the checksum of what was given."""
+    made = re.sub(r"<!--.*?-->\s*|<desc>.*?</desc>\s*|<title>Gnuplot</title>\s*", "", made, flags=re.S)
+    head, rest = made.split("<svg", 1)
+    return f"{head.strip()}\n<!-- made by tools/pictures.py of {hashlib.sha256(given.encode()).hexdigest()[:16]} -->\n<svg{rest}"
+
+
+def is_of(picture, given):
+    """Returns whether a picture is there and was made of what is given."""
+    return picture.exists() and f"tools/pictures.py of {hashlib.sha256(given.encode()).hexdigest()[:16]} -->" in picture.read_text()
+
+
+def page_with(text):
+    """Returns the page of the architecture with the text of the arrows in its place."""
+    page = ARCHITECTURE.read_text()
+    before, _, rest = page.partition(BEGIN)
+    return before + text + rest.partition(END)[2]
+
+
+def main(words):
+    if words not in ([], ["--check"]):
+        sys.exit(__doc__)
+    crates, script = Crates(), script_of_speeds()
+    pictures = {DOCS / "crates.svg": (crates.given(), lambda: picture_of_crates(crates)),
+                DOCS / "speed.svg": (script, lambda: run(["gnuplot"], script))}
+    old = [it for it, (given, _) in pictures.items() if not is_of(it, given)]
+    page = page_with(text_of_crates(crates))
+    if words == ["--check"]:
+        wrong = [str(it.relative_to(ROOT)) for it in (*old, *([ARCHITECTURE] if ARCHITECTURE.read_text() != page else []))]
+        print(f"the pictures are {'not ' if wrong else ''}as the repository has it{': ' if wrong else ''}{', '.join(wrong)}")
+        return int(bool(wrong))
+    try:
+        for it in old:
+            given, make = pictures[it]
+            it.write_text(marked(make(), given))
+    except PictureFailed as fault:
+        sys.exit(f"pictures: {fault}")
+    ARCHITECTURE.write_text(page)
+    return 0
+
+
+if __name__ == "__main__":
+    sys.exit(main(sys.argv[1:]))
