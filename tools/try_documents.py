@@ -18,7 +18,7 @@ out. A section with such a fence has a copy of the crates' sources and of crates
 `rt`, which is the only thing for which this tool needs Rattle's kit.
 
 A table of Markdown whose head has the columns `line` and `answer` is of examples too: a row's line is piped into the program
-with the row's `words`, or with `+00:00 +00:00 100` and the row's `example`, and what it prints is the row's answer. Where the
+with the row's `arguments`, or with `+00:00 +00:00 100` and the row's `example`, and what it prints is the row's answer. Where the
 head has `key` for `answer`, the program is `instants-lines` in that mode, and the line stands behind its key. Rows without a
 line are passed over.
 
@@ -174,7 +174,7 @@ def examples_of_tables(lines):
         elif "line" in head and {"answer", "key"} & {*head}:
             cells = dict(zip(head, cells_of(row)))
             if cells["line"].strip() and not re.fullmatch(r"-+", cells["line"]):
-                words = cells.get("words") or f"+00:00 +00:00 100 {cells['example']}"
+                words = cells.get("arguments") or f"+00:00 +00:00 100 {cells['example']}"
                 program, answer = ("instants-lines key", f"{cells['key']}\t{cells['line']}") if "key" in head else ("instants", cells["answer"])
                 found.append(Example(at, [f"printf '%b\\n' {shlex.quote(cells['line'])} | {program} {words}"], [answer], section))
     return found
