@@ -10,13 +10,19 @@ command with nothing behind it prints nothing. Standard output and standard erro
 
 Each section, from a heading to the next one of whatever level, has a folder of its own, in which its examples run in
 order, each in a shell `sh` of its own: files pass from one example to the next, and nothing else. At first the folder
-has links and no more: `instants` and `instants-lines`, to the built programs, and `crates`, `bindings` and `include`, to those
-of the repository. Commands are looked for in it before all others.
+has links and no more: `instants` and `instants-lines`, to the built programs, and `crates`, `bindings`, `include` and `tools`, to
+those of the repository. Commands are looked for in it before all others.
+
+A fence that begins with ```rust or ```antt and a path below `crates/` is written to that file, and has to be as `rt fmt` lays it
+out. A section with such a fence has a copy of the crates' sources and of crates.txt in place of the link. Its commands may call
+`rt`, which is the only thing for which this tool needs Rattle's kit.
 
 A table of Markdown whose head has the columns `line` and `answer` is of examples too: a row's line is piped into the program
-with the row's `words`, or with `+00:00 +00:00 100` and the row's `example`, and what it prints is the row's answer. Where the
+with the row's `arguments`, or with `+00:00 +00:00 100` and the row's `example`, and what it prints is the row's answer. Where the
 head has `key` for `answer`, the program is `instants-lines` in that mode, and the line stands behind its key. Rows without a
 line are passed over.
+
+A fence that begins with ```sh with NAME is run where that program is installed, and passed over elsewhere, with what it prints.
 
 A fence that begins with ```sh builds is not run: its commands build, which takes long. A document without an example is an
 error, so that none is left out by a slip, and so is a fence of another kind but those of code that the list below names.
@@ -37,6 +43,7 @@ import os
 import pathlib
 import re
 import shlex
+import shutil
 import subprocess
 import sys
 import tempfile
@@ -44,6 +51,7 @@ import tempfile
 ROOT = pathlib.Path(__file__).resolve().parent.parent
 DOCUMENTS = (
     "README.md",
+    "CONTRIBUTING.md",
     "docs/GUIDE.md",
     "docs/LIBRARIES.md",
     "docs/DESCRIPTIONS.md",
@@ -68,9 +76,15 @@ CHECKS = (
     ("pictures.py", "--check"),
     ("page_links.py", "--check"),
 )
-SECONDS = 60
+SECONDS = 300
 # Fences of code that is read and not run.
-NOT_RUN = ("sh builds", "rust", "sql", "python")
+NOT_RUN = ("sh builds", "rust", "sql", "python", "edit")
+# A fence that needs a program.
+WITH = re.compile(r"sh with (\S+)")
+# A fence that is a file of a crate.
+FILE = re.compile(r"(?:rust|antt) (crates/(\w+)/\S+)")
+# What a section's folder has of the repository.
+LINKED = ("crates", "bindings", "include", "tools")
 
 # What stands in the source of a manual page for a byte.
 ESCAPES = {r"\e": "\\", r"\-": "-", r"\&": "", r"\(aq": "'", r"\(dq": '"', r"\(ha": "^", r"\(ti": "~"}
@@ -94,6 +108,23 @@ def pieces_of(lines, opens, closes, heads):
     return found
 
 
+def written(file, lines):
+    """Returns the commands that write a file of a crate, and lay it out."""
+    path, crate = file.groups()
+    put = [f"mkdir -p {pathlib.Path(path).parent}", f"cat > {path} <<'END_OF_FILE'", *lines, "END_OF_FILE"]
+    return [*put, f"cp {path} as_written && (cd crates/{crate} && rt fmt) && cmp as_written {path}"]
+
+
+def passed_over(pieces):
+    """Yields the pieces without those that need a program which is not installed, each with the printed text behind it."""
+    is_passed = False
+    for piece in pieces:
+        needed = WITH.fullmatch(piece.kind)
+        is_passed = shutil.which(needed[1]) is None if needed else is_passed and piece.kind == "text"
+        if not is_passed:
+            yield piece._replace(kind="sh") if needed else piece
+
+
 def pieces_in(name, lines):
     """Returns the commands and the printed texts of a document, in order, and what is wrong with its other pieces."""
     if name.endswith(".md"):
@@ -104,6 +135,8 @@ def pieces_in(name, lines):
         lines = [escaped.sub(lambda it: ESCAPES[it[0]], line) for line in lines]
         pieces = pieces_of(lines, re.compile(r"\.Bd(.*)"), re.compile(r"\.Ed$"), re.compile(r"\.S[hs] "))
         commands, printed, passed = "-literal -offset indent", "-literal -offset indent-two", ()
+    pieces = [Piece(commands, it.line, written(FILE.fullmatch(it.kind), it.lines), it.section) if FILE.fullmatch(it.kind) else it for it in pieces]
+    pieces = [*passed_over(pieces)]
     wrong = [f"{name}:{it.line}: a piece of a kind that is not known: {it.kind}" for it in pieces if it.kind not in (commands, printed, *passed)]
     wrong += [f"{name}:{it.line}: a prompt, which can't be copied" for it in pieces if it.kind == commands and any(row.startswith("$ ") for row in it.lines)]
     return [(it, it.kind == commands) for it in pieces if it.kind in (commands, printed)], wrong
@@ -141,7 +174,7 @@ def examples_of_tables(lines):
         elif "line" in head and {"answer", "key"} & {*head}:
             cells = dict(zip(head, cells_of(row)))
             if cells["line"].strip() and not re.fullmatch(r"-+", cells["line"]):
-                words = cells.get("words") or f"+00:00 +00:00 100 {cells['example']}"
+                words = cells.get("arguments") or f"+00:00 +00:00 100 {cells['example']}"
                 program, answer = ("instants-lines key", f"{cells['key']}\t{cells['line']}") if "key" in head else ("instants", cells["answer"])
                 found.append(Example(at, [f"printf '%b\\n' {shlex.quote(cells['line'])} | {program} {words}"], [answer], section))
     return found
@@ -157,14 +190,25 @@ def printed_by(command, folder):
         return f"(it still ran after {SECONDS} s)\n".encode()
 
 
+def copy_crates(folder):
+    """Copies the sources of the crates, and crates.txt, into a folder."""
+    listed = subprocess.run(["git", "ls-files", "crates", "crates.txt"], cwd=ROOT, capture_output=True, text=True, check=True).stdout
+    for name in listed.splitlines():
+        (folder / name).parent.mkdir(parents=True, exist_ok=True)
+        shutil.copyfile(ROOT / name, folder / name)
+
+
 def try_section(name, examples):
     """Runs the examples of a section, and returns what is said of each that differs."""
     differ = []
     with tempfile.TemporaryDirectory(prefix="documents-") as folder:
         os.symlink(PROGRAM, pathlib.Path(folder, "instants"))
         os.symlink(LINES_PROGRAM, pathlib.Path(folder, "instants-lines"))
-        for it in ("crates", "bindings", "include"):
+        has_files = any("<<'END_OF_FILE'" in line for it in examples for line in it.command)
+        for it in LINKED[has_files:]:
             os.symlink(ROOT / it, pathlib.Path(folder, it))
+        if has_files:
+            copy_crates(pathlib.Path(folder))
         for it in examples:
             printed = printed_by("\n".join(it.command), folder)
             due = "".join(line + "\n" for line in it.due).encode()
