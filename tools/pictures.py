@@ -68,13 +68,11 @@ class Crates:
         self.names = [it for it in used if not it.endswith("_tests")]
         self.used = {it: [below for below in used[it] if below in used] for it in self.names}
         self.below = {}
-        for it in self.names:
-            self.below[it] = set(self.used[it]).union(*(self.below_of(lower) for lower in self.used[it]))
         way = re.search(r"^## The way of a line\n(.*?)^## ", ARCHITECTURE.read_text(), re.M | re.S)[1]
         self.way = [it for it in self.names if re.search(rf"`{it}/src/", way)]
 
     def below_of(self, crate):
-        """Returns all crates below one; crates.txt lists each after those that it uses, or else they are found here."""
+        """Returns all crates below one."""
         if crate not in self.below:
             self.below[crate] = set(self.used[crate]).union(*(self.below_of(it) for it in self.used[crate]))
         return self.below[crate]
@@ -82,7 +80,7 @@ class Crates:
     def direct(self, crate, among):
         """Returns on which of some crates a crate stands, but those to which it stands by way of another of them."""
         stands = [it for it in self.used[crate] if it in among]
-        return [it for it in stands if not any(it in self.below[other] for other in stands)]
+        return [it for it in stands if not any(it in self.below_of(other) for other in stands)]
 
     def arrows(self):
         """Returns the arrows, each with whether a line passes along it."""
