@@ -1,5 +1,5 @@
-# Completion of the words of instants(1), TARGET ASSUMED LIMIT SOURCE..., of instants-lines(1), which has a mode before them,
-# and of description_check(1).
+# Completion of the words of instants(1), TARGET ASSUMED LIMIT SOURCE..., of instants-lines(1), which has a mode before them and
+# of which TARGET, ASSUMED and LIMIT may be left out, and of description_check(1).
 
 _instants()
 {
@@ -13,6 +13,14 @@ _instants()
         instants-lines) place=$((place - 1)) ;;
         description_check) place=$((place == 1 ? -1 : -2)) ;;
     esac
+    local sources='rfc3339 rfc2822 iso8601 v1 v2 v3 strftime' open=
+    if [[ ${COMP_WORDS[0]##*/} == instants-lines ]]; then
+        # (behind a source all words are sources)
+        case $before in
+            rfc3339 | rfc2822 | iso8601 | v1 | v2 | v3 | strftime) place=9 ;;
+            *) open=" $sources" ;;
+        esac
+    fi
     case $place in
         -2) ;;
         -1) words='v1 v2 v3 strftime' ;;
@@ -25,10 +33,11 @@ _instants()
             case $before in
                 # a description stands here
                 v1 | v2 | v3 | strftime) ;;
-                *) words='rfc3339 rfc2822 iso8601 v1 v2 v3 strftime' ;;
+                *) words=$sources ;;
             esac
             ;;
     esac
+    case $place in 1 | 2 | 3) words+=$open ;; esac
     mapfile -t COMPREPLY < <(compgen -W "$words" -- "$word")
     if declare -F __ltrim_colon_completions > /dev/null; then
         __ltrim_colon_completions "$word"

@@ -43,8 +43,8 @@ def run(command, **how):
 
 
 def version():
-    """Returns the version, which the program's caller and the header have to agree upon."""
-    said = re.search(r'"instants (\d+)\.(\d+)\.(\d+)"', (ROOT / "instants").read_text())
+    """Returns the version, which the program and the header have to agree upon."""
+    said = re.search(r'"instants (\d+)\.(\d+)\.(\d+)"', (ROOT / "crates" / "instants_program" / "src" / "help.rt").read_text())
     number = sum(int(it) * scale for it, scale in zip(said.groups(), (10_000, 100, 1)))
     if f"#define INSTANTS_VERSION {number}\n" not in (ROOT / "include" / "instants.h").read_text():
         raise PackagingFailed(f"the header is not of version {number}")

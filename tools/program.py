@@ -61,3 +61,14 @@ class Program:
         for folder in (ROOT / "crates" / crate / part for crate in self.crates() for part in PARTS):
             files += [os.path.join(at, it) for at, _, names in os.walk(folder) for it in names]
         return all(os.stat(it).st_mtime_ns <= made for it in files)
+
+    def keep_folders(self):
+        """Writes beside the program, which is current, the folders of the code that it is made of, for the next call."""
+        folders = " ".join(f"crates/{it}/src" for it in self.crates())
+        arriving = self.file.with_name(f"{self.file.name}.arriving-{os.getpid()}")
+        try:
+            arriving.write_text(f"{folders}\n")
+            os.replace(arriving, self.file.with_name(f"{self.file.name}.folders"))
+        except OSError:
+            # (the next call looks again)
+            arriving.unlink(missing_ok=True)

@@ -7,3 +7,6 @@ pub mod Joined
 pub mod Explaining
 pub mod Keyed
 mod Saying
+mod Told
+mod Stays
+mod Reading

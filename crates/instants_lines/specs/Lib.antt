@@ -4,6 +4,8 @@ pub mod Explained
 pub mod Going
 pub mod Showing
 pub mod Writing
+pub mod Wrong
+pub mod Filled
 pub mod Words
 pub mod ProgramText
 pub mod Program

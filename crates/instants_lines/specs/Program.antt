@@ -1,5 +1,5 @@
 -- What the program does between its words and its end.
-use Rattle.std.specs.Prelude.{◌≡◌, ℕ, List, Option, None, Some, Result, Ok, Err, ⊤}
+use Rattle.std.specs.Prelude.{◌≡◌, ℕ, List, Option, None, Some, Result, Ok, Err, IsOk, ⊤}
 use Rattle.instants_stream.specs.declared.run.RunFault.{RunFault}
 use Rattle.instants_words.specs.declared.fault.WordsFault.TheVariants as words
 use Rattle.instants_words.specs.declared.words.Words.{Words}
@@ -9,6 +9,7 @@ use Rattle.instants_timeline.specs.Program as instants
 use Rattle.instants_timeline.specs.declared.program_fault.ProgramFault.TheVariants as program
 use Rattle.instants_lines.specs.Going.{Going, beginning}
 use Rattle.instants_lines.specs.Words.{mode_words_said}
+use Rattle.instants_lines.specs.Wrong.{Wrong, wrong_of}
 use Rattle.instants_lines.specs.declared.mode.Mode.{Mode}
 use Rattle.instants_lines.specs.declared.lines_fault.LinesFault.{LinesFault}
 use Rattle.instants_lines.specs.declared.lines_fault.LinesFault.TheVariants as lines
@@ -26,22 +27,34 @@ pub record AsksFor (words : List (List ℕ)) (going : Going) (limit : ℕ) : Typ
 -- how the run ended, where one was begun
 abbrev pub run_of : Result (Unit {0}) LinesFault → Option (Result (Unit {0}) RunFault)
 run_of (Ok done) = Some (Ok done)
-run_of (Err lines.UnknownMode) = None
+run_of (Err (lines.Words wrong)) = None
 run_of (Err (lines.Program fault)) = instants.run_of (Err fault)
 
 -- a fault that comes before anything is read or written
 abbrev pub IsBeforeRun : LinesFault → Type 0
-IsBeforeRun lines.UnknownMode = ⊤
+IsBeforeRun (lines.Words wrong) = ⊤
 IsBeforeRun (lines.Program fault) = instants.IsBeforeRun fault
+
+-- what is wrong with the words, where that ended the program
+abbrev pub wrong_in : Result (Unit {0}) LinesFault → Option Wrong
+wrong_in (Ok done) = None
+wrong_in (Err (lines.Words wrong)) = Some (wrong_of wrong)
+wrong_in (Err (lines.Program fault)) = None
 
 -- the words are wrong
 abbrev pub IsOfWords : LinesFault → Type 0
-IsOfWords lines.UnknownMode = ⊤
+IsOfWords (lines.Words wrong) = ⊤
 IsOfWords (lines.Program (program.Words words.Memory)) = ⊥
 IsOfWords (lines.Program (program.Words _)) = ⊤
 IsOfWords (lines.Program _) = ⊥
 
 -- memory ran out
 abbrev pub IsMemory : LinesFault → Type 0
-IsMemory lines.UnknownMode = ⊥
+IsMemory (lines.Words wrong) = ⊥
 IsMemory (lines.Program fault) = instants.IsMemory fault
+
+-- the words are refused so: they are wrong, or there is no memory for a list of words that are accepted
+abbrev pub IsToldAs : List (List ℕ) → LinesFault → Type 0
+IsToldAs words (lines.Words wrong) = mode_words_said words ≡ Err (wrong_of wrong)
+IsToldAs words (lines.Program program.Memory) = IsOk (mode_words_said words)
+IsToldAs words (lines.Program _) = ⊥

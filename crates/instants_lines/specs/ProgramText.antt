@@ -1,16 +1,53 @@
 -- What the program says on standard error, and the status that it ends with: of a fault that `instants` has too, what that says.
-use Rattle.std.specs.Prelude.{ℕ, List, ◌++◌, codes}
+use Rattle.std.specs.Prelude.{ℕ, Bool, false, ◌||◌, ◌==◌, if◌then◌else◌, List, [], ◌∷◌, ◌++◌, codes}
+use Rattle.std.specs.Fmt.{decimal}
+use Rattle.std.specs.List.{list_any}
+use Rattle.base.specs.Bytes.{dot}
 use Rattle.instants_timeline.specs.ProgramText.{text_of}
 use Rattle.instants_timeline.specs.ProgramText as instants
+use Rattle.instants_lines.specs.Wrong.{Wrong, wrong_of, NoMode, UnknownMode, NoSource, Target, Assumed, Limit, Source, FirstSource, NoDescription}
 use Rattle.instants_lines.specs.declared.lines_fault.LinesFault.{LinesFault}
 use Rattle.instants_lines.specs.declared.lines_fault.LinesFault.TheVariants as lines
 
+-- a word begins with a slash
+abbrev pub has_slash_in_front : List ℕ → Bool
+has_slash_in_front [] = false
+has_slash_in_front (first ∷ rest) = first == 47
+
+-- a word looks like the name of a file: it has a dot, or a slash in front
+unfoldable pub is_file_name : List ℕ → Bool
+is_file_name word = list_any (λ b. b == dot) word || has_slash_in_front word
+
+-- what is said of a word that is no source
+abbrev pub no_such_source : List ℕ → List ℕ
+no_such_source word =
+    if is_file_name word then codes "no such source; files are read from standard input: instants-lines .. < FILE"
+    else codes "no such source; there are rfc3339, rfc2822, iso8601, v1, v2, v3, strftime"
+
+-- the same, where the word may be an offset that is misspelt
+abbrev pub no_such_first_source : List ℕ → List ℕ
+no_such_first_source word =
+    if is_file_name word then codes "no such source; files are read from standard input: instants-lines .. < FILE"
+    else codes "no such source; there are rfc3339, rfc2822, iso8601, v1, v2, v3, strftime; an offset before the sources is +HH:MM, -HH:MM, Z or UTC"
+
+-- the sentence for what is wrong with words, behind the name of the program
+abbrev pub wrong_text : Wrong → List ℕ
+wrong_text NoMode = codes "usage: instants-lines MODE [TARGET [ASSUMED [LIMIT]]] SOURCE..."
+wrong_text (UnknownMode word) = codes "\"" ++ (word ++ codes "\": no such mode; there are key, carry, replace, explain")
+wrong_text NoSource = codes "no source is named; there are rfc3339, rfc2822, iso8601, v1, v2, v3, strftime"
+wrong_text (Target word) = codes "\"" ++ (word ++ codes "\": no target offset; it must be +HH:MM, -HH:MM, Z or UTC")
+wrong_text (Assumed word) = codes "\"" ++ (word ++ codes "\": no assumed offset; it must be +HH:MM, -HH:MM, Z, UTC or -")
+wrong_text (Limit word) = codes "\"" ++ (word ++ codes "\": no limit; it must be a number from 1 to 1048576")
+wrong_text (Source place word) = codes "source " ++ (decimal place ++ (codes ": \"" ++ (word ++ (codes "\": " ++ no_such_source word))))
+wrong_text (FirstSource word) = codes "source 1: \"" ++ (word ++ (codes "\": " ++ no_such_first_source word))
+wrong_text (NoDescription place language) = codes "source " ++ (decimal place ++ (codes ": \"" ++ (language ++ codes "\" needs a description in the next argument")))
+
 -- the sentence for a fault, without a line feed
 abbrev pub sentence : LinesFault → List ℕ
-sentence lines.UnknownMode = codes "instants-lines: the mode must be key, carry, replace or explain"
-sentence (lines.Program fault) = codes "instants-lines" ++ text_of (codes "instants-lines MODE TARGET ASSUMED LIMIT SOURCE...") fault
+sentence (lines.Words wrong) = codes "instants-lines: " ++ wrong_text (wrong_of wrong)
+sentence (lines.Program fault) = codes "instants-lines" ++ text_of (codes "instants-lines MODE [TARGET [ASSUMED [LIMIT]]] SOURCE...") fault
 
 -- 2 where the words or a description among them are wrong, 1 where memory, reading or writing failed
 abbrev pub status_of : LinesFault → ℕ
-status_of lines.UnknownMode = 2
+status_of (lines.Words wrong) = 2
 status_of (lines.Program fault) = instants.status_of fault

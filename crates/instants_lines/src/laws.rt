@@ -13,8 +13,11 @@ ghost use Rattle.instants_stream.specs.Lines.{lines};
 ghost use Rattle.instants_stream.specs.Steps.{output};
 ghost use Rattle.instants_timeline.specs.Place.{Setting, first_named, place_of, answer_to};
 ghost use Rattle.instants_timeline.specs.Refusal.{Refusal};
+ghost use Rattle.instants_words.specs.Words.{words_said};
+ghost use Rattle.instants_words.specs.declared.words.Words.{Words};
 ghost use Rattle.instants_lines.specs.Dates.{date_in, place_of_date, key_of_date, replaced};
 ghost use Rattle.instants_lines.specs.Explained.{IsFirstToName, explained};
+ghost use Rattle.instants_lines.specs.Filled.{filled};
 ghost use Rattle.instants_lines.specs.Going.{Going, key_of_line, beginning, lines_steps};
 ghost use Rattle.instants_lines.specs.declared.mode.Mode.{Mode};
 ghost use Rattle.instants_lines.specs.declared.mode.Mode.TheVariants.{Carry};
@@ -109,4 +112,10 @@ pub fn replaced_twice()
         → again.start ≡ date.start → again.end ≡ date.start + length (moment_text moment)
         → instant again.moment ≡ instant date.moment
         → replaced setting (replaced setting line) ≡ replaced setting line }
+{}
+
+/// Words that `instants` accepts stay as they are: behind a mode they say what they say to it.
+pub fn words_in_full()
+    ensures { (words : List (List ℕ)) (said : Words)
+        → words_said words ≡ Ok said → filled words ≡ words }
 {}

@@ -14,12 +14,16 @@
 
 mod date_sources;
 mod explained;
+mod filled;
 pub mod laws;
 mod line_writer;
 mod lines_fault;
 mod mode;
 mod parts;
 mod program;
+mod words;
+mod wrong_source;
+mod wrong_words;
 
 pub use instants_timeline::{
     BlockWriter, ByteReader, ByteWriter, NewFault, ProgramFault, RunFault, StdReader, StdWriter,
@@ -28,3 +32,4 @@ pub use instants_timeline::{
 pub use lines_fault::LinesFault;
 pub use mode::Mode;
 pub use program::run_words;
+pub use wrong_words::WrongWords;

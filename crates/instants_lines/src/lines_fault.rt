@@ -1,19 +1,20 @@
 //! What ends the program early.
 ghost use Rattle.std.specs.Prelude.{◌≡◌, Some};
 
+use crate::wrong_words::WrongWords;
 use instants_timeline::{FaultText, ProgramFault};
 use std::alloc::AllocError;
 use std::fmt;
 
 // The words of the program behind its name.
-const USAGE: &str = "instants-lines MODE TARGET ASSUMED LIMIT SOURCE...";
+const USAGE: &str = "instants-lines MODE [TARGET [ASSUMED [LIMIT]]] SOURCE...";
 
 /// Why the program did not write its whole output. `Display` gives the sentence for standard error, without a line feed.
 #[derive(Clone, Copy, Debug, PartialEq, Eq)]
 pub enum LinesFault<'a> {
-    /// The first word is no mode.
-    UnknownMode,
-    /// What can end `instants` too: words that are too few, or wrong behind the mode, a device, or memory.
+    /// The words are wrong.
+    Words(WrongWords<'a>),
+    /// What can end `instants` too: a description that is none, a device, or memory.
     Program(ProgramFault<'a>),
 }
 
@@ -25,7 +26,7 @@ impl LinesFault<'_> {
         ensures { result ≡ status_of self.now }
     {
         match self {
-            LinesFault::UnknownMode => 2,
+            LinesFault::Words(_) => 2,
             LinesFault::Program(fault) => fault.status(),
         }
     }
@@ -39,9 +40,7 @@ impl fmt::Display for LinesFault<'_> {
 
     fn fmt<W: fmt::Write>(&self, f: &mut fmt::Formatter<W>) -> fmt::Result {
         match self {
-            LinesFault::UnknownMode => {
-                f.write_str("instants-lines: the mode must be key, carry, replace or explain")
-            }
+            LinesFault::Words(wrong) => write!(f, "instants-lines: {wrong}"),
             LinesFault::Program(fault) => {
                 let text = FaultText {
                     fault: *fault,

@@ -1,10 +1,20 @@
-//! `instants-lines MODE TARGET ASSUMED LIMIT SOURCE...`: reads lines with dates in them from standard input, and writes each
-//! to standard output: behind the date-time at the target offset, or with that in place of its date.
+//! `instants-lines MODE [TARGET [ASSUMED [LIMIT]]] SOURCE...`: reads lines with dates in them from standard input, and writes
+//! each to standard output: behind the date-time at the target offset, or with that in place of its date.
 #![tactic(auto)]
 
-use instants_lines::{BlockWriter, LinesFault, ProgramFault, StdReader, StdWriter, run_words};
+mod bare;
+mod help;
+mod noting;
+
+use crate::bare::warn_of_bare;
+use crate::help::text_for;
+use crate::noting::Noting;
+use instants_lines::{
+    BlockWriter, LinesFault, ProgramFault, RunFault, StdReader, StdWriter, run_words,
+};
 use std::alloc::Global;
 use std::env;
+use std::io::ErrorKind;
 use std::process::ExitCode;
 
 // Bytes that are written at once.
@@ -12,8 +22,11 @@ const BLOCK: usize = 65_536;
 
 fn main(rt: HostRuntime) -> ExitCode {
     match words(&rt) {
-        Ok(words) => ended(&rt, write_input(&rt, &words)),
-        Err(fault) => ended(&rt, Err(fault)),
+        Ok(words) => match asked_text(&words) {
+            Some(text) => shown(&rt, text),
+            None => write_input(&rt, &words),
+        },
+        Err(fault) => ended(&rt, Err(fault), None),
     }
 }
 
@@ -23,32 +36,63 @@ fn words(rt: &HostRuntime) -> Result<Vec<String>, LinesFault<'static>> {
     Ok(args.collect(rt.alloc())?)
 }
 
-// Writes for each line of standard input on standard output. Memory is taken only before the first read.
-fn write_input<'a>(rt: &HostRuntime, words: &'a Vec<String>) -> Result<(), LinesFault<'a>> {
-    let words: Vec<&'a str> = words
-        .iter()
-        .skip(1)
-        .map(|word| word.as_str())
-        .collect(rt.alloc())?;
-    write_by(rt, words.as_slice())
+// What one word alone asks to be shown.
+fn asked_text(words: &Vec<String>) -> Option<&'static str> {
+    match words.as_slice() {
+        [_, word] => text_for(word.as_str()),
+        _ => None,
+    }
+}
+
+// Shows a text.
+fn shown(rt: &HostRuntime, text: &str) -> ExitCode {
+    match println!(rt; "{text}") {
+        Ok(()) => ExitCode::SUCCESS,
+        Err(fault) => {
+            let end = LinesFault::Program(ProgramFault::Run(RunFault::Write));
+            ended(rt, Err(end), Some(fault.kind()))
+        }
+    }
+}
+
+// Writes for each line of standard input on standard output, and says what ended it early. Memory is taken only before the
+// first read.
+fn write_input(rt: &HostRuntime, words: &Vec<String>) -> ExitCode {
+    let words = words.iter().skip(1).map(|word| word.as_str());
+    match words.collect::<Vec<&str>>(rt.alloc()) {
+        Ok(words) => {
+            warn_of_bare(rt, words.as_slice());
+            write_by(rt, words.as_slice())
+        }
+        Err(fault) => ended(rt, Err(LinesFault::from(fault)), None),
+    }
 }
 
 // The same by these words.
-fn write_by<'a>(rt: &HostRuntime, words: &[&'a str]) -> Result<(), LinesFault<'a>> {
-    let block = vec![in rt.alloc(); 0; BLOCK]?;
-    let mut reader = StdReader::new(rt.stdin());
-    let mut writer = BlockWriter::new(block, StdWriter::new(rt.stdout()));
-    run_words(rt.alloc(), words, &mut reader, &mut writer)
+fn write_by(rt: &HostRuntime, words: &[&str]) -> ExitCode {
+    let Ok(block) = vec![in rt.alloc(); 0; BLOCK] else {
+        return ended(rt, Err(LinesFault::Program(ProgramFault::Memory)), None);
+    };
+    let mut input = Noting::new(rt.stdin());
+    let mut output = Noting::new(rt.stdout());
+    let mut reader = StdReader::new(&mut input);
+    let mut writer = BlockWriter::new(block, StdWriter::new(&mut output));
+    let end = run_words(rt.alloc(), words, &mut reader, &mut writer);
+    drop(writer);
+    drop(reader);
+    ended(rt, end, output.failure().or(input.failure()))
 }
 
-// Says what ended the program early, if anything did, and ends it.
-fn ended(rt: &HostRuntime, end: Result<(), LinesFault>) -> ExitCode {
-    match end {
-        Ok(()) => ExitCode::SUCCESS,
-        Err(fault) => {
-            // Where the fault can't be printed the status still tells.
-            let _ = eprintln!(rt; "{fault}");
-            ExitCode::from(fault.status())
-        }
-    }
+// Says what ended the program early, if anything did, and ends it. A pipe whose reader has read enough is no news.
+fn ended(rt: &HostRuntime, end: Result<(), LinesFault>, failure: Option<ErrorKind>) -> ExitCode {
+    let Err(fault) = end else {
+        return ExitCode::SUCCESS;
+    };
+    // Where the fault can't be printed the status still tells.
+    let _ = match (fault, failure) {
+        (LinesFault::Program(ProgramFault::Run(RunFault::Write)), Some(ErrorKind::BrokenPipe)) => Ok(()),
+        (LinesFault::Program(ProgramFault::Run(_)), Some(kind)) => eprintln!(rt; "{fault}: {kind}"),
+        _ => eprintln!(rt; "{fault}"),
+    };
+    ExitCode::from(fault.status())
 }

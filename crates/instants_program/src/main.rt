@@ -2,7 +2,10 @@
 //! to standard output: a date-time of fixed width at the target offset, or a named fault.
 #![tactic(auto)]
 
-use instants_timeline::{BlockWriter, ProgramFault, StdReader, StdWriter, run_words};
+mod help;
+
+use crate::help::text_for;
+use instants_timeline::{BlockWriter, ProgramFault, RunFault, StdReader, StdWriter, run_words};
 use std::alloc::Global;
 use std::env;
 use std::process::ExitCode;
@@ -12,8 +15,27 @@ const BLOCK: usize = 65_536;
 
 fn main(rt: HostRuntime) -> ExitCode {
     match words(&rt) {
-        Ok(words) => ended(&rt, answer_input(&rt, &words)),
+        Ok(words) => match asked_text(&words) {
+            Some(text) => shown(&rt, text),
+            None => ended(&rt, answer_input(&rt, &words)),
+        },
         Err(fault) => ended(&rt, Err(fault)),
+    }
+}
+
+// What one word alone asks to be shown.
+fn asked_text(words: &Vec<String>) -> Option<&'static str> {
+    match words.as_slice() {
+        [_, word] => text_for(word.as_str()),
+        _ => None,
+    }
+}
+
+// Shows a text.
+fn shown(rt: &HostRuntime, text: &str) -> ExitCode {
+    match println!(rt; "{text}") {
+        Ok(()) => ExitCode::SUCCESS,
+        Err(_) => ended(rt, Err(ProgramFault::Run(RunFault::Write))),
     }
 }
 

@@ -44,6 +44,17 @@ static ROWS: [(&str, &[u8], &[u8]); 5] = [
     ),
 ];
 
+// Words of which some are left out, or name UTC, and the same in full.
+static IN_FULL: [(&str, &str); 5] = [
+    ("key|rfc3339", "key|+00:00|-|1048576|rfc3339"),
+    ("carry|UTC|strftime|rfc3339", "carry|+00:00|-|1048576|strftime|rfc3339"),
+    ("key|+05:30|Z|iso8601", "key|+05:30|+00:00|1048576|iso8601"),
+    ("replace|Z|UTC|40|iso8601|rfc3339", "replace|+00:00|+00:00|40|iso8601|rfc3339"),
+    ("explain|v2|Z|rfc3339", "explain|+00:00|-|1048576|v2|Z|rfc3339"),
+];
+
+const LINES: &[u8] = b"at 2021-01-02T04:04:05\n at 2021-01-02T03:04:05Z.\nrfc3339\nZ";
+
 // How a run ended: its fault, whether this was written, and how often it was flushed.
 type End<'a> = (Result<(), LinesFault<'a>>, bool, usize);
 
@@ -95,6 +106,31 @@ fn rows(rt: HostRuntime) {
     }
 }
 
+// What is written by some words, if it is written without a fault.
+fn written(alloc: Global, words: &str) -> Option<Vec<u8>> {
+    let words: Vec<&str> = words.split('|').collect(alloc).ok()?;
+    let mut space = [0; 400];
+    let mut reader = CutReader::new(LINES, 7, None);
+    let mut writer = CutWriter::new(&mut space, 7, None);
+    run_words_on(alloc, words.as_slice(), &mut reader, &mut writer).ok()?;
+    Vec::from_slice(alloc, writer.written()).ok()
+}
+
+// Whether both rows of words write the same, and write something.
+fn write_the_same(alloc: Global, row: &(&str, &str)) -> bool {
+    match (written(alloc, row.0), written(alloc, row.1)) {
+        (Some(one), Some(other)) => !one.is_empty() && one.as_slice() == other.as_slice(),
+        _ => false,
+    }
+}
+
+#[test]
+fn words_left_out(rt: HostRuntime) {
+    for row in &IN_FULL {
+        assert!(rt; write_the_same(rt.alloc(), row));
+    }
+}
+
 // Where a run of the second row fails: in reading within its first and second line, in writing within a key, a tab and a line;
 // and how many bytes of its output are written then.
 static FAILURES: [(Option<usize>, Option<usize>, usize); 5] = [
@@ -126,55 +162,19 @@ fn devices_that_fail(rt: HostRuntime) {
     }
 }
 
-// How a run with wrong words ends, before anything is read.
-fn refused(alloc: Global, words: &'static str) -> Option<LinesFault<'static>> {
+/// How a run with wrong words ends, before anything is read.
+pub(crate) fn refused(alloc: Global, words: &'static str) -> Option<LinesFault<'static>> {
     match ended(alloc, words, (b"x", b""), 7, (Some(0), None)) {
         Some((Err(fault), true, 0)) => Some(fault),
         _ => None,
     }
 }
 
-// Faults of words, each with its status and its sentence.
-static FAULTS: [(&str, u8, &str); 4] = [
-    (
-        "keys|+00:00|-|100|rfc3339",
-        2,
-        "instants-lines: the mode must be key, carry, replace or explain",
-    ),
-    (
-        "key|+00:00|-|100",
-        2,
-        "instants-lines: usage: instants-lines MODE TARGET ASSUMED LIMIT SOURCE...",
-    ),
-    (
-        "carry|+00:00|-|0|rfc3339",
-        2,
-        "instants-lines: the limit must be a number from 1 to 1048576",
-    ),
-    (
-        "key|+00:00|-|100|rfc3339|strftime|%!",
-        2,
-        "instants-lines: source 2: invalid component name `!` at byte index 1",
-    ),
-];
-
-// Whether a row's words are refused so.
-fn is_refused(alloc: Global, row: &(&'static str, u8, &str)) -> bool {
-    let (words, status, sentence) = *row;
-    let Some(fault) = refused(alloc, words) else {
-        return false;
-    };
-    match format!(in alloc; "{fault}") {
-        Ok(text) => fault.status() == status && text.as_str() == sentence,
-        Err(_) => false,
-    }
-}
-
-#[test]
-fn words_that_are_wrong(rt: HostRuntime) {
-    for row in &FAULTS {
-        assert!(rt; is_refused(rt.alloc(), row));
-    }
+/// The same where there are no words.
+pub(crate) fn refused_none(alloc: Global) -> Option<LinesFault<'static>> {
+    let mut reader = CutReader::new(b"x", 7, Some(0));
+    let mut writer = CutWriter::new(&mut [], 7, None);
+    run_words_on(alloc, &[], &mut reader, &mut writer).err()
 }
 
 // The words behind a mode, which is handed over by itself.

@@ -20,3 +20,5 @@ mod page;
 mod sources;
 #[cfg(test)]
 mod support;
+#[cfg(test)]
+mod wrong_words;

@@ -1,0 +1,118 @@
+-- Words that nothing is left out of stay as they are.
+use Rattle.std.proofs.Common.{◌≡◌, ◌≢◌, ℕ, ◌+◌, ◌<◌, ◌≤◌, Bool, true, false, ◌&&◌, ◌||◌, ◌==◌, nat_le, Option, None, Some, option_map, Result, Ok, Err, List, [], ◌∷◌, length, codes, if◌then◌else◌, refl, sym, ap, ◌∙◌, subst, arith, rules, tests, ℤ}
+use Rattle.std.specs.Prelude.{IsSome}
+use Rattle.std.specs.Char.{is_ascii_digit}
+use Rattle.std.specs.List.{list_all}
+use Rattle.std.specs.Str.{bytes_eq}
+use Rattle.std.specs.Str.Parse.{digits_value}
+use Rattle.base.specs.Bytes.{plus, hyphen, colon}
+use Rattle.instants_words.specs.declared.words.Words.{Words}
+use Rattle.instants_words.specs.Pieces.{number_said, clock_seconds, with_sign, offset_said, limit_said, assumed_said}
+use Rattle.instants_words.specs.Sources.{SourceSaid, sources_said}
+use Rattle.instants_words.specs.Words.{words_said}
+use Rattle.instants_words.specs.declared.fault.WordsFault.{WordsFault}
+use Rattle.instants_lines.proofs.Told.{by_parts, parts}
+use Rattle.instants_lines.specs.Filled.{has_sign_or_digit, is_utc, is_setting, as_offset, front_setting, behind_setting, target_in, assumed_in, limit_in, is_whole, sources_in, filled}
+
+signed : (sign : ℕ) (number : Option ℕ) (offset : ℤ) → with_sign sign number ≡ Some offset → (sign == plus || sign == hyphen) ≡ true
+signed sign (Some number) offset e = grind arith
+signed sign None offset e = absurd cc
+
+six : (mark : Bool) (sign : ℕ) (clock : Option ℕ) (offset : ℤ) → (if mark then with_sign sign clock else None) ≡ Some offset → (sign == plus || sign == hyphen) ≡ true
+six true sign clock offset e = signed sign clock offset e
+six false sign clock offset e = absurd cc
+
+-- an offset begins with a sign, and is no name of UTC
+sign_first : (word : List ℕ) (offset : ℤ) → offset_said word ≡ Some offset → has_sign_or_digit word ≡ true
+unfolding offset_said has_sign_or_digit
+sign_first (sign ∷ h ∷ i ∷ mark ∷ m ∷ n ∷ []) offset e =
+    let sign_is = six (mark == colon) sign (clock_seconds (number_said 0 23 2 (h ∷ i ∷ [])) (number_said 0 59 2 (m ∷ n ∷ []))) offset e in rw sign_is refl
+sign_first [] offset e = absurd cc
+sign_first (a ∷ []) offset e = absurd cc
+sign_first (a ∷ b ∷ []) offset e = absurd cc
+sign_first (a ∷ b ∷ c ∷ []) offset e = absurd cc
+sign_first (a ∷ b ∷ c ∷ d ∷ []) offset e = absurd cc
+sign_first (a ∷ b ∷ c ∷ d ∷ f ∷ []) offset e = absurd cc
+sign_first (a ∷ b ∷ c ∷ d ∷ f ∷ g ∷ h ∷ word) offset e = absurd cc
+
+no_name : (word : List ℕ) (offset : ℤ) → offset_said word ≡ Some offset → is_utc word ≡ false
+unfolding offset_said is_utc
+no_name (sign ∷ h ∷ i ∷ mark ∷ m ∷ n ∷ []) offset e = grind arith
+no_name [] offset e = absurd cc
+no_name (a ∷ []) offset e = absurd cc
+no_name (a ∷ b ∷ []) offset e = absurd cc
+no_name (a ∷ b ∷ c ∷ []) offset e = absurd cc
+no_name (a ∷ b ∷ c ∷ d ∷ []) offset e = absurd cc
+no_name (a ∷ b ∷ c ∷ d ∷ f ∷ []) offset e = absurd cc
+no_name (a ∷ b ∷ c ∷ d ∷ f ∷ g ∷ h ∷ word) offset e = absurd cc
+
+first_test : (digits short least greatest : Bool) (number limit : ℕ) → (if digits && short && least && greatest then Some number else None) ≡ Some limit → digits ≡ true
+first_test true short least greatest number limit e = refl
+first_test false short least greatest number limit e = absurd cc
+
+-- a limit begins with a digit
+digit_first : (word : List ℕ) (limit : ℕ) → limit_said word ≡ Some limit → has_sign_or_digit word ≡ true
+unfolding number_said has_sign_or_digit
+digit_first [] limit e = absurd cc
+digit_first (first ∷ rest) limit e =
+    let all = first_test (list_all is_ascii_digit (first ∷ rest)) (nat_le (length (first ∷ rest)) 7) (nat_le 1 (digits_value 10 (first ∷ rest))) (nat_le (digits_value 10 (first ∷ rest)) 1_048_576) (digits_value 10 (first ∷ rest)) limit e in
+    grind arith
+
+-- what is assumed begins with a sign, and is no name of UTC
+by_offset : (said : Option ℤ) (word : List ℕ) (assumed : Option ℤ) → offset_said word ≡ said → option_map Some said ≡ Some assumed → (has_sign_or_digit word ≡ true) × (is_utc word ≡ false)
+by_offset (Some offset) word assumed is e = (sign_first word offset is, no_name word offset is)
+by_offset None word assumed is e = absurd cc
+
+bare_or : (bare : Bool) (word : List ℕ) (assumed : Option ℤ) → bytes_eq word (codes "-") ≡ bare → (if bare then Some None else option_map Some (offset_said word)) ≡ Some assumed
+    → (has_sign_or_digit word ≡ true) × (is_utc word ≡ false)
+unfolding has_sign_or_digit is_utc
+bare_or true [] assumed bare e = absurd cc
+bare_or true (first ∷ rest) assumed bare e = grind arith
+bare_or false word assumed bare e = by_offset (offset_said word) word assumed refl e
+
+assumed_first : (word : List ℕ) (assumed : Option ℤ) → assumed_said word ≡ Some assumed → (has_sign_or_digit word ≡ true) × (is_utc word ≡ false)
+assumed_first word assumed e = bare_or (bytes_eq word (codes "-")) word assumed refl e
+
+setting : (word : List ℕ) → has_sign_or_digit word ≡ true → is_setting word ≡ true
+unfolding is_setting
+setting word e = rw e refl
+
+as_is : (word : List ℕ) → is_utc word ≡ false → as_offset word ≡ word
+unfolding as_offset
+as_is word e = rw e refl
+
+-- three such words are the target, the assumed offset and the limit
+stays : (target assumed limit : List ℕ) (sources : List (List ℕ)) → is_setting target ≡ true → is_setting assumed ≡ true → is_setting limit ≡ true → as_offset target ≡ target → as_offset assumed ≡ assumed
+    → filled (target ∷ assumed ∷ limit ∷ sources) ≡ target ∷ assumed ∷ limit ∷ sources
+unfolding filled target_in assumed_in limit_in sources_in
+stays target assumed limit sources t a l et ea = rw t (rw a (rw l (rw et (rw ea refl))))
+
+known : (t : Option ℤ) (a : Option (Option ℤ)) (l : Option ℕ) (sources : Result (List SourceSaid) WordsFault) (said : Words) → by_parts t a l sources ≡ Ok said
+    → (t ≡ Some said.target) × (a ≡ Some said.assumed) × (l ≡ Some said.limit)
+known None a l sources said e = absurd cc
+known (Some t) None l sources said e = absurd cc
+known (Some t) (Some a) None sources said e = absurd cc
+known (Some t) (Some a) (Some l) (Err fault) said e = absurd cc
+known (Some t) (Some a) (Some l) (Ok sources) said e =
+    let same : record { target = t; assumed = a; limit = l; sources = sources } ≡ said = cc in
+    (ap (λ words. Some words.target) same, ap (λ words. Some words.assumed) same, ap (λ words. Some words.limit) same)
+
+few : (words : List (List ℕ)) (said : Words) → length words < 4 → words_said words ≡ Ok said → ⊥
+unfolding words_said
+few [] said h e = cc
+few (t ∷ []) said h e = cc
+few (t ∷ a ∷ []) said h e = cc
+few (t ∷ a ∷ l ∷ []) said h e = cc
+few (t ∷ a ∷ l ∷ source ∷ others) said h e = omega arith
+
+-- words that `instants` accepts stay as they are
+pub in_full : (words : List (List ℕ)) (said : Words) → words_said words ≡ Ok said → filled words ≡ words
+in_full [] said e = absurd (few [] said (omega arith) e)
+in_full (t ∷ []) said e = absurd (few (t ∷ []) said (omega arith) e)
+in_full (t ∷ a ∷ []) said e = absurd (few (t ∷ a ∷ []) said (omega arith) e)
+in_full (t ∷ a ∷ l ∷ []) said e = absurd (few (t ∷ a ∷ l ∷ []) said (omega arith) e)
+in_full (t ∷ a ∷ l ∷ source ∷ others) said e =
+    let is = known (offset_said t) (assumed_said a) (limit_said l) (sources_said 1 (source ∷ others)) said (sym (parts t a l source others) ∙ e) in
+    let assumed = assumed_first a said.assumed is.1 in
+    stays t a l (source ∷ others) (setting t (sign_first t said.target is.0)) (setting a assumed.0) (setting l (digit_first l said.limit is.2))
+    (as_is t (no_name t said.target is.0)) (as_is a assumed.1)

@@ -1,0 +1,107 @@
+//! The words of the program, as those of `instants` behind a mode.
+ghost use Rattle.std.specs.Prelude.{◌≡◌, [], ◌∷◌, codes, map, Ok, Err, IsOk, IfOk, IfErr, IfSome, IfNone};
+ghost use Rattle.instants_words.specs.Words.{words_said};
+ghost use Rattle.instants_words.specs.declared.words.Words.{Words};
+ghost use Rattle.instants_lines.specs.Program.{IsToldAs};
+ghost use Rattle.instants_lines.specs.Words.{first_wrong, mode_words_said, told, wrong_source};
+ghost use Rattle.instants_lines.specs.Wrong.{NoSource, wrong_of};
+
+use crate::filled::{Parted, fill, part};
+use crate::lines_fault::LinesFault;
+use crate::mode::{Mode, mode_named};
+use crate::wrong_source::wrong_source;
+use crate::wrong_words::WrongWords;
+use instants_timeline::{ProgramFault, WordsFault, read_words};
+use std::alloc::Global;
+
+// The fault of the words before the sources. The source behind them here is a known one, and `read_words` looks at all words
+// before it takes memory.
+fn setting_fault(alloc: Global, parted: &Parted<'_, '_>) -> Option<WordsFault>
+    ensures some { IfSome result (λ fault. words_said (parted.now.target.now
+        ∷ parted.now.assumed.now ∷ parted.now.limit.now ∷ codes "rfc3339" ∷ []) ≡ Err fault) }
+    ensures none { IfNone result (IsOk (words_said (parted.now.target.now
+        ∷ parted.now.assumed.now ∷ parted.now.limit.now ∷ codes "rfc3339" ∷ []))) }
+{
+    let words = [parted.target, parted.assumed, parted.limit, "rfc3339"];
+    let fault = match read_words(alloc, &words) {
+        Ok(_) => return None,
+        Err(fault) => fault,
+    };
+    if fault == WordsFault::Memory {
+        return None;
+    }
+    Some(fault)
+}
+
+// What is wrong by a fault of the words before the sources.
+fn told_setting<'a>(parted: &Parted<'a, '_>, fault: WordsFault) -> WrongWords<'a>
+    ensures { wrong_of result ≡ told parted.now.target.now parted.now.assumed.now
+        parted.now.limit.now NoSource fault }
+{
+    match fault {
+        WordsFault::Target => WrongWords::Target(parted.target),
+        WordsFault::Assumed => WrongWords::Assumed(parted.assumed),
+        WordsFault::Limit => WrongWords::Limit(parted.limit),
+        WordsFault::Usage | WordsFault::Source(_) | WordsFault::Memory => WrongWords::NoSource,
+    }
+}
+
+// What is wrong with the sources; where a word before them is left out, the first of them may be one that is misspelt.
+fn first_wrong(is_whole: bool, wrong: WrongWords<'_>) -> WrongWords<'_>
+    ensures { wrong_of result ≡ first_wrong is_whole (wrong_of wrong.entry) }
+{
+    match wrong {
+        WrongWords::Source { place: 1, word } if !is_whole => WrongWords::FirstSource(word),
+        other => other,
+    }
+}
+
+// What is wrong first with the words behind the mode.
+fn wrong_behind<'a>(alloc: Global, parted: &Parted<'a, '_>) -> Option<WrongWords<'a>>
+    ensures some { IfSome result (λ wrong. (fault : WordsFault)
+        × (words_said (parted.now.target.now ∷ parted.now.assumed.now ∷ parted.now.limit.now
+        ∷ map (λ word. word.now) parted.now.sources.now) ≡ Err fault)
+        × (wrong_of wrong ≡ told parted.now.target.now parted.now.assumed.now
+        parted.now.limit.now (first_wrong parted.now.is_whole
+        (wrong_source 1 (map (λ word. word.now) parted.now.sources.now))) fault)) }
+    ensures none { IfNone result (IsOk (words_said (parted.now.target.now
+        ∷ parted.now.assumed.now ∷ parted.now.limit.now
+        ∷ map (λ word. word.now) parted.now.sources.now))) }
+{
+    if parted.sources.is_empty() {
+        return Some(WrongWords::NoSource);
+    }
+    if let Some(fault) = setting_fault(alloc, parted) {
+        return Some(told_setting(parted, fault));
+    }
+    match wrong_source(parted.sources) {
+        Some(wrong) => Some(first_wrong(parted.is_whole, wrong)),
+        None => None,
+    }
+}
+
+/// The mode, and the words of `instants` behind it, which are right.
+pub(crate) fn read_mode_words<'a>(
+    alloc: Global,
+    words: &[&'a str],
+) -> Result<(Mode, Vec<&'a str>), LinesFault<'a>>
+    ensures ok { IfOk result (λ read. (said : Words)
+        × (words_said (map (λ word. word.now) read.1.items) ≡ Ok said)
+        × (mode_words_said (map (λ word. word.now) words.now) ≡ Ok (read.0, said))) }
+    ensures err { IfErr result (IsToldAs (map (λ word. word.now) words.now)) }
+{
+    let Some((word, others)) = words.split_first() else {
+        return Err(LinesFault::Words(WrongWords::NoMode));
+    };
+    let Some(mode) = mode_named(word) else {
+        return Err(LinesFault::Words(WrongWords::UnknownMode(word)));
+    };
+    let parted = part(others);
+    if let Some(wrong) = wrong_behind(alloc, &parted) {
+        return Err(LinesFault::Words(wrong));
+    }
+    match fill(alloc, &parted) {
+        Ok(filled) => Ok((mode, filled)),
+        Err(_) => Err(LinesFault::Program(ProgramFault::Memory)),
+    }
+}

@@ -1,0 +1,41 @@
+//! What the program says of itself. `./instants-lines` prints it from here where no program is built.
+
+pub const VERSION: &str = "instants-lines 0.1.0";
+
+pub const HELP: &str = "\
+instants-lines MODE [TARGET [ASSUMED [LIMIT]]] SOURCE...
+    reads lines from standard input, finds the first date-time in each, and
+    writes the line to standard output with that at one offset
+
+    MODE     key      the line behind the date-time and a tab; `! none` where it
+                      has no date-time, `! year` where the year is not written
+             carry    the same, but a line without a date-time takes that of the
+                      last line above that has one
+             replace  the line with the date-time in place of the found one
+             explain  the number of the source that reads all of the line, and
+                      its answer, or each source's number and fault
+    TARGET   the offset at which moments are written: +HH:MM, -HH:MM, Z or UTC;
+             +00:00 where it is left out
+    ASSUMED  the offset of lines that have none, or - for none; none where it is
+             left out
+    LIMIT    the greatest length of a line in bytes, 1 to 1048576; the greatest
+             where it is left out
+    SOURCE   rfc3339, rfc2822, iso8601, or v1, v2, v3 or strftime with a
+             description in the next argument; several are tried in order
+
+    instants-lines carry rfc3339 strftime '%d/%b/%Y:%H:%M:%S %z' < LOG
+
+instants-lines --help     prints this
+instants-lines --version  prints the version
+./instants-lines --build  in the folder of the sources: proves the program and builds it
+
+The guide is docs/GUIDE.md, the manual page docs/instants-lines.1.";
+
+/// The text that a word alone asks for.
+pub fn text_for(word: &str) -> Option<&'static str> {
+    match word {
+        "--help" | "-h" => Some(HELP),
+        "--version" => Some(VERSION),
+        _ => None,
+    }
+}

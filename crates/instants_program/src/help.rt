@@ -1,0 +1,31 @@
+//! What the program says of itself. `./instants` prints it from here where no program is built.
+
+pub const VERSION: &str = "instants 0.1.0";
+
+pub const HELP: &str = "\
+instants TARGET ASSUMED LIMIT SOURCE...
+    reads lines with dates from standard input and writes one line for each: a
+    date-time of fixed width at one offset, or a fault, as `! component month`
+
+    TARGET   the offset at which moments are written: +HH:MM or -HH:MM
+    ASSUMED  the offset of lines that have none, or - for none
+    LIMIT    the greatest length of a line in bytes, 1 to 1048576
+    SOURCE   rfc3339, rfc2822, iso8601, or v1, v2, v3 or strftime with a
+             description in the next argument; several are tried in order
+
+    instants +00:00 - 100 rfc3339 rfc2822 strftime '%d/%b/%Y:%H:%M:%S %z' < LINES
+
+instants --help     prints this
+instants --version  prints the version
+./instants --build  in the folder of the sources: proves the program and builds it
+
+The guide is docs/GUIDE.md, the manual page docs/instants.1.";
+
+/// The text that a word alone asks for.
+pub fn text_for(word: &str) -> Option<&'static str> {
+    match word {
+        "--help" | "-h" => Some(HELP),
+        "--version" => Some(VERSION),
+        _ => None,
+    }
+}
