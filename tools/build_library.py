@@ -19,7 +19,10 @@ sys.dont_write_bytecode = True
 from program import ROOT, Program
 
 CRATE = "instants_c"
-CALLS = ("instants_answer_lines", "instants_open", "instants_answer", "instants_close", "instants_sentence", "instants_version")
+CALLS = (
+    "instants_answer_lines", "instants_open", "instants_answer", "instants_answer_moments", "instants_close", "instants_sentence",
+    "instants_version",
+)
 ARCHIVE, SHARED = "libinstants.a", "libinstants.so.0"
 
 
