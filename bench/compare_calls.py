@@ -76,14 +76,17 @@ def rows(room, file, count):
     places = dict(os.environ, INSTANTS_LIBRARY=str(OUT / "libinstants.so.0"), PYTHONPATH=str(ROOT / "bindings" / "python"))
     in_c = lambda how, words: [printed([room / "calls", how, file, str(min(it, count)), *words]) for it in COUNTS]
     in_python = lambda name, counts: [printed([PYTHON, "-B", BENCH / "calls" / "calls.py", file, str(min(it, count)), name, *ALONE], env=places) for it in counts]
-    in_rust = lambda counts: [printed([room / RUST / "target" / "release" / "calls", str(it), file]) for it in counts]
+    in_rust = lambda counts, *wanted: [printed([room / RUST / "target" / "release" / "calls", str(it), file, *wanted]) for it in counts]
     in_sqlite = lambda lines, call: [of_sqlite(room, lines, count, call), None, None]
     return [
         ("C: `instants_answer_lines`, by words, RFC 3339 alone", in_c("words", ALONE)),
         ("C: the same, three sources", in_c("words", THREE)),
         ("C: `instants_answer`, by a handle, RFC 3339 alone", in_c("handle", ALONE)),
         ("C: the same, three sources", in_c("handle", THREE)),
+        ("C: `instants_answer_moments`, by a handle, RFC 3339 alone", in_c("moments", ALONE)),
+        ("C: the same, three sources", in_c("moments", THREE)),
         ("Rust: `Timeline::append_to`", in_rust(COUNTS)),
+        ("Rust: `Timeline::moments`", in_rust(COUNTS, "moments")),
         ("Rust: the crate `time` 0.3.9, `parse`, `to_offset`, `format_into`", in_rust(["time"]) * 3),
         ("Python: `Timeline.answer`", [*in_python("Timeline.answer", COUNTS[:1]), None, None]),
         ("Python: `Timeline.answers`", in_python("Timeline.answers", COUNTS)),

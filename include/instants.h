@@ -33,13 +33,17 @@
  *         instants_close(handle.at);
  *     }
  *
+ * Numbers. `instants_answer_moments` gives each line's moment as seconds and nanoseconds in place of a text, or the number of its
+ * fault. It is proved of the same moments and faults as the texts.
+ *
  * Where it runs. The library is for x86-64 Linux. A call needs less than 256 KiB of stack: 152 KiB were measured for a
  * description with the deepest nesting that is allowed, 40 KiB for long descriptions that are not nested like that, 24 KiB for
  * the formats.
  *
  * The caller has to make sure of the following. The library does not check it.
- * - No pointer is NULL, also where the length is 0; any address will do there, such as that of "". As many bytes as the length
- *   says follow each pointer.
+ * - As many bytes as the length says follow each pointer, or as many entries. Words, an input, an output and moments may be NULL
+ *   where their length is 0; no other pointer may be NULL. (This header replaces such a NULL by an address. Code that calls the
+ *   library's symbols without this header has to pass an address there itself, aligned to 8 bytes for moments.)
  * - What a call writes to does not overlap with anything else that is passed to it.
  * - While a call runs, no other code changes the words or the input, and no other code reads or writes the output, `*written`
  *   or `*sentence_len`.
@@ -82,6 +86,49 @@ extern "C" {
 
 /* So many bytes are always enough for the answers to an input with this number of line feeds. */
 #define INSTANTS_ROOM(line_feeds) (INSTANTS_LINE_ROOM * ((size_t)(line_feeds) + 1))
+
+/*
+ * Faults as numbers, which never change. INSTANTS_FAULT_COMPONENT and INSTANTS_FAULT_RANGE come with the number of a component
+ * added, as 201 for `! component year` and 503 for `! range day`.
+ */
+#define INSTANTS_FAULT_LITERAL 100
+#define INSTANTS_FAULT_COMPONENT 200
+#define INSTANTS_FAULT_TRAILING 300
+#define INSTANTS_FAULT_INSUFFICIENT 400
+#define INSTANTS_FAULT_RANGE 500
+#define INSTANTS_FAULT_YEAR 600
+#define INSTANTS_FAULT_LONG 700
+
+/*
+ * Components, by the name that stands in the text of a fault. The number 0 in their place is a name without a number; none is
+ * known to occur, and the text has the name.
+ */
+#define INSTANTS_COMPONENT_YEAR 1
+#define INSTANTS_COMPONENT_MONTH 2
+#define INSTANTS_COMPONENT_DAY 3
+#define INSTANTS_COMPONENT_ORDINAL 4
+#define INSTANTS_COMPONENT_WEEK 5
+#define INSTANTS_COMPONENT_WEEK_NUMBER 6 /* `week number` */
+#define INSTANTS_COMPONENT_WEEKDAY 7
+#define INSTANTS_COMPONENT_HOUR 8
+#define INSTANTS_COMPONENT_MINUTE 9
+#define INSTANTS_COMPONENT_SECOND 10
+#define INSTANTS_COMPONENT_SUBSECOND 11
+#define INSTANTS_COMPONENT_PERIOD 12
+#define INSTANTS_COMPONENT_OFFSET_HOUR 13   /* `offset hour` */
+#define INSTANTS_COMPONENT_OFFSET_MINUTE 14 /* `offset minute` */
+#define INSTANTS_COMPONENT_OFFSET_SECOND 15 /* `offset second` */
+#define INSTANTS_COMPONENT_UNIX_TIMESTAMP 16 /* `unix_timestamp` */
+#define INSTANTS_COMPONENT_IGNORE 17
+#define INSTANTS_COMPONENT_SEPARATOR 18
+#define INSTANTS_COMPONENT_JULIAN_DAY 19 /* `julian_day` */
+#define INSTANTS_COMPONENT_MILLISECOND 20
+#define INSTANTS_COMPONENT_MICROSECOND 21
+#define INSTANTS_COMPONENT_NANOSECOND 22
+#define INSTANTS_COMPONENT_HOURS 23
+#define INSTANTS_COMPONENT_MINUTES 24
+#define INSTANTS_COMPONENT_SECONDS 25
+#define INSTANTS_COMPONENT_TIMESTAMP 26
 
 /*
  * Answers each line of the input as the words say. The answers are written from the beginning of the output, each followed by
@@ -130,11 +177,82 @@ uint8_t instants_open(const void *words, size_t words_len, struct instants_handl
  */
 uint8_t instants_answer(const void *at, const void *input, size_t input_len, void *output, size_t output_len, size_t *written);
 
+/* What a line names: a moment, or a fault. */
+struct instants_moment {
+    /* The seconds since 1970-01-01T00:00:00Z, rounded down, so below 0 for earlier moments. 0 where there is a fault. */
+    int64_t seconds;
+    /* The nanoseconds after them, 0 to 999,999,999. 0 where there is a fault. */
+    uint32_t nanoseconds;
+    /* 0 for a moment, otherwise the number of the fault. */
+    uint32_t fault;
+};
+
+/*
+ * Writes the moment or the fault of each line, one entry a line from the beginning of the moments, for the lines and faults of
+ * `instants_answer`. `at` is that of an open handle, `moments_len` counts entries. The call takes no memory.
+ *
+ * INSTANTS_OK: `*written` entries are written. The entries after them are unchanged.
+ * INSTANTS_FAILED: there are more lines than entries. All entries are written; they are those of the first lines. As many
+ * entries as there are line feeds, and one more, are always enough.
+ */
+uint8_t instants_answer_moments(const void *at, const void *input, size_t input_len, struct instants_moment *moments,
+                                size_t moments_len, size_t *written);
+
 /* Closes an open handle, whose `at` is given, and frees all memory that it keeps. */
 void instants_close(void *at);
 
 /* The version of the library, in the form of INSTANTS_VERSION, which is that of the header. */
 uint32_t instants_version(void);
+
+/*
+ * NULL where a length is 0. The library's own symbols need an address also there. So each call that takes such a pointer is
+ * replaced here by a function with the same arguments, which passes an address where the length is 0. (`__inline__`, since C89
+ * has no `inline`.)
+ */
+static __inline__ void *instants_some(const void *at, size_t len)
+{
+    static int64_t none;
+    return len ? (void *)(uintptr_t)at : &none;
+}
+
+static __inline__ uint8_t instants_answer_lines_of(const void *words, size_t words_len, const void *input,
+                                                   size_t input_len, void *output, size_t output_len, size_t *written)
+{
+    return instants_answer_lines(instants_some(words, words_len), words_len, instants_some(input, input_len), input_len,
+                                 instants_some(output, output_len), output_len, written);
+}
+
+static __inline__ uint8_t instants_sentence_of(const void *words, size_t words_len, void *output, size_t output_len,
+                                               size_t *sentence_len)
+{
+    return instants_sentence(instants_some(words, words_len), words_len, instants_some(output, output_len), output_len,
+                             sentence_len);
+}
+
+static __inline__ uint8_t instants_open_of(const void *words, size_t words_len, struct instants_handle *handle)
+{
+    return instants_open(instants_some(words, words_len), words_len, handle);
+}
+
+static __inline__ uint8_t instants_answer_of(const void *at, const void *input, size_t input_len, void *output,
+                                             size_t output_len, size_t *written)
+{
+    return instants_answer(at, instants_some(input, input_len), input_len, instants_some(output, output_len), output_len,
+                           written);
+}
+
+static __inline__ uint8_t instants_answer_moments_of(const void *at, const void *input, size_t input_len,
+                                                     struct instants_moment *moments, size_t moments_len, size_t *written)
+{
+    return instants_answer_moments(at, instants_some(input, input_len), input_len,
+                                   (struct instants_moment *)instants_some(moments, moments_len), moments_len, written);
+}
+
+#define instants_answer_lines instants_answer_lines_of
+#define instants_sentence instants_sentence_of
+#define instants_open instants_open_of
+#define instants_answer instants_answer_of
+#define instants_answer_moments instants_answer_moments_of
 
 #ifdef __cplusplus
 }

@@ -20,7 +20,10 @@ import build_program
 from program import ROOT, BuildFailed, Program, uses
 
 CRATE = "instants_c"
-CALLS = ("instants_answer_lines", "instants_open", "instants_answer", "instants_close", "instants_sentence", "instants_version")
+CALLS = (
+    "instants_answer_lines", "instants_open", "instants_answer", "instants_answer_moments", "instants_close", "instants_sentence",
+    "instants_version",
+)
 ARCHIVE, SHARED = "libinstants.a", "libinstants.so.0"
 
 

@@ -10,6 +10,8 @@ those that were built last; where they are not, or are older than their sources,
 
 - The numbers of the header are those of the sources and of the other languages (tools/header_numbers.py), it says how much
   stack a call needs, and it is valid C and C++ by itself. `bindings/c/answers.cc` calls it in C++, over strings.
+- C: `bindings/c/moments.c` prints the moments and faults of the same lines as numbers, at two targets; they are those that the
+  program's answers tell, by Python's calendar and the header's numbers.
 - C: `bindings/c/answer.c` answers 100,000 mixed lines (bench/lines.py), with some that are empty, too long, no text or hold a
   NUL, byte for byte as the program does, with the sanitizers of addresses and of what is undefined, and under valgrind, with
   no leak. It refuses words as the program does: by its sentence and its status. `limits.c` ends early in all ways, with the
@@ -18,7 +20,7 @@ those that were built last; where they are not, or are older than their sources,
 - Rust: the tests of `bindings/rust`, and its example `answer` as that in C, without the sanitizers. Both crates are packed
   without a network, and what was packed is unpacked and tried outside of the repository, with the library that
   INSTANTS_LIB_DIR names and with that which pkg-config finds; where there is none the build says how to get it.
-- Python: the tests of `bindings/python`, by Debian's Python, which has numpy and pandas where their packages are there; its
+- Python: `to_datetime64` of the same lines, against the program's answers; the tests of `bindings/python`, by Debian's Python, which has numpy and pandas where their packages are there; its
   types, by `mypy --strict`; the same lines by its calls, and one by one by a timeline; `pip install`, without a network, into an environment of its own,
   where the package answers with no variable set; and what is said where there is no library, or one of another version.
 - SQLite: `bindings/sqlite/instant.c` answers the lines that are text as the program does; the answers are the key of a table,
@@ -29,6 +31,7 @@ The last line counts what passed; the status is 1 where anything failed.
 """
 
 import argparse
+import datetime
 import os
 import pathlib
 import random
@@ -137,6 +140,23 @@ def tell_same(what, got, wanted):
     tell(what, got == wanted, f"line {at + 1}: {given[at:at + 1]} in place of {due[at:at + 1]}")
 
 
+def unix_second(text, offset):
+    """Returns the seconds since 1970 that a date-time tells, at an offset of so many minutes. Python has no year 0."""
+    year, month, day = int(text[:4]), int(text[5:7]), int(text[8:10])
+    # (the year 0 is as the year 400, 146,097 days before it)
+    days = datetime.date(year or 400, month, day).toordinal() - (0 if year else 146_097) - datetime.date(1970, 1, 1).toordinal()
+    return ((days * 24 + int(text[11:13])) * 60 + int(text[14:16]) - offset) * 60 + int(text[17:19])
+
+
+def number_told(answer, offset):
+    """Returns what bindings/c/moments.c prints for a line with an answer."""
+    if not answer.startswith("! "):
+        return f"{unix_second(answer, offset)}:{answer[20:29]}"
+    kind, _, name = answer[2:].partition(" ")
+    component = header_numbers.component_names().index(name) + 1 if name else 0
+    return f"! {header_numbers.in_header(f'FAULT_{kind.upper()}') + component}"
+
+
 def mixed_lines(count):
     """Returns mixed lines, some of them of no text, and the last without a line feed."""
     rng = random.Random(39)
@@ -196,6 +216,7 @@ def try_c(library):
     tell_same("C, under valgrind", said if status == 0 else wrong, library.answers)
     tell_run("C: early ends, under valgrind", [*VALGRIND, limits])
     try_handles(library)
+    try_moments(library)
     wrapped = ["-Wl,--wrap=malloc,--wrap=realloc,--wrap=free"]
     tell_run("C: each allocation refused", [compiled("memory", library, link=wrapped)])
 
@@ -207,6 +228,21 @@ def try_handles(library):
     tell_run("C: handles, under valgrind", [*VALGRIND, handle])
     tell_run("C: handles, under helgrind", [*HELGRIND, handle])
     print(ran([handle, CALLS])[1].decode(), end="", flush=True)
+
+
+def try_moments(library):
+    """Tries moments and faults as numbers."""
+    for flags in (SANITIZERS, ()):
+        moments = compiled("moments", library, flags)
+        for target, offset in (("+00:00", 0), ("-05:30", -330)):
+            words = [target, *WORDS[1:]]
+            answers = library.answered(library.input, words).decode("ascii").split("\n")[:-1]
+            due = "".join(number_told(it, offset) + "\n" for it in answers).encode()
+            status, said, wrong = ran([moments, *words], library.input)
+            tell_same(f"C: moments at {target}", said if status == 0 else wrong, due)
+        for words in WRONG_WORDS:
+            status, _, wrong = ran([moments, *words])
+            tell(f"C: moments: refuses {words[2:] or words}", (status, wrong) == ran([library.program, *words])[::2], str(wrong))
 
 
 def try_rust(library):
@@ -306,8 +342,25 @@ def try_python(library):
     with instants.Timeline(target="+00:00", sources=SOURCES, limit=100) as timeline:
         listed = [timeline.answer(line) for line in library.input.split(b"\n")]
     tell_same("Python: line by line", "\n".join([*listed, ""]).encode(), library.answers)
+    try_arrays(library)
     try_library_of_python(library)
     try_pip(library)
+
+
+def try_arrays(library):
+    """Tries moments as an array of numpy."""
+    try:
+        import numpy
+    except ModuleNotFoundError:
+        print("skipped: Python: numpy is missing")
+        return
+    import instants
+
+    answers = library.answers.decode("ascii").split("\n")[:-1]
+    nanoseconds = [None if it.startswith("!") else unix_second(it, 0) * 10**9 + int(it[20:29]) for it in answers]
+    due = [-(2**63) if it is None or abs(it) >= 2**63 else it for it in nanoseconds]
+    found = instants.to_datetime64(library.input, sources=SOURCES, limit=100)
+    tell("Python: to_datetime64", found.dtype == numpy.dtype("datetime64[ns]") and found.view("int64").tolist() == due)
 
 
 def quoted(words):

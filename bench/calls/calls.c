@@ -1,6 +1,7 @@
 /*
  * calls HOW FILE LINES WORD..: answers a file of lines again and again by calls of so many lines each, and prints the
- * nanoseconds that a line takes, the least of the rounds. HOW is `words`, or `handle`, which reads the words once.
+ * nanoseconds that a line takes, the least of the rounds. HOW is `words`, or `handle`, which reads the words once, or `moments`,
+ * which does too, and has numbers in place of texts.
  */
 #define _POSIX_C_SOURCE 199309L
 
@@ -59,12 +60,16 @@ struct run {
     size_t count;
     uint8_t *output;
     size_t room;
+    struct instants_moment *moments; /* for so many lines, where numbers are asked for */
+    size_t entries;
 };
 
 /* Answers some of the input, and returns the status. */
 static uint8_t answer(const struct run *run, const uint8_t *input, size_t len)
 {
     size_t written;
+    if (run->moments)
+        return instants_answer_moments(run->handle.at, input, len, run->moments, run->entries, &written);
     if (run->handle.at)
         return instants_answer(run->handle.at, input, len, run->output, run->room, &written);
     return instants_answer_lines(run->words, strlen(run->words), input, len, run->output, run->room, &written);
@@ -92,9 +97,12 @@ int main(int count, char **arguments)
         snprintf(words + strlen(words), sizeof words - strlen(words), "%s%s", at > 4 ? "\n" : "", arguments[at]);
     for (size_t at = 0; at < len; at++)
         lines += input[at] == '\n';
-    struct run run = {words, {0}, input, NULL, 0, malloc(INSTANTS_ROOM(lines_a_call)), INSTANTS_ROOM(lines_a_call)};
+    size_t room = INSTANTS_ROOM(lines_a_call);
+    struct run run = {words, {0}, input, NULL, 0, malloc(room), room, NULL, lines_a_call + 1};
     run.places = cuts(input, len, lines_a_call, &run.count);
-    if (!strcmp(arguments[1], "handle") && instants_open(words, strlen(words), &run.handle))
+    if (!strcmp(arguments[1], "moments"))
+        run.moments = malloc(run.entries * sizeof *run.moments);
+    if (strcmp(arguments[1], "words") && instants_open(words, strlen(words), &run.handle))
         return 1;
     double least = run.output && run.places ? answer_all(&run) : -1, spent = least;
     for (int round = 1; least >= 0 && (round < ROUNDS || spent < BUDGET); round++) {

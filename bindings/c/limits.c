@@ -1,5 +1,6 @@
 /*
- * Tries the calls where they end early: no words, wrong words, words that are not UTF-8, no room, an empty input, a NUL.
+ * Tries the calls where they end early: no words, wrong words, words that are not UTF-8, no room, an empty input, a NUL, and
+ * NULL where a length is 0.
  * Prints what failed, and ends with status 1 if anything did.
  */
 #include <instants.h>
@@ -81,6 +82,56 @@ static void try_sentence(const char *what, const char *words, size_t room, uint8
     tell(what, is_well);
 }
 
+/* NULL where a length is 0, in each call. */
+static void try_null(void)
+{
+    struct instants_handle handle = {0};
+    char output[100];
+    size_t written = 12345;
+    tell("words of NULL", instants_answer_lines(NULL, 0, LINE, strlen(LINE), output, sizeof output, &written) == INSTANTS_REFUSED && written == 0);
+    tell("an input of NULL", instants_answer_lines(WORDS, strlen(WORDS), NULL, 0, output, sizeof output, &written) == INSTANTS_OK && written == 0);
+    tell("both of NULL, and no room", instants_answer_lines(WORDS, strlen(WORDS), NULL, 0, NULL, 0, &written) == INSTANTS_OK && written == 0);
+    tell("no room of NULL", instants_answer_lines(WORDS, strlen(WORDS), LINE, strlen(LINE), NULL, 0, &written) == INSTANTS_FAILED && written == 0);
+    tell("the length of a sentence", instants_sentence("+00:00", 6, NULL, 0, &written) == INSTANTS_REFUSED && written == 56);
+    tell("a sentence on NULL", instants_sentence(NULL, 0, NULL, 0, &written) == INSTANTS_REFUSED && written == 56);
+    tell("no handle on NULL", instants_open(NULL, 0, &handle) == INSTANTS_REFUSED && !handle.at);
+    if (instants_open(WORDS, strlen(WORDS), &handle) != INSTANTS_OK) {
+        tell("a handle", false);
+        return;
+    }
+    tell("an input of NULL by a handle", instants_answer(handle.at, NULL, 0, NULL, 0, &written) == INSTANTS_OK && written == 0);
+    tell("no moments of NULL", instants_answer_moments(handle.at, NULL, 0, NULL, 0, &written) == INSTANTS_OK && written == 0);
+    tell("no room for a moment", instants_answer_moments(handle.at, LINE, strlen(LINE), NULL, 0, &written) == INSTANTS_FAILED && written == 0);
+    instants_close(handle.at);
+}
+
+/* Moments and faults as numbers, in room for so many of three entries; the others stay. */
+static void try_moments(const char *what, size_t room, uint8_t status, size_t count)
+{
+    static const char words[] = "+01:00\n-\n30\nrfc3339";
+    static const char input[] = "1969-12-31T23:59:58.25Z\n2021-02-30T00:00:00Z\n9999999999999999999999999999999";
+    static const struct instants_moment due[] = {
+        {-2, 250000000, 0},
+        {0, 0, INSTANTS_FAULT_RANGE + INSTANTS_COMPONENT_DAY},
+        {0, 0, INSTANTS_FAULT_LONG},
+    };
+    struct instants_moment moments[4];
+    struct instants_handle handle = {0};
+    size_t written = 12345;
+    for (size_t at = 0; at < 4; at++)
+        moments[at] = (struct instants_moment){5, 6, 7};
+    bool is_well = instants_open(words, strlen(words), &handle) == INSTANTS_OK &&
+                   instants_answer_moments(handle.at, input, strlen(input), moments, room, &written) == status && written == count;
+    for (size_t at = 0; at < 4; at++) {
+        const struct instants_moment *wanted = at < count ? &due[at] : &(struct instants_moment){5, 6, 7};
+        is_well = is_well && moments[at].seconds == wanted->seconds && moments[at].nanoseconds == wanted->nanoseconds &&
+                  moments[at].fault == wanted->fault;
+    }
+    tell(what, is_well);
+    if (handle.at)
+        instants_close(handle.at);
+}
+
 /* Two blocks of whole lines have the answers of both together. */
 static void try_blocks(void)
 {
@@ -102,6 +153,11 @@ int main(void)
     try_sentence("the same, cut", "+00:00", 16, INSTANTS_REFUSED, "instants: usage: instants TARGET ASSUMED LIMIT SOURCE...");
     try_sentence("the sentence of words that are not UTF-8", "\xff", 100, INSTANTS_FAILED, "instants: out of memory");
     try_blocks();
+    try_null();
+    try_moments("moments", 4, INSTANTS_OK, 3);
+    try_moments("an entry a line", 3, INSTANTS_OK, 3);
+    try_moments("an entry less", 2, INSTANTS_FAILED, 2);
+    try_moments("no entry", 0, INSTANTS_FAILED, 0);
     tell("the version", instants_version() == INSTANTS_VERSION);
     return has_failed;
 }

@@ -295,9 +295,21 @@ class Arrays(unittest.TestCase):
         outside = ["1677-09-21T00:12:43.145224191Z", "2262-04-11T23:47:16.854775808Z", "0000-01-01T00:00:00Z", "9999-12-31T00:00:00Z"]
         self.assertTrue(numpy.isnat(self.read(outside)).all())
 
+    def test_a_limit(self):
+        found = self.read([LINE, LINE + "0" * 80, "\n"], limit=50)
+        self.assertEqual([bool(it) for it in numpy.isnat(found)], [False, True, True])
+        with self.assertRaisesRegex(instants.Fault, "line 2, .*: long"):
+            self.read([LINE, LINE + "0" * 80], limit=50, raising=True)
+
+    def test_ends_among_others(self):
+        lines = ["2262-04-11T23:47:16.854775807Z", "2262-04-11T23:47:16.854775808Z", "x", "1677-09-21T00:12:43.145224193Z", "1677-09-21T00:12:43.145224192Z"]
+        self.assertEqual([bool(it) for it in numpy.isnat(self.read(lines))], [False, True, True, False, True])
+
     def test_raising(self):
         with self.assertRaisesRegex(instants.Fault, "line 2, 'x': component year"):
             self.read([LINE, "x"], raising=True)
+        with self.assertRaisesRegex(instants.Fault, "line 1, '': component year"):
+            self.read(["", LINE], raising=True)
         with self.assertRaisesRegex(instants.Fault, "datetime64.ns. does not reach to 9999"):
             self.read(["9999-12-31T00:00:00Z"], raising=True)
 

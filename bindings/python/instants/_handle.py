@@ -6,7 +6,7 @@ import ctypes
 import weakref
 from typing import Iterable
 
-from ._library import LIBRARY, LINE_ROOM, OK, REFUSED, Opened, sentence
+from ._library import ENTRY, LIBRARY, LINE_ROOM, OK, REFUSED, Opened, sentence
 
 # Memory for the answer to one line, and for its length.
 ROOM = ctypes.c_char * LINE_ROOM
@@ -63,6 +63,17 @@ class Handle:
         room = ctypes.byref(ctypes.c_char.from_buffer(output))
         LIBRARY.instants_answer(self._at, stream, len(stream), room, len(output), ctypes.byref(written))
         return bytes(memoryview(output)[: written.value])
+
+    def moments(self, stream: bytes) -> memoryview:
+        """Returns an entry of numbers for each line of a stream: `struct instants_moment` of instants.h. Other threads run
+        meanwhile."""
+        most = stream.count(b"\n") + 1
+        # (the bytes of a bytearray are aligned as those of malloc)
+        output = bytearray(ENTRY * most)
+        written = ctypes.c_size_t()
+        room = ctypes.byref(ctypes.c_char.from_buffer(output))
+        LIBRARY.instants_answer_moments(self._at, stream, len(stream), room, most, ctypes.byref(written))
+        return memoryview(output)[: ENTRY * written.value]
 
     def answer_line(self, line: bytes) -> str:
         """Returns the answer to a line without its line feed."""

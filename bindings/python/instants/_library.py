@@ -14,6 +14,9 @@ VERSION = 100
 
 OK, FAILED, REFUSED = 0, 1, 2
 
+# The bytes of an entry: eight of seconds, four of nanoseconds, four of a fault.
+ENTRY = 16
+
 FILE = "libinstants.so.0"
 HOW_TO_GET = (
     "install Debian's package libinstants0, or build the library in its repository (tools/build_library.py) "
@@ -48,6 +51,7 @@ def declare(library: ctypes.CDLL) -> None:
         ("instants_sentence", (read, size, write, size, size_at), status),
         ("instants_open", (read, size, ctypes.POINTER(Opened)), status),
         ("instants_answer", (handle, read, size, write, size, size_at), status),
+        ("instants_answer_moments", (handle, read, size, write, size, size_at), status),
         ("instants_close", (handle,), None),
     ):
         call = getattr(library, name)

@@ -96,11 +96,10 @@ class Timeline:
 
         That type reaches from 1677-09-21T00:12:43.145224193 to 2262-04-11T23:47:16.854775807; a moment before or behind is NaT.
         """
-        stream = stream_of(lines)
-        written = self._open().answer(stream)
-        moments = moments_of(written, self._words[0])
+        stream, handle = stream_of(lines), self._open()
+        moments = moments_of(handle.moments(stream))
         if raising:
-            raise_first_missing(stream, written, moments)
+            raise_first_missing(handle, stream, moments)
         return moments
 
 

@@ -1,12 +1,14 @@
 #![doc = include_str!("../README.md")]
 #![deny(missing_docs)]
 
+mod moment;
 mod timeline;
 
 use std::fmt;
 
 pub use instants_sys::{GREATEST_LIMIT, LINE_ROOM};
 use instants_sys::{OK, REFUSED};
+pub use moment::{LineFault, Moment};
 pub use timeline::Timeline;
 
 /// Why lines are not answered.
@@ -48,7 +50,12 @@ pub fn version() -> u32 {
 /// assert_eq!(instants::room(b"2021-01-02T04:04:05Z"), instants::LINE_ROOM);
 /// ```
 pub fn room(input: &[u8]) -> usize {
-    LINE_ROOM * (input.chunks(255).map(line_feeds).sum::<usize>() + 1)
+    LINE_ROOM * most_lines(input)
+}
+
+/// So many lines an input has at most: one for each line feed, and one more.
+fn most_lines(input: &[u8]) -> usize {
+    input.chunks(255).map(line_feeds).sum::<usize>() + 1
 }
 
 /// How many line feeds there are among at most 255 bytes: counted in a byte, of which the processor adds many at once.

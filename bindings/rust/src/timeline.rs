@@ -6,7 +6,8 @@ use std::ptr::{self, NonNull};
 
 use instants_sys::{Handle, OK, REFUSED};
 
-use crate::{joined, room, sentence, Fault};
+use crate::moment::of_entry;
+use crate::{joined, most_lines, room, sentence, Fault, LineFault, Moment};
 
 /// The program's words, read once: lines are answered by them until it is dropped, by several threads at once too. A call looks
 /// at no words and takes no memory, but for its answers.
@@ -91,6 +92,34 @@ impl Timeline {
             (OK, written) => Ok(written),
             _ => Err(Fault::NoRoom),
         }
+    }
+
+    /// The moment of each line of the input, or its fault: of the same lines and faults as the answers.
+    ///
+    /// ```
+    /// let timeline = instants::Timeline::new(&["+00:00", "-", "100", "rfc3339"])?;
+    /// let moments = timeline.moments(b"1970-01-01T01:00:00.25+01:00\nyesterday\n");
+    /// assert_eq!(moments[0], Ok(instants::Moment { seconds: 0, nanoseconds: 250_000_000 }));
+    /// assert_eq!(moments[1].unwrap_err().to_string(), "component year");
+    /// # Ok::<(), instants::Fault>(())
+    /// ```
+    pub fn moments(&self, input: &[u8]) -> Vec<Result<Moment, LineFault>> {
+        let most = most_lines(input);
+        let mut entries = Vec::<instants_sys::Moment>::with_capacity(most);
+        let mut written = 0;
+        // There is room for an entry a line, which nobody else uses, and as many entries as `written` says are written.
+        unsafe {
+            instants_sys::instants_answer_moments(
+                self.at.as_ptr(),
+                input.as_ptr().cast(),
+                input.len(),
+                entries.as_mut_ptr(),
+                most,
+                &mut written,
+            );
+            entries.set_len(written);
+        }
+        entries.into_iter().map(of_entry).collect()
     }
 
     /// The status of a call, and how many bytes are written to the output.

@@ -1,6 +1,6 @@
 //! The calls on their happy path, and where they end early.
 
-use instants::{answer_into, answers, room, version, Fault, Timeline};
+use instants::{answer_into, answers, room, version, Fault, Moment, Timeline};
 
 const WORDS: [&str; 4] = ["+00:00", "-", "100", "rfc3339"];
 const LINE: &[u8] = b"2021-01-02T04:04:05+01:00\n";
@@ -68,6 +68,18 @@ fn timelines_without_room() -> Result<(), Fault> {
     assert_eq!(timeline.answer_into(LINE, &mut []), Err(Fault::NoRoom));
     assert_eq!(timeline.answer_into(LINE, &mut output), Ok(31));
     assert_eq!(timeline.answer_into(b"", &mut []), Ok(0));
+    Ok(())
+}
+
+#[test]
+fn moments_and_faults() -> Result<(), Fault> {
+    let timeline = Timeline::new(&["+01:00", "-", "30", "rfc3339"])?;
+    assert_eq!(timeline.moments(b""), []);
+    let moments = timeline.moments(b"1969-12-31T23:59:58.25Z\n\n2021-02-30T00:00:00Z\n9999-12-31T23:59:59Z\n9999999999999999999999999999999");
+    assert_eq!(moments[0], Ok(Moment { seconds: -2, nanoseconds: 250_000_000 }));
+    let faults: Vec<_> = moments[1..].iter().filter_map(|it| it.err().map(|it| (it.number(), it.to_string()))).collect();
+    let due = [(201, "component year"), (503, "range day"), (600, "year"), (700, "long")];
+    assert_eq!(faults, due.map(|(number, text)| (number, text.to_string())));
     Ok(())
 }
 

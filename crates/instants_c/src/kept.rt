@@ -6,10 +6,11 @@ ghost use Rattle.instants_words.specs.declared.fault.WordsFault.{WordsFault};
 ghost use Rattle.instants_words.specs.Words.{words_said};
 ghost use Rattle.instants_timeline.specs.Program.{AsksFor, IsRefusedAs};
 ghost use Rattle.instants_timeline.specs.Settings.{setting_of};
-ghost use Rattle.instants_c.specs.Answered.{IsAnswered};
+ghost use Rattle.instants_c.specs.Answered.{IsAnswered, IsNumbered};
 
 use crate::parts::Parts;
 use crate::texts::words_in;
+use instants_memory::{Moment, moments_over};
 use instants_timeline::{ProgramFault, Timeline, TooLittleRoom, read_words, run_over};
 use std::alloc::{AllocError, Global};
 
@@ -48,6 +49,23 @@ pub(crate) fn answer(kept: &Kept, input: &[u8], output: &mut [u8], written: &mut
         }
         Err(TooLittleRoom) => {
             *written = output.len();
+            1
+        }
+    }
+}
+
+/// Writes what each line of the input names, as numbers.
+#[tactic(auto, using(crate::proofs::Feeds::lines_by_feeds))]
+pub(crate) fn number(kept: &Kept, input: &[u8], moments: &mut [Moment], written: &mut usize) -> u8
+    ensures { IsNumbered kept.now input.now result written.new moments.old moments.new }
+{
+    match moments_over(&kept.timeline, kept.limit, input, moments) {
+        Ok(count) => {
+            *written = count;
+            0
+        }
+        Err(TooLittleRoom) => {
+            *written = moments.len();
             1
         }
     }

@@ -24,7 +24,7 @@ ghost use Rattle.instants_timeline.specs.declared.program_fault.ProgramFault.{Pr
 ghost use Rattle.instants_memory.specs.OutputFor.{IsOutputFor};
 ghost use Rattle.instants_c.specs.contracts.kept.Kept.{the_row as kept_row};
 ghost use Rattle.instants_c.specs.declared.kept.Kept.{Kept};
-ghost use Rattle.instants_c.specs.Answered.{IsAnswered};
+ghost use Rattle.instants_c.specs.Answered.{IsAnswered, IsNumbered};
 ghost use Rattle.instants_c.specs.Refused.{IsCutShort, IsPut};
 
 mod handle;
@@ -36,7 +36,7 @@ mod tests;
 mod texts;
 
 pub use handle::Handle;
-use instants_memory::LINE_ROOM;
+use instants_memory::{LINE_ROOM, Moment};
 use instants_timeline::ProgramFault;
 pub use kept::Kept;
 use parts::Parts;
@@ -146,6 +146,25 @@ pub unsafe extern "C" fn instants_answer(
     ensures answered { IsAnswered g.1 input.now result written.new output.old output.new }
 {
     kept::answer(&*(at as *const Kept), input, output, written)
+}
+
+/// Writes what each line of the input names, by what an open handle keeps: one entry a line, its moment as numbers, or the number
+/// of its fault. The result is the program's status, and `written` has how many entries were written. It takes no memory, and
+/// several threads may call at once.
+#[unsafe(no_mangle)]
+pub unsafe extern "C" fn instants_answer_moments(
+    at: *const u8,
+    input: &[u8],
+    moments: &mut [Moment],
+    written: &mut usize,
+) -> u8
+    ghost g: { (Lft × Share) × Kept }
+    // What the handle keeps is lent for the call, and can be lent to others at once.
+    requires* open { sem 𝓛 (fsep (lent_at kept_row at g.1 g.0.0) (flft g.0.0 g.0.1)) }
+    ensures* lent { sem 𝓛 (flft g.0.0 g.0.1) }
+    ensures numbered { IsNumbered g.1 input.now result written.new moments.old moments.new }
+{
+    kept::number(&*(at as *const Kept), input, moments, written)
 }
 
 /// Closes an open handle, and gives back all memory that it keeps.

@@ -1,1 +1,3 @@
 pub mod OutputFor
+pub mod Numbers
+pub mod Printed

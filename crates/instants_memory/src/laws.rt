@@ -1,7 +1,16 @@
 //! What follows for calls over the blocks of an input.
-ghost use Rattle.std.specs.Prelude.{◌≡◌, ◌⊎◌, ◌∷◌, ◌++◌, [], ℕ, List};
+ghost use Rattle.std.specs.Prelude.{◌≡◌, ◌≢◌, ◌<◌, ◌⊎◌, ◌∷◌, ◌++◌, ◌+ℤ◌, ◌*ℤ◌, [], ℕ, List, Ok, map, pos};
+ghost use Rattle.std.specs.List.{All, flat_map};
 ghost use Rattle.base.specs.Bytes.{line_feed};
+ghost use Rattle.calendar_count.specs.ComponentRange.{component_name};
+ghost use Rattle.calendar_count.specs.declared.component_range.ComponentName.{ComponentName};
+ghost use Rattle.datetime_wall.specs.Wall.{Shown, instant, second_nanos};
+ghost use Rattle.instants_stream.specs.Answers.{answered, output};
+ghost use Rattle.instants_stream.specs.Lines.{lines};
+ghost use Rattle.instants_timeline.specs.Place.{Setting, answer_to, place_of};
+ghost use Rattle.instants_memory.specs.Numbers.{entry_of, name_number, numbers_of};
 ghost use Rattle.instants_memory.specs.OutputFor.{IsOutputFor};
+ghost use Rattle.instants_memory.specs.Printed.{HasNumber, entry_line};
 
 use crate::answers::LINE_ROOM;
 
@@ -26,4 +35,27 @@ pub fn joined_blocks()
         → ((first ≡ []) ⊎ ((front : List ℕ) × (first ≡ front ++ line_feed ∷ [])))
         → IsOutputFor words first one → IsOutputFor words second other
         → IsOutputFor words (first ++ second) (one ++ other) }
+{}
+
+/// The numbers of a moment are its instant: seconds, rounded down, and nanoseconds below a second.
+pub fn exact_numbers()
+    ensures instant { (moment : Shown) → (numbers_of (Ok moment)).seconds *ℤ pos second_nanos
+        +ℤ pos (numbers_of (Ok moment)).nanoseconds ≡ instant moment }
+    ensures within { (moment : Shown) → (numbers_of (Ok moment)).nanoseconds < second_nanos }
+{}
+
+/// The text of a line's entry is the answer to the line, where the component that a fault names has a number.
+pub fn printed_entries()
+    ensures line { (setting : Setting) (limit : ℕ) (line : List ℕ) → HasNumber (place_of setting line)
+        → answered (answer_to setting) limit line
+        ≡ entry_line setting.target (entry_of setting limit line) }
+    ensures output { (setting : Setting) (limit : ℕ) (input : List ℕ)
+        → All (λ line. HasNumber (place_of setting line)) (lines input)
+        → output (answer_to setting) limit input
+        ≡ flat_map (entry_line setting.target) (map (entry_of setting limit) (lines input)) }
+{}
+
+/// Each component that can be out of range has a number.
+pub fn numbered_ranges()
+    ensures { (component : ComponentName) → name_number (component_name component) ≢ 0 }
 {}

@@ -9,10 +9,14 @@
 //!
 //! - `answer_lines` does what the program does between its words and its end. It takes the words as `run_words` does, and
 //!   its faults are those of `ProgramFault`; of these `Write` says that the output is too short.
-//! - `laws` has what follows for an input that is answered block by block.
+//! - `moments_over` has each line's moment as numbers in place of a text, or the number of its fault, by a timeline.
+//! - `laws` has what follows for an input that is answered block by block, and how numbers and texts agree.
 #![tactic(auto)]
 
 mod answers;
 pub mod laws;
+mod moments;
+mod numbers;
 
 pub use answers::{LINE_ROOM, answer_lines};
+pub use moments::{Moment, moments_over};

@@ -1,6 +1,6 @@
 //! `calls time FILE`: answers a file of lines of RFC 3339 again and again by the crate `time`, line by line: `parse`,
-//! `to_offset`, `format_into`. `calls LINES FILE`: by a `Timeline`, so many lines a call. Prints the nanoseconds that a line
-//! takes, the least of the rounds.
+//! `to_offset`, `format_into`. `calls LINES FILE`: by a `Timeline`, so many lines a call; `calls LINES FILE moments`: their moments
+//! as numbers. Prints the nanoseconds that a line takes, the least of the rounds.
 
 use instants::Timeline;
 use std::time::Instant;
@@ -45,12 +45,16 @@ fn least(pieces: &[String], answer: impl Fn(&str, &mut Vec<u8>)) -> f64 {
 
 fn main() {
     let words: Vec<String> = std::env::args().skip(1).collect();
-    let [how, file] = &words[..] else { panic!("calls time FILE, or calls LINES FILE") };
+    let [how, file, wanted @ ..] = &words[..] else { panic!("calls time FILE, or calls LINES FILE, or calls LINES FILE moments") };
     let text = std::fs::read_to_string(file).expect("lines");
     let taken = match how.parse() {
         Ok(count) => {
             let timeline = Timeline::new(&["+00:00", "-", "100", "rfc3339"]).expect("these are words");
-            least(&pieces(&text, count), |piece, output| timeline.append_to(piece.as_bytes(), output))
+            if wanted.is_empty() {
+                least(&pieces(&text, count), |piece, output| timeline.append_to(piece.as_bytes(), output))
+            } else {
+                least(&pieces(&text, count), |piece, _| drop(std::hint::black_box(timeline.moments(piece.as_bytes()))))
+            }
         }
         Err(_) => least(&pieces(&text, 1), |line, output| answer(line.trim_end(), output)),
     };

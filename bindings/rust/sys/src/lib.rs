@@ -19,6 +19,43 @@ pub const GREATEST_LIMIT: usize = 1_048_576;
 /// Bytes that always suffice for a line's answer and its line feed.
 pub const LINE_ROOM: usize = 36;
 
+/// Faults as numbers: the constants `COMPONENT` and `RANGE` come with the number of a component added, whose names, in their
+/// order from 1 on, are `NAMES`.
+pub mod fault {
+    /// A required text is missing.
+    pub const LITERAL: u32 = 100;
+    /// A component can't be read.
+    pub const COMPONENT: u32 = 200;
+    /// Something follows what was read.
+    pub const TRAILING: u32 = 300;
+    /// What was read is not enough for a moment.
+    pub const INSUFFICIENT: u32 = 400;
+    /// A component is out of range.
+    pub const RANGE: u32 = 500;
+    /// The year at the target offset is not 0 to 9999.
+    pub const YEAR: u32 = 600;
+    /// The line is longer than the limit.
+    pub const LONG: u32 = 700;
+    /// The names of components as the texts of faults have them; that of number 1 is the first.
+    pub const NAMES: [&str; 26] = [
+        "year", "month", "day", "ordinal", "week", "week number", "weekday", "hour", "minute", "second", "subsecond", "period",
+        "offset hour", "offset minute", "offset second", "unix_timestamp", "ignore", "separator", "julian_day", "millisecond",
+        "microsecond", "nanosecond", "hours", "minutes", "seconds", "timestamp",
+    ];
+}
+
+/// What a line names: a moment, or a fault.
+#[repr(C)]
+#[derive(Clone, Copy, Debug, PartialEq, Eq)]
+pub struct Moment {
+    /// The seconds since 1970 began in UTC, rounded down; 0 where there is a fault.
+    pub seconds: i64,
+    /// The nanoseconds after them, below 1,000,000,000; 0 where there is a fault.
+    pub nanoseconds: u32,
+    /// 0 for a moment, otherwise the number of the fault (`fault`).
+    pub fault: u32,
+}
+
 /// A handle: `at` is null where it is not open. What it points to is the library's.
 #[repr(C)]
 #[derive(Debug)]
@@ -76,6 +113,20 @@ extern "C" {
         input_len: usize,
         output: *mut c_void,
         output_len: usize,
+        written: *mut usize,
+    ) -> u8;
+
+    /// Writes the moment or the fault of each line of the input, one entry a line, by an open handle, whose `at` it is.
+    ///
+    /// # Safety
+    ///
+    /// As for `instants_answer`. `moments_len` counts entries, and `moments` is aligned as an entry is, also where the length is 0.
+    pub fn instants_answer_moments(
+        at: *const c_void,
+        input: *const c_void,
+        input_len: usize,
+        moments: *mut Moment,
+        moments_len: usize,
         written: *mut usize,
     ) -> u8;
 
