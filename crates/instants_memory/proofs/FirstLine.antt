@@ -3,23 +3,8 @@ use Rattle.std.proofs.Common.{◌≡◌, ◌==◌, ℕ, ◌+◌, ◌<◌, ◌≤
 use Rattle.std.proofs.lemmas.Bool.Decides.{nat_tests}
 use Rattle.std.proofs.lemmas.List.{take_more, length-take-le, get_or-take}
 use Rattle.std.proofs.lemmas.List.Elements.{All-from_get_or}
-use Rattle.memchr.specs.Find.{Nowhere, Passes, is_byte}
 use Rattle.instants_stream.specs.Lines.{HasNoLineFeed, but_last, last, if_nonempty, parts, whole_lines, last_part, lines}
 use Rattle.instants_stream.proofs.Lines.{parts_nonempty, weight, weight-parts, whole_lines-line, last_part-line, whole_lines-piece, last_part-piece, lines-append, whole_lines_none, last_part_of_none}
-
-is_false : (b : Bool) → (b ≡ true → ⊥) → b ≡ false
-is_false true h = absurd (h refl)
-is_false false h = refl
-
--- where none of the first bytes is found to be a line feed
-pub free_before : (bytes : List ℕ) (n : ℕ) → n ≤ length bytes → Nowhere (Passes (is_byte 10) bytes) 0 n → HasNoLineFeed (take n bytes)
-free_before bytes n within none =
-    All-from_get_or (λ (b : ℕ). (b == 10) ≡ false) (take n bytes) 0 (λ k lt.
-    let below : k < n = omega (arith, length-take-le n bytes within) in
-    rw (get_or-take n bytes k 0 below) (is_false (get_or bytes k 0 == 10) (none k (omega arith) below)))
-
-pub is_line_feed : (b : ℕ) → (b == 10) ≡ true → b ≡ 10
-is_line_feed b h = grind (arith, nat_tests)
 
 -- no bytes have no lines
 pub no_line : lines [] ≡ []
