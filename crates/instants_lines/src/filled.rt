@@ -75,13 +75,7 @@ fn as_offset(word: &str) -> &str
 }
 
 /// Parts the words behind the mode.
-#[tactic(auto, unfolding(
-    crate::specs::Filled::target_in,
-    crate::specs::Filled::assumed_in,
-    crate::specs::Filled::limit_in,
-    crate::specs::Filled::is_whole,
-    crate::specs::Filled::sources_in,
-))]
+#[tactic(auto, unfolding(crate::specs::Filled::target_in, crate::specs::Filled::assumed_in, crate::specs::Filled::limit_in, crate::specs::Filled::is_whole, crate::specs::Filled::sources_in))]
 pub(crate) fn part<'a, 'b>(words: &'b [&'a str]) -> Parted<'a, 'b>
     ensures target { result.target.now ≡ target_in (map (λ word. word.now) words.now) }
     ensures assumed { result.assumed.now ≡ assumed_in (map (λ word. word.now) words.now) }
@@ -103,10 +97,7 @@ pub(crate) fn part<'a, 'b>(words: &'b [&'a str]) -> Parted<'a, 'b>
 }
 
 /// The words that `instants` has in place of these.
-pub(crate) fn fill<'a>(
-    alloc: Global,
-    parted: &Parted<'a, '_>,
-) -> Result<Vec<&'a str>, AllocError>
+pub(crate) fn fill<'a>(alloc: Global, parted: &Parted<'a, '_>) -> Result<Vec<&'a str>, AllocError>
     ensures { IfOk result (λ words. map (λ word. word.now) words.items
         ≡ parted.now.target.now ∷ parted.now.assumed.now ∷ parted.now.limit.now
         ∷ map (λ word. word.now) parted.now.sources.now) }

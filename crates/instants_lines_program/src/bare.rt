@@ -37,8 +37,7 @@ fn warn(rt: &HostRuntime, language: &str, description: &str) {
     } else {
         "[year]"
     };
-    let _ = eprintln!(
-        rt;
+    let _ = eprintln!(rt;
         "instants-lines: warning: {language} \"{description}\" names no component, as {form}"
     );
 }

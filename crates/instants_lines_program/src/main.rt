@@ -90,7 +90,8 @@ fn ended(rt: &HostRuntime, end: Result<(), LinesFault>, failure: Option<ErrorKin
     };
     // Where the fault can't be printed the status still tells.
     let _ = match (fault, failure) {
-        (LinesFault::Program(ProgramFault::Run(RunFault::Write)), Some(ErrorKind::BrokenPipe)) => Ok(()),
+        (LinesFault::Program(ProgramFault::Run(RunFault::Write)), Some(ErrorKind::BrokenPipe)) =>
+            Ok(()),
         (LinesFault::Program(ProgramFault::Run(_)), Some(kind)) => eprintln!(rt; "{fault}: {kind}"),
         _ => eprintln!(rt; "{fault}"),
     };

@@ -6,55 +6,202 @@ use std::alloc::Global;
 
 // Words parted by bars, and the sentence behind the name of the program.
 static ROWS: [(&str, &str); 49] = [
-    ("", "\"\": no such mode; there are key, carry, replace, explain"),
-    ("keys|+00:00|-|100|rfc3339", "\"keys\": no such mode; there are key, carry, replace, explain"),
-    ("KEY|rfc3339", "\"KEY\": no such mode; there are key, carry, replace, explain"),
-    ("+00:00|-|100|rfc3339", "\"+00:00\": no such mode; there are key, carry, replace, explain"),
-    ("rfc3339", "\"rfc3339\": no such mode; there are key, carry, replace, explain"),
-    ("--help|key", "\"--help\": no such mode; there are key, carry, replace, explain"),
-    ("-h|rfc3339", "\"-h\": no such mode; there are key, carry, replace, explain"),
-    ("access.log", "\"access.log\": no such mode; there are key, carry, replace, explain"),
-    ("key", "no source is named; there are rfc3339, rfc2822, iso8601, v1, v2, v3, strftime"),
-    ("key|+00:00", "no source is named; there are rfc3339, rfc2822, iso8601, v1, v2, v3, strftime"),
-    ("key|+00:00|-", "no source is named; there are rfc3339, rfc2822, iso8601, v1, v2, v3, strftime"),
-    ("key|+00:00|-|100", "no source is named; there are rfc3339, rfc2822, iso8601, v1, v2, v3, strftime"),
-    ("carry|Z", "no source is named; there are rfc3339, rfc2822, iso8601, v1, v2, v3, strftime"),
-    ("carry|UTC|UTC", "no source is named; there are rfc3339, rfc2822, iso8601, v1, v2, v3, strftime"),
-    ("key|+24:00|-|100|rfc3339", "\"+24:00\": no target offset; it must be +HH:MM, -HH:MM, Z or UTC"),
-    ("key|-|rfc3339", "\"-\": no target offset; it must be +HH:MM, -HH:MM, Z or UTC"),
-    ("key|100|rfc3339", "\"100\": no target offset; it must be +HH:MM, -HH:MM, Z or UTC"),
-    ("key|+0000|-|100|rfc3339", "\"+0000\": no target offset; it must be +HH:MM, -HH:MM, Z or UTC"),
-    ("key|+1:00|-|100|rfc3339", "\"+1:00\": no target offset; it must be +HH:MM, -HH:MM, Z or UTC"),
-    ("key|2024-05-01|rfc3339", "\"2024-05-01\": no target offset; it must be +HH:MM, -HH:MM, Z or UTC"),
-    ("key|+00:00|100|rfc3339", "\"100\": no assumed offset; it must be +HH:MM, -HH:MM, Z, UTC or -"),
-    ("key|+00:00|+00:60|100|rfc3339", "\"+00:60\": no assumed offset; it must be +HH:MM, -HH:MM, Z, UTC or -"),
-    ("key|Z|--|100|rfc3339", "\"--\": no assumed offset; it must be +HH:MM, -HH:MM, Z, UTC or -"),
-    ("key|UTC|+5|rfc3339", "\"+5\": no assumed offset; it must be +HH:MM, -HH:MM, Z, UTC or -"),
-    ("carry|+00:00|-|0|rfc3339", "\"0\": no limit; it must be a number from 1 to 1048576"),
-    ("carry|+00:00|-|1048577|rfc3339", "\"1048577\": no limit; it must be a number from 1 to 1048576"),
-    ("carry|+00:00|-|-1|rfc3339", "\"-1\": no limit; it must be a number from 1 to 1048576"),
-    ("carry|+00:00|-|1k|rfc3339", "\"1k\": no limit; it must be a number from 1 to 1048576"),
-    ("carry|+00:00|-|Z|rfc3339", "\"Z\": no limit; it must be a number from 1 to 1048576"),
-    ("carry|+00:00|-|00000100|rfc3339", "\"00000100\": no limit; it must be a number from 1 to 1048576"),
-    ("carry|+00:00|-|1.5|rfc3339", "\"1.5\": no limit; it must be a number from 1 to 1048576"),
-    ("carry|+00:00|-|100|RFC3339", "source 1: \"RFC3339\": no such source; there are rfc3339, rfc2822, iso8601, v1, v2, v3, strftime"),
-    ("carry|+00:00|-|100|rfc3339|rfc-2822", "source 2: \"rfc-2822\": no such source; there are rfc3339, rfc2822, iso8601, v1, v2, v3, strftime"),
-    ("carry|+00:00|-|100|v2|x|v4|x", "source 2: \"v4\": no such source; there are rfc3339, rfc2822, iso8601, v1, v2, v3, strftime"),
-    ("carry|rfc3339|", "source 2: \"\": no such source; there are rfc3339, rfc2822, iso8601, v1, v2, v3, strftime"),
-    ("carry|+00:00|-|100|200|rfc3339", "source 1: \"200\": no such source; there are rfc3339, rfc2822, iso8601, v1, v2, v3, strftime"),
-    ("carry|+00:00|-|100|%d/%b/%Y", "source 1: \"%d/%b/%Y\": no such source; there are rfc3339, rfc2822, iso8601, v1, v2, v3, strftime"),
-    ("carry|utc|rfc3339", "source 1: \"utc\": no such source; there are rfc3339, rfc2822, iso8601, v1, v2, v3, strftime; an offset before the sources is +HH:MM, -HH:MM, Z or UTC"),
-    ("carry|Europe/Berlin|-|100|rfc3339", "source 1: \"Europe/Berlin\": no such source; there are rfc3339, rfc2822, iso8601, v1, v2, v3, strftime; an offset before the sources is +HH:MM, -HH:MM, Z or UTC"),
-    ("carry|RFC3339", "source 1: \"RFC3339\": no such source; there are rfc3339, rfc2822, iso8601, v1, v2, v3, strftime; an offset before the sources is +HH:MM, -HH:MM, Z or UTC"),
-    ("carry|+00:00|none|100|rfc3339", "source 1: \"none\": no such source; there are rfc3339, rfc2822, iso8601, v1, v2, v3, strftime; an offset before the sources is +HH:MM, -HH:MM, Z or UTC"),
-    ("carry|rfc3339|app.log", "source 2: \"app.log\": no such source; files are read from standard input: instants-lines .. < FILE"),
-    ("carry|+00:00|-|100|/var/log/syslog|rfc3339", "source 1: \"/var/log/syslog\": no such source; files are read from standard input: instants-lines .. < FILE"),
-    ("carry|app.log|rfc3339", "source 1: \"app.log\": no such source; files are read from standard input: instants-lines .. < FILE"),
-    ("carry|strftime", "source 1: \"strftime\" needs a description in the next argument"),
-    ("carry|+00:00|-|100|rfc3339|v3", "source 2: \"v3\" needs a description in the next argument"),
-    ("carry|rfc2822|strftime|%F|v1", "source 3: \"v1\" needs a description in the next argument"),
-    ("key|+00:00|-|100|rfc3339|strftime|%!", "source 2: invalid component name `!` at byte index 1"),
-    ("key|v1|[year", "source 1: unclosed opening bracket at byte index 0"),
+    (
+        "",
+        "\"\": no such mode; there are key, carry, replace, explain",
+    ),
+    (
+        "keys|+00:00|-|100|rfc3339",
+        "\"keys\": no such mode; there are key, carry, replace, explain",
+    ),
+    (
+        "KEY|rfc3339",
+        "\"KEY\": no such mode; there are key, carry, replace, explain",
+    ),
+    (
+        "+00:00|-|100|rfc3339",
+        "\"+00:00\": no such mode; there are key, carry, replace, explain",
+    ),
+    (
+        "rfc3339",
+        "\"rfc3339\": no such mode; there are key, carry, replace, explain",
+    ),
+    (
+        "--help|key",
+        "\"--help\": no such mode; there are key, carry, replace, explain",
+    ),
+    (
+        "-h|rfc3339",
+        "\"-h\": no such mode; there are key, carry, replace, explain",
+    ),
+    (
+        "access.log",
+        "\"access.log\": no such mode; there are key, carry, replace, explain",
+    ),
+    (
+        "key",
+        "no source is named; there are rfc3339, rfc2822, iso8601, v1, v2, v3, strftime",
+    ),
+    (
+        "key|+00:00",
+        "no source is named; there are rfc3339, rfc2822, iso8601, v1, v2, v3, strftime",
+    ),
+    (
+        "key|+00:00|-",
+        "no source is named; there are rfc3339, rfc2822, iso8601, v1, v2, v3, strftime",
+    ),
+    (
+        "key|+00:00|-|100",
+        "no source is named; there are rfc3339, rfc2822, iso8601, v1, v2, v3, strftime",
+    ),
+    (
+        "carry|Z",
+        "no source is named; there are rfc3339, rfc2822, iso8601, v1, v2, v3, strftime",
+    ),
+    (
+        "carry|UTC|UTC",
+        "no source is named; there are rfc3339, rfc2822, iso8601, v1, v2, v3, strftime",
+    ),
+    (
+        "key|+24:00|-|100|rfc3339",
+        "\"+24:00\": no target offset; it must be +HH:MM, -HH:MM, Z or UTC",
+    ),
+    (
+        "key|-|rfc3339",
+        "\"-\": no target offset; it must be +HH:MM, -HH:MM, Z or UTC",
+    ),
+    (
+        "key|100|rfc3339",
+        "\"100\": no target offset; it must be +HH:MM, -HH:MM, Z or UTC",
+    ),
+    (
+        "key|+0000|-|100|rfc3339",
+        "\"+0000\": no target offset; it must be +HH:MM, -HH:MM, Z or UTC",
+    ),
+    (
+        "key|+1:00|-|100|rfc3339",
+        "\"+1:00\": no target offset; it must be +HH:MM, -HH:MM, Z or UTC",
+    ),
+    (
+        "key|2024-05-01|rfc3339",
+        "\"2024-05-01\": no target offset; it must be +HH:MM, -HH:MM, Z or UTC",
+    ),
+    (
+        "key|+00:00|100|rfc3339",
+        "\"100\": no assumed offset; it must be +HH:MM, -HH:MM, Z, UTC or -",
+    ),
+    (
+        "key|+00:00|+00:60|100|rfc3339",
+        "\"+00:60\": no assumed offset; it must be +HH:MM, -HH:MM, Z, UTC or -",
+    ),
+    (
+        "key|Z|--|100|rfc3339",
+        "\"--\": no assumed offset; it must be +HH:MM, -HH:MM, Z, UTC or -",
+    ),
+    (
+        "key|UTC|+5|rfc3339",
+        "\"+5\": no assumed offset; it must be +HH:MM, -HH:MM, Z, UTC or -",
+    ),
+    (
+        "carry|+00:00|-|0|rfc3339",
+        "\"0\": no limit; it must be a number from 1 to 1048576",
+    ),
+    (
+        "carry|+00:00|-|1048577|rfc3339",
+        "\"1048577\": no limit; it must be a number from 1 to 1048576",
+    ),
+    (
+        "carry|+00:00|-|-1|rfc3339",
+        "\"-1\": no limit; it must be a number from 1 to 1048576",
+    ),
+    (
+        "carry|+00:00|-|1k|rfc3339",
+        "\"1k\": no limit; it must be a number from 1 to 1048576",
+    ),
+    (
+        "carry|+00:00|-|Z|rfc3339",
+        "\"Z\": no limit; it must be a number from 1 to 1048576",
+    ),
+    (
+        "carry|+00:00|-|00000100|rfc3339",
+        "\"00000100\": no limit; it must be a number from 1 to 1048576",
+    ),
+    (
+        "carry|+00:00|-|1.5|rfc3339",
+        "\"1.5\": no limit; it must be a number from 1 to 1048576",
+    ),
+    (
+        "carry|+00:00|-|100|RFC3339",
+        "source 1: \"RFC3339\": no such source; there are rfc3339, rfc2822, iso8601, v1, v2, v3, strftime",
+    ),
+    (
+        "carry|+00:00|-|100|rfc3339|rfc-2822",
+        "source 2: \"rfc-2822\": no such source; there are rfc3339, rfc2822, iso8601, v1, v2, v3, strftime",
+    ),
+    (
+        "carry|+00:00|-|100|v2|x|v4|x",
+        "source 2: \"v4\": no such source; there are rfc3339, rfc2822, iso8601, v1, v2, v3, strftime",
+    ),
+    (
+        "carry|rfc3339|",
+        "source 2: \"\": no such source; there are rfc3339, rfc2822, iso8601, v1, v2, v3, strftime",
+    ),
+    (
+        "carry|+00:00|-|100|200|rfc3339",
+        "source 1: \"200\": no such source; there are rfc3339, rfc2822, iso8601, v1, v2, v3, strftime",
+    ),
+    (
+        "carry|+00:00|-|100|%d/%b/%Y",
+        "source 1: \"%d/%b/%Y\": no such source; there are rfc3339, rfc2822, iso8601, v1, v2, v3, strftime",
+    ),
+    (
+        "carry|utc|rfc3339",
+        "source 1: \"utc\": no such source; there are rfc3339, rfc2822, iso8601, v1, v2, v3, strftime; an offset before the sources is +HH:MM, -HH:MM, Z or UTC",
+    ),
+    (
+        "carry|Europe/Berlin|-|100|rfc3339",
+        "source 1: \"Europe/Berlin\": no such source; there are rfc3339, rfc2822, iso8601, v1, v2, v3, strftime; an offset before the sources is +HH:MM, -HH:MM, Z or UTC",
+    ),
+    (
+        "carry|RFC3339",
+        "source 1: \"RFC3339\": no such source; there are rfc3339, rfc2822, iso8601, v1, v2, v3, strftime; an offset before the sources is +HH:MM, -HH:MM, Z or UTC",
+    ),
+    (
+        "carry|+00:00|none|100|rfc3339",
+        "source 1: \"none\": no such source; there are rfc3339, rfc2822, iso8601, v1, v2, v3, strftime; an offset before the sources is +HH:MM, -HH:MM, Z or UTC",
+    ),
+    (
+        "carry|rfc3339|app.log",
+        "source 2: \"app.log\": no such source; files are read from standard input: instants-lines .. < FILE",
+    ),
+    (
+        "carry|+00:00|-|100|/var/log/syslog|rfc3339",
+        "source 1: \"/var/log/syslog\": no such source; files are read from standard input: instants-lines .. < FILE",
+    ),
+    (
+        "carry|app.log|rfc3339",
+        "source 1: \"app.log\": no such source; files are read from standard input: instants-lines .. < FILE",
+    ),
+    (
+        "carry|strftime",
+        "source 1: \"strftime\" needs a description in the next argument",
+    ),
+    (
+        "carry|+00:00|-|100|rfc3339|v3",
+        "source 2: \"v3\" needs a description in the next argument",
+    ),
+    (
+        "carry|rfc2822|strftime|%F|v1",
+        "source 3: \"v1\" needs a description in the next argument",
+    ),
+    (
+        "key|+00:00|-|100|rfc3339|strftime|%!",
+        "source 2: invalid component name `!` at byte index 1",
+    ),
+    (
+        "key|v1|[year",
+        "source 1: unclosed opening bracket at byte index 0",
+    ),
 ];
 
 const USAGE: &str = "usage: instants-lines MODE [TARGET [ASSUMED [LIMIT]]] SOURCE...";

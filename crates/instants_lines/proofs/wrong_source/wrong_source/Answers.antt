@@ -13,8 +13,7 @@ returns-then-taken-eq0-clause-some c =
     let said = c.loop-at.invariant.said in
     let left : take (length words - c.loop-at.at) (drop c.loop-at.at words) ≡ drop c.loop-at.at words = take_all (length words - c.loop-at.at) (drop c.loop-at.at words) (omega (arith, length-drop c.loop-at.at words)) in
     let zero : c.source_len-taken.result ≡ 0 = grind (arith, c.if-taken-eq0.true) in
-    let none : source_said (drop c.loop-at.at all) ≡ None = rw (drop-map (λ word. word.now) c.loop-at.at words) (rw left at (c.source_len-taken.ensures.none zero)) in
-    (
+    let none : source_said (drop c.loop-at.at all) ≡ None = rw (drop-map (λ word. word.now) c.loop-at.at words) (rw left at (c.source_len-taken.ensures.none zero)) in (
       c.loop-at.count + 1,
       said_wrong all said.0 (c.loop-at.count + 1) c.loop-at.at said.1 (rw (length-map words (λ word. word.now)) c.loop-at-test.true) none,
       c.told_of.ensures ∙ ap (wrong_source (c.loop-at.count + 1)) (ap (map (λ word. word.now)) left ∙ sym (drop-map (λ word. word.now) c.loop-at.at words)) ∙ sym c.loop-at.invariant.wrong,
