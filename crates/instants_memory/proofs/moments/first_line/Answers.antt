@@ -1,4 +1,4 @@
-use Rattle.std.proofs.Common.{◌≡◌, ◌+◌, ◌<◌, ◌∷◌, ap, ◌∙◌, sym, length, take, arith, subst}
+use Rattle.std.proofs.Common.{◌+◌, ◌∷◌, ap, ◌∙◌, sym, length, take, arith, subst}
 use Rattle.std.proofs.lemmas.List.{take_rest, take_all}
 use Rattle.instants_stream.specs.Lines.{HasNoLineFeed, lines}
 use Rattle.instants_memory.proofs.FirstLine.{free_before, is_line_feed, last_line, next_line}
