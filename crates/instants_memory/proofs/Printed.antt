@@ -1,17 +1,17 @@
 -- The answer to a line is the text of its entry.
-use Rattle.std.proofs.Common.{◌≡◌, ◌≢◌, ◌==◌, ℕ, suc, ◌+◌, Bool, true, false, cond, Result, Ok, Err, List, [], ◌∷◌, ◌++◌, map, length, ℤ, pos, ◌+ℤ◌, ◌*ℤ◌, refl, sym, ap, ◌∙◌, arith}
-use Rattle.std.specs.Prelude.{codes, nat_lt}
+use Rattle.std.proofs.Common.{◌≡◌, ◌==◌, ℕ, suc, Bool, true, false, cond, Result, Ok, Err, List, [], ◌∷◌, ◌++◌, map, length, ℤ, refl, sym, ap, ◌∙◌, arith}
+use Rattle.std.specs.Prelude.{nat_lt}
 use Rattle.std.specs.List.{All, flat_map}
 use Rattle.std.proofs.lemmas.Bool.Decides.{nat_tests}
 use Rattle.calendar_count.proofs.lemmas.Signed.{signed}
-use Rattle.datetime_wall.specs.Wall.{Shown, instant, second_nanos, wall_at}
+use Rattle.datetime_wall.specs.Wall.{Shown, instant, wall_at}
 use Rattle.instants_answers.specs.Text.{moment_text}
 use Rattle.instants_stream.specs.Answers.{answer_or_long, answered, output}
 use Rattle.instants_stream.specs.Lines.{lines}
 use Rattle.instants_timeline.specs.Place.{Setting, answer_to, place_of, place_text}
 use Rattle.instants_timeline.specs.Refusal.{Refusal, literal, component, trailing, insufficient, range, year, long, refusal_text}
 use Rattle.instants_laws.proofs.Placed.{shown_at_target}
-use Rattle.instants_memory.specs.Numbers.{entry_of, fault_number, name_number, numbers_of}
+use Rattle.instants_memory.specs.Numbers.{entry_of, fault_number, numbers_of}
 use Rattle.instants_memory.specs.Printed.{HasNumber, entry_line, entry_text, fault_text}
 use Rattle.instants_memory.proofs.FaultTexts.{component_is, insufficient_is, literal_is, long_is, range_is, trailing_is, year_is}
 use Rattle.instants_memory.proofs.Unix.{both_parts}

@@ -1,5 +1,5 @@
 -- Entries as texts.
-use Rattle.std.specs.Prelude.{◌≢◌, ℕ, ◌+◌, ◌-◌, ◌==◌, List, [], ◌∷◌, ◌++◌, codes, nat_lt, slice_index_or, if◌then◌else◌, Result, Ok, Err, ℤ, pos, ◌+ℤ◌, ◌*ℤ◌, ⊤}
+use Rattle.std.specs.Prelude.{◌≢◌, ℕ, ◌-◌, ◌==◌, List, [], ◌∷◌, ◌++◌, codes, nat_lt, slice_index_or, if◌then◌else◌, Result, Err, ℤ, pos, ◌+ℤ◌, ◌*ℤ◌, ⊤}
 use Rattle.base.specs.Bytes.{line_feed}
 use Rattle.datetime_wall.specs.Wall.{Shown, second_nanos, wall_at}
 use Rattle.instants_answers.specs.Text.{moment_text}
