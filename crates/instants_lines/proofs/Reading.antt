@@ -1,5 +1,5 @@
 -- What words say that begin with a mode, by the parts of those behind it.
-use Rattle.std.proofs.Common.{◌≡◌, ℕ, Bool, Option, Some, None, Result, Ok, Err, List, [], ◌∷◌, length, refl, sym, ap, ◌∙◌, arith}
+use Rattle.std.proofs.Common.{◌≡◌, ℕ, Bool, Some, None, Result, Ok, Err, List, [], ◌∷◌, length, refl, sym, ap, ◌∙◌, arith}
 use Rattle.std.specs.Prelude.{IsOk}
 use Rattle.instants_words.specs.Words.{words_said}
 use Rattle.instants_words.specs.declared.fault.WordsFault.{WordsFault}

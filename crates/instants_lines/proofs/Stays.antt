@@ -1,6 +1,5 @@
 -- Words that nothing is left out of stay as they are.
-use Rattle.std.proofs.Common.{◌≡◌, ◌≢◌, ℕ, ◌+◌, ◌<◌, ◌≤◌, Bool, true, false, ◌&&◌, ◌||◌, ◌==◌, nat_le, Option, None, Some, option_map, Result, Ok, Err, List, [], ◌∷◌, length, codes, if◌then◌else◌, refl, sym, ap, ◌∙◌, subst, arith, rules, tests, ℤ}
-use Rattle.std.specs.Prelude.{IsSome}
+use Rattle.std.proofs.Common.{◌≡◌, ℕ, ◌<◌, Bool, true, false, ◌&&◌, ◌||◌, ◌==◌, nat_le, Option, None, Some, option_map, Result, Ok, Err, List, [], ◌∷◌, length, codes, if◌then◌else◌, refl, sym, ap, ◌∙◌, arith, ℤ}
 use Rattle.std.specs.Char.{is_ascii_digit}
 use Rattle.std.specs.List.{list_all}
 use Rattle.std.specs.Str.{bytes_eq}
@@ -12,7 +11,7 @@ use Rattle.instants_words.specs.Sources.{SourceSaid, sources_said}
 use Rattle.instants_words.specs.Words.{words_said}
 use Rattle.instants_words.specs.declared.fault.WordsFault.{WordsFault}
 use Rattle.instants_lines.proofs.Told.{by_parts, parts}
-use Rattle.instants_lines.specs.Filled.{has_sign_or_digit, is_utc, is_setting, as_offset, front_setting, behind_setting, target_in, assumed_in, limit_in, is_whole, sources_in, filled}
+use Rattle.instants_lines.specs.Filled.{has_sign_or_digit, is_utc, is_setting, as_offset, target_in, assumed_in, limit_in, sources_in, filled}
 
 signed : (sign : ℕ) (number : Option ℕ) (offset : ℤ) → with_sign sign number ≡ Some offset → (sign == plus || sign == hyphen) ≡ true
 signed sign (Some number) offset e = grind arith

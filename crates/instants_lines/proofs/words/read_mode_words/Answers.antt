@@ -1,4 +1,4 @@
-use Rattle.std.proofs.Common.{◌≡◌, None, map, sym, ap, ◌∙◌, rules}
+use Rattle.std.proofs.Common.{◌≡◌, None, map, sym, ap, ◌∙◌}
 use Rattle.std.proofs.lemmas.List.{length-map}
 use Rattle.instants_lines.specs.Modes.{mode_said}
 use Rattle.instants_lines.proofs.Reading.{no_mode, unknown_mode, wrong_told, right_told, accepted}

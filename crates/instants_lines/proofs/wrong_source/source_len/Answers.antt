@@ -1,4 +1,4 @@
-use Rattle.std.proofs.Common.{◌≡◌, ◌∷◌, ◌∙◌, ◌<◌, length, map, sym, ap, arith}
+use Rattle.std.proofs.Common.{◌∙◌, ◌<◌, length, map, sym, ap, arith}
 use Rattle.std.proofs.lemmas.List.{length-map}
 use Rattle.instants_lines.proofs.Told.{format_len, language_len}
 use Rattle.instants_lines.proofs.wrong_source.source_len.Goals as goal
