@@ -1,8 +1,6 @@
 -- The lines of bytes, by the first one.
-use Rattle.std.proofs.Common.{◌≡◌, ◌==◌, ℕ, ◌+◌, ◌<◌, ◌≤◌, lit≤, Bool, true, false, List, [], ◌∷◌, ◌++◌, take, drop, length, get_or, refl, sym, ap, ◌∙◌, arith, take-append-drop}
-use Rattle.std.proofs.lemmas.Bool.Decides.{nat_tests}
-use Rattle.std.proofs.lemmas.List.{take_more, length-take-le, get_or-take}
-use Rattle.std.proofs.lemmas.List.Elements.{All-from_get_or}
+use Rattle.std.proofs.Common.{◌≡◌, ℕ, ◌+◌, ◌<◌, lit≤, List, [], ◌∷◌, ◌++◌, take, drop, length, get_or, refl, sym, ap, ◌∙◌, arith, take-append-drop}
+use Rattle.std.proofs.lemmas.List.{take_more}
 use Rattle.instants_stream.specs.Lines.{HasNoLineFeed, but_last, last, if_nonempty, parts, whole_lines, last_part, lines}
 use Rattle.instants_stream.proofs.Lines.{parts_nonempty, weight, weight-parts, whole_lines-line, last_part-line, whole_lines-piece, last_part-piece, lines-append, whole_lines_none, last_part_of_none}
 

@@ -1,4 +1,4 @@
-use Rattle.std.proofs.Common.{◌≡◌, ◌+◌, ◌<◌, ◌∷◌, ap, ◌∙◌, sym, length, take, arith}
+use Rattle.std.proofs.Common.{◌+◌, ◌∷◌, ap, ◌∙◌, sym, take}
 use Rattle.std.proofs.lemmas.List.{take_rest}
 use Rattle.instants_stream.specs.Lines.{lines}
 use Rattle.instants_memory.proofs.FirstLine.{last_line, next_line}
@@ -12,4 +12,4 @@ returns-in-Some-clause-lines c =
     next_line input len found.before found.within found.line_feed ∙ ap (λ l. take len input ∷ lines l) (sym (take_rest input (len + 1)))
 
 pub returns-in-None-clause-lines : goal.returns-in-None-clause-lines
-returns-in-None-clause-lines c = last_line c.args.input.now c.in-None.ensures c.requires
+returns-in-None-clause-lines c = last_line c.args.input.now c.in-None.ensures.none c.requires
