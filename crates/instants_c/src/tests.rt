@@ -32,7 +32,7 @@ fn answered_by_kept(alloc: Global, words: &'static [u8]) -> Result<(u8, usize, [
     Ok((status, written, output))
 }
 
-// The status of three lines by what is kept, how many entries are written, and the room of so many.
+// The status of three lines by what is kept, how many entries are written, and the room, of which so many are given.
 fn numbered_by_kept(alloc: Global, room: usize) -> Result<(u8, usize, [(i64, u32, u32); 4]), u8> {
     let kept = match keep(alloc, b"+01:00\n-\n30\nrfc3339") {
         Ok(kept) => kept,
@@ -45,7 +45,7 @@ fn numbered_by_kept(alloc: Global, room: usize) -> Result<(u8, usize, [(i64, u32
     };
     let (mut moments, mut written) = ([unwritten; 4], 0);
     let input = b"1969-12-31T23:59:58.25Z\n2021-02-30T00:00:00Z\n9999999999999999999999999999999";
-    let status = number(&kept, input, &mut moments[..room], &mut written);
+    let status = number(&kept, input, &mut moments[..room.min(4)], &mut written);
     Ok((
         status,
         written,
