@@ -3,10 +3,10 @@
 
     tools/build_library.py
 
-The crate `instants_c` and those below it are proved by `rt ci` over a copy of them (tools/build_program.py), so a crate that
-was proved for a program is not proved again. Rattle's compiler makes an archive of them; that and the kit's few lines of C, by
-which Rattle takes memory, become one object, in which the calls of `include/instants.h` are the only names that others see.
-Both libraries are made of that. The packages of Debian: binutils gcc.
+The crates below `instants_c` are proved by `rt ci` over a copy of them (tools/build_program.py), so a crate that was proved for
+a program is not proved again. Rattle's compiler proves `instants_c` over them and makes an archive of all. That and the kit's
+few lines of C, by which Rattle takes memory, become one object, in which the calls of `include/instants.h` are the only names
+that others see. Both libraries are made of that. The packages of Debian: binutils gcc.
 """
 
 import pathlib
@@ -36,10 +36,14 @@ class Library(Program):
     def is_current(self):
         return super().is_current() and (out() / ARCHIVE).is_file()
 
+    def proved_first(self):
+        return [it for it in self.crates() if it != CRATE]
+
     def made_in(self, room):
         """Makes both libraries of the crates that `rt ci` proved in a copy of them, and returns them by name."""
-        self.say("the crates are proved; compiling the library")
-        compile_archive(self.crates(), room)
+        self.say(f"proving and compiling {CRATE}, the last crate, in a minute or two")
+        build_program.copy_crate(CRATE, room)
+        compile_archive(self.proved_first(), room)
         join(room)
         return {name: room / name for name in (ARCHIVE, SHARED)}
 
@@ -65,16 +69,16 @@ def kit():
 
 
 def compile_archive(crates, room):
-    """Has Rattle's compiler make the archive of the proved crates. It checks the topmost crate once more, and the others' seals."""
+    """Has Rattle's compiler prove the topmost crate over the proved ones below it, and make the archive of all."""
     rlib = lambda it: room / "crates" / it / "out" / "rlib"
     used = ["std", *(it for it in uses()[CRATE])]
     externs = [f"{it}={rlib(it) / it}.rlib" if it in crates else f"{it}={kit()}/rlibs/{it}.rlib" for it in used]
-    folders = [f"{kit()}/rlibs", *(rlib(it) for it in crates if it != CRATE)]
+    folders = [f"{kit()}/rlibs", *(rlib(it) for it in crates)]
     command = [kit() / "bin" / "rattle", "build", "--crate-name", CRATE, "src/lib.rt", "--crate-type", "staticlib"]
     command += [word for it in externs for word in ("--extern", it)]
     command += [word for it in folders for word in ("-L", f"dependency={it}")]
     command += ["--antt-project", kit() / "rattle" / "logic" / "antt-project.json", "--logic-built", kit() / "logic_built"]
-    command += ["--toolchain", kit() / "toolchain", "--backend", "llvm", "-o", room / "proved.a"]
+    command += ["--toolchain", kit() / "toolchain", "--backend", "llvm", "--jobs", "2", "-o", room / "proved.a"]
     run(["nice", "-n", "10", *command], room / "crates" / CRATE)
 
 

@@ -56,8 +56,8 @@ def build(*programs):
 
 
 def crates_of(programs):
-    """Returns the crates that the programs are made of, each behind those that it uses."""
-    return list(dict.fromkeys(crate for program in programs for crate in program.crates()))
+    """Returns the crates of these programs that `rt ci` proves, each behind those that it uses."""
+    return list(dict.fromkeys(crate for program in programs for crate in program.proved_first()))
 
 
 def room_of_checkout():
@@ -95,12 +95,17 @@ def lay_out(crates, room):
     (room / "crates.txt").write_text("".join(said[it] for it in crates))
     shutil.copy(ROOT / "HANDLES", room / "HANDLES")
     for crate in crates:
-        for part in (*PARTS, *RUN):
-            source, target = ROOT / "crates" / crate / part, room / "crates" / crate / part
-            if source.is_dir():
-                shutil.copytree(source, target)
-            elif source.is_file():
-                shutil.copy(source, target)
+        copy_crate(crate, room)
+
+
+def copy_crate(crate, room):
+    """Copies the sources of a crate, and the stored run of a program."""
+    for part in (*PARTS, *RUN):
+        source, target = ROOT / "crates" / crate / part, room / "crates" / crate / part
+        if source.is_dir():
+            shutil.copytree(source, target)
+        elif source.is_file():
+            shutil.copy(source, target)
 
 
 def prove(programs, room):

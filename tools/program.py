@@ -34,6 +34,10 @@ class Program:
     def say(self, text):
         print(f"{self.name}: {text}", file=sys.stderr, flush=True)
 
+    def proved_first(self):
+        """Returns the crates that `rt ci` proves for it, each behind those that it uses."""
+        return self.crates()
+
     def made_in(self, room):
         """Returns what `rt ci` made of it in a copy of the crates, by name."""
         return {self.file.name: room / "crates" / self.crate / "out" / self.crate}
