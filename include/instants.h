@@ -34,7 +34,8 @@
  *     }
  *
  * Numbers. `instants_answer_moments` gives each line's moment as seconds and nanoseconds in place of a text, or the number of its
- * fault. It is proved of the same moments and faults as the texts.
+ * fault. It is proved of the same moments as the texts, and of the same faults, if the component that a fault names has a number;
+ * a component without one has the number of its fault's kind alone, and none is known to occur.
  *
  * Where it runs. The library is for x86-64 Linux. A call needs less than 256 KiB of stack: 152 KiB were measured for a
  * description with the deepest nesting that is allowed, 40 KiB for long descriptions that are not nested like that, 24 KiB for
