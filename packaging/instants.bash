@@ -17,8 +17,8 @@ _instants()
     if [[ ${COMP_WORDS[0]##*/} == instants-lines ]]; then
         # (behind a source all words are sources)
         case $before in
-            rfc3339 | rfc2822 | iso8601 | v1 | v2 | v3 | strftime) place=9 ;;
-            *) open=" $sources" ;;
+            rfc3339 | rfc2822 | iso8601 | v1 | v2 | v3 | strftime | year | time) place=9 ;;
+            *) open=" year time $sources" ;;
         esac
     fi
     case $place in
@@ -32,7 +32,7 @@ _instants()
         *)
             case $before in
                 # a description stands here
-                v1 | v2 | v3 | strftime) ;;
+                v1 | v2 | v3 | strftime | year | time) ;;
                 *) words=$sources ;;
             esac
             ;;

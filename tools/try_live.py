@@ -9,7 +9,8 @@ other:
 
 - a hundred lines, each written when the answer to the last one is there;
 - lines in two pieces: nothing is answered before the second one;
-- two lines at once, and behind them a line that is too long, in three pieces;
+- two lines at once, and after them a line that is longer than the limit, in three pieces;
+- of `instants-lines`, a line that goes on far after the limit, whose first piece is handed on before the next one is written;
 - at the end of the input a last line without a line feed.
 
 An answer that does not come within ten seconds has failed. The last line counts what passed; the status is 1 where anything
@@ -25,11 +26,13 @@ import time
 
 ROOT = pathlib.Path(__file__).resolve().parent.parent
 WORDS = ["+00:00", "-", "100", "rfc3339"]
-# The option's programs: the crate, the words, and what stands behind a date-time in what is written.
+# The option's programs: the crate, the words, and what stands after a date-time in what is written.
 PROGRAMS = {False: ("instants_program", WORDS, lambda line: b""), True: ("instants_lines_program", ["carry", *WORDS], lambda line: b"\t" + line)}
 # How long an answer may take, and how long it is seen that none comes, in seconds.
 PATIENCE, SILENCE = 10, 0.2
 PIECES = 10
+# More bytes than are looked at of a line with the limit of the words.
+FAR = 500
 
 counts = {True: 0, False: 0}
 
@@ -111,8 +114,18 @@ def try_several(live):
     live.answers("two lines at once", *(b"".join(it) for it in zip(*both)))
     for piece in (b"9" * 60, b"9" * 60):
         live.write(piece)
-        tell("a line that is too long", live.read(1, SILENCE) == b"", "it is answered before its line feed")
-    live.answers("a line that is too long", b"9\n", b"! long\n")
+        tell("a long line", live.read(1, SILENCE) == b"", "it is answered before its line feed")
+    key = both[1][1].split(b"\t")[0]
+    live.answers("a long line", b"9\n", key + live.behind(b"9" * 121) + b"\n" if live.behind(b"") else b"! long\n")
+
+
+def try_handed_on(live):
+    """Tries a line that goes on far after the limit: each piece is handed on."""
+    front, _ = line_and_answer(live, 11)
+    piece = front[:-1] + b" " * FAR
+    live.answers("the front of a line that goes on", piece, line_and_answer(live, 11)[1].split(b"\t")[0] + b"\t" + piece)
+    live.answers("more of it", b"8" * 9, b"8" * 9)
+    live.answers("its end", b"\n", b"\n")
 
 
 def main(words):
@@ -127,6 +140,8 @@ def main(words):
     try:
         if try_lines(live) and try_pieces(live):
             try_several(live)
+            if is_lines:
+                try_handed_on(live)
             line, answer = line_and_answer(live, 9)
             live.end("the last line", line[:-1], answer)
     except BrokenPipeError:

@@ -24,12 +24,14 @@ PROGRAM = ROOT / "crates" / "instants_lines_program" / "out" / "instants_lines_p
 SOURCES = "rfc3339, rfc2822, iso8601, v1, v2, v3, strftime"
 # Arguments, and the sentence behind the program's name.
 ROWS = (
-    ("", "usage: instants-lines MODE [TARGET [ASSUMED [LIMIT]]] SOURCE..."),
+    ("", "usage: instants-lines MODE [TARGET [ASSUMED [LIMIT]]] [year N] [time HH:MM] SOURCE..."),
     ("keys rfc3339", '"keys": no such mode; there are key, carry, replace, explain'),
     ("key", f"no source is named; there are {SOURCES}"),
     ("key +24:00 rfc3339", '"+24:00": no target offset; it must be +HH:MM, -HH:MM, Z or UTC'),
     ("key Z 7 rfc3339", '"7": no assumed offset; it must be +HH:MM, -HH:MM, Z, UTC or -'),
     ("key Z - 0 rfc3339", '"0": no limit; it must be a number from 1 to 1048576'),
+    ("key year 24x rfc3339", '"24x": no year; it must be a number from 0 to 9999'),
+    ("key time 25:00 rfc3339", '"25:00": no time of day; it must be HH:MM'),
     ("key Z - 9 RFC3339", f'source 1: "RFC3339": no such source; there are {SOURCES}'),
     ("key rfc3339 app.log", 'source 2: "app.log": no such source; files are read from standard input: instants-lines .. < FILE'),
     ("key strftime", 'source 1: "strftime" needs a description in the next argument'),

@@ -5,16 +5,15 @@ use Rattle.std.specs.Int.{bit_at}
 use Rattle.std.proofs.lemmas.Bool.{cases_lt}
 use Rattle.std.proofs.lemmas.List.{get_or-drop, length-drop}
 use Rattle.std.proofs.lemmas.List.Elements.{All-weaker}
+use Rattle.instants_fronts.specs.NoFront.{HasNoFront}
 use Rattle.instants_sources.specs.Grammar.{Grammar}
-use Rattle.instants_found.specs.Found.{at_place}
-use Rattle.instants_found.specs.Starts.{AreStarts, HasNoDate, HasNoFront, MarkPlaces}
+use Rattle.instants_found.specs.Starts.{AreStarts, HasNoDate, IsNoDate, MarkPlaces}
 use Rattle.instants_found.specs.Keys.{AreBytes, stands_at, has_key, NeedsFour, NeedsOne, AreKeys}
 use Rattle.instants_found.specs.declared.key.Key.{Key}
 use Rattle.instants_found.specs.declared.keys.Keys.{Keys}
 use Rattle.instants_found.specs.Marks.{AreMarks, IsUnmarked}
 use Rattle.instants_found.specs.declared.marks.Marks.{Marks}
-use Rattle.instants_found.proofs.NoDates.{none_starts}
-use Rattle.instants_found.proofs.Next.{no_front_there}
+use Rattle.instants_found.proofs.NoDates.{no_front_there, none_starts}
 
 -- ---- places
 
@@ -24,39 +23,39 @@ bytes_behind line start few k = let same : get_or (drop start line) k 0 ≡ get_
 no_key_behind : (key : Key) (line : List ℕ) (start : ℕ) → stands_at key line start ≡ false → has_key key (drop start line) ≡ false
 no_key_behind key line start none = ap (λ (n : ℕ). n == key.byte) (get_or-drop start line key.place 0) ∙ none
 
-module _ (assumed : Option ℤ) (sources : List Grammar) (line : List ℕ) where
+module _ (sources : List Grammar) (line : List ℕ) where
   -- neither key stands behind the place
-  pub unkeyed_none : (keys : Keys) (start : ℕ) → AreKeys sources keys → AreBytes line → stands_at keys.first line start ≡ false → stands_at keys.second line start ≡ false → at_place assumed sources line start ≡ None
+  pub unkeyed_none : (keys : Keys) (start : ℕ) → AreKeys sources keys → AreBytes line → stands_at keys.first line start ≡ false → stands_at keys.second line start ≡ false → IsNoDate sources line start
   unkeyed_none keys start are few first second =
-      no_front_there assumed sources line start
+      no_front_there sources line start
       (All-weaker (NeedsOne keys) (HasNoFront (drop start line)) (λ grammar needs. needs.key (drop start line) (bytes_behind line start few) (no_key_behind keys.first line start first) (no_key_behind keys.second line start second)) sources are)
 
   -- fewer than four bytes are left
-  pub short_none : (start : ℕ) → All NeedsFour sources → length line < start + 4 → at_place assumed sources line start ≡ None
+  pub short_none : (start : ℕ) → All NeedsFour sources → length line < start + 4 → IsNoDate sources line start
   short_none start are short =
-      no_front_there assumed sources line start (All-weaker NeedsFour (HasNoFront (drop start line)) (λ grammar four. four (drop start line) (let left : length (drop start line) ≡ length line - start = length-drop start line in omega (arith, left, short))) sources are)
+      no_front_there sources line start (All-weaker NeedsFour (HasNoFront (drop start line)) (λ grammar four. four (drop start line) (let left : length (drop start line) ≡ length line - start = length-drop start line in omega (arith, left, short))) sources are)
 
   -- what isn't marked has no date
-  pub unmarked_none : (starts : List Bool) (marks : Marks) (start : ℕ) → AreStarts sources starts → AreMarks sources starts marks → AreBytes line → IsUnmarked marks line start → at_place assumed sources line start ≡ None
+  pub unmarked_none : (starts : List Bool) (marks : Marks) (start : ℕ) → AreStarts sources starts → AreMarks sources starts marks → AreBytes line → IsUnmarked marks line start → IsNoDate sources line start
   unmarked_none starts marks start are right few none =
       elim none [
         | inl keys ↦ unkeyed_none marks.keys start right.keys few keys.0 keys.1
-        | inr first ↦ none_starts assumed sources starts line start are (right.first (get_or line start 0) (few start) first)
+        | inr first ↦ none_starts sources starts line start are (right.first (get_or line start 0) (few start) first)
       ]
 
   -- the bits of the marks of sixteen places
   pub marks_of : (starts : List Bool) (marks : Marks) (at bits : ℕ) → AreStarts sources starts → AreMarks sources starts marks → AreBytes line
-      → ((k : ℕ) → k < 16 → bit_at bits k ≡ 0 → IsUnmarked marks line (at + k)) → MarkPlaces assumed sources line at (at + 16) bits
+      → ((k : ℕ) → k < 16 → bit_at bits k ≡ 0 → IsUnmarked marks line (at + k)) → MarkPlaces sources line at (at + 16) bits
   marks_of starts marks at bits are right few is_bits = λ k lt none. unmarked_none starts marks (at + k) are right few (is_bits k (omega (arith, lt)) none)
 
   -- only the first of the last four places may have a date
-  pub none_at_end : (from : ℕ) → All NeedsFour sources → length line ≤ from + 4 → (length line ≡ from + 4 → at_place assumed sources line from ≡ None) → HasNoDate assumed sources line from (length line)
+  pub none_at_end : (from : ℕ) → All NeedsFour sources → length line ≤ from + 4 → (length line ≡ from + 4 → IsNoDate sources line from) → HasNoDate sources line from (length line)
   none_at_end from are end here = λ place low high.
       elim (cases_lt (length line) (place + 4)) [
         | inl short ↦ short_none place are short
         | inr long ↦
             let same : from ≡ place = omega (arith, end, low, long) in
-            let P : ℕ → Type 0 = λ n. at_place assumed sources line n ≡ None in
+            let P : ℕ → Type 0 = λ n. IsNoDate sources line n in
             subst P same (here (omega (arith, end, low, long)))
       ]
 

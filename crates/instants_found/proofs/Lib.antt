@@ -1,13 +1,12 @@
-pub mod NamedFront
-pub mod NoFront
-pub mod Trimmed
+pub mod Needless
 pub mod Steps
-pub mod First
-pub mod Wholly
 pub mod LaneLemmas
 pub mod NoStart
 pub mod NoDates
 pub mod Next
 pub mod SourceKeys
 pub mod KeyLemmas
-mod FastFront
+pub mod Longest
+pub mod FirstFound
+pub mod NearFound
+pub mod OneFound

@@ -1,14 +1,15 @@
 -- What sources need, by their first bytes.
-use Rattle.std.proofs.Common.{◌≡◌, List, get_or, Option, Some, None, refl, subst, arith}
+use Rattle.std.proofs.Common.{◌≡◌, ◌∙◌, ℕ, List, take, get_or, Option, Some, None, refl, subst, arith}
 use Rattle.std.specs.Prelude.{IfSome}
 use Rattle.std.specs.Option.{ForSome}
-use Rattle.std.proofs.lemmas.List.{get_or_past}
+use Rattle.std.proofs.lemmas.List.{get_or-take, get_or_past}
 use Rattle.base.specs.Bytes.{hyphen}
 use Rattle.description_items.specs.Tree.{Tree, listed}
 use Rattle.parsing_components.specs.Component.{reads_component, reads_component_v3}
-use Rattle.parsing_first_bytes.specs.FirstBytes.{AreOf}
+use Rattle.parsing_first_bytes.specs.FirstBytes.{AreOf, rule_out}
 use Rattle.parsing_first_bytes.specs.declared.first_bytes.FirstBytes.{FirstBytes}
 use Rattle.parsing_record.specs.Reads.{reading, reading_of_all}
+use Rattle.instants_fronts.specs.Reading.{window}
 use Rattle.instants_sources.specs.Grammar.{Items, V3, Rfc3339}
 use Rattle.instants_found.specs.Keys.{IsKeyOf, RuleOutShort, NeedsKey, NeedsFour}
 use Rattle.instants_found.specs.declared.key.Key.{Key}
@@ -24,19 +25,25 @@ for_some P None h y e = absurd cc
 
 -- ---- descriptions
 
+-- the first bytes alone are looked at
+cut : (f : FirstBytes) (bytes : List ℕ) → rule_out f (take window bytes) ≡ rule_out f bytes
+unfolding rule_out
+cut f bytes =
+    rw (get_or-take window bytes 0 0 (omega arith), get_or-take window bytes 1 0 (omega arith), get_or-take window bytes 2 0 (omega arith), get_or-take window bytes 3 0 (omega arith)) refl
+
 module _ (items : List Tree) (f : FirstBytes) (are : AreOf (reading_of_all reads_component (listed items)) f) where
   pub items_key : (key : Key) → IsKeyOf f key → NeedsKey key (Items items)
-  items_key key is = λ bytes few none. items_no_front items bytes (are bytes (is bytes few none))
+  items_key key is = λ bytes few none. items_no_front items bytes (are (take window bytes) (cut f bytes ∙ is bytes few none))
 
   pub items_four : RuleOutShort f → NeedsFour (Items items)
-  items_four is = λ bytes short. items_no_front items bytes (are bytes (is bytes short))
+  items_four is = λ bytes short. items_no_front items bytes (are (take window bytes) (cut f bytes ∙ is bytes short))
 
 module _ (tree : Tree) (f : FirstBytes) (are : AreOf (reading reads_component_v3 tree) f) where
   pub tree_key : (key : Key) → IsKeyOf f key → NeedsKey key (V3 tree)
-  tree_key key is = λ bytes few none. tree_no_front tree bytes (are bytes (is bytes few none))
+  tree_key key is = λ bytes few none. tree_no_front tree bytes (are (take window bytes) (cut f bytes ∙ is bytes few none))
 
   pub tree_four : RuleOutShort f → NeedsFour (V3 tree)
-  tree_four is = λ bytes short. tree_no_front tree bytes (are bytes (is bytes short))
+  tree_four is = λ bytes short. tree_no_front tree bytes (are (take window bytes) (cut f bytes ∙ is bytes short))
 
 -- ---- RFC 3339
 

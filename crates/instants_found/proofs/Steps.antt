@@ -1,66 +1,164 @@
 -- The searches over sources and over places, step by step.
-use Rattle.std.proofs.Common.{◌≡◌, ◌<◌, ◌≤◌, ◌+◌, ℕ, List, [], ◌∷◌, length, get_or, drop, map, Option, Some, None, refl, sym, ◌∙◌, ap, ℤ}
+use Rattle.std.proofs.Common.{◌≡◌, ◌<◌, ◌≤◌, ◌+◌, ◌||◌, ℕ, Bool, true, false, List, [], ◌∷◌, length, get_or, drop, map, Option, Some, None, refl, sym, ◌∙◌, ap, arith}
+use Rattle.std.specs.Prelude.{nat_lt, not, ◌&&◌, IfSome, if◌then◌else◌}
 use Rattle.std.specs.Option.{option_or}
+use Rattle.std.proofs.lemmas.Bool.Decides.{nat_tests}
 use Rattle.std.proofs.lemmas.List.{drop_more, drop_all}
-use Rattle.instants_sources.specs.Grammar.{Grammar, grammar_of}
-use Rattle.instants_sources.specs.declared.source.Source.{Source}
-use Rattle.instants_found.specs.Found.{date_at, by_sources, at_place, from_place}
-use Rattle.instants_found.specs.declared.found.Found.{Found}
+use Rattle.instants_fronts.specs.declared.given.Given.{Given}
+use Rattle.instants_fronts.specs.DateSource.{grammar_in}
+use Rattle.instants_sources.specs.Grammar.{Grammar}
+use Rattle.instants_fronts.specs.declared.date_source.DateSource.{DateSource}
+use Rattle.instants_found.specs.Candidate.{candidate, candidates, joined, longer, longest}
+use Rattle.instants_found.specs.Kept.{kept, said_of}
+use Rattle.instants_found.specs.Within.{LiesWithin, IsWithin}
+use Rattle.instants_found.specs.Found.{at_place, from_place, of_candidates, finding}
+use Rattle.instants_found.specs.declared.candidate.Candidate.{Candidate}
+use Rattle.instants_found.specs.declared.found.Finding.{Finding}
+
+-- ---- the longest of dates
+
+-- of one that stands whole, or none, and of another, or none, the longer one
+abbrev pub best : Option Candidate → Option Candidate → Option Candidate
+best None other = other
+best (Some one) None = Some one
+best (Some one) (Some other) = if nat_lt one.reach other.reach then Some other else Some one
+
+pub best_none : (one : Option Candidate) → best one None ≡ one
+best_none None = refl
+best_none (Some one) = refl
+
+-- the first, then a longer one, or not, then a longer one, or not
+three : (first one other : Candidate) (a b c : Bool) → nat_lt first.reach one.reach ≡ a → nat_lt one.reach other.reach ≡ b → nat_lt first.reach other.reach ≡ c
+    → best (Some first) (if not b then Some one else Some other) ≡ best (if a then Some one else Some first) (Some other)
+three first one other true true true x y z = rw (z, y) refl
+three first one other true true false x y z = absurd (grind (arith, nat_tests))
+three first one other true false c x y z = rw (x, y) refl
+three first one other false true c x y z = refl
+three first one other false false true x y z = absurd (grind (arith, nat_tests))
+three first one other false false false x y z = rw (x, z) refl
+
+-- the longest of what came before, this date and what comes after it
+pub longer_of : (before : Option Candidate) (one : Candidate) (after : Option Candidate) → best before (longer one after) ≡ best (kept before one) after
+longer_of None one None =
+    elim one.is_whole as (λ b. best None (if b then Some one else None) ≡ best (if b then Some one else None) None) [ true ↦ refl | false ↦ refl ]
+longer_of None one (Some other) =
+    elim one.is_whole as (λ b. best None (if b && not (nat_lt one.reach other.reach) then Some one else Some other) ≡ best (if b then Some one else None) (Some other)) [
+      | true ↦ elim (nat_lt one.reach other.reach) as (λ t. (if not t then Some one else Some other) ≡ (if t then Some other else Some one)) [ true ↦ refl | false ↦ refl ]
+      | false ↦ refl
+    ]
+longer_of (Some first) one None =
+    elim one.is_whole as (λ b. best (Some first) (if b then Some one else None) ≡ best (if b && nat_lt first.reach one.reach then Some one else Some first) None) [
+      | true ↦ elim (nat_lt first.reach one.reach) as (λ t. (if t then Some one else Some first) ≡ best (if t then Some one else Some first) None) [ true ↦ refl | false ↦ refl ]
+      | false ↦ refl
+    ]
+longer_of (Some first) one (Some other) =
+    elim one.is_whole as (λ b. best (Some first) (if b && not (nat_lt one.reach other.reach) then Some one else Some other) ≡ best (if b && nat_lt first.reach one.reach then Some one else Some first) (Some other)) [
+      | true ↦ three first one other (nat_lt first.reach one.reach) (nat_lt one.reach other.reach) (nat_lt first.reach other.reach) refl refl refl
+      | false ↦ refl
+    ]
+
+-- what holds of what was kept and of a date holds of what is kept then
+pub kept_holds : (P : Candidate → Type 0) (before : Option Candidate) (one : Candidate) → IfSome before P → P one → IfSome (kept before one) P
+kept_holds P None one h here = elim one.is_whole as (λ b. IfSome (if b then Some one else None) P) [ true ↦ here | false ↦ tt ]
+kept_holds P (Some first) one h here = elim (one.is_whole && nat_lt first.reach one.reach) as (λ b. IfSome (if b then Some one else Some first) P) [ true ↦ here | false ↦ h ]
 
 -- ---- sources
 
--- the sources from this number on give what all of them give
-abbrev pub GiveFrom : Option ℤ → List ℕ → ℕ → List Source → ℕ → Type 0
-GiveFrom assumed line start sources number =
-    by_sources assumed line start number (map grammar_of (drop number sources)) ≡ by_sources assumed line start 0 (map grammar_of sources)
+-- what the sources from this number on read
+abbrev pub from_number : Given → List ℕ → ℕ → List DateSource → ℕ → List Candidate
+from_number given line start sources number = candidates given line start number (map grammar_in (drop number sources))
 
-source_step : (assumed : Option ℤ) (line : List ℕ) (start : ℕ) (sources : List Source) (number : ℕ) (source : Source) → number < length sources → source ≡ get_or sources number source
-    → by_sources assumed line start number (map grammar_of (drop number sources)) ≡ option_or (date_at assumed line start number (grammar_of source)) (by_sources assumed line start (number + 1) (map grammar_of (drop (number + 1) sources)))
-unfolding by_sources
-source_step assumed line start sources number source within is =
+pub is_any : List Candidate → Bool
+is_any [] = false
+is_any (one ∷ others) = true
+
+-- what was kept so far and what the sources from this number on read give what all of them give
+pub record GiveFrom (given : Given) (line : List ℕ) (start : ℕ) (sources : List DateSource) (number : ℕ) (some : Bool) (so_far : Option Candidate) : Type 0 where
+  pub long : best so_far (longest (from_number given line start sources number)) ≡ longest (from_number given line start sources 0)
+  pub any : (some || is_any (from_number given line start sources number)) ≡ is_any (from_number given line start sources 0)
+
+source_step : (given : Given) (line : List ℕ) (start : ℕ) (sources : List DateSource) (number : ℕ) (source : DateSource) → number < length sources → source ≡ get_or sources number source
+    → from_number given line start sources number ≡ joined (candidate given line start number (grammar_in source)) (from_number given line start sources (number + 1))
+unfolding candidates
+source_step given line start sources number source within is =
     let there : drop number sources ≡ get_or sources number source ∷ drop (number + 1) sources = drop_more sources number source within in
     let cut : drop number sources ≡ source ∷ drop (number + 1) sources = rw (← is) at there in
     rw cut refl
 
-pub source_reads : (assumed : Option ℤ) (line : List ℕ) (start : ℕ) (sources : List Source) (number : ℕ) (source : Source) (date : Found) → number < length sources → source ≡ get_or sources number source
-    → GiveFrom assumed line start sources number → Some date ≡ date_at assumed line start number (grammar_of source) → Some date ≡ by_sources assumed line start 0 (map grammar_of sources)
-source_reads assumed line start sources number source date within is so_far e =
-    ap (λ (o : Option Found). option_or o (by_sources assumed line start (number + 1) (map grammar_of (drop (number + 1) sources)))) e ∙ sym (source_step assumed line start sources number source within is) ∙ so_far
+any_more : (b : Bool) → (b || true) ≡ true
+any_more true = refl
+any_more false = refl
 
-pub source_reads_none : (assumed : Option ℤ) (line : List ℕ) (start : ℕ) (sources : List Source) (number : ℕ) (source : Source) → number < length sources → source ≡ get_or sources number source
-    → GiveFrom assumed line start sources number → None ≡ date_at assumed line start number (grammar_of source) → GiveFrom assumed line start sources (number + 1)
-source_reads_none assumed line start sources number source within is so_far e =
-    ap (λ (o : Option Found). option_or o (by_sources assumed line start (number + 1) (map grammar_of (drop (number + 1) sources)))) e ∙ sym (source_step assumed line start sources number source within is) ∙ so_far
+pub source_reads : (given : Given) (line : List ℕ) (start : ℕ) (sources : List DateSource) (number : ℕ) (source : DateSource) (one : Candidate) (some : Bool) (so_far : Option Candidate) → number < length sources → source ≡ get_or sources number source
+    → GiveFrom given line start sources number some so_far → Some one ≡ candidate given line start number (grammar_in source) → GiveFrom given line start sources (number + 1) true (kept so_far one)
+unfolding longest is_any
+source_reads given line start sources number source one some so_far within is give e =
+    let step = rw (← e) at (source_step given line start sources number source within is) in
+    let long = rw step at give.long in
+    let any = rw step at give.any in
+    record {
+      long = sym (longer_of so_far one (longest (from_number given line start sources (number + 1)))) ∙ long;
+      any = sym (any_more some) ∙ any;
+    }
 
-pub sources_end : (assumed : Option ℤ) (line : List ℕ) (start : ℕ) (sources : List Source) (number : ℕ) → length sources ≤ number → GiveFrom assumed line start sources number → None ≡ by_sources assumed line start 0 (map grammar_of sources)
-unfolding by_sources
-sources_end assumed line start sources number past so_far =
-    let end : drop number sources ≡ [] = drop_all number sources past in
-    rw end at so_far
+pub source_reads_none : (given : Given) (line : List ℕ) (start : ℕ) (sources : List DateSource) (number : ℕ) (source : DateSource) (some : Bool) (so_far : Option Candidate) → number < length sources → source ≡ get_or sources number source
+    → GiveFrom given line start sources number some so_far → None ≡ candidate given line start number (grammar_in source) → GiveFrom given line start sources (number + 1) some so_far
+source_reads_none given line start sources number source some so_far within is give e =
+    let step = rw (← e) at (source_step given line start sources number source within is) in
+    record { long = rw step at give.long; any = rw step at give.any }
+
+no_sources : (given : Given) (line : List ℕ) (start : ℕ) (sources : List DateSource) (number : ℕ) → length sources ≤ number → from_number given line start sources number ≡ []
+unfolding candidates
+no_sources given line start sources number past = let end : drop number sources ≡ [] = drop_all number sources past in rw end refl
+
+or_false : (b : Bool) → (b || false) ≡ b
+or_false true = refl
+or_false false = refl
+
+said_all : (dates : List Candidate) → of_candidates dates ≡ said_of (is_any dates) (longest dates)
+unfolding is_any
+said_all [] = refl
+said_all (one ∷ others) = refl
+
+pub sources_end : (given : Given) (line : List ℕ) (start : ℕ) (sources : List DateSource) (number : ℕ) (some : Bool) (so_far : Option Candidate) → length sources ≤ number → GiveFrom given line start sources number some so_far
+    → of_candidates (candidates given line start 0 (map grammar_in sources)) ≡ said_of some so_far
+unfolding longest is_any
+sources_end given line start sources number some so_far past give =
+    let none = no_sources given line start sources number past in
+    let long = rw none at give.long in
+    let any = rw none at give.any in
+    said_all (from_number given line start sources 0) ∙ rw (sym any ∙ or_false some, sym long ∙ best_none so_far) refl
 
 -- ---- places
 
 -- the places from this one on give what all of them give
-abbrev pub GiveFromPlace : Option ℤ → List Grammar → List ℕ → ℕ → Type 0
-GiveFromPlace assumed sources line start = from_place assumed sources line start (drop start line) ≡ from_place assumed sources line 0 line
+abbrev pub GiveFromPlace : Given → List Grammar → List ℕ → List ℕ → ℕ → Type 0
+GiveFromPlace given sources line bytes start = from_place given sources line start (drop start bytes) ≡ from_place given sources line 0 bytes
 
-place_step : (assumed : Option ℤ) (sources : List Grammar) (line : List ℕ) (start : ℕ) → start < length line
-    → from_place assumed sources line start (drop start line) ≡ option_or (at_place assumed sources line start) (from_place assumed sources line (start + 1) (drop (start + 1) line))
+place_step : (given : Given) (sources : List Grammar) (line bytes : List ℕ) (start : ℕ) → start < length bytes
+    → from_place given sources line start (drop start bytes) ≡ option_or (at_place given sources line start) (from_place given sources line (start + 1) (drop (start + 1) bytes))
 unfolding from_place
-place_step assumed sources line start within = rw (drop_more line start 0 within) refl
+place_step given sources line bytes start within = rw (drop_more bytes start 0 within) refl
 
-pub place_has : (assumed : Option ℤ) (sources : List Grammar) (line : List ℕ) (start : ℕ) (date : Found) → start < length line
-    → GiveFromPlace assumed sources line start → Some date ≡ at_place assumed sources line start → Some date ≡ from_place assumed sources line 0 line
-place_has assumed sources line start date within so_far e =
-    ap (λ (o : Option Found). option_or o (from_place assumed sources line (start + 1) (drop (start + 1) line))) e ∙ sym (place_step assumed sources line start within) ∙ so_far
+pub place_has : (given : Given) (sources : List Grammar) (line bytes : List ℕ) (start : ℕ) (date : Finding) → start < length bytes
+    → GiveFromPlace given sources line bytes start → Some date ≡ at_place given sources line start → Some date ≡ from_place given sources line 0 bytes
+place_has given sources line bytes start date within so_far e =
+    ap (λ (o : Option Finding). option_or o (from_place given sources line (start + 1) (drop (start + 1) bytes))) e ∙ sym (place_step given sources line bytes start within) ∙ so_far
 
-pub place_has_none : (assumed : Option ℤ) (sources : List Grammar) (line : List ℕ) (start : ℕ) → start < length line
-    → GiveFromPlace assumed sources line start → None ≡ at_place assumed sources line start → GiveFromPlace assumed sources line (start + 1)
-place_has_none assumed sources line start within so_far e =
-    ap (λ (o : Option Found). option_or o (from_place assumed sources line (start + 1) (drop (start + 1) line))) e ∙ sym (place_step assumed sources line start within) ∙ so_far
+pub place_has_none : (given : Given) (sources : List Grammar) (line bytes : List ℕ) (start : ℕ) → start < length bytes
+    → GiveFromPlace given sources line bytes start → None ≡ at_place given sources line start → GiveFromPlace given sources line bytes (start + 1)
+place_has_none given sources line bytes start within so_far e =
+    ap (λ (o : Option Finding). option_or o (from_place given sources line (start + 1) (drop (start + 1) bytes))) e ∙ sym (place_step given sources line bytes start within) ∙ so_far
 
-pub places_end : (assumed : Option ℤ) (sources : List Grammar) (line : List ℕ) (start : ℕ) → length line ≤ start → GiveFromPlace assumed sources line start → None ≡ from_place assumed sources line 0 line
+pub places_end : (given : Given) (sources : List Grammar) (line bytes : List ℕ) (start : ℕ) → length bytes ≤ start → GiveFromPlace given sources line bytes start → None ≡ from_place given sources line 0 bytes
 unfolding from_place
-places_end assumed sources line start past so_far =
-    let end : drop start line ≡ [] = drop_all start line past in
+places_end given sources line bytes start past so_far =
+    let end : drop start bytes ≡ [] = drop_all start bytes past in
     rw end at so_far
+
+-- ---- where dates lie
+
+pub said_within : (line sources : ℕ) (some : Bool) (long : Option Candidate) → IfSome long (λ (one : Candidate). LiesWithin line sources one.date) → IfSome (said_of some long) (IsWithin line sources)
+said_within line sources false long h = tt
+said_within line sources true None h = tt
+said_within line sources true (Some one) h = h

@@ -1,12 +1,13 @@
 -- What a finder looks for.
-use Rattle.std.specs.Prelude.{List, map, Option, ℤ}
-use Rattle.instants_sources.specs.Grammar.{Grammar, grammar_of}
+use Rattle.std.specs.Prelude.{ℕ, List, map}
+use Rattle.instants_fronts.specs.DateSource.{grammar_in}
+use Rattle.instants_sources.specs.Grammar.{Grammar}
 use Rattle.instants_found.specs.declared.finder.Finder.{Finder}
 
 -- the sources, in order
 abbrev pub sources_of : Finder → List Grammar
-sources_of finder = map grammar_of finder.sources.items
+sources_of finder = map grammar_in finder.sources.items
 
--- the offset that is assumed, or none
-abbrev pub assumed_of : Finder → Option ℤ
-assumed_of finder = finder.assumed
+-- the number of places of a line at which a date may begin
+abbrev pub limit_of : Finder → ℕ
+limit_of finder = finder.limit

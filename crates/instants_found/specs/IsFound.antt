@@ -1,28 +1,47 @@
 -- What the date that is found has to do with all dates of the line.
-use Rattle.std.specs.Prelude.{◌≡◌, ◌<◌, ◌+◌, ℕ, true, List, length, drop, Option, Some, None, slice_get, ℤ}
+use Rattle.std.specs.Prelude.{◌≡◌, ◌<◌, ◌≤◌, ◌⊎◌, ℕ, true, List, length, Option, Some, None, slice_get}
 use Rattle.instants_sources.specs.Grammar.{Grammar}
-use Rattle.instants_found.specs.Edge.{is_edge}
-use Rattle.instants_found.specs.Front.{front_named, front_length}
-use Rattle.instants_found.specs.declared.found.Found.{Found}
+use Rattle.instants_edges.specs.Edge.{is_edge}
+use Rattle.instants_fronts.specs.declared.given.Given.{Given}
+use Rattle.instants_found.specs.Candidate.{candidate}
+use Rattle.instants_found.specs.declared.candidate.Candidate.{Candidate}
+use Rattle.instants_found.specs.declared.found.Finding.{Finding}
+use Rattle.instants_found.specs.declared.found.Finding.TheVariants.{Doubtful, There}
 
--- the source of this number reads a front that names the moment, from one place of the line to another, and no word goes on over either
-pub record IsDate (assumed : Option ℤ) (sources : List Grammar) (line : List ℕ) (date : Found) : Type 0 where
+-- the source of this number reads the date at this place of the line, which is no place inside a word
+pub record IsReadAt (given : Given) (sources : List Grammar) (line : List ℕ) (place number : ℕ) (date : Candidate) : Type 0 where
   pub grammar : Grammar
-  pub source : slice_get sources date.source ≡ Some grammar
-  pub within : date.start < length line
-  pub behind : List ℕ
-  pub front : front_named assumed grammar (drop date.start line) ≡ Some (date.moment, behind)
-  pub end : date.end ≡ date.start + front_length (drop date.start line) behind
-  pub begins : is_edge line date.start ≡ true
-  pub ends : is_edge line date.end ≡ true
+  pub source : slice_get sources number ≡ Some grammar
+  pub within : place < length line
+  pub edge : is_edge line place ≡ true
+  pub reads : candidate given line place number grammar ≡ Some date
 
--- no date begins earlier, and no earlier source reads one there
-pub record IsFirst (assumed : Option ℤ) (sources : List Grammar) (line : List ℕ) (date : Found) : Type 0 where
-  pub here : IsDate assumed sources line date
-  pub least : (other : Found) → IsDate assumed sources line other → other.start < date.start → ⊥
-  pub first : (other : Found) → IsDate assumed sources line other → other.start ≡ date.start → other.source < date.source → ⊥
+-- no source reads a date at a place before this one
+abbrev pub NoneBefore : Given → List Grammar → List ℕ → ℕ → Type 0
+NoneBefore given sources line place = (earlier number : ℕ) (date : Candidate) → earlier < place → IsReadAt given sources line earlier number date → ⊥
 
--- the first date of the line, or that it has none
-abbrev pub IsFound : Option ℤ → List Grammar → List ℕ → Option Found → Type 0
-IsFound assumed sources line (Some date) = IsFirst assumed sources line date
-IsFound assumed sources line None = (other : Found) → IsDate assumed sources line other → ⊥
+-- at the least place, among the first ones, at which a source reads a date it stands whole, and none that stands whole there reaches further, or as far and is read by an earlier source
+pub record IsLongest (limit : ℕ) (given : Given) (sources : List Grammar) (line : List ℕ) (date : Candidate) : Type 0 where
+  pub place : ℕ
+  pub number : ℕ
+  pub near : place < limit
+  pub here : IsReadAt given sources line place number date
+  pub least : NoneBefore given sources line place
+  pub whole : date.is_whole ≡ true
+  pub longest : (other : Candidate) (later : ℕ) → IsReadAt given sources line place later other → other.is_whole ≡ true → (other.reach < date.reach) ⊎ ((other.reach ≡ date.reach) × (number ≤ later))
+
+-- at the least place at which a source reads a date none stands whole
+pub record IsDoubtful (limit : ℕ) (given : Given) (sources : List Grammar) (line : List ℕ) : Type 0 where
+  pub place : ℕ
+  pub number : ℕ
+  pub date : Candidate
+  pub near : place < limit
+  pub here : IsReadAt given sources line place number date
+  pub least : NoneBefore given sources line place
+  pub none : (other : Candidate) (later : ℕ) → IsReadAt given sources line place later other → other.is_whole ≡ true → ⊥
+
+-- what is found is the longest date at the least place, or that it is in doubt, or that none is read at the first places
+abbrev pub IsFound : ℕ → Given → List Grammar → List ℕ → Option Finding → Type 0
+IsFound limit given sources line (Some (There found)) = (date : Candidate) × IsLongest limit given sources line date × (date.date ≡ found)
+IsFound limit given sources line (Some Doubtful) = IsDoubtful limit given sources line
+IsFound limit given sources line None = NoneBefore given sources line limit

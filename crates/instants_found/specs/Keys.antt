@@ -3,7 +3,7 @@ use Rattle.std.specs.Prelude.{◌≡◌, ◌<◌, ◌+◌, ◌==◌, ℕ, Bool, 
 use Rattle.parsing_first_bytes.specs.FirstBytes.{rule_out}
 use Rattle.parsing_first_bytes.specs.declared.first_bytes.FirstBytes.{FirstBytes}
 use Rattle.instants_sources.specs.Grammar.{Grammar}
-use Rattle.instants_found.specs.Starts.{HasNoFront}
+use Rattle.instants_fronts.specs.NoFront.{HasNoFront}
 use Rattle.instants_found.specs.declared.key.Key.{Key}
 use Rattle.instants_found.specs.declared.keys.Keys.{Keys}
 

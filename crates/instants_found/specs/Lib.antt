@@ -1,6 +1,8 @@
-pub mod Edge
-pub mod Front
+pub mod Beside
+pub mod Candidate
+pub mod Kept
 pub mod Found
+pub mod Within
 pub mod IsFound
 pub mod Starts
 pub mod Keys

@@ -5,12 +5,21 @@ use instants_sources::Named;
 /// A date inside a line.
 #[derive(Drop)]
 pub struct Found {
-    /// The place of its first byte.
+    /// The place of the first byte that says something of it.
     pub start: usize,
-    /// The place behind its last byte.
+    /// The place after the last such byte, and after the word of a zone that the text of its description has there.
     pub end: usize,
     /// The number of the source that reads it, from 0.
     pub source: usize,
     /// The moment that it names.
     pub moment: Named,
+}
+
+/// What a line has where a source reads a date in it.
+#[derive(Drop)]
+pub enum Finding {
+    /// A date is read at some place, and none that begins there stands whole.
+    Doubtful,
+    /// The date of the line.
+    There(Found),
 }

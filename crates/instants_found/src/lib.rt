@@ -1,12 +1,11 @@
-//! Dates inside lines: the first one that a source reads, and where it stands.
+//! Dates inside lines: the one that a line's sources find, and where it stands.
 #![tactic(auto)]
 
-mod edge;
-mod fast_front;
+mod beside;
+mod candidate;
 mod finder;
 mod finding;
 mod found;
-mod front;
 mod front_bytes;
 mod key;
 mod keys;
@@ -17,6 +16,4 @@ mod source_key;
 mod starts;
 
 pub use finder::Finder;
-pub use finding::find;
-pub use found::Found;
-pub use front::read_front;
+pub use found::{Finding, Found};

@@ -1,7 +1,8 @@
 //! The bytes at which a date of a source can begin.
 ghost use Rattle.std.specs.Prelude.{◌≡◌, true, false, map, get_or, nat_le};
 ghost use Rattle.instants_sources.specs.Grammar.{grammar_of};
-ghost use Rattle.instants_found.specs.Starts.{AreStarts, AreUpTo, CannotBegin, NoneBegins, begins_day, begins_part};
+ghost use Rattle.instants_fronts.specs.NoFront.{begins_day, begins_part};
+ghost use Rattle.instants_found.specs.Starts.{AreStarts, AreUpTo, CannotBegin, NoneBegins};
 
 use instants_sources::Source;
 

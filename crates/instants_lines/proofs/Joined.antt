@@ -1,77 +1,90 @@
--- Joined streams in mode `carry`.
-use Rattle.std.proofs.Common.{◌≡◌, ℕ, ◌≤◌, false, Option, None, Some, List, [], ◌∷◌, ◌++◌, length, map, nat_lt, refl, sym, ap, ◌∙◌, arith}
-use Rattle.std.proofs.lemmas.Bool.Decides.{nat_tests}
-use Rattle.instants_stream.specs.Lines.{lines, last_part}
-use Rattle.instants_stream.specs.Steps.{seen, written, behind, output}
-use Rattle.instants_stream.proofs.Written.{output-append}
-use Rattle.instants_found.specs.declared.found.Found.{Found}
-use Rattle.instants_timeline.specs.Place.{Setting}
-use Rattle.instants_lines.specs.Dates.{date_in, key_or, key_of_date}
-use Rattle.instants_lines.specs.Going.{Going, key_of_line, key_below, lines_steps}
-use Rattle.instants_lines.specs.declared.mode.Mode.TheVariants.{Key, Carry, Replace, Explain}
+-- Joined streams.
+use Rattle.std.proofs.Common.{◌≡◌, ℕ, ◌+◌, List, [], ◌∷◌, ◌++◌, length, take, Option, None, Some, refl, ap, ◌∙◌, inl, inr}
+use Rattle.std.proofs.lemmas.Bool.{cases_lt}
+use Rattle.instants_fronts.specs.declared.given.Given.{Given}
+use Rattle.instants_fronts.specs.declared.given.Years.{Years}
+use Rattle.instants_fronts.specs.declared.given.Years.TheVariants.{Unknown}
+use Rattle.instants_found.specs.declared.found.Finding.{Finding}
+use Rattle.instants_found.specs.declared.found.Finding.TheVariants.{Doubtful, There}
+use Rattle.instants_stream.specs.Lines.{whole_lines, last_part}
+use Rattle.instants_stream.specs.Steps.{state_within, line_next, behind, output}
+use Rattle.instants_stream.proofs.Written.{line_next-longer, line_next-short, output-append}
+use Rattle.instants_lines.specs.Dates.{date_in}
+use Rattle.instants_lines.specs.Going.{Going, below, given_below, years_below, key_of_line, key_below, next_in, lines_steps}
 use Rattle.instants_lines.specs.declared.mode.Mode.{Mode}
+use Rattle.instants_lines.specs.declared.mode.Mode.TheVariants.{Key, Carry, Replace, Explain}
 
--- ---- modes that keep nothing
+-- ---- what is kept where no year is given
 
-abbrev pub going_on : Mode → Setting → List ℕ → Going
-going_on mode setting key = record { mode = mode; setting = setting; key = key }
+pub given_stays : (given : Given) (o : Option Finding) → given.years ≡ Unknown → given_below given o ≡ given
+given_stays given None e = refl
+given_stays given (Some Doubtful) e = refl
+given_stays given (Some (There date)) e =
+    let same : years_below given.years date.moment ≡ given.years = rw e refl in
+    ap (λ (years : Years). record given { years = years }) same
 
-stays : (mode : Mode) → (mode ≡ Carry → ⊥) → (key above : List ℕ) → key_below mode key above ≡ key
-stays Key other key above = refl
-stays Carry other key above = absurd (other refl)
-stays Replace other key above = refl
-stays Explain other key above = refl
+key_stays : (mode : Mode) → (mode ≡ Carry → ⊥) → (key above : List ℕ) → key_below mode key above ≡ key
+key_stays Key other key above = refl
+key_stays Carry other key above = absurd (other refl)
+key_stays Replace other key above = refl
+key_stays Explain other key above = refl
 
-stays_behind : (mode : Mode) → (mode ≡ Carry → ⊥) → (setting : Setting) (key : List ℕ) (some : List (Option (List ℕ))) → behind lines_steps (going_on mode setting key) some ≡ going_on mode setting key
-unfolding behind
-stays_behind mode other setting key [] = refl
-stays_behind mode other setting key (None ∷ others) = stays_behind mode other setting key others
-stays_behind mode other setting key (Some line ∷ others) =
-    ap (λ (k : List ℕ). behind lines_steps (going_on mode setting k) others) (stays mode other key (key_of_line (going_on mode setting key) line)) ∙ stays_behind mode other setting key others
+below_stays : (going : Going) (line : List ℕ) → (going.mode ≡ Carry → ⊥) → going.search.given.years ≡ Unknown → below going line ≡ going
+below_stays going line other e =
+    ap (λ (given : Given). record going { search = record going.search { given = given }; key = key_below going.mode going.key (key_of_line going line) }) (given_stays going.search.given (date_in going.search line) e)
+    ∙ ap (λ (key : List ℕ). record going { key = key }) (key_stays going.mode other going.key (key_of_line going line))
 
-pub joined_others : (mode : Mode) → (mode ≡ Carry → ⊥) → (setting : Setting) (limit : ℕ) (key first second : List ℕ) → last_part first ≡ []
-    → output lines_steps (going_on mode setting key) limit (first ++ second) ≡ output lines_steps (going_on mode setting key) limit first ++ output lines_steps (going_on mode setting key) limit second
-joined_others mode other setting limit key first second ended =
-    output-append Going lines_steps (going_on mode setting key) limit first second ended
-    ∙ ap (λ (going : Going). output lines_steps (going_on mode setting key) limit first ++ output lines_steps going limit second) (stays_behind mode other setting key (map (seen limit) (lines first)))
+next_stays : (mode : Mode) → (mode ≡ Carry → ⊥) → (going : Going) (line : List ℕ) → below going line ≡ going → next_in mode going line ≡ going
+next_stays Key other going line e = e
+next_stays Carry other going line e = e
+next_stays Replace other going line e = e
+next_stays Explain other going line e = refl
 
--- ---- carrying on with a key
+-- ---- lines that change nothing
 
-abbrev pub carrying : Setting → List ℕ → Going
-carrying setting key = record { mode = Carry; setting = setting; key = key }
+-- no line changes what is kept
+abbrev Keeps : Going → Type 0
+Keeps going = (line : List ℕ) → next_in going.mode going line ≡ going
 
--- lines leave the mode and the setting
-carries_on : (setting : Setting) (key : List ℕ) (some : List (Option (List ℕ))) → (next : List ℕ) × (behind lines_steps (carrying setting key) some ≡ carrying setting next)
-unfolding behind
-carries_on setting key [] = (key, refl)
-carries_on setting key (None ∷ others) = carries_on setting key others
-carries_on setting key (Some line ∷ others) = carries_on setting (key_of_line (carrying setting key) line) others
+keeps : (going : Going) → (going.mode ≡ Carry → ⊥) → going.search.given.years ≡ Unknown → Keeps going
+keeps going other e line = next_stays going.mode other going line (below_stays going line other e)
 
-key_by_date : (setting : Setting) (line key : List ℕ) (date : Found) → date_in setting line ≡ Some date → key_of_line (carrying setting key) line ≡ key_of_date setting date
-unfolding key_of_line
-key_by_date setting line key date e = ap (key_or setting key) e
+explains : (going : Going) → going.mode ≡ Explain → Keeps going
+explains going e line = rw e refl
 
--- what is written from a line with a date on, whatever the key before it is
-module _ (setting : Setting) (line : List ℕ) (others : List (Option (List ℕ))) (date : Found) (e : date_in setting line ≡ Some date) where
-  written_from : (key : List ℕ) → written lines_steps (carrying setting key) (Some line ∷ others) ≡ (key_of_date setting date ++ 9 ∷ line) ++ 10 ∷ [] ++ written lines_steps (carrying setting (key_of_date setting date)) others
-  unfolding written
-  written_from key = rw (key_by_date setting line key date e) refl
+module _ (going : Going) (limit : ℕ) (keep : Keeps going) where
+  within_kept : (line : List ℕ) → state_within lines_steps limit going line ≡ going
+  unfolding state_within
+  within_kept line = keep (take (limit + 1) line)
 
-within_seen : (limit : ℕ) (line : List ℕ) → length line ≤ limit → seen limit line ≡ Some line
-unfolding seen
-within_seen limit line h = let e : nat_lt limit (length line) ≡ false = grind (arith, nat_tests) in rw e refl
+  line_kept : (line : List ℕ) → line_next lines_steps limit going line ≡ going
+  line_kept line =
+      elim (cases_lt limit (length line)) [
+        | inl longer ↦ line_next-longer Going lines_steps limit going line longer ∙ within_kept line
+        | inr fits ↦ line_next-short Going lines_steps limit going line fits ∙ keep line
+      ]
 
-module _ (setting : Setting) (limit : ℕ) (second line : List ℕ) (others : List (List ℕ)) (date : Found) (cut : lines second ≡ line ∷ others) (fits : length line ≤ limit) (e : date_in setting line ≡ Some date) where
-  output_from : (key : List ℕ) → output lines_steps (carrying setting key) limit second ≡ (key_of_date setting date ++ 9 ∷ line) ++ 10 ∷ [] ++ written lines_steps (carrying setting (key_of_date setting date)) (map (seen limit) others)
-  unfolding output
-  output_from key =
-      ap (λ (some : List (List ℕ)). written lines_steps (carrying setting key) (map (seen limit) some)) cut
-      ∙ ap (λ (first : Option (List ℕ)). written lines_steps (carrying setting key) (first ∷ map (seen limit) others)) (within_seen limit line fits)
-      ∙ written_from setting line (map (seen limit) others) date e key
+  kept : (some : List (List ℕ)) → behind lines_steps limit going some ≡ going
+  unfolding behind
+  kept [] = refl
+  kept (line ∷ others) = ap (λ (state : Going). behind lines_steps limit state others) (line_kept line) ∙ kept others
 
-  pub joined : (key : List ℕ) (first : List ℕ) → last_part first ≡ [] → output lines_steps (carrying setting key) limit (first ++ second) ≡ output lines_steps (carrying setting key) limit first ++ output lines_steps (carrying setting key) limit second
-  joined key first ended =
-      let next = carries_on setting key (map (seen limit) (lines first)) in
-      output-append Going lines_steps (carrying setting key) limit first second ended
-      ∙ ap (λ (going : Going). output lines_steps (carrying setting key) limit first ++ output lines_steps going limit second) next.1
-      ∙ ap (λ (l : List ℕ). output lines_steps (carrying setting key) limit first ++ l) (output_from next.0 ∙ sym (output_from key))
+-- ---- joined streams
+
+pub joined : (going : Going) (limit : ℕ) (first second : List ℕ) → last_part first ≡ []
+    → output lines_steps going limit (first ++ second) ≡ output lines_steps going limit first ++ output lines_steps (behind lines_steps limit going (whole_lines first)) limit second
+joined going limit first second ended = output-append Going lines_steps limit going first second ended
+
+joined_kept : (going : Going) (limit : ℕ) → Keeps going → (first second : List ℕ) → last_part first ≡ []
+    → output lines_steps going limit (first ++ second) ≡ output lines_steps going limit first ++ output lines_steps going limit second
+joined_kept going limit keep first second ended =
+    joined going limit first second ended
+    ∙ ap (λ (state : Going). output lines_steps going limit first ++ output lines_steps state limit second) (kept going limit keep (whole_lines first))
+
+pub joined_others : (going : Going) (limit : ℕ) (first second : List ℕ) → (going.mode ≡ Carry → ⊥) → going.search.given.years ≡ Unknown → last_part first ≡ []
+    → output lines_steps going limit (first ++ second) ≡ output lines_steps going limit first ++ output lines_steps going limit second
+joined_others going limit first second other e ended = joined_kept going limit (keeps going other e) first second ended
+
+pub joined_explained : (going : Going) (limit : ℕ) (first second : List ℕ) → going.mode ≡ Explain → last_part first ≡ []
+    → output lines_steps going limit (first ++ second) ≡ output lines_steps going limit first ++ output lines_steps going limit second
+joined_explained going limit first second e ended = joined_kept going limit (explains going e) first second ended

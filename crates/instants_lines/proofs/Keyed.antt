@@ -1,19 +1,25 @@
 -- The key of a line, and what is kept below it.
-use Rattle.std.proofs.Common.{◌≡◌, ℕ, List, None, Some, Ok, refl, sym, ap, ◌∙◌}
+use Rattle.std.proofs.Common.{◌≡◌, ℕ, List, Option, None, Some, Ok, refl, sym, ap, ◌∙◌}
 use Rattle.instants_found.specs.declared.found.Found.{Found}
+use Rattle.instants_found.specs.declared.found.Finding.{Finding}
+use Rattle.instants_found.specs.declared.found.Finding.TheVariants.{Doubtful, There}
 use Rattle.instants_timeline.specs.Place.{shown_or_refused, place_text}
-use Rattle.instants_lines.specs.Dates.{date_in, key_or, place_of_date}
-use Rattle.instants_lines.specs.Going.{Going, key_of_line, key_below}
+use Rattle.instants_lines.specs.Dates.{date_in, doubt, key_or, place_of_date}
+use Rattle.instants_lines.specs.Going.{Going, below, given_below, key_of_line, key_below}
 use Rattle.instants_lines.specs.declared.mode.Mode.{Mode}
 use Rattle.instants_lines.specs.declared.mode.Mode.TheVariants.{Key, Carry, Replace, Explain}
 
-pub dated : (going : Going) (line : List ℕ) (date : Found) (key : List ℕ) → Some date ≡ date_in going.setting line → key ≡ place_text (shown_or_refused going.setting.target (Ok date.moment)) → key_of_line going line ≡ key
+pub dated : (going : Going) (line : List ℕ) (date : Found) (key : List ℕ) → Some (There date) ≡ date_in going.search line → key ≡ place_text (shown_or_refused going.search.setting.target (Ok date.moment)) → key ≡ key_of_line going line
 unfolding key_of_line place_of_date
-dated going line date key e is = ap (key_or going.setting going.key) (sym e) ∙ sym is
+dated going line date key e is = is ∙ ap (key_or going.search.setting going.key) e
 
-pub undated : (going : Going) (line : List ℕ) → date_in going.setting line ≡ None → key_of_line going line ≡ going.key
+pub doubtful : (going : Going) (line : List ℕ) → Some Doubtful ≡ date_in going.search line → doubt ≡ key_of_line going line
 unfolding key_of_line
-undated going line e = ap (key_or going.setting going.key) e
+doubtful going line e = ap (key_or going.search.setting going.key) e
+
+pub undated : (going : Going) (line : List ℕ) → None ≡ date_in going.search line → going.key ≡ key_of_line going line
+unfolding key_of_line
+undated going line e = ap (key_or going.search.setting going.key) e
 
 -- the key that is taken is kept as it is
 pub below_itself : (mode : Mode) (key : List ℕ) → key_below mode key key ≡ key
@@ -21,3 +27,29 @@ below_itself Carry key = refl
 below_itself Key key = refl
 below_itself Replace key = refl
 below_itself Explain key = refl
+
+-- below a line by what is found in it
+pub below_found : (going : Going) (line : List ℕ) (finding : Option Finding) → finding ≡ date_in going.search line
+    → record going { search = record going.search { given = given_below going.search.given finding }; key = key_below going.mode going.key (key_of_line going line) } ≡ below going line
+below_found going line finding e =
+    ap (λ (o : Option Finding). record going { search = record going.search { given = given_below going.search.given o }; key = key_below going.mode going.key (key_of_line going line) }) e
+
+-- nothing changes below a line without a date
+pub below_undated : (going : Going) (line : List ℕ) → date_in going.search line ≡ None → below going line ≡ going
+below_undated going line e =
+    let key : key_of_line going line ≡ going.key = sym (undated going line (sym e)) in
+    rw (e, key, below_itself going.mode going.key) refl
+
+-- where dates are replaced the key stays, also below a line whose date is in doubt
+below_here : (going : Going) (line : List ℕ) (finding : Option Finding) → going.mode ≡ Replace → finding ≡ date_in going.search line
+    → record going { search = record going.search { given = given_below going.search.given finding } } ≡ below going line
+below_here going line finding mode e =
+    let key : going.key ≡ key_below going.mode going.key (key_of_line going line) = rw mode refl in
+    ap (λ (k : List ℕ). record going { search = record going.search { given = given_below going.search.given finding }; key = k }) key ∙ below_found going line finding e
+
+pub below_doubtful : (going : Going) (line : List ℕ) → going.mode ≡ Replace → date_in going.search line ≡ Some Doubtful → below going line ≡ going
+below_doubtful going line mode e = sym (below_here going line (Some Doubtful) mode (sym e))
+
+pub below_dated : (going : Going) (line : List ℕ) (date : Found) → going.mode ≡ Replace → date_in going.search line ≡ Some (There date)
+    → record going { search = record going.search { given = given_below going.search.given (Some (There date)) } } ≡ below going line
+below_dated going line date mode e = below_here going line (Some (There date)) mode (sym e)

@@ -1,12 +1,17 @@
+mod AskedWords
 pub mod Outside
 pub mod Sayings
 pub mod Decimals
-pub mod Wholly
-pub mod Keys
-pub mod Joined
 pub mod Explaining
 pub mod Keyed
 mod Saying
+pub mod Keys
+pub mod Wholly
+pub mod Joined
+pub mod Carried
+pub mod Stays
 mod Told
-mod Stays
 mod Reading
+pub mod Handed
+pub mod Fields
+pub mod WithoutKeys

@@ -2,38 +2,39 @@
 use Rattle.std.proofs.Common.{◌≡◌, ◌<◌, ◌≤◌, ◌+◌, ℕ, List, [], ◌∷◌, ◌++◌, length, get_or, take, drop, map, Option, None, Some, refl, sym, ◌∙◌, ap, arith, append_assoc, append-nil, length-take-le, take-append-drop}
 use Rattle.std.specs.Option.{option_or}
 use Rattle.std.proofs.lemmas.List.{take_more, drop_more, drop_all, take_all, map-append, length-map}
-use Rattle.instants_sources.specs.Grammar.{Grammar, grammar_of}
-use Rattle.instants_sources.specs.declared.source.Source.{Source}
+use Rattle.instants_sources.specs.Grammar.{Grammar}
+use Rattle.instants_fronts.specs.DateSource.{grammar_in}
+use Rattle.instants_fronts.specs.declared.date_source.DateSource.{DateSource}
 use Rattle.instants_timeline.specs.Place.{Setting}
 use Rattle.instants_lines.specs.Explained.{said_by, answer_by, first_answer, parted, all_said}
 
 -- ---- the first answer
 
 -- the sources from this place on answer what all of them answer
-abbrev pub AnswerFrom : Setting → List ℕ → List Source → ℕ → Type 0
+abbrev pub AnswerFrom : Setting → List ℕ → List DateSource → ℕ → Type 0
 AnswerFrom setting line sources place =
-    first_answer setting line (place + 1) (map grammar_of (drop place sources)) ≡ first_answer setting line 1 (map grammar_of sources)
+    first_answer setting line (place + 1) (map grammar_in (drop place sources)) ≡ first_answer setting line 1 (map grammar_in sources)
 
-answer_step : (setting : Setting) (line : List ℕ) (sources : List Source) (place : ℕ) (source : Source) → place < length sources → source ≡ get_or sources place source
-    → first_answer setting line (place + 1) (map grammar_of (drop place sources)) ≡ option_or (answer_by setting line (place + 1) (grammar_of source)) (first_answer setting line (place + 1 + 1) (map grammar_of (drop (place + 1) sources)))
+answer_step : (setting : Setting) (line : List ℕ) (sources : List DateSource) (place : ℕ) (source : DateSource) → place < length sources → source ≡ get_or sources place source
+    → first_answer setting line (place + 1) (map grammar_in (drop place sources)) ≡ option_or (answer_by setting line (place + 1) (grammar_in source)) (first_answer setting line (place + 1 + 1) (map grammar_in (drop (place + 1) sources)))
 unfolding first_answer
 answer_step setting line sources place source within is =
     let there : drop place sources ≡ get_or sources place source ∷ drop (place + 1) sources = drop_more sources place source within in
     let cut : drop place sources ≡ source ∷ drop (place + 1) sources = rw (← is) at there in
     rw cut refl
 
-module _ (setting : Setting) (line : List ℕ) (sources : List Source) (place : ℕ) where
-  pub answers : (source : Source) (text : List ℕ) → place < length sources → source ≡ get_or sources place source → AnswerFrom setting line sources place
-      → Some text ≡ answer_by setting line (place + 1) (grammar_of source) → Some text ≡ first_answer setting line 1 (map grammar_of sources)
+module _ (setting : Setting) (line : List ℕ) (sources : List DateSource) (place : ℕ) where
+  pub answers : (source : DateSource) (text : List ℕ) → place < length sources → source ≡ get_or sources place source → AnswerFrom setting line sources place
+      → Some text ≡ answer_by setting line (place + 1) (grammar_in source) → Some text ≡ first_answer setting line 1 (map grammar_in sources)
   answers source text within is so_far e =
-      ap (λ (o : Option (List ℕ)). option_or o (first_answer setting line (place + 1 + 1) (map grammar_of (drop (place + 1) sources)))) e ∙ sym (answer_step setting line sources place source within is) ∙ so_far
+      ap (λ (o : Option (List ℕ)). option_or o (first_answer setting line (place + 1 + 1) (map grammar_in (drop (place + 1) sources)))) e ∙ sym (answer_step setting line sources place source within is) ∙ so_far
 
-  pub answers_none : (source : Source) → place < length sources → source ≡ get_or sources place source → AnswerFrom setting line sources place
-      → None ≡ answer_by setting line (place + 1) (grammar_of source) → AnswerFrom setting line sources (place + 1)
+  pub answers_none : (source : DateSource) → place < length sources → source ≡ get_or sources place source → AnswerFrom setting line sources place
+      → None ≡ answer_by setting line (place + 1) (grammar_in source) → AnswerFrom setting line sources (place + 1)
   answers_none source within is so_far e =
-      ap (λ (o : Option (List ℕ)). option_or o (first_answer setting line (place + 1 + 1) (map grammar_of (drop (place + 1) sources)))) e ∙ sym (answer_step setting line sources place source within is) ∙ so_far
+      ap (λ (o : Option (List ℕ)). option_or o (first_answer setting line (place + 1 + 1) (map grammar_in (drop (place + 1) sources)))) e ∙ sym (answer_step setting line sources place source within is) ∙ so_far
 
-  pub answers_end : length sources ≤ place → AnswerFrom setting line sources place → None ≡ first_answer setting line 1 (map grammar_of sources)
+  pub answers_end : length sources ≤ place → AnswerFrom setting line sources place → None ≡ first_answer setting line 1 (map grammar_in sources)
   unfolding first_answer
   answers_end past so_far =
       let end : drop place sources ≡ [] = drop_all place sources past in
@@ -53,28 +54,28 @@ unfolding all_said
 all_said-one setting line number grammar = append-nil (parted number ++ said_by setting line number grammar)
 
 -- what the sources before a place say
-abbrev pub said_before : Setting → List ℕ → List Source → ℕ → List ℕ
-said_before setting line sources place = all_said setting line 1 (map grammar_of (take place sources))
+abbrev pub said_before : Setting → List ℕ → List DateSource → ℕ → List ℕ
+said_before setting line sources place = all_said setting line 1 (map grammar_in (take place sources))
 
-module _ (setting : Setting) (line : List ℕ) (sources : List Source) (place : ℕ) where
-  pub says : (source : Source) → place < length sources → source ≡ get_or sources place source
-      → said_before setting line sources (place + 1) ≡ said_before setting line sources place ++ (parted (place + 1) ++ said_by setting line (place + 1) (grammar_of source))
+module _ (setting : Setting) (line : List ℕ) (sources : List DateSource) (place : ℕ) where
+  pub says : (source : DateSource) → place < length sources → source ≡ get_or sources place source
+      → said_before setting line sources (place + 1) ≡ said_before setting line sources place ++ (parted (place + 1) ++ said_by setting line (place + 1) (grammar_in source))
   says source within is =
-      let there : take (place + 1) sources ≡ take place sources ++ source ∷ [] = take_more sources place source within ∙ ap (λ (s : Source). take place sources ++ s ∷ []) (sym is) in
-      let count : 1 + length (map grammar_of (take place sources)) ≡ place + 1 = omega (arith, length-map (take place sources) grammar_of, length-take-le place sources (omega arith)) in
-      ap (λ (some : List Source). all_said setting line 1 (map grammar_of some)) there
-      ∙ ap (all_said setting line 1) (map-append grammar_of (take place sources) (source ∷ []))
-      ∙ all_said-append setting line 1 (map grammar_of (take place sources)) (grammar_of source ∷ [])
-      ∙ ap (λ (n : ℕ). said_before setting line sources place ++ all_said setting line n (grammar_of source ∷ [])) count
-      ∙ ap (λ (l : List ℕ). said_before setting line sources place ++ l) (all_said-one setting line (place + 1) (grammar_of source))
+      let there : take (place + 1) sources ≡ take place sources ++ source ∷ [] = take_more sources place source within ∙ ap (λ (s : DateSource). take place sources ++ s ∷ []) (sym is) in
+      let count : 1 + length (map grammar_in (take place sources)) ≡ place + 1 = omega (arith, length-map (take place sources) grammar_in, length-take-le place sources (omega arith)) in
+      ap (λ (some : List DateSource). all_said setting line 1 (map grammar_in some)) there
+      ∙ ap (all_said setting line 1) (map-append grammar_in (take place sources) (source ∷ []))
+      ∙ all_said-append setting line 1 (map grammar_in (take place sources)) (grammar_in source ∷ [])
+      ∙ ap (λ (n : ℕ). said_before setting line sources place ++ all_said setting line n (grammar_in source ∷ [])) count
+      ∙ ap (λ (l : List ℕ). said_before setting line sources place ++ l) (all_said-one setting line (place + 1) (grammar_in source))
 
-  pub says_more : (more : List ℕ) × (all_said setting line 1 (map grammar_of sources) ≡ said_before setting line sources place ++ more)
+  pub says_more : (more : List ℕ) × (all_said setting line 1 (map grammar_in sources) ≡ said_before setting line sources place ++ more)
   says_more = (
-    all_said setting line (1 + length (map grammar_of (take place sources))) (map grammar_of (drop place sources)),
-    ap (λ (some : List Source). all_said setting line 1 (map grammar_of some)) (sym (take-append-drop place sources))
-        ∙ ap (all_said setting line 1) (map-append grammar_of (take place sources) (drop place sources))
-        ∙ all_said-append setting line 1 (map grammar_of (take place sources)) (map grammar_of (drop place sources)),
+    all_said setting line (1 + length (map grammar_in (take place sources))) (map grammar_in (drop place sources)),
+    ap (λ (some : List DateSource). all_said setting line 1 (map grammar_in some)) (sym (take-append-drop place sources))
+        ∙ ap (all_said setting line 1) (map-append grammar_in (take place sources) (drop place sources))
+        ∙ all_said-append setting line 1 (map grammar_in (take place sources)) (map grammar_in (drop place sources)),
   )
 
-  pub says_all : length sources ≤ place → said_before setting line sources place ≡ all_said setting line 1 (map grammar_of sources)
-  says_all past = ap (λ (some : List Source). all_said setting line 1 (map grammar_of some)) (take_all place sources past)
+  pub says_all : length sources ≤ place → said_before setting line sources place ≡ all_said setting line 1 (map grammar_in sources)
+  says_all past = ap (λ (some : List DateSource). all_said setting line 1 (map grammar_in some)) (take_all place sources past)

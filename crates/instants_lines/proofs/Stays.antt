@@ -1,5 +1,6 @@
 -- Words that nothing is left out of stay as they are.
-use Rattle.std.proofs.Common.{◌≡◌, ℕ, ◌<◌, Bool, true, false, ◌&&◌, ◌||◌, ◌==◌, nat_le, Option, None, Some, option_map, Result, Ok, Err, List, [], ◌∷◌, length, codes, if◌then◌else◌, refl, sym, ap, ◌∙◌, arith, ℤ}
+use Rattle.std.proofs.Common.{◌≡◌, ℕ, ◌<◌, Bool, true, false, ◌&&◌, ◌||◌, ◌==◌, nat_le, Option, None, Some, option_map, Result, Ok, Err, List, [], ◌∷◌, length, codes, if◌then◌else◌, refl, sym, ap, ◌∙◌, subst, arith, ℤ}
+use Rattle.std.proofs.lemmas.Slice.Eq.{bytes_eq-Decides}
 use Rattle.std.specs.Char.{is_ascii_digit}
 use Rattle.std.specs.List.{list_all}
 use Rattle.std.specs.Str.{bytes_eq}
@@ -7,7 +8,7 @@ use Rattle.std.specs.Str.Parse.{digits_value}
 use Rattle.base.specs.Bytes.{plus, hyphen, colon}
 use Rattle.instants_words.specs.declared.words.Words.{Words}
 use Rattle.instants_words.specs.Pieces.{number_said, clock_seconds, with_sign, offset_said, limit_said, assumed_said}
-use Rattle.instants_words.specs.Sources.{SourceSaid, sources_said}
+use Rattle.instants_words.specs.Sources.{SourceSaid, format_named, language_named, sources_said}
 use Rattle.instants_words.specs.Words.{words_said}
 use Rattle.instants_words.specs.declared.fault.WordsFault.{WordsFault}
 use Rattle.instants_lines.proofs.Told.{by_parts, parts}
@@ -80,21 +81,42 @@ as_is : (word : List ℕ) → is_utc word ≡ false → as_offset word ≡ word
 unfolding as_offset
 as_is word e = rw e refl
 
--- three such words are the target, the assumed offset and the limit
-stays : (target assumed limit : List ℕ) (sources : List (List ℕ)) → is_setting target ≡ true → is_setting assumed ≡ true → is_setting limit ≡ true → as_offset target ≡ target → as_offset assumed ≡ assumed
-    → filled (target ∷ assumed ∷ limit ∷ sources) ≡ target ∷ assumed ∷ limit ∷ sources
+-- the first of sources that are accepted is not the name of anything else
+is_known : (place : ℕ) (source : List ℕ) (others : List (List ℕ)) (all : List SourceSaid) → format_named source ≡ None → language_named source ≡ None → sources_said place (source ∷ others) ≡ Ok all → ⊥
+unfolding sources_said
+is_known place source [] all f l e = let none = rw f at e in absurd cc
+is_known place source (next ∷ others) all f l e = let none = rw f at (rw l at e) in absurd cc
+
+other_name : (source name : List ℕ) (others : List (List ℕ)) (all : List SourceSaid) (same : Bool) → format_named name ≡ None → language_named name ≡ None → sources_said 1 (source ∷ others) ≡ Ok all
+    → bytes_eq source name ≡ same → same ≡ false
+other_name source name others all false f l e is = refl
+other_name source name others all true f l e is =
+    let named : source ≡ name = (bytes_eq-Decides source name).0 is in
+    let P : List ℕ → Type 0 = λ word. sources_said 1 (word ∷ others) ≡ Ok all in
+    absurd (is_known 1 name others all f l (subst P named e))
+
+no_year : (source : List ℕ) (others : List (List ℕ)) (all : List SourceSaid) → sources_said 1 (source ∷ others) ≡ Ok all → bytes_eq source (codes "year") ≡ false
+no_year source others all e = other_name source (codes "year") others all (bytes_eq source (codes "year")) refl refl e refl
+
+no_time : (source : List ℕ) (others : List (List ℕ)) (all : List SourceSaid) → sources_said 1 (source ∷ others) ≡ Ok all → bytes_eq source (codes "time") ≡ false
+no_time source others all e = other_name source (codes "time") others all (bytes_eq source (codes "time")) refl refl e refl
+
+-- three such words are the target, the assumed offset and the limit, where the next one is no name
+stays : (target assumed limit source : List ℕ) (others : List (List ℕ)) → is_setting target ≡ true → is_setting assumed ≡ true → is_setting limit ≡ true → as_offset target ≡ target → as_offset assumed ≡ assumed
+    → bytes_eq source (codes "year") ≡ false → bytes_eq source (codes "time") ≡ false
+    → filled (target ∷ assumed ∷ limit ∷ source ∷ others) ≡ target ∷ assumed ∷ limit ∷ source ∷ others
 unfolding filled target_in assumed_in limit_in sources_in
-stays target assumed limit sources t a l et ea = rw t (rw a (rw l (rw et (rw ea refl))))
+stays target assumed limit source others t a l et ea y n = rw t (rw a (rw l (rw et (rw ea (rw y (rw n refl))))))
 
 known : (t : Option ℤ) (a : Option (Option ℤ)) (l : Option ℕ) (sources : Result (List SourceSaid) WordsFault) (said : Words) → by_parts t a l sources ≡ Ok said
-    → (t ≡ Some said.target) × (a ≡ Some said.assumed) × (l ≡ Some said.limit)
+    → (t ≡ Some said.target) × (a ≡ Some said.assumed) × (l ≡ Some said.limit) × (sources ≡ Ok said.sources)
 known None a l sources said e = absurd cc
 known (Some t) None l sources said e = absurd cc
 known (Some t) (Some a) None sources said e = absurd cc
 known (Some t) (Some a) (Some l) (Err fault) said e = absurd cc
 known (Some t) (Some a) (Some l) (Ok sources) said e =
     let same : record { target = t; assumed = a; limit = l; sources = sources } ≡ said = cc in
-    (ap (λ words. Some words.target) same, ap (λ words. Some words.assumed) same, ap (λ words. Some words.limit) same)
+    (ap (λ words. Some words.target) same, ap (λ words. Some words.assumed) same, ap (λ words. Some words.limit) same, ap (λ words. Ok words.sources) same)
 
 few : (words : List (List ℕ)) (said : Words) → length words < 4 → words_said words ≡ Ok said → ⊥
 unfolding words_said
@@ -113,5 +135,5 @@ in_full (t ∷ a ∷ l ∷ []) said e = absurd (few (t ∷ a ∷ l ∷ []) said 
 in_full (t ∷ a ∷ l ∷ source ∷ others) said e =
     let is = known (offset_said t) (assumed_said a) (limit_said l) (sources_said 1 (source ∷ others)) said (sym (parts t a l source others) ∙ e) in
     let assumed = assumed_first a said.assumed is.1 in
-    stays t a l (source ∷ others) (setting t (sign_first t said.target is.0)) (setting a assumed.0) (setting l (digit_first l said.limit is.2))
-    (as_is t (no_name t said.target is.0)) (as_is a assumed.1)
+    stays t a l source others (setting t (sign_first t said.target is.0)) (setting a assumed.0) (setting l (digit_first l said.limit is.2))
+    (as_is t (no_name t said.target is.0)) (as_is a assumed.1) (no_year source others said.sources is.3) (no_time source others said.sources is.3)

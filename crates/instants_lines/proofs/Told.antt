@@ -7,7 +7,7 @@ use Rattle.instants_words.specs.declared.fault.WordsFault.TheVariants as words
 use Rattle.instants_words.specs.declared.words.Words.{Words}
 use Rattle.instants_words.specs.FirstSource.{first_said, source_said}
 use Rattle.instants_words.specs.Pieces.{offset_said, assumed_said, limit_said}
-use Rattle.instants_words.specs.Sources.{SourceSaid, Rfc3339, format_named, language_named, sources_said}
+use Rattle.instants_words.specs.Sources.{SourceSaid, Rfc3339, also, format_named, language_named, last_said, next_said, sources_said}
 use Rattle.instants_words.specs.Words.{words_said, ◌>>=◌}
 use Rattle.instants_lines.specs.Words.{unknown, last_wrong, next_wrong, told, wrong_source}
 use Rattle.instants_lines.specs.Wrong.{Wrong, NoSource, Source, NoDescription}
@@ -91,6 +91,52 @@ module _ (target assumed limit : List ℕ) where
   unfolding words_said
   no_source [] none = refl
   no_source (source ∷ others) none = absurd (omega arith)
+
+also_wrong : (source : SourceSaid) (sources : Result (List SourceSaid) WordsFault) (fault : WordsFault) → also source sources ≡ Err fault → sources ≡ Err fault
+also_wrong source (Ok all) fault e = absurd cc
+also_wrong source (Err wrong) fault e = e
+
+last_fault : (place : ℕ) (format : Option SourceSaid) (fault : WordsFault) → last_said place format ≡ Err fault → (at : ℕ) × (fault ≡ words.Source at)
+last_fault place (Some f) fault e = absurd cc
+last_fault place None fault e = let same : fault ≡ words.Source place = cc in (place, same)
+
+next_fault : (place : ℕ) (format : Option SourceSaid) (language : Option (List ℕ → SourceSaid)) (description : List ℕ) (behind behind_description : Result (List SourceSaid) WordsFault) (fault : WordsFault)
+    → (behind ≡ Err fault → (at : ℕ) × (fault ≡ words.Source at)) → (behind_description ≡ Err fault → (at : ℕ) × (fault ≡ words.Source at))
+    → next_said place format language description behind behind_description ≡ Err fault → (at : ℕ) × (fault ≡ words.Source at)
+next_fault place (Some f) language description behind behind_description fault one other e = one (also_wrong f behind fault e)
+next_fault place None (Some l) description behind behind_description fault one other e = other (also_wrong (l description) behind_description fault e)
+next_fault place None None description behind behind_description fault one other e = let same : fault ≡ words.Source place = cc in (place, same)
+
+-- what is wrong with sources is one of them
+source_fault : (place : ℕ) (sources : List (List ℕ)) (fault : WordsFault) → sources_said place sources ≡ Err fault → (at : ℕ) × (fault ≡ words.Source at)
+unfolding sources_said
+source_fault place [] fault e = absurd cc
+source_fault place (word ∷ []) fault e = last_fault place (format_named word) fault e
+source_fault place (word ∷ next ∷ words) fault e =
+    next_fault place (format_named word) (language_named word) next (sources_said (place + 1) (next ∷ words)) (sources_said (place + 1) words) fault
+    (source_fault (place + 1) (next ∷ words) fault) (source_fault (place + 1) words fault) e
+
+module _ (target assumed limit : List ℕ) where
+  behind_step : (t : Option ℤ) (a : Option (Option ℤ)) (l : Option ℕ) (one : List SourceSaid) (others : Result (List SourceSaid) WordsFault) (fault : WordsFault)
+      → IsOk (by_parts t a l (Ok one)) → by_parts t a l others ≡ Err fault → others ≡ Err fault
+  behind_step None a l one others fault good e = absurd cc
+  behind_step (Some t) None l one others fault good e = absurd cc
+  behind_step (Some t) (Some a) None one others fault good e = absurd cc
+  behind_step (Some t) (Some a) (Some l) one (Ok all) fault good e = absurd cc
+  behind_step (Some t) (Some a) (Some l) one (Err wrong) fault good e = let same : wrong ≡ fault = cc in ap Err same
+
+  told_source : (wrong : Wrong) (fault : WordsFault) (at : ℕ) → fault ≡ words.Source at → told target assumed limit wrong fault ≡ wrong
+  told_source wrong fault at e = rw e refl
+
+  -- where the words before the sources are right, what is wrong is told of those behind them
+  pub told_sources : (sources : List (List ℕ)) → 0 < length sources → IsOk (words_said (target ∷ assumed ∷ limit ∷ codes "rfc3339" ∷ []))
+      → (fault : WordsFault) → words_said (target ∷ assumed ∷ limit ∷ sources) ≡ Err fault → (wrong : Wrong) → told target assumed limit wrong fault ≡ wrong
+  told_sources [] some good fault e wrong = absurd (omega arith)
+  told_sources (source ∷ others) some good fault e wrong =
+      let P : Result Words WordsFault → Type 0 = λ said. IsOk said in
+      let of_sources = behind_step (offset_said target) (assumed_said assumed) (limit_said limit) (Rfc3339 ∷ []) (sources_said 1 (source ∷ others)) fault (subst P (by_one target assumed limit) good) (sym (parts target assumed limit source others) ∙ e) in
+      let at = source_fault 1 (source ∷ others) fault of_sources in
+      told_source wrong fault at.0 at.1
 
 of_format : (format : Option SourceSaid) (language : Option (List ℕ → SourceSaid)) (behind : List (List ℕ)) → is_some format ≡ true → (said : SourceSaid) × (first_said format language behind ≡ Some (said, behind))
 of_format (Some f) language behind f_is = (f, refl)

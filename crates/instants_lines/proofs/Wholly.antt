@@ -1,42 +1,237 @@
--- A line that is a date for its only source.
-use Rattle.std.proofs.Common.{◌≡◌, ℕ, List, [], ◌∷◌, ◌++◌, drop, Option, Some, Ok, refl, sym, ap, ◌∙◌, ℤ}
+-- A line for which its one source names a moment is found as a date.
+use Rattle.std.proofs.Common.{◌≡◌, ◌<◌, ◌-◌, ◌+◌, ◌==◌, ◌&&◌, ◌||◌, ℕ, zero, suc, Bool, true, false, List, [], ◌∷◌, length, get_or, take, drop, Option, Some, None, Result, Ok, Err, refl, sym, ◌∙◌, ap, subst, inl, inr, arith}
+use Rattle.std.specs.Prelude.{reverse, not, min, if◌then◌else◌}
+use Rattle.std.specs.Char.{is_ascii_alphanumeric, is_ascii_digit, is_ascii_whitespace}
+use Rattle.std.specs.List.{suffix_len}
+use Rattle.std.specs.Option.{is_none}
+use Rattle.std.specs.Result.{result_ok}
+use Rattle.std.proofs.lemmas.Bool.{cases_lt}
+use Rattle.std.proofs.lemmas.Bool.Decides.{nat_tests}
+use Rattle.std.proofs.lemmas.List.{get_or-reverse, get_or_past, take_all}
+use Rattle.std.proofs.lemmas.List.Sums.{prefix_len_passes, suffix_len-le-length}
+use Rattle.base.specs.Bytes.{dot, colon}
 use Rattle.datetime_wall.specs.Wall.{Shown}
-use Rattle.instants_answers.specs.Text.{moment_text}
-use Rattle.instants_found.specs.Front.{trimmed_length}
-use Rattle.instants_found.specs.Found.{found}
-use Rattle.instants_sources.specs.Grammar.{Grammar}
+use Rattle.parsing_combinator.specs.Fault.{Fault}
+use Rattle.parsing_components.specs.Component.{reads_component_v3}
+use Rattle.parsing_record.specs.Meaning.{Answer, Meaning, meaning}
+use Rattle.parsing_record.specs.Reads.{reads}
+use Rattle.parsing_record.specs.Record.{empty}
+use Rattle.parsing_record.specs.Whole.{whole, all_read, names, moment_named}
+use Rattle.parsing_rfc2822.specs.Direct as rfc2822
+use Rattle.parsing_rfc3339.specs.Direct as rfc3339
+use Rattle.parsing_parsable.specs.Staged.{reads_rfc2822, reads_rfc3339, reads_iso8601}
+use Rattle.parsing_parsable.specs.Moment.{reads_in_turn}
+use Rattle.parsing_laws.specs.TwoRoads.{AgreeOn}
+use Rattle.instants_sources.specs.Grammar.{Grammar, Items, V3, Rfc2822, Rfc3339, Iso8601}
 use Rattle.instants_sources.specs.Named.{named}
-use Rattle.instants_timeline.specs.Place.{Setting, first_named, shown_or_refused, place_of, place_text, answer_to}
+use Rattle.instants_edges.specs.Clock.{has_clock_in_front, has_seconds_before, quote_place}
+use Rattle.instants_edges.specs.Edge.{byte_before, ends_sequence, is_edge, is_sign, may_say}
+use Rattle.instants_edges.specs.Pieces.{trimmed_length}
+use Rattle.instants_fronts.specs.Front.{with_lengths, front_in, front_at}
+use Rattle.instants_fronts.specs.Given.{moment_of}
+use Rattle.instants_fronts.specs.Lengths.{lengths}
+use Rattle.instants_fronts.specs.Reading.{text_for, may_begin, is_likely, if_likely, front_of, front_named}
+use Rattle.instants_fronts.specs.declared.front.Front.{Front}
+use Rattle.instants_fronts.specs.declared.given.Given.{Given}
+use Rattle.instants_fronts.proofs.NamedAlone.{named_given}
+use Rattle.instants_found.specs.Beside.{is_read, is_gainsaid, stands_whole, names_nothing, without_offset, without_time, without_year}
+use Rattle.instants_found.specs.Candidate.{as_candidate, of_front, candidate, candidates, longest}
+use Rattle.instants_found.specs.Found.{at_place, from_place, found}
 use Rattle.instants_found.specs.declared.found.Found.{Found}
-use Rattle.instants_lines.specs.Dates.{date_in, place_of_date, key_of_date, key_or, replaced}
-use Rattle.instants_lines.proofs.Outside.{written}
+use Rattle.instants_found.specs.declared.found.Finding.TheVariants.{There}
+use Rattle.instants_timeline.specs.Place.{Setting, first_named, shown_or_refused, place_of, place_text, answer_to}
+use Rattle.instants_lines.specs.Dates.{place_of_date, key_or}
+use Rattle.instants_lines.specs.Going.{Going, key_of_line}
 
--- the whole of a line
-abbrev pub whole : List ℕ → Shown → Found
-whole line moment = record { start = 0; end = trimmed_length line; source = 0; moment = moment }
+-- ---- the front is the whole line
 
-alone_named : (assumed : Option ℤ) (grammar : Grammar) (line : List ℕ) (moment : Shown) → named assumed grammar line ≡ Ok moment → first_named assumed (grammar ∷ []) line ≡ Ok moment
+chosen : {A : Type 0} (b : Bool) (x : A) → b ≡ true → (if b then Some x else None) ≡ Some x
+chosen true x e = refl
+chosen false x e = absurd cc
+
+ok_of : (r : Result Shown Fault) (m : Shown) → Some m ≡ result_ok r → r ≡ Ok m
+ok_of (Ok x) m e = let same : x ≡ m = cc in ap (λ (v : Shown). Ok v) same
+ok_of (Err f) m e = absurd cc
+
+module _ (given : Given) (grammar : Grammar) (moment : Shown) (likely : is_likely grammar moment ≡ true) where
+  kept : (o : Option Shown) → o ≡ Some moment → if_likely grammar o [] ≡ Some (moment, [])
+  kept o e = ap (λ (x : Option Shown). if_likely grammar x []) e ∙ chosen (is_likely grammar moment) (moment, []) likely
+
+  front_all : (x : Answer) → names moment_named (all_read x) ≡ Ok moment → front_of given grammar x ≡ Some (moment, [])
+  front_all (Ok (r, [])) e = kept (moment_of given given.years r) (named_given given given.years r moment e)
+  front_all (Ok (r, byte ∷ rest)) e =
+      let more : (length (byte ∷ rest) == 0) ≡ false = grind (arith, nat_tests) in
+      let refused = rw more at e in
+      absurd cc
+  front_all (Err f) e = absurd cc
+
+  by_record : (m : Meaning) (line : List ℕ) → names moment_named (whole m None line) ≡ Ok moment → front_of given grammar (m empty line) ≡ Some (moment, [])
+  unfolding whole
+  by_record m line e = front_all (m empty line) e
+
+  by_road : (direct : List ℕ → Result Shown Fault) (m : Meaning) (line : List ℕ) → AgreeOn direct m line → direct line ≡ Ok moment → front_of given grammar (m empty line) ≡ Some (moment, [])
+  unfolding whole
+  by_road direct m line agree e =
+      let alike : Some moment ≡ result_ok (names moment_named (whole m None line)) = sym (ap result_ok e) ∙ agree None None in
+      by_record m line (ok_of (names moment_named (whole m None line)) moment alike)
+
+front_whole : (given : Given) (grammar : Grammar) (line : List ℕ) (moment : Shown) → AgreeOn rfc3339.direct reads_rfc3339 line → AgreeOn rfc2822.direct reads_rfc2822 line
+    → named None grammar line ≡ Ok moment → may_begin grammar line ≡ true → is_likely grammar moment ≡ true → front_named given grammar line ≡ Some (moment, [])
+unfolding front_named
+front_whole given (Items items) line moment of_rfc3339 of_rfc2822 e begins likely = by_record given (Items items) moment likely (meaning (reads_in_turn items)) line e
+front_whole given (V3 tree) line moment of_rfc3339 of_rfc2822 e begins likely = by_record given (V3 tree) moment likely (meaning (reads reads_component_v3 tree)) line e
+front_whole given Rfc2822 line moment of_rfc3339 of_rfc2822 e begins likely = rw begins (by_road given Rfc2822 moment likely rfc2822.direct reads_rfc2822 line of_rfc2822 e)
+front_whole given Rfc3339 line moment of_rfc3339 of_rfc2822 e begins likely = by_road given Rfc3339 moment likely rfc3339.direct reads_rfc3339 line of_rfc3339 e
+front_whole given Iso8601 line moment of_rfc3339 of_rfc2822 e begins likely = by_record given Iso8601 moment likely reads_iso8601 line e
+
+-- ---- the edges of the line
+
+-- no word and no clock goes on over such a byte
+abbrev IsApart : ℕ → Type 0
+IsApart c = (is_ascii_alphanumeric c ≡ false) × ((c == dot) ≡ false) × ((c == colon) ≡ false)
+
+white_apart : (c : ℕ) → is_ascii_whitespace c ≡ true → IsApart c
+white_apart c e = (grind (arith, nat_tests), grind (arith, nat_tests), grind (arith, nat_tests))
+
+-- the first byte after what is trimmed is white space
+trimmed_white : (bytes : List ℕ) → 0 < suffix_len is_ascii_whitespace bytes → is_ascii_whitespace (get_or bytes (trimmed_length bytes) 0) ≡ true
+unfolding trimmed_length
+trimmed_white bytes some =
+    let n = suffix_len is_ascii_whitespace bytes in
+    let few : n - 1 < length bytes = omega (arith, some, suffix_len-le-length is_ascii_whitespace bytes) in
+    let there = prefix_len_passes is_ascii_whitespace (reverse bytes) (n - 1) 0 (omega (arith, some)) in
+    let moved = get_or-reverse bytes (n - 1) 0 few in
+    let place : length bytes - 1 - (n - 1) ≡ length bytes - n = omega (arith, some, few) in
+    let P : ℕ → Type 0 = λ k. is_ascii_whitespace (get_or bytes k 0) ≡ true in
+    subst P place (rw moved at there)
+
+after_trimmed : (bytes : List ℕ) → IsApart (get_or bytes (trimmed_length bytes) 0)
+unfolding trimmed_length
+after_trimmed bytes =
+    elim (cases_lt 0 (suffix_len is_ascii_whitespace bytes)) [
+      | inl some ↦ white_apart (get_or bytes (trimmed_length bytes) 0) (trimmed_white bytes some)
+      | inr none ↦
+          let past : get_or bytes (trimmed_length bytes) 0 ≡ 0 = get_or_past bytes (trimmed_length bytes) 0 (omega (arith, none)) in
+          rw past (refl, refl, refl)
+    ]
+
+falls : (w x v s z : Bool) → (((w && false) && not s) || (x && false) || ((w && false) && z) || (v && (false && z))) ≡ false
+falls true true true s z = refl
+falls true true false s z = refl
+falls true false true s z = refl
+falls true false false s z = refl
+falls false true true s z = refl
+falls false true false s z = refl
+falls false false true s z = refl
+falls false false false s z = refl
+
+edge_at_end : (line : List ℕ) → is_edge line (trimmed_length line) ≡ true
+edge_at_end line =
+    let (word, point, mark) = after_trimmed line in
+    let end = trimmed_length line in
+    rw (word, point, mark)
+    (ap not (falls (is_ascii_alphanumeric (byte_before line end 1)) (is_ascii_digit (byte_before line end 2) && byte_before line end 1 == dot)
+    (not (is_ascii_digit (byte_before line end 3)) && is_ascii_digit (byte_before line end 2) && is_ascii_digit (byte_before line end 1))
+    (ends_sequence line end) (is_ascii_digit (get_or line (end + 1) 0))))
+
+or_true : (b : Bool) → (b || true) ≡ true
+or_true true = refl
+or_true false = refl
+
+says_first : (line : List ℕ) → may_say line 0 ≡ true
+says_first line = or_true (not (is_sign (get_or line 0 0)))
+
+clock_none : (line : List ℕ) → has_clock_in_front line 0 ≡ false
+unfolding has_clock_in_front has_seconds_before
+clock_none line =
+    let none : min 0 (quote_place line) ≡ 0 = omega arith in
+    rw none refl
+
+-- ---- the date at the first place
+
+no_three : (a b c : Bool) → ((a && false) || (b && false) || (c && false)) ≡ false
+no_three true true true = refl
+no_three true true false = refl
+no_three true false true = refl
+no_three true false false = refl
+no_three false true true = refl
+no_three false true false = refl
+no_three false false true = refl
+no_three false false false = refl
+
+all_three : (c : Bool) → (true && (c || not false) && not false) ≡ true
+all_three true = refl
+all_three false = refl
+
+module _ (given : Given) (grammar : Grammar) (line : List ℕ) (moment : Shown) (text : text_for grammar line ≡ line) (names_it : (other : Given) → front_named other grammar line ≡ Some (moment, [])) (first : (lengths grammar line []).begins ≡ 0) where
+  abbrev front : Front
+  front = with_lengths line moment [] (lengths grammar line [])
+
+  front_is : front_at given grammar line ≡ Some front
+  unfolding front_at
+  front_is = ap (λ (bytes : List ℕ). front_in grammar bytes (front_named given grammar bytes)) text ∙ ap (front_in grammar line) (names_it given)
+
+  ends : 0 + front.all ≡ trimmed_length line
+  ends =
+      let all : take (length line - 0) line ≡ line = take_all (length line - 0) line (omega arith) in
+      let none : 0 + front.all ≡ front.all = omega arith in
+      none ∙ ap trimmed_length all
+
+  edge : is_edge line (0 + front.all) ≡ true
+  edge = ap (λ (place : ℕ). is_edge line place) ends ∙ edge_at_end line
+
+  begins : 0 + front.begins ≡ 0
+  begins = omega (arith, first)
+
+  says : may_say line (0 + front.begins) ≡ true
+  says = ap (λ (place : ℕ). may_say line place) begins ∙ says_first line
+
+  no_clock : has_clock_in_front line (0 + front.begins) ≡ false
+  no_clock = ap (λ (place : ℕ). has_clock_in_front line place) begins ∙ clock_none line
+
+  named_too : (without : Given) → names_nothing without grammar (drop 0 line) ≡ false
+  named_too without = ap (λ (bytes : List ℕ). is_none (front_named without grammar bytes)) text ∙ ap (λ (o : Option (Shown × List ℕ)). is_none o) (names_it without)
+
+  unsaid : is_gainsaid given grammar line 0 front ≡ false
+  unfolding is_gainsaid
+  unsaid = rw (named_too (without_offset given), named_too (without_time given), named_too (without_year given)) (no_three _ _ _)
+
+  stands : stands_whole given grammar line 0 front ≡ true
+  unfolding stands_whole
+  stands = rw (edge, no_clock, unsaid) (all_three front.is_chosen)
+
+  read : is_read grammar line 0 front ≡ true
+  read = rw (says, edge) refl
+
+  candidate_is : candidate given line 0 0 grammar ≡ Some (as_candidate given line 0 0 grammar front)
+  unfolding candidate
+  candidate_is = ap (of_front given line 0 0 grammar) front_is ∙ chosen (is_read grammar line 0 front) (as_candidate given line 0 0 grammar front) read
+
+  at_first : at_place given (grammar ∷ []) line 0 ≡ Some (There (as_candidate given line 0 0 grammar front).date)
+  unfolding at_place candidates longest
+  at_first = rw (candidate_is, stands) refl
+
+-- ---- the date of the line
+
+found_first : (limit : ℕ) (given : Given) (sources : List Grammar) (line : List ℕ) (date : Found) → 0 < limit → 0 < length line → at_place given sources line 0 ≡ Some (There date) → found limit given sources line ≡ Some (There date)
+unfolding found from_place
+found_first limit given sources [] date some long e = absurd (omega (arith, long))
+found_first zero given sources (byte ∷ after) date some long e = absurd (omega (arith, some))
+found_first (suc limit) given sources (byte ∷ after) date some long e = rw e refl
+
+alone_named : (setting : Setting) (grammar : Grammar) (line : List ℕ) (moment : Shown) → setting.sources ≡ grammar ∷ [] → named setting.assumed grammar line ≡ Ok moment → first_named setting.assumed setting.sources line ≡ Ok moment
 unfolding first_named
-alone_named assumed grammar line moment e = rw e refl
+alone_named setting grammar line moment alone e = rw alone (rw e refl)
 
--- the only source's place is that of the date
-placed_alone : (setting : Setting) (grammar : Grammar) (line : List ℕ) (moment : Shown) → setting.sources ≡ grammar ∷ [] → named setting.assumed grammar line ≡ Ok moment
-    → place_of setting line ≡ place_of_date setting (whole line moment)
-unfolding place_of place_of_date
-placed_alone setting grammar line moment alone e =
-    ap (shown_or_refused setting.target) (ap (λ (sources : List Grammar). first_named setting.assumed sources line) alone ∙ alone_named setting.assumed grammar line moment e)
-
-answered_alone : (setting : Setting) (grammar : Grammar) (line : List ℕ) (moment : Shown) → setting.sources ≡ grammar ∷ [] → named setting.assumed grammar line ≡ Ok moment
-    → answer_to setting line ≡ key_of_date setting (whole line moment)
-unfolding answer_to
-answered_alone setting grammar line moment alone e = ap place_text (placed_alone setting grammar line moment alone e)
-
-module _ (setting : Setting) (grammar : Grammar) (line : List ℕ) (moment : Shown) (alone : setting.sources ≡ grammar ∷ []) (is : named setting.assumed grammar line ≡ Ok moment) (is_found : found setting.assumed (grammar ∷ []) line ≡ Some (whole line moment)) where
-  pub date_is : date_in setting line ≡ Some (whole line moment)
-  date_is = ap (λ (sources : List Grammar). found setting.assumed sources line) alone ∙ is_found
-
-  pub key_alone : (key : List ℕ) → key_or setting key (date_in setting line) ≡ answer_to setting line
-  key_alone key = ap (key_or setting key) date_is ∙ sym (answered_alone setting grammar line moment alone is)
-
-  pub replaced_alone : (shown : Shown) → place_of setting line ≡ Ok shown → replaced setting line ≡ moment_text shown ++ drop (trimmed_length line) line
-  replaced_alone shown e = written setting line (whole line moment) shown date_is (sym (placed_alone setting grammar line moment alone is) ∙ e)
+pub key_alone : (going : Going) (grammar : Grammar) (line : List ℕ) (moment : Shown) → AgreeOn rfc3339.direct reads_rfc3339 line → AgreeOn rfc2822.direct reads_rfc2822 line
+    → going.search.setting.sources ≡ grammar ∷ [] → named None grammar line ≡ Ok moment → named going.search.setting.assumed grammar line ≡ Ok moment → 0 < going.search.limit → 0 < length line
+    → text_for grammar line ≡ line → may_begin grammar line ≡ true → is_likely grammar moment ≡ true → (lengths grammar line []).begins ≡ 0
+    → key_of_line going line ≡ answer_to going.search.setting line
+unfolding key_of_line place_of_date answer_to place_of
+key_alone going grammar line moment of_rfc3339 of_rfc2822 alone e assumed some long text may likely first =
+    let search = going.search in
+    let setting = search.setting in
+    let at = at_first search.given grammar line moment text (λ other. front_whole other grammar line moment of_rfc3339 of_rfc2822 e may likely) first in
+    let is = ap (λ (sources : List Grammar). found search.limit search.given sources line) alone ∙ found_first search.limit search.given (grammar ∷ []) line _ some long at in
+    ap (key_or setting going.key) is
+    ∙ ap (λ (n : Result Shown Fault). place_text (shown_or_refused setting.target n)) (sym (alone_named setting grammar line moment alone assumed))

@@ -1,15 +1,24 @@
--- The first date of a line, its key, and the line with its key in its place.
-use Rattle.std.specs.Prelude.{ℕ, List, ◌++◌, take, drop, Option, None, Some, Result, Ok, Err}
+-- The date of a line, its key, and the line with its date-time in its place.
+use Rattle.std.specs.Prelude.{ℕ, List, ◌++◌, take, drop, codes, Option, None, Some, Result, Ok, Err}
 use Rattle.datetime_wall.specs.Wall.{Shown}
 use Rattle.instants_answers.specs.Text.{moment_text}
+use Rattle.instants_fronts.specs.declared.given.Given.{Given}
 use Rattle.instants_found.specs.Found.{found}
 use Rattle.instants_found.specs.declared.found.Found.{Found}
+use Rattle.instants_found.specs.declared.found.Finding.{Finding}
+use Rattle.instants_found.specs.declared.found.Finding.TheVariants.{Doubtful, There}
 use Rattle.instants_timeline.specs.Refusal.{Refusal}
 use Rattle.instants_timeline.specs.Place.{Setting, shown_or_refused, place_text}
 
--- the first date of a line that the sources read
-abbrev pub date_in : Setting → List ℕ → Option Found
-date_in setting line = found setting.assumed setting.sources line
+-- what a search goes by: the sources and the target, the number of places of a line at which a date may begin, and what is given for dates that lack it
+pub record Search : Type 0 where
+  pub setting : Setting
+  pub limit : ℕ
+  pub given : Given
+
+-- the date of a line, where a source reads one
+abbrev pub date_in : Search → List ℕ → Option Finding
+date_in search line = found search.limit search.given search.setting.sources line
 
 -- a date's place on the timeline: its moment at the target, or that its year there is not written
 unfoldable pub place_of_date : Setting → Found → Result Shown Refusal
@@ -19,21 +28,27 @@ place_of_date setting date = shown_or_refused setting.target (Ok date.moment)
 abbrev pub key_of_date : Setting → Found → List ℕ
 key_of_date setting date = place_text (place_of_date setting date)
 
+-- the key of a line whose date is in doubt
+abbrev pub doubt : List ℕ
+doubt = codes "! doubt"
+
 -- the key of a line by its date, and another key where it has none
-abbrev pub key_or : Setting → List ℕ → Option Found → List ℕ
+abbrev pub key_or : Setting → List ℕ → Option Finding → List ℕ
 key_or setting other None = other
-key_or setting other (Some date) = key_of_date setting date
+key_or setting other (Some Doubtful) = doubt
+key_or setting other (Some (There date)) = key_of_date setting date
 
 -- the line with a date-time in place of a date; where its year is not written the line stays
 abbrev pub with_date_time : List ℕ → Found → Result Shown Refusal → List ℕ
 with_date_time line date (Ok moment) = take date.start line ++ (moment_text moment ++ drop date.end line)
 with_date_time line date (Err refusal) = line
 
--- the same by the line's date; a line without one stays
-abbrev pub with_date : Setting → List ℕ → Option Found → List ℕ
+-- the same by the line's date; a line without one stays, and one whose date is in doubt
+abbrev pub with_date : Setting → List ℕ → Option Finding → List ℕ
 with_date setting line None = line
-with_date setting line (Some date) = with_date_time line date (place_of_date setting date)
+with_date setting line (Some Doubtful) = line
+with_date setting line (Some (There date)) = with_date_time line date (place_of_date setting date)
 
--- the line with the date-time in place of its first date
-unfoldable pub replaced : Setting → List ℕ → List ℕ
-replaced setting line = with_date setting line (date_in setting line)
+-- the line with the date-time in place of its date
+unfoldable pub replaced : Search → List ℕ → List ℕ
+replaced search line = with_date search.setting line (date_in search line)

@@ -1,4 +1,4 @@
--- The words behind the mode, with what is taken where some are left out: a target, an assumed offset and a limit, and then the sources.
+-- The words behind the mode, with what is taken where some are left out: a target, an assumed offset and a limit, then a year and a time, each behind its name, and then the sources.
 use Rattle.std.specs.Prelude.{ℕ, Bool, false, ◌||◌, ◌==◌, if◌then◌else◌, Option, None, Some, is_some, unwrap_or, List, [], ◌∷◌, codes}
 use Rattle.std.specs.Char.{is_ascii_digit}
 use Rattle.std.specs.Str.{bytes_eq}
@@ -47,9 +47,45 @@ limit_in words = unwrap_or (front_setting (behind_setting (behind_setting words)
 unfoldable pub is_whole : List (List ℕ) → Bool
 is_whole words = is_some (front_setting (behind_setting (behind_setting words)))
 
+-- the words behind these
+abbrev pub behind_settings : List (List ℕ) → List (List ℕ)
+behind_settings words = behind_setting (behind_setting (behind_setting words))
+
+-- the first word, where there is one
+abbrev pub first_of : List (List ℕ) → Option (List ℕ)
+first_of [] = None
+first_of (word ∷ words) = Some word
+
+-- the words behind it
+abbrev pub behind_first : List (List ℕ) → List (List ℕ)
+behind_first [] = []
+behind_first (word ∷ words) = words
+
+-- the word behind a name, where the first word is this name
+abbrev pub front_named : List ℕ → List (List ℕ) → Option (List ℕ)
+front_named name [] = None
+front_named name (word ∷ words) = if bytes_eq word name then first_of words else None
+
+-- the words behind both
+abbrev pub behind_named : List ℕ → List (List ℕ) → List (List ℕ)
+behind_named name [] = []
+behind_named name (word ∷ words) = if bytes_eq word name then behind_first words else word ∷ words
+
+-- the year, which stands behind its name
+unfoldable pub year_in : List (List ℕ) → Option (List ℕ)
+year_in words = front_named (codes "year") (behind_settings words)
+
+-- the words behind it
+abbrev pub behind_year : List (List ℕ) → List (List ℕ)
+behind_year words = behind_named (codes "year") (behind_settings words)
+
+-- the time of day, which stands behind its name
+unfoldable pub time_in : List (List ℕ) → Option (List ℕ)
+time_in words = front_named (codes "time") (behind_year words)
+
 -- the sources: all words behind these
 unfoldable pub sources_in : List (List ℕ) → List (List ℕ)
-sources_in words = behind_setting (behind_setting (behind_setting words))
+sources_in words = behind_named (codes "time") (behind_year words)
 
 -- all of it, as the words of `instants`
 unfoldable pub filled : List (List ℕ) → List (List ℕ)

@@ -1,34 +1,59 @@
 -- What is written for lines one after another.
-use Rattle.std.specs.Prelude.{ℕ, List, [], ◌∷◌, ◌++◌, Option, None, Some, codes}
+use Rattle.std.specs.Prelude.{ℕ, ◌+◌, Bool, true, false, List, [], ◌∷◌, ◌++◌, Option, None, Some, codes}
 use Rattle.base.specs.Bytes.{tab, line_feed}
+use Rattle.datetime_wall.specs.Wall.{Shown}
+use Rattle.instants_fronts.specs.Reading.{window}
+use Rattle.instants_fronts.specs.declared.given.Given.{Given}
+use Rattle.instants_fronts.specs.declared.given.Years.{Years}
+use Rattle.instants_fronts.specs.declared.given.Years.TheVariants.{Unknown, In, Near}
+use Rattle.instants_found.specs.declared.found.Finding.{Finding}
+use Rattle.instants_found.specs.declared.found.Finding.TheVariants.{Doubtful, There}
 use Rattle.instants_stream.specs.Steps.{Steps}
-use Rattle.instants_timeline.specs.Place.{Setting}
-use Rattle.instants_lines.specs.Dates.{date_in, key_or, replaced}
+use Rattle.instants_lines.specs.Dates.{Search, date_in, key_or, replaced}
 use Rattle.instants_lines.specs.Explained.{explained}
 use Rattle.instants_lines.specs.declared.mode.Mode.{Mode}
 use Rattle.instants_lines.specs.declared.mode.Mode.TheVariants.{Key, Carry, Replace, Explain}
 
--- the mode, the setting, and the key that a line without a date takes
+-- the mode, what dates are looked for by, and the key that a line without a date takes
 pub record Going : Type 0 where
   pub mode : Mode
-  pub setting : Setting
+  pub search : Search
   pub key : List ℕ
 
--- the key of a line: that of its first date, and where it has none the one that such a line takes
+-- the key of a line: that of its date, and where it has none the one that such a line takes
 unfoldable pub key_of_line : Going → List ℕ → List ℕ
-key_of_line going line = key_or going.setting going.key (date_in going.setting line)
+key_of_line going line = key_or going.search.setting going.key (date_in going.search line)
 
--- the text for a line: it stands behind its key and a tab, or has the date-time in place of its date, or is explained
+-- the text for a line: it stands after its key and a tab, or has the date-time in place of its date, or is explained
 abbrev pub text_in : Mode → Going → List ℕ → List ℕ
 text_in Key going line = key_of_line going line ++ tab ∷ line
 text_in Carry going line = key_of_line going line ++ tab ∷ line
-text_in Replace going line = replaced going.setting line
-text_in Explain going line = explained going.setting line
+text_in Replace going line = replaced going.search line
+text_in Explain going line = explained going.search.setting line
 
--- what is written for a line as it is seen, its line feed included
-abbrev pub said : Going → Option (List ℕ) → List ℕ
-said going None = codes "! long" ++ line_feed ∷ []
-said going (Some line) = text_in going.mode going line ++ line_feed ∷ []
+-- a line's text ends in a line feed; where dates are replaced a last line without one stays so
+abbrev pub last_end : Mode → List ℕ
+last_end Key = line_feed ∷ []
+last_end Carry = line_feed ∷ []
+last_end Replace = []
+last_end Explain = line_feed ∷ []
+
+-- ---- the line below
+
+-- where a year is given, that of a line below a date is the one that brings it nearest to the date
+abbrev pub years_below : Years → Shown → Years
+years_below Unknown above = Unknown
+years_below (In year) above = Near above
+years_below (Near other) above = Near above
+
+abbrev pub given_below : Given → Option Finding → Given
+given_below given None = given
+given_below given (Some Doubtful) = given
+given_below given (Some (There date)) = record given { years = years_below given.years date.moment }
+
+-- what dates are looked for by below a line
+abbrev pub search_below : Search → List ℕ → Search
+search_below search line = record search { given = given_below search.given (date_in search line) }
 
 -- the key that a line without a date takes below a line with this key: that one in mode `carry`, and else the one that it takes anywhere
 abbrev pub key_below : Mode → List ℕ → List ℕ → List ℕ
@@ -37,14 +62,58 @@ key_below Key key above = key
 key_below Replace key above = key
 key_below Explain key above = key
 
--- below a line that is too long, a line without a date takes the key that it takes above it
-abbrev pub below : Going → Option (List ℕ) → Going
-below going None = going
-below going (Some line) = record going { key = key_below going.mode going.key (key_of_line going line) }
+abbrev pub below : Going → List ℕ → Going
+below going line = record going { search = search_below going.search line; key = key_below going.mode going.key (key_of_line going line) }
+
+-- a line that is explained changes nothing
+abbrev pub next_in : Mode → Going → List ℕ → Going
+next_in Key going line = below going line
+next_in Carry going line = below going line
+next_in Replace going line = below going line
+next_in Explain going line = going
+
+-- ---- long lines
+
+-- how many bytes of a line are looked at, beside one more: a date that begins at one of the first places, and what stands after it; a line is explained whole or not at all
+abbrev pub near : Mode → ℕ → ℕ
+near Key limit = limit + window + 64
+near Carry limit = limit + window + 64
+near Replace limit = limit + window + 64
+near Explain limit = limit
+
+-- the text for the first bytes of a longer line
+abbrev pub begun_in : Mode → Going → List ℕ → List ℕ
+begun_in Key going front = text_in Key going front
+begun_in Carry going front = text_in Carry going front
+begun_in Replace going front = text_in Replace going front
+begun_in Explain going front = []
+
+abbrev pub hands_on : Mode → Bool
+hands_on Key = true
+hands_on Carry = true
+hands_on Replace = true
+hands_on Explain = false
+
+-- what stands at its end
+abbrev pub end_in : Mode → List ℕ → List ℕ
+end_in Key end = end
+end_in Carry end = end
+end_in Replace end = end
+end_in Explain end = codes "! long" ++ end
 
 abbrev pub lines_steps : Steps Going
-lines_steps = record { said = said; next = below }
+lines_steps =
+    record {
+      said = λ going line. text_in going.mode going line ++ line_feed ∷ [];
+      next = λ going line. next_in going.mode going line;
+      last_said = λ going line. text_in going.mode going line ++ last_end going.mode;
+      begun = λ going front. begun_in going.mode going front;
+      within = λ going front. next_in going.mode going front;
+      hands_on = λ going. hands_on going.mode;
+      ended = λ going. end_in going.mode (line_feed ∷ []);
+      last_ended = λ going. end_in going.mode (last_end going.mode);
+    }
 
 -- at the beginning a line without a date takes `! none`
-abbrev pub beginning : Mode → Setting → Going
-beginning mode setting = record { mode = mode; setting = setting; key = codes "! none" }
+abbrev pub beginning : Mode → Search → Going
+beginning mode search = record { mode = mode; search = search; key = codes "! none" }

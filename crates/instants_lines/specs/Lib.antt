@@ -2,6 +2,8 @@ pub mod Modes
 pub mod Dates
 pub mod Explained
 pub mod Going
+pub mod Fields
+pub mod Asked
 pub mod Showing
 pub mod Writing
 pub mod Wrong

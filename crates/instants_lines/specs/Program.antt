@@ -1,5 +1,7 @@
 -- What the program does between its words and its end.
 use Rattle.std.specs.Prelude.{◌≡◌, ℕ, List, Option, None, Some, Result, Ok, Err, IsOk, ⊤}
+use Rattle.instants_stream.specs.Steps.{by_steps}
+use Rattle.instants_stream.specs.Writing.{Writing}
 use Rattle.instants_stream.specs.declared.run.RunFault.{RunFault}
 use Rattle.instants_words.specs.declared.fault.WordsFault.TheVariants as words
 use Rattle.instants_words.specs.declared.words.Words.{Words}
@@ -7,22 +9,22 @@ use Rattle.instants_timeline.specs.Place.{Setting}
 use Rattle.instants_timeline.specs.Program.{Asks}
 use Rattle.instants_timeline.specs.Program as instants
 use Rattle.instants_timeline.specs.declared.program_fault.ProgramFault.TheVariants as program
-use Rattle.instants_lines.specs.Going.{Going, beginning}
+use Rattle.instants_lines.specs.Going.{Going, lines_steps, near}
+use Rattle.instants_lines.specs.Asked.{begins_by}
 use Rattle.instants_lines.specs.Words.{mode_words_said}
 use Rattle.instants_lines.specs.Wrong.{Wrong, wrong_of}
-use Rattle.instants_lines.specs.declared.mode.Mode.{Mode}
+use Rattle.instants_lines.specs.declared.asked.Asked.{Asked}
 use Rattle.instants_lines.specs.declared.lines_fault.LinesFault.{LinesFault}
 use Rattle.instants_lines.specs.declared.lines_fault.LinesFault.TheVariants as lines
 
--- the words ask for this beginning, and for this limit of a line
-pub record AsksFor (words : List (List ℕ)) (going : Going) (limit : ℕ) : Type 0 where
-  pub mode : Mode
+-- the words ask for this beginning
+pub record AsksFor (words : List (List ℕ)) (going : Going) : Type 0 where
+  pub asked : Asked
   pub said : Words
-  pub is_said : mode_words_said words ≡ Ok (mode, said)
+  pub is_said : mode_words_said words ≡ Ok (asked, said)
   pub setting : Setting
   pub asks : Asks said setting
-  pub begins : going ≡ beginning mode setting
-  pub limit_is : limit ≡ said.limit
+  pub begins : going ≡ begins_by asked setting said.limit
 
 -- how the run ended, where one was begun
 abbrev pub run_of : Result (Unit {0}) LinesFault → Option (Result (Unit {0}) RunFault)
@@ -58,3 +60,7 @@ abbrev pub IsToldAs : List (List ℕ) → LinesFault → Type 0
 IsToldAs words (lines.Words wrong) = mode_words_said words ≡ Err (wrong_of wrong)
 IsToldAs words (lines.Program program.Memory) = IsOk (mode_words_said words)
 IsToldAs words (lines.Program _) = ⊥
+
+-- what is written for a stream, from this beginning on
+abbrev pub writing : Going → Writing
+writing going = by_steps lines_steps going (near going.mode going.search.limit)

@@ -5,7 +5,7 @@ use Rattle.std.specs.List.{list_any}
 use Rattle.base.specs.Bytes.{dot}
 use Rattle.instants_timeline.specs.ProgramText.{text_of}
 use Rattle.instants_timeline.specs.ProgramText as instants
-use Rattle.instants_lines.specs.Wrong.{Wrong, wrong_of, NoMode, UnknownMode, NoSource, Target, Assumed, Limit, Source, FirstSource, NoDescription}
+use Rattle.instants_lines.specs.Wrong.{Wrong, wrong_of, NoMode, UnknownMode, NoSource, Target, Assumed, Limit, Year, Time, Source, FirstSource, NoDescription}
 use Rattle.instants_lines.specs.declared.lines_fault.LinesFault.{LinesFault}
 use Rattle.instants_lines.specs.declared.lines_fault.LinesFault.TheVariants as lines
 
@@ -32,12 +32,14 @@ no_such_first_source word =
 
 -- the sentence for what is wrong with words, behind the name of the program
 abbrev pub wrong_text : Wrong → List ℕ
-wrong_text NoMode = codes "usage: instants-lines MODE [TARGET [ASSUMED [LIMIT]]] SOURCE..."
+wrong_text NoMode = codes "usage: instants-lines MODE [TARGET [ASSUMED [LIMIT]]] [year N] [time HH:MM] SOURCE..."
 wrong_text (UnknownMode word) = codes "\"" ++ (word ++ codes "\": no such mode; there are key, carry, replace, explain")
 wrong_text NoSource = codes "no source is named; there are rfc3339, rfc2822, iso8601, v1, v2, v3, strftime"
 wrong_text (Target word) = codes "\"" ++ (word ++ codes "\": no target offset; it must be +HH:MM, -HH:MM, Z or UTC")
 wrong_text (Assumed word) = codes "\"" ++ (word ++ codes "\": no assumed offset; it must be +HH:MM, -HH:MM, Z, UTC or -")
 wrong_text (Limit word) = codes "\"" ++ (word ++ codes "\": no limit; it must be a number from 1 to 1048576")
+wrong_text (Year word) = codes "\"" ++ (word ++ codes "\": no year; it must be a number from 0 to 9999")
+wrong_text (Time word) = codes "\"" ++ (word ++ codes "\": no time of day; it must be HH:MM")
 wrong_text (Source place word) = codes "source " ++ (decimal place ++ (codes ": \"" ++ (word ++ (codes "\": " ++ no_such_source word))))
 wrong_text (FirstSource word) = codes "source 1: \"" ++ (word ++ (codes "\": " ++ no_such_first_source word))
 wrong_text (NoDescription place language) = codes "source " ++ (decimal place ++ (codes ": \"" ++ (language ++ codes "\" needs a description in the next argument")))
@@ -45,7 +47,7 @@ wrong_text (NoDescription place language) = codes "source " ++ (decimal place ++
 -- the sentence for a fault, without a line feed
 abbrev pub sentence : LinesFault → List ℕ
 sentence (lines.Words wrong) = codes "instants-lines: " ++ wrong_text (wrong_of wrong)
-sentence (lines.Program fault) = codes "instants-lines" ++ text_of (codes "instants-lines MODE [TARGET [ASSUMED [LIMIT]]] SOURCE...") fault
+sentence (lines.Program fault) = codes "instants-lines" ++ text_of (codes "instants-lines MODE [TARGET [ASSUMED [LIMIT]]] [year N] [time HH:MM] SOURCE...") fault
 
 -- 2 where the words or a description among them are wrong, 1 where memory, reading or writing failed
 abbrev pub status_of : LinesFault → ℕ

@@ -1,7 +1,18 @@
 -- What dates are found by, and where they are shown.
-use Rattle.instants_found.specs.Finder.{sources_of, assumed_of}
+use Rattle.std.specs.Prelude.{ℕ}
+use Rattle.instants_fronts.specs.declared.given.Given.{Given}
+use Rattle.instants_found.specs.Finder.{sources_of, limit_of}
 use Rattle.instants_timeline.specs.Place.{Setting}
+use Rattle.instants_lines.specs.Dates.{Search}
 use Rattle.instants_lines.specs.declared.date_sources.DateSources.{DateSources}
 
 abbrev pub setting_in : DateSources → Setting
-setting_in dates = record { sources = sources_of dates.finder; target = dates.target; assumed = assumed_of dates.finder }
+setting_in dates = record { sources = sources_of dates.finder; target = dates.target; assumed = dates.assumed }
+
+-- the number of places of a line at which a date may begin
+abbrev pub limit_in : DateSources → ℕ
+limit_in dates = limit_of dates.finder
+
+-- what dates are looked for by, with what is given
+abbrev pub search_in : DateSources → Given → Search
+search_in dates given = record { setting = setting_in dates; limit = limit_in dates; given = given }

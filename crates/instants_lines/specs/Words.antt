@@ -1,13 +1,16 @@
--- What the words of the program say: a mode, and behind it what the words of `instants` say, of which some may be left out.
-use Rattle.std.specs.Prelude.{ℕ, ◌+◌, ◌==◌, Bool, true, false, List, [], ◌∷◌, Option, None, Some, Result, Ok, Err, if◌then◌else◌}
+-- What the words of the program say: a mode, and behind it what the words of `instants` say, of which some may be left out, and before the sources a year and a time.
+use Rattle.std.specs.Prelude.{ℕ, ◌+◌, ◌*◌, ◌==◌, Bool, true, false, List, [], ◌∷◌, Option, None, Some, option_map, Result, Ok, Err, if◌then◌else◌, ℤ, pos}
+use Rattle.base.specs.Bytes.{colon}
+use Rattle.instants_words.specs.Pieces.{number_said}
 use Rattle.instants_words.specs.Sources.{SourceSaid, format_named, language_named}
 use Rattle.instants_words.specs.Words.{words_said}
 use Rattle.instants_words.specs.declared.fault.WordsFault.{WordsFault}
 use Rattle.instants_words.specs.declared.fault.WordsFault.TheVariants as words
 use Rattle.instants_words.specs.declared.words.Words.{Words}
-use Rattle.instants_lines.specs.Filled.{filled, target_in, assumed_in, limit_in, sources_in, is_whole}
+use Rattle.instants_lines.specs.Filled.{filled, target_in, assumed_in, limit_in, year_in, time_in, sources_in, is_whole}
 use Rattle.instants_lines.specs.Modes.{mode_said}
-use Rattle.instants_lines.specs.Wrong.{Wrong, NoMode, UnknownMode, NoSource, Target, Assumed, Limit, Source, FirstSource, NoDescription}
+use Rattle.instants_lines.specs.Wrong.{Wrong, NoMode, UnknownMode, NoSource, Target, Assumed, Limit, Year, Time, Source, FirstSource, NoDescription}
+use Rattle.instants_lines.specs.declared.asked.Asked.{Asked}
 use Rattle.instants_lines.specs.declared.mode.Mode.{Mode}
 
 -- a word that is no format: it names nothing, or a language without a description
@@ -47,19 +50,67 @@ told target assumed limit wrong words.Limit = Limit limit
 told target assumed limit wrong (words.Source place) = wrong
 told target assumed limit wrong words.Memory = NoSource
 
+-- the hours and minutes of a clock, in minutes
+abbrev pub clock_minutes : Option ℕ → Option ℕ → Option ℕ
+clock_minutes (Some hour) (Some minute) = Some (hour * 60 + minute)
+clock_minutes (Some hour) None = None
+clock_minutes None minute = None
+
+-- a year is one to four digits
+unfoldable pub year_said : List ℕ → Option ℤ
+year_said [] = None
+year_said (first ∷ rest) = option_map pos (number_said 0 9999 4 (first ∷ rest))
+
+-- a time of day as `HH:MM`, in minutes
+unfoldable pub time_said : List ℕ → Option ℕ
+time_said (h ∷ i ∷ mark ∷ m ∷ n ∷ []) = if mark == colon then clock_minutes (number_said 0 23 2 (h ∷ i ∷ [])) (number_said 0 59 2 (m ∷ n ∷ [])) else None
+time_said _ = None
+
+-- what a word says, or else this is wrong
+abbrev pub or_wrong : {A : Type 0} → Option A → Wrong → Result (Option A) Wrong
+or_wrong (Some said) wrong = Ok (Some said)
+or_wrong None wrong = Err wrong
+
+-- the year that a word says, where there is one
+abbrev pub year_read : Option (List ℕ) → Result (Option ℤ) Wrong
+year_read None = Ok None
+year_read (Some word) = or_wrong (year_said word) (Year word)
+
+-- the time that a word says, where there is one
+abbrev pub time_read : Option (List ℕ) → Result (Option ℕ) Wrong
+time_read None = Ok None
+time_read (Some word) = or_wrong (time_said word) (Time word)
+
+-- what is asked, or the first of the two that is wrong
+abbrev pub asked_by : Mode → Result (Option ℤ) Wrong → Result (Option ℕ) Wrong → Result Asked Wrong
+asked_by mode (Ok year) (Ok time) = Ok (record { mode = mode; year = year; time = time })
+asked_by mode (Ok year) (Err wrong) = Err wrong
+asked_by mode (Err wrong) time = Err wrong
+
+-- what the words behind the mode ask
+unfoldable pub asked_said : Mode → List (List ℕ) → Result Asked Wrong
+asked_said mode others = asked_by mode (year_read (year_in others)) (time_read (time_in others))
+
+-- what is wrong first where sources are: what is asked, or the first source that is wrong
+abbrev pub wrong_behind : Result Asked Wrong → Wrong → Wrong
+wrong_behind (Ok asked) wrong = wrong
+wrong_behind (Err wrong_asked) wrong = wrong_asked
+
 -- a fault of the words behind the mode
-unfoldable pub told_behind : List (List ℕ) → WordsFault → Wrong
-told_behind others fault = told (target_in others) (assumed_in others) (limit_in others) (first_wrong (is_whole others) (wrong_source 1 (sources_in others))) fault
+unfoldable pub told_behind : List (List ℕ) → Result Asked Wrong → WordsFault → Wrong
+told_behind others asked fault =
+    told (target_in others) (assumed_in others) (limit_in others) (wrong_behind asked (first_wrong (is_whole others) (wrong_source 1 (sources_in others)))) fault
 
-abbrev pub mode_and_words : Mode → List (List ℕ) → Result Words WordsFault → Result (Mode × Words) Wrong
-mode_and_words mode others (Ok said) = Ok (mode, said)
-mode_and_words mode others (Err fault) = Err (told_behind others fault)
+abbrev pub asked_and_words : List (List ℕ) → Result Asked Wrong → Result Words WordsFault → Result (Asked × Words) Wrong
+asked_and_words others (Ok asked) (Ok said) = Ok (asked, said)
+asked_and_words others (Err wrong) (Ok said) = Err wrong
+asked_and_words others asked (Err fault) = Err (told_behind others asked fault)
 
-abbrev pub with_mode : Option Mode → List ℕ → List (List ℕ) → Result (Mode × Words) Wrong
+abbrev pub with_mode : Option Mode → List ℕ → List (List ℕ) → Result (Asked × Words) Wrong
 with_mode None word others = Err (UnknownMode word)
-with_mode (Some mode) word others = mode_and_words mode others (words_said (filled others))
+with_mode (Some mode) word others = asked_and_words others (asked_said mode others) (words_said (filled others))
 
 -- the mode and the words behind it, or the first thing wrong with them
-unfoldable pub mode_words_said : List (List ℕ) → Result (Mode × Words) Wrong
+unfoldable pub mode_words_said : List (List ℕ) → Result (Asked × Words) Wrong
 mode_words_said [] = Err NoMode
 mode_words_said (word ∷ others) = with_mode (mode_said word) word others

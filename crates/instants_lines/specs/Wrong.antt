@@ -11,6 +11,8 @@ pub data Wrong : Type 0 where
   Target : List ℕ → Wrong
   Assumed : List ℕ → Wrong
   Limit : List ℕ → Wrong
+  Year : List ℕ → Wrong
+  Time : List ℕ → Wrong
   Source : ℕ → List ℕ → Wrong
   FirstSource : List ℕ → Wrong
   NoDescription : ℕ → List ℕ → Wrong
@@ -23,6 +25,8 @@ wrong_of words.NoSource = NoSource
 wrong_of (words.Target word) = Target word.now
 wrong_of (words.Assumed word) = Assumed word.now
 wrong_of (words.Limit word) = Limit word.now
+wrong_of (words.Year word) = Year word.now
+wrong_of (words.Time word) = Time word.now
 wrong_of (words.Source place word) = Source place word.now
 wrong_of (words.FirstSource word) = FirstSource word.now
 wrong_of (words.NoDescription place language) = NoDescription place language.now

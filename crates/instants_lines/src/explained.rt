@@ -3,14 +3,14 @@ ghost use Rattle.std.specs.Prelude.{◌≡◌, ◌<◌, ◌≤◌, ◌+◌, [], 
 ghost use Rattle.std.specs.Io.KnownBytes.{Appends};
 ghost use Rattle.base.specs.Bytes.{tab, line_feed};
 ghost use Rattle.instants_stream.specs.Told.{AppendsFront};
-ghost use Rattle.instants_sources.specs.Grammar.{grammar_of};
+ghost use Rattle.instants_fronts.specs.DateSource.{grammar_in};
 ghost use Rattle.instants_lines.specs.Showing.{setting_in};
 ghost use Rattle.instants_lines.specs.Explained.{text_by, said_by, answer_by, first_answer, parted, all_said, explained};
 
 use crate::date_sources::DateSources;
 use crate::parts::{write_parts, write_three};
 use instants_answers::Answer;
-use instants_sources::Source;
+use instants_fronts::DateSource;
 use instants_stream::{ByteWriter, DeviceFailed};
 
 // Adds a number in decimal.
@@ -47,8 +47,8 @@ fn before(number: usize) -> &'static [u8]
 
 // The answer of a source to a line, or its fault.
 #[tactic(auto, unfolding(crate::specs::Explained::text_by))]
-fn text_by(dates: &DateSources<'_>, source: &Source<'_>, line: &[u8]) -> Answer
-    ensures { result ≡ text_by (setting_in dates.now) line.now (grammar_of source.now) }
+fn text_by(dates: &DateSources<'_>, source: &DateSource<'_>, line: &[u8]) -> Answer
+    ensures { result ≡ text_by (setting_in dates.now) line.now (grammar_in source.now) }
 {
     match dates.answer_by(source, line) {
         Ok(answer) => answer,
@@ -60,12 +60,12 @@ fn text_by(dates: &DateSources<'_>, source: &Source<'_>, line: &[u8]) -> Answer
 #[tactic(auto, unfolding(crate::specs::Explained::text_by, crate::specs::Explained::said_by, crate::specs::Explained::answer_by))]
 fn answer_by(
     dates: &DateSources<'_>,
-    source: &Source<'_>,
+    source: &DateSource<'_>,
     number: usize,
     line: &[u8],
 ) -> Option<(usize, Answer)>
     ensures { option_map (λ x. (decimal x.0 ++ tab ∷ []) ++ x.1) result
-        ≡ answer_by (setting_in dates.now) line.now number (grammar_of source.now) }
+        ≡ answer_by (setting_in dates.now) line.now number (grammar_in source.now) }
 {
     match dates.answer_by(source, line) {
         Ok(answer) => Some((number, answer)),
@@ -91,7 +91,7 @@ fn first_answer(dates: &DateSources<'_>, line: &[u8]) -> Option<(usize, Answer)>
 #[tactic(auto, unfolding(crate::specs::Explained::said_by))]
 fn write_said<W: ByteWriter>(
     dates: &DateSources<'_>,
-    source: &Source<'_>,
+    source: &DateSource<'_>,
     number: usize,
     line: &[u8],
     writer: &mut W,
@@ -99,11 +99,11 @@ fn write_said<W: ByteWriter>(
     requires { W.failed writer.old ≡ false }
     ensures written { OnOk result (Appends (W.held writer.old) (W.held writer.new)
         (parted number
-        ++ said_by (setting_in dates.now) line.now number (grammar_of source.now))) }
+        ++ said_by (setting_in dates.now) line.now number (grammar_in source.now))) }
     ensures ok { OnOk result (W.failed writer.new ≡ W.failed writer.old) }
     ensures front { OnErr result (AppendsFront (W.held writer.old) (W.held writer.new)
         (parted number
-        ++ said_by (setting_in dates.now) line.now number (grammar_of source.now))) }
+        ++ said_by (setting_in dates.now) line.now number (grammar_in source.now))) }
     ensures err { OnErr result (W.failed writer.new ≡ true) }
 {
     let text = text_by(dates, source, line);

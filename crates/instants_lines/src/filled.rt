@@ -1,6 +1,6 @@
 //! The words behind the mode, of which some may be left out.
 ghost use Rattle.std.specs.Prelude.{◌≡◌, ◌∷◌, map, option_map, IfOk};
-ghost use Rattle.instants_lines.specs.Filled.{assumed_in, as_offset, behind_setting, filled, front_setting, has_sign_or_digit, is_setting, is_utc, is_whole, limit_in, sources_in, target_in};
+ghost use Rattle.instants_lines.specs.Filled.{assumed_in, as_offset, behind_named, behind_setting, filled, front_named, front_setting, has_sign_or_digit, is_setting, is_utc, is_whole, limit_in, sources_in, target_in, time_in, year_in};
 
 use std::alloc::{AllocError, Global};
 
@@ -19,6 +19,9 @@ pub(crate) struct Parted<'a, 'b> {
     pub(crate) limit: &'a str,
     /// Whether none of these is left out.
     pub(crate) is_whole: bool,
+    /// The word after `year`, and that after `time`.
+    pub(crate) year: Option<&'a str>,
+    pub(crate) time: Option<&'a str>,
     pub(crate) sources: &'b [&'a str],
 }
 
@@ -74,24 +77,51 @@ fn as_offset(word: &str) -> &str
     if is_utc(word) { TARGET } else { word }
 }
 
+// The word behind a name that the words begin with, and those behind it.
+fn front_named<'a, 'b>(name: &str, words: &'b [&'a str]) -> (Option<&'a str>, &'b [&'a str])
+    ensures front { option_map (λ word. word.now) result.0
+        ≡ front_named name.now (map (λ word. word.now) words.now) }
+    ensures behind { map (λ word. word.now) result.1.now
+        ≡ behind_named name.now (map (λ word. word.now) words.now) }
+{
+    let Some((word, behind)) = words.split_first() else {
+        return (None, words);
+    };
+    if *word != name {
+        return (None, words);
+    }
+    match behind.split_first() {
+        Some((said, others)) => (Some(said), others),
+        None => (None, behind),
+    }
+}
+
 /// Parts the words behind the mode.
-#[tactic(auto, unfolding(crate::specs::Filled::target_in, crate::specs::Filled::assumed_in, crate::specs::Filled::limit_in, crate::specs::Filled::is_whole, crate::specs::Filled::sources_in))]
+#[tactic(auto, unfolding(crate::specs::Filled::target_in, crate::specs::Filled::assumed_in, crate::specs::Filled::limit_in, crate::specs::Filled::is_whole, crate::specs::Filled::year_in, crate::specs::Filled::time_in, crate::specs::Filled::sources_in))]
 pub(crate) fn part<'a, 'b>(words: &'b [&'a str]) -> Parted<'a, 'b>
     ensures target { result.target.now ≡ target_in (map (λ word. word.now) words.now) }
     ensures assumed { result.assumed.now ≡ assumed_in (map (λ word. word.now) words.now) }
     ensures limit { result.limit.now ≡ limit_in (map (λ word. word.now) words.now) }
     ensures whole { result.is_whole ≡ is_whole (map (λ word. word.now) words.now) }
+    ensures year { option_map (λ word. word.now) result.year
+        ≡ year_in (map (λ word. word.now) words.now) }
+    ensures time { option_map (λ word. word.now) result.time
+        ≡ time_in (map (λ word. word.now) words.now) }
     ensures sources { map (λ word. word.now) result.sources.now
         ≡ sources_in (map (λ word. word.now) words.now) }
 {
     let (target, behind_target) = front_setting(words);
     let (assumed, behind_assumed) = front_setting(behind_target);
-    let (limit, sources) = front_setting(behind_assumed);
+    let (limit, behind_limit) = front_setting(behind_assumed);
+    let (year, behind_year) = front_named("year", behind_limit);
+    let (time, sources) = front_named("time", behind_year);
     Parted {
         target: as_offset(target.unwrap_or(TARGET)),
         assumed: as_offset(assumed.unwrap_or(ASSUMED)),
         limit: limit.unwrap_or(LIMIT),
         is_whole: limit.is_some(),
+        year,
+        time,
         sources,
     }
 }

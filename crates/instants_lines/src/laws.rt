@@ -1,61 +1,78 @@
 //! Laws of what is written, each the contract of a function.
-ghost use Rattle.std.specs.Prelude.{◌≡◌, ◌<◌, ◌≤◌, ◌↔◌, ◌⊎◌, ◌+◌, ℕ, true, List, [], ◌∷◌, ◌++◌, Some, None, Ok, Err, length, take, drop, decimal, IsOk};
+ghost use Rattle.std.specs.Prelude.{◌≡◌, ◌<◌, ◌≤◌, ◌↔◌, ◌⊎◌, ◌+◌, ℕ, true, List, [], ◌∷◌, ◌++◌, Some, None, Ok, Err, length, take, drop, map, decimal, IsOk};
 ghost use Rattle.std.specs.Ordering.{nat_cmp, int_cmp};
 ghost use Rattle.std.specs.Cmp.Lexicographic.{slice_cmp};
 ghost use Rattle.base.specs.Bytes.{tab, line_feed};
 ghost use Rattle.datetime_wall.specs.Wall.{Shown, instant};
 ghost use Rattle.instants_answers.specs.Text.{moment_text};
+ghost use Rattle.instants_fronts.specs.Lengths.{lengths};
+ghost use Rattle.instants_fronts.specs.Reading.{is_likely, may_begin, text_for};
+ghost use Rattle.instants_fronts.specs.declared.given.Years.TheVariants.{Unknown};
 ghost use Rattle.instants_found.specs.declared.found.Found.{Found};
-ghost use Rattle.instants_found.specs.Front.{may_begin, trimmed_length};
+ghost use Rattle.instants_found.specs.declared.found.Finding.{Finding};
+ghost use Rattle.instants_found.specs.declared.found.Finding.TheVariants.{Doubtful, There};
 ghost use Rattle.instants_sources.specs.Grammar.{Grammar};
 ghost use Rattle.instants_sources.specs.Named.{named};
-ghost use Rattle.instants_stream.specs.Lines.{lines};
-ghost use Rattle.instants_stream.specs.Steps.{output};
-ghost use Rattle.instants_timeline.specs.Place.{Setting, first_named, place_of, answer_to};
+ghost use Rattle.instants_stream.specs.Lines.{whole_lines, lines};
+ghost use Rattle.instants_stream.specs.Steps.{line_said, line_next, behind, output};
+ghost use Rattle.instants_timeline.specs.Place.{Setting, first_named, answer_to};
 ghost use Rattle.instants_timeline.specs.Refusal.{Refusal};
 ghost use Rattle.instants_words.specs.Words.{words_said};
 ghost use Rattle.instants_words.specs.declared.words.Words.{Words};
-ghost use Rattle.instants_lines.specs.Dates.{date_in, place_of_date, key_of_date, replaced};
+ghost use Rattle.instants_lines.specs.Dates.{Search, date_in, place_of_date, key_of_date, replaced};
 ghost use Rattle.instants_lines.specs.Explained.{IsFirstToName, explained};
+ghost use Rattle.instants_lines.specs.Fields.{is_field, without_key};
 ghost use Rattle.instants_lines.specs.Filled.{filled};
-ghost use Rattle.instants_lines.specs.Going.{Going, key_of_line, beginning, lines_steps};
+ghost use Rattle.instants_lines.specs.Going.{Going, below, beginning, key_of_line, lines_steps, near, text_in};
 ghost use Rattle.instants_lines.specs.declared.mode.Mode.{Mode};
-ghost use Rattle.instants_lines.specs.declared.mode.Mode.TheVariants.{Carry};
+ghost use Rattle.instants_lines.specs.declared.mode.Mode.TheVariants.{Key, Carry, Explain};
 
 use parsing_laws::two_roads::{two_roads_of_rfc2822, two_roads_of_rfc3339};
 
-/// What stands before and behind the date of a line is unchanged where it is replaced, and between them stands the
-/// date-time, if its year is written. All other lines stay.
+/// What stands before and after the date of a line is unchanged where it is replaced, and between them stands the
+/// date-time, if its year is written. All other lines stay, and so does one whose date is in doubt.
 pub fn outside_unchanged()
-    ensures outside { (setting : Setting) (line : List ℕ) (date : Found)
-        → date_in setting line ≡ Some date → (text : List ℕ)
-        × (replaced setting line ≡ take date.start line ++ (text ++ drop date.end line)) }
-    ensures written { (setting : Setting) (line : List ℕ) (date : Found) (moment : Shown)
-        → date_in setting line ≡ Some date → place_of_date setting date ≡ Ok moment
-        → replaced setting line
+    ensures written { (search : Search) (line : List ℕ) (date : Found) (moment : Shown)
+        → date_in search line ≡ Some (There date)
+        → place_of_date search.setting date ≡ Ok moment
+        → replaced search line
         ≡ take date.start line ++ (moment_text moment ++ drop date.end line) }
-    ensures unwritten { (setting : Setting) (line : List ℕ) (date : Found) (refusal : Refusal)
-        → date_in setting line ≡ Some date → place_of_date setting date ≡ Err refusal
-        → replaced setting line ≡ line }
-    ensures undated { (setting : Setting) (line : List ℕ)
-        → date_in setting line ≡ None → replaced setting line ≡ line }
+    ensures unwritten { (search : Search) (line : List ℕ) (date : Found) (refusal : Refusal)
+        → date_in search line ≡ Some (There date)
+        → place_of_date search.setting date ≡ Err refusal
+        → replaced search line ≡ line }
+    ensures doubtful { (search : Search) (line : List ℕ)
+        → date_in search line ≡ Some Doubtful → replaced search line ≡ line }
+    ensures undated { (search : Search) (line : List ℕ)
+        → date_in search line ≡ None → replaced search line ≡ line }
 {}
 
-/// A line for which its one source names a moment has its answer as its key, and where that is a date-time it stands in
-/// place of all of the line but for white space at its end. A line of RFC 2822 has to begin with its weekday or its day for
-/// it.
+/// Replacing twice is replacing once, where the date of the written line is the date-time that was written, and names the
+/// same instant there. What is given for dates that lack it may be another the second time.
+pub fn replaced_twice()
+    ensures { (search below : Search) (line : List ℕ) (date again : Found) (moment : Shown)
+        → below.setting ≡ search.setting
+        → date_in search line ≡ Some (There date)
+        → place_of_date search.setting date ≡ Ok moment
+        → date.start ≤ length line
+        → date_in below (replaced search line) ≡ Some (There again)
+        → again.start ≡ date.start → again.end ≡ date.start + length (moment_text moment)
+        → instant again.moment ≡ instant date.moment
+        → replaced below (replaced search line) ≡ replaced search line }
+{}
+
+/// A line for which its one source names a moment, whether the offset is assumed or not, has its answer as its key: where
+/// what the source is given of the line is all of it, and its date begins where the line does. A number of Unix time has to
+/// be likely for it, and a line of RFC 2822 to begin with its weekday or its day.
 pub fn whole_line()
-    ensures key { (going : Going) (grammar : Grammar) (line : List ℕ) (moment : Shown)
-        → going.setting.sources ≡ grammar ∷ []
-        → named going.setting.assumed grammar line ≡ Ok moment → 0 < length line
-        → may_begin grammar line ≡ true
-        → key_of_line going line ≡ answer_to going.setting line }
-    ensures replaced { (setting : Setting) (grammar : Grammar) (line : List ℕ)
-        (moment shown : Shown)
-        → setting.sources ≡ grammar ∷ [] → named setting.assumed grammar line ≡ Ok moment
-        → 0 < length line → may_begin grammar line ≡ true
-        → place_of setting line ≡ Ok shown
-        → replaced setting line ≡ moment_text shown ++ drop (trimmed_length line) line }
+    ensures { (going : Going) (grammar : Grammar) (line : List ℕ) (moment : Shown)
+        → going.search.setting.sources ≡ grammar ∷ []
+        → named None grammar line ≡ Ok moment
+        → named going.search.setting.assumed grammar line ≡ Ok moment
+        → 0 < going.search.limit → 0 < length line
+        → text_for grammar line ≡ line → may_begin grammar line ≡ true
+        → is_likely grammar moment ≡ true → (lengths grammar line []).begins ≡ 0
+        → key_of_line going line ≡ answer_to going.search.setting line }
 {
     two_roads_of_rfc3339();
     two_roads_of_rfc2822();
@@ -74,23 +91,34 @@ pub fn order_of_keys()
         ↔ (instant date.moment ≡ instant another.moment) }
 {}
 
-/// Where the first of two streams is empty or ends in a line feed, the output of both joined is their outputs joined:
-/// in mode `carry` where the second begins with a line that has a date and is within the limit, in the other modes
-/// whatever it begins with.
+/// Where the first of two streams is empty or ends in a line feed, the output of both joined is the output of the first,
+/// and after it the output of the second with what is kept of the lines of the first. Nothing is kept where lines are
+/// explained, and in modes `key` and `replace` where no year is given; and in mode `carry`, where none is, what is kept
+/// counts for nothing if the second stream begins with a line in which a date is found, be it in doubt.
 pub fn joined_streams()
-    ensures others { (mode : Mode) (setting : Setting) (limit : ℕ) (first second : List ℕ)
-        → (mode ≡ Carry → ⊥)
+    ensures joined { (going : Going) (limit : ℕ) (first second : List ℕ)
         → ((first ≡ []) ⊎ ((front : List ℕ) × (first ≡ front ++ line_feed ∷ [])))
-        → output lines_steps (beginning mode setting) limit (first ++ second)
-        ≡ output lines_steps (beginning mode setting) limit first
-        ++ output lines_steps (beginning mode setting) limit second }
-    ensures carry { (setting : Setting) (limit : ℕ) (first second line : List ℕ) (others : List (List ℕ))
-        (date : Found)
+        → output lines_steps going limit (first ++ second)
+        ≡ output lines_steps going limit first
+        ++ output lines_steps (behind lines_steps limit going (whole_lines first)) limit second }
+    ensures others { (going : Going) (limit : ℕ) (first second : List ℕ)
+        → (going.mode ≡ Carry → ⊥) → going.search.given.years ≡ Unknown
         → ((first ≡ []) ⊎ ((front : List ℕ) × (first ≡ front ++ line_feed ∷ [])))
-        → lines second ≡ line ∷ others → length line ≤ limit → date_in setting line ≡ Some date
-        → output lines_steps (beginning Carry setting) limit (first ++ second)
-        ≡ output lines_steps (beginning Carry setting) limit first
-        ++ output lines_steps (beginning Carry setting) limit second }
+        → output lines_steps going limit (first ++ second)
+        ≡ output lines_steps going limit first ++ output lines_steps going limit second }
+    ensures explained { (going : Going) (limit : ℕ) (first second : List ℕ)
+        → going.mode ≡ Explain
+        → ((first ≡ []) ⊎ ((front : List ℕ) × (first ≡ front ++ line_feed ∷ [])))
+        → output lines_steps going limit (first ++ second)
+        ≡ output lines_steps going limit first ++ output lines_steps going limit second }
+    ensures carry { (going : Going) (first second line : List ℕ) (others : List (List ℕ))
+        (finding : Finding)
+        → going.mode ≡ Carry → going.search.given.years ≡ Unknown
+        → ((first ≡ []) ⊎ ((front : List ℕ) × (first ≡ front ++ line_feed ∷ [])))
+        → lines second ≡ line ∷ others → date_in going.search line ≡ Some finding
+        → output lines_steps going (near going.mode going.search.limit) (first ++ second)
+        ≡ output lines_steps going (near going.mode going.search.limit) first
+        ++ output lines_steps going (near going.mode going.search.limit) second }
 {}
 
 /// Where a source names a moment for a line, mode `explain` gives the number of the first one that does, the least, and the
@@ -103,19 +131,33 @@ pub fn explained_answer()
         ≡ (decimal (length first.before + 1) ++ tab ∷ []) ++ answer_to setting line) }
 {}
 
-/// Replacing twice is replacing once, where the first date of the written line is the date-time that was written, and
-/// names the same instant there.
-pub fn replaced_twice()
-    ensures { (setting : Setting) (line : List ℕ) (date again : Found) (moment : Shown)
-        → date_in setting line ≡ Some date → place_of_date setting date ≡ Ok moment
-        → date_in setting (replaced setting line) ≡ Some again
-        → again.start ≡ date.start → again.end ≡ date.start + length (moment_text moment)
-        → instant again.moment ≡ instant date.moment
-        → replaced setting (replaced setting line) ≡ replaced setting line }
-{}
-
 /// Words that `instants` accepts stay as they are: behind a mode they say what they say to it.
 pub fn words_in_full()
     ensures { (words : List (List ℕ)) (said : Words)
         → words_said words ≡ Ok said → filled words ≡ words }
+{}
+
+/// Where lines are not explained, what is written for a line of any length is its text and a line feed, as if it had been
+/// looked at whole, and so is what is kept for the lines below it.
+pub fn handed_on()
+    ensures said { (going : Going) (line : List ℕ) → (going.mode ≡ Explain → ⊥)
+        → line_said lines_steps (near going.mode going.search.limit) going line
+        ≡ text_in going.mode going line ++ line_feed ∷ [] }
+    ensures next { (going : Going) (line : List ℕ) → (going.mode ≡ Explain → ⊥)
+        → line_next lines_steps (near going.mode going.search.limit) going line
+        ≡ below going line }
+{}
+
+/// In modes `key` and `carry` the lines of the output, without what stands before each one's first tab, are the lines of the
+/// stream.
+pub fn without_keys()
+    ensures from_beginning { (mode : Mode) (search : Search) (stream : List ℕ)
+        → ((mode ≡ Key) ⊎ (mode ≡ Carry))
+        → map without_key (lines (output lines_steps (beginning mode search) (near mode search.limit) stream))
+        ≡ lines stream }
+    ensures from_anywhere { (going : Going) (stream : List ℕ)
+        → ((going.mode ≡ Key) ⊎ (going.mode ≡ Carry)) → is_field going.key ≡ true
+        → map without_key
+        (lines (output lines_steps going (near going.mode going.search.limit) stream))
+        ≡ lines stream }
 {}

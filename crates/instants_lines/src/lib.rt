@@ -12,6 +12,8 @@
 //! - `laws` has what follows from the contracts. A call of a law hands it to a proof.
 #![tactic(auto)]
 
+mod asked;
+mod asked_words;
 mod date_sources;
 mod explained;
 mod filled;
@@ -19,6 +21,7 @@ pub mod laws;
 mod line_writer;
 mod lines_fault;
 mod mode;
+mod number;
 mod parts;
 mod program;
 mod words;

@@ -3,16 +3,20 @@ ghost use Rattle.std.specs.Prelude.{◌≡◌, ◌≤◌, [], ◌∷◌, ◌++�
 ghost use Rattle.base.specs.Bytes.{tab};
 
 mod calls;
+mod writes;
 
 use crate::date_sources::DateSources;
 use crate::mode::Mode;
 use instants_answers::Answer;
+use instants_fronts::Given;
 
-/// Writes lines in a mode, by their dates. It keeps the key that a line without a date takes.
+/// Writes lines in a mode, by their dates. It keeps the key that a line without a date takes, and
+/// the year of the last date where one is given.
 #[derive(Drop)]
 pub(crate) struct LineWriter<'a, 'b> {
     mode: Mode,
     dates: &'a DateSources<'b>,
+    given: Given,
     key: Answer,
     // The same and a tab, which are written at once.
     tabbed: Answer,

@@ -7,7 +7,8 @@ use std::alloc::AllocError;
 use std::fmt;
 
 // The words of the program behind its name.
-const USAGE: &str = "instants-lines MODE [TARGET [ASSUMED [LIMIT]]] SOURCE...";
+const USAGE: &str =
+    "instants-lines MODE [TARGET [ASSUMED [LIMIT]]] [year N] [time HH:MM] SOURCE...";
 
 /// Why the program did not write its whole output. `Display` gives the sentence for standard error, without a line feed.
 #[derive(Clone, Copy, Debug, PartialEq, Eq)]

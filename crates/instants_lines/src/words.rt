@@ -1,14 +1,16 @@
 //! The words of the program, as those of `instants` behind a mode.
-ghost use Rattle.std.specs.Prelude.{◌≡◌, [], ◌∷◌, codes, map, Ok, Err, IsOk, IfOk, IfErr, IfSome, IfNone};
+ghost use Rattle.std.specs.Prelude.{◌≡◌, ◌<◌, [], ◌∷◌, codes, length, map, Ok, Err, IsOk, IfOk, IfErr, IfSome, IfNone};
 ghost use Rattle.instants_words.specs.Words.{words_said};
 ghost use Rattle.instants_words.specs.declared.words.Words.{Words};
 ghost use Rattle.instants_lines.specs.Program.{IsToldAs};
-ghost use Rattle.instants_lines.specs.Words.{first_wrong, mode_words_said, told, wrong_source};
-ghost use Rattle.instants_lines.specs.Wrong.{NoSource, wrong_of};
+ghost use Rattle.instants_lines.specs.Words.{first_wrong, mode_words_said, told};
+ghost use Rattle.instants_lines.specs.Wrong.{NoSource, Wrong, wrong_of};
 
+use crate::asked::Asked;
+use crate::asked_words::read_asked;
 use crate::filled::{Parted, fill, part};
 use crate::lines_fault::LinesFault;
-use crate::mode::{Mode, mode_named};
+use crate::mode::mode_named;
 use crate::wrong_source::wrong_source;
 use crate::wrong_words::WrongWords;
 use instants_timeline::{ProgramFault, WordsFault, read_words};
@@ -56,35 +58,31 @@ fn first_wrong(is_whole: bool, wrong: WrongWords<'_>) -> WrongWords<'_>
     }
 }
 
-// What is wrong first with the words behind the mode.
-fn wrong_behind<'a>(alloc: Global, parted: &Parted<'a, '_>) -> Option<WrongWords<'a>>
+// What is wrong first with the target, the assumed offset and the limit, or with there being no source.
+fn wrong_before<'a>(alloc: Global, parted: &Parted<'a, '_>) -> Option<WrongWords<'a>>
     ensures some { IfSome result (λ wrong. (fault : WordsFault)
         × (words_said (parted.now.target.now ∷ parted.now.assumed.now ∷ parted.now.limit.now
         ∷ map (λ word. word.now) parted.now.sources.now) ≡ Err fault)
-        × (wrong_of wrong ≡ told parted.now.target.now parted.now.assumed.now
-        parted.now.limit.now (first_wrong parted.now.is_whole
-        (wrong_source 1 (map (λ word. word.now) parted.now.sources.now))) fault)) }
-    ensures none { IfNone result (IsOk (words_said (parted.now.target.now
-        ∷ parted.now.assumed.now ∷ parted.now.limit.now
-        ∷ map (λ word. word.now) parted.now.sources.now))) }
+        × ((behind : Wrong) → wrong_of wrong ≡ told parted.now.target.now
+        parted.now.assumed.now parted.now.limit.now behind fault)) }
+    ensures none { IfNone result ((0 < length parted.now.sources.now)
+        × IsOk (words_said (parted.now.target.now ∷ parted.now.assumed.now
+        ∷ parted.now.limit.now ∷ codes "rfc3339" ∷ []))) }
 {
     if parted.sources.is_empty() {
         return Some(WrongWords::NoSource);
     }
-    if let Some(fault) = setting_fault(alloc, parted) {
-        return Some(told_setting(parted, fault));
-    }
-    match wrong_source(parted.sources) {
-        Some(wrong) => Some(first_wrong(parted.is_whole, wrong)),
+    match setting_fault(alloc, parted) {
+        Some(fault) => Some(told_setting(parted, fault)),
         None => None,
     }
 }
 
-/// The mode, and the words of `instants` behind it, which are right.
+/// What is asked, and the words of `instants` behind it, which are right.
 pub(crate) fn read_mode_words<'a>(
     alloc: Global,
     words: &[&'a str],
-) -> Result<(Mode, Vec<&'a str>), LinesFault<'a>>
+) -> Result<(Asked, Vec<&'a str>), LinesFault<'a>>
     ensures ok { IfOk result (λ read. (said : Words)
         × (words_said (map (λ word. word.now) read.1.items) ≡ Ok said)
         × (mode_words_said (map (λ word. word.now) words.now) ≡ Ok (read.0, said))) }
@@ -97,11 +95,18 @@ pub(crate) fn read_mode_words<'a>(
         return Err(LinesFault::Words(WrongWords::UnknownMode(word)));
     };
     let parted = part(others);
-    if let Some(wrong) = wrong_behind(alloc, &parted) {
+    if let Some(wrong) = wrong_before(alloc, &parted) {
         return Err(LinesFault::Words(wrong));
     }
+    let asked = match read_asked(mode, &parted) {
+        Ok(asked) => asked,
+        Err(wrong) => return Err(LinesFault::Words(wrong)),
+    };
+    if let Some(wrong) = wrong_source(parted.sources) {
+        return Err(LinesFault::Words(first_wrong(parted.is_whole, wrong)));
+    }
     match fill(alloc, &parted) {
-        Ok(filled) => Ok((mode, filled)),
+        Ok(filled) => Ok((asked, filled)),
         Err(_) => Err(LinesFault::Program(ProgramFault::Memory)),
     }
 }

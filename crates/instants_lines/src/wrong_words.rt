@@ -19,6 +19,10 @@ pub enum WrongWords<'a> {
     Assumed(&'a str),
     /// The limit is not a number from 1 to 1048576, in one to seven digits.
     Limit(&'a str),
+    /// The word after `year` is not a number from 0 to 9999, in one to four digits.
+    Year(&'a str),
+    /// The word after `time` is not a time of day from 00:00 to 23:59.
+    Time(&'a str),
     /// The source in this place, counted from 1, is not known.
     Source { place: usize, word: &'a str },
     /// The first source is not known, and an offset or the limit is left out: the word may be one that is misspelt.
@@ -37,7 +41,9 @@ impl fmt::Display for WrongWords<'_> {
     fn fmt<W: fmt::Write>(&self, f: &mut fmt::Formatter<W>) -> fmt::Result {
         match self {
             WrongWords::NoMode => {
-                f.write_str("usage: instants-lines MODE [TARGET [ASSUMED [LIMIT]]] SOURCE...")
+                f.write_str(
+                    "usage: instants-lines MODE [TARGET [ASSUMED [LIMIT]]] [year N] [time HH:MM] SOURCE...",
+                )
             }
             WrongWords::UnknownMode(word) => write!(
                 f,
@@ -58,6 +64,11 @@ impl fmt::Display for WrongWords<'_> {
                 f,
                 "\"{word}\": no limit; it must be a number from 1 to 1048576"
             ),
+            WrongWords::Year(word) => write!(
+                f,
+                "\"{word}\": no year; it must be a number from 0 to 9999"
+            ),
+            WrongWords::Time(word) => { write!(f, "\"{word}\": no time of day; it must be HH:MM") }
             WrongWords::Source { place, word } => {
                 let there_are = no_such_source(word);
                 write!(f, "source {place}: \"{word}\": {there_are}")

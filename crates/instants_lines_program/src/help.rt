@@ -1,16 +1,20 @@
 //! What the program says of itself. `./instants-lines` prints it from here where no program is built.
 
-pub const VERSION: &str = "instants-lines 0.1.0";
+ghost use Rattle.std.specs.Prelude.{◌≡◌, ◌||◌, codes, is_some};
+ghost use Rattle.std.specs.Str.{bytes_eq};
 
-pub const HELP: &str = "\
-instants-lines MODE [TARGET [ASSUMED [LIMIT]]] SOURCE...
-    reads lines from standard input, finds the first date-time in each, and
-    writes the line to standard output with that at one offset
+pub(crate) const VERSION: &str = "instants-lines 0.1.0";
 
-    MODE     key      the line behind the date-time and a tab; `! none` where it
-                      has no date-time, `! year` where the year is not written
-             carry    the same, but a line without a date-time takes that of the
-                      last line above that has one
+pub(crate) const HELP: &str = "\
+instants-lines MODE [TARGET [ASSUMED [LIMIT]]] [year N] [time HH:MM] SOURCE...
+    reads lines from standard input, finds the date-time of each, and writes
+    the line to standard output with that at one offset
+
+    MODE     key      the line after the date-time and a tab; `! none` where it
+                      has no date-time, `! doubt` where that is in doubt, `! year`
+                      where the year is not written
+             carry    the same, but a line without a date-time takes the key of
+                      the line above
              replace  the line with the date-time in place of the found one
              explain  the number of the source that reads all of the line, and
                       its answer, or each source's number and fault
@@ -18,8 +22,11 @@ instants-lines MODE [TARGET [ASSUMED [LIMIT]]] SOURCE...
              +00:00 where it is left out
     ASSUMED  the offset of lines that have none, or - for none; none where it is
              left out
-    LIMIT    the greatest length of a line in bytes, 1 to 1048576; the greatest
-             where it is left out
+    LIMIT    how many bytes of a line are places at which its date-time may
+             begin, 1 to 1048576; the greatest where it is left out
+    year N   the year of the first date of lines that say none, 0 to 9999
+    time HH:MM
+             the time of day of dates without one, 00:00 to 23:59
     SOURCE   rfc3339, rfc2822, iso8601, or v1, v2, v3 or strftime with a
              description in the next argument; several are tried in order
 
@@ -32,7 +39,10 @@ instants-lines --version  prints the version
 The guide is docs/GUIDE.md, the manual page docs/instants-lines.1.";
 
 /// The text that a word alone asks for.
-pub fn text_for(word: &str) -> Option<&'static str> {
+pub(crate) fn text_for(word: &str) -> Option<&'static str>
+    ensures asked { is_some result
+        ≡ (bytes_eq word.now (codes "--help") || (bytes_eq word.now (codes "-h") || bytes_eq word.now (codes "--version"))) }
+{
     match word {
         "--help" | "-h" => Some(HELP),
         "--version" => Some(VERSION),

@@ -1,5 +1,6 @@
-//! `instants-lines MODE [TARGET [ASSUMED [LIMIT]]] SOURCE...`: reads lines with dates in them from standard input, and writes
-//! each to standard output: behind the date-time at the target offset, or with that in place of its date.
+//! `instants-lines MODE [TARGET [ASSUMED [LIMIT]]] [year N] [time HH:MM] SOURCE...`: reads lines with dates in them from
+//! standard input, and writes each to standard output: behind the date-time at the target offset, or with that in place of
+//! its date.
 #![tactic(auto)]
 
 mod bare;

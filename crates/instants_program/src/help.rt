@@ -1,8 +1,11 @@
 //! What the program says of itself. `./instants` prints it from here where no program is built.
 
-pub const VERSION: &str = "instants 0.1.0";
+ghost use Rattle.std.specs.Prelude.{◌≡◌, ◌||◌, codes, is_some};
+ghost use Rattle.std.specs.Str.{bytes_eq};
 
-pub const HELP: &str = "\
+pub(crate) const VERSION: &str = "instants 0.1.0";
+
+pub(crate) const HELP: &str = "\
 instants TARGET ASSUMED LIMIT SOURCE...
     reads lines with dates from standard input and writes one line for each: a
     date-time of fixed width at one offset, or a fault, as `! component month`
@@ -22,7 +25,10 @@ instants --version  prints the version
 The guide is docs/GUIDE.md, the manual page docs/instants.1.";
 
 /// The text that a word alone asks for.
-pub fn text_for(word: &str) -> Option<&'static str> {
+pub(crate) fn text_for(word: &str) -> Option<&'static str>
+    ensures asked { is_some result
+        ≡ (bytes_eq word.now (codes "--help") || (bytes_eq word.now (codes "-h") || bytes_eq word.now (codes "--version"))) }
+{
     match word {
         "--help" | "-h" => Some(HELP),
         "--version" => Some(VERSION),

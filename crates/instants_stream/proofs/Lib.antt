@@ -1,14 +1,13 @@
 pub mod Lines
 pub mod NextAnswer
 pub mod Pieces
-pub mod Seen
+pub mod WholeLines
 pub mod Written
+pub mod MoreCame
 pub mod Progress
-pub mod ReadSteps
 pub mod Pending
 pub mod Searched
 pub mod EachAnswered
 pub mod Gathering
 pub mod Told
 pub mod Ends
-pub mod Bounds

@@ -1,68 +1,96 @@
 -- How far a run has come, and its steps.
-use Rattle.std.proofs.Common.{◌≡◌, ℕ, ◌<◌, ◌≤◌, ◌⊎◌, inl, inr, Bool, true, false, Option, None, Some, List, [], ◌∷◌, ◌++◌, length, map, IfSome, refl, sym, ap, ◌∙◌, subst, arith, append-nil}
+use Rattle.std.proofs.Common.{◌≡◌, ◌==◌, ℕ, Bool, true, false, Option, None, Some, List, [], ◌∷◌, ◌++◌, length, nat_lt, IfSome, refl, sym, ap, ◌∙◌, subst, arith, append_assoc, append-nil}
 use Rattle.std.specs.Io.KnownBytes.{Consumes, Appends, IsAtEnd, Keeps}
 use Rattle.std.proofs.KnownBytes.{Consumes-nil, Consumes-trans, Appends-nil, Appends-trans, Appends-kept}
-use Rattle.instants_stream.specs.Lines.{last_part, whole_lines}
+use Rattle.std.proofs.lemmas.List.Elements.{All-nil}
+use Rattle.instants_stream.specs.Lines.{HasNoLineFeed, last_part, whole_lines}
 use Rattle.instants_stream.specs.Writing.{due}
-use Rattle.instants_stream.specs.Steps.{Steps, seen_as, seen, written, behind, output, owed, by_steps}
+use Rattle.instants_stream.specs.Steps.{Steps, written, behind, part_said, last_part_said, part_state, owed_of, state_of, output, owed, by_steps}
+use Rattle.instants_stream.specs.Came.{came_said, came_state, came_begun, kept, end_said}
 use Rattle.instants_stream.specs.Told.{StaysOrUntold, AppendsFront}
-use Rattle.instants_stream.proofs.Lines.{whole_lines_none, last_part_of_none}
-use Rattle.instants_stream.proofs.Seen.{seen-kept}
-use Rattle.instants_stream.proofs.Written.{written-none, behind-none, output_at_end, output_with_rest, output_extends}
+use Rattle.instants_stream.proofs.Lines.{last_part_of_none, last_part_free}
+use Rattle.instants_stream.proofs.Written.{is_no_longer, owed_of-none, state_of-none, behind-append, owed_of-append}
+use Rattle.instants_stream.proofs.MoreCame.{whole_lines-joined, last_part-joined, more_said, more_state, more_begun, more_last}
 use Rattle.instants_stream.proofs.Told.{AppendsFront-after, AppendsFront-more, AppendsFront-stays}
 
--- A run has read these bytes and written what is owed for them. Of the unfinished line it holds all
--- bytes, or knows that there are more than the limit.
-pub record Progress (State : Type 0) (steps : Steps State) (first state : State) (limit : ℕ) (left_first left held_first held : Option (List ℕ)) (line : List ℕ) (is_long : Bool) : Type 0 where
+-- A run has read these bytes and written what is owed for them. Of the unfinished line it holds all bytes, or none once it is begun.
+pub record Progress (State : Type 0) (steps : Steps State) (first state : State) (limit : ℕ) (left_first left held_first held : Option (List ℕ)) (line : List ℕ) (is_begun : Bool) : Type 0 where
   pub bytes : List ℕ
   pub read : Consumes left_first left bytes
   pub written : Appends held_first held (owed steps first limit bytes)
-  pub stands : state ≡ behind steps first (map (seen limit) (whole_lines bytes))
-  pub kept : is_long ≡ false → last_part bytes ≡ line
-  pub long : is_long ≡ true → limit < length (last_part bytes)
+  pub stands : state ≡ state_of steps limit first (whole_lines bytes) (last_part bytes)
+  pub begun : is_begun ≡ nat_lt limit (length (last_part bytes))
+  pub line_is : line ≡ kept is_begun (last_part bytes)
+
+kept_free : (is_begun : Bool) (part : List ℕ) → HasNoLineFeed part → HasNoLineFeed (kept is_begun part)
+kept_free true part free = All-nil (λ (b : ℕ). (b == 10) ≡ false)
+kept_free false part free = free
+
+AppendsFront-all : (a b c : Option (List ℕ)) (bytes : List ℕ) → Appends a b bytes → StaysOrUntold b c → AppendsFront a c bytes
+AppendsFront-all a b c bytes = AppendsFront-stays a b c bytes [] bytes (sym (append-nil bytes))
 
 module _ (State : Type 0) (steps : Steps State) (first : State) (limit : ℕ) where
-  owed-none : owed steps first limit [] ≡ []
-  unfolding owed
-  owed-none = ap (λ (l : List (List ℕ)). written steps first (map (seen limit) l)) whole_lines_none ∙ written-none State steps first
-
   pub begins : (left held : Option (List ℕ)) → Progress State steps first first limit left left held held [] false
+  unfolding owed
   begins left held = record {
     bytes = [];
     read = Consumes-nil left;
-    written = rw owed-none (Appends-nil held);
-    stands = sym (ap (λ (l : List (List ℕ)). behind steps first (map (seen limit) l)) whole_lines_none ∙ behind-none State steps first);
-    kept = λ _. last_part_of_none;
-    long = λ e. absurd cc;
+    written = rw (owed_of-none State steps limit first) (Appends-nil held);
+    stands = sym (state_of-none State steps limit first);
+    begun = sym (rw last_part_of_none (is_no_longer limit 0 (omega arith)));
+    line_is = sym last_part_of_none;
   }
 
-  module _ (state : State) (left_first left left_next held_first held : Option (List ℕ)) (line : List ℕ) (is_long : Bool) (p : Progress State steps first state limit left_first left held_first held line is_long) where
+  -- what is written at the end, beside what was owed
+  end_is : (state : State) (gone line : List ℕ) (is_begun : Bool) → is_begun ≡ nat_lt limit (length gone) → line ≡ kept is_begun gone
+      → last_part_said steps limit state gone ≡ part_said steps limit state gone ++ end_said steps is_begun (part_state steps limit state gone) line
+  unfolding last_part_said part_said
+  end_is state gone line false e is = rw (← e, is) refl
+  end_is state gone line true e is = rw (← e) refl
+
+  output-owed : (bytes line : List ℕ) (is_begun : Bool) → is_begun ≡ nat_lt limit (length (last_part bytes)) → line ≡ kept is_begun (last_part bytes)
+      → output steps first limit bytes ≡ owed steps first limit bytes ++ end_said steps is_begun (state_of steps limit first (whole_lines bytes) (last_part bytes)) line
+  unfolding output owed
+  output-owed bytes line is_begun e is =
+      let state = behind steps limit first (whole_lines bytes) in
+      ap (λ (l : List ℕ). written steps limit first (whole_lines bytes) ++ l) (end_is state (last_part bytes) line is_begun e is)
+      ∙ sym (append_assoc (written steps limit first (whole_lines bytes)) (part_said steps limit state (last_part bytes)) (end_said steps is_begun (part_state steps limit state (last_part bytes)) line))
+
+  -- the output is what is owed, and maybe more
+  output_extends : (bytes : List ℕ) → (more : List ℕ) × (output steps first limit bytes ≡ owed steps first limit bytes ++ more)
+  output_extends bytes = (_, output-owed bytes _ _ refl refl)
+
+  module _ (state : State) (left_first left held_first held : Option (List ℕ)) (line : List ℕ) (is_begun : Bool) (p : Progress State steps first state limit left_first left held_first held line is_begun) where
+    -- the unfinished line has no line feed
+    pub line_is_free : HasNoLineFeed line
+    line_is_free = rw p.line_is (kept_free is_begun (last_part p.bytes) (last_part_free p.bytes))
+
     -- a read gave nothing
-    pub pauses : Consumes left left_next [] → Progress State steps first state limit left_first left_next held_first held line is_long
-    pauses came = record {
+    pub pauses : (left_next : Option (List ℕ)) → Consumes left left_next [] → Progress State steps first state limit left_first left_next held_first held line is_begun
+    pauses left_next came = record {
       bytes = p.bytes;
       read = subst (Consumes left_first left_next) (append-nil p.bytes) (Consumes-trans left_first left left_next p.bytes [] p.read came);
       written = p.written;
       stands = p.stands;
-      kept = p.kept;
-      long = p.long;
+      begun = p.begun;
+      line_is = p.line_is;
     }
 
-  -- what was written is handed on
-  pub handed_on : (state : State) (left_first left held_first held held_next : Option (List ℕ)) (line : List ℕ) (is_long : Bool) → Progress State steps first state limit left_first left held_first held line is_long → Keeps held held_next → Progress State steps first state limit left_first left held_first held_next line is_long
-  handed_on state left_first left held_first held held_next line is_long p keeps = record {
-    bytes = p.bytes;
-    read = p.read;
-    written = Appends-kept held_first held held_next (owed steps first limit p.bytes) p.written keeps;
-    stands = p.stands;
-    kept = p.kept;
-    long = p.long;
-  }
+    -- what was written is handed on
+    pub handed_on : (held_next : Option (List ℕ)) → Keeps held held_next → Progress State steps first state limit left_first left held_first held_next line is_begun
+    handed_on held_next keeps = record {
+      bytes = p.bytes;
+      read = p.read;
+      written = Appends-kept held_first held held_next (owed steps first limit p.bytes) p.written keeps;
+      stands = p.stands;
+      begun = p.begun;
+      line_is = p.line_is;
+    }
 
   -- what is owed is due
-  pub due_from_owed : (a c : Option (List ℕ)) (bytes : List ℕ) (left : Option (List ℕ)) → AppendsFront a c (owed steps first limit bytes) → AppendsFront a c (due (by_steps steps first limit) bytes left)
-  due_from_owed a c bytes None h = let more = output_extends State steps first limit bytes in subst (AppendsFront a c) (sym more.1) (AppendsFront-more a c (owed steps first limit bytes) more.0 h)
-  due_from_owed a c bytes (Some []) h = let more = output_extends State steps first limit bytes in subst (AppendsFront a c) (sym more.1) (AppendsFront-more a c (owed steps first limit bytes) more.0 h)
+  due_from_owed : (a c : Option (List ℕ)) (bytes : List ℕ) (left : Option (List ℕ)) → AppendsFront a c (owed steps first limit bytes) → AppendsFront a c (due (by_steps steps first limit) bytes left)
+  due_from_owed a c bytes None h = let more = output_extends bytes in subst (AppendsFront a c) (sym more.1) (AppendsFront-more a c (owed steps first limit bytes) more.0 h)
+  due_from_owed a c bytes (Some []) h = let more = output_extends bytes in subst (AppendsFront a c) (sym more.1) (AppendsFront-more a c (owed steps first limit bytes) more.0 h)
   due_from_owed a c bytes (Some (b ∷ left)) h = h
 
   -- at the end the whole output is due
@@ -82,51 +110,83 @@ module _ (State : Type 0) (steps : Steps State) (first : State) (limit : ℕ) wh
   abbrev pub Fails : Option (List ℕ) → Option (List ℕ) → Option (List ℕ) → Option (List ℕ) → Type 0
   Fails left_first left held_first held = (bytes : List ℕ) × Consumes left_first left bytes × AppendsFront held_first held (due (by_steps steps first limit) bytes left)
 
-  module _ (state : State) (left_first left held_first held held_next : Option (List ℕ)) (line : List ℕ) (is_long : Bool) (p : Progress State steps first state limit left_first left held_first held line is_long) where
-    -- something is left
-    rest_nonempty : (is_long ≡ true) ⊎ (0 < length line) → 0 < length (last_part p.bytes)
-    rest_nonempty (inl e) = omega (arith, p.long e)
-    rest_nonempty (inr some) = elim is_long as (λ v. (v ≡ false → last_part p.bytes ≡ line) → (v ≡ true → limit < length (last_part p.bytes)) → 0 < length (last_part p.bytes)) [
-      | false ↦ λ k _. omega (arith, ap length (k refl))
-      | true ↦ λ _ l. omega (arith, l refl)
-    ] p.kept p.long
+  module _ (state : State) (left_first left held_first held held_next : Option (List ℕ)) (line : List ℕ) (is_begun : Bool) (p : Progress State steps first state limit left_first left held_first held line is_begun) where
+    -- handing on failed
+    pub fails_to_hand_on : StaysOrUntold held held_next → Fails left_first left held_first held_next
+    fails_to_hand_on stays =
+        (p.bytes, p.read, due_from_owed held_first held_next p.bytes left (AppendsFront-all held_first held held_next (owed steps first limit p.bytes) p.written stays))
 
-    rest_said : length line ≤ limit → (is_long ≡ true) ⊎ (0 < length line) → output steps first limit p.bytes ≡ owed steps first limit p.bytes ++ steps.said state (seen_as is_long line)
-    rest_said fits some =
-        output_with_rest State steps first limit p.bytes (rest_nonempty some)
-        ∙ ap (λ (s : State). owed steps first limit p.bytes ++ steps.said s (seen limit (last_part p.bytes))) (sym p.stands)
-        ∙ ap (λ (l : Option (List ℕ)). owed steps first limit p.bytes ++ steps.said state l) (seen-kept limit (last_part p.bytes) line is_long fits p.kept p.long)
+    output_is : output steps first limit p.bytes ≡ owed steps first limit p.bytes ++ end_said steps is_begun state line
+    output_is = output-owed p.bytes line is_begun p.begun p.line_is ∙ ap (λ (s : State). owed steps first limit p.bytes ++ end_said steps is_begun s line) (sym p.stands)
 
     -- the write at the end failed
-    pub fails_at_end : length line ≤ limit → (is_long ≡ true) ⊎ (0 < length line) → IsAtEnd left → AppendsFront held held_next (steps.said state (seen_as is_long line)) → Fails left_first left held_first held_next
-    fails_at_end fits some ends wrote =
-        (p.bytes, p.read, due_at_end held_first held_next p.bytes left ends (rw (rest_said fits some) (AppendsFront-after _ _ _ _ _ p.written wrote)))
+    pub fails_at_end : IsAtEnd left → AppendsFront held held_next (end_said steps is_begun state line) → Fails left_first left held_first held_next
+    fails_at_end ends wrote = (p.bytes, p.read, due_at_end held_first held_next p.bytes left ends (rw output_is (AppendsFront-after _ _ _ _ _ p.written wrote)))
 
     -- all was written at the end
-    pub through_with_rest : length line ≤ limit → (is_long ≡ true) ⊎ (0 < length line) → IsAtEnd left → Appends held held_next (steps.said state (seen_as is_long line)) → Through left_first left held_first held_next
-    through_with_rest fits some ends wrote = record {
+    pub through : IsAtEnd left → Appends held held_next (end_said steps is_begun state line) → Through left_first left held_first held_next
+    through ends wrote = record {
       bytes = p.bytes;
       read = p.read;
       ends = ends;
-      written = rw (rest_said fits some) (Appends-trans _ _ _ _ _ p.written wrote);
+      written = rw output_is (Appends-trans _ _ _ _ _ p.written wrote);
     }
 
-    -- nothing is left at the end
-    pub through : is_long ≡ false → line ≡ [] → IsAtEnd left → Through left_first left held_first held
-    through short none ends = record {
-      bytes = p.bytes;
-      read = p.read;
-      ends = ends;
-      written = rw (output_at_end State steps first limit p.bytes (p.kept short ∙ none)) p.written;
-    }
+    -- Bytes came.
+    module _ (left_next : Option (List ℕ)) (more : List ℕ) (came : Consumes left left_next more) where
+      abbrev whole : List (List ℕ)
+      whole = whole_lines (line ++ more)
 
-  AppendsFront-all : (a b c : Option (List ℕ)) (bytes : List ℕ) → Appends a b bytes → StaysOrUntold b c → AppendsFront a c bytes
-  AppendsFront-all a b c bytes = AppendsFront-stays a b c bytes [] bytes (sym (append-nil bytes))
+      abbrev part : List ℕ
+      part = last_part (line ++ more)
 
-  -- handing on failed
-  pub fails_to_hand_on : (state : State) (left_first left held_first held held_next : Option (List ℕ)) (line : List ℕ) (is_long : Bool) → Progress State steps first state limit left_first left held_first held line is_long → StaysOrUntold held held_next → Fails left_first left held_first held_next
-  fails_to_hand_on state left_first left held_first held held_next line is_long p stays =
-      (p.bytes, p.read, due_from_owed held_first held_next p.bytes left (AppendsFront-all held_first held held_next (owed steps first limit p.bytes) p.written stays))
+      abbrev gone : List ℕ
+      gone = last_part p.bytes
+
+      abbrev behind_gone : State
+      behind_gone = behind steps limit first (whole_lines p.bytes)
+
+      owed-more : owed steps first limit (p.bytes ++ more) ≡ owed steps first limit p.bytes ++ came_said steps limit is_begun state whole part
+      unfolding owed
+      owed-more =
+          rw (whole_lines-joined p.bytes more, last_part-joined p.bytes more, owed_of-append State steps limit first (whole_lines p.bytes) _ _, more_said State steps limit behind_gone gone line more (last_part_free p.bytes) is_begun p.begun p.line_is)
+          (sym (append_assoc (written steps limit first (whole_lines p.bytes)) (part_said steps limit behind_gone gone) (came_said steps limit is_begun (part_state steps limit behind_gone gone) whole part))
+          ∙ ap (λ (s : State). owed_of steps limit first (whole_lines p.bytes) gone ++ came_said steps limit is_begun s whole part) (sym p.stands))
+
+      stands-more : state_of steps limit first (whole_lines (p.bytes ++ more)) (last_part (p.bytes ++ more)) ≡ came_state steps limit is_begun state whole part
+      stands-more =
+          rw (whole_lines-joined p.bytes more, last_part-joined p.bytes more, behind-append State steps limit first (whole_lines p.bytes) _, p.stands) (more_state State steps limit behind_gone gone line more (last_part_free p.bytes) is_begun p.begun p.line_is)
+
+      begun-more : nat_lt limit (length (last_part (p.bytes ++ more))) ≡ came_begun limit is_begun whole part
+      begun-more = rw (last_part-joined p.bytes more) (more_begun State steps limit behind_gone gone line more (last_part_free p.bytes) is_begun p.begun p.line_is)
+
+      line-more : (is_begun_next : Bool) → is_begun_next ≡ came_begun limit is_begun whole part → kept is_begun_next part ≡ kept is_begun_next (last_part (p.bytes ++ more))
+      line-more true e = refl
+      line-more false e = sym (last_part-joined p.bytes more ∙ more_last State steps limit behind_gone gone line more (last_part_free p.bytes) is_begun p.begun p.line_is (sym e))
+
+      -- a write for them failed
+      pub more_fails : AppendsFront held held_next (came_said steps limit is_begun state whole part) → Fails left_first left_next held_first held_next
+      more_fails wrote = (
+        p.bytes ++ more,
+        Consumes-trans _ _ _ _ _ p.read came,
+        due_from_owed held_first held_next (p.bytes ++ more) left_next (rw owed-more (AppendsFront-after _ _ _ _ _ p.written wrote)),
+      )
+
+      -- what is owed for them is written
+      pub more_came : (state_next : State) (line_next : List ℕ) (is_begun_next : Bool)
+          → Appends held held_next (came_said steps limit is_begun state whole part)
+          → state_next ≡ came_state steps limit is_begun state whole part
+          → is_begun_next ≡ came_begun limit is_begun whole part
+          → line_next ≡ kept is_begun_next (last_part (line ++ more))
+          → Progress State steps first state_next limit left_first left_next held_first held_next line_next is_begun_next
+      more_came state_next line_next is_begun_next wrote goes starts rest = record {
+        bytes = p.bytes ++ more;
+        read = Consumes-trans _ _ _ _ _ p.read came;
+        written = rw owed-more (Appends-trans _ _ _ _ _ p.written wrote);
+        stands = goes ∙ sym stands-more;
+        begun = starts ∙ sym begun-more;
+        line_is = rest ∙ line-more is_begun_next starts;
+      }
 
   -- the flush failed
   pub fails_at_flush : (left_first left held_first held held_next : Option (List ℕ)) → Through left_first left held_first held → StaysOrUntold held held_next → Fails left_first left held_first held_next

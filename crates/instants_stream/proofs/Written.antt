@@ -1,79 +1,158 @@
 -- Lemmas on what is written for lines, one after another.
-use Rattle.std.proofs.Common.{◌≡◌, ℕ, ◌<◌, Option, List, [], ◌∷◌, ◌++◌, length, map, refl, sym, ap, ◌∙◌, arith, append_assoc, append-nil}
-use Rattle.std.proofs.lemmas.List.{map-append}
-use Rattle.instants_stream.specs.Lines.{if_nonempty, whole_lines, last_part, lines}
-use Rattle.instants_stream.specs.Steps.{Steps, seen, written, behind, output, owed}
-use Rattle.instants_stream.proofs.Lines.{lines-append}
+use Rattle.std.proofs.Common.{◌≡◌, ◌+◌, ℕ, ◌<◌, ◌≤◌, Bool, true, false, List, [], ◌∷◌, ◌++◌, length, take, drop, nat_lt, refl, sym, ap, ◌∙◌, arith, append_assoc, append-nil, length-append}
+use Rattle.std.proofs.lemmas.Bool.Decides.{nat_tests}
+use Rattle.std.proofs.lemmas.List.{take-append-le, drop-append-le}
+use Rattle.instants_stream.specs.Lines.{whole_lines, last_part}
+use Rattle.instants_stream.specs.Steps.{Steps, passed, state_within, opened, line_said, line_next, written, behind, part_said, last_part_said, owed_of, part_state, state_of, output}
+use Rattle.instants_stream.proofs.Lines.{whole_lines_none, last_part_of_none, whole_lines-append, last_part-append}
 
-module _ (State : Type 0) (steps : Steps State) where
-  pub written-append : (state : State) (xs ys : List (Option (List ℕ))) → written steps state (xs ++ ys) ≡ written steps state xs ++ written steps (behind steps state xs) ys
+pub is_longer : (limit n : ℕ) → limit < n → nat_lt limit n ≡ true
+is_longer limit n h = grind (arith, nat_tests)
+
+pub is_no_longer : (limit n : ℕ) → n ≤ limit → nat_lt limit n ≡ false
+is_no_longer limit n h = grind (arith, nat_tests)
+
+module _ (State : Type 0) (steps : Steps State) (limit : ℕ) where
+  pub written-append : (state : State) (xs ys : List (List ℕ)) → written steps limit state (xs ++ ys) ≡ written steps limit state xs ++ written steps limit (behind steps limit state xs) ys
   unfolding written behind
   written-append state [] ys = refl
   written-append state (x ∷ xs) ys =
-      ap (λ (l : List ℕ). steps.said state x ++ l) (written-append (steps.next state x) xs ys) ∙ sym (append_assoc (steps.said state x) (written steps (steps.next state x) xs) (written steps (behind steps (steps.next state x) xs) ys))
+      ap (λ (l : List ℕ). line_said steps limit state x ++ l) (written-append (line_next steps limit state x) xs ys) ∙ sym (append_assoc (line_said steps limit state x) (written steps limit (line_next steps limit state x) xs) (written steps limit (behind steps limit (line_next steps limit state x) xs) ys))
 
-  pub behind-append : (state : State) (xs ys : List (Option (List ℕ))) → behind steps state (xs ++ ys) ≡ behind steps (behind steps state xs) ys
+  pub behind-append : (state : State) (xs ys : List (List ℕ)) → behind steps limit state (xs ++ ys) ≡ behind steps limit (behind steps limit state xs) ys
   unfolding behind
   behind-append state [] ys = refl
-  behind-append state (x ∷ xs) ys = behind-append (steps.next state x) xs ys
+  behind-append state (x ∷ xs) ys = behind-append (line_next steps limit state x) xs ys
 
   -- of one line
-  pub written-one : (state : State) (x : Option (List ℕ)) → written steps state (x ∷ []) ≡ steps.said state x
+  pub written-one : (state : State) (x : List ℕ) → written steps limit state (x ∷ []) ≡ line_said steps limit state x
   unfolding written
-  written-one state x = append-nil (steps.said state x)
+  written-one state x = append-nil (line_said steps limit state x)
 
-  pub behind-one : (state : State) (x : Option (List ℕ)) → behind steps state (x ∷ []) ≡ steps.next state x
+  pub behind-one : (state : State) (x : List ℕ) → behind steps limit state (x ∷ []) ≡ line_next steps limit state x
   unfolding behind
   behind-one state x = refl
 
-  pub written-none : (state : State) → written steps state [] ≡ []
+  pub written-none : (state : State) → written steps limit state [] ≡ []
   unfolding written
   written-none state = refl
 
-  pub behind-none : (state : State) → behind steps state [] ≡ state
+  pub behind-none : (state : State) → behind steps limit state [] ≡ state
   unfolding behind
   behind-none state = refl
 
   -- one line more, in the state behind those before it
-  pub written-next : (first state : State) (xs : List (Option (List ℕ))) (x : Option (List ℕ)) → state ≡ behind steps first xs → written steps first (xs ++ x ∷ []) ≡ written steps first xs ++ steps.said state x
+  pub written-next : (first state : State) (xs : List (List ℕ)) (x : List ℕ) → state ≡ behind steps limit first xs → written steps limit first (xs ++ x ∷ []) ≡ written steps limit first xs ++ line_said steps limit state x
   written-next first state xs x e =
-      written-append first xs (x ∷ []) ∙ ap (λ (l : List ℕ). written steps first xs ++ l) (written-one (behind steps first xs) x) ∙ ap (λ (s : State). written steps first xs ++ steps.said s x) (sym e)
+      written-append first xs (x ∷ []) ∙ ap (λ (l : List ℕ). written steps limit first xs ++ l) (written-one (behind steps limit first xs) x) ∙ ap (λ (s : State). written steps limit first xs ++ line_said steps limit s x) (sym e)
 
-  pub behind-next : (first state : State) (xs : List (Option (List ℕ))) (x : Option (List ℕ)) → state ≡ behind steps first xs → behind steps first (xs ++ x ∷ []) ≡ steps.next state x
-  behind-next first state xs x e = behind-append first xs (x ∷ []) ∙ behind-one (behind steps first xs) x ∙ ap (λ (s : State). steps.next s x) (sym e)
+  pub behind-next : (first state : State) (xs : List (List ℕ)) (x : List ℕ) → state ≡ behind steps limit first xs → behind steps limit first (xs ++ x ∷ []) ≡ line_next steps limit state x
+  behind-next first state xs x e = behind-append first xs (x ∷ []) ∙ behind-one (behind steps limit first xs) x ∙ ap (λ (s : State). line_next steps limit s x) (sym e)
 
   -- what is written for lines begins with what is written for the first of them
-  pub written-begins : (first : State) (all xs rest : List (Option (List ℕ))) → all ≡ xs ++ rest → (more : List ℕ) × (written steps first all ≡ written steps first xs ++ more)
-  written-begins first all xs rest e = (written steps (behind steps first xs) rest, ap (written steps first) e ∙ written-append first xs rest)
+  pub written-begins : (first : State) (all xs rest : List (List ℕ)) → all ≡ xs ++ rest → (more : List ℕ) × (written steps limit first all ≡ written steps limit first xs ++ more)
+  written-begins first all xs rest e = (written steps limit (behind steps limit first xs) rest, ap (written steps limit first) e ∙ written-append first xs rest)
 
-  module _ (state : State) (limit : ℕ) where
-    -- the output is what is owed, and then what is written for the last part, if there is one
-    output-owed : (s : List ℕ) → output steps state limit s ≡ owed steps state limit s ++ written steps (behind steps state (map (seen limit) (whole_lines s))) (map (seen limit) (if_nonempty (last_part s)))
-    unfolding output owed lines
-    output-owed s = ap (written steps state) (map-append (seen limit) (whole_lines s) (if_nonempty (last_part s))) ∙ written-append state (map (seen limit) (whole_lines s)) (map (seen limit) (if_nonempty (last_part s)))
+  -- what is owed for more lines
+  pub owed_of-append : (state : State) (xs ys : List (List ℕ)) (part : List ℕ) → owed_of steps limit state (xs ++ ys) part ≡ written steps limit state xs ++ owed_of steps limit (behind steps limit state xs) ys part
+  owed_of-append state xs ys part =
+      rw (written-append state xs ys, behind-append state xs ys) (append_assoc (written steps limit state xs) (written steps limit (behind steps limit state xs) ys) (part_said steps limit (behind steps limit (behind steps limit state xs) ys) part))
 
-    -- at the end of the stream its last part is a line, unless it is empty
-    pub output_at_end : (s : List ℕ) → last_part s ≡ [] → output steps state limit s ≡ owed steps state limit s
-    output_at_end s h =
-        output-owed s ∙ ap (λ (p : List ℕ). owed steps state limit s ++ written steps (behind steps state (map (seen limit) (whole_lines s))) (map (seen limit) (if_nonempty p))) h
-        ∙ ap (λ (l : List ℕ). owed steps state limit s ++ l) (written-none (behind steps state (map (seen limit) (whole_lines s)))) ∙ append-nil (owed steps state limit s)
+  pub owed_of-cons : (state : State) (x : List ℕ) (xs : List (List ℕ)) (part : List ℕ) → owed_of steps limit state (x ∷ xs) part ≡ line_said steps limit state x ++ owed_of steps limit (line_next steps limit state x) xs part
+  unfolding written behind
+  owed_of-cons state x xs part =
+      append_assoc (line_said steps limit state x) (written steps limit (line_next steps limit state x) xs) (part_said steps limit (behind steps limit (line_next steps limit state x) xs) part)
 
-    rest_written : (now : State) (p : List ℕ) → 0 < length p → written steps now (map (seen limit) (if_nonempty p)) ≡ steps.said now (seen limit p)
-    rest_written now [] h = absurd (omega arith)
-    rest_written now (b ∷ p) h = written-one now (seen limit (b ∷ p))
+  pub behind-cons : (state : State) (x : List ℕ) (xs : List (List ℕ)) → behind steps limit state (x ∷ xs) ≡ behind steps limit (line_next steps limit state x) xs
+  unfolding behind
+  behind-cons state x xs = refl
 
-    pub output_with_rest : (s : List ℕ) → 0 < length (last_part s) → output steps state limit s ≡ owed steps state limit s ++ steps.said (behind steps state (map (seen limit) (whole_lines s))) (seen limit (last_part s))
-    output_with_rest s h =
-        output-owed s ∙ ap (λ (l : List ℕ). owed steps state limit s ++ l) (rest_written (behind steps state (map (seen limit) (whole_lines s))) (last_part s) h)
+  -- the output of joined streams, where nothing stands behind the last line feed of the first
+  pub output-append : (state : State) (s t : List ℕ) → last_part s ≡ [] → output steps state limit (s ++ t) ≡ output steps state limit s ++ output steps (behind steps limit state (whole_lines s)) limit t
+  unfolding output last_part_said
+  output-append state s t h =
+      let fits : nat_lt limit 0 ≡ false = is_no_longer limit 0 (omega arith) in
+      rw (whole_lines-append s t h, last_part-append s t h, h, fits, written-append state (whole_lines s) (whole_lines t), behind-append state (whole_lines s) (whole_lines t), append-nil (written steps limit state (whole_lines s)))
+      (append_assoc (written steps limit state (whole_lines s)) (written steps limit (behind steps limit state (whole_lines s)) (whole_lines t)) _)
 
-    -- the output is what is owed, and maybe more
-    pub output_extends : (s : List ℕ) → (more : List ℕ) × (output steps state limit s ≡ owed steps state limit s ++ more)
-    output_extends s = (written steps (behind steps state (map (seen limit) (whole_lines s))) (map (seen limit) (if_nonempty (last_part s))), output-owed s)
+  -- nothing is owed for a part that may still fit
+  pub part_said-short : (state : State) (part : List ℕ) → nat_lt limit (length part) ≡ false → part_said steps limit state part ≡ []
+  unfolding part_said
+  part_said-short state part e = rw e refl
 
-    -- the output of joined streams, where nothing stands behind the last line feed of the first
-    pub output-append : (s t : List ℕ) → last_part s ≡ [] → output steps state limit (s ++ t) ≡ output steps state limit s ++ output steps (behind steps state (map (seen limit) (lines s))) limit t
-    unfolding output
-    output-append s t h =
-        ap (λ (l : List (List ℕ)). written steps state (map (seen limit) l)) (lines-append s t h)
-        ∙ ap (written steps state) (map-append (seen limit) (lines s) (lines t))
-        ∙ written-append state (map (seen limit) (lines s)) (map (seen limit) (lines t))
+  pub part_said-long : (state : State) (part : List ℕ) → nat_lt limit (length part) ≡ true → part_said steps limit state part ≡ opened steps limit state part
+  unfolding part_said
+  part_said-long state part e = rw e refl
+
+  pub part_said-none : (state : State) (part : List ℕ) → length part ≤ limit → part_said steps limit state part ≡ []
+  part_said-none state part short = part_said-short state part (is_no_longer limit (length part) short)
+
+  pub part_said-at : (state : State) (part : List ℕ) → limit < length part → part_said steps limit state part ≡ opened steps limit state part
+  part_said-at state part over = part_said-long state part (is_longer limit (length part) over)
+
+  -- a line that is longer than the limit, and one that is not
+  pub line_said-longer : (state : State) (line : List ℕ) → limit < length line → line_said steps limit state line ≡ opened steps limit state line ++ steps.ended (state_within steps limit state line)
+  unfolding line_said
+  line_said-longer state line over = rw (is_longer limit (length line) over) refl
+
+  pub line_next-longer : (state : State) (line : List ℕ) → limit < length line → line_next steps limit state line ≡ state_within steps limit state line
+  unfolding line_next
+  line_next-longer state line over = rw (is_longer limit (length line) over) refl
+
+  pub line_said-short : (state : State) (line : List ℕ) → length line ≤ limit → line_said steps limit state line ≡ steps.said state line
+  unfolding line_said
+  line_said-short state line short = rw (is_no_longer limit (length line) short) refl
+
+  pub line_next-short : (state : State) (line : List ℕ) → length line ≤ limit → line_next steps limit state line ≡ steps.next state line
+  unfolding line_next
+  line_next-short state line short = rw (is_no_longer limit (length line) short) refl
+
+  -- no bytes have nothing to write
+  fits : nat_lt limit (length (last_part [])) ≡ false
+  fits = rw last_part_of_none (is_no_longer limit 0 (omega arith))
+
+  pub owed_of-none : (state : State) → owed_of steps limit state (whole_lines []) (last_part []) ≡ []
+  owed_of-none state = rw (part_said-short (behind steps limit state (whole_lines [])) (last_part []) fits, whole_lines_none, written-none state) refl
+
+  pub state_of-none : (state : State) → state_of steps limit state (whole_lines []) (last_part []) ≡ state
+  state_of-none state = rw (fits, whole_lines_none, behind-none state) refl
+
+  passed-append : (hands_on : Bool) (xs ys : List ℕ) → passed hands_on (xs ++ ys) ≡ passed hands_on xs ++ passed hands_on ys
+  passed-append true xs ys = refl
+  passed-append false xs ys = refl
+
+  -- more bytes of a line that is longer than the limit
+  module _ (state : State) (gone more : List ℕ) (over : limit < length gone) where
+    abbrev inside : State
+    inside = state_within steps limit state gone
+
+    still : nat_lt limit (length (gone ++ more)) ≡ true
+    still = is_longer limit (length (gone ++ more)) (rw length-append (omega (arith, over)))
+
+    state_within-more : state_within steps limit state (gone ++ more) ≡ inside
+    unfolding state_within
+    state_within-more = ap (steps.within state) (take-append-le (limit + 1) gone more (omega (arith, over)))
+
+    opened-more : opened steps limit state (gone ++ more) ≡ opened steps limit state gone ++ passed (steps.hands_on inside) more
+    unfolding opened
+    opened-more =
+        let fits : limit + 1 ≤ length gone = omega (arith, over) in
+        rw (state_within-more, take-append-le (limit + 1) gone more fits, drop-append-le (limit + 1) gone more fits, passed-append (steps.hands_on inside) (drop (limit + 1) gone) more)
+        (sym (append_assoc (steps.begun state (take (limit + 1) gone)) (passed (steps.hands_on inside) (drop (limit + 1) gone)) (passed (steps.hands_on inside) more)))
+
+    pub line_said-more : line_said steps limit state (gone ++ more) ≡ opened steps limit state gone ++ (passed (steps.hands_on inside) more ++ steps.ended inside)
+    unfolding line_said
+    line_said-more = rw (still, opened-more, state_within-more) (append_assoc (opened steps limit state gone) (passed (steps.hands_on inside) more) (steps.ended inside))
+
+    pub line_next-more : line_next steps limit state (gone ++ more) ≡ inside
+    unfolding line_next
+    line_next-more = rw still state_within-more
+
+    pub part_said-more : part_said steps limit state (gone ++ more) ≡ opened steps limit state gone ++ passed (steps.hands_on inside) more
+    part_said-more = part_said-long state (gone ++ more) still ∙ opened-more
+
+    pub part_state-more : part_state steps limit state (gone ++ more) ≡ inside
+    part_state-more = rw still state_within-more
+
+    pub longer-more : nat_lt limit (length (gone ++ more)) ≡ true
+    longer-more = still

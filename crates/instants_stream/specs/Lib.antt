@@ -2,6 +2,7 @@ pub mod Lines
 pub mod Writing
 pub mod Answers
 pub mod Steps
+pub mod Came
 pub mod Answering
 pub mod Told
 pub mod Ran

@@ -4,7 +4,7 @@ ghost use Rattle.std.specs.Io.KnownBytes.{Appends, Keeps};
 ghost use Rattle.base.specs.Bytes.{line_feed};
 ghost use Rattle.instants_stream.specs.Told.{AppendsFront};
 ghost use Rattle.instants_stream.specs.Ran.{Ran};
-ghost use Rattle.instants_stream.specs.Answers.{answer_or_long, by_answers};
+ghost use Rattle.instants_stream.specs.Answers.{by_answers};
 
 use crate::answers_lines::AnswersLines;
 use crate::devices::{ByteReader, ByteWriter, DeviceFailed};
@@ -12,6 +12,49 @@ use crate::run::{RunFault, write_lines};
 use crate::search::LINE_FEED;
 use crate::writes_lines::WritesLines;
 use instants_answers::Answer;
+
+// Writes the answer to a line, and a line feed.
+#[inline(always)]
+fn write_answer<A: AnswersLines, W: ByteWriter>(
+    answers: &A,
+    line: &[u8],
+    storage: &mut Answer,
+    writer: &mut W,
+) -> Result<(), DeviceFailed>
+    requires { W.failed writer.old ≡ false }
+    ensures written { OnOk result (Appends (W.held writer.old) (W.held writer.new)
+        (A.answer answers.now line.now ++ line_feed ∷ [])) }
+    ensures ok { OnOk result (W.failed writer.new ≡ W.failed writer.old) }
+    ensures front { OnErr result (AppendsFront (W.held writer.old) (W.held writer.new)
+        (A.answer answers.now line.now ++ line_feed ∷ [])) }
+    ensures err { OnErr result (W.failed writer.new ≡ true) }
+{
+    answers.write_answer(line, storage);
+    storage.push(LINE_FEED);
+    let (bytes, len) = storage.padded();
+    writer.write_front(bytes, len)
+}
+
+// The same for a last line, which no line feed ends.
+#[cold]
+#[inline(never)]
+fn write_last_answer<A: AnswersLines, W: ByteWriter>(
+    answers: &A,
+    line: &[u8],
+    writer: &mut W,
+) -> Result<(), DeviceFailed>
+    requires { W.failed writer.old ≡ false }
+    ensures written { OnOk result (Appends (W.held writer.old) (W.held writer.new)
+        (A.answer answers.now line.now ++ line_feed ∷ [])) }
+    ensures ok { OnOk result (W.failed writer.new ≡ W.failed writer.old) }
+    ensures front { OnErr result (AppendsFront (W.held writer.old) (W.held writer.new)
+        (A.answer answers.now line.now ++ line_feed ∷ [])) }
+    ensures err { OnErr result (W.failed writer.new ≡ true) }
+{
+    let mut answer = answers.answer_line(line);
+    answer.push(LINE_FEED);
+    writer.write_all(answer.as_bytes())
+}
 
 // Writes that a line is too long, and a line feed.
 #[cold]
@@ -26,59 +69,6 @@ fn write_long<W: ByteWriter>(writer: &mut W) -> Result<(), DeviceFailed>
     ensures err { OnErr result (W.failed writer.new ≡ true) }
 {
     writer.write_all(b"! long\n")
-}
-
-// Writes the answer to a line, or that it is too long, and a line feed.
-#[inline(always)]
-#[tactic(auto, unfolding(crate::specs::Answers::answer_or_long))]
-fn write_answer_or_long<A: AnswersLines, W: ByteWriter>(
-    answers: &A,
-    line: &[u8],
-    is_long: bool,
-    storage: &mut Answer,
-    writer: &mut W,
-) -> Result<(), DeviceFailed>
-    requires { W.failed writer.old ≡ false }
-    ensures written { OnOk result (Appends (W.held writer.old) (W.held writer.new)
-        (answer_or_long (A.answer answers.now) is_long line.now)) }
-    ensures ok { OnOk result (W.failed writer.new ≡ W.failed writer.old) }
-    ensures front { OnErr result (AppendsFront (W.held writer.old) (W.held writer.new)
-        (answer_or_long (A.answer answers.now) is_long line.now)) }
-    ensures err { OnErr result (W.failed writer.new ≡ true) }
-{
-    if is_long {
-        return write_long(writer);
-    }
-    answers.write_answer(line, storage);
-    storage.push(LINE_FEED);
-    let (bytes, len) = storage.padded();
-    writer.write_front(bytes, len)
-}
-
-// The same for a last line, which no line feed ends.
-#[cold]
-#[inline(never)]
-#[tactic(auto, unfolding(crate::specs::Answers::answer_or_long))]
-fn write_last_answer_or_long<A: AnswersLines, W: ByteWriter>(
-    answers: &A,
-    line: &[u8],
-    is_long: bool,
-    writer: &mut W,
-) -> Result<(), DeviceFailed>
-    requires { W.failed writer.old ≡ false }
-    ensures written { OnOk result (Appends (W.held writer.old) (W.held writer.new)
-        (answer_or_long (A.answer answers.now) is_long line.now)) }
-    ensures ok { OnOk result (W.failed writer.new ≡ W.failed writer.old) }
-    ensures front { OnErr result (AppendsFront (W.held writer.old) (W.held writer.new)
-        (answer_or_long (A.answer answers.now) is_long line.now)) }
-    ensures err { OnErr result (W.failed writer.new ≡ true) }
-{
-    if is_long {
-        return write_long(writer);
-    }
-    let mut answer = answers.answer_line(line);
-    answer.push(LINE_FEED);
-    writer.write_all(answer.as_bytes())
 }
 
 // What answers lines, and the storage of an answer.
@@ -111,25 +101,46 @@ impl<A: AnswersLines> WritesLines for Answering<'_, A> {
     ghost steps = { answering };
 
     #[inline(always)]
-    #[tactic(auto, unfolding(crate::specs::Answers::answer_or_long))]
     fn write_line<W: ByteWriter>(
         &mut self,
         line: &[u8],
-        is_long: bool,
         writer: &mut W,
     ) -> Result<(), DeviceFailed> {
-        write_answer_or_long(self.answers, line, is_long, &mut self.storage, writer)
+        write_answer(self.answers, line, &mut self.storage, writer)
     }
 
     #[inline(always)]
-    #[tactic(auto, unfolding(crate::specs::Answers::answer_or_long))]
     fn write_last_line<W: ByteWriter>(
         &mut self,
         line: &[u8],
-        is_long: bool,
         writer: &mut W,
     ) -> Result<(), DeviceFailed> {
-        write_last_answer_or_long(self.answers, line, is_long, writer)
+        write_last_answer(self.answers, line, writer)
+    }
+
+    // Nothing is written before the end of a line that is too long.
+    #[inline(always)]
+    fn begin_line<W: ByteWriter>(
+        &mut self,
+        _front: &[u8],
+        _writer: &mut W,
+    ) -> Result<(), DeviceFailed> {
+        Ok(())
+    }
+
+    #[inline(always)]
+    fn hands_on(&self) -> bool {
+        false
+    }
+
+    #[inline(always)]
+    fn end_line<W: ByteWriter>(&self, writer: &mut W) -> Result<(), DeviceFailed> {
+        write_long(writer)
+    }
+
+    #[inline(always)]
+    fn end_last_line<W: ByteWriter>(&self, writer: &mut W) -> Result<(), DeviceFailed> {
+        write_long(writer)
     }
 }
 

@@ -4,6 +4,7 @@
 mod answered;
 mod answers_lines;
 mod block_writer;
+mod came;
 mod cut_reader;
 mod cut_writer;
 mod devices;

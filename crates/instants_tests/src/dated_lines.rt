@@ -5,9 +5,9 @@ ghost use Rattle.std.specs.Prelude.{◌≡◌, false};
 use crate::ordered_lines::target_of;
 use instants::{
     ByteReader, ByteWriter, CutReader, CutWriter, NewFault, ProgramFault, RunFault, SourceText,
-    Timeline, WordsFault, run_words_by,
+    Timeline, WordsFault,
 };
-use instants_lines::{LinesFault, Mode, run_words};
+use instants_lines::{LinesFault, run_words};
 use std::alloc::{AllocError, Global};
 use std::test::Fail;
 
@@ -19,12 +19,13 @@ static ROWS: [(&str, &[u8], &[u8]); 5] = [
         b"2021-01-02T03:04:05.000000000Z\tat 2021-01-02T04:04:05+01:00 2022\n! none\t\n\
           ! none\tx1.2021-01-02T03:04:05Z\n! year\t9999-12-31T23:59:59-01:00\n",
     ),
-    // A line that is too long leaves the key that is carried.
+    // A line that is longer than the limit has its key, and one whose date is in doubt is carried so.
     (
         "carry|+00:00|-|25|rfc3339|rfc2822",
         b"a\n2021-01-02T03:04:05Z b\n at c\n2022-01-02T03:04:05Z      \n d\n[2023-01-02T03:04:05Z]\ne",
         b"! none\ta\n2021-01-02T03:04:05.000000000Z\t2021-01-02T03:04:05Z b\n\
-          2021-01-02T03:04:05.000000000Z\t at c\n! long\n2021-01-02T03:04:05.000000000Z\t d\n\
+          2021-01-02T03:04:05.000000000Z\t at c\n2022-01-02T03:04:05.000000000Z\t2022-01-02T03:04:05Z      \n\
+          2022-01-02T03:04:05.000000000Z\t d\n\
           2023-01-02T03:04:05.000000000Z\t[2023-01-02T03:04:05Z]\n2023-01-02T03:04:05.000000000Z\te\n",
     ),
     (
@@ -115,11 +116,11 @@ fn rows(rt: HostRuntime) {
     }
 }
 
-// What is written by some words, if it is written without a fault.
-fn written(alloc: Global, words: &str) -> Option<Vec<u8>> {
+/// What is written by words, which are parted by bars, for a stream, if it is written without a fault.
+pub(crate) fn written_for(alloc: Global, words: &str, stream: &[u8]) -> Option<Vec<u8>> {
     let words: Vec<&str> = words.split('|').collect(alloc).ok()?;
     let mut space = [0; 400];
-    let mut reader = CutReader::new(LINES, 7, None);
+    let mut reader = CutReader::new(stream, 7, None);
     let mut writer = CutWriter::new(&mut space, 7, None);
     run_words_on(alloc, words.as_slice(), &mut reader, &mut writer).ok()?;
     Vec::from_slice(alloc, writer.written()).ok()
@@ -127,7 +128,10 @@ fn written(alloc: Global, words: &str) -> Option<Vec<u8>> {
 
 // Whether both rows of words write the same, and write something.
 fn write_the_same(alloc: Global, row: &(&str, &str)) -> bool {
-    match (written(alloc, row.0), written(alloc, row.1)) {
+    match (
+        written_for(alloc, row.0, LINES),
+        written_for(alloc, row.1, LINES),
+    ) {
         (Some(one), Some(other)) => !one.is_empty() && one.as_slice() == other.as_slice(),
         _ => false,
     }
@@ -186,18 +190,6 @@ pub(crate) fn refused_none(alloc: Global) -> Option<LinesFault<'static>> {
     run_words_on(alloc, &[], &mut reader, &mut writer).err()
 }
 
-// The words behind a mode, which is handed over by itself.
-#[test]
-fn runs_in_a_mode(rt: HostRuntime) {
-    let words = ["+00:00", "-", "40", "rfc3339"];
-    let mut space = [0; 100];
-    let mut reader = CutReader::new(b"at 2021-01-02T04:04:05+01:00", 7, None);
-    let mut writer = CutWriter::new(&mut space, 7, None);
-    let ended = run_words_by(&Mode::Replace, rt.alloc(), &words, &mut reader, &mut writer);
-    assert!(rt; ended == Ok(()));
-    assert!(rt; writer.written() == b"at 2021-01-02T03:04:05.000000000Z\n".as_slice());
-}
-
 // What a timeline is made of.
 #[test]
 fn offsets_of_a_timeline(rt: HostRuntime) -> Result<(), Fail> {
@@ -219,11 +211,13 @@ fn offsets_of_a_timeline(rt: HostRuntime) -> Result<(), Fail> {
 fn memory_refused(rt: HostRuntime) -> Result<(), Fail> {
     let words = ["carry", "+00:00", "-", "100", "rfc3339", "strftime", "%s"];
     let mut space = [0; 100];
-    let mut reader = CutReader::new(b"at 1\n", 7, None);
+    let mut reader = CutReader::new(b"at 1609556645\n", 7, None);
     let mut writer = CutWriter::new(&mut space, 7, None);
     match run_words_on(rt.alloc(), &words, &mut reader, &mut writer) {
         Ok(()) => {
-            assert!(rt; writer.written() == b"1970-01-01T00:00:01.000000000Z\tat 1\n".as_slice());
+            assert!(rt;
+                writer.written() == b"2021-01-02T03:04:05.000000000Z\tat 1609556645\n".as_slice()
+            );
             Ok(())
         }
         Err(

@@ -2,165 +2,212 @@
 
 use calendar::UtcOffset;
 use instants::read_words;
-use instants_found::{Finder, Found, find, read_front};
+use instants_found::{Finder, Finding};
+use instants_fronts::{Given, Years};
 use instants_sources::Source;
 use std::alloc::Global;
 use std::process::Abort;
+use std::test::Fail;
 
-// The place of a date's first byte and that behind its last one, the number of its source, and its Unix time.
-type Told = Option<(usize, usize, usize, i64)>;
+// What is found in a line.
+#[derive(Clone, Copy, PartialEq)]
+enum Told {
+    Nothing,
+    Doubt,
+    // The place of a date's first byte and that after its last one, the number of its source, and its Unix time.
+    Date(usize, usize, usize, i64),
+}
 
 // Words parted by bars, a line, and what is found in it.
-static ROWS: [(&str, &str, Told); 31] = [
+static ROWS: [(&str, &str, Told); 36] = [
     (
         "+00:00|-|100|strftime|%d/%b/%Y:%H:%M:%S %z",
         "127.0.0.1 - - [10/Oct/2000:13:55:36 -0700] \"GET / HTTP/1.0\" 200",
-        Some((15, 41, 0, 971_211_336)),
+        Told::Date(15, 41, 0, 971_211_336),
     ),
     (
         "+00:00|-|100|rfc3339",
         "at 2021-01-02T03:04:05Z.",
-        Some((3, 23, 0, 1_609_556_645)),
+        Told::Date(3, 23, 0, 1_609_556_645),
     ),
-    // No date begins inside a word, or behind a point that stands behind a digit.
-    ("+00:00|-|100|rfc3339", "1.2021-01-02T03:04:05Z", None),
-    ("+00:00|-|100|rfc3339", "x2021-01-02T03:04:05Z", None),
-    ("+00:00|-|100|rfc3339", "12021-01-02T03:04:05Z", None),
+    // No date begins inside a word, or after a point that stands after a digit.
+    (
+        "+00:00|-|100|rfc3339",
+        "1.2021-01-02T03:04:05Z",
+        Told::Nothing,
+    ),
+    (
+        "+00:00|-|100|rfc3339",
+        "x2021-01-02T03:04:05Z",
+        Told::Nothing,
+    ),
+    (
+        "+00:00|-|100|rfc3339",
+        "12021-01-02T03:04:05Z",
+        Told::Nothing,
+    ),
     (
         "+00:00|-|100|rfc3339",
         "x.2021-01-02T03:04:05Z",
-        Some((2, 22, 0, 1_609_556_645)),
+        Told::Date(2, 22, 0, 1_609_556_645),
     ),
     (
         "+00:00|-|100|rfc3339",
         "é2021-01-02T03:04:05Z",
-        Some((2, 22, 0, 1_609_556_645)),
+        Told::Date(2, 22, 0, 1_609_556_645),
     ),
-    // None ends inside a word, or before a point that stands before a digit.
-    ("+00:00|-|100|rfc3339", "2021-01-02T03:04:05Zx", None),
-    ("+00:00|-|100|rfc3339", "2021-01-02T03:04:05Z.5", None),
+    // Told::Nothing ends inside a word, or before a point that stands before a digit.
+    ("+00:00|-|100|rfc3339", "2021-01-02T03:04:05Zx", Told::Doubt),
+    (
+        "+00:00|-|100|rfc3339",
+        "2021-01-02T03:04:05Z.5",
+        Told::Doubt,
+    ),
     (
         "+00:00|-|100|rfc3339",
         "file-2021-01-02T03:04:05Z.log",
-        Some((5, 25, 0, 1_609_556_645)),
+        Told::Date(5, 25, 0, 1_609_556_645),
     ),
-    // The first date of the line.
+    // The first date of the line: where it doesn't stand whole, no later one is taken.
     (
         "+00:00|-|100|rfc3339",
         "2021-01-02T03:04:05Z 2022-01-02T03:04:05Z",
-        Some((0, 20, 0, 1_609_556_645)),
+        Told::Date(0, 20, 0, 1_609_556_645),
     ),
     (
         "+00:00|-|100|rfc3339",
         "2021-01-02T03:04:05Zx 2022-01-02T03:04:05Z",
-        Some((22, 42, 0, 1_641_092_645)),
+        Told::Doubt,
     ),
     (
         "+00:00|-|100|rfc3339",
         "2021-13-02T03:04:05Z 2022-01-02T03:04:05Z",
-        Some((21, 41, 0, 1_641_092_645)),
+        Told::Date(21, 41, 0, 1_641_092_645),
     ),
-    ("+00:00|-|100|rfc3339", "", None),
-    // Of two sources the first in order, but the one that reads at an earlier place.
+    ("+00:00|-|100|rfc3339", "", Told::Nothing),
+    // Of two sources the first in order, but the one that reads at an earlier place, or more there.
     (
         "+00:00|-|100|rfc2822|iso8601|rfc3339",
         "at 2021-01-02T03:04:05Z",
-        Some((3, 23, 1, 1_609_556_645)),
+        Told::Date(3, 23, 1, 1_609_556_645),
     ),
     (
         "+00:00|-|100|rfc3339|rfc2822",
         "Sat, 02 Jan 2021 03:04:06 +0000 is 2021-01-02T03:04:05Z",
-        Some((0, 31, 1, 1_609_556_646)),
+        Told::Date(0, 31, 1, 1_609_556_646),
     ),
-    // A source whose date would be cut gives way.
     (
         "+00:00|+00:00|100|strftime|%F %T|v2|[year]-[month]-[day] [hour]:[minute]:[second].[subsecond]",
         "2021-01-02 03:04:05.5",
-        Some((0, 21, 1, 1_609_556_645)),
+        Told::Date(0, 21, 1, 1_609_556_645),
     ),
-    // White space and comments before a date of RFC 2822, and white space behind it, are not part of it.
+    // White space and comments before a date of RFC 2822, and after it, are not part of it.
     (
         "+00:00|-|100|rfc2822",
         "log: Sat, 02 Jan 2021 03:04:06 +0000 (UTC) started",
-        Some((5, 42, 0, 1_609_556_646)),
+        Told::Date(5, 36, 0, 1_609_556_646),
     ),
     (
         "+00:00|-|100|rfc2822",
         "(worker 3) 2 Jan 2021 03:04:06 Z ",
-        Some((11, 32, 0, 1_609_556_646)),
+        Told::Date(11, 32, 0, 1_609_556_646),
     ),
-    // A literal of a description may stand beside a word.
+    // A literal of a description may stand beside a word. It is no part of what the date says.
     (
         "+00:00|-|100|strftime|[%FT%T%z]",
         "host[2021-01-02T03:04:05+0100]up",
-        Some((4, 30, 0, 1_609_553_045)),
+        Told::Date(5, 29, 0, 1_609_553_045),
     ),
     // An offset is assumed, or there is none.
     (
         "+00:00|+01:00|100|v2|[year]-[month]-[day] [hour]:[minute]",
         "[2021-01-02 03:04] x",
-        Some((1, 17, 0, 1_609_553_040)),
+        Told::Date(1, 17, 0, 1_609_553_040),
     ),
     (
         "+00:00|-|100|v2|[year]-[month]-[day] [hour]:[minute]",
         "[2021-01-02 03:04] x",
-        None,
+        Told::Nothing,
     ),
     (
         "+00:00|+01:00|100|v3|[year]-[month]-[day] [hour]:[minute][optional [:[second]]]",
         "[2021-01-02 03:04:05] x",
-        Some((1, 20, 0, 1_609_553_045)),
+        Told::Date(1, 20, 0, 1_609_553_045),
     ),
     (
         "+00:00|+01:00|100|iso8601",
         "20210102T030405 2 errors",
-        Some((0, 15, 0, 1_609_553_045)),
+        Told::Date(0, 15, 0, 1_609_553_045),
     ),
-    // A mark of a fraction without digits is no part of a time.
+    // A comma without digits after it is no part of a time.
     (
         "+00:00|+01:00|100|iso8601",
         "20210102T030405, 2 errors",
-        None,
+        Told::Date(0, 15, 0, 1_609_553_045),
     ),
-    // Far behind the beginning, at the end of sixteen bytes, at the beginning of the next ones, and behind them.
+    // The line says another offset than the one assumed, or the same.
+    (
+        "+00:00|+01:00|100|strftime|%F %T",
+        "2021-01-02 03:04:05 +0200 up",
+        Told::Doubt,
+    ),
+    (
+        "+00:00|+01:00|100|strftime|%F %T",
+        "2021-01-02 03:04:05 +0100 up",
+        Told::Date(0, 19, 0, 1_609_553_045),
+    ),
+    // A date begins at one of the first places, as many as the limit says.
+    (
+        "+00:00|-|3|rfc3339",
+        "at 2021-01-02T03:04:05Z",
+        Told::Nothing,
+    ),
+    (
+        "+00:00|-|4|rfc3339",
+        "at 2021-01-02T03:04:05Z",
+        Told::Date(3, 23, 0, 1_609_556_645),
+    ),
+    // A number of Unix time has nine or ten digits.
+    (
+        "+00:00|-|100|strftime|%s",
+        "job 12345678, 12345678901, 123456789",
+        Told::Date(27, 36, 0, 123_456_789),
+    ),
+    // Far from the beginning, at the end of sixteen bytes, at the beginning of the next ones, and after them.
     (
         "+00:00|-|100|rfc3339",
         "0123456789abcde 2021-01-02T03:04:05Z 2022-01-02T03:04:05Z",
-        Some((16, 36, 0, 1_609_556_645)),
+        Told::Date(16, 36, 0, 1_609_556_645),
     ),
     (
         "+00:00|-|100|rfc3339|iso8601",
         "0123456789abcdef 2021-01-02T03:04:05Z",
-        Some((17, 37, 0, 1_609_556_645)),
+        Told::Date(17, 37, 0, 1_609_556_645),
     ),
     (
         "+00:00|-|100|rfc2822|v3|[year]-[month]-[day]T[hour]:[minute]:[second]Z",
         "of 12 lines 3456 were read at Tomorrow, Friday, (Sat, 02 Jan 2021 03:04:06 +0000)",
-        Some((49, 80, 0, 1_609_556_646)),
+        Told::Date(49, 80, 0, 1_609_556_646),
     ),
     (
         "+00:00|-|100|strftime|(%FT%T%z",
         "0123456789abcdefghijklmnopqrstuvwxyz(2021-01-02T03:04:05+0100",
-        Some((36, 61, 0, 1_609_553_045)),
+        Told::Date(37, 61, 0, 1_609_553_045),
     ),
     (
         "+00:00|+00:00|100|strftime|%b %e %Y %T",
         "Januaries and Octobers, Mayday, june 31 and May  1: 012 Jan  2 2021 03:04:05",
-        Some((56, 76, 0, 1_609_556_645)),
+        Told::Date(56, 76, 0, 1_609_556_645),
     ),
     (
         "+00:00|-|100|rfc3339|iso8601|rfc2822",
         "1 22 333 4444-55-66 T Z +1 -2 Monday 7 8 9 Tue, 10 x11 y-12-13",
-        None,
+        Told::Nothing,
     ),
 ];
 
-// The sources that words ask for, which are parted by bars, and the offset that they assume.
-fn sources<'a>(
-    rt: &impl Abort,
-    alloc: Global,
-    words: &'a str,
-) -> (Vec<Source<'a>>, Option<UtcOffset>) {
+// The finder that words ask for, which are parted by bars, and what they give.
+fn finder<'a>(rt: &impl Abort, alloc: Global, words: &'a str) -> (Finder<'a>, Given) {
     let mut parts = Vec::new(alloc);
     parts.extend(words.split('|')).expect(rt, "memory");
     let said = read_words(alloc, parts.as_slice()).expect(rt, "words");
@@ -169,25 +216,52 @@ fn sources<'a>(
         let source = Source::new(alloc, *text).expect(rt, "a source");
         sources.push(source).expect(rt, "memory");
     }
-    (sources, said.assumed)
+    let finder = Finder::new(alloc, sources, said.limit).expect(rt, "memory");
+    (finder, given(said.assumed))
 }
 
-fn told(date: Option<Found>) -> Told {
-    let date = date?;
-    let second = date.moment.moment().unix_timestamp();
-    Some((date.start, date.end, date.source, second))
+fn given(offset: Option<UtcOffset>) -> Given {
+    Given {
+        offset,
+        years: Years::Unknown,
+        time: None,
+    }
 }
 
-// Whether this is found, by the sources as they are and by a finder that has them.
+fn as_told(finding: Option<Finding>) -> Told {
+    match finding {
+        None => Told::Nothing,
+        Some(Finding::Doubtful) => Told::Doubt,
+        Some(Finding::There(date)) => {
+            let second = date.moment.moment().unix_timestamp();
+            Told::Date(date.start, date.end, date.source, second)
+        }
+    }
+}
+
+// The same by the two calls that `find` is made of.
+fn told_in_two(finder: &Finder, given: &Given, line: &[u8]) -> Told {
+    match finder.undated_len(line) {
+        Some(start) => as_told(finder.find_from(given, line, start)),
+        None => Told::Nothing,
+    }
+}
+
+// What is found in a line, by either way, and how many sources there are.
+fn found(rt: &impl Abort, alloc: Global, words: &str, line: &[u8]) -> (Told, Told, usize) {
+    let (finder, given) = finder(rt, alloc, words);
+    let found = as_told(finder.find(&given, line));
+    (
+        found,
+        told_in_two(&finder, &given, line),
+        finder.sources().len(),
+    )
+}
+
+// Whether this is found.
 fn is_told(rt: &impl Abort, alloc: Global, words: &str, line: &str, wanted: Told) -> bool {
-    let (sources, assumed) = sources(rt, alloc, words);
-    let count = sources.len();
-    let found = told(find(sources.as_slice(), assumed, line.as_bytes()));
-    let finder = Finder::new(sources, assumed);
-    finder.sources().len() == count
-        && finder.assumed() == assumed
-        && found == wanted
-        && told(finder.find(line.as_bytes())) == wanted
+    let (one, other, count) = found(rt, alloc, words, line.as_bytes());
+    one == wanted && other == wanted && count > 0
 }
 
 #[test]
@@ -198,20 +272,14 @@ fn dates(rt: HostRuntime) {
     }
 }
 
-// The Unix time of a front, and how many bytes stand behind it.
-fn front(source: &Source, bytes: &[u8]) -> Option<(i64, usize)> {
-    match read_front(source, bytes, None) {
-        Some((named, rest)) => Some((named.moment().unix_timestamp(), rest.len())),
-        None => None,
-    }
-}
-
+// Where memory is refused there is no finder, and else it finds what it finds.
 #[test]
-fn fronts(rt: HostRuntime) {
-    let source = Source::Rfc3339;
-    let fronts = (
-        front(&source, b"1970-01-01T00:00:07Zx"),
-        front(&source, b"x"),
-    );
-    assert!(rt; fronts == (Some((7, 1)), None));
+fn memory_refused(rt: HostRuntime) -> Result<(), Fail> {
+    let mut sources = Vec::new(rt.alloc());
+    sources.push(Source::Rfc2822)?;
+    sources.push(Source::Rfc3339)?;
+    let finder = Finder::new(rt.alloc(), sources, 100)?;
+    let wanted = Told::Date(3, 23, 1, 1_609_556_645);
+    assert!(rt; as_told(finder.find(&given(None), b"at 2021-01-02T03:04:05Z")) == wanted);
+    Ok(())
 }

@@ -7,7 +7,11 @@ mod dated_lines;
 #[cfg(test)]
 mod dates_in_lines;
 #[cfg(test)]
+mod edges;
+#[cfg(test)]
 mod first_bytes;
+#[cfg(test)]
+mod fronts;
 #[cfg(test)]
 mod lines;
 #[cfg(test)]
@@ -20,5 +24,7 @@ mod page;
 mod sources;
 #[cfg(test)]
 mod support;
+#[cfg(test)]
+mod trusted_dates;
 #[cfg(test)]
 mod wrong_words;

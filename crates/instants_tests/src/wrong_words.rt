@@ -5,7 +5,7 @@ use instants_lines::LinesFault;
 use std::alloc::Global;
 
 // Words parted by bars, and the sentence behind the name of the program.
-static ROWS: [(&str, &str); 49] = [
+static ROWS: [(&str, &str); 62] = [
     (
         "",
         "\"\": no such mode; there are key, carry, replace, explain",
@@ -131,6 +131,58 @@ static ROWS: [(&str, &str); 49] = [
         "\"1.5\": no limit; it must be a number from 1 to 1048576",
     ),
     (
+        "key|year|24x|rfc3339",
+        "\"24x\": no year; it must be a number from 0 to 9999",
+    ),
+    (
+        "key|Z|-|100|year|12345|rfc3339",
+        "\"12345\": no year; it must be a number from 0 to 9999",
+    ),
+    (
+        "key|year||rfc3339",
+        "\"\": no year; it must be a number from 0 to 9999",
+    ),
+    (
+        "key|year|-1|time|25:00|rfc",
+        "\"-1\": no year; it must be a number from 0 to 9999",
+    ),
+    (
+        "key|time|25:00|rfc3339",
+        "\"25:00\": no time of day; it must be HH:MM",
+    ),
+    (
+        "key|year|2024|time|1:30|rfc",
+        "\"1:30\": no time of day; it must be HH:MM",
+    ),
+    (
+        "key|time|12:60|rfc3339",
+        "\"12:60\": no time of day; it must be HH:MM",
+    ),
+    (
+        "key|+24:00|year|24x|rfc3339",
+        "\"+24:00\": no target offset; it must be +HH:MM, -HH:MM, Z or UTC",
+    ),
+    (
+        "key|year",
+        "no source is named; there are rfc3339, rfc2822, iso8601, v1, v2, v3, strftime",
+    ),
+    (
+        "key|year|24x",
+        "no source is named; there are rfc3339, rfc2822, iso8601, v1, v2, v3, strftime",
+    ),
+    (
+        "key|year|2024|time|12:30",
+        "no source is named; there are rfc3339, rfc2822, iso8601, v1, v2, v3, strftime",
+    ),
+    (
+        "key|time|12:30|year|2024|rfc3339",
+        "source 1: \"year\": no such source; there are rfc3339, rfc2822, iso8601, v1, v2, v3, strftime; an offset before the sources is +HH:MM, -HH:MM, Z or UTC",
+    ),
+    (
+        "key|Z|-|100|year|2024|rfc3339|year",
+        "source 2: \"year\": no such source; there are rfc3339, rfc2822, iso8601, v1, v2, v3, strftime",
+    ),
+    (
         "carry|+00:00|-|100|RFC3339",
         "source 1: \"RFC3339\": no such source; there are rfc3339, rfc2822, iso8601, v1, v2, v3, strftime",
     ),
@@ -204,7 +256,8 @@ static ROWS: [(&str, &str); 49] = [
     ),
 ];
 
-const USAGE: &str = "usage: instants-lines MODE [TARGET [ASSUMED [LIMIT]]] SOURCE...";
+const USAGE: &str =
+    "usage: instants-lines MODE [TARGET [ASSUMED [LIMIT]]] [year N] [time HH:MM] SOURCE...";
 
 // Whether words were refused with this sentence, and with status 2.
 fn is_refused_as(alloc: Global, fault: Option<LinesFault>, sentence: &str) -> bool {

@@ -9,6 +9,12 @@ use Rattle.instants_timeline.specs.Sources.{AllMean, IsRefusal}
 use Rattle.instants_timeline.specs.declared.new_fault.NewFault.TheVariants as new
 use Rattle.instants_timeline.specs.declared.program_fault.ProgramFault.{ProgramFault}
 use Rattle.instants_timeline.specs.declared.program_fault.ProgramFault.TheVariants as program
+use Rattle.instants_timeline.specs.declared.runs_fault.RunsFault.{RunsFault}
+use Rattle.instants_timeline.specs.declared.runs_fault.RunsFault.TheVariants as runs
+
+-- how many bytes a program reads at once where they are there, beside those of a line
+abbrev pub block : ℕ
+block = 65_536
 
 -- the setting that words ask for: what their sources mean, one by one, their target and their assumed offset
 pub record Asks (words : Words) (setting : Setting) : Type 0 where
@@ -30,6 +36,17 @@ run_of (Err (program.Run fault)) = Some (Err fault)
 run_of (Err (program.Words fault)) = None
 run_of (Err (program.New fault)) = None
 run_of (Err program.Memory) = None
+
+-- how a run of a program ended, where it was begun
+abbrev pub ended_of : Result (Unit {0}) RunsFault → Option (Result (Unit {0}) RunFault)
+ended_of (Ok done) = Some (Ok done)
+ended_of (Err (runs.Run fault)) = Some (Err fault)
+ended_of (Err runs.Memory) = None
+
+-- the same fault as one of the program
+abbrev pub of_runs : RunsFault → ProgramFault
+of_runs runs.Memory = program.Memory
+of_runs (runs.Run fault) = program.Run fault
 
 -- a fault that comes before anything is read or written
 abbrev pub IsBeforeRun : ProgramFault → Type 0

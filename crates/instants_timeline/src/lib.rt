@@ -7,6 +7,7 @@ mod new_fault;
 mod program;
 mod program_fault;
 mod runs;
+mod runs_fault;
 mod shown;
 mod timeline;
 
@@ -24,5 +25,6 @@ pub use new_fault::NewFault;
 pub use program::{RunsLines, run_words, run_words_by};
 pub use program_fault::{FaultText, ProgramFault};
 pub use runs::{run, run_over};
+pub use runs_fault::RunsFault;
 pub use shown::{answer_by, answer_moment, answer_named, shown_at};
 pub use timeline::Timeline;

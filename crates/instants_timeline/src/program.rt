@@ -1,16 +1,17 @@
 //! The program between its words and its end.
-ghost use Rattle.std.specs.Prelude.{◌≡◌, ◌<◌, ℕ, false, length, map, Err, IsOk, IfSome, IfErr};
+ghost use Rattle.std.specs.Prelude.{◌≡◌, ◌≤◌, ◌+◌, ℕ, false, length, map, Err, IsOk, IfSome, IfErr};
 ghost use Rattle.instants_stream.specs.Answers.{by_answers};
 ghost use Rattle.instants_stream.specs.Ran.{Ran, RanAndFlushed};
 ghost use Rattle.instants_stream.specs.Writing.{Writing};
 ghost use Rattle.instants_words.specs.declared.fault.WordsFault.{WordsFault};
 ghost use Rattle.instants_words.specs.Words.{words_said};
 ghost use Rattle.instants_timeline.specs.Place.{Setting, answer_to};
-ghost use Rattle.instants_timeline.specs.Program.{AsksFor, IsBeforeRun, IsMemory, IsRefusedAs, run_of};
+ghost use Rattle.instants_timeline.specs.Program.{AsksFor, block, ended_of, IsBeforeRun, IsMemory, IsRefusedAs, run_of};
 ghost use Rattle.instants_timeline.specs.Settings.{setting_of};
 
 use crate::program_fault::ProgramFault;
 use crate::runs::answer_lines;
+use crate::runs_fault::RunsFault;
 use crate::timeline::Timeline;
 use instants_stream::{ByteReader, ByteWriter, RunFault};
 use instants_words::read_words;
@@ -24,21 +25,26 @@ pub trait RunsLines {
     /// What there is to write, by a setting, where a line with more bytes than a limit is too long.
     ghost writing: { Self → Setting → ℕ → Writing };
 
-    /// Writes it for each line that the reader gives. The buffer is longer than the limit. The writer is flushed once, before
+    /// Writes it for each line that the reader gives. What memory it takes it takes before it reads. The buffer has a block more than
+    /// the limit. The writer is flushed once, before
     /// `Ok`; a reader or a writer that failed isn't tried again.
     fn run<R: ByteReader, W: ByteWriter>(
         &self,
+        alloc: Global,
         timeline: Timeline<'_>,
         limit: usize,
         buffer: &mut [u8],
         reader: &mut R,
         writer: &mut W,
-    ) -> Result<(), RunFault>
-        requires room { limit < length buffer.old }
+    ) -> Result<(), RunsFault>
+        requires room { limit + block ≤ length buffer.old }
         requires reader { R.failed reader.old ≡ false }
         requires writer { W.failed writer.old ≡ false }
-        ensures { Ran (writing self.now (setting_of timeline.entry) limit)
-            R.ByteReader reader.old reader.new W.ByteWriter writer.old writer.new result };
+        ensures ran { IfSome (ended_of result)
+            (λ ended. Ran (writing self.now (setting_of timeline.entry) limit)
+            R.ByteReader reader.old reader.new W.ByteWriter writer.old writer.new ended) }
+        ensures memory { result ≡ Err RunsFault.Memory
+            → (reader.new ≡ reader.old) × (writer.new ≡ writer.old) };
 }
 
 // Writes the answer to each line.
@@ -53,13 +59,17 @@ impl RunsLines for Answers {
 
     fn run<R: ByteReader, W: ByteWriter>(
         &self,
+        _alloc: Global,
         timeline: Timeline<'_>,
         limit: usize,
         buffer: &mut [u8],
         reader: &mut R,
         writer: &mut W,
-    ) -> Result<(), RunFault> {
-        answer_lines(&timeline, limit, buffer, reader, writer)
+    ) -> Result<(), RunsFault> {
+        match answer_lines(&timeline, limit, buffer, reader, writer) {
+            Ok(()) => Ok(()),
+            Err(fault) => Err(RunsFault::Run(fault)),
+        }
     }
 }
 
@@ -130,6 +140,7 @@ pub fn run_words_by<'a, P: RunsLines, R: ByteReader, W: ByteWriter>(
     let mut buffer = vec![in alloc; 0; said.limit + BLOCK]?;
     run_and_flush(
         program,
+        alloc,
         timeline,
         said.limit,
         buffer.as_mut_slice(),
@@ -142,20 +153,24 @@ pub fn run_words_by<'a, P: RunsLines, R: ByteReader, W: ByteWriter>(
 // Writes for each line, and flushes what was written also where a read failed.
 fn run_and_flush<P: RunsLines, R: ByteReader, W: ByteWriter>(
     program: &P,
+    alloc: Global,
     timeline: Timeline<'_>,
     limit: usize,
     buffer: &mut [u8],
     reader: &mut R,
     writer: &mut W,
-) -> Result<(), RunFault>
-    requires room { limit < length buffer.old }
+) -> Result<(), RunsFault>
+    requires room { limit + block ≤ length buffer.old }
     requires reader { R.failed reader.old ≡ false }
     requires writer { W.failed writer.old ≡ false }
-    ensures { RanAndFlushed (P.writing program.now (setting_of timeline.entry) limit)
-        R.ByteReader reader.old reader.new W.ByteWriter writer.old writer.new result }
+    ensures ran { IfSome (ended_of result)
+        (λ ended. RanAndFlushed (P.writing program.now (setting_of timeline.entry) limit)
+        R.ByteReader reader.old reader.new W.ByteWriter writer.old writer.new ended) }
+    ensures memory { result ≡ Err RunsFault.Memory
+        → (reader.new ≡ reader.old) × (writer.new ≡ writer.old) }
 {
-    let ended = program.run(timeline, limit, buffer, reader, writer);
-    if ended == Err(RunFault::Read) && !writer.has_failed() {
+    let ended = program.run(alloc, timeline, limit, buffer, reader, writer);
+    if ended == Err(RunsFault::Run(RunFault::Read)) && !writer.has_failed() {
         // The read stays the fault.
         let _ = writer.flush();
     }

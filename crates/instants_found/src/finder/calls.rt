@@ -1,51 +1,63 @@
 //! The calls of a finder.
-ghost use Rattle.std.specs.Prelude.{◌≡◌, ◌<◌, ◌≤◌, ◌+◌, length, map, false, None, All, IfSome, IfNone};
+ghost use Rattle.std.specs.Prelude.{◌≡◌, ◌<◌, ◌≤◌, ◌+◌, length, map, min, false, None, All, IfOk, IfSome, IfNone};
+ghost use Rattle.instants_fronts.specs.declared.given.Given.{Given};
+ghost use Rattle.instants_fronts.specs.DateSource.{grammar_in};
 ghost use Rattle.instants_sources.specs.Grammar.{grammar_of};
-ghost use Rattle.instants_found.specs.Found.{at_place, found};
-ghost use Rattle.instants_found.specs.Finder.{assumed_of, sources_of};
+ghost use Rattle.instants_found.specs.Found.{found};
+ghost use Rattle.instants_found.specs.Finder.{limit_of, sources_of};
 ghost use Rattle.instants_found.specs.Keys.{NeedsFour};
 ghost use Rattle.instants_found.specs.Marks.{AreMarks};
-ghost use Rattle.instants_found.specs.Starts.{HasNoDate, MarkPlaces};
+ghost use Rattle.instants_found.specs.Starts.{HasNoDate, IsNoDate, MarkPlaces};
+ghost use Rattle.instants_found.specs.Within.{IsWithin};
 
-use crate::edge::is_edge;
+use crate::beside::after;
 use crate::finder::Finder;
-use crate::finding::{at_place, behind, may_read};
-use crate::found::Found;
+use crate::finding::{at_place, may_read};
+use crate::found::Finding;
 use crate::keys::REACH;
 use crate::lanes::LANES;
 use crate::marks::Marks;
 use crate::starts::starts;
-use calendar::UtcOffset;
+use instants_edges::is_edge;
+use instants_fronts::{DateSource, Given};
 use instants_sources::Source;
+use std::alloc::{AllocError, Global};
 
 impl<'a> Finder<'a> {
-    /// A finder of dates by these sources in order, with an offset assumed or none. It takes no memory.
-    pub fn new(sources: Vec<Source<'a>>, assumed: Option<UtcOffset>) -> Finder<'a>
-        ensures sources { sources_of result ≡ map grammar_of sources.entry.items }
-        ensures assumed { assumed_of result ≡ assumed }
+    /// A finder of dates by these sources in order, which begin at one of so many first places of a line. The error says that
+    /// memory ran out.
+    pub fn new(
+        alloc: Global,
+        sources: Vec<Source<'a>>,
+        limit: usize,
+    ) -> Result<Finder<'a>, AllocError>
+        ensures sources { IfOk result
+            (λ finder. sources_of finder ≡ map grammar_of sources.entry.items) }
+        ensures limit { IfOk result (λ finder. limit_of finder ≡ limit) }
     {
         let starts = starts(&sources);
         let marks = Marks::of(&sources, &starts);
-        Finder {
-            sources,
-            assumed,
+        Ok(Finder {
+            sources: date_sources(alloc, sources)?,
+            limit,
             starts,
             marks,
-        }
+        })
     }
 
     /// The sources, in order.
-    pub fn sources(&self) -> &[Source<'a>]
-        ensures { map grammar_of result.now ≡ sources_of self.now }
+    pub fn sources(&self) -> &[DateSource<'a>]
+        ensures { map grammar_in result.now ≡ sources_of self.now }
     {
         self.sources.as_slice()
     }
 
-    /// The offset that is assumed for dates without one.
-    pub fn assumed(&self) -> Option<UtcOffset>
-        ensures { result ≡ assumed_of self.now }
+    // After which place of a line none is looked at.
+    #[inline(always)]
+    fn end(&self, line: &[u8]) -> usize
+        ensures { result ≡ min (limit_of self.now) (length line.now) }
     {
-        self.assumed
+        self.limit.min(line.len())
     }
 
     // Whether a date can begin at a place: `true` says nothing of it.
@@ -53,7 +65,7 @@ impl<'a> Finder<'a> {
     fn can_start(&self, line: &[u8], place: usize) -> bool
         requires { place < length line.now }
         ensures { result ≡ false
-            → at_place (assumed_of self.now) (sources_of self.now) line.now place ≡ None }
+            → IsNoDate (sources_of self.now) line.now place }
     {
         self.starts[usize::from(line[place])] && is_edge(line, place)
     }
@@ -63,25 +75,25 @@ impl<'a> Finder<'a> {
     fn has_start(&self, line: &[u8], start: usize) -> bool
         requires { start < length line.now }
         ensures { result ≡ false
-            → at_place (assumed_of self.now) (sources_of self.now) line.now start ≡ None }
+            → IsNoDate (sources_of self.now) line.now start }
     {
         if !self.can_start(line, start) {
             return false;
         }
-        may_read(self.sources.as_slice(), behind(line, start))
+        may_read(self.sources.as_slice(), after(line, start))
     }
 
-    // The first place behind one at which a date can begin, looked for byte by byte.
+    // The first place from one on at which a date can begin, looked for byte by byte.
     #[inline(never)]
     fn by_bytes(&self, line: &[u8], from: usize) -> Option<usize>
         requires { from ≤ length line.now }
-        ensures none { IfNone result
-            (HasNoDate (assumed_of self.now) (sources_of self.now) line.now from (length line.now)) }
+        ensures none { IfNone result (HasNoDate (sources_of self.now) line.now from
+            (min (limit_of self.now) (length line.now))) }
         ensures within { IfSome result (λ start. (from ≤ start) × (start < length line.now)) }
         ensures passed { IfSome result
-            (HasNoDate (assumed_of self.now) (sources_of self.now) line.now from) }
+            (HasNoDate (sources_of self.now) line.now from) }
     {
-        for place in from..line.len() {
+        for place in from..self.end(line) {
             if self.has_start(line, place) {
                 return Some(place);
             }
@@ -94,12 +106,12 @@ impl<'a> Finder<'a> {
     fn by_marks(&self, line: &[u8], from: usize, to: usize, marks: u64) -> Option<usize>
         requires ordered { from ≤ to }
         requires within { to ≤ length line.now }
-        requires marks { MarkPlaces (assumed_of self.now) (sources_of self.now) line.now from to marks }
+        requires marks { MarkPlaces (sources_of self.now) line.now from to marks }
         ensures none { IfNone result
-            (HasNoDate (assumed_of self.now) (sources_of self.now) line.now from to) }
+            (HasNoDate (sources_of self.now) line.now from to) }
         ensures within { IfSome result (λ start. (from ≤ start) × (start < to)) }
         ensures passed { IfSome result
-            (HasNoDate (assumed_of self.now) (sources_of self.now) line.now from) }
+            (HasNoDate (sources_of self.now) line.now from) }
     {
         let mut at = from;
         let mut left = marks;
@@ -124,11 +136,11 @@ impl<'a> Finder<'a> {
         requires ordered { (start ≤ from) × (from ≤ start + LANES) }
         requires within { start + REACH ≤ length line.now }
         requires marks { AreMarks (sources_of self.now) self.now.starts marks.now }
-        ensures none { IfNone result (HasNoDate (assumed_of self.now) (sources_of self.now)
+        ensures none { IfNone result (HasNoDate (sources_of self.now)
             line.now from (start + LANES)) }
         ensures within { IfSome result (λ place. (from ≤ place) × (place < start + LANES)) }
         ensures passed { IfSome result
-            (HasNoDate (assumed_of self.now) (sources_of self.now) line.now from) }
+            (HasNoDate (sources_of self.now) line.now from) }
     {
         let bits = marks.bits(line, start);
         if bits == 0 {
@@ -145,10 +157,10 @@ impl<'a> Finder<'a> {
         requires within { from ≤ length line.now }
         requires long { All NeedsFour (sources_of self.now) }
         ensures none { IfNone result
-            (HasNoDate (assumed_of self.now) (sources_of self.now) line.now from (length line.now)) }
+            (HasNoDate (sources_of self.now) line.now from (length line.now)) }
         ensures within { IfSome result (λ start. (from ≤ start) × (start < length line.now)) }
         ensures passed { IfSome result
-            (HasNoDate (assumed_of self.now) (sources_of self.now) line.now from) }
+            (HasNoDate (sources_of self.now) line.now from) }
     {
         if from == line.len() - 4 && self.can_start(line, from) {
             return Some(from);
@@ -163,22 +175,25 @@ impl<'a> Finder<'a> {
         requires some { REACH ≤ length line.now }
         requires within { from ≤ length line.now }
         requires marks { AreMarks (sources_of self.now) self.now.starts marks.now }
-        ensures none { IfNone result
-            (HasNoDate (assumed_of self.now) (sources_of self.now) line.now from (length line.now)) }
+        ensures none { IfNone result (HasNoDate (sources_of self.now) line.now from
+            (min (limit_of self.now) (length line.now))) }
         ensures within { IfSome result (λ start. (from ≤ start) × (start < length line.now)) }
-        ensures passed { IfSome result
-            (HasNoDate (assumed_of self.now) (sources_of self.now) line.now from) }
+        ensures passed { IfSome result (HasNoDate (sources_of self.now) line.now from) }
     {
         // (a copy, which is known to stay the same in the loop)
         let marks = *marks;
-        let end = line.len() - (REACH - LANES);
+        let last = line.len() - (REACH - LANES);
+        let end = last.min(self.limit);
         let mut at = from;
         while at < end {
-            let block = at.min(end - LANES);
+            let block = at.min(last - LANES);
             if let Some(place) = self.in_block(&marks, line, block, at) {
                 return Some(place);
             }
             at = block + LANES;
+        }
+        if at < last {
+            return None;
         }
         self.by_last_four(line, at)
     }
@@ -187,11 +202,10 @@ impl<'a> Finder<'a> {
     #[inline(always)]
     fn next_start(&self, line: &[u8], from: usize) -> Option<usize>
         requires { from ≤ length line.now }
-        ensures none { IfNone result
-            (HasNoDate (assumed_of self.now) (sources_of self.now) line.now from (length line.now)) }
+        ensures none { IfNone result (HasNoDate (sources_of self.now) line.now from
+            (min (limit_of self.now) (length line.now))) }
         ensures within { IfSome result (λ start. (from ≤ start) × (start < length line.now)) }
-        ensures passed { IfSome result
-            (HasNoDate (assumed_of self.now) (sources_of self.now) line.now from) }
+        ensures passed { IfSome result (HasNoDate (sources_of self.now) line.now from) }
     {
         if line.len() < REACH {
             return self.by_bytes(line, from);
@@ -203,52 +217,69 @@ impl<'a> Finder<'a> {
     }
 
     /// How many bytes at the front of a line are passed over, since no date begins at them: `None` where none begins in the
-    /// whole line. `Some` says nothing of what stands behind them, and not that they are all such bytes.
+    /// whole line, or at its places up to the limit. `Some` says nothing of what stands after them, and not that they are all such
+    /// bytes.
     #[inline(always)]
     pub fn undated_len(&self, line: &[u8]) -> Option<usize>
-        ensures none { IfNone result
-            (found (assumed_of self.now) (sources_of self.now) line.now ≡ None) }
+        ensures none { IfNone result ((given : Given)
+            → found (limit_of self.now) given (sources_of self.now) line.now ≡ None) }
         ensures within { IfSome result (λ start. start < length line.now) }
-        ensures passed { IfSome result
-            (HasNoDate (assumed_of self.now) (sources_of self.now) line.now 0) }
+        ensures passed { IfSome result (HasNoDate (sources_of self.now) line.now 0) }
     {
         self.next_start(line, 0)
     }
 
-    /// The first date of a line, where none begins before a place, as `find` finds it: `undated_len` gives such a place. The two
-    /// calls are for a caller that makes room for a date only where one may begin.
+    /// The date of a line with what is given, where none begins before a place, as `find` finds it: `undated_len` gives such a
+    /// place. The two calls are for a caller that makes room for a date only where one may begin.
     #[inline(never)]
-    pub fn find_from(&self, line: &[u8], first: usize) -> Option<Found>
+    pub fn find_from(&self, given: &Given, line: &[u8], first: usize) -> Option<Finding>
         requires within { first < length line.now }
-        requires passed { HasNoDate (assumed_of self.now) (sources_of self.now) line.now 0 first }
-        ensures found { result ≡ found (assumed_of self.now) (sources_of self.now) line.now }
-        ensures ordered { IfSome result (λ date. date.start ≤ date.end) }
-        ensures within { IfSome result (λ date. date.end ≤ length line.now) }
-        ensures source { IfSome result (λ date. date.source < length (sources_of self.now)) }
+        requires passed { HasNoDate (sources_of self.now) line.now 0 first }
+        ensures found { result ≡ found (limit_of self.now) given.now (sources_of self.now) line.now }
+        ensures within { IfSome result (IsWithin (length line.now) (length (sources_of self.now))) }
     {
+        let end = self.end(line);
         let mut start = first;
-        loop {
-            if let Some(date) = at_place(self.sources.as_slice(), &self.assumed, line, start) {
-                return Some(date);
+        while start < end {
+            if let Some(finding) = at_place(self.sources.as_slice(), given, line, start) {
+                return Some(finding);
             }
             let Some(next) = self.next_start(line, start + 1) else {
                 return None;
             };
             start = next;
         }
+        None
     }
 
-    /// The first date of a line, as `find` finds it. Of a line without a place at which one can begin nothing is made.
+    /// The date of a line, with what is given: the longest that stands whole at the least place, among the first ones, at which a
+    /// source reads a date. Where none that begins there stands whole the date is in doubt; `None` says that no source reads one.
+    ///
+    /// Of a line without a place at which one can begin nothing is made.
     #[inline(always)]
-    pub fn find(&self, line: &[u8]) -> Option<Found>
-        ensures found { result ≡ found (assumed_of self.now) (sources_of self.now) line.now }
-        ensures ordered { IfSome result (λ date. date.start ≤ date.end) }
-        ensures within { IfSome result (λ date. date.end ≤ length line.now) }
-        ensures source { IfSome result (λ date. date.source < length (sources_of self.now)) }
+    pub fn find(&self, given: &Given, line: &[u8]) -> Option<Finding>
+        ensures found { result ≡ found (limit_of self.now) given.now (sources_of self.now) line.now }
+        ensures within { IfSome result (IsWithin (length line.now) (length (sources_of self.now))) }
     {
         let Some(start) = self.undated_len(line) else {
             return None;
         };
-        self.find_from(line, start)
+        self.find_from(given, line, start)
     }
+}
+
+// The sources, with what is found of each once.
+fn date_sources<'a>(
+    alloc: Global,
+    sources: Vec<Source<'a>>,
+) -> Result<Vec<DateSource<'a>>, AllocError>
+    ensures { IfOk result (λ dated. map grammar_in dated.items ≡ map grammar_of sources.entry.items) }
+{
+    let mut dated = Vec::with_capacity(alloc, sources.len())?;
+    for source in sources {
+        dated
+            .push(DateSource::new(source))
+            .map_err(AllocError::from)?;
+    }
+    Ok(dated)
 }

@@ -3,70 +3,80 @@ ghost use Rattle.std.specs.Prelude.{◌≡◌, ◌<◌, ◌≤◌, ◌↔◌, le
 ghost use Rattle.std.specs.Option.{ok_or};
 ghost use Rattle.instants_answers.specs.Text.{FitsLine};
 ghost use Rattle.instants_found.specs.Starts.{HasNoDate};
-ghost use Rattle.instants_sources.specs.Grammar.{grammar_of};
+ghost use Rattle.instants_found.specs.Within.{IsWithin};
+ghost use Rattle.instants_fronts.specs.DateSource.{grammar_in};
+ghost use Rattle.instants_fronts.specs.declared.given.Given.{Given};
 ghost use Rattle.instants_sources.specs.Named.{named};
 ghost use Rattle.instants_timeline.specs.Place.{place_text, shown_or_refused};
 ghost use Rattle.instants_timeline.specs.Refusal.{year};
 ghost use Rattle.instants_timeline.specs.Settings.{setting_of};
 ghost use Rattle.instants_lines.specs.Dates.{date_in};
-ghost use Rattle.instants_lines.specs.Showing.{setting_in};
+ghost use Rattle.instants_lines.specs.Showing.{limit_in, search_in, setting_in};
 
 use crate::date_sources::DateSources;
 use datetime_types::OffsetDateTime;
 use instants_answers::Answer;
-use instants_found::{Finder, Found};
-use instants_sources::{Named, Source};
+use instants_found::{Finder, Finding};
+use instants_fronts::{DateSource, Given};
+use instants_sources::Named;
 use instants_timeline::{Timeline, answer_by, answer_named, shown_at};
+use std::alloc::{AllocError, Global};
 
 impl<'a> DateSources<'a> {
-    /// Looks for the sources of a timeline, in order, and shows moments as it does.
-    pub(crate) fn of_timeline(timeline: Timeline<'a>) -> DateSources<'a>
-        ensures { setting_in result ≡ setting_of timeline.entry }
+    /// Looks for the sources of a timeline, in order, at so many first places of a line, and shows moments as it does.
+    pub(crate) fn of_timeline(
+        alloc: Global,
+        timeline: Timeline<'a>,
+        limit: usize,
+    ) -> Result<DateSources<'a>, AllocError>
+        ensures setting { IfOk result (λ dates. setting_in dates ≡ setting_of timeline.entry) }
+        ensures limit { IfOk result (λ dates. limit_in dates ≡ limit) }
     {
         let (target, assumed) = (timeline.target(), timeline.assumed());
-        DateSources {
-            finder: Finder::new(timeline.into_sources(), assumed),
+        let finder = Finder::new(alloc, timeline.into_sources(), limit)?;
+        Ok(DateSources {
+            finder,
+            assumed,
             target,
-        }
+        })
     }
 
     /// The sources, in order.
     #[inline(always)]
-    pub(crate) fn sources(&self) -> &[Source<'a>]
-        ensures { map grammar_of result.now ≡ (setting_in self.now).sources }
+    pub(crate) fn sources(&self) -> &[DateSource<'a>]
+        ensures { map grammar_in result.now ≡ (setting_in self.now).sources }
     {
         self.finder.sources()
     }
 
-    /// The first date of a line.
+    /// The date of a line, with what is given.
     #[inline(always)]
-    pub(crate) fn date_in(&self, line: &[u8]) -> Option<Found>
-        ensures found { result ≡ date_in (setting_in self.now) line.now }
-        ensures ordered { IfSome result (λ date. date.start ≤ date.end) }
-        ensures within { IfSome result (λ date. date.end ≤ length line.now) }
+    pub(crate) fn date_in(&self, given: &Given, line: &[u8]) -> Option<Finding>
+        ensures found { result ≡ date_in (search_in self.now given.now) line.now }
+        ensures within { IfSome result (IsWithin (length line.now) (length (setting_in self.now).sources)) }
     {
-        self.finder.find(line)
+        self.finder.find(given, line)
     }
 
     /// How many bytes at the front of a line are passed over, since no date begins at them: `None` where none begins at all.
     #[inline(always)]
     pub(crate) fn undated_len(&self, line: &[u8]) -> Option<usize>
-        ensures none { IfNone result (date_in (setting_in self.now) line.now ≡ None) }
+        ensures none { IfNone result
+            ((given : Given) → date_in (search_in self.now given) line.now ≡ None) }
         ensures within { IfSome result (λ start. start < length line.now) }
-        ensures passed { IfSome result
-            (HasNoDate (setting_in self.now).assumed (setting_in self.now).sources line.now 0) }
+        ensures passed { IfSome result (HasNoDate (setting_in self.now).sources line.now 0) }
     {
         self.finder.undated_len(line)
     }
 
-    /// The first date of a line, where none begins before a place.
+    /// The date of a line, with what is given, where none begins before a place.
     #[inline(always)]
-    pub(crate) fn date_from(&self, line: &[u8], first: usize) -> Option<Found>
+    pub(crate) fn date_from(&self, given: &Given, line: &[u8], first: usize) -> Option<Finding>
         requires within { first < length line.now }
-        requires passed { HasNoDate (setting_in self.now).assumed (setting_in self.now).sources line.now 0 first }
-        ensures { result ≡ date_in (setting_in self.now) line.now }
+        requires passed { HasNoDate (setting_in self.now).sources line.now 0 first }
+        ensures { result ≡ date_in (search_in self.now given.now) line.now }
     {
-        self.finder.find_from(line, first)
+        self.finder.find_from(given, line, first)
     }
 
     /// A moment as it is shown at the target, if its year there is 0 to 9999.
@@ -91,16 +101,16 @@ impl<'a> DateSources<'a> {
     }
 
     /// What one source says of a line alone: the answer to it where the source names a moment for it, and else its fault.
-    pub(crate) fn answer_by(&self, source: &Source<'_>, line: &[u8]) -> Result<Answer, Answer>
+    pub(crate) fn answer_by(&self, source: &DateSource<'_>, line: &[u8]) -> Result<Answer, Answer>
         ensures names { (IsOk result)
-            ↔ (IsOk (named (setting_in self.now).assumed (grammar_of source.now) line.now)) }
+            ↔ (IsOk (named (setting_in self.now).assumed (grammar_in source.now) line.now)) }
         ensures answer { IfOk result (λ answer. answer ≡ place_text (shown_or_refused
             (setting_in self.now).target
-            (named (setting_in self.now).assumed (grammar_of source.now) line.now))) }
+            (named (setting_in self.now).assumed (grammar_in source.now) line.now))) }
         ensures fault { IfErr result (λ text. text ≡ place_text (shown_or_refused
             (setting_in self.now).target
-            (named (setting_in self.now).assumed (grammar_of source.now) line.now))) }
+            (named (setting_in self.now).assumed (grammar_in source.now) line.now))) }
     {
-        answer_by(source, line, self.finder.assumed(), self.target)
+        answer_by(source.source(), line, self.assumed, self.target)
     }
 }

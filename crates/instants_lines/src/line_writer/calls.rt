@@ -1,32 +1,36 @@
 //! What is written for lines one after another.
-ghost use Rattle.std.specs.Prelude.{◌≡◌, ◌<◌, ◌≤◌, [], ◌∷◌, ◌++◌, codes, length, take, drop, true, false, IfSome, IfNone, OnOk, OnErr};
+ghost use Rattle.std.specs.Prelude.{◌≡◌, ◌<◌, ◌≤◌, [], ◌∷◌, ◌++◌, length, true, false, Some, OnOk, OnErr};
 ghost use Rattle.std.specs.Io.KnownBytes.{Appends};
 ghost use Rattle.base.specs.Bytes.{tab, line_feed};
 ghost use Rattle.instants_found.specs.Starts.{HasNoDate};
+ghost use Rattle.instants_found.specs.declared.found.Finding.TheVariants.{There};
 ghost use Rattle.instants_stream.specs.Told.{AppendsFront};
-ghost use Rattle.instants_lines.specs.Showing.{setting_in};
-ghost use Rattle.instants_lines.specs.Dates.{date_in, replaced};
-ghost use Rattle.instants_lines.specs.Going.{beginning, key_of_line, key_below};
+ghost use Rattle.instants_lines.specs.Showing.{search_in};
+ghost use Rattle.instants_lines.specs.Dates.{date_in, doubt, replaced};
+ghost use Rattle.instants_lines.specs.Going.{below, beginning, given_below, key_of_line, key_below};
 ghost use Rattle.instants_lines.specs.Writing.{going_of};
+ghost use Rattle.instants_lines.specs.declared.mode.Mode.{Mode};
 
 use crate::date_sources::DateSources;
-use crate::explained::write_explained;
 use crate::line_writer::LineWriter;
 use crate::mode::Mode;
-use crate::parts::{tabbed, write_after, write_behind, write_parts};
+use crate::parts::{tabbed, write_after, write_behind, write_three};
 use instants_answers::{Answer, rfc3339_line};
-use instants_stream::{ByteWriter, DeviceFailed, WritesLines};
+use instants_found::{Finding, Found};
+use instants_fronts::{Given, Years};
+use instants_stream::{ByteWriter, DeviceFailed};
 
 impl<'a, 'b> LineWriter<'a, 'b> {
     /// At the beginning a line without a date takes `! none`.
-    pub(crate) fn new(mode: Mode, dates: &'a DateSources<'b>) -> LineWriter<'a, 'b>
-        ensures { going_of result ≡ beginning mode (setting_in dates.now) }
+    pub(crate) fn new(mode: Mode, dates: &'a DateSources<'b>, given: Given) -> LineWriter<'a, 'b>
+        ensures { going_of result ≡ beginning mode (search_in dates.now given) }
     {
         let mut key = Answer::new();
         key.push_bytes(b"! none");
         LineWriter {
             mode,
             dates,
+            given,
             key,
             tabbed: tabbed(key),
         }
@@ -36,7 +40,7 @@ impl<'a, 'b> LineWriter<'a, 'b> {
     #[inline(always)]
     fn keep(&mut self, key: Answer)
         requires { length key ≤ 63 }
-        ensures key { going_of self.new ≡ record (going_of self.old) {
+        ensures { going_of self.new ≡ record (going_of self.old) {
           key = key_below (going_of self.old).mode (going_of self.old).key key;
         } }
     {
@@ -44,10 +48,30 @@ impl<'a, 'b> LineWriter<'a, 'b> {
             *self = LineWriter {
                 mode: self.mode,
                 dates: self.dates,
+                given: self.given,
                 key,
                 tabbed: tabbed(key),
             };
         }
+    }
+
+    // Keeps the moment of a date, where a year is given.
+    #[inline(always)]
+    fn keep_year(&mut self, date: &Found)
+        ensures { going_of self.new ≡ record (going_of self.old) {
+          search = record (going_of self.old).search {
+            given = given_below (going_of self.old).search.given (Some (There date.now));
+          };
+        } }
+    {
+        if let Years::Unknown = self.given.years {
+            return;
+        }
+        self.given = Given {
+            offset: self.given.offset,
+            years: Years::Near(date.moment.moment()),
+            time: self.given.time,
+        };
     }
 
     // Writes a line without a date behind the key that it takes and a tab.
@@ -64,10 +88,34 @@ impl<'a, 'b> LineWriter<'a, 'b> {
         write_after(writer, &self.tabbed, line)
     }
 
+    // The key of a line by what is found in it, which is kept for the lines below.
+    #[inline(always)]
+    #[tactic(auto, using(crate::proofs::Keyed::dated, crate::proofs::Keyed::doubtful, crate::proofs::Keyed::undated, crate::proofs::Keyed::below_itself))]
+    fn take_key(&mut self, line: &[u8], finding: Option<Finding>) -> Answer
+        requires { finding ≡ date_in (going_of self.old).search line.now }
+        ensures key { result ≡ key_of_line (going_of self.old) line.now }
+        ensures room { length result ≤ 63 }
+        ensures next { going_of self.new ≡ below (going_of self.old) line.now }
+    {
+        match finding {
+            Some(Finding::There(date)) => {
+                let key = self.dates.answer_named(&date.moment);
+                self.keep_year(&date);
+                self.keep(key);
+                key
+            }
+            Some(Finding::Doubtful) => {
+                let key = doubt();
+                self.keep(key);
+                key
+            }
+            None => self.key,
+        }
+    }
+
     // Writes a line behind its key and a tab, where no date begins before a place. A call of its own, so that lines in which
     // none can begin make no room for a date and an answer.
     #[inline(never)]
-    #[tactic(auto, using(crate::proofs::Keyed::dated, crate::proofs::Keyed::undated, crate::proofs::Keyed::below_itself))]
     fn write_from<W: ByteWriter>(
         &mut self,
         first: usize,
@@ -76,30 +124,23 @@ impl<'a, 'b> LineWriter<'a, 'b> {
     ) -> Result<(), DeviceFailed>
         requires works { W.failed writer.old ≡ false }
         requires within { first < length line.now }
-        requires passed { HasNoDate (going_of self.old).setting.assumed (going_of self.old).setting.sources
-            line.now 0 first }
+        requires passed { HasNoDate (going_of self.old).search.setting.sources line.now 0 first }
         ensures written { OnOk result (Appends (W.held writer.old) (W.held writer.new)
             ((key_of_line (going_of self.old) line.now ++ tab ∷ line.now) ++ line_feed ∷ [])) }
-        ensures next { OnOk result (going_of self.new ≡ record (going_of self.old) {
-          key = key_below (going_of self.old).mode (going_of self.old).key
-              (key_of_line (going_of self.old) line.now);
-        }) }
+        ensures next { OnOk result (going_of self.new ≡ below (going_of self.old) line.now) }
         ensures ok { OnOk result (W.failed writer.new ≡ W.failed writer.old) }
         ensures front { OnErr result (AppendsFront (W.held writer.old) (W.held writer.new)
             ((key_of_line (going_of self.old) line.now ++ tab ∷ line.now) ++ line_feed ∷ [])) }
         ensures err { OnErr result (W.failed writer.new ≡ true) }
     {
-        let Some(date) = self.dates.date_from(line, first) else {
-            return self.write_undated(line, writer);
-        };
-        let key = self.dates.answer_named(&date.moment);
-        self.keep(key);
+        let finding = self.dates.date_from(&self.given, line, first);
+        let key = self.take_key(line, finding);
         write_behind(writer, &key, line)
     }
 
-    // Writes a line behind its key and a tab.
-    #[tactic(auto, using(crate::proofs::Keyed::undated, crate::proofs::Keyed::below_itself))]
-    fn write_keyed<W: ByteWriter>(
+    /// Writes a line behind its key and a tab, and a line feed.
+    #[tactic(auto, using(crate::proofs::Keyed::undated, crate::proofs::Keyed::below_undated))]
+    pub(crate) fn write_keyed<W: ByteWriter>(
         &mut self,
         line: &[u8],
         writer: &mut W,
@@ -107,10 +148,7 @@ impl<'a, 'b> LineWriter<'a, 'b> {
         requires { W.failed writer.old ≡ false }
         ensures written { OnOk result (Appends (W.held writer.old) (W.held writer.new)
             ((key_of_line (going_of self.old) line.now ++ tab ∷ line.now) ++ line_feed ∷ [])) }
-        ensures next { OnOk result (going_of self.new ≡ record (going_of self.old) {
-          key = key_below (going_of self.old).mode (going_of self.old).key
-              (key_of_line (going_of self.old) line.now);
-        }) }
+        ensures next { OnOk result (going_of self.new ≡ below (going_of self.old) line.now) }
         ensures ok { OnOk result (W.failed writer.new ≡ W.failed writer.old) }
         ensures front { OnErr result (AppendsFront (W.held writer.old) (W.held writer.new)
             ((key_of_line (going_of self.old) line.now ++ tab ∷ line.now) ++ line_feed ∷ [])) }
@@ -122,91 +160,114 @@ impl<'a, 'b> LineWriter<'a, 'b> {
         self.write_from(first, line, writer)
     }
 
-    // Writes a line with the date-time in place of its date.
-    fn write_replaced<W: ByteWriter>(&self, line: &[u8], writer: &mut W) -> Result<(), DeviceFailed>
-        requires { W.failed writer.old ≡ false }
-        ensures written { OnOk result (Appends (W.held writer.old) (W.held writer.new)
-            (replaced (going_of self.now).setting line.now ++ line_feed ∷ [])) }
-        ensures ok { OnOk result (W.failed writer.new ≡ W.failed writer.old) }
-        ensures front { OnErr result (AppendsFront (W.held writer.old) (W.held writer.new)
-            (replaced (going_of self.now).setting line.now ++ line_feed ∷ [])) }
-        ensures err { OnErr result (W.failed writer.new ≡ true) }
-    {
-        let Some((start, end, text)) = date_time(self.dates, line) else {
-            return write_parts(writer, b"", b"", line);
-        };
-        write_parts(writer, &line[..start], text.as_bytes(), &line[end..])
-    }
-}
-
-// The places where the date of a line begins and ends, and the date-time in place of it, where that is written.
-#[tactic(auto, using(crate::proofs::Outside::written, crate::proofs::Outside::unwritten, crate::proofs::Outside::undated), unfolding(crate::specs::Dates::place_of_date))]
-fn date_time(dates: &DateSources<'_>, line: &[u8]) -> Option<(usize, usize, Answer)>
-    ensures some { IfSome result (λ x. replaced (setting_in dates.now) line.now
-        ≡ take x.0 line.now ++ (x.2 ++ drop x.1 line.now)) }
-    ensures none { IfNone result (replaced (setting_in dates.now) line.now ≡ line.now) }
-    ensures ordered { IfSome result (λ x. x.0 ≤ x.1) }
-    ensures within { IfSome result (λ x. x.1 ≤ length line.now) }
-{
-    let Some(date) = dates.date_in(line) else {
-        return None;
-    };
-    let Some(moment) = dates.at_target(date.moment.moment()) else {
-        return None;
-    };
-    Some((date.start, date.end, rfc3339_line(moment)))
-}
-
-// Writes that a line is too long, and a line feed.
-#[cold]
-#[inline(never)]
-fn write_long<W: ByteWriter>(writer: &mut W) -> Result<(), DeviceFailed>
-    requires { W.failed writer.old ≡ false }
-    ensures written { OnOk result (Appends (W.held writer.old) (W.held writer.new)
-        (codes "! long" ++ line_feed ∷ [])) }
-    ensures ok { OnOk result (W.failed writer.new ≡ W.failed writer.old) }
-    ensures front { OnErr result (AppendsFront (W.held writer.old) (W.held writer.new)
-        (codes "! long" ++ line_feed ∷ [])) }
-    ensures err { OnErr result (W.failed writer.new ≡ true) }
-{
-    writer.write_all(b"! long\n")
-}
-
-impl WritesLines for LineWriter<'_, '_> {
-    ghost use Rattle.instants_lines.specs.Going.{Going, lines_steps};
-    ghost use Rattle.instants_lines.specs.Writing.{going_of};
-
-    ghost State = { Going };
-
-    ghost state = { λ w. going_of w };
-
-    ghost steps = { lines_steps };
-
-    #[inline(always)]
-    fn write_line<W: ByteWriter>(
-        &mut self,
-        line: &[u8],
-        is_long: bool,
-        writer: &mut W,
-    ) -> Result<(), DeviceFailed> {
-        if is_long {
-            return write_long(writer);
-        }
-        match self.mode {
-            Mode::Key | Mode::Carry => self.write_keyed(line, writer),
-            Mode::Replace => self.write_replaced(line, writer),
-            Mode::Explain => write_explained(self.dates, line, writer),
-        }
-    }
-
+    /// The same of the first bytes of a longer line, without a line feed.
     #[cold]
     #[inline(never)]
-    fn write_last_line<W: ByteWriter>(
+    pub(crate) fn begin_keyed<W: ByteWriter>(
+        &mut self,
+        front: &[u8],
+        writer: &mut W,
+    ) -> Result<(), DeviceFailed>
+        requires { W.failed writer.old ≡ false }
+        ensures written { OnOk result (Appends (W.held writer.old) (W.held writer.new)
+            (key_of_line (going_of self.old) front.now ++ tab ∷ front.now)) }
+        ensures next { OnOk result (going_of self.new ≡ below (going_of self.old) front.now) }
+        ensures ok { OnOk result (W.failed writer.new ≡ W.failed writer.old) }
+        ensures front { OnErr result (AppendsFront (W.held writer.old) (W.held writer.new)
+            (key_of_line (going_of self.old) front.now ++ tab ∷ front.now)) }
+        ensures err { OnErr result (W.failed writer.new ≡ true) }
+    {
+        let finding = self.dates.date_in(&self.given, front);
+        let key = self.take_key(front, finding);
+        write_three(writer, key.as_bytes(), b"\t", front)
+    }
+
+    // Writes a line with the date-time in place of this date of it, or as it is where the date's year is not written.
+    #[tactic(auto, using(crate::proofs::Outside::replaced_date), unfolding(crate::specs::Dates::place_of_date))]
+    fn write_with<W: ByteWriter>(
+        &self,
+        date: &Found,
+        line: &[u8],
+        writer: &mut W,
+    ) -> Result<(), DeviceFailed>
+        requires works { W.failed writer.old ≡ false }
+        requires found { date_in (going_of self.now).search line.now ≡ Some (There date.now) }
+        requires start { date.now.start ≤ length line.now }
+        requires end { date.now.end ≤ length line.now }
+        ensures written { OnOk result (Appends (W.held writer.old) (W.held writer.new)
+            (replaced (going_of self.now).search line.now)) }
+        ensures ok { OnOk result (W.failed writer.new ≡ W.failed writer.old) }
+        ensures front { OnErr result (AppendsFront (W.held writer.old) (W.held writer.new)
+            (replaced (going_of self.now).search line.now)) }
+        ensures err { OnErr result (W.failed writer.new ≡ true) }
+    {
+        let Some(moment) = self.dates.at_target(date.moment.moment()) else {
+            return writer.write_all(line);
+        };
+        let text = rfc3339_line(moment);
+        write_three(
+            writer,
+            &line[..date.start],
+            text.as_bytes(),
+            &line[date.end..],
+        )
+    }
+
+    /// Writes a line with the date-time in place of its date, without a line feed.
+    #[tactic(auto, using(crate::proofs::Outside::undated, crate::proofs::Outside::doubtful, crate::proofs::Keyed::below_undated, crate::proofs::Keyed::below_doubtful, crate::proofs::Keyed::below_dated))]
+    pub(crate) fn write_replaced<W: ByteWriter>(
         &mut self,
         line: &[u8],
-        is_long: bool,
         writer: &mut W,
-    ) -> Result<(), DeviceFailed> {
-        self.write_line(line, is_long, writer)
+    ) -> Result<(), DeviceFailed>
+        requires works { W.failed writer.old ≡ false }
+        requires mode { (going_of self.old).mode ≡ Mode.Replace }
+        ensures written { OnOk result (Appends (W.held writer.old) (W.held writer.new)
+            (replaced (going_of self.old).search line.now)) }
+        ensures next { OnOk result (going_of self.new ≡ below (going_of self.old) line.now) }
+        ensures ok { OnOk result (W.failed writer.new ≡ W.failed writer.old) }
+        ensures front { OnErr result (AppendsFront (W.held writer.old) (W.held writer.new)
+            (replaced (going_of self.old).search line.now)) }
+        ensures err { OnErr result (W.failed writer.new ≡ true) }
+    {
+        match self.dates.date_in(&self.given, line) {
+            Some(Finding::There(date)) => {
+                self.write_with(&date, line, writer)?;
+                self.keep_year(&date);
+                Ok(())
+            }
+            Some(Finding::Doubtful) => writer.write_all(line),
+            None => writer.write_all(line),
+        }
     }
+
+    /// The same with a line feed.
+    pub(crate) fn write_replaced_line<W: ByteWriter>(
+        &mut self,
+        line: &[u8],
+        writer: &mut W,
+    ) -> Result<(), DeviceFailed>
+        requires works { W.failed writer.old ≡ false }
+        requires mode { (going_of self.old).mode ≡ Mode.Replace }
+        ensures written { OnOk result (Appends (W.held writer.old) (W.held writer.new)
+            (replaced (going_of self.old).search line.now ++ line_feed ∷ [])) }
+        ensures next { OnOk result (going_of self.new ≡ below (going_of self.old) line.now) }
+        ensures ok { OnOk result (W.failed writer.new ≡ W.failed writer.old) }
+        ensures front { OnErr result (AppendsFront (W.held writer.old) (W.held writer.new)
+            (replaced (going_of self.old).search line.now ++ line_feed ∷ [])) }
+        ensures err { OnErr result (W.failed writer.new ≡ true) }
+    {
+        self.write_replaced(line, writer)?;
+        writer.write_all(b"\n")
+    }
+}
+
+// The key of a line whose date is in doubt.
+fn doubt() -> Answer
+    ensures value { result ≡ doubt }
+    ensures room { length result ≤ 63 }
+{
+    let mut key = Answer::new();
+    key.push_bytes(b"! doubt");
+    key
 }

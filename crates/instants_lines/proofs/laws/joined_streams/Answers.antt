@@ -1,11 +1,13 @@
-use Rattle.std.specs.Prelude.{codes}
 use Rattle.instants_stream.proofs.Lines.{last_part_none}
-use Rattle.instants_lines.proofs.Joined.{joined, joined_others}
+use Rattle.instants_lines.proofs.Joined.{joined, joined_others, joined_explained}
+use Rattle.instants_lines.proofs.Carried.{joined_carried}
 use Rattle.instants_lines.proofs.laws.joined_streams.Goals as goal
 
 pub returns : goal.returns
 returns c = record {
-  others = λ mode setting limit first second other ends. joined_others mode other setting limit (codes "! none") first second (last_part_none first ends);
-  carry = λ setting limit first second line others date ends cut fits e.
-      joined setting limit second line others date cut fits e (codes "! none") first (last_part_none first ends);
+  joined = λ going limit first second ends. joined going limit first second (last_part_none first ends);
+  others = λ going limit first second other years ends. joined_others going limit first second other years (last_part_none first ends);
+  explained = λ going limit first second mode ends. joined_explained going limit first second mode (last_part_none first ends);
+  carry = λ going first second line others finding mode years ends cut e.
+      joined_carried going line others finding mode e second cut first years (last_part_none first ends);
 }

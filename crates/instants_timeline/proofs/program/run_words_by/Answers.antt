@@ -2,6 +2,7 @@ use Rattle.std.proofs.Common.{map, refl}
 use Rattle.std.proofs.lemmas.Result.{err_from_is_err_and}
 use Rattle.instants_timeline.specs.Program.{AsksFor}
 use Rattle.instants_timeline.specs.Settings.{setting_of}
+use Rattle.instants_timeline.proofs.RunsEnds.{of_ended}
 use Rattle.instants_timeline.proofs.program.run_words_by.Goals as goal
 use Rattle.instants_timeline.proofs.program.run_words_by.Goals.{In_ok-timeline}
 
@@ -19,7 +20,7 @@ asked g c =
 pub returns-in_err-run_and_flush-clause-ran : goal.returns-in_err-run_and_flush-clause-ran
 returns-in_err-run_and_flush-clause-ran g c =
     let p = err_from_is_err_and c.from_residual-in_err-run_and_flush.result c.from_residual-in_err-run_and_flush.ensures.1 in
-    rw (p.1, p.2) (_, _, asked g (goal.at.returns-in_err-run_and_flush-clause-ran g c).In_ok-timeline, c.in_err-run_and_flush.ensures)
+    rw (p.1, p.2) (of_ended _ _ _ _ (asked g (goal.at.returns-in_err-run_and_flush-clause-ran g c).In_ok-timeline) _ c.in_err-run_and_flush.ensures.ran)
 
 pub returns-clause-ran : goal.returns-clause-ran
-returns-clause-ran g c = (_, _, asked g (goal.at.returns-clause-ran g c).In_ok-timeline, c.in_ok-run_and_flush.ensures)
+returns-clause-ran g c = (_, _, asked g (goal.at.returns-clause-ran g c).In_ok-timeline, c.in_ok-run_and_flush.ensures.ran)

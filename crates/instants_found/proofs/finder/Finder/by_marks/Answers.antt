@@ -1,6 +1,6 @@
 use Rattle.std.proofs.Common.{◌≡◌, ℕ, ◌+◌, ◌-◌, subst, w64, arith}
 use Rattle.std.specs.Int.{trailing_zeros}
-use Rattle.instants_found.specs.Finder.{assumed_of, sources_of}
+use Rattle.instants_found.specs.Finder.{sources_of}
 use Rattle.instants_found.specs.Starts.{HasNoDate}
 use Rattle.instants_found.proofs.NoDates.{none_more}
 use Rattle.instants_found.proofs.Next.{none_at_more, marks_passed, marks_ended, marks_behind}
@@ -8,44 +8,40 @@ use Rattle.instants_found.proofs.finder.Finder.by_marks.Goals as goal
 
 pub returns-then-behind-to-clause-none : goal.returns-then-behind-to-clause-none
 returns-then-behind-to-clause-none c =
-    let assumed = assumed_of c.args.self.now in
     let sources = sources_of c.args.self.now in
     let line = c.args.line.now in
     let l = c.loop-left in
-    let none = marks_passed assumed sources line l.at c.args.to l.left (c.args.to - l.at) l.invariant.marks (omega arith) (omega arith) (omega arith) (omega arith) in
+    let none = marks_passed sources line l.at c.args.to l.left (c.args.to - l.at) l.invariant.marks (omega arith) (omega arith) (omega arith) (omega arith) in
     let end : l.at + (c.args.to - l.at) ≡ c.args.to = omega arith in
-    none_more assumed sources line c.args.from l.at c.args.to l.invariant.passed (subst (HasNoDate assumed sources line l.at) end none)
+    none_more sources line c.args.from l.at c.args.to l.invariant.passed (subst (HasNoDate sources line l.at) end none)
 
 pub returns-then-can_start-clause-passed : goal.returns-then-can_start-clause-passed
 returns-then-can_start-clause-passed c =
-    let assumed = assumed_of c.args.self.now in
     let sources = sources_of c.args.self.now in
     let line = c.args.line.now in
     let l = c.loop-left in
     let behind : ℕ = trailing_zeros w64 l.left in
-    let none = marks_passed assumed sources line l.at c.args.to l.left behind l.invariant.marks (omega arith) (omega arith) (omega arith) (omega arith) in
-    none_more assumed sources line c.args.from l.at (l.at + behind) l.invariant.passed none
+    let none = marks_passed sources line l.at c.args.to l.left behind l.invariant.marks (omega arith) (omega arith) (omega arith) (omega arith) in
+    none_more sources line c.args.from l.at (l.at + behind) l.invariant.passed none
 
 pub loop-left-preserved : goal.loop-left-preserved
 loop-left-preserved c =
-    let assumed = assumed_of c.args.self.now in
     let sources = sources_of c.args.self.now in
     let line = c.args.line.now in
     let l = c.loop-left in
     let behind : ℕ = trailing_zeros w64 l.left in
-    let none = marks_passed assumed sources line l.at c.args.to l.left behind l.invariant.marks (omega arith) (omega arith) (omega arith) (omega arith) in
-    let passed = none_more assumed sources line c.args.from l.at (l.at + behind) l.invariant.passed none in
+    let none = marks_passed sources line l.at c.args.to l.left behind l.invariant.marks (omega arith) (omega arith) (omega arith) (omega arith) in
+    let passed = none_more sources line c.args.from l.at (l.at + behind) l.invariant.passed none in
     record {
       low = omega arith;
       high = omega arith;
-      passed = none_at_more assumed sources line c.args.from (l.at + behind) passed (c.can_start.ensures c.if-can_start.false);
-      marks = marks_behind assumed sources line l.at c.args.to l.left behind l.invariant.marks;
+      passed = none_at_more sources line c.args.from (l.at + behind) passed (c.can_start.ensures c.if-can_start.false);
+      marks = marks_behind sources line l.at c.args.to l.left behind l.invariant.marks;
     }
 
 pub returns-clause-none : goal.returns-clause-none
 returns-clause-none c =
-    let assumed = assumed_of c.args.self.now in
     let sources = sources_of c.args.self.now in
     let line = c.args.line.now in
     let l = c.loop-left in
-    none_more assumed sources line c.args.from l.at c.args.to l.invariant.passed (marks_ended assumed sources line l.at c.args.to l.left l.invariant.marks (omega arith))
+    none_more sources line c.args.from l.at c.args.to l.invariant.passed (marks_ended sources line l.at c.args.to l.left l.invariant.marks (omega arith))

@@ -1,11 +1,11 @@
 use Rattle.std.proofs.Common.{◌<◌, ◌-◌, length}
-use Rattle.instants_found.specs.Finder.{assumed_of, sources_of}
-use Rattle.instants_found.proofs.Steps.{GiveFromPlace}
+use Rattle.instants_found.specs.Finder.{sources_of}
+use Rattle.instants_found.proofs.NoDates.{NothingBefore}
 use Rattle.instants_found.proofs.finder.Finder.find_from.Given as goal
 
--- no date begins at the places so far
-abbrev pub invariant-loop-date : goal.invariant-loop-date
-invariant-loop-date l = record { within : l.start < length l.line; so_far : GiveFromPlace (assumed_of l.self) (sources_of l.self) l.line l.start }
+-- nothing is found at the places so far
+abbrev pub invariant-loop-start : goal.invariant-loop-start
+invariant-loop-start l = record { within : l.start < length l.line; so_far : NothingBefore l.given (sources_of l.self) l.line l.start }
 
-abbrev pub decreases-loop-date : goal.decreases-loop-date
-decreases-loop-date l = length l.line - l.start
+abbrev pub decreases-loop-start : goal.decreases-loop-start
+decreases-loop-start l = length l.line - l.start

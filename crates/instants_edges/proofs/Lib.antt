@@ -1,0 +1,9 @@
+pub mod Fronts
+pub mod Edges
+pub mod Texts
+pub mod Clocks
+pub mod Numbers
+pub mod Zones
+pub mod Offsets
+pub mod Near
+pub mod TextFronts

@@ -1,0 +1,49 @@
+-- The texts of dates are fronts of the bytes.
+use Rattle.std.proofs.Common.{◌≡◌, ℕ, zero, suc, ◌<◌, ◌≤◌, ◌==◌, Bool, true, false, List, [], ◌∷◌, length, take, get_or, refl, ap, arith}
+use Rattle.std.specs.Prelude.{if◌then◌else◌}
+use Rattle.base.specs.Bytes.{lower_z}
+use Rattle.instants_edges.specs.Text.{is_stop, iso_text, mail_text, is_letter, is_letter_alone, is_ut}
+
+-- bytes are a front of others
+abbrev pub IsFront : List ℕ → List ℕ → Type 0
+IsFront text bytes = (n : ℕ) × (n ≤ length bytes) × (text ≡ take n bytes)
+
+none_is : (bytes : List ℕ) → IsFront [] bytes
+none_is bytes = (0, omega arith, refl)
+
+one_more : (byte : ℕ) (text bytes : List ℕ) → IsFront text bytes → IsFront (byte ∷ text) (byte ∷ bytes)
+one_more byte text bytes (n, within, is) = (suc n, omega (arith, within), ap (λ (others : List ℕ). byte ∷ others) is)
+
+either_is : (test : Bool) (one other bytes : List ℕ) → IsFront one bytes → IsFront other bytes → IsFront (if test then one else other) bytes
+either_is true one other bytes a b = a
+either_is false one other bytes a b = b
+
+one_is : (bytes : List ℕ) → IsFront (take 1 bytes) bytes
+one_is [] = none_is []
+one_is (byte ∷ bytes) = (1, omega arith, refl)
+
+pub iso_is_front : (bytes : List ℕ) → IsFront (iso_text bytes) bytes
+unfolding iso_text
+iso_is_front [] = none_is []
+iso_is_front (byte ∷ after) = either_is (is_stop byte after) [] (byte ∷ iso_text after) (byte ∷ after) (none_is (byte ∷ after)) (one_more byte (iso_text after) after (iso_is_front after))
+
+pub mail_is_front : (before : ℕ) (bytes : List ℕ) → IsFront (mail_text before bytes) bytes
+unfolding mail_text
+mail_is_front before [] = none_is []
+mail_is_front before (byte ∷ after) =
+    either_is (is_ut before byte after) (byte ∷ take 1 after) _ (byte ∷ after) (one_more byte (take 1 after) after (one_is after))
+    (either_is (is_letter_alone before byte after) _ _ (byte ∷ after)
+    (either_is (is_letter lower_z byte) (byte ∷ []) [] (byte ∷ after) (one_more byte [] after (none_is after)) (none_is (byte ∷ after)))
+    (either_is (byte == 40) [] (byte ∷ mail_text byte after) (byte ∷ after) (none_is (byte ∷ after)) (one_more byte (mail_text byte after) after (mail_is_front byte after))))
+
+-- the first byte of a front that has one is the first of the bytes
+pub first_of_front : (text bytes : List ℕ) → IsFront text bytes → 0 < length text → get_or text 0 0 ≡ get_or bytes 0 0
+first_of_front text bytes (zero, within, is) some = absurd (omega (arith, some, ap length is))
+first_of_front text [] (suc n, within, is) some = absurd (omega (arith, within))
+first_of_front text (byte ∷ bytes) (suc n, within, is) some = ap (λ (xs : List ℕ). get_or xs 0 0) is
+
+pub iso_first : (bytes : List ℕ) → 0 < length (iso_text bytes) → get_or (iso_text bytes) 0 0 ≡ get_or bytes 0 0
+iso_first bytes some = first_of_front (iso_text bytes) bytes (iso_is_front bytes) some
+
+pub mail_first : (before : ℕ) (bytes : List ℕ) → 0 < length (mail_text before bytes) → get_or (mail_text before bytes) 0 0 ≡ get_or bytes 0 0
+mail_first before bytes some = first_of_front (mail_text before bytes) bytes (mail_is_front before bytes) some

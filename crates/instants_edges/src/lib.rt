@@ -1,0 +1,19 @@
+//! What stands beside a date in a line: words, clocks, offsets and years, by the bytes alone.
+#![tactic(auto)]
+
+mod bytes;
+mod clock;
+mod digits;
+mod edge;
+mod offset;
+mod pieces;
+mod text;
+mod year;
+
+pub use bytes::byte_at;
+pub use clock::{has_clock_beside, has_clock_in_front};
+pub use edge::{is_edge, may_say};
+pub use offset::has_another_offset;
+pub use pieces::{blanks, reach, trimmed_length, zone_length};
+pub use text::{iso_text, mail_text};
+pub use year::has_another_year;

@@ -1,0 +1,88 @@
+//! Bytes at the front and at the end of a date.
+ghost use Rattle.std.specs.Prelude.{◌≡◌, ◌≤◌, ◌-◌, length, take, drop};
+ghost use Rattle.std.specs.Char.{is_ascii_alphabetic, is_ascii_digit};
+ghost use Rattle.std.specs.List.{prefix_len, suffix_len};
+ghost use Rattle.instants_edges.specs.Pieces as Pieces;
+
+use crate::bytes::{byte_at, byte_before};
+use crate::text::is_fraction;
+
+/// The length of the white space at the front.
+#[tactic(auto, using(crate::proofs::Fronts::front_count), unfolding(crate::specs::Pieces::blanks))]
+pub fn blanks(bytes: &[u8]) -> usize
+    ensures value { result ≡ Pieces.blanks bytes.now }
+    ensures within { result ≤ length bytes.now }
+{
+    bytes
+        .iter()
+        .take_while(|byte| byte.is_ascii_whitespace())
+        .count()
+}
+
+/// The length without the white space at the end.
+pub fn trimmed_length(bytes: &[u8]) -> usize
+    ensures value { result ≡ Pieces.trimmed_length bytes.now }
+    ensures within { result ≤ length bytes.now }
+{
+    bytes.trim_ascii_end().len()
+}
+
+// How many letters stand at the front.
+#[tactic(auto, using(crate::proofs::Fronts::front_count))]
+fn letters_length(bytes: &[u8]) -> usize
+    ensures value { result ≡ prefix_len is_ascii_alphabetic bytes.now }
+    ensures within { result ≤ length bytes.now }
+{
+    bytes
+        .iter()
+        .take_while(|byte| byte.is_ascii_alphabetic())
+        .count()
+}
+
+/// The length of the word of letters at the front, with the space before it if there is one; 0 where no such word is.
+#[tactic(auto, using(crate::proofs::Zones::zone_direct))]
+pub fn zone_length(bytes: &[u8]) -> usize
+    ensures value { result ≡ Pieces.zone_length bytes.now }
+    ensures within { result ≤ length bytes.now }
+{
+    if byte_at(bytes, 0) != b' ' {
+        return letters_length(bytes);
+    }
+    let long = letters_length(&bytes[1..]);
+    if long == 0 { 0 } else { long + 1 }
+}
+
+// How many digits end the bytes.
+fn last_digits(bytes: &[u8]) -> usize
+    ensures value { result ≡ suffix_len is_ascii_digit bytes.now }
+    ensures within { result ≤ length bytes.now }
+{
+    let mut start = bytes.len();
+    while start > 0 && bytes[start - 1].is_ascii_digit() {
+        start -= 1;
+    }
+    bytes.len() - start
+}
+
+/// Where a date that begins and ends at these places reaches to for sure: to a comma before its last digits, if they
+/// are no fraction, and else to the end of its zone, which is given.
+#[tactic(auto, unfolding(crate::specs::Pieces::reach))]
+pub fn reach(line: &[u8], begins: usize, ends: usize, zone: usize) -> usize
+    requires order { begins ≤ ends }
+    requires within { ends ≤ length line.now }
+    ensures { result ≡ Pieces.reach line.now begins ends zone }
+{
+    let digits = last_digits(&line[begins..ends]);
+    if digits + 1 >= ends - begins {
+        return zone;
+    }
+    let comma = ends - digits - 1;
+    if line[comma] == b','
+        && byte_before(line, comma, 1).is_ascii_digit()
+        && !is_fraction(&line[ends - digits..])
+    {
+        comma
+    } else {
+        zone
+    }
+}

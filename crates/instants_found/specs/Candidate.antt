@@ -1,0 +1,48 @@
+-- The dates that sources read at one place of a line.
+use Rattle.std.specs.Prelude.{ℕ, ◌+◌, ◌&&◌, not, nat_lt, Bool, List, [], ◌∷◌, drop, Option, None, Some, if◌then◌else◌}
+use Rattle.instants_sources.specs.Grammar.{Grammar}
+use Rattle.instants_edges.specs.Pieces.{reach}
+use Rattle.instants_fronts.specs.declared.given.Given.{Given}
+use Rattle.instants_fronts.specs.Front.{front_at}
+use Rattle.instants_fronts.specs.declared.front.Front.{Front}
+use Rattle.instants_found.specs.Beside.{is_read, stands_whole}
+use Rattle.instants_found.specs.declared.candidate.Candidate.{Candidate}
+use Rattle.instants_found.specs.declared.found.Found.{Found}
+
+-- the date from where it says something to where the word of its zone ends, how far it reaches for sure, and whether it stands whole
+abbrev pub as_candidate : Given → List ℕ → ℕ → ℕ → Grammar → Front → Candidate
+as_candidate given line start number grammar front =
+    record {
+      date = record { start = start + front.begins; end = start + front.zone; source = number; moment = front.moment };
+      reach = reach line (start + front.begins) (start + front.ends) (start + front.zone);
+      is_whole = stands_whole given grammar line start front;
+    }
+
+abbrev pub of_front : Given → List ℕ → ℕ → ℕ → Grammar → Option Front → Option Candidate
+of_front given line start number grammar None = None
+of_front given line start number grammar (Some front) =
+    if is_read grammar line start front then Some (as_candidate given line start number grammar front) else None
+
+-- the date that the source of this number reads at this place
+unfoldable pub candidate : Given → List ℕ → ℕ → ℕ → Grammar → Option Candidate
+candidate given line start number grammar = of_front given line start number grammar (front_at given grammar (drop start line))
+
+-- with a date more, where there is one
+abbrev pub joined : Option Candidate → List Candidate → List Candidate
+joined None others = others
+joined (Some date) others = date ∷ others
+
+-- what all sources read there; they are numbered from here on
+unfoldable pub candidates : Given → List ℕ → ℕ → ℕ → List Grammar → List Candidate
+candidates given line start number [] = []
+candidates given line start number (grammar ∷ others) = joined (candidate given line start number grammar) (candidates given line start (number + 1) others)
+
+-- of a date and another that stands whole the one that stands whole and reaches further, and of equals the first
+abbrev pub longer : Candidate → Option Candidate → Option Candidate
+longer one None = if one.is_whole then Some one else None
+longer one (Some other) = if one.is_whole && not (nat_lt one.reach other.reach) then Some one else Some other
+
+-- the longest that stands whole
+unfoldable pub longest : List Candidate → Option Candidate
+longest [] = None
+longest (one ∷ others) = longer one (longest others)

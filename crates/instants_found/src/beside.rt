@@ -1,0 +1,145 @@
+//! Whether a date stands whole in its line, and nothing beside it says otherwise.
+ghost use Rattle.std.specs.Prelude.{◌≡◌, ◌<◌, ◌≤◌, ◌+◌, ◌&&◌, drop, length, Some};
+ghost use Rattle.instants_fronts.specs.Front.{front_at};
+ghost use Rattle.instants_fronts.specs.DateSource.{grammar_in};
+ghost use Rattle.instants_found.specs.Beside as Beside;
+ghost use Rattle.instants_found.specs.Beside.{names_nothing, without_offset, without_time, without_year};
+ghost use Rattle.instants_edges.specs.Clock.{has_clock_beside};
+ghost use Rattle.instants_edges.specs.Offset.{has_another_offset};
+ghost use Rattle.instants_edges.specs.Year.{has_another_year};
+ghost use Rattle.instants_fronts.specs.Given.{year_of};
+
+use instants_edges::{
+    has_another_offset, has_another_year, has_clock_beside, has_clock_in_front, is_edge, may_say,
+};
+use instants_fronts::{DateSource, Front, Given, Years};
+
+/// The bytes from a place on.
+#[inline(always)]
+#[tactic(auto, using(std::proofs::lemmas::List::take_rest))]
+pub(crate) fn after(line: &[u8], start: usize) -> &[u8]
+    requires { start ≤ length line.now }
+    ensures { result.now ≡ drop start line.now }
+{
+    &line[start..]
+}
+
+/// Whether what a source read at a place may be a date: it may say something there, and a number of Unix time inside a word is
+/// none.
+#[inline(always)]
+pub(crate) fn is_read(source: &DateSource<'_>, line: &[u8], start: usize, front: &Front) -> bool
+    requires begins { start + front.now.begins ≤ length line.now }
+    requires all { start + front.now.all ≤ length line.now }
+    ensures { result ≡ Beside.is_read (grammar_in source.now) line.now start front.now }
+{
+    may_say(line, start + front.begins)
+        && (is_edge(line, start + front.all) || !source.has_unix_time())
+}
+
+// Whether the line says another offset after the date than one that was given and is needed.
+#[inline(always)]
+fn says_another_offset(
+    source: &DateSource<'_>,
+    given: &Given,
+    line: &[u8],
+    start: usize,
+    front: &Front,
+) -> bool
+    requires within { start < length line.now }
+    requires ends { start + front.now.ends ≤ length line.now }
+    requires read { front_at given.now (grammar_in source.now) (drop start line.now) ≡ Some front.now }
+    ensures { result ≡ (has_another_offset line.now (start + front.now.ends) given.now.offset
+        && names_nothing (without_offset given.now) (grammar_in source.now) (drop start line.now)) }
+{
+    if given.offset.is_none() || !has_another_offset(line, start + front.ends, given.offset) {
+        return false;
+    }
+    let without = Given {
+        offset: None,
+        years: given.years,
+        time: given.time,
+    };
+    source.needs(after(line, start), &without)
+}
+
+// Whether the line says a clock beside a date whose time of day was given and is needed.
+#[inline(always)]
+fn says_another_time(
+    source: &DateSource<'_>,
+    given: &Given,
+    line: &[u8],
+    start: usize,
+    front: &Front,
+) -> bool
+    requires within { start < length line.now }
+    requires begins { start + front.now.begins ≤ length line.now }
+    requires ends { start + front.now.ends ≤ length line.now }
+    requires read { front_at given.now (grammar_in source.now) (drop start line.now) ≡ Some front.now }
+    ensures { result ≡ (has_clock_beside line.now (start + front.now.begins) (start + front.now.ends)
+        && names_nothing (without_time given.now) (grammar_in source.now) (drop start line.now)) }
+{
+    if given.time.is_none() || !has_clock_beside(line, start + front.begins, start + front.ends) {
+        return false;
+    }
+    let without = Given {
+        offset: given.offset,
+        years: given.years,
+        time: None,
+    };
+    source.needs(after(line, start), &without)
+}
+
+// Whether the line says another year beside the date than one that was given and is needed.
+#[inline(always)]
+fn says_another_year(
+    source: &DateSource<'_>,
+    given: &Given,
+    line: &[u8],
+    start: usize,
+    front: &Front,
+) -> bool
+    requires within { start < length line.now }
+    requires begins { start + front.now.begins ≤ length line.now }
+    requires ends { start + front.now.ends ≤ length line.now }
+    requires read { front_at given.now (grammar_in source.now) (drop start line.now) ≡ Some front.now }
+    ensures { result ≡ (has_another_year line.now (start + front.now.begins) (start + front.now.ends) (year_of front.now.moment)
+        && names_nothing (without_year given.now) (grammar_in source.now) (drop start line.now)) }
+{
+    if let Years::Unknown = given.years {
+        return false;
+    }
+    let year = front.moment.moment().year();
+    if !has_another_year(line, start + front.begins, start + front.ends, year) {
+        return false;
+    }
+    let without = Given {
+        offset: given.offset,
+        years: Years::Unknown,
+        time: given.time,
+    };
+    source.needs(after(line, start), &without)
+}
+
+/// Whether the date that a source reads at a place stands whole there.
+#[inline(always)]
+#[tactic(auto, unfolding(crate::specs::Beside::stands_whole, crate::specs::Beside::is_gainsaid))]
+pub(crate) fn stands_whole(
+    source: &DateSource<'_>,
+    given: &Given,
+    line: &[u8],
+    start: usize,
+    front: &Front,
+) -> bool
+    requires within { start < length line.now }
+    requires begins { start + front.now.begins ≤ length line.now }
+    requires ends { start + front.now.ends ≤ length line.now }
+    requires all { start + front.now.all ≤ length line.now }
+    requires read { front_at given.now (grammar_in source.now) (drop start line.now) ≡ Some front.now }
+    ensures { result ≡ Beside.stands_whole given.now (grammar_in source.now) line.now start front.now }
+{
+    is_edge(line, start + front.all)
+        && (front.is_chosen || !has_clock_in_front(line, start + front.begins))
+        && !(says_another_offset(source, given, line, start, front)
+            || says_another_time(source, given, line, start, front)
+            || says_another_year(source, given, line, start, front))
+}

@@ -1,0 +1,157 @@
+-- The bytes that a source is given, and that nothing else counts.
+use Rattle.std.proofs.Common.{◌≡◌, ◌⊎◌, inl, inr, ◌≤◌, ℕ, zero, suc, Bool, true, false, List, [], ◌∷◌, ◌++◌, length, take, get_or, Option, Some, None, refl, sym, ap, ◌∙◌, subst, arith}
+use Rattle.std.specs.Prelude.{if◌then◌else◌, ◌==◌}
+use Rattle.std.proofs.lemmas.List.{take-append-le, length-take}
+use Rattle.base.specs.Bytes.{lower_z}
+use Rattle.instants_edges.specs.Text.{iso_text, mail_text, is_stop, is_ut, is_letter_alone, is_letter}
+use Rattle.instants_sources.specs.Grammar.{Grammar, Items, V3, Rfc2822, Rfc3339, Iso8601}
+use Rattle.instants_fronts.specs.DateSource.{IsWithin}
+use Rattle.instants_fronts.specs.Front.{front_at, front_in, with_lengths}
+use Rattle.instants_fronts.specs.Given.{Given}
+use Rattle.instants_fronts.specs.Lengths.{lengths}
+use Rattle.instants_fronts.specs.NoFront.{HasNoFront}
+use Rattle.instants_fronts.specs.Reading.{text_for, front_named}
+use Rattle.instants_fronts.specs.declared.front.Front.{Front}
+use Rattle.datetime_wall.specs.Wall.{Shown}
+use Rattle.description_items.specs.Tree.{Tree}
+use Rattle.std.proofs.Math.Seq.{take-length}
+use Rattle.instants_fronts.proofs.FrontsAt.{text_within, front_within}
+
+-- bytes at which nothing is named have no front
+pub no_front : (grammar : Grammar) (bytes : List ℕ) → HasNoFront bytes grammar → (given : Given) → front_at given grammar bytes ≡ None
+unfolding front_at
+no_front grammar bytes none given = rw (none given) refl
+
+-- ---- a text is a front of the bytes
+
+pub record IsFrontOf (bytes text : List ℕ) : Type 0 where
+  pub count : ℕ
+  pub is : text ≡ take count bytes
+
+none_of : (bytes : List ℕ) → IsFrontOf bytes []
+none_of bytes = record { count = 0; is = refl }
+
+one_more : (byte : ℕ) (others after : List ℕ) → IsFrontOf others after → IsFrontOf (byte ∷ others) (byte ∷ after)
+one_more byte others after h = record { count = suc h.count; is = ap (λ xs. byte ∷ xs) h.is }
+
+iso_begins : (b : Bool) (byte : ℕ) (others after : List ℕ) → IsFrontOf others after → IsFrontOf (byte ∷ others) (if b then [] else byte ∷ after)
+iso_begins true byte others after h = none_of (byte ∷ others)
+iso_begins false byte others after h = one_more byte others after h
+
+iso_front : (bytes : List ℕ) → IsFrontOf bytes (iso_text bytes)
+unfolding iso_text
+iso_front [] = none_of []
+iso_front (byte ∷ after) = iso_begins (is_stop byte after) byte after (iso_text after) (iso_front after)
+
+mail_begins : (a b c d : Bool) (byte : ℕ) (others after : List ℕ) → IsFrontOf others after → IsFrontOf (byte ∷ others) (if a then byte ∷ take 1 others else if b then (if c then byte ∷ [] else []) else if d then [] else byte ∷ after)
+mail_begins true b c d byte others after h = one_more byte others (take 1 others) (record { count = 1; is = refl })
+mail_begins false true true d byte others after h = one_more byte others [] (none_of others)
+mail_begins false true false d byte others after h = none_of (byte ∷ others)
+mail_begins false false c true byte others after h = none_of (byte ∷ others)
+mail_begins false false c false byte others after h = one_more byte others after h
+
+mail_front : (before : ℕ) (bytes : List ℕ) → IsFrontOf bytes (mail_text before bytes)
+unfolding mail_text
+mail_front before [] = none_of []
+mail_front before (byte ∷ after) = mail_begins (is_ut before byte after) (is_letter_alone before byte after) (is_letter lower_z byte) (byte == 40) byte after (mail_text byte after) (mail_front byte after)
+
+-- the text of a source is a front of the bytes within the window
+pub text_front : (grammar : Grammar) (bytes : List ℕ) → IsFrontOf (take 256 bytes) (text_for grammar bytes)
+unfolding text_for
+text_front (Items items) bytes = record { count = length (take 256 bytes); is = sym (take-length (take 256 bytes)) }
+text_front (V3 tree) bytes = record { count = length (take 256 bytes); is = sym (take-length (take 256 bytes)) }
+text_front Rfc2822 bytes = mail_front 0 (take 256 bytes)
+text_front Rfc3339 bytes = record { count = length (take 256 bytes); is = sym (take-length (take 256 bytes)) }
+text_front Iso8601 bytes = iso_front (take 256 bytes)
+
+-- a byte of a front is that of the bytes, or none stands there
+taken_byte : (count : ℕ) (bytes : List ℕ) (place : ℕ) → (get_or (take count bytes) place 0 ≡ get_or bytes place 0) ⊎ (get_or (take count bytes) place 0 ≡ 0)
+taken_byte zero bytes place = inr refl
+taken_byte (suc count) [] place = inr refl
+taken_byte (suc count) (byte ∷ others) zero = inl refl
+taken_byte (suc count) (byte ∷ others) (suc place) = taken_byte count others place
+
+-- so it is of a text
+pub text_byte : (grammar : Grammar) (bytes : List ℕ) (place : ℕ) → (get_or (text_for grammar bytes) place 0 ≡ get_or bytes place 0) ⊎ (get_or (text_for grammar bytes) place 0 ≡ 0)
+text_byte grammar bytes place =
+    let front = text_front grammar bytes in
+    let there = ap (λ xs. get_or xs place 0) front.is in
+    elim (taken_byte front.count (take 256 bytes) place) [
+      | inl same ↦ elim (taken_byte 256 bytes place) [ inl also ↦ inl (there ∙ same ∙ also) | inr none ↦ inr (there ∙ same ∙ none) ]
+      | inr none ↦ inr (there ∙ none)
+    ]
+
+nothing_taken : (count : ℕ) → take {A = ℕ} count [] ≡ []
+nothing_taken zero = refl
+nothing_taken (suc count) = refl
+
+first_taken : (count : ℕ) (bytes : List ℕ) → (take count bytes ≡ []) ⊎ (get_or (take count bytes) 0 0 ≡ get_or bytes 0 0)
+first_taken zero bytes = inl refl
+first_taken (suc count) [] = inl refl
+first_taken (suc count) (byte ∷ others) = inr refl
+
+-- a text is empty or begins with the first byte
+pub first_of_text : (grammar : Grammar) (bytes : List ℕ) → (text_for grammar bytes ≡ []) ⊎ (get_or (text_for grammar bytes) 0 0 ≡ get_or bytes 0 0)
+first_of_text grammar bytes =
+    let front = text_front grammar bytes in
+    elim (first_taken front.count (take 256 bytes)) [
+      | inl none ↦ inl (front.is ∙ none)
+      | inr same ↦ elim (first_taken 256 bytes) [
+        | inl none ↦ inl (front.is ∙ ap (take front.count) none ∙ nothing_taken front.count)
+        | inr also ↦ inr (ap (λ xs. get_or xs 0 0) front.is ∙ same ∙ also)
+      ]
+    ]
+
+-- for descriptions and RFC 3339 it is all within the window
+pub items_text : (items : List Tree) (bytes : List ℕ) → text_for (Items items) bytes ≡ take 256 bytes
+unfolding text_for
+items_text items bytes = refl
+
+pub tree_text : (tree : Tree) (bytes : List ℕ) → text_for (V3 tree) bytes ≡ take 256 bytes
+unfolding text_for
+tree_text tree bytes = refl
+
+pub rfc3339_text : (bytes : List ℕ) → text_for Rfc3339 bytes ≡ take 256 bytes
+unfolding text_for
+rfc3339_text bytes = refl
+
+-- ---- what comes after the window is no matter
+
+by_window : (grammar : Grammar) (one other : List ℕ) → take 256 one ≡ take 256 other → text_for grammar one ≡ text_for grammar other
+unfolding text_for
+by_window (Items items) one other e = e
+by_window (V3 tree) one other e = e
+by_window Rfc2822 one other e = ap (mail_text 0) e
+by_window Rfc3339 one other e = e
+by_window Iso8601 one other e = ap iso_text e
+
+pub near_text : (grammar : Grammar) (front rest : List ℕ) → 256 ≤ length front → text_for grammar (front ++ rest) ≡ text_for grammar front
+near_text grammar front rest le = by_window grammar (front ++ rest) front (take-append-le 256 front rest le)
+
+pub near_front : (given : Given) (grammar : Grammar) (front rest : List ℕ) → 256 ≤ length front → front_at given grammar (front ++ rest) ≡ front_at given grammar front
+unfolding front_at
+near_front given grammar front rest le = ap (λ text. front_in grammar text (front_named given grammar text)) (near_text grammar front rest le)
+
+-- ---- where a front lies
+
+in_text : (grammar : Grammar) (text : List ℕ) (o : Option (Shown × List ℕ)) (front : Front) → front_in grammar text o ≡ Some front → IsWithin text front
+in_text grammar text None front e = absurd cc
+in_text grammar text (Some x) front e =
+    let same : with_lengths text x.0 x.1 (lengths grammar text x.1) ≡ front = cc in
+    let P : Front → Type 0 = λ f. IsWithin text f in
+    subst P same (front_within grammar text x.0 x.1)
+
+-- a front lies within the first 256 bytes
+pub within_window : (given : Given) (grammar : Grammar) (bytes : List ℕ) (front : Front) → front_at given grammar bytes ≡ Some front → IsWithin bytes front × (front.begins ≤ 256) × (front.ends ≤ 256) × (front.zone ≤ 256) × (front.all ≤ 256)
+unfolding front_at
+within_window given grammar bytes front e =
+    let text = text_for grammar bytes in
+    let here = in_text grammar text (front_named given grammar text) front e in
+    let long = text_within grammar bytes in
+    let window = length-take 256 bytes in (
+      record { begins = omega (arith, here.begins, long, window); ends = omega (arith, here.ends, long, window); zone = omega (arith, here.zone, long, window); all = omega (arith, here.all, long, window) },
+      omega (arith, here.begins, long, window),
+      omega (arith, here.ends, long, window),
+      omega (arith, here.zone, long, window),
+      omega (arith, here.all, long, window),
+    )

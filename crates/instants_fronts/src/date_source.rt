@@ -1,0 +1,93 @@
+//! Sources of dates inside lines.
+ghost use Rattle.std.specs.Prelude.{◌≡◌};
+ghost use Rattle.instants_sources.specs.Grammar.{grammar_of};
+ghost use Rattle.instants_fronts.specs.Contents.{AreContents};
+ghost use Rattle.instants_fronts.specs.Ends.{AreEnds, items_in};
+
+use crate::contents::Contents;
+use crate::ends::Ends;
+use crate::front::Front;
+use crate::given::Given;
+use crate::lacks::{Lack, lack_of};
+use crate::lengths::front_of;
+use crate::named::front_named;
+use crate::window::text_for;
+use instants_sources::Source;
+
+/// A source that reads dates inside lines, with what is found of it once.
+#[derive(Drop)]
+pub struct DateSource<'a> {
+    source: Source<'a>,
+    contents: Contents,
+    ends: Ends,
+    ghost has: { AreContents (grammar_of source) contents },
+    ghost begins: { AreEnds (items_in (grammar_of source)) ends },
+}
+
+impl<'a> DateSource<'a> {
+    ghost use Rattle.std.specs.Prelude.{◌≤◌, length, IfSome};
+    ghost use Rattle.std.specs.Option.{is_none};
+    ghost use Rattle.instants_fronts.specs.DateSource.{grammar_in, IsWithin};
+    ghost use Rattle.instants_fronts.specs.Front.{front_at};
+    ghost use Rattle.instants_fronts.specs.Lacks.{lack};
+    ghost use Rattle.instants_fronts.specs.Reading.{text_for, front_named, has_unix_time};
+
+    /// The source, with what is found of it.
+    pub fn new(source: Source<'a>) -> DateSource<'a>
+        ensures { grammar_in result ≡ grammar_of source.entry }
+    {
+        DateSource {
+            contents: Contents::of(&source),
+            ends: Ends::of(&source),
+            source,
+        }
+    }
+
+    /// The source.
+    #[inline(always)]
+    pub fn source(&self) -> &Source<'a>
+        ensures { grammar_of result.now ≡ grammar_in self.now }
+    {
+        &self.source
+    }
+
+    /// Whether it reads numbers of Unix time.
+    #[inline(always)]
+    pub fn has_unix_time(&self) -> bool
+        ensures { result ≡ has_unix_time (grammar_in self.now) }
+    {
+        self.contents.has_unix_time
+    }
+
+    /// The front of bytes that the source reads as a date, with what is given where the date lacks it. It lies within the
+    /// first 256 bytes.
+    #[inline(always)]
+    pub fn read(&self, bytes: &[u8], given: &Given) -> Option<Front>
+        ensures front { result ≡ front_at given.now (grammar_in self.now) bytes.now }
+        ensures within { IfSome result (IsWithin bytes.now) }
+    {
+        let text = text_for(&self.source, bytes);
+        match front_named(&self.source, self.contents, text, given) {
+            Some((moment, rest)) => Some(front_of(&self.source, self.ends, text, moment, rest)),
+            None => None,
+        }
+    }
+
+    /// What the source lacks to name a moment with what is given: such a source finds no date in any line.
+    pub fn lack(&self, given: &Given) -> Option<Lack>
+        ensures { result ≡ lack given.now (grammar_in self.now) }
+    {
+        lack_of(&self.source, given)
+    }
+
+    /// Whether no front of bytes names a moment without a part of what is given, so that the date needs it.
+    pub fn needs(&self, bytes: &[u8], without: &Given) -> bool
+        ensures { result
+            ≡ is_none
+            (front_named without.now (grammar_in self.now)
+            (text_for (grammar_in self.now) bytes.now)) }
+    {
+        let text = text_for(&self.source, bytes);
+        front_named(&self.source, self.contents, text, without).is_none()
+    }
+}

@@ -1,0 +1,26 @@
+//! What is given for dates that lack it.
+
+use calendar::UtcOffset;
+use datetime_types::OffsetDateTime;
+
+/// What is known of the year of dates that name none.
+#[derive(Clone, Copy)]
+pub enum Years {
+    /// No year is given.
+    Unknown,
+    /// Each date is of this year.
+    In(i32),
+    /// Each date is of the year that brings it nearest to this moment: its own, the one before or the one after.
+    Near(OffsetDateTime),
+}
+
+/// What is given once for dates that lack it: each part takes the place of what a date doesn't say.
+#[derive(Clone, Copy)]
+pub struct Given {
+    /// The offset from UTC, of which hours and minutes count.
+    pub offset: Option<UtcOffset>,
+    /// The year.
+    pub years: Years,
+    /// The time of day in minutes.
+    pub time: Option<u16>,
+}

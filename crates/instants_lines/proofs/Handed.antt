@@ -1,0 +1,167 @@
+-- The rest of a long line is handed on as if the line had been looked at whole.
+use Rattle.std.proofs.Common.{◌≡◌, ◌<◌, ◌≤◌, ◌+◌, ℕ, Bool, true, List, [], ◌∷◌, ◌++◌, length, take, drop, Option, Some, None, Result, Ok, Err, refl, sym, ap, ◌∙◌, inl, inr, arith, append_assoc, length-take-le, take-append-drop}
+use Rattle.std.proofs.lemmas.Bool.{cases_lt}
+use Rattle.std.proofs.lemmas.List.{take-append-le, drop-append-le}
+use Rattle.base.specs.Bytes.{tab, line_feed}
+use Rattle.datetime_wall.specs.Wall.{Shown}
+use Rattle.instants_answers.specs.Text.{moment_text}
+use Rattle.instants_found.specs.Found.{found}
+use Rattle.instants_found.specs.declared.found.Found.{Found}
+use Rattle.instants_found.specs.declared.found.Finding.{Finding}
+use Rattle.instants_found.specs.declared.found.Finding.TheVariants.{Doubtful, There}
+use Rattle.instants_found.proofs.NearFound.{near_found, found_near}
+use Rattle.instants_stream.specs.Steps.{passed, state_within, opened, line_said, line_next}
+use Rattle.instants_stream.proofs.Written.{line_said-longer, line_next-longer, line_said-short, line_next-short}
+use Rattle.instants_timeline.specs.Place.{Setting}
+use Rattle.instants_timeline.specs.Refusal.{Refusal}
+use Rattle.instants_lines.specs.Dates.{date_in, key_or, place_of_date, with_date_time, with_date, replaced}
+use Rattle.instants_lines.specs.Going.{Going, below, given_below, search_below, key_of_line, key_below, text_in, next_in, near, begun_in, hands_on, end_in, lines_steps}
+use Rattle.instants_lines.specs.declared.mode.Mode.{Mode}
+use Rattle.instants_lines.specs.declared.mode.Mode.TheVariants.{Key, Carry, Replace, Explain}
+
+-- ---- what the modes that hand on have in common
+
+-- lines are not explained
+abbrev pub HandsOn : Mode → Type 0
+HandsOn mode = mode ≡ Explain → ⊥
+
+near_of : (mode : Mode) → HandsOn mode → (limit : ℕ) → near mode limit ≡ limit + 256 + 64
+near_of Key other limit = refl
+near_of Carry other limit = refl
+near_of Replace other limit = refl
+near_of Explain other limit = absurd (other refl)
+
+next_of : (mode : Mode) → HandsOn mode → (going : Going) (line : List ℕ) → next_in mode going line ≡ below going line
+next_of Key other going line = refl
+next_of Carry other going line = refl
+next_of Replace other going line = refl
+next_of Explain other going line = absurd (other refl)
+
+begun_of : (mode : Mode) → HandsOn mode → (going : Going) (line : List ℕ) → begun_in mode going line ≡ text_in mode going line
+begun_of Key other going line = refl
+begun_of Carry other going line = refl
+begun_of Replace other going line = refl
+begun_of Explain other going line = absurd (other refl)
+
+hands_of : (mode : Mode) → HandsOn mode → hands_on mode ≡ true
+hands_of Key other = refl
+hands_of Carry other = refl
+hands_of Replace other = refl
+hands_of Explain other = absurd (other refl)
+
+end_of : (mode : Mode) → HandsOn mode → (end : List ℕ) → end_in mode end ≡ end
+end_of Key other end = refl
+end_of Carry other end = refl
+end_of Replace other end = refl
+end_of Explain other end = absurd (other refl)
+
+-- ---- a line with a date-time in place of its date
+
+-- the date ends within the front
+abbrev LiesIn : List ℕ → Option Finding → Type 0
+LiesIn front o = (date : Found) → o ≡ Some (There date) → (date.start ≤ length front) × (date.end ≤ length front)
+
+time_longer : (front rest : List ℕ) (date : Found) (place : Result Shown Refusal) → date.start ≤ length front → date.end ≤ length front → with_date_time front date place ++ rest ≡ with_date_time (front ++ rest) date place
+time_longer front rest date (Ok moment) start end =
+    append_assoc (take date.start front) (moment_text moment ++ drop date.end front) rest
+    ∙ ap (λ (l : List ℕ). take date.start front ++ l) (append_assoc (moment_text moment) (drop date.end front) rest)
+    ∙ rw (take-append-le date.start front rest start, drop-append-le date.end front rest end) refl
+time_longer front rest date (Err refusal) start end = refl
+
+with_longer : (setting : Setting) (front rest : List ℕ) (o : Option Finding) → LiesIn front o → with_date setting front o ++ rest ≡ with_date setting (front ++ rest) o
+with_longer setting front rest None lies = refl
+with_longer setting front rest (Some Doubtful) lies = refl
+with_longer setting front rest (Some (There date)) lies = let both = lies date refl in time_longer front rest date (place_of_date setting date) both.0 both.1
+
+-- ---- a line that is longer
+
+module _ (going : Going) (line : List ℕ) (many : ℕ) (other : HandsOn going.mode) (far : many ≡ going.search.limit + 256 + 64) (longer : many < length line) where
+  abbrev front : List ℕ
+  front = take (many + 1) line
+
+  abbrev rest : List ℕ
+  rest = drop (many + 1) line
+
+  joined : front ++ rest ≡ line
+  joined = take-append-drop (many + 1) line
+
+  front_length : length front ≡ many + 1
+  front_length = length-take-le (many + 1) line (omega (arith, longer))
+
+  same_date : date_in going.search front ≡ date_in going.search line
+  same_date =
+      sym (near_found going.search.limit going.search.given going.search.setting.sources front rest (omega (arith, far, front_length)))
+      ∙ ap (λ (l : List ℕ). found going.search.limit going.search.given going.search.setting.sources l) joined
+
+  same_key : key_of_line going front ≡ key_of_line going line
+  unfolding key_of_line
+  same_key = ap (key_or going.search.setting going.key) same_date
+
+  same_below : below going front ≡ below going line
+  same_below =
+      ap (λ (o : Option Finding). record going { search = record going.search { given = given_below going.search.given o }; key = key_below going.mode going.key (key_of_line going front) }) same_date
+      ∙ ap (λ (key : List ℕ). record going { search = search_below going.search line; key = key_below going.mode going.key key }) same_key
+
+  same_keyed : (key_of_line going front ++ tab ∷ front) ++ rest ≡ key_of_line going line ++ tab ∷ line
+  same_keyed =
+      append_assoc (key_of_line going front) (tab ∷ front) rest
+      ∙ ap (λ (l : List ℕ). key_of_line going front ++ tab ∷ l) joined
+      ∙ ap (λ (key : List ℕ). key ++ tab ∷ line) same_key
+
+  lies : LiesIn front (date_in going.search front)
+  lies = λ date e.
+      let near = found_near going.search.limit going.search.given going.search.setting.sources front date e in
+      (omega (arith, near.0, far, front_length), omega (arith, near.1, far, front_length))
+
+  same_replaced : replaced going.search front ++ rest ≡ replaced going.search line
+  unfolding replaced
+  same_replaced =
+      with_longer going.search.setting front rest (date_in going.search front) lies
+      ∙ ap (λ (l : List ℕ). with_date going.search.setting l (date_in going.search front)) joined
+      ∙ ap (λ (o : Option Finding). with_date going.search.setting line o) same_date
+
+  same_text : (mode : Mode) → HandsOn mode → text_in mode going front ++ rest ≡ text_in mode going line
+  same_text Key own = same_keyed
+  same_text Carry own = same_keyed
+  same_text Replace own = same_replaced
+  same_text Explain own = absurd (own refl)
+
+  within_is : state_within lines_steps many going line ≡ below going front
+  unfolding state_within
+  within_is = next_of going.mode other going front
+
+  opened_is : opened lines_steps many going line ≡ text_in going.mode going line
+  unfolding opened
+  opened_is =
+      ap (λ (text : List ℕ). text ++ passed (hands_on (state_within lines_steps many going line).mode) rest) (begun_of going.mode other going front)
+      ∙ ap (λ (within : Going). text_in going.mode going front ++ passed (hands_on within.mode) rest) within_is
+      ∙ ap (λ (on : Bool). text_in going.mode going front ++ passed on rest) (hands_of going.mode other)
+      ∙ same_text going.mode other
+
+  ended_is : end_in (state_within lines_steps many going line).mode (line_feed ∷ []) ≡ line_feed ∷ []
+  ended_is = ap (λ (within : Going). end_in within.mode (line_feed ∷ [])) within_is ∙ end_of going.mode other (line_feed ∷ [])
+
+  said_longer : line_said lines_steps many going line ≡ text_in going.mode going line ++ line_feed ∷ []
+  said_longer =
+      line_said-longer Going lines_steps many going line longer
+      ∙ ap (λ (text : List ℕ). text ++ end_in (state_within lines_steps many going line).mode (line_feed ∷ [])) opened_is
+      ∙ ap (λ (end : List ℕ). text_in going.mode going line ++ end) ended_is
+
+  next_longer : line_next lines_steps many going line ≡ below going line
+  next_longer = line_next-longer Going lines_steps many going line longer ∙ within_is ∙ same_below
+
+-- ---- a line of any length
+
+pub handed_said : (going : Going) (line : List ℕ) → HandsOn going.mode → line_said lines_steps (near going.mode going.search.limit) going line ≡ text_in going.mode going line ++ line_feed ∷ []
+handed_said going line other =
+    elim (cases_lt (near going.mode going.search.limit) (length line)) [
+      | inl longer ↦ said_longer going line (near going.mode going.search.limit) other (near_of going.mode other going.search.limit) longer
+      | inr fits ↦ line_said-short Going lines_steps (near going.mode going.search.limit) going line fits
+    ]
+
+pub handed_next : (going : Going) (line : List ℕ) → HandsOn going.mode → line_next lines_steps (near going.mode going.search.limit) going line ≡ below going line
+handed_next going line other =
+    elim (cases_lt (near going.mode going.search.limit) (length line)) [
+      | inl longer ↦ next_longer going line (near going.mode going.search.limit) other (near_of going.mode other going.search.limit) longer
+      | inr fits ↦ line_next-short Going lines_steps (near going.mode going.search.limit) going line fits ∙ next_of going.mode other going line
+    ]

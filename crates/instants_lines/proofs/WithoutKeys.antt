@@ -1,0 +1,181 @@
+-- The lines of the output, without their keys, are those of the stream.
+use Rattle.std.proofs.Common.{◌≡◌, ◌⊎◌, ◌+◌, ◌==◌, ℕ, Bool, true, false, List, [], ◌∷◌, ◌++◌, length, take, map, nat_lt, refl, sym, ap, subst, ◌∙◌, inl, inr, arith, append-nil}
+use Rattle.std.specs.Prelude.{⊤, cond, if◌then◌else◌}
+use Rattle.std.specs.List.{slice_split, onto_first}
+use Rattle.std.proofs.lemmas.List.Elements.{All-nil, All-cons, All-append}
+use Rattle.base.specs.Bytes.{tab, line_feed}
+use Rattle.instants_stream.specs.Lines.{HasNoLineFeed, but_last, if_nonempty, parts, whole_lines, last_part, lines}
+use Rattle.instants_stream.specs.Steps.{state_within, opened, line_said, line_next, written, behind, last_part_said, output}
+use Rattle.instants_stream.proofs.Lines.{whole_lines-line, last_part-line, last_part-append, lines-append, whole_lines_none, last_part_of_none, last_part_free}
+use Rattle.instants_stream.proofs.Written.{is_no_longer, written-append}
+use Rattle.instants_lines.specs.Fields.{is_field, without_key}
+use Rattle.instants_lines.specs.Going.{Going, below, key_of_line, text_in, next_in, near, end_in, last_end, lines_steps}
+use Rattle.instants_lines.specs.declared.mode.Mode.{Mode}
+use Rattle.instants_lines.specs.declared.mode.Mode.TheVariants.{Key, Carry, Replace, Explain}
+use Rattle.instants_lines.proofs.Fields.{line_field, below_field, field_free, without_field}
+use Rattle.instants_lines.proofs.Handed.{HandsOn, handed_said, handed_next}
+
+-- ---- the lines of a stream have no line feed
+
+abbrev Frees : List (List ℕ) → Type 0
+Frees [] = ⊤
+Frees (part ∷ others) = HasNoLineFeed part × Frees others
+
+none_free : HasNoLineFeed []
+none_free = All-nil (λ (b : ℕ). (b == 10) ≡ false)
+
+one_free : (byte : ℕ) (bytes : List ℕ) → (byte == 10) ≡ false → HasNoLineFeed bytes → HasNoLineFeed (byte ∷ bytes)
+one_free byte bytes e free = All-cons (λ (b : ℕ). (b == 10) ≡ false) byte bytes e free
+
+onto_free : (byte : ℕ) (some : List (List ℕ)) → (byte == 10) ≡ false → Frees some → Frees (onto_first byte some)
+onto_free byte [] e free = (one_free byte [] e none_free, tt)
+onto_free byte (part ∷ others) e free = (one_free byte part e free.0, free.1)
+
+split_free : (bytes : List ℕ) → Frees (slice_split (λ b. b == 10) bytes)
+split_free [] = (none_free, tt)
+split_free (byte ∷ bytes) =
+    elim (byte == 10) as (λ v. (byte == 10) ≡ v → Frees (cond v ([] ∷ slice_split (λ b. b == 10) bytes) (onto_first byte (slice_split (λ b. b == 10) bytes)))) [
+      | true ↦ λ e. (none_free, split_free bytes)
+      | false ↦ λ e. onto_free byte (slice_split (λ b. b == 10) bytes) e (split_free bytes)
+    ] refl
+
+but_last_free : (some : List (List ℕ)) → Frees some → Frees (but_last some)
+but_last_free [] free = tt
+but_last_free (part ∷ []) free = tt
+but_last_free (part ∷ next ∷ others) free = (free.0, but_last_free (next ∷ others) free.1)
+
+nonempty_free : (part : List ℕ) → HasNoLineFeed part → Frees (if_nonempty part)
+nonempty_free [] free = tt
+nonempty_free (byte ∷ bytes) free = (free, tt)
+
+append_free : (some others : List (List ℕ)) → Frees some → Frees others → Frees (some ++ others)
+append_free [] others free free_too = free_too
+append_free (part ∷ some) others free free_too = (free.0, append_free some others free.1 free_too)
+
+whole_free : (stream : List ℕ) → Frees (whole_lines stream)
+unfolding whole_lines parts
+whole_free stream = but_last_free (slice_split (λ b. b == 10) stream) (split_free stream)
+
+lines_free : (stream : List ℕ) → Frees (lines stream)
+unfolding lines
+lines_free stream = append_free (whole_lines stream) (if_nonempty (last_part stream)) (whole_free stream) (nonempty_free (last_part stream) (last_part_free stream))
+
+-- ---- the two modes
+
+abbrev pub IsKeyed : Mode → Type 0
+IsKeyed mode = (mode ≡ Key) ⊎ (mode ≡ Carry)
+
+pub keyed_hands : (mode : Mode) → IsKeyed mode → HandsOn mode
+keyed_hands mode (inl key) = λ explain. absurd cc
+keyed_hands mode (inr carry) = λ explain. absurd cc
+
+pub text_of : (mode : Mode) → IsKeyed mode → (going : Going) (line : List ℕ) → text_in mode going line ≡ key_of_line going line ++ tab ∷ line
+text_of mode (inl key) going line = ap (λ (m : Mode). text_in m going line) key
+text_of mode (inr carry) going line = ap (λ (m : Mode). text_in m going line) carry
+
+end_of : (mode : Mode) → IsKeyed mode → last_end mode ≡ line_feed ∷ []
+end_of mode (inl key) = ap (λ (m : Mode). last_end m) key
+end_of mode (inr carry) = ap (λ (m : Mode). last_end m) carry
+
+-- lines leave the mode
+mode_next : (mode : Mode) (going : Going) (line : List ℕ) → (next_in mode going line).mode ≡ going.mode
+mode_next Key going line = refl
+mode_next Carry going line = refl
+mode_next Replace going line = refl
+mode_next Explain going line = refl
+
+mode_within : (many : ℕ) (going : Going) (line : List ℕ) → (state_within lines_steps many going line).mode ≡ going.mode
+unfolding state_within
+mode_within many going line = mode_next going.mode going (take (many + 1) line)
+
+mode_line : (many : ℕ) (going : Going) (line : List ℕ) → (line_next lines_steps many going line).mode ≡ going.mode
+unfolding line_next
+mode_line many going line =
+    elim (nat_lt many (length line)) as (λ t. (if t then state_within lines_steps many going line else next_in going.mode going line).mode ≡ going.mode) [
+      | true ↦ mode_within many going line
+      | false ↦ mode_next going.mode going line
+    ]
+
+mode_behind : (many : ℕ) (going : Going) (some : List (List ℕ)) → (behind lines_steps many going some).mode ≡ going.mode
+unfolding behind
+mode_behind many going [] = refl
+mode_behind many going (line ∷ others) = mode_behind many (line_next lines_steps many going line) others ∙ mode_line many going line
+
+-- ---- the output is written line by line
+
+if_else : (t : Bool) (one other : List ℕ) → t ≡ false → (if t then one else other) ≡ other
+if_else true one other e = absurd cc
+if_else false one other e = refl
+
+same_if : (t : Bool) (a b c d : List ℕ) → a ≡ c → b ≡ d → (if t then a else b) ≡ (if t then c else d)
+same_if true a b c d e f = e
+same_if false a b c d e f = f
+
+last_is : (many : ℕ) (going : Going) → IsKeyed going.mode → (part : List ℕ) → last_part_said lines_steps many going part ≡ written lines_steps many going (if_nonempty part)
+unfolding last_part_said written line_said
+last_is many going keyed [] = if_else (nat_lt many 0) _ [] (is_no_longer many 0 (omega arith))
+last_is many going keyed (byte ∷ bytes) =
+    let part : List ℕ = byte ∷ bytes in
+    let within : Going = state_within lines_steps many going part in
+    let P : Mode → Type 0 = λ mode. IsKeyed mode in
+    let still : IsKeyed within.mode = subst P (sym (mode_within many going part)) keyed in
+    same_if (nat_lt many (length part)) _ _ _ _
+    (ap (λ (end : List ℕ). opened lines_steps many going part ++ end_in within.mode end) (end_of within.mode still))
+    (ap (λ (end : List ℕ). text_in going.mode going part ++ end) (end_of going.mode keyed))
+    ∙ sym (append-nil _)
+
+pub output_is : (many : ℕ) (going : Going) → IsKeyed going.mode → (stream : List ℕ) → output lines_steps going many stream ≡ written lines_steps many going (lines stream)
+unfolding output lines
+output_is many going keyed stream =
+    let after : Going = behind lines_steps many going (whole_lines stream) in
+    let P : Mode → Type 0 = λ mode. IsKeyed mode in
+    let still : IsKeyed after.mode = subst P (sym (mode_behind many going (whole_lines stream))) keyed in
+    ap (λ (text : List ℕ). written lines_steps many going (whole_lines stream) ++ text) (last_is many after still (last_part stream))
+    ∙ sym (written-append Going lines_steps many going (whole_lines stream) (if_nonempty (last_part stream)))
+
+-- ---- without their keys
+
+one_line : (text : List ℕ) → HasNoLineFeed text → lines (text ++ line_feed ∷ []) ≡ text ∷ []
+unfolding lines
+one_line text free = rw (whole_lines-line [] text free, last_part-line [] text free, whole_lines_none, last_part_of_none) refl
+
+record AreLines (texts : List ℕ) (some : List (List ℕ)) : Type 0 where
+  ends : last_part texts ≡ []
+  are : map without_key (lines texts) ≡ some
+
+none_are : (texts : List ℕ) → texts ≡ [] → AreLines texts []
+unfolding lines
+none_are texts e =
+    let P : List ℕ → Type 0 = λ t. AreLines t [] in
+    subst P (sym e) (record { ends = last_part_of_none; are = rw (whole_lines_none, last_part_of_none) refl })
+
+one_more : (key line texts more : List ℕ) (others : List (List ℕ)) → is_field key ≡ true → HasNoLineFeed line → texts ≡ ((key ++ tab ∷ line) ++ line_feed ∷ []) ++ more → AreLines more others → AreLines texts (line ∷ others)
+one_more key line texts more others is free e rest =
+    let text : List ℕ = key ++ tab ∷ line in
+    let text_free : HasNoLineFeed text = All-append (λ (b : ℕ). (b == 10) ≡ false) key (tab ∷ line) (field_free key is) (one_free tab line refl free) in
+    let end : last_part (text ++ line_feed ∷ []) ≡ [] = last_part-line [] text text_free in
+    record {
+      ends = ap last_part e ∙ last_part-append (text ++ line_feed ∷ []) more end ∙ rest.ends;
+      are =
+          ap (λ (t : List ℕ). map without_key (lines t)) e
+          ∙ ap (λ (ls : List (List ℕ)). map without_key ls) (lines-append (text ++ line_feed ∷ []) more end ∙ ap (λ (ls : List (List ℕ)). ls ++ lines more) (one_line text text_free))
+          ∙ ap (λ (l : List ℕ). l ∷ map without_key (lines more)) (without_field key line is)
+          ∙ ap (λ (ls : List (List ℕ)). line ∷ ls) rest.are;
+    }
+
+written_lines : (going : Going) → IsKeyed going.mode → is_field going.key ≡ true → (some : List (List ℕ)) → Frees some → AreLines (written lines_steps (near going.mode going.search.limit) going some) some
+unfolding written
+written_lines going keyed is [] free = none_are [] refl
+written_lines going keyed is (line ∷ others) free =
+    let many : ℕ = near going.mode going.search.limit in
+    let key_is = line_field going line is in
+    let rest = written_lines (below going line) keyed (below_field going.mode going.key (key_of_line going line) is key_is) others free.1 in
+    let hands = keyed_hands going.mode keyed in
+    one_more (key_of_line going line) line _ (written lines_steps many (below going line) others) others key_is free.0
+    (ap (λ (text : List ℕ). text ++ written lines_steps many (line_next lines_steps many going line) others) (handed_said going line hands ∙ ap (λ (text : List ℕ). text ++ line_feed ∷ []) (text_of going.mode keyed going line))
+    ∙ ap (λ (next : Going). ((key_of_line going line ++ tab ∷ line) ++ line_feed ∷ []) ++ written lines_steps many next others) (handed_next going line hands))
+    rest
+
+pub without_keys : (going : Going) (stream : List ℕ) → IsKeyed going.mode → is_field going.key ≡ true → map without_key (lines (output lines_steps going (near going.mode going.search.limit) stream)) ≡ lines stream
+without_keys going stream keyed is =
+    ap (λ (text : List ℕ). map without_key (lines text)) (output_is (near going.mode going.search.limit) going keyed stream) ∙ (written_lines going keyed is (lines stream) (lines_free stream)).are

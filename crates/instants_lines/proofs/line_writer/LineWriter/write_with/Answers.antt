@@ -1,0 +1,48 @@
+use Rattle.std.proofs.Common.{◌≡◌, ℕ, ◌-◌, List, ◌++◌, length, take, drop, sym, ap, ◌∙◌}
+use Rattle.std.proofs.lemmas.List.{take_rest}
+use Rattle.instants_answers.specs.Text.{moment_text}
+use Rattle.instants_timeline.specs.Refusal.{year}
+use Rattle.instants_lines.specs.Showing.{search_in}
+use Rattle.instants_lines.specs.Dates.{place_of_date, replaced}
+use Rattle.instants_lines.proofs.Outside.{unwritten, written}
+use Rattle.instants_lines.proofs.line_writer.LineWriter.write_with.Goals as goal
+
+pub returns-in_default-clause-written : goal.returns-in_default-clause-written
+unfolding place_of_date
+returns-in_default-clause-written g c =
+    let shown = sym c.in_default.ensures.shown in
+    let same = unwritten (search_in c.args.self.now.dates.now c.args.self.now.given) c.args.line.now c.args.date.now year c.requires.found (rw c.moment.ensures at shown) in
+    rw same c.write_all.ensures.written
+
+pub returns-in_default-clause-front : goal.returns-in_default-clause-front
+unfolding place_of_date
+returns-in_default-clause-front g c =
+    let shown = sym c.in_default.ensures.shown in
+    let same = unwritten (search_in c.args.self.now.dates.now c.args.self.now.given) c.args.line.now c.args.date.now year c.requires.found (rw c.moment.ensures at shown) in
+    rw same c.write_all.ensures.front
+
+pub returns-clause-written : goal.returns-clause-written
+unfolding place_of_date
+returns-clause-written g c =
+    let shown = sym c.in-Some.ensures.shown in
+    let same = written (search_in c.args.self.now.dates.now c.args.self.now.given) c.args.line.now c.args.date.now c.in-Some.moment c.requires.found (rw c.moment.ensures at shown) in
+    let line = c.args.line.now in
+    let end = c.args.date.now.end in
+    let back : drop end line ≡ take (length line - end) (drop end line) = sym (take_rest line end) in
+    let text : c.as_bytes.result.now ≡ moment_text c.in-Some.moment = c.as_bytes.ensures.bytes ∙ c.rfc3339_line-text.ensures.line in
+    let parts : replaced (search_in c.args.self.now.dates.now c.args.self.now.given) line ≡ take c.args.date.now.start line ++ (c.as_bytes.result.now ++ take (length line - end) (drop end line)) =
+    same ∙ ap (λ (t : List ℕ). take c.args.date.now.start line ++ (t ++ drop end line)) (sym text) ∙ ap (λ (b : List ℕ). take c.args.date.now.start line ++ (c.as_bytes.result.now ++ b)) back in
+    rw parts c.write_three.ensures.written
+
+pub returns-clause-front : goal.returns-clause-front
+unfolding place_of_date
+returns-clause-front g c =
+    let shown = sym c.in-Some.ensures.shown in
+    let same = written (search_in c.args.self.now.dates.now c.args.self.now.given) c.args.line.now c.args.date.now c.in-Some.moment c.requires.found (rw c.moment.ensures at shown) in
+    let line = c.args.line.now in
+    let end = c.args.date.now.end in
+    let back : drop end line ≡ take (length line - end) (drop end line) = sym (take_rest line end) in
+    let text : c.as_bytes.result.now ≡ moment_text c.in-Some.moment = c.as_bytes.ensures.bytes ∙ c.rfc3339_line-text.ensures.line in
+    let parts : replaced (search_in c.args.self.now.dates.now c.args.self.now.given) line ≡ take c.args.date.now.start line ++ (c.as_bytes.result.now ++ take (length line - end) (drop end line)) =
+    same ∙ ap (λ (t : List ℕ). take c.args.date.now.start line ++ (t ++ drop end line)) (sym text) ∙ ap (λ (b : List ℕ). take c.args.date.now.start line ++ (c.as_bytes.result.now ++ b)) back in
+    rw parts c.write_three.ensures.front

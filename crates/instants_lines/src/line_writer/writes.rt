@@ -1,0 +1,77 @@
+//! The lines of a stream, written one after another.
+
+use crate::explained::write_explained;
+use crate::line_writer::LineWriter;
+use crate::mode::Mode;
+use instants_stream::{ByteWriter, DeviceFailed, WritesLines};
+
+impl WritesLines for LineWriter<'_, '_> {
+    ghost use Rattle.instants_lines.specs.Going.{Going, lines_steps};
+    ghost use Rattle.instants_lines.specs.Writing.{going_of};
+
+    ghost State = { Going };
+
+    ghost state = { λ w. going_of w };
+
+    ghost steps = { lines_steps };
+
+    #[inline(always)]
+    fn write_line<W: ByteWriter>(
+        &mut self,
+        line: &[u8],
+        writer: &mut W,
+    ) -> Result<(), DeviceFailed> {
+        match self.mode {
+            Mode::Key | Mode::Carry => self.write_keyed(line, writer),
+            Mode::Replace => self.write_replaced_line(line, writer),
+            Mode::Explain => write_explained(self.dates, line, writer),
+        }
+    }
+
+    #[cold]
+    #[inline(never)]
+    fn write_last_line<W: ByteWriter>(
+        &mut self,
+        line: &[u8],
+        writer: &mut W,
+    ) -> Result<(), DeviceFailed> {
+        match self.mode {
+            Mode::Key | Mode::Carry => self.write_keyed(line, writer),
+            Mode::Replace => self.write_replaced(line, writer),
+            Mode::Explain => write_explained(self.dates, line, writer),
+        }
+    }
+
+    #[cold]
+    #[inline(never)]
+    fn begin_line<W: ByteWriter>(
+        &mut self,
+        front: &[u8],
+        writer: &mut W,
+    ) -> Result<(), DeviceFailed> {
+        match self.mode {
+            Mode::Key | Mode::Carry => self.begin_keyed(front, writer),
+            Mode::Replace => self.write_replaced(front, writer),
+            Mode::Explain => Ok(()),
+        }
+    }
+
+    fn hands_on(&self) -> bool {
+        self.mode != Mode::Explain
+    }
+
+    fn end_line<W: ByteWriter>(&self, writer: &mut W) -> Result<(), DeviceFailed> {
+        match self.mode {
+            Mode::Key | Mode::Carry | Mode::Replace => writer.write_all(b"\n"),
+            Mode::Explain => writer.write_all(b"! long\n"),
+        }
+    }
+
+    fn end_last_line<W: ByteWriter>(&self, writer: &mut W) -> Result<(), DeviceFailed> {
+        match self.mode {
+            Mode::Key | Mode::Carry => writer.write_all(b"\n"),
+            Mode::Replace => Ok(()),
+            Mode::Explain => writer.write_all(b"! long\n"),
+        }
+    }
+}
