@@ -20,7 +20,7 @@ ROOT = pathlib.Path(__file__).resolve().parent.parent
 PAGE = ROOT / "docs" / "CALLS.md"
 FAMILIES = ("calendar", "datetime", "description", "parsing", "instants")
 # Crates whose calls no named crate gives on, but which have users of their own.
-ALONE = ("instants_found", "instants_lines", "instants_memory", "instants_c")
+ALONE = ("instants_edges", "instants_fronts", "instants_found", "instants_lines", "instants_memory", "instants_c")
 # The calls of the crates below these of which CLAIMS.md speaks: all that a crate gives on, or some of them.
 BELOW = {
     "parsing_combinator": {"digit_chunk", "nine_digits"},
