@@ -78,10 +78,18 @@ const KEYS: &str = "\
 +00:00|-|100|rfc3339 => [30/Mar/2024:15:30:37 -0700] GET /?q=2024-05-01T10:00:00Z => ! doubt
 +00:00|+00:00|100|v3|[day]/[month repr:short]/[year]:[hour]:[minute]:[second].[subsecond] => Mar 30 22:15:10 lb haproxy[7]: 10.0.1.2:33317 [30/Mar/2024:22:15:09.123] http-in => ! doubt
 +00:00|+00:00|100|v3|\\[[day]/[month repr:short]/[year]:[hour]:[minute]:[second].[subsecond] => Mar 30 22:15:10 lb haproxy[7]: 10.0.1.2:33317 [30/Mar/2024:22:15:09.123] http-in => 2024-03-30T22:15:09.123000000Z
-+00:00|-|100|rfc3339 => {\"msg\":\"retry in 00:00:05\",\"time\":\"2024-05-01T10:00:00Z\"} => 2024-05-01T10:00:00.000000000Z";
++00:00|-|100|rfc3339 => {\"msg\":\"retry in 00:00:05\",\"time\":\"2024-05-01T10:00:00Z\"} => 2024-05-01T10:00:00.000000000Z
+# A year and a time of day that are given once, and what a line says against them.
++00:00|+00:00|100|year|2024|strftime|%m-%d %T => 2019-05-01 10:00:00 up => ! doubt
++00:00|+00:00|100|year|2024|strftime|%b %e %T => May  1 10:00:00 2019 up => ! doubt
++00:00|+00:00|100|year|2024|rfc3339|strftime|%b %e %T => Mar 30 22:15:10 host app: 2024-03-30T22:15:09Z up => 2024-03-30T22:15:10.000000000Z
++00:00|+00:00|100|time|00:00|strftime|%F => 2024-05-01 opened => 2024-05-01T00:00:00.000000000Z
++00:00|+00:00|100|time|00:00|strftime|%F => 2024-05-01 10:00:00 opened => ! doubt
++00:00|+00:00|100|time|00:00|strftime|%d/%b/%Y => [10/Oct/2000:13:55:36 -0700] x => ! doubt
++00:00|+02:00|100|time|12:30|strftime|%F => 17;2024-05-01;12,50 => 2024-05-01T10:30:00.000000000Z";
 
 // Words, a stream, and the output.
-static RUNS: [(&str, &str, &str); 10] = [
+static RUNS: [(&str, &str, &str); 12] = [
     (
         "replace|+00:00|-|8|rfc3339",
         "2024-05-01T10:00:00+02:00 a line longer than the limit",
@@ -132,6 +140,17 @@ static RUNS: [(&str, &str, &str); 10] = [
         "2024-05-01 10:00:00 up\n  trace\n2024-05-01 10:00:01+02:00 up\n  trace",
         "2024-05-01T10:00:00.000000000Z\t2024-05-01 10:00:00 up\n2024-05-01T10:00:00.000000000Z\t  trace\n\
          ! doubt\t2024-05-01 10:00:01+02:00 up\n! doubt\t  trace\n",
+    ),
+    (
+        "key|+00:00|+00:00|100|year|2023|strftime|%b %e %T",
+        "Dec 31 23:59:59 h\nJan  1 00:00:01 h\nDec 31 23:59:58 h",
+        "2023-12-31T23:59:59.000000000Z\tDec 31 23:59:59 h\n2024-01-01T00:00:01.000000000Z\tJan  1 00:00:01 h\n\
+         2023-12-31T23:59:58.000000000Z\tDec 31 23:59:58 h\n",
+    ),
+    (
+        "key|+00:00|+00:00|100|year|2023|strftime|%b %e %T|strftime|%F %T",
+        "2024-02-28 10:00:00 h\nFeb 29 10:00:00 h",
+        "2024-02-28T10:00:00.000000000Z\t2024-02-28 10:00:00 h\n2024-02-29T10:00:00.000000000Z\tFeb 29 10:00:00 h\n",
     ),
 ];
 
