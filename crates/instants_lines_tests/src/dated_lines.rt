@@ -2,10 +2,8 @@
 
 ghost use Rattle.std.specs.Prelude.{◌≡◌, false};
 
-use crate::ordered_lines::target_of;
 use instants::{
-    ByteReader, ByteWriter, CutReader, CutWriter, NewFault, ProgramFault, RunFault, SourceText,
-    Timeline, WordsFault,
+    ByteReader, ByteWriter, CutReader, CutWriter, NewFault, ProgramFault, RunFault, WordsFault,
 };
 use instants_lines::{LinesFault, run_words};
 use std::alloc::{AllocError, Global};
@@ -188,22 +186,6 @@ pub(crate) fn refused_none(alloc: Global) -> Option<LinesFault<'static>> {
     let mut reader = CutReader::new(b"x", 7, Some(0));
     let mut writer = CutWriter::new(&mut [], 7, None);
     run_words_on(alloc, &[], &mut reader, &mut writer).err()
-}
-
-// What a timeline is made of.
-#[test]
-fn offsets_of_a_timeline(rt: HostRuntime) -> Result<(), Fail> {
-    let target = target_of(&rt, 330);
-    let assumed = target_of(&rt, -60);
-    match Timeline::new(rt.alloc(), &[SourceText::Rfc3339], target, Some(assumed)) {
-        Ok(timeline) => {
-            assert!(rt; timeline.target().offset() == target);
-            assert!(rt; timeline.assumed() == Some(assumed));
-            assert!(rt; timeline.into_sources().len() == 1);
-            Ok(())
-        }
-        Err(_) => Err(Fail::from(AllocError)),
-    }
 }
 
 // Where memory is refused no line is written.

@@ -5,38 +5,38 @@ use instants_lines::LinesFault;
 use std::alloc::Global;
 
 // Words parted by bars, and the sentence behind the name of the program.
-static ROWS: [(&str, &str); 62] = [
+static ROWS: [(&str, &str); 74] = [
     (
         "",
-        "\"\": no such mode; there are key, carry, replace, explain",
+        "\"\": no such mode; there are key, carry, replace, explain, locate",
     ),
     (
         "keys|+00:00|-|100|rfc3339",
-        "\"keys\": no such mode; there are key, carry, replace, explain",
+        "\"keys\": no such mode; there are key, carry, replace, explain, locate",
     ),
     (
         "KEY|rfc3339",
-        "\"KEY\": no such mode; there are key, carry, replace, explain",
+        "\"KEY\": no such mode; there are key, carry, replace, explain, locate",
     ),
     (
         "+00:00|-|100|rfc3339",
-        "\"+00:00\": no such mode; there are key, carry, replace, explain",
+        "\"+00:00\": no such mode; there are key, carry, replace, explain, locate",
     ),
     (
         "rfc3339",
-        "\"rfc3339\": no such mode; there are key, carry, replace, explain",
+        "\"rfc3339\": no such mode; there are key, carry, replace, explain, locate",
     ),
     (
         "--help|key",
-        "\"--help\": no such mode; there are key, carry, replace, explain",
+        "\"--help\": no such mode; there are key, carry, replace, explain, locate",
     ),
     (
         "-h|rfc3339",
-        "\"-h\": no such mode; there are key, carry, replace, explain",
+        "\"-h\": no such mode; there are key, carry, replace, explain, locate",
     ),
     (
         "access.log",
-        "\"access.log\": no such mode; there are key, carry, replace, explain",
+        "\"access.log\": no such mode; there are key, carry, replace, explain, locate",
     ),
     (
         "key",
@@ -176,51 +176,51 @@ static ROWS: [(&str, &str); 62] = [
     ),
     (
         "key|time|12:30|year|2024|rfc3339",
-        "source 1: \"year\": no such source; there are rfc3339, rfc2822, iso8601, v1, v2, v3, strftime; an offset before the sources is +HH:MM, -HH:MM, Z or UTC",
+        "source 1: \"year\": no such source; there are rfc3339, rfc2822, iso8601, v1, v2, v3, strftime, and the names of --help; an offset before the sources is +HH:MM, -HH:MM, Z or UTC",
     ),
     (
         "key|Z|-|100|year|2024|rfc3339|year",
-        "source 2: \"year\": no such source; there are rfc3339, rfc2822, iso8601, v1, v2, v3, strftime",
+        "source 2: \"year\": no such source; there are rfc3339, rfc2822, iso8601, v1, v2, v3, strftime, and the names of --help",
     ),
     (
         "carry|+00:00|-|100|RFC3339",
-        "source 1: \"RFC3339\": no such source; there are rfc3339, rfc2822, iso8601, v1, v2, v3, strftime",
+        "source 1: \"RFC3339\": no such source; there are rfc3339, rfc2822, iso8601, v1, v2, v3, strftime, and the names of --help",
     ),
     (
         "carry|+00:00|-|100|rfc3339|rfc-2822",
-        "source 2: \"rfc-2822\": no such source; there are rfc3339, rfc2822, iso8601, v1, v2, v3, strftime",
+        "source 2: \"rfc-2822\": no such source; there are rfc3339, rfc2822, iso8601, v1, v2, v3, strftime, and the names of --help",
     ),
     (
         "carry|+00:00|-|100|v2|x|v4|x",
-        "source 2: \"v4\": no such source; there are rfc3339, rfc2822, iso8601, v1, v2, v3, strftime",
+        "source 2: \"v4\": no such source; there are rfc3339, rfc2822, iso8601, v1, v2, v3, strftime, and the names of --help",
     ),
     (
         "carry|rfc3339|",
-        "source 2: \"\": no such source; there are rfc3339, rfc2822, iso8601, v1, v2, v3, strftime",
+        "source 2: \"\": no such source; there are rfc3339, rfc2822, iso8601, v1, v2, v3, strftime, and the names of --help",
     ),
     (
         "carry|+00:00|-|100|200|rfc3339",
-        "source 1: \"200\": no such source; there are rfc3339, rfc2822, iso8601, v1, v2, v3, strftime",
+        "source 1: \"200\": no such source; there are rfc3339, rfc2822, iso8601, v1, v2, v3, strftime, and the names of --help",
     ),
     (
         "carry|+00:00|-|100|%d/%b/%Y",
-        "source 1: \"%d/%b/%Y\": no such source; there are rfc3339, rfc2822, iso8601, v1, v2, v3, strftime",
+        "source 1: \"%d/%b/%Y\": no such source; there are rfc3339, rfc2822, iso8601, v1, v2, v3, strftime, and the names of --help",
     ),
     (
         "carry|utc|rfc3339",
-        "source 1: \"utc\": no such source; there are rfc3339, rfc2822, iso8601, v1, v2, v3, strftime; an offset before the sources is +HH:MM, -HH:MM, Z or UTC",
+        "source 1: \"utc\": no such source; there are rfc3339, rfc2822, iso8601, v1, v2, v3, strftime, and the names of --help; an offset before the sources is +HH:MM, -HH:MM, Z or UTC",
     ),
     (
         "carry|Europe/Berlin|-|100|rfc3339",
-        "source 1: \"Europe/Berlin\": no such source; there are rfc3339, rfc2822, iso8601, v1, v2, v3, strftime; an offset before the sources is +HH:MM, -HH:MM, Z or UTC",
+        "source 1: \"Europe/Berlin\": no such source; there are rfc3339, rfc2822, iso8601, v1, v2, v3, strftime, and the names of --help; an offset before the sources is +HH:MM, -HH:MM, Z or UTC",
     ),
     (
         "carry|RFC3339",
-        "source 1: \"RFC3339\": no such source; there are rfc3339, rfc2822, iso8601, v1, v2, v3, strftime; an offset before the sources is +HH:MM, -HH:MM, Z or UTC",
+        "source 1: \"RFC3339\": no such source; there are rfc3339, rfc2822, iso8601, v1, v2, v3, strftime, and the names of --help; an offset before the sources is +HH:MM, -HH:MM, Z or UTC",
     ),
     (
         "carry|+00:00|none|100|rfc3339",
-        "source 1: \"none\": no such source; there are rfc3339, rfc2822, iso8601, v1, v2, v3, strftime; an offset before the sources is +HH:MM, -HH:MM, Z or UTC",
+        "source 1: \"none\": no such source; there are rfc3339, rfc2822, iso8601, v1, v2, v3, strftime, and the names of --help; an offset before the sources is +HH:MM, -HH:MM, Z or UTC",
     ),
     (
         "carry|rfc3339|app.log",
@@ -254,10 +254,58 @@ static ROWS: [(&str, &str); 62] = [
         "key|v1|[year",
         "source 1: unclosed opening bracket at byte index 0",
     ),
+    (
+        "key|+00:00|-|100|label|a\tb|rfc3339",
+        "\"a\tb\": no label; modes key and carry take one, without tabs and line feeds",
+    ),
+    (
+        "replace|+00:00|-|100|label|web|rfc3339",
+        "\"web\": no label; modes key and carry take one, without tabs and line feeds",
+    ),
+    (
+        "locate|label|web|rfc3339",
+        "\"web\": no label; modes key and carry take one, without tabs and line feeds",
+    ),
+    (
+        "key|label|web",
+        "no source is named; there are rfc3339, rfc2822, iso8601, v1, v2, v3, strftime",
+    ),
+    (
+        "key|mysql|strftime",
+        "source 2: \"strftime\" needs a description in the next argument",
+    ),
+    (
+        "key|+00:00|+00:00|100|strftime|%b %e %T",
+        "source 1 names no moment: it has no year",
+    ),
+    (
+        "key|+00:00|+00:00|100|rfc3339|strftime|%F",
+        "source 2 names no moment: it has no hour",
+    ),
+    (
+        "key|+00:00|-|100|strftime|%F %T",
+        "source 1 names no moment: it has no offset",
+    ),
+    (
+        "key|+00:00|+00:00|100|v3|%Y-%m-%d",
+        "source 1 names no moment: it has no year",
+    ),
+    (
+        "key|+00:00|+00:00|100|year|2024|strftime|%y/%m/%d %T",
+        "source 1 names no moment: it has no century",
+    ),
+    (
+        "key|+00:00|+00:00|100|strftime|%Y %H",
+        "source 1 names no moment: it has no day",
+    ),
+    (
+        "explain|+00:00|-|100|iso8601|mysql",
+        "source 2 names no moment: it has no offset",
+    ),
 ];
 
 const USAGE: &str =
-    "usage: instants-lines MODE [TARGET [ASSUMED [LIMIT]]] [year N] [time HH:MM] SOURCE...";
+    "usage: instants-lines MODE [TARGET [ASSUMED [LIMIT]]] [year N] [time HH:MM] [label TEXT] SOURCE...";
 
 // Whether words were refused with this sentence, and with status 2.
 fn is_refused_as(alloc: Global, fault: Option<LinesFault>, sentence: &str) -> bool {
