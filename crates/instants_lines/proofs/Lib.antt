@@ -1,6 +1,6 @@
 pub mod Outside
 pub mod Sayings
-pub mod Decimals
+pub mod Digits
 pub mod Explaining
 pub mod Keyed
 mod Saying
@@ -11,3 +11,5 @@ pub mod Carried
 pub mod Handed
 pub mod Fields
 pub mod WithoutKeys
+pub mod InDoubt
+pub mod Lacks

@@ -1,6 +1,7 @@
 -- The first source that can name no moment.
 use Rattle.std.specs.Prelude.{ℕ, ◌+◌, List, [], ◌∷◌, Option, None, Some}
-use Rattle.instants_fronts.specs.Lacks.{Lack, lack}
+use Rattle.instants_fronts.specs.Lacks.{lack}
+use Rattle.instants_fronts.specs.declared.lacks.Lack.{Lack}
 use Rattle.instants_fronts.specs.declared.given.Given.{Given}
 use Rattle.instants_sources.specs.Grammar.{Grammar}
 use Rattle.instants_lines.specs.Dates.{Search}

@@ -5,7 +5,8 @@ use Rattle.instants_timeline.specs.ProgramText.{text_of}
 use Rattle.instants_timeline.specs.ProgramText as instants
 use Rattle.instants_lines_words.specs.Wrong.{wrong_of}
 use Rattle.instants_lines_words.specs.WrongText.{wrong_text}
-use Rattle.instants_fronts.specs.Lacks.{Lack, Century, Year, Day, Hour, Offset}
+use Rattle.instants_fronts.specs.declared.lacks.Lack.{Lack}
+use Rattle.instants_fronts.specs.declared.lacks.Lack.TheVariants.{Century, Year, Day, Hour, Offset}
 use Rattle.instants_lines.specs.declared.lacking.Lacking.{Lacking}
 use Rattle.instants_lines.specs.declared.lines_fault.LinesFault.{LinesFault}
 use Rattle.instants_lines.specs.declared.lines_fault.LinesFault.TheVariants as lines

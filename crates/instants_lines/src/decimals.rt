@@ -5,7 +5,7 @@ ghost use Rattle.base.specs.Bytes.{tab};
 use instants_answers::Answer;
 
 /// Adds a number in decimal.
-#[tactic(auto, using(crate::proofs::Decimals::decimal_steps))]
+#[tactic(auto, using(crate::proofs::Digits::decimal_steps))]
 pub(crate) fn push_decimal(answer: &mut Answer, number: usize)
     requires { length answer.old + length (decimal number) ≤ 64 }
     ensures { answer.new ≡ answer.old ++ decimal number }
@@ -19,7 +19,7 @@ pub(crate) fn push_decimal(answer: &mut Answer, number: usize)
 }
 
 /// A number and a tab.
-#[tactic(auto, using(crate::proofs::Decimals::decimal_steps))]
+#[tactic(auto, using(crate::proofs::Digits::decimal_steps))]
 pub(crate) fn numbered(number: usize) -> Answer
     ensures { result ≡ decimal number ++ tab ∷ [] }
 {

@@ -1,22 +1,23 @@
 //! Where the date of a line is, and by which source, or why it is in doubt.
-ghost use Rattle.std.specs.Prelude.{◌≡◌, ◌<◌, ◌≤◌, ◌+◌, ◌^◌, [], ◌∷◌, ◌++◌, length, true, false, OnOk, OnErr};
+ghost use Rattle.std.specs.Prelude.{◌≡◌, ◌<◌, ◌≤◌, ◌+◌, ◌^◌, [], ◌∷◌, ◌++◌, length, true, false, Some, IfSome, OnOk, OnErr};
 ghost use Rattle.std.specs.Io.KnownBytes.{Appends};
 ghost use Rattle.instants_stream.specs.Told.{AppendsFront};
 ghost use Rattle.instants_found.specs.Doubts.{doubt_of};
-ghost use Rattle.instants_lines.specs.Dates.{date_in};
-ghost use Rattle.instants_lines.specs.Showing.{search_in};
-ghost use Rattle.instants_lines.specs.Located.{doubt_text, doubts_from, finding_text, range_text, read_text, reason};
+ghost use Rattle.instants_found.specs.Within.{IsWithin};
+ghost use Rattle.instants_lines.specs.Dates.{doubt, key_of_date};
+ghost use Rattle.instants_lines.specs.Showing.{search_in, setting_in};
+ghost use Rattle.instants_lines.specs.Located.{doubt_text, doubts_of_first, finding_text, range_text, read_text, reason};
 
 use crate::date_sources::DateSources;
 use crate::decimals::{numbered, push_decimal};
 use crate::parts::{write_both, write_three};
 use instants_answers::Answer;
-use instants_found::{Doubt, Finding};
+use instants_found::{Doubt, Doubted, Finding, Found};
 use instants_fronts::Given;
 use instants_stream::{ByteWriter, DeviceFailed};
 
 // The bytes from one place up to another: the first and the last, counted from 1.
-#[tactic(auto, using(crate::proofs::Decimals::decimal_steps))]
+#[tactic(auto, using(crate::proofs::Digits::decimal_steps))]
 fn range(start: usize, end: usize) -> Answer
     requires { start + 1 < 2 ^ 64 }
     ensures { result ≡ range_text start end }
@@ -66,7 +67,27 @@ fn write_read<W: ByteWriter>(
     )
 }
 
-// Writes what a source has read that is in doubt, and why.
+// Writes what a source of this number has read that is in doubt, and why.
+fn write_doubted<W: ByteWriter>(
+    number: usize,
+    one: &Doubted,
+    writer: &mut W,
+) -> Result<(), DeviceFailed>
+    requires works { W.failed writer.old ≡ false }
+    requires number { number + 1 < 2 ^ 64 }
+    requires start { one.now.start + 1 < 2 ^ 64 }
+    ensures written { OnOk result
+        (Appends (W.held writer.old) (W.held writer.new) (doubt_text number (Some one.now))) }
+    ensures ok { OnOk result (W.failed writer.new ≡ W.failed writer.old) }
+    ensures front { OnErr result
+        (AppendsFront (W.held writer.old) (W.held writer.new) (doubt_text number (Some one.now))) }
+    ensures err { OnErr result (W.failed writer.new ≡ true) }
+{
+    write_read(number, one.start, one.end, writer)?;
+    write_both(writer, b"\t", reason(one.doubt))
+}
+
+// The same of what a source has read in a line, where that is in doubt.
 fn write_doubt<W: ByteWriter>(
     dates: &DateSources<'_>,
     given: &Given,
@@ -86,10 +107,7 @@ fn write_doubt<W: ByteWriter>(
     ensures err { OnErr result (W.failed writer.new ≡ true) }
 {
     match dates.doubt_of(given, line, number) {
-        Some(one) => {
-            write_read(number, one.start, one.end, writer)?;
-            write_both(writer, b"\t", reason(one.doubt))
-        }
+        Some(one) => write_doubted(number, &one, writer),
         None => Ok(()),
     }
 }
@@ -103,18 +121,63 @@ fn write_doubts<W: ByteWriter>(
 ) -> Result<(), DeviceFailed>
     requires { W.failed writer.old ≡ false }
     ensures written { OnOk result (Appends (W.held writer.old) (W.held writer.new)
-        (doubts_from (search_in dates.now given.now) line.now 0
-        (search_in dates.now given.now).setting.sources)) }
+        (doubts_of_first (search_in dates.now given.now) line.now
+        (length (search_in dates.now given.now).setting.sources))) }
     ensures ok { OnOk result (W.failed writer.new ≡ W.failed writer.old) }
     ensures front { OnErr result (AppendsFront (W.held writer.old) (W.held writer.new)
-        (doubts_from (search_in dates.now given.now) line.now 0
-        (search_in dates.now given.now).setting.sources)) }
+        (doubts_of_first (search_in dates.now given.now) line.now
+        (length (search_in dates.now given.now).setting.sources))) }
     ensures err { OnErr result (W.failed writer.new ≡ true) }
 {
-    for number in 0..dates.sources().len() {
+    let sources = dates.sources();
+    for number in 0..sources.len() {
         write_doubt(dates, given, line, number, writer)?;
     }
     Ok(())
+}
+
+// Writes the key of a date, and what has read it.
+#[tactic(auto, unfolding(crate::specs::Dates::place_of_date))]
+fn write_date<W: ByteWriter>(
+    dates: &DateSources<'_>,
+    date: &Found,
+    writer: &mut W,
+) -> Result<(), DeviceFailed>
+    requires works { W.failed writer.old ≡ false }
+    requires start { date.now.start + 1 < 2 ^ 64 }
+    requires source { date.now.source + 1 < 2 ^ 64 }
+    ensures written { OnOk result (Appends (W.held writer.old) (W.held writer.new)
+        (key_of_date (setting_in dates.now) date.now
+        ++ read_text date.now.source date.now.start date.now.end)) }
+    ensures ok { OnOk result (W.failed writer.new ≡ W.failed writer.old) }
+    ensures front { OnErr result (AppendsFront (W.held writer.old) (W.held writer.new)
+        (key_of_date (setting_in dates.now) date.now
+        ++ read_text date.now.source date.now.start date.now.end)) }
+    ensures err { OnErr result (W.failed writer.new ≡ true) }
+{
+    writer.write_all(dates.answer_named(&date.moment).as_bytes())?;
+    write_read(date.source, date.start, date.end, writer)
+}
+
+// Writes that a date is in doubt, and what all sources have read that is.
+fn write_in_doubt<W: ByteWriter>(
+    dates: &DateSources<'_>,
+    given: &Given,
+    line: &[u8],
+    writer: &mut W,
+) -> Result<(), DeviceFailed>
+    requires { W.failed writer.old ≡ false }
+    ensures written { OnOk result (Appends (W.held writer.old) (W.held writer.new)
+        (doubt ++ doubts_of_first (search_in dates.now given.now) line.now
+        (length (search_in dates.now given.now).setting.sources))) }
+    ensures ok { OnOk result (W.failed writer.new ≡ W.failed writer.old) }
+    ensures front { OnErr result (AppendsFront (W.held writer.old) (W.held writer.new)
+        (doubt ++ doubts_of_first (search_in dates.now given.now) line.now
+        (length (search_in dates.now given.now).setting.sources))) }
+    ensures err { OnErr result (W.failed writer.new ≡ true) }
+{
+    writer.write_all(b"! doubt")?;
+    write_doubts(dates, given, line, writer)
 }
 
 /// Writes the key of a line by its date, and what has read it.
@@ -126,7 +189,8 @@ pub(crate) fn write_finding<W: ByteWriter>(
     writer: &mut W,
 ) -> Result<(), DeviceFailed>
     requires works { W.failed writer.old ≡ false }
-    requires is { finding.now ≡ date_in (search_in dates.now given.now) line.now }
+    requires within { IfSome finding.now
+        (IsWithin (length line.now) (length (setting_in dates.now).sources)) }
     ensures written { OnOk result (Appends (W.held writer.old) (W.held writer.new)
         (finding_text (search_in dates.now given.now) line.now finding.now)) }
     ensures ok { OnOk result (W.failed writer.new ≡ W.failed writer.old) }
@@ -135,14 +199,8 @@ pub(crate) fn write_finding<W: ByteWriter>(
     ensures err { OnErr result (W.failed writer.new ≡ true) }
 {
     match finding {
-        Some(Finding::There(date)) => {
-            writer.write_all(dates.answer_named(&date.moment).as_bytes())?;
-            write_read(date.source, date.start, date.end, writer)
-        }
-        Some(Finding::Doubtful) => {
-            writer.write_all(b"! doubt")?;
-            write_doubts(dates, given, line, writer)
-        }
+        Some(Finding::There(date)) => write_date(dates, date, writer),
+        Some(Finding::Doubtful) => write_in_doubt(dates, given, line, writer),
         None => writer.write_all(b"! none"),
     }
 }

@@ -87,43 +87,48 @@ fn write_fed<W: ByteWriter>(writer: &mut W, line: &[u8]) -> Result<(), DeviceFai
     writer.write_front(&LINE_FEED, 1)
 }
 
-/// Writes a label and a tab, where there is a label.
+/// Writes a line after its label.
 #[inline(always)]
-pub(crate) fn write_label<W: ByteWriter>(
-    writer: &mut W,
-    label: Option<&str>,
-) -> Result<(), DeviceFailed>
-    requires { W.failed writer.old ≡ false }
-    ensures written { OnOk result (Appends (W.held writer.old) (W.held writer.new)
-        (label_front (option_map (λ text. text.now) label))) }
-    ensures ok { OnOk result (W.failed writer.new ≡ W.failed writer.old) }
-    ensures front { OnErr result (AppendsFront (W.held writer.old) (W.held writer.new)
-        (label_front (option_map (λ text. text.now) label))) }
-    ensures err { OnErr result (W.failed writer.new ≡ true) }
-{
-    match label {
-        Some(text) => write_both(writer, text.as_bytes(), b"\t"),
-        None => Ok(()),
-    }
-}
-
-// Writes a line after its label, and a line feed.
-#[inline(always)]
-fn write_labelled<W: ByteWriter>(
+#[tactic(auto, using(std::proofs::lemmas::List::append_assoc))]
+pub(crate) fn write_labelled<W: ByteWriter>(
     writer: &mut W,
     label: Option<&str>,
     line: &[u8],
 ) -> Result<(), DeviceFailed>
     requires { W.failed writer.old ≡ false }
     ensures written { OnOk result (Appends (W.held writer.old) (W.held writer.new)
-        (label_front (option_map (λ text. text.now) label) ++ (line.now ++ line_feed ∷ []))) }
+        (label_front (option_map (λ text. text.now) label.entry) ++ line.now)) }
     ensures ok { OnOk result (W.failed writer.new ≡ W.failed writer.old) }
     ensures front { OnErr result (AppendsFront (W.held writer.old) (W.held writer.new)
-        (label_front (option_map (λ text. text.now) label) ++ (line.now ++ line_feed ∷ []))) }
+        (label_front (option_map (λ text. text.now) label.entry) ++ line.now)) }
     ensures err { OnErr result (W.failed writer.new ≡ true) }
 {
-    write_label(writer, label)?;
-    write_fed(writer, line)
+    match label {
+        Some(text) => write_three(writer, text.as_bytes(), b"\t", line),
+        None => writer.write_all(line),
+    }
+}
+
+// The same, and a line feed.
+#[inline(always)]
+#[tactic(auto, using(std::proofs::lemmas::List::append_assoc))]
+fn write_labelled_line<W: ByteWriter>(
+    writer: &mut W,
+    label: Option<&str>,
+    line: &[u8],
+) -> Result<(), DeviceFailed>
+    requires { W.failed writer.old ≡ false }
+    ensures written { OnOk result (Appends (W.held writer.old) (W.held writer.new)
+        (label_front (option_map (λ text. text.now) label.entry) ++ (line.now ++ line_feed ∷ []))) }
+    ensures ok { OnOk result (W.failed writer.new ≡ W.failed writer.old) }
+    ensures front { OnErr result (AppendsFront (W.held writer.old) (W.held writer.new)
+        (label_front (option_map (λ text. text.now) label.entry) ++ (line.now ++ line_feed ∷ []))) }
+    ensures err { OnErr result (W.failed writer.new ≡ true) }
+{
+    match label {
+        Some(text) => write_parts(writer, text.as_bytes(), b"\t", line),
+        None => write_fed(writer, line),
+    }
 }
 
 // Writes a tab, a line after its label, and a line feed.
@@ -135,14 +140,14 @@ fn write_tabbed<W: ByteWriter>(
 ) -> Result<(), DeviceFailed>
     requires { W.failed writer.old ≡ false }
     ensures written { OnOk result (Appends (W.held writer.old) (W.held writer.new)
-        (tab ∷ (label_front (option_map (λ text. text.now) label) ++ (line.now ++ line_feed ∷ [])))) }
+        (tab ∷ (label_front (option_map (λ text. text.now) label.entry) ++ (line.now ++ line_feed ∷ [])))) }
     ensures ok { OnOk result (W.failed writer.new ≡ W.failed writer.old) }
     ensures front { OnErr result (AppendsFront (W.held writer.old) (W.held writer.new)
-        (tab ∷ (label_front (option_map (λ text. text.now) label) ++ (line.now ++ line_feed ∷ [])))) }
+        (tab ∷ (label_front (option_map (λ text. text.now) label.entry) ++ (line.now ++ line_feed ∷ [])))) }
     ensures err { OnErr result (W.failed writer.new ≡ true) }
 {
     writer.write_front(&TAB, 1)?;
-    write_labelled(writer, label, line)
+    write_labelled_line(writer, label, line)
 }
 
 /// Writes an answer, a tab, a line after its label, and a line feed.
@@ -156,10 +161,10 @@ pub(crate) fn write_behind<W: ByteWriter>(
     requires works { W.failed writer.old ≡ false }
     requires room { length answer.now ≤ 64 }
     ensures written { OnOk result (Appends (W.held writer.old) (W.held writer.new)
-        ((answer.now ++ tab ∷ (label_front (option_map (λ text. text.now) label) ++ line.now)) ++ line_feed ∷ [])) }
+        ((answer.now ++ tab ∷ (label_front (option_map (λ text. text.now) label.entry) ++ line.now)) ++ line_feed ∷ [])) }
     ensures ok { OnOk result (W.failed writer.new ≡ W.failed writer.old) }
     ensures front { OnErr result (AppendsFront (W.held writer.old) (W.held writer.new)
-        ((answer.now ++ tab ∷ (label_front (option_map (λ text. text.now) label) ++ line.now)) ++ line_feed ∷ [])) }
+        ((answer.now ++ tab ∷ (label_front (option_map (λ text. text.now) label.entry) ++ line.now)) ++ line_feed ∷ [])) }
     ensures err { OnErr result (W.failed writer.new ≡ true) }
 {
     let (bytes, len) = answer.padded();
@@ -189,13 +194,13 @@ pub(crate) fn write_after<W: ByteWriter>(
     requires works { W.failed writer.old ≡ false }
     requires room { length answer.now ≤ 64 }
     ensures written { OnOk result (Appends (W.held writer.old) (W.held writer.new)
-        (answer.now ++ (label_front (option_map (λ text. text.now) label) ++ (line.now ++ line_feed ∷ [])))) }
+        (answer.now ++ (label_front (option_map (λ text. text.now) label.entry) ++ (line.now ++ line_feed ∷ [])))) }
     ensures ok { OnOk result (W.failed writer.new ≡ W.failed writer.old) }
     ensures front { OnErr result (AppendsFront (W.held writer.old) (W.held writer.new)
-        (answer.now ++ (label_front (option_map (λ text. text.now) label) ++ (line.now ++ line_feed ∷ [])))) }
+        (answer.now ++ (label_front (option_map (λ text. text.now) label.entry) ++ (line.now ++ line_feed ∷ [])))) }
     ensures err { OnErr result (W.failed writer.new ≡ true) }
 {
     let (bytes, len) = answer.padded();
     writer.write_front(bytes, len)?;
-    write_labelled(writer, label, line)
+    write_labelled_line(writer, label, line)
 }

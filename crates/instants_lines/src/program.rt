@@ -28,6 +28,7 @@ use instants_timeline::{
 use std::alloc::Global;
 
 // What writes for the lines of a stream as words ask.
+#[derive(Drop)]
 struct LinesAsked<'a, 'b> {
     asked: Asked<'a>,
     given: Given,

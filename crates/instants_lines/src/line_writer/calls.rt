@@ -15,7 +15,7 @@ ghost use Rattle.instants_lines_words.specs.declared.mode.Mode.{Mode};
 use crate::date_sources::DateSources;
 use crate::line_writer::LineWriter;
 use crate::located::write_finding;
-use crate::parts::{tabbed, write_after, write_behind, write_both, write_label, write_three};
+use crate::parts::{tabbed, write_after, write_behind, write_both, write_labelled, write_three};
 use instants_answers::{Answer, rfc3339_line};
 use instants_found::{Finding, Found};
 use instants_fronts::{Given, Years};
@@ -30,7 +30,7 @@ impl<'a, 'b> LineWriter<'a, 'b> {
         dates: &'a DateSources<'b>,
         given: Given,
     ) -> LineWriter<'a, 'b>
-        ensures { going_of result ≡ beginning mode (option_map (λ text. text.now) label)
+        ensures { going_of result ≡ beginning mode (option_map (λ text. text.now) label.entry)
             (search_in dates.now given) }
     {
         let mut key = Answer::new();
@@ -187,11 +187,11 @@ impl<'a, 'b> LineWriter<'a, 'b> {
             (keyed (going_of self.old) front.now)) }
         ensures err { OnErr result (W.failed writer.new ≡ true) }
     {
+        let label = self.label;
         let finding = self.dates.date_in(&self.given, front);
         let key = self.take_key(front, finding);
         write_both(writer, key.as_bytes(), b"\t")?;
-        write_label(writer, self.label)?;
-        writer.write_all(front)
+        write_labelled(writer, label, front)
     }
 
     // Writes a line with the date-time in place of this date of it, or as it is where the date's year is not written.

@@ -11,4 +11,4 @@ returns-in_err-write_front-clause-front g c =
 pub returns-clause-front : goal.returns-clause-front
 returns-clause-front g c =
     let written = rw c.padded-len.ensures.front at c.in_ok-write_front.ensures.written in
-    OnErr-map c.write_fed.result (λ front. AppendsFront-after _ _ _ _ _ written front) c.write_fed.ensures.front
+    OnErr-map c.write_labelled_line.result (λ front. AppendsFront-after _ _ _ _ _ written front) c.write_labelled_line.ensures.front

@@ -10,4 +10,4 @@ returns-in_err-write_front-clause-front g c =
 
 pub returns-clause-front : goal.returns-clause-front
 returns-clause-front g c =
-    OnErr-map c.write_fed.result (λ front. AppendsFront-after _ _ _ _ _ c.in_ok-write_front.ensures.written front) c.write_fed.ensures.front
+    OnErr-map c.write_labelled_line.result (λ front. AppendsFront-after _ _ _ _ _ c.in_ok-write_front.ensures.written front) c.write_labelled_line.ensures.front

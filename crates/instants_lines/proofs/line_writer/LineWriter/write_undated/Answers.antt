@@ -1,11 +1,17 @@
-use Rattle.std.proofs.Common.{◌≡◌, ◌≤◌, ◌+◌, [], ◌∷◌, ◌++◌, append_assoc, length, sym, ◌∙◌, ap, List, ℕ, arith}
+use Rattle.std.proofs.Common.{◌≡◌, ◌≤◌, ◌+◌, [], ◌∷◌, ◌++◌, append_assoc, length, option_map, sym, ◌∙◌, ap, List, ℕ, arith}
 use Rattle.std.proofs.lemmas.List.{length-append}
 use Rattle.base.specs.Bytes.{tab, line_feed}
+use Rattle.instants_lines.specs.Going.{label_front}
+use Rattle.instants_lines.specs.Writing.{going_of}
 use Rattle.instants_lines.proofs.line_writer.LineWriter.write_undated.Goals as goal
 
 -- the key and the tab are one part
-joined : (key tabbed line : List ℕ) → tabbed ≡ key ++ tab ∷ [] → (key ++ tab ∷ line) ++ line_feed ∷ [] ≡ tabbed ++ (line ++ line_feed ∷ [])
-joined key tabbed line is = append_assoc key (tab ∷ line) (line_feed ∷ []) ∙ sym (append_assoc key (tab ∷ []) (line ++ line_feed ∷ [])) ∙ ap (λ (front : List ℕ). front ++ (line ++ line_feed ∷ [])) (sym is)
+joined : (key tabbed label line : List ℕ) → tabbed ≡ key ++ tab ∷ [] → (key ++ tab ∷ (label ++ line)) ++ line_feed ∷ [] ≡ tabbed ++ (label ++ (line ++ line_feed ∷ []))
+joined key tabbed label line is =
+    append_assoc key (tab ∷ (label ++ line)) (line_feed ∷ [])
+    ∙ ap (λ (l : List ℕ). key ++ tab ∷ l) (append_assoc label line (line_feed ∷ []))
+    ∙ sym (append_assoc key (tab ∷ []) (label ++ (line ++ line_feed ∷ [])))
+    ∙ ap (λ (front : List ℕ). front ++ (label ++ (line ++ line_feed ∷ []))) (sym is)
 
 -- which has room
 room : (key tabbed : List ℕ) → tabbed ≡ key ++ tab ∷ [] → length key ≤ 63 → length tabbed ≤ 64
@@ -18,8 +24,8 @@ write_after-requires-clause-room g c = room c.args.self.now.key c.args.self.now.
 
 pub returns-clause-written : goal.returns-clause-written
 returns-clause-written g c =
-    rw (joined c.args.self.now.key c.args.self.now.tabbed c.args.line.now c.args.self.now.tabbed_is) c.write_after.ensures.written
+    rw (joined c.args.self.now.key c.args.self.now.tabbed (label_front (going_of c.args.self.now).label) c.args.line.now c.args.self.now.tabbed_is) c.write_after.ensures.written
 
 pub returns-clause-front : goal.returns-clause-front
 returns-clause-front g c =
-    rw (joined c.args.self.now.key c.args.self.now.tabbed c.args.line.now c.args.self.now.tabbed_is) c.write_after.ensures.front
+    rw (joined c.args.self.now.key c.args.self.now.tabbed (label_front (going_of c.args.self.now).label) c.args.line.now c.args.self.now.tabbed_is) c.write_after.ensures.front
