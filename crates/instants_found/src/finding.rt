@@ -1,33 +1,59 @@
 //! What is found at one place of a line.
-ghost use Rattle.std.specs.Prelude.{◌≡◌, ◌<◌, ◌≤◌, All, false, length, map, IfSome};
+ghost use Rattle.std.specs.Prelude.{◌≡◌, ◌<◌, ◌≤◌, ◌+◌, ◌∷◌, All, false, drop, length, map, IfSome};
 ghost use Rattle.instants_fronts.specs.NoFront.{HasNoFront};
 ghost use Rattle.instants_fronts.specs.DateSource.{grammar_in};
-ghost use Rattle.instants_found.specs.Candidate.{candidates};
-ghost use Rattle.instants_found.specs.Found.{at_place, of_candidates};
-ghost use Rattle.instants_found.specs.Kept.{said_of};
-ghost use Rattle.instants_found.specs.Within.{IsWithin};
+ghost use Rattle.instants_found.specs.Candidate.{candidates, longest};
+ghost use Rattle.instants_found.specs.Found.{at_place, finding, of_candidates};
+ghost use Rattle.instants_found.specs.Within.{IsWithin, LiesWithin};
 
-use crate::beside::after;
-use crate::candidate::{Candidate, longer, read_candidate};
+use crate::beside::{after, read_at, stands_whole};
+use crate::candidate::{Candidate, candidate_with, found_at, longer, read_candidate};
 use crate::found::Finding;
 use instants_edges::is_edge;
 use instants_fronts::{DateSource, Given, lacks_byte, rules_out};
 
-// What is found where some date is read or none, by the longest that stands whole.
+// What is found where some date is read, by the longest that stands whole.
 #[inline(always)]
-fn finding(is_read: bool, longest: Option<Candidate>) -> Option<Finding>
-    ensures { result ≡ said_of is_read longest }
+fn finding(longest: Option<Candidate>) -> Finding
+    ensures { result ≡ finding longest }
 {
-    if !is_read {
-        return None;
-    }
     match longest {
-        Some(one) => Some(Finding::There(one.date)),
-        None => Some(Finding::Doubtful),
+        Some(one) => Finding::There(one.date),
+        None => Finding::Doubtful,
     }
 }
 
-// What all sources find at a place.
+// What is found where the source of this number reads a date, and those after it may.
+#[inline(never)]
+fn with_others(
+    sources: &[DateSource<'_>],
+    given: &Given,
+    line: &[u8],
+    start: usize,
+    one: Candidate,
+) -> Finding
+    requires start { start < length line.now }
+    requires one { LiesWithin (length line.now) (length sources.now) one.date }
+    ensures found { result ≡ finding (longest (one ∷ candidates given.now line.now start (one.date.source + 1)
+        (map grammar_in (drop (one.date.source + 1) sources.now)))) }
+    ensures within { IsWithin (length line.now) (length sources.now) result }
+{
+    let bytes = after(line, start);
+    let behind = one.date.source + 1;
+    let mut longest = longer(None, one);
+    for number in behind..sources.len() {
+        let source = &sources[number];
+        if lacks_byte(source.source(), bytes) {
+            continue;
+        }
+        if let Some(other) = read_candidate(source, given, line, start, number) {
+            longest = longer(longest, other);
+        }
+    }
+    finding(longest)
+}
+
+// What all sources find at a place. Where the last one alone reads a date, nothing is compared.
 #[inline(always)]
 fn by_sources(
     sources: &[DateSource<'_>],
@@ -41,19 +67,25 @@ fn by_sources(
     ensures within { IfSome result (IsWithin (length line.now) (length sources.now)) }
 {
     let bytes = after(line, start);
-    let mut longest = None;
-    let mut is_read = false;
     for number in 0..sources.len() {
         let source = &sources[number];
         if lacks_byte(source.source(), bytes) {
             continue;
         }
-        if let Some(one) = read_candidate(source, given, line, start, number) {
-            is_read = true;
-            longest = longer(longest, one);
+        let Some(front) = read_at(source, given, line, start) else {
+            continue;
+        };
+        let is_whole = stands_whole(source, given, line, start, &front);
+        if number + 1 < sources.len() {
+            let one = candidate_with(line, start, number, front, is_whole);
+            return Some(with_others(sources, given, line, start, one));
         }
+        if !is_whole {
+            return Some(Finding::Doubtful);
+        }
+        return Some(Finding::There(found_at(start, number, front)));
     }
-    finding(is_read, longest)
+    None
 }
 
 /// Whether the bytes may have a front that some source reads: `false` says that they have none.
