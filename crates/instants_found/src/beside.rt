@@ -23,10 +23,10 @@ pub(crate) fn after(line: &[u8], start: usize) -> &[u8]
     &line[start..]
 }
 
-// Whether what a source read at a place may be a date: it may say something there, and a number of Unix time inside a word is
-// none.
+/// Whether what a source read at a place may be a date: it may say something there, and a number of Unix time inside a word is
+/// none.
 #[inline(always)]
-fn is_read(source: &DateSource<'_>, line: &[u8], start: usize, front: &Front) -> bool
+pub(crate) fn is_read(source: &DateSource<'_>, line: &[u8], start: usize, front: &Front) -> bool
     requires begins { start + front.now.begins ≤ length line.now }
     requires all { start + front.now.all ≤ length line.now }
     ensures { result ≡ Beside.is_read (grammar_in source.now) line.now start front.now }

@@ -6,7 +6,7 @@ ghost use Rattle.instants_found.specs.Candidate.{candidates, longest};
 ghost use Rattle.instants_found.specs.Found.{at_place, finding, of_candidates};
 ghost use Rattle.instants_found.specs.Within.{IsWithin, LiesWithin};
 
-use crate::beside::{after, read_at, stands_whole};
+use crate::beside::{after, is_read, stands_whole};
 use crate::candidate::{Candidate, candidate_with, found_at, longer, read_candidate};
 use crate::found::Finding;
 use instants_edges::is_edge;
@@ -72,9 +72,12 @@ fn by_sources(
         if lacks_byte(source.source(), bytes) {
             continue;
         }
-        let Some(front) = read_at(source, given, line, start) else {
+        let Some(front) = source.read(bytes, given) else {
             continue;
         };
+        if !is_read(source, line, start, &front) {
+            continue;
+        }
         let is_whole = stands_whole(source, given, line, start, &front);
         if number + 1 < sources.len() {
             let one = candidate_with(line, start, number, front, is_whole);

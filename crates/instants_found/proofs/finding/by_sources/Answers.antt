@@ -8,7 +8,7 @@ use Rattle.instants_found.specs.declared.candidate.Candidate.{Candidate}
 use Rattle.instants_found.specs.declared.found.Found.{Found}
 use Rattle.instants_found.specs.declared.found.Finding.TheVariants.{There}
 use Rattle.instants_found.proofs.NoDates.{no_candidate}
-use Rattle.instants_found.proofs.ReadAt.{none_there, some_there}
+use Rattle.instants_found.proofs.ReadAt.{none_there, some_there, unread, refused, accepted}
 use Rattle.instants_found.proofs.Steps.{none_read, first_read, last_read, no_read}
 use Rattle.instants_found.proofs.finding.by_sources.Goals as goal
 
@@ -18,11 +18,24 @@ loop-number-preserved-then-lacks_byte c =
     let none = no_candidate c.args.given.now c.args.line.now c.args.start c.loop-number.number (grammar_in source) (rw (c.after-bytes.ensures, c.source.ensures) at (c.lacks_byte.ensures c.if-lacks_byte.true)) in
     none_read c.args.given.now c.args.line.now c.args.start c.args.sources.now c.loop-number.number source (omega arith) c.index-sources-number.is c.loop-number.invariant (sym none)
 
+pub loop-number-preserved-in_default : goal.loop-number-preserved-in_default
+loop-number-preserved-in_default c =
+    let given = c.args.given.now in
+    let line = c.args.line.now in
+    let start = c.args.start in
+    let source = c.index-sources-number.result in
+    let none = none_there given line start c.loop-number.number (grammar_in source) (unread given line start (grammar_in source) (rw c.after-bytes.ensures at c.in_default.ensures.front)) in
+    none_read given line start c.args.sources.now c.loop-number.number source (omega arith) c.index-sources-number.is c.loop-number.invariant none
+
 pub loop-number-preserved : goal.loop-number-preserved
 loop-number-preserved c =
+    let given = c.args.given.now in
+    let line = c.args.line.now in
+    let start = c.args.start in
     let source = c.index-sources-number.result in
-    let none = none_there c.args.given.now c.args.line.now c.args.start c.loop-number.number (grammar_in source) c.in_default.ensures.is in
-    none_read c.args.given.now c.args.line.now c.args.start c.args.sources.now c.loop-number.number source (omega arith) c.index-sources-number.is c.loop-number.invariant none
+    let front = c.in-Some.front in
+    let none = none_there given line start c.loop-number.number (grammar_in source) (refused given line start (grammar_in source) front (rw c.after-bytes.ensures at c.in-Some.ensures.front) (sym c.is_read.ensures ∙ c.if-not-is_read.true)) in
+    none_read given line start c.args.sources.now c.loop-number.number source (omega arith) c.index-sources-number.is c.loop-number.invariant none
 
 pub returns-then-number-sources-clause-found : goal.returns-then-number-sources-clause-found
 returns-then-number-sources-clause-found c =
@@ -34,7 +47,7 @@ returns-then-number-sources-clause-found c =
     let source = c.index-sources-number.result in
     let front = c.in-Some.front in
     let one = as_candidate given line start number (grammar_in source) front in
-    let there = some_there given line start number (grammar_in source) front c.in-Some.ensures.is in
+    let there = some_there given line start number (grammar_in source) front (accepted given line start (grammar_in source) front (rw c.after-bytes.ensures at c.in-Some.ensures.front) (sym c.is_read.ensures ∙ c.if-not-is_read.false)) in
     let made = c.candidate_with-one.ensures ∙ ap (λ (b : Bool). candidate_with line start number front b) c.stands_whole-is_whole.ensures in
     ap Some c.with_others.ensures.found ∙ ap (λ (x : Candidate). Some (finding (longest (x ∷ candidates given line start (x.date.source + 1) (map grammar_in (drop (x.date.source + 1) sources)))))) made
     ∙ sym (first_read given line start sources number source (omega arith) c.index-sources-number.is one c.loop-number.invariant there)
@@ -48,7 +61,7 @@ returns-then-not-is_whole-clause-found c =
     let source = c.index-sources-number.result in
     let front = c.in-Some.front in
     let one = as_candidate given line start number (grammar_in source) front in
-    let there = some_there given line start number (grammar_in source) front c.in-Some.ensures.is in
+    let there = some_there given line start number (grammar_in source) front (accepted given line start (grammar_in source) front (rw c.after-bytes.ensures at c.in-Some.ensures.front) (sym c.is_read.ensures ∙ c.if-not-is_read.false)) in
     let whole : stands_whole given (grammar_in source) line start front ≡ false = sym c.stands_whole-is_whole.ensures ∙ c.if-not-is_whole.true in
     ap (λ (b : Bool). Some (finding (if b then Some one else None))) (sym whole) ∙ sym (last_read given line start c.args.sources.now number source (omega arith) c.index-sources-number.is one (omega arith) c.loop-number.invariant there)
 
@@ -61,7 +74,7 @@ returns-in-loop-number-clause-found c =
     let source = c.index-sources-number.result in
     let front = c.in-Some.front in
     let one = as_candidate given line start number (grammar_in source) front in
-    let there = some_there given line start number (grammar_in source) front c.in-Some.ensures.is in
+    let there = some_there given line start number (grammar_in source) front (accepted given line start (grammar_in source) front (rw c.after-bytes.ensures at c.in-Some.ensures.front) (sym c.is_read.ensures ∙ c.if-not-is_read.false)) in
     let whole : stands_whole given (grammar_in source) line start front ≡ true = sym c.stands_whole-is_whole.ensures ∙ c.if-not-is_whole.false in
     ap (λ (d : Found). Some (There d)) c.found_at.ensures
     ∙ ap (λ (b : Bool). Some (finding (if b then Some one else None))) (sym whole) ∙ sym (last_read given line start c.args.sources.now number source (omega arith) c.index-sources-number.is one (omega arith) c.loop-number.invariant there)
