@@ -1,16 +1,16 @@
 //! What is found at one place of a line.
 ghost use Rattle.std.specs.Prelude.{◌≡◌, ◌<◌, ◌≤◌, ◌+◌, ◌∷◌, All, false, drop, length, map, IfSome};
 ghost use Rattle.instants_fronts.specs.NoFront.{HasNoFront};
-ghost use Rattle.instants_fronts.specs.DateSource.{grammar_in};
-ghost use Rattle.instants_found.specs.Candidate.{candidates, longest};
+ghost use Rattle.instants_fronts.specs.DateSource.{grammar_in, IsWithin};
+ghost use Rattle.instants_found.specs.Candidate.{candidate_with, candidates, longest};
 ghost use Rattle.instants_found.specs.Found.{at_place, finding, of_candidates};
-ghost use Rattle.instants_found.specs.Within.{IsWithin, LiesWithin};
+ghost use Rattle.instants_found.specs.Within as Within;
 
 use crate::beside::{after, is_read, stands_whole};
 use crate::candidate::{Candidate, candidate_with, found_at, longer, read_candidate};
 use crate::found::Finding;
 use instants_edges::is_edge;
-use instants_fronts::{DateSource, Given, lacks_byte, rules_out};
+use instants_fronts::{DateSource, Front, Given, lacks_byte, rules_out};
 
 // What is found where some date is read, by the longest that stands whole.
 #[inline(always)]
@@ -30,18 +30,21 @@ fn with_others(
     given: &Given,
     line: &[u8],
     start: usize,
-    one: Candidate,
+    number: usize,
+    front: Front,
+    is_whole: bool,
 ) -> Finding
     requires start { start < length line.now }
-    requires one { LiesWithin (length line.now) (length sources.now) one.date }
-    ensures found { result ≡ finding (longest (one ∷ candidates given.now line.now start (one.date.source + 1)
-        (map grammar_in (drop (one.date.source + 1) sources.now)))) }
-    ensures within { IsWithin (length line.now) (length sources.now) result }
+    requires number { number < length sources.now }
+    requires front { IsWithin (drop start line.now) front }
+    ensures found { result ≡ finding (longest (candidate_with line.now start number front is_whole
+        ∷ candidates given.now line.now start (number + 1) (map grammar_in (drop (number + 1) sources.now)))) }
+    ensures within { Within.IsWithin (length line.now) (length sources.now) result }
 {
     let bytes = after(line, start);
-    let behind = one.date.source + 1;
+    let one = candidate_with(line, start, number, front, is_whole);
     let mut longest = longer(None, one);
-    for number in behind..sources.len() {
+    for number in number + 1..sources.len() {
         let source = &sources[number];
         if lacks_byte(source.source(), bytes) {
             continue;
@@ -64,7 +67,7 @@ fn by_sources(
     requires { start < length line.now }
     ensures found { result ≡ of_candidates
         (candidates given.now line.now start 0 (map grammar_in sources.now)) }
-    ensures within { IfSome result (IsWithin (length line.now) (length sources.now)) }
+    ensures within { IfSome result (Within.IsWithin (length line.now) (length sources.now)) }
 {
     let bytes = after(line, start);
     for number in 0..sources.len() {
@@ -80,8 +83,7 @@ fn by_sources(
         }
         let is_whole = stands_whole(source, given, line, start, &front);
         if number + 1 < sources.len() {
-            let one = candidate_with(line, start, number, front, is_whole);
-            return Some(with_others(sources, given, line, start, one));
+            return Some(with_others(sources, given, line, start, number, front, is_whole));
         }
         if !is_whole {
             return Some(Finding::Doubtful);
@@ -115,7 +117,7 @@ pub(crate) fn at_place(
 ) -> Option<Finding>
     requires { start < length line.now }
     ensures found { result ≡ at_place given.now (map grammar_in sources.now) line.now start }
-    ensures within { IfSome result (IsWithin (length line.now) (length sources.now)) }
+    ensures within { IfSome result (Within.IsWithin (length line.now) (length sources.now)) }
 {
     if is_edge(line, start) {
         by_sources(sources, given, line, start)

@@ -1,15 +1,14 @@
-use Rattle.std.proofs.Common.{◌≡◌, ◌+◌, ◌∷◌, Bool, true, false, Some, None, sym, ap, map, drop, ◌∙◌, arith}
+use Rattle.std.proofs.Common.{◌≡◌, ◌+◌, ◌∷◌, Bool, true, false, Some, None, sym, ap, ◌∙◌, arith}
 use Rattle.std.specs.Prelude.{if◌then◌else◌}
 use Rattle.instants_fronts.specs.DateSource.{grammar_in}
 use Rattle.instants_found.specs.Beside.{stands_whole}
-use Rattle.instants_found.specs.Candidate.{as_candidate, candidate_with, candidates, longest}
+use Rattle.instants_found.specs.Candidate.{as_candidate, candidate_with, longest}
 use Rattle.instants_found.specs.Found.{finding}
-use Rattle.instants_found.specs.declared.candidate.Candidate.{Candidate}
 use Rattle.instants_found.specs.declared.found.Found.{Found}
 use Rattle.instants_found.specs.declared.found.Finding.TheVariants.{There}
 use Rattle.instants_found.proofs.NoDates.{no_candidate}
 use Rattle.instants_found.proofs.ReadAt.{none_there, some_there, unread, refused, accepted}
-use Rattle.instants_found.proofs.Steps.{none_read, first_read, last_read, no_read}
+use Rattle.instants_found.proofs.Steps.{from_number, none_read, first_read, last_read, no_read}
 use Rattle.instants_found.proofs.finding.by_sources.Goals as goal
 
 pub loop-number-preserved-then-lacks_byte : goal.loop-number-preserved-then-lacks_byte
@@ -48,8 +47,7 @@ returns-then-number-sources-clause-found c =
     let front = c.in-Some.front in
     let one = as_candidate given line start number (grammar_in source) front in
     let there = some_there given line start number (grammar_in source) front (accepted given line start (grammar_in source) front (rw c.after-bytes.ensures at c.in-Some.ensures.front) (sym c.is_read.ensures ∙ c.if-not-is_read.false)) in
-    let made = c.candidate_with-one.ensures ∙ ap (λ (b : Bool). candidate_with line start number front b) c.stands_whole-is_whole.ensures in
-    ap Some c.with_others.ensures.found ∙ ap (λ (x : Candidate). Some (finding (longest (x ∷ candidates given line start (x.date.source + 1) (map grammar_in (drop (x.date.source + 1) sources)))))) made
+    ap Some c.with_others.ensures.found ∙ ap (λ (b : Bool). Some (finding (longest (candidate_with line start number front b ∷ from_number given line start sources (number + 1))))) c.stands_whole-is_whole.ensures
     ∙ sym (first_read given line start sources number source (omega arith) c.index-sources-number.is one c.loop-number.invariant there)
 
 pub returns-then-not-is_whole-clause-found : goal.returns-then-not-is_whole-clause-found
