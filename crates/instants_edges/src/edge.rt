@@ -28,16 +28,23 @@ fn parameters_before(line: &[u8], place: usize) -> usize
     place - start
 }
 
-// Whether a control sequence ends at a place.
+// Whether what stands before the byte before a place begins a control sequence.
+#[inline(never)]
+fn follows_escape(line: &[u8], place: usize) -> bool
+    requires { place ≤ length line.now }
+    ensures { result ≡ Edge.follows_escape line.now place }
+{
+    let long = parameters_before(line, place.saturating_sub(1));
+    byte_before(line, place, long + 2) == b'[' && byte_before(line, place, long + 3) == ESCAPE
+}
+
+// Whether a control sequence ends at a place. Few do, so the rest is a call of its own.
+#[inline(always)]
 fn ends_sequence(line: &[u8], place: usize) -> bool
     requires { place ≤ length line.now }
     ensures { result ≡ Edge.ends_sequence line.now place }
 {
-    if !byte_before(line, place, 1).is_ascii_alphabetic() {
-        return false;
-    }
-    let long = parameters_before(line, place.saturating_sub(1));
-    byte_before(line, place, long + 2) == b'[' && byte_before(line, place, long + 3) == ESCAPE
+    byte_before(line, place, 1).is_ascii_alphabetic() && follows_escape(line, place)
 }
 
 // Whether a place stands between the minutes of a clock and its seconds.
@@ -85,6 +92,7 @@ pub(crate) fn is_sign(byte: u8) -> bool
 }
 
 // Whether a sign at a place belongs to a date that begins there.
+#[inline(never)]
 fn is_own_sign(line: &[u8], place: usize) -> bool
     ensures { result ≡ Edge.is_own_sign line.now place }
 {

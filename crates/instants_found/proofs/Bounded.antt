@@ -1,5 +1,5 @@
 -- How many items a search tries, and how many bytes each of them is given.
-use Rattle.std.proofs.Common.{◌≤◌, ◌*◌, ◌+◌, ℕ, zero, suc, List, [], ◌∷◌, length, take, None, arith}
+use Rattle.std.proofs.Common.{◌≤◌, ◌*◌, ℕ, zero, suc, List, [], ◌∷◌, length, take, None, arith}
 use Rattle.std.proofs.lemmas.List.{length-take}
 use Rattle.std.proofs.lemmas.List.Sums.{sum_by-cons}
 use Rattle.instants_sources.specs.Grammar.{Grammar}

@@ -1,5 +1,5 @@
 -- What is in doubt at the first place at which a source reads a date.
-use Rattle.std.proofs.Common.{map, get_or, ◌≡◌, ◌+◌, ◌<◌, ◌≤◌, ◌⊎◌, inl, inr, ℕ, zero, suc, Bool, true, false, List, [], ◌∷◌, length, take, drop, min, Option, Some, None, refl, sym, ap, ◌∙◌, subst, arith}
+use Rattle.std.proofs.Common.{map, get_or, ◌≡◌, ◌+◌, ◌<◌, ◌≤◌, inl, inr, ℕ, zero, suc, Bool, true, false, List, [], length, take, drop, min, Option, Some, None, refl, sym, ap, ◌∙◌, subst, arith}
 use Rattle.std.specs.Prelude.{is_some, slice_get, option_map, if◌then◌else◌}
 use Rattle.std.specs.Option.{is_none}
 use Rattle.std.proofs.lemmas.List.{drop_more, drop_all, length-take, length-map}
@@ -16,9 +16,8 @@ use Rattle.instants_found.specs.Doubts.{why, as_doubted, doubted_at, first_read,
 use Rattle.instants_found.specs.Found.{at_place, found, finding}
 use Rattle.instants_found.specs.declared.candidate.Candidate.{Candidate}
 use Rattle.instants_found.specs.declared.doubt.Doubt.{Doubt}
-use Rattle.instants_found.specs.declared.doubt.Doubted.{Doubted}
 use Rattle.instants_found.specs.declared.found.Finding.{Finding}
-use Rattle.instants_found.specs.declared.found.Finding.TheVariants.{Doubtful, There}
+use Rattle.instants_found.specs.declared.found.Finding.TheVariants.{Doubtful}
 use Rattle.instants_found.proofs.Doubts.{whole_if}
 use Rattle.instants_found.proofs.FirstFound.{IsFirstPlace, first_or_none, edge_there, something_there}
 use Rattle.instants_found.proofs.Longest.{IsRead, NoneWhole, IsBestOf, best_of, some_read}

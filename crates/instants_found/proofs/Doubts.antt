@@ -1,7 +1,7 @@
 -- Why dates are in doubt.
-use Rattle.std.proofs.Common.{◌≡◌, ◌+◌, ◌<◌, ◌≤◌, ◌-◌, ◌⊎◌, inl, inr, ℕ, zero, suc, Bool, true, false, List, [], ◌∷◌, length, take, drop, min, Option, Some, None, refl, sym, ap, ◌∙◌, subst, arith}
-use Rattle.std.specs.Prelude.{◌&&◌, ◌||◌, not, is_some, slice_get, option_map, if◌then◌else◌}
-use Rattle.std.specs.Option.{is_none, option_or}
+use Rattle.std.proofs.Common.{◌≡◌, ◌+◌, ℕ, Bool, true, false, List, drop, Option, Some, None, refl, sym, ap, ◌∙◌}
+use Rattle.std.specs.Prelude.{◌&&◌, ◌||◌, not, is_some, if◌then◌else◌}
+use Rattle.std.specs.Option.{is_none}
 use Rattle.instants_sources.specs.Grammar.{Grammar}
 use Rattle.instants_edges.specs.Edge.{is_edge}
 use Rattle.instants_edges.specs.Clock.{has_clock_beside, has_clock_in_front}

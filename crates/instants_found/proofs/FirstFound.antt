@@ -39,7 +39,7 @@ module _ (given : Given) (sources : List Grammar) (line : List ℕ) where
       never_read given line place 0 sources number date (read_there place number date read) (nothing_there (candidates given line place 0 sources) bare)
 
   -- what is found at a place that is no place inside a word
-  edge_there : (place : ℕ) (date : Finding) → at_place given sources line place ≡ Some date → (is_edge line place ≡ true) × (of_candidates (candidates given line place 0 sources) ≡ Some date)
+  pub edge_there : (place : ℕ) (date : Finding) → at_place given sources line place ≡ Some date → (is_edge line place ≡ true) × (of_candidates (candidates given line place 0 sources) ≡ Some date)
   unfolding at_place
   edge_there place date e =
       elim (is_edge line place) as (λ b. is_edge line place ≡ b → (if b then of_candidates (candidates given line place 0 sources) else None) ≡ Some date → (is_edge line place ≡ true) × (of_candidates (candidates given line place 0 sources) ≡ Some date)) [
@@ -47,7 +47,7 @@ module _ (given : Given) (sources : List Grammar) (line : List ℕ) where
         | false ↦ λ t h. absurd cc
       ] refl e
 
-  something_there : (dates : List Candidate) (date : Finding) → of_candidates dates ≡ Some date → (one : Candidate) × (others : List Candidate) × (dates ≡ one ∷ others) × (finding (longest dates) ≡ date)
+  pub something_there : (dates : List Candidate) (date : Finding) → of_candidates dates ≡ Some date → (one : Candidate) × (others : List Candidate) × (dates ≡ one ∷ others) × (finding (longest dates) ≡ date)
   something_there [] date e = absurd cc
   something_there (one ∷ others) date e = (one, others, refl, cc)
 
@@ -56,14 +56,14 @@ module _ (given : Given) (sources : List Grammar) (line : List ℕ) where
   none_before : (place : ℕ) → place ≤ length line → NothingBefore given sources line place → NoneBefore given sources line place
   none_before place within nothing = λ earlier number date lt read. none_read earlier number date (nothing earlier lt) read
 
-  record IsFirstPlace (to : ℕ) : Type 0 where
-    place : ℕ
-    date : Finding
-    before : place < to
-    least : NothingBefore given sources line place
-    has : at_place given sources line place ≡ Some date
+  pub record IsFirstPlace (to : ℕ) : Type 0 where
+    pub place : ℕ
+    pub date : Finding
+    pub before : place < to
+    pub least : NothingBefore given sources line place
+    pub has : at_place given sources line place ≡ Some date
 
-  first_or_none : (to : ℕ) → NothingBefore given sources line to ⊎ IsFirstPlace to
+  pub first_or_none : (to : ℕ) → NothingBefore given sources line to ⊎ IsFirstPlace to
   first_or_none zero = inl (λ place lt. absurd (omega (arith, lt)))
   first_or_none (suc n) =
       elim (first_or_none n) [

@@ -1,5 +1,7 @@
 pub mod Needless
+pub mod Doubts
 pub mod Steps
+pub mod ReadAt
 pub mod LaneLemmas
 pub mod NoStart
 pub mod NoDates
@@ -8,5 +10,7 @@ pub mod SourceKeys
 pub mod KeyLemmas
 pub mod Longest
 pub mod FirstFound
+pub mod DoubtOf
 pub mod NearFound
 pub mod OneFound
+pub mod Bounded

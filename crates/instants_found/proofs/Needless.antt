@@ -1,6 +1,6 @@
 -- What is not given is not needed.
-use Rattle.std.proofs.Common.{◌≡◌, ◌&&◌, Bool, true, false, ℕ, List, Option, Some, None, refl, sym, ap, ◌∙◌}
-use Rattle.std.specs.Prelude.{is_some}
+use Rattle.std.proofs.Common.{◌≡◌, ◌&&◌, Bool, true, false, ℕ, List, Option, Some, None, refl, sym, ap}
+use Rattle.std.specs.Prelude.{is_some, not, ◌||◌}
 use Rattle.std.specs.Option.{is_none}
 use Rattle.datetime_wall.specs.Wall.{Shown}
 use Rattle.instants_sources.specs.Grammar.{Grammar}
@@ -45,3 +45,21 @@ pub no_year : (says : Bool) (given : Given) (grammar : Grammar) (bytes : List �
 no_year says given grammar bytes front none read =
     let same : without_year given ≡ given = ap (λ y. record given { years = y }) (sym none) in
     rw (same, names_something given grammar bytes front read) (no_and says)
+
+-- ---- tests
+
+pub none_is : {A : Type 0} (o : Option A) (b : Bool) → is_some o ≡ not b → b ≡ is_none o
+none_is None true e = refl
+none_is None false e = absurd cc
+none_is (Some x) true e = absurd cc
+none_is (Some x) false e = refl
+
+-- what is no number of Unix time is read
+pub plain_read : (edge plain : Bool) → plain ≡ true → plain ≡ (true && (edge || plain))
+plain_read true true e = refl
+plain_read false true e = refl
+plain_read edge false e = absurd cc
+
+pub and_false : (b : Bool) → (b && false) ≡ false
+and_false true = refl
+and_false false = refl

@@ -1,8 +1,6 @@
 -- Places at which no date begins, by bits and by what stands there.
-use Rattle.std.proofs.Common.{◌≡◌, ◌<◌, ◌≤◌, ◌+◌, ◌-◌, ◌/◌, ◌^◌, ℕ, ◌%◌, List, [], ◌∷◌, drop, Option, None, refl, sym, ◌∙◌, ap, subst, arith, w64, ℤ}
-use Rattle.std.specs.Prelude.{All}
+use Rattle.std.proofs.Common.{◌≡◌, ◌<◌, ◌≤◌, ◌+◌, ◌-◌, ◌/◌, ◌^◌, ℕ, ◌%◌, List, sym, ◌∙◌, ap, subst, arith, w64}
 use Rattle.std.specs.Int.{bit_at, trailing_zeros}
-use Rattle.std.proofs.lemmas.List.Elements.{All-head, All-tail}
 use Rattle.std.proofs.lemmas.Nat.{shr-shr}
 use Rattle.std.proofs.lemmas.Nat.Bits.{bit_at-zero, bit_at-trailing_zeros}
 use Rattle.instants_sources.specs.Grammar.{Grammar}

@@ -1,5 +1,5 @@
 -- Places at which no date begins.
-use Rattle.std.proofs.Common.{◌≡◌, ◌<◌, ◌≤◌, ◌+◌, ◌-◌, ℕ, zero, suc, Bool, true, false, List, [], ◌∷◌, length, min, get_or, drop, take, Option, Some, None, refl, sym, ◌∙◌, ap, subst, inl, inr, arith}
+use Rattle.std.proofs.Common.{◌≡◌, ◌<◌, ◌≤◌, ◌+◌, ℕ, zero, suc, Bool, true, false, List, [], ◌∷◌, length, min, get_or, drop, take, Option, Some, None, refl, sym, ◌∙◌, ap, subst, inl, inr, arith}
 use Rattle.std.specs.Prelude.{All, if◌then◌else◌}
 use Rattle.std.proofs.lemmas.Bool.{cases_lt}
 use Rattle.std.proofs.lemmas.List.{get_or-drop, length-take}
@@ -11,7 +11,7 @@ use Rattle.instants_fronts.specs.NoFront.{HasNoFront}
 use Rattle.instants_sources.specs.Grammar.{Grammar}
 use Rattle.instants_found.specs.Candidate.{candidate, candidates}
 use Rattle.instants_found.specs.Found.{at_place, found}
-use Rattle.instants_found.specs.Starts.{CannotBegin, NoneBegins, AreStarts, IsNoDate, HasNoDate}
+use Rattle.instants_found.specs.Starts.{CannotBegin, AreStarts, IsNoDate, HasNoDate}
 use Rattle.instants_found.specs.declared.found.Finding.{Finding}
 use Rattle.instants_found.proofs.Steps.{GiveFromPlace, place_has, place_has_none, places_end}
 

@@ -1,6 +1,6 @@
 -- The front of a date that a source reads at a place, and the date that is made of it.
-use Rattle.std.proofs.Common.{◌≡◌, ◌+◌, ◌<◌, ◌≤◌, ◌-◌, ℕ, Bool, true, false, List, length, drop, Option, Some, None, refl, ap, subst, arith, length-drop}
-use Rattle.std.specs.Prelude.{if◌then◌else◌, IfSome}
+use Rattle.std.proofs.Common.{◌≡◌, ◌<◌, ℕ, Bool, true, false, List, length, drop, Option, Some, None, refl, sym, ap, ◌∙◌, arith, length-drop}
+use Rattle.std.specs.Prelude.{if◌then◌else◌}
 use Rattle.instants_sources.specs.Grammar.{Grammar}
 use Rattle.instants_fronts.specs.DateSource.{IsWithin}
 use Rattle.instants_fronts.specs.Front.{front_at}
@@ -47,3 +47,17 @@ pub lies_within : (line : List ℕ) (start number sources : ℕ) (front : Front)
 lies_within line start number sources front within few here =
     let left = length-drop start line in
     record { start = omega (arith, here.begins, left, within); end = omega (arith, here.zone, left, within); source = few }
+
+-- ---- by what a source reads, whether or not that may be a date
+
+pub unread : (given : Given) (line : List ℕ) (start : ℕ) (grammar : Grammar) → None ≡ front_at given grammar (drop start line) → None ≡ read_at given grammar line start
+unfolding read_at
+unread given line start grammar e = ap (if_read grammar line start) e
+
+pub refused : (given : Given) (line : List ℕ) (start : ℕ) (grammar : Grammar) (front : Front) → Some front ≡ front_at given grammar (drop start line) → is_read grammar line start front ≡ false → None ≡ read_at given grammar line start
+unfolding read_at
+refused given line start grammar front e none = ap (λ (b : Bool). if b then Some front else None) (sym none) ∙ ap (if_read grammar line start) e
+
+pub accepted : (given : Given) (line : List ℕ) (start : ℕ) (grammar : Grammar) (front : Front) → Some front ≡ front_at given grammar (drop start line) → is_read grammar line start front ≡ true → Some front ≡ read_at given grammar line start
+unfolding read_at
+accepted given line start grammar front e read = ap (λ (b : Bool). if b then Some front else None) (sym read) ∙ ap (if_read grammar line start) e

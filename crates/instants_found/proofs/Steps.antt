@@ -1,5 +1,5 @@
 -- The searches over sources and over places, step by step.
-use Rattle.std.proofs.Common.{◌≡◌, ◌<◌, ◌≤◌, ◌+◌, ◌||◌, ℕ, Bool, true, false, List, [], ◌∷◌, length, get_or, drop, map, Option, Some, None, refl, sym, ◌∙◌, ap, arith}
+use Rattle.std.proofs.Common.{◌≡◌, ◌<◌, ◌≤◌, ◌+◌, ℕ, Bool, true, false, List, [], ◌∷◌, length, get_or, drop, map, Option, Some, None, refl, sym, ◌∙◌, ap, arith}
 use Rattle.std.specs.Prelude.{nat_lt, not, ◌&&◌, IfSome, if◌then◌else◌}
 use Rattle.std.specs.Option.{option_or}
 use Rattle.std.proofs.lemmas.Bool.Decides.{nat_tests}
@@ -9,7 +9,7 @@ use Rattle.instants_fronts.specs.DateSource.{grammar_in}
 use Rattle.instants_sources.specs.Grammar.{Grammar}
 use Rattle.instants_fronts.specs.declared.date_source.DateSource.{DateSource}
 use Rattle.instants_found.specs.Candidate.{candidate, candidates, joined, longer, longest}
-use Rattle.instants_found.specs.Kept.{kept, said_of}
+use Rattle.instants_found.specs.Kept.{kept}
 use Rattle.instants_found.specs.Within.{LiesWithin, IsWithin}
 use Rattle.instants_found.specs.Found.{at_place, from_place, of_candidates, finding}
 use Rattle.instants_found.specs.declared.candidate.Candidate.{Candidate}
@@ -68,15 +68,6 @@ kept_holds P (Some first) one h here = elim (one.is_whole && nat_lt first.reach 
 abbrev pub from_number : Given → List ℕ → ℕ → List DateSource → ℕ → List Candidate
 from_number given line start sources number = candidates given line start number (map grammar_in (drop number sources))
 
-pub is_any : List Candidate → Bool
-is_any [] = false
-is_any (one ∷ others) = true
-
--- what was kept so far and what the sources from this number on read give what all of them give
-pub record GiveFrom (given : Given) (line : List ℕ) (start : ℕ) (sources : List DateSource) (number : ℕ) (some : Bool) (so_far : Option Candidate) : Type 0 where
-  pub long : best so_far (longest (from_number given line start sources number)) ≡ longest (from_number given line start sources 0)
-  pub any : (some || is_any (from_number given line start sources number)) ≡ is_any (from_number given line start sources 0)
-
 source_step : (given : Given) (line : List ℕ) (start : ℕ) (sources : List DateSource) (number : ℕ) (source : DateSource) → number < length sources → source ≡ get_or sources number source
     → from_number given line start sources number ≡ joined (candidate given line start number (grammar_in source)) (from_number given line start sources (number + 1))
 unfolding candidates
@@ -85,49 +76,70 @@ source_step given line start sources number source within is =
     let cut : drop number sources ≡ source ∷ drop (number + 1) sources = rw (← is) at there in
     rw cut refl
 
-any_more : (b : Bool) → (b || true) ≡ true
-any_more true = refl
-any_more false = refl
-
-pub source_reads : (given : Given) (line : List ℕ) (start : ℕ) (sources : List DateSource) (number : ℕ) (source : DateSource) (one : Candidate) (some : Bool) (so_far : Option Candidate) → number < length sources → source ≡ get_or sources number source
-    → GiveFrom given line start sources number some so_far → Some one ≡ candidate given line start number (grammar_in source) → GiveFrom given line start sources (number + 1) true (kept so_far one)
-unfolding longest is_any
-source_reads given line start sources number source one some so_far within is give e =
-    let step = rw (← e) at (source_step given line start sources number source within is) in
-    let long = rw step at give.long in
-    let any = rw step at give.any in
-    record {
-      long = sym (longer_of so_far one (longest (from_number given line start sources (number + 1)))) ∙ long;
-      any = sym (any_more some) ∙ any;
-    }
-
-pub source_reads_none : (given : Given) (line : List ℕ) (start : ℕ) (sources : List DateSource) (number : ℕ) (source : DateSource) (some : Bool) (so_far : Option Candidate) → number < length sources → source ≡ get_or sources number source
-    → GiveFrom given line start sources number some so_far → None ≡ candidate given line start number (grammar_in source) → GiveFrom given line start sources (number + 1) some so_far
-source_reads_none given line start sources number source some so_far within is give e =
-    let step = rw (← e) at (source_step given line start sources number source within is) in
-    record { long = rw step at give.long; any = rw step at give.any }
-
 no_sources : (given : Given) (line : List ℕ) (start : ℕ) (sources : List DateSource) (number : ℕ) → length sources ≤ number → from_number given line start sources number ≡ []
 unfolding candidates
 no_sources given line start sources number past = let end : drop number sources ≡ [] = drop_all number sources past in rw end refl
 
-or_false : (b : Bool) → (b || false) ≡ b
-or_false true = refl
-or_false false = refl
+-- ---- the sources before the first that reads a date
 
-said_all : (dates : List Candidate) → of_candidates dates ≡ said_of (is_any dates) (longest dates)
-unfolding is_any
-said_all [] = refl
-said_all (one ∷ others) = refl
+-- the sources from this number on read what all of them read
+abbrev pub GiveAll : Given → List ℕ → ℕ → List DateSource → ℕ → Type 0
+GiveAll given line start sources number = from_number given line start sources number ≡ candidates given line start 0 (map grammar_in sources)
 
-pub sources_end : (given : Given) (line : List ℕ) (start : ℕ) (sources : List DateSource) (number : ℕ) (some : Bool) (so_far : Option Candidate) → length sources ≤ number → GiveFrom given line start sources number some so_far
-    → of_candidates (candidates given line start 0 (map grammar_in sources)) ≡ said_of some so_far
-unfolding longest is_any
-sources_end given line start sources number some so_far past give =
+module _ (given : Given) (line : List ℕ) (start : ℕ) (sources : List DateSource) (number : ℕ) (source : DateSource) (within : number < length sources) (is : source ≡ get_or sources number source) where
+  pub none_read : GiveAll given line start sources number → None ≡ candidate given line start number (grammar_in source) → GiveAll given line start sources (number + 1)
+  none_read give e =
+      let step = rw (← e) at (source_step given line start sources number source within is) in
+      sym step ∙ give
+
+  pub first_read : (one : Candidate) → GiveAll given line start sources number → Some one ≡ candidate given line start number (grammar_in source)
+      → of_candidates (candidates given line start 0 (map grammar_in sources)) ≡ Some (finding (longest (one ∷ from_number given line start sources (number + 1))))
+  first_read one give e =
+      let step = rw (← e) at (source_step given line start sources number source within is) in
+      rw (sym give ∙ step) refl
+
+  pub last_read : (one : Candidate) → length sources ≤ number + 1 → GiveAll given line start sources number → Some one ≡ candidate given line start number (grammar_in source)
+      → of_candidates (candidates given line start 0 (map grammar_in sources)) ≡ Some (finding (if one.is_whole then Some one else None))
+  unfolding longest
+  last_read one past give e =
+      let none = no_sources given line start sources (number + 1) past in
+      first_read one give e ∙ ap (λ (others : List Candidate). Some (finding (longest (one ∷ others)))) none
+
+pub no_read : (given : Given) (line : List ℕ) (start : ℕ) (sources : List DateSource) (number : ℕ) → length sources ≤ number → GiveAll given line start sources number → None ≡ of_candidates (candidates given line start 0 (map grammar_in sources))
+no_read given line start sources number past give =
     let none = no_sources given line start sources number past in
-    let long = rw none at give.long in
-    let any = rw none at give.any in
-    said_all (from_number given line start sources 0) ∙ rw (sym any ∙ or_false some, sym long ∙ best_none so_far) refl
+    let all = rw none at give in
+    ap of_candidates all
+
+-- ---- the sources after it
+
+-- what was kept so far and what the sources from this number on read give the longest in all
+abbrev pub GiveLongest : Given → List ℕ → ℕ → List DateSource → Option Candidate → ℕ → Option Candidate → Type 0
+GiveLongest given line start sources all number so_far = best so_far (longest (from_number given line start sources number)) ≡ all
+
+pub longest_first : (one : Candidate) (others : List Candidate) → best (kept None one) (longest others) ≡ longest (one ∷ others)
+unfolding longest
+longest_first one others = sym (longer_of None one (longest others))
+
+module _ (given : Given) (line : List ℕ) (start : ℕ) (sources : List DateSource) (all : Option Candidate) (number : ℕ) (source : DateSource) (so_far : Option Candidate) (within : number < length sources) (is : source ≡ get_or sources number source) where
+  pub longest_more : (one : Candidate) → GiveLongest given line start sources all number so_far → Some one ≡ candidate given line start number (grammar_in source) → GiveLongest given line start sources all (number + 1) (kept so_far one)
+  unfolding longest
+  longest_more one give e =
+      let step = rw (← e) at (source_step given line start sources number source within is) in
+      let long = rw step at give in
+      sym (longer_of so_far one (longest (from_number given line start sources (number + 1)))) ∙ long
+
+  pub longest_same : GiveLongest given line start sources all number so_far → None ≡ candidate given line start number (grammar_in source) → GiveLongest given line start sources all (number + 1) so_far
+  longest_same give e =
+      let step = rw (← e) at (source_step given line start sources number source within is) in
+      rw step at give
+
+pub longest_end : (given : Given) (line : List ℕ) (start : ℕ) (sources : List DateSource) (all : Option Candidate) (number : ℕ) (so_far : Option Candidate) → length sources ≤ number → GiveLongest given line start sources all number so_far → so_far ≡ all
+unfolding longest
+longest_end given line start sources all number so_far past give =
+    let none = no_sources given line start sources number past in
+    let long = rw none at give in
+    sym (best_none so_far) ∙ long
 
 -- ---- places
 
@@ -158,7 +170,6 @@ places_end given sources line bytes start past so_far =
 
 -- ---- where dates lie
 
-pub said_within : (line sources : ℕ) (some : Bool) (long : Option Candidate) → IfSome long (λ (one : Candidate). LiesWithin line sources one.date) → IfSome (said_of some long) (IsWithin line sources)
-said_within line sources false long h = tt
-said_within line sources true None h = tt
-said_within line sources true (Some one) h = h
+pub finding_within : (line sources : ℕ) (long : Option Candidate) → IfSome long (λ (one : Candidate). LiesWithin line sources one.date) → IsWithin line sources (finding long)
+finding_within line sources None h = tt
+finding_within line sources (Some one) h = h

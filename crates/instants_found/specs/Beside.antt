@@ -1,12 +1,12 @@
 -- Whether a date stands whole in its line, and nothing beside it says otherwise.
-use Rattle.std.specs.Prelude.{ℕ, ◌+◌, ◌&&◌, ◌||◌, not, Bool, List, drop, Option, None, Some}
+use Rattle.std.specs.Prelude.{ℕ, ◌+◌, ◌&&◌, ◌||◌, not, Bool, List, drop, Option, None, Some, if◌then◌else◌}
 use Rattle.std.specs.Option.{is_none}
-use Rattle.datetime_wall.specs.Wall.{Shown}
 use Rattle.instants_sources.specs.Grammar.{Grammar}
 use Rattle.instants_edges.specs.Edge.{is_edge, may_say}
 use Rattle.instants_edges.specs.Clock.{has_clock_beside, has_clock_in_front}
 use Rattle.instants_edges.specs.Offset.{has_another_offset}
 use Rattle.instants_edges.specs.Year.{has_another_year}
+use Rattle.instants_fronts.specs.Front.{front_at}
 use Rattle.instants_fronts.specs.Given.{year_of}
 use Rattle.instants_fronts.specs.declared.given.Given.{Given}
 use Rattle.instants_fronts.specs.declared.given.Years.TheVariants.{Unknown}
@@ -54,6 +54,14 @@ is_gainsaid given grammar line start front =
 abbrev pub is_read : Grammar → List ℕ → ℕ → Front → Bool
 is_read grammar line start front =
     may_say line (start + front.begins) && (is_edge line (start + front.all) || not (has_unix_time grammar))
+
+abbrev pub if_read : Grammar → List ℕ → ℕ → Option Front → Option Front
+if_read grammar line start None = None
+if_read grammar line start (Some front) = if is_read grammar line start front then Some front else None
+
+-- the front of a date that a source reads at a place
+unfoldable pub read_at : Given → Grammar → List ℕ → ℕ → Option Front
+read_at given grammar line start = if_read grammar line start (front_at given grammar (drop start line))
 
 -- it stands whole: no word and no clock goes on after it, the line does not say otherwise beside it, and no clock stands in front of it and of all quotation marks, unless text of its description chose the place
 unfoldable pub stands_whole : Given → Grammar → List ℕ → ℕ → Front → Bool

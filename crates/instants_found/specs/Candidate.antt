@@ -9,14 +9,21 @@ use Rattle.instants_found.specs.Beside.{is_read, stands_whole}
 use Rattle.instants_found.specs.declared.candidate.Candidate.{Candidate}
 use Rattle.instants_found.specs.declared.found.Found.{Found}
 
--- the date from where it says something to where the word of its zone ends, how far it reaches for sure, and whether it stands whole
-abbrev pub as_candidate : Given → List ℕ → ℕ → ℕ → Grammar → Front → Candidate
-as_candidate given line start number grammar front =
+-- the date from where it says something to where the word of its zone ends
+abbrev pub found_at : ℕ → ℕ → Front → Found
+found_at start number front = record { start = start + front.begins; end = start + front.zone; source = number; moment = front.moment }
+
+-- it, how far it reaches for sure, and whether it stands whole
+abbrev pub candidate_with : List ℕ → ℕ → ℕ → Front → Bool → Candidate
+candidate_with line start number front is_whole =
     record {
-      date = record { start = start + front.begins; end = start + front.zone; source = number; moment = front.moment };
+      date = found_at start number front;
       reach = reach line (start + front.begins) (start + front.ends) (start + front.zone);
-      is_whole = stands_whole given grammar line start front;
+      is_whole = is_whole;
     }
+
+abbrev pub as_candidate : Given → List ℕ → ℕ → ℕ → Grammar → Front → Candidate
+as_candidate given line start number grammar front = candidate_with line start number front (stands_whole given grammar line start front)
 
 abbrev pub of_front : Given → List ℕ → ℕ → ℕ → Grammar → Option Front → Option Candidate
 of_front given line start number grammar None = None

@@ -1,26 +1,30 @@
 -- Why a date that a source reads is in doubt.
-use Rattle.std.specs.Prelude.{◌≡◌, ℕ, ◌+◌, ◌&&◌, not, Bool, List, [], ◌∷◌, drop, take, slice_get, Option, Some, None, option_map, is_some, if◌then◌else◌}
+use Rattle.std.specs.Prelude.{◌≡◌, ℕ, ◌+◌, ◌&&◌, not, List, [], ◌∷◌, take, slice_get, Option, Some, None, option_map, is_some, if◌then◌else◌}
 use Rattle.instants_sources.specs.Grammar.{Grammar}
 use Rattle.instants_edges.specs.Edge.{is_edge}
 use Rattle.instants_edges.specs.Clock.{has_clock_in_front}
 use Rattle.instants_fronts.specs.declared.given.Given.{Given}
-use Rattle.instants_fronts.specs.Front.{front_at}
 use Rattle.instants_fronts.specs.declared.front.Front.{Front}
-use Rattle.instants_found.specs.Beside.{is_read, says_another_offset, says_another_time, says_another_year}
+use Rattle.instants_found.specs.Beside.{read_at, says_another_offset, says_another_time, says_another_year}
 use Rattle.instants_found.specs.Found.{at_place}
 use Rattle.instants_found.specs.declared.doubt.Doubt.{Doubt}
 use Rattle.instants_found.specs.declared.doubt.Doubt.TheVariants.{Behind, ClockInFront, AnotherOffset, AnotherTime, AnotherYear}
 use Rattle.instants_found.specs.declared.doubt.Doubted.{Doubted}
 
--- why a date does not stand whole, the first of these
+-- what the line says otherwise beside a date than what was given for it, the first of these
+unfoldable pub otherwise : Given → Grammar → List ℕ → ℕ → Front → Option Doubt
+otherwise given grammar line start front =
+    if says_another_offset given grammar line start front then Some AnotherOffset
+    else if says_another_time given grammar line start front then Some AnotherTime
+    else if says_another_year given grammar line start front then Some AnotherYear
+    else None
+
+-- why a date does not stand whole, the first of these: a word or a clock goes on after it, a clock stands in front of it, or the line says otherwise beside it
 unfoldable pub why : Given → Grammar → List ℕ → ℕ → Front → Option Doubt
 why given grammar line start front =
     if not (is_edge line (start + front.all)) then Some Behind
     else if not front.is_chosen && has_clock_in_front line (start + front.begins) then Some ClockInFront
-    else if says_another_offset given grammar line start front then Some AnotherOffset
-    else if says_another_time given grammar line start front then Some AnotherTime
-    else if says_another_year given grammar line start front then Some AnotherYear
-    else None
+    else otherwise given grammar line start front
 
 -- ---- what one source reads at a place
 
@@ -30,12 +34,11 @@ as_doubted start front doubt = record { start = start + front.begins; end = star
 
 abbrev pub doubted_of : Given → Grammar → List ℕ → ℕ → Option Front → Option Doubted
 doubted_of given grammar line start None = None
-doubted_of given grammar line start (Some front) =
-    if is_read grammar line start front then option_map (as_doubted start front) (why given grammar line start front) else None
+doubted_of given grammar line start (Some front) = option_map (as_doubted start front) (why given grammar line start front)
 
 -- the date that a source reads at a place, if it is in doubt
 unfoldable pub doubted_at : Given → Grammar → List ℕ → ℕ → Option Doubted
-doubted_at given grammar line start = doubted_of given grammar line start (front_at given grammar (drop start line))
+doubted_at given grammar line start = doubted_of given grammar line start (read_at given grammar line start)
 
 -- ---- in the line
 

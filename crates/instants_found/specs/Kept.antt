@@ -1,15 +1,8 @@
 -- The longest of dates that come one after another.
-use Rattle.std.specs.Prelude.{Bool, true, false, ◌&&◌, nat_lt, Option, None, Some, if◌then◌else◌}
-use Rattle.instants_found.specs.Found.{finding}
+use Rattle.std.specs.Prelude.{◌&&◌, nat_lt, Option, None, Some, if◌then◌else◌}
 use Rattle.instants_found.specs.declared.candidate.Candidate.{Candidate}
-use Rattle.instants_found.specs.declared.found.Finding.{Finding}
 
 -- of one that stands whole, or none, and a date after it the one that stands whole and reaches further, and of equals the first
 abbrev pub kept : Option Candidate → Candidate → Option Candidate
 kept None other = if other.is_whole then Some other else None
 kept (Some best) other = if other.is_whole && nat_lt best.reach other.reach then Some other else Some best
-
--- what is found where some date is read, or none, by the longest that stands whole
-abbrev pub said_of : Bool → Option Candidate → Option Finding
-said_of true long = Some (finding long)
-said_of false long = None

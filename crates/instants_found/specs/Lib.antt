@@ -9,3 +9,4 @@ pub mod Starts
 pub mod Keys
 pub mod Marks
 pub mod Finder
+pub mod Tried

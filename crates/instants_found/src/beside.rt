@@ -1,8 +1,10 @@
 //! Whether a date stands whole in its line, and nothing beside it says otherwise.
-ghost use Rattle.std.specs.Prelude.{◌≡◌, ◌<◌, ◌≤◌, ◌+◌, drop, length, Some};
+ghost use Rattle.std.specs.Prelude.{◌≡◌, ◌<◌, ◌≤◌, ◌+◌, true, false, drop, length, Some, IfSome, is_some};
 ghost use Rattle.instants_fronts.specs.Front.{front_at};
-ghost use Rattle.instants_fronts.specs.DateSource.{grammar_in};
+ghost use Rattle.instants_fronts.specs.DateSource.{grammar_in, IsWithin};
+ghost use Rattle.instants_fronts.specs.declared.given.Years.TheVariants.{Unknown};
 ghost use Rattle.instants_found.specs.Beside as Beside;
+ghost use Rattle.instants_found.specs.Beside.{read_at};
 ghost use Rattle.instants_found.specs.Doubts as Doubts;
 
 use crate::doubt::Doubt;
@@ -30,7 +32,31 @@ pub(crate) fn is_read(source: &DateSource<'_>, line: &[u8], start: usize, front:
     ensures { result ≡ Beside.is_read (grammar_in source.now) line.now start front.now }
 {
     may_say(line, start + front.begins)
-        && (is_edge(line, start + front.all) || !source.has_unix_time())
+        && (!source.has_unix_time() || is_edge(line, start + front.all))
+}
+
+/// The front of a date that a source reads at a place.
+#[inline(always)]
+#[tactic(auto, unfolding(crate::specs::Beside::read_at))]
+pub(crate) fn read_at(
+    source: &DateSource<'_>,
+    given: &Given,
+    line: &[u8],
+    start: usize,
+) -> Option<Front>
+    requires { start < length line.now }
+    ensures is { result ≡ read_at given.now (grammar_in source.now) line.now start }
+    ensures front { IfSome result (λ front. front_at given.now (grammar_in source.now) (drop start line.now) ≡ Some front) }
+    ensures within { IfSome result (IsWithin (drop start line.now)) }
+{
+    let Some(front) = source.read(after(line, start), given) else {
+        return None;
+    };
+    if is_read(source, line, start, &front) {
+        Some(front)
+    } else {
+        None
+    }
 }
 
 // Whether the line says another offset after the date than one that was given and is needed.
@@ -114,7 +140,46 @@ fn says_another_year(
     source.needs(after(line, start), &without)
 }
 
-/// Why the date that a source reads at a place does not stand whole there, if it does not.
+// Whether nothing is given.
+#[inline(always)]
+fn gives_nothing(given: &Given) -> bool
+    ensures offset { result ≡ true → is_some given.now.offset ≡ false }
+    ensures years { result ≡ true → given.now.years ≡ Unknown }
+    ensures time { result ≡ true → is_some given.now.time ≡ false }
+{
+    given.offset.is_none() && given.time.is_none() && matches!(given.years, Years::Unknown)
+}
+
+// What the line says otherwise beside a date than what was given for it.
+#[inline(never)]
+#[tactic(auto, unfolding(crate::specs::Doubts::otherwise))]
+fn otherwise(
+    source: &DateSource<'_>,
+    given: &Given,
+    line: &[u8],
+    start: usize,
+    front: &Front,
+) -> Option<Doubt>
+    requires within { start < length line.now }
+    requires begins { start + front.now.begins ≤ length line.now }
+    requires ends { start + front.now.ends ≤ length line.now }
+    requires read { front_at given.now (grammar_in source.now) (drop start line.now) ≡ Some front.now }
+    ensures { result ≡ Doubts.otherwise given.now (grammar_in source.now) line.now start front.now }
+{
+    if says_another_offset(source, given, line, start, front) {
+        return Some(Doubt::AnotherOffset);
+    }
+    if says_another_time(source, given, line, start, front) {
+        return Some(Doubt::AnotherTime);
+    }
+    if says_another_year(source, given, line, start, front) {
+        return Some(Doubt::AnotherYear);
+    }
+    None
+}
+
+/// Why the date that a source reads at a place does not stand whole there, if it does not. The line can say nothing otherwise
+/// where nothing is given.
 #[inline(always)]
 #[tactic(auto, unfolding(crate::specs::Doubts::why))]
 pub(crate) fn why(
@@ -137,16 +202,10 @@ pub(crate) fn why(
     if !front.is_chosen && has_clock_in_front(line, start + front.begins) {
         return Some(Doubt::ClockInFront);
     }
-    if says_another_offset(source, given, line, start, front) {
-        return Some(Doubt::AnotherOffset);
+    if gives_nothing(given) {
+        return None;
     }
-    if says_another_time(source, given, line, start, front) {
-        return Some(Doubt::AnotherTime);
-    }
-    if says_another_year(source, given, line, start, front) {
-        return Some(Doubt::AnotherYear);
-    }
-    None
+    otherwise(source, given, line, start, front)
 }
 
 /// Whether the date that a source reads at a place stands whole there.

@@ -1,14 +1,13 @@
 //! The dates that sources read at one place of a line.
-ghost use Rattle.std.specs.Prelude.{◌≡◌, ◌<◌, ◌≤◌, length, IfSome};
-ghost use Rattle.instants_fronts.specs.DateSource.{grammar_in};
-ghost use Rattle.instants_edges.specs.Pieces as Pieces;
+ghost use Rattle.std.specs.Prelude.{◌≡◌, ◌<◌, ◌≤◌, ◌+◌, ◌^◌, drop, length, IfSome};
+ghost use Rattle.instants_fronts.specs.DateSource.{grammar_in, IsWithin};
 ghost use Rattle.instants_found.specs.Candidate as Candidates;
 ghost use Rattle.instants_found.specs.Kept.{kept};
 
-use crate::beside::{after, is_read, stands_whole};
+use crate::beside::{read_at, stands_whole};
 use crate::found::Found;
 use instants_edges::reach;
-use instants_fronts::{DateSource, Given};
+use instants_fronts::{DateSource, Front, Given};
 
 /// A date that a source reads at a place.
 #[derive(Drop)]
@@ -19,23 +18,45 @@ pub(crate) struct Candidate {
     pub(crate) is_whole: bool,
 }
 
-// How far a date reaches for sure, wherever it begins and ends.
+/// The date of a front that the source of this number reads at a place.
 #[inline(always)]
-#[tactic(auto, unfolding(instants_edges::specs::Pieces::reach))]
-fn reach_of(line: &[u8], begins: usize, ends: usize, zone: usize) -> usize
-    requires { ends ≤ length line.now }
-    ensures { result ≡ Pieces.reach line.now begins ends zone }
+pub(crate) fn found_at(start: usize, number: usize, front: Front) -> Found
+    requires begins { start + front.begins < 2 ^ 64 }
+    requires zone { start + front.zone < 2 ^ 64 }
+    ensures { result ≡ Candidates.found_at start number front }
 {
-    if begins < ends {
-        reach(line, begins, ends, zone)
-    } else {
-        zone
+    Found {
+        start: start + front.begins,
+        end: start + front.zone,
+        source: number,
+        moment: front.moment,
+    }
+}
+
+/// The same with how far it reaches, and whether it stands whole.
+#[inline(always)]
+pub(crate) fn candidate_with(
+    line: &[u8],
+    start: usize,
+    number: usize,
+    front: Front,
+    is_whole: bool,
+) -> Candidate
+    requires within { start < length line.now }
+    requires front { IsWithin (drop start line.now) front }
+    ensures { result ≡ Candidates.candidate_with line.now start number front is_whole }
+{
+    let (begins, ends, zone) = (start + front.begins, start + front.ends, start + front.zone);
+    let reach = reach(line, begins, ends, zone);
+    Candidate {
+        date: found_at(start, number, front),
+        reach,
+        is_whole,
     }
 }
 
 /// The date that a source of this number reads at a place.
-#[inline(always)]
-#[tactic(auto, unfolding(crate::specs::Candidate::candidate))]
+#[tactic(auto, unfolding(crate::specs::Candidate::candidate, crate::specs::Beside::read_at))]
 pub(crate) fn read_candidate(
     source: &DateSource<'_>,
     given: &Given,
@@ -50,24 +71,11 @@ pub(crate) fn read_candidate(
     ensures end { IfSome result (λ one. one.date.end ≤ length line.now) }
     ensures source { IfSome result (λ one. one.date.source ≡ number) }
 {
-    let Some(front) = source.read(after(line, start), given) else {
+    let Some(front) = read_at(source, given, line, start) else {
         return None;
     };
-    if !is_read(source, line, start, &front) {
-        return None;
-    }
     let is_whole = stands_whole(source, given, line, start, &front);
-    let (begins, ends, zone) = (start + front.begins, start + front.ends, start + front.zone);
-    Some(Candidate {
-        date: Found {
-            start: begins,
-            end: zone,
-            source: number,
-            moment: front.moment,
-        },
-        reach: reach_of(line, begins, ends, zone),
-        is_whole,
-    })
+    Some(candidate_with(line, start, number, front, is_whole))
 }
 
 /// Of a date that stands whole and another one the one that stands whole and reaches further, and of equals the first.

@@ -3,7 +3,7 @@ ghost use Rattle.std.specs.Prelude.{◌≡◌, ◌<◌, ◌≤◌, length, IfSom
 ghost use Rattle.instants_fronts.specs.DateSource.{grammar_in};
 ghost use Rattle.instants_found.specs.Doubts.{doubted_at};
 
-use crate::beside::{after, is_read, why};
+use crate::beside::{read_at, why};
 use instants_fronts::{DateSource, Given};
 
 /// Why a date does not stand whole in its line. Where there are several reasons, it is the first of these.
@@ -45,12 +45,9 @@ pub(crate) fn doubted_at(
     ensures start { IfSome result (λ date. date.start ≤ length line.now) }
     ensures end { IfSome result (λ date. date.end ≤ length line.now) }
 {
-    let Some(front) = source.read(after(line, start), given) else {
+    let Some(front) = read_at(source, given, line, start) else {
         return None;
     };
-    if !is_read(source, line, start, &front) {
-        return None;
-    }
     let doubt = why(source, given, line, start, &front)?;
     Some(Doubted {
         start: start + front.begins,

@@ -1,33 +1,62 @@
 //! What is found at one place of a line.
-ghost use Rattle.std.specs.Prelude.{◌≡◌, ◌<◌, ◌≤◌, All, false, length, map, IfSome};
+ghost use Rattle.std.specs.Prelude.{◌≡◌, ◌<◌, ◌≤◌, ◌+◌, ◌∷◌, All, false, drop, length, map, IfSome};
 ghost use Rattle.instants_fronts.specs.NoFront.{HasNoFront};
-ghost use Rattle.instants_fronts.specs.DateSource.{grammar_in};
-ghost use Rattle.instants_found.specs.Candidate.{candidates};
-ghost use Rattle.instants_found.specs.Found.{at_place, of_candidates};
-ghost use Rattle.instants_found.specs.Kept.{said_of};
-ghost use Rattle.instants_found.specs.Within.{IsWithin};
+ghost use Rattle.instants_fronts.specs.DateSource.{grammar_in, IsWithin};
+ghost use Rattle.instants_found.specs.Candidate.{candidate_with, candidates, longest};
+ghost use Rattle.instants_found.specs.Found.{at_place, finding, of_candidates};
+ghost use Rattle.instants_found.specs.Within as Within;
 
-use crate::beside::after;
-use crate::candidate::{Candidate, longer, read_candidate};
+use crate::beside::{after, is_read, stands_whole};
+use crate::candidate::{Candidate, candidate_with, found_at, longer, read_candidate};
 use crate::found::Finding;
 use instants_edges::is_edge;
-use instants_fronts::{DateSource, Given, lacks_byte, rules_out};
+use instants_fronts::{DateSource, Front, Given, lacks_byte, rules_out};
 
-// What is found where some date is read or none, by the longest that stands whole.
+// What is found where some date is read, by the longest that stands whole.
 #[inline(always)]
-fn finding(is_read: bool, longest: Option<Candidate>) -> Option<Finding>
-    ensures { result ≡ said_of is_read longest }
+fn finding(longest: Option<Candidate>) -> Finding
+    ensures { result ≡ finding longest }
 {
-    if !is_read {
-        return None;
-    }
     match longest {
-        Some(one) => Some(Finding::There(one.date)),
-        None => Some(Finding::Doubtful),
+        Some(one) => Finding::There(one.date),
+        None => Finding::Doubtful,
     }
 }
 
-// What all sources find at a place.
+// What is found where the source of this number reads a date, and those after it may.
+#[inline(never)]
+fn with_others(
+    sources: &[DateSource<'_>],
+    given: &Given,
+    line: &[u8],
+    start: usize,
+    number: usize,
+    front: Front,
+    is_whole: bool,
+) -> Finding
+    requires start { start < length line.now }
+    requires number { number < length sources.now }
+    requires front { IsWithin (drop start line.now) front }
+    ensures found { result ≡ finding (longest (candidate_with line.now start number front is_whole
+        ∷ candidates given.now line.now start (number + 1) (map grammar_in (drop (number + 1) sources.now)))) }
+    ensures within { Within.IsWithin (length line.now) (length sources.now) result }
+{
+    let bytes = after(line, start);
+    let one = candidate_with(line, start, number, front, is_whole);
+    let mut longest = longer(None, one);
+    for number in number + 1..sources.len() {
+        let source = &sources[number];
+        if lacks_byte(source.source(), bytes) {
+            continue;
+        }
+        if let Some(other) = read_candidate(source, given, line, start, number) {
+            longest = longer(longest, other);
+        }
+    }
+    finding(longest)
+}
+
+// What all sources find at a place. Where the last one alone reads a date, nothing is compared.
 #[inline(always)]
 fn by_sources(
     sources: &[DateSource<'_>],
@@ -38,22 +67,30 @@ fn by_sources(
     requires { start < length line.now }
     ensures found { result ≡ of_candidates
         (candidates given.now line.now start 0 (map grammar_in sources.now)) }
-    ensures within { IfSome result (IsWithin (length line.now) (length sources.now)) }
+    ensures within { IfSome result (Within.IsWithin (length line.now) (length sources.now)) }
 {
     let bytes = after(line, start);
-    let mut longest = None;
-    let mut is_read = false;
     for number in 0..sources.len() {
         let source = &sources[number];
         if lacks_byte(source.source(), bytes) {
             continue;
         }
-        if let Some(one) = read_candidate(source, given, line, start, number) {
-            is_read = true;
-            longest = longer(longest, one);
+        let Some(front) = source.read(bytes, given) else {
+            continue;
+        };
+        if !is_read(source, line, start, &front) {
+            continue;
         }
+        let is_whole = stands_whole(source, given, line, start, &front);
+        if number + 1 < sources.len() {
+            return Some(with_others(sources, given, line, start, number, front, is_whole));
+        }
+        if !is_whole {
+            return Some(Finding::Doubtful);
+        }
+        return Some(Finding::There(found_at(start, number, front)));
     }
-    finding(is_read, longest)
+    None
 }
 
 /// Whether the bytes may have a front that some source reads: `false` says that they have none.
@@ -80,7 +117,7 @@ pub(crate) fn at_place(
 ) -> Option<Finding>
     requires { start < length line.now }
     ensures found { result ≡ at_place given.now (map grammar_in sources.now) line.now start }
-    ensures within { IfSome result (IsWithin (length line.now) (length sources.now)) }
+    ensures within { IfSome result (Within.IsWithin (length line.now) (length sources.now)) }
 {
     if is_edge(line, start) {
         by_sources(sources, given, line, start)

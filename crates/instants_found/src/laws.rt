@@ -1,14 +1,15 @@
 //! Laws that follow from the definitions, each the contract of a function here.
-ghost use Rattle.std.specs.Prelude.{◌≡◌, ◌+◌, ◌<◌, ◌≤◌, ℕ, Option, Some, List, ◌++◌, length};
+ghost use Rattle.std.specs.Prelude.{◌≡◌, ◌+◌, ◌<◌, ◌≤◌, ◌*◌, ℕ, Option, Some, List, ◌++◌, length, take};
 ghost use Rattle.instants_sources.specs.Grammar.{Grammar};
 ghost use Rattle.std.specs.Option.{is_none};
 ghost use Rattle.instants_fronts.specs.declared.front.Front.{Front};
 ghost use Rattle.instants_fronts.specs.declared.given.Given.{Given};
-ghost use Rattle.instants_fronts.specs.Reading.{window};
+ghost use Rattle.instants_fronts.specs.Reading.{text_for, window};
 ghost use Rattle.instants_found.specs.Beside.{stands_whole};
 ghost use Rattle.instants_found.specs.Doubts.{HasDoubt, why};
 ghost use Rattle.instants_found.specs.Found.{found};
 ghost use Rattle.instants_found.specs.IsFound.{IsFound};
+ghost use Rattle.instants_found.specs.Tried.{nodes_of, tried_from};
 ghost use Rattle.instants_found.specs.declared.found.Found.{Found};
 ghost use Rattle.instants_found.specs.declared.found.Finding.{Finding};
 ghost use Rattle.instants_found.specs.declared.found.Finding.TheVariants.{Doubtful, There};
@@ -45,4 +46,12 @@ pub fn doubts()
         → stands_whole given grammar line start front ≡ is_none (why given grammar line start front) }
     ensures some { (limit : ℕ) (given : Given) (sources : List Grammar) (line : List ℕ)
         → found limit given sources line ≡ Some Doubtful → HasDoubt limit given sources line }
+{}
+
+/// Finding tries at most so many items as places are looked at, times the nodes of the sources, and each item is given no more
+/// bytes than the window has.
+pub fn cost()
+    ensures bounded { (sources : List Grammar) (line : List ℕ) (limit : ℕ)
+        → tried_from sources line limit ≤ length (take limit line) * nodes_of sources }
+    ensures near { (grammar : Grammar) (bytes : List ℕ) → length (text_for grammar bytes) ≤ window }
 {}

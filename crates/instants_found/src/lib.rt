@@ -19,3 +19,4 @@ mod starts;
 pub use doubt::{Doubt, Doubted};
 pub use finder::Finder;
 pub use found::{Finding, Found};
+pub use instants_fronts::{DateSource, Given, Years};

@@ -2,7 +2,7 @@
 
 use calendar::UtcOffset;
 use instants::read_words;
-use instants_found::{Finder, Finding};
+use instants_found::{Doubt, Doubted, Finder, Finding};
 use instants_fronts::{Given, Years};
 use instants_sources::Source;
 use std::alloc::Global;
@@ -282,4 +282,98 @@ fn memory_refused(rt: HostRuntime) -> Result<(), Fail> {
     let wanted = Told::Date(3, 23, 1, 1_609_556_645);
     assert!(rt; as_told(finder.find(&given(None), b"at 2021-01-02T03:04:05Z")) == wanted);
     Ok(())
+}
+
+// Why a date is in doubt, by name.
+fn name_of(doubt: Doubt) -> &'static str {
+    match doubt {
+        Doubt::Behind => "behind",
+        Doubt::ClockInFront => "clock in front",
+        Doubt::AnotherOffset => "another offset",
+        Doubt::AnotherTime => "another time",
+        Doubt::AnotherYear => "another year",
+    }
+}
+
+fn is_doubted(said: Option<Doubted>, wanted: Option<(usize, usize, &str)>) -> bool {
+    match (said, wanted) {
+        (Some(said), Some(wanted)) => {
+            said.start == wanted.0 && said.end == wanted.1 && name_of(said.doubt) == wanted.2
+        }
+        (None, None) => true,
+        _ => false,
+    }
+}
+
+// The words of a finder, a line, the number of a source, and where its date stands and why it is in doubt.
+const DOUBTS: [(&str, &str, usize, Option<(usize, usize, &str)>); 8] = [
+    (
+        "+00:00|-|100|rfc3339",
+        "2024-05-01T10:00:00Zulu up",
+        0,
+        Some((0, 20, "behind")),
+    ),
+    (
+        "+00:00|-|100|rfc3339",
+        "up 10:00:00 2024-05-01T10:00:00Z",
+        0,
+        Some((12, 32, "clock in front")),
+    ),
+    (
+        "+00:00|+00:00|100|strftime|%F %T",
+        "2024-05-01 10:00:00 +0200 up",
+        0,
+        Some((0, 19, "another offset")),
+    ),
+    (
+        "+00:00|+00:00|100|rfc3339|strftime|%F %T",
+        "2024-05-01 10:00:00 +0200 up",
+        1,
+        Some((0, 19, "another offset")),
+    ),
+    (
+        "+00:00|+00:00|100|rfc3339|strftime|%F %T",
+        "2024-05-01 10:00:00 +0200 up",
+        0,
+        None,
+    ),
+    (
+        "+00:00|+00:00|100|strftime|%F %T",
+        "2024-05-01 10:00:00 +0200 up",
+        1,
+        None,
+    ),
+    ("+00:00|-|100|rfc3339", "at 2024-05-01T10:00:00Z", 0, None),
+    ("+00:00|-|100|rfc3339", "up", 0, None),
+];
+
+#[test]
+fn doubts(rt: HostRuntime) {
+    for row in &DOUBTS {
+        let (words, line, number, wanted) = *row;
+        let (finder, given) = finder(&rt, rt.alloc(), words);
+        let said = finder.doubt_of(&given, line.as_bytes(), number);
+        assert!(rt; is_doubted(said, wanted), "{line}");
+    }
+}
+
+// A time of day and a year that are given for dates, and that the line says otherwise.
+#[test]
+fn doubts_of_what_is_given(rt: HostRuntime) {
+    let (days, offset) = finder(&rt, rt.alloc(), "+00:00|+00:00|100|strftime|%F");
+    let noon = Given {
+        offset: offset.offset,
+        years: Years::Unknown,
+        time: Some(720),
+    };
+    let said = days.doubt_of(&noon, b"2024-05-01 10:00 up", 0);
+    assert!(rt; is_doubted(said, Some((0, 10, "another time"))));
+    let (times, _) = finder(&rt, rt.alloc(), "+00:00|+00:00|100|strftime|%m-%d %T");
+    let this_year = Given {
+        offset: offset.offset,
+        years: Years::In(2024),
+        time: None,
+    };
+    let said = times.doubt_of(&this_year, b"2023 05-01 10:00:00 up", 0);
+    assert!(rt; is_doubted(said, Some((5, 19, "another year"))));
 }

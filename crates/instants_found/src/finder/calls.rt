@@ -291,13 +291,14 @@ impl<'a> Finder<'a> {
         ensures start { IfSome result (λ date. date.start ≤ length line.now) }
         ensures end { IfSome result (λ date. date.end ≤ length line.now) }
     {
-        let Some(source) = self.sources.as_slice().get(number) else {
+        let sources = self.sources.as_slice();
+        if number >= sources.len() {
             return None;
-        };
+        }
         let Some(place) = self.first_read(given, line) else {
             return None;
         };
-        doubted_at(source, given, line, place)
+        doubted_at(&sources[number], given, line, place)
     }
 }
 

@@ -1,22 +1,24 @@
-use Rattle.std.proofs.Common.{◌+◌, ◌∷◌, length, sym, ap, ◌∙◌, arith}
-use Rattle.std.specs.Prelude.{IfSome, None}
+use Rattle.std.proofs.Common.{◌+◌, length, sym, ap, ◌∙◌, arith}
+use Rattle.std.specs.Prelude.{None}
 use Rattle.instants_fronts.specs.DateSource.{grammar_in}
-use Rattle.instants_found.specs.Candidate.{longest}
 use Rattle.instants_found.specs.Found.{finding}
-use Rattle.instants_found.specs.Within.{LiesWithin, IsWithin}
+use Rattle.instants_found.specs.Within.{LiesWithin}
 use Rattle.instants_found.specs.declared.candidate.Candidate.{Candidate}
-use Rattle.instants_found.specs.declared.found.Finding.{Finding}
+use Rattle.instants_found.specs.Candidate.{candidate_with}
 use Rattle.instants_found.proofs.NoDates.{no_candidate}
+use Rattle.instants_found.proofs.ReadAt.{lies_within}
 use Rattle.instants_found.proofs.Steps.{from_number, longest_first, longest_more, longest_same, longest_end, kept_holds, finding_within}
 use Rattle.instants_found.proofs.finding.with_others.Goals.{in-Some, in_default}
 use Rattle.instants_found.proofs.finding.with_others.Goals as goal
 
 pub loop-number-init : goal.loop-number-init
 loop-number-init c =
-    let P : Candidate → Type 0 = λ one. LiesWithin (length c.args.line.now) (length c.args.sources.now) one.date in
-    rw c.longer-longest.ensures (record {
-      gives = longest_first c.args.one (from_number c.args.given.now c.args.line.now c.args.start c.args.sources.now (c.args.one.date.source + 1));
-      within = kept_holds P None c.args.one tt c.requires.one;
+    let line = c.args.line.now in
+    let one = candidate_with line c.args.start c.args.number c.args.front c.args.is_whole in
+    let P : Candidate → Type 0 = λ date. LiesWithin (length line) (length c.args.sources.now) date.date in
+    rw (c.longer-longest.ensures, c.candidate_with-one.ensures) (record {
+      gives = longest_first one (from_number c.args.given.now line c.args.start c.args.sources.now (c.args.number + 1));
+      within = kept_holds P None one tt (lies_within line c.args.start c.args.number (length c.args.sources.now) c.args.front c.requires.start c.requires.number c.requires.front);
     })
 
 pub loop-number-preserved-then-lacks_byte : goal.loop-number-preserved-then-lacks_byte

@@ -1,4 +1,4 @@
-use Rattle.std.proofs.Common.{◌≡◌, get_or, List, sym, subst, ◌∙◌, arith}
+use Rattle.std.proofs.Common.{◌≡◌, get_or, List, subst, ◌∙◌}
 use Rattle.instants_fronts.specs.declared.date_source.DateSource.{DateSource}
 use Rattle.instants_found.specs.Finder.{limit_of}
 use Rattle.instants_found.proofs.DoubtOf.{no_source, no_place, doubt_here}

@@ -1,4 +1,4 @@
-use Rattle.std.proofs.Common.{◌≡◌, ◌<◌, true, false, length, take, arith}
+use Rattle.std.proofs.Common.{◌≡◌, true, false, take, arith}
 use Rattle.std.specs.Prelude.{is_some}
 use Rattle.std.proofs.lemmas.List.{length-take}
 use Rattle.instants_found.specs.Finder.{sources_of, limit_of}
