@@ -1,0 +1,125 @@
+#!/usr/bin/env python3
+"""Compares the program `instants-lines` with a model of it (tools/model_lines.py) on lines that are made at random.
+
+    tools/try_model.py [--lines N] [--seed S] [--program PATH] [--block N] [--processes N] [--without-refusal]
+
+Each run has words of its own: a mode, offsets, a limit, a year, a time of day and sources, among them descriptions that are made at
+random, and a stream of lines with dates of all kinds, changed bytes and odd ends. One run in twenty has words that are wrong. Output,
+status and the sentence on standard error have to be the same, byte by byte. Of the first run that differs the words are printed, the
+first line that is answered differently, and both outputs; the status is 1 then.
+
+The program is the one that was built last, and else `./instants-lines`, whose trials take half a minute each: give it --block 8000 or so,
+and few lines. --without-refusal is for a program that does not refuse a source which names no moment.
+"""
+
+import argparse
+import multiprocessing
+import os
+import pathlib
+import random
+import shlex
+import subprocess
+import sys
+import time
+
+sys.dont_write_bytecode = True
+
+import sample_lines
+import sample_words
+from model.lines import answer
+
+ROOT = pathlib.Path(__file__).resolve().parent.parent
+BUILT = ROOT / "crates" / "instants_lines_program" / "out" / "instants_lines_program"
+# What is said beside the sentence of a run: of a trial, and of a description that is literal text alone.
+NOTES = (b"instants-lines: the program is not built", b"instants-lines: what follows is of a trial", b"instants-lines: warning: ")
+PROCESSES = 2
+
+
+class Difference(Exception):
+    """The program and the model differ; the text says where."""
+
+
+def said_by_program(program, words, stream):
+    """Returns the output, the sentence and the status of the program."""
+    ran = subprocess.run([program, *words], input=stream, capture_output=True)
+    said = [it for it in ran.stderr.splitlines(keepends=True) if not it.startswith(NOTES)]
+    return ran.stdout, b"".join(said), ran.returncode
+
+
+def lines_alike(one, other):
+    """Returns how many lines at the front of two outputs are the same."""
+    pairs = enumerate(zip(one, other))
+    return next((at for at, (left, right) in pairs if left != right), min(len(one), len(other)))
+
+
+def first_difference(words, stream, program, model):
+    """Returns what is printed of two answers that differ."""
+    text = [f"words: {shlex.join(words)}"]
+    if program[1:] != model[1:]:
+        text += [f"program: status {program[2]}, {program[1]!r}", f"model:   status {model[2]}, {model[1]!r}"]
+    left, right = program[0].split(b"\n"), model[0].split(b"\n")
+    at = lines_alike(left, right)
+    if left != right:
+        given = stream.split(b"\n")
+        text += [f"line {at + 1}: {given[at] if at < len(given) else b''!r}"]
+        text += [f"program: {left[at] if at < len(left) else b''!r}", f"model:   {right[at] if at < len(right) else b''!r}"]
+        above = model[0].split(b"\n")[max(at - 1, 0) : at]
+        text += [f"above:   {it!r}" for it in above]
+    return "\n".join(text)
+
+
+def compare(program, seed, count, refuses):
+    """Compares one run, and returns how many lines were answered, and the mode, or raises Difference."""
+    rng = random.Random(seed)
+    asked = sample_words.wrong_words(rng) if rng.random() < 0.05 else sample_words.right_words(rng)
+    stream = sample_lines.some_stream(rng, asked.ways, asked.limit, count)
+    expected = answer([it.encode() for it in asked.words], stream, refuses)
+    given = said_by_program(program, asked.words, stream if expected[2] == 0 else b"")
+    if given != expected:
+        raise Difference(f"seed {seed}\n{first_difference(asked.words, stream, given, expected)}")
+    return (asked.words[:1] or ("",))[0], count if expected[2] == 0 else 0, expected[0].count(b"\n")
+
+
+def compared(task):
+    """Returns what `compare` says, or the text of a difference."""
+    try:
+        return compare(*task)
+    except Difference as difference:
+        return str(difference)
+
+
+def main():
+    parser = argparse.ArgumentParser(description=__doc__, formatter_class=argparse.RawDescriptionHelpFormatter)
+    parser.add_argument("--lines", type=int, default=500_000)
+    parser.add_argument("--seed", type=int, default=1)
+    parser.add_argument("--program", default=str(BUILT if os.access(BUILT, os.X_OK) else ROOT / "instants-lines"))
+    parser.add_argument("--block", type=int, default=200, help="lines of a run")
+    parser.add_argument("--processes", type=int, default=PROCESSES)
+    parser.add_argument("--without-refusal", action="store_true")
+    parser.add_argument("--only", type=int, help="compare the run of this seed alone")
+    asked = parser.parse_args()
+    if asked.only is not None:
+        said = compared((asked.program, asked.only, asked.block, not asked.without_refusal))
+        print(said if isinstance(said, str) else "no difference")
+        return 1 if isinstance(said, str) else 0
+    runs = (asked.lines + asked.block - 1) // asked.block
+    tasks = ((asked.program, asked.seed * 1_000_000 + it, asked.block, not asked.without_refusal) for it in range(runs * 2))
+    lines, wrong, by_mode, began = 0, 0, {}, time.monotonic()
+    with multiprocessing.Pool(asked.processes) as pool:
+        for said in pool.imap(compared, tasks):
+            if isinstance(said, str):
+                print(f"after {lines} lines without a difference:\n{said}")
+                return 1
+            mode, count, _ = said
+            lines, wrong = lines + count, wrong + (count == 0)
+            by_mode[mode] = by_mode.get(mode, 0) + count
+            if lines >= asked.lines:
+                break
+        pool.terminate()
+    told = ", ".join(f"{count} in mode {mode}" for mode, count in sorted(by_mode.items()) if count)
+    print(f"{lines} lines without a difference in {time.monotonic() - began:.0f} s: {told}; and {wrong} lists of words that are wrong")
+    return 0
+
+
+if __name__ == "__main__":
+    sys.exit(main())
