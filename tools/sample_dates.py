@@ -68,7 +68,7 @@ def rfc3339(rng, m):
 def iso8601(rng, m):
     dash, colon = rng.choice([("-", ":"), ("-", ":"), ("", ""), ("-", ""), ("", ":")])
     week, date = m.date().isocalendar(), m.date()
-    year = rng.choice([f"{m.year:04}", f"{m.year:04}", f"+{m.year:06}", f"-{m.year:06}"])
+    year = rng.choice([f"{m.year:04}", f"{m.year:04}", f"{m.year:04}", f"+{m.year:06}", f"-{m.year:06}", f"{rng.choice('+-')}{rng.choice([999_999, rng.randrange(10**6)]):06}"])
     day = rng.choice([
         f"{year}{dash}{m.month:02}{dash}{m.day:02}", f"{year}{dash}{m.month:02}{dash}{m.day:02}",
         f"{year}{dash}{date.timetuple().tm_yday:03}", f"{week[0]:04}{dash}W{week[1]:02}{dash}{week[2]}", year,
@@ -82,8 +82,18 @@ def iso8601(rng, m):
     return f"{day}{rng.choice('TTTT t')}{time}{offset}"
 
 
+def some_comment(rng, levels=3):
+    """Returns a comment of RFC 2822, or what is nearly one."""
+    parts = ["a", " ", "  ", "\t", "\r", "\0", "\x7f", "\x0b", "\u00e9", "\\)", "\\(", "\\\\", "\\\0", "\\\r", "\\\u00e9", "\\", ")", "(", "x y"]
+    inside = "".join(rng.choice(parts) for _ in range(rng.choice([0, 1, 2, 4])))
+    if levels and rng.random() < 0.3:
+        inside += some_comment(rng, levels - 1)
+    depth = rng.choice([1, 1, 1, 1, 1, 1, 1, 30, 31, 32])
+    return "(" * depth + inside + ")" * depth
+
+
 def rfc2822(rng, m):
-    space = rng.choice([" ", " ", " ", " ", "  ", "\t", " (a comment) ", "(b)", " ((c) \\) d) ", "\r\n "])
+    space = rng.choice([" ", " ", " ", " ", "  ", "\t", " (a comment) ", "(b)", " ((c) \\) d) ", "\r", "\r ", some_comment(rng), f" {some_comment(rng)}"])
     day = rng.choice([f"{m.day:02}", f"{m.day}"])
     weekday = rng.choice([f"{WEEKDAYS[m.date().weekday()][:3]},{space}", f"{WEEKDAYS[rng.randrange(7)][:3].upper()}, ", "", f"{WEEKDAYS[0]}, "])
     year = rng.choice([f"{m.year:04}", f"{m.year:04}", f"{m.year % 100:02}"])
@@ -209,7 +219,8 @@ def some_year(rng, is_iso=False):
 
     def write(r, m):
         mark = r.choice("++-") if sign == "mandatory" or r.random() < 0.1 else ""
-        return mark + padded(value(m), padding, r.choice([4, 4, 4, 6]) if mark else 4)
+        year = r.randrange(10**6) if mark and r.random() < 0.1 else value(m)
+        return mark + padded(year, padding, r.choice([4, 4, 4, 6]) if mark else 4)
 
     return Piece(text, write)
 

@@ -93,9 +93,12 @@ def lengthened(rng, line, limit):
     return line[:at] + fill * min(count, 4000) + line[at:]
 
 
-def some_line(rng, ways, limit):
-    """Returns a line as bytes, without its line feed."""
+def some_line(rng, ways, limit, is_whole):
+    """Returns a line as bytes, without its line feed; mostly a date alone, where lines are read as a whole."""
     kind = rng.random()
+    if is_whole and kind < 0.7:
+        line = some_date(rng, ways).encode()
+        return changed(rng, line) if rng.random() < 0.4 else line.replace(b"\n", b" ")
     if kind < 0.05:
         return some_text(rng).encode()
     if kind < 0.07:
@@ -110,9 +113,9 @@ def some_line(rng, ways, limit):
     return line.replace(b"\n", b" ")
 
 
-def some_stream(rng, ways, limit, count):
-    """Returns so many lines as one stream, of which the last now and then has no line feed."""
-    lines = [some_line(rng, ways, limit) for _ in range(count)]
+def some_stream(rng, asked, count):
+    """Returns so many lines for a run's words as one stream, of which the last now and then has no line feed."""
+    lines = [some_line(rng, asked.ways, asked.limit, asked.words[:1] == ("explain",)) for _ in range(count)]
     if rng.random() < 0.05:
         lines = [it + b"\r" for it in lines]
     return b"\n".join(lines) + (b"" if rng.random() < 0.3 else b"\n")

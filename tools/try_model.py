@@ -33,6 +33,8 @@ BUILT = ROOT / "crates" / "instants_lines_program" / "out" / "instants_lines_pro
 # What is said beside the sentence of a run: of a trial, and of a description that is literal text alone.
 NOTES = (b"instants-lines: the program is not built", b"instants-lines: what follows is of a trial", b"instants-lines: warning: ")
 PROCESSES = 2
+# A list of wrong words costs a run of its own, which takes as long as so many lines.
+LINES_OF_A_LIST, WRONG = 10, 2
 
 
 class Difference(Exception):
@@ -68,24 +70,34 @@ def first_difference(words, stream, program, model):
     return "\n".join(text)
 
 
-def compare(program, seed, count, refuses):
-    """Compares one run, and returns how many lines were answered, and the mode, or raises Difference."""
-    rng = random.Random(seed)
-    asked = sample_words.wrong_words(rng) if rng.random() < 0.05 else sample_words.right_words(rng)
-    stream = sample_lines.some_stream(rng, asked.ways, asked.limit, count)
-    expected = answer([it.encode() for it in asked.words], stream, refuses)
-    given = said_by_program(program, asked.words, stream if expected[2] == 0 else b"")
+def compare(program, words, stream, refuses):
+    """Compares one run, and returns the model's answer, or raises Difference."""
+    expected = answer([it.encode() for it in words], stream, refuses)
+    given = said_by_program(program, words, stream if expected[2] == 0 else b"")
     if given != expected:
-        raise Difference(f"seed {seed}\n{first_difference(asked.words, stream, given, expected)}")
-    return (asked.words[:1] or ("",))[0], count if expected[2] == 0 else 0, expected[0].count(b"\n")
+        raise Difference(first_difference(words, stream, given, expected))
+    return expected
+
+
+def compare_block(program, seed, count, refuses):
+    """Compares one run with lines, or now and then runs whose words are wrong. Returns the mode, and how many lines and lists of wrong
+    words were compared."""
+    rng = random.Random(seed)
+    if rng.random() < 0.05:
+        lists = [sample_words.wrong_words(rng) for _ in range(count // LINES_OF_A_LIST + 1)]
+        return "", 0, sum(compare(program, it.words, b"", refuses)[2] == WRONG for it in lists)
+    asked = sample_words.right_words(rng)
+    stream = sample_lines.some_stream(rng, asked, count)
+    status = compare(program, asked.words, stream, refuses)[2]
+    return asked.words[0], count * (status == 0), int(status == WRONG)
 
 
 def compared(task):
-    """Returns what `compare` says, or the text of a difference."""
+    """Returns what `compare_block` says, or the text of a difference."""
     try:
-        return compare(*task)
+        return compare_block(*task)
     except Difference as difference:
-        return str(difference)
+        return f"seed {task[1]}\n{difference}"
 
 
 def main():
@@ -110,8 +122,8 @@ def main():
             if isinstance(said, str):
                 print(f"after {lines} lines without a difference:\n{said}")
                 return 1
-            mode, count, _ = said
-            lines, wrong = lines + count, wrong + (count == 0)
+            mode, count, refused = said
+            lines, wrong = lines + count, wrong + refused
             by_mode[mode] = by_mode.get(mode, 0) + count
             if lines >= asked.lines:
                 break

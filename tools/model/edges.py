@@ -26,9 +26,11 @@ def at(line, place):
 def ends_sequence(line, place):
     """Whether a control sequence ends here: `ESC [`, digits and `;`, and a letter."""
     first = place - 1
+    if at(line, first) not in LETTER:
+        return False
     while at(line, first - 1) in PARAMETER:
         first -= 1
-    return at(line, place - 1) in LETTER and at(line, first - 1) == ord("[") and at(line, first - 2) == ESCAPE
+    return at(line, first - 1) == ord("[") and at(line, first - 2) == ESCAPE
 
 
 def goes_on(line, place):
