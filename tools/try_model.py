@@ -35,6 +35,8 @@ NOTES = (b"instants-lines: the program is not built", b"instants-lines: what fol
 PROCESSES = 2
 # A list of wrong words costs a run of its own, which takes as long as so many lines.
 LINES_OF_A_LIST, WRONG = 10, 2
+# After how many lines it is told that the trial goes on.
+SIGN_OF_LIFE = 50_000
 
 
 class Difference(Exception):
@@ -123,6 +125,8 @@ def main():
                 print(f"after {lines} lines without a difference:\n{said}")
                 return 1
             mode, count, refused = said
+            if (lines + count) // SIGN_OF_LIFE > lines // SIGN_OF_LIFE:
+                print(f"{lines + count} lines so far", file=sys.stderr, flush=True)
             lines, wrong = lines + count, wrong + refused
             by_mode[mode] = by_mode.get(mode, 0) + count
             if lines >= asked.lines:
