@@ -2,6 +2,8 @@
 """Compares the program `instants-lines` with a model of it (tools/model_lines.py) on lines that are made at random.
 
     tools/try_model.py [--lines N] [--seed S] [--program PATH] [--block N] [--processes N] [--without-refusal]
+    tools/try_model.py --only SEED [..]    the run of one seed, as a difference names it
+    tools/try_model.py --rows              the model beside the stored rows of dated lines (crates/rows), without the program
 
 Each run has words of its own: a mode, offsets, a limit, a year, a time of day and sources, among them descriptions that are made at
 random, and a stream of lines with dates of all kinds, changed bytes and odd ends. One run in twenty has words that are wrong. Output,
@@ -17,6 +19,7 @@ import multiprocessing
 import os
 import pathlib
 import random
+import re
 import shlex
 import subprocess
 import sys
@@ -30,6 +33,7 @@ from model.lines import answer
 
 ROOT = pathlib.Path(__file__).resolve().parent.parent
 BUILT = ROOT / "crates" / "instants_lines_program" / "out" / "instants_lines_program"
+ROWS, DATED = ROOT / "crates" / "rows" / "stdout", "\n## Dated lines\n"
 # What is said beside the sentence of a run: of a trial, and of a description that is literal text alone.
 NOTES = (b"instants-lines: the program is not built", b"instants-lines: what follows is of a trial", b"instants-lines: warning: ")
 PROCESSES = 2
@@ -94,6 +98,44 @@ def compare_block(program, seed, count, refuses):
     return asked.words[0], count * (status == 0), int(status == WRONG)
 
 
+# ---- the stored rows
+
+
+def words_in(text):
+    """Returns words that are parted by blanks; one with a blank in it is in single quotes."""
+    words = shlex.shlex(text, posix=True)
+    words.whitespace_split, words.escape, words.quotes, words.commenters = True, "", "'", ""
+    return [it.encode() for it in words]
+
+
+def bytes_in(text):
+    """Returns the bytes of a stream or an answer: a line feed ends it, unless `\\c` does."""
+    is_cut = text.endswith("\\c")
+    marks = {"n": b"\n", "r": b"\r", "t": b"\t", "\\": b"\\"}
+    parts = re.split(r"\\(x[0-9a-fA-F]{2}|[nrt\\])", text[:-2] if is_cut else text)
+    read = b"".join(part.encode() if at % 2 == 0 else marks.get(part) or bytes.fromhex(part[1:]) for at, part in enumerate(parts))
+    return read if is_cut else read + b"\n"
+
+
+def compare_rows(refuses):
+    """Compares the model with the stored rows, prints those that differ, and returns how many."""
+    rows = [it for it in ROWS.read_text().partition(DATED)[2].splitlines() if it and it[0] != "#"]
+    differing = 0
+    for row in rows:
+        words, _, stream = row.partition("|")
+        stream, _, told = stream.removeprefix(" ").partition(" => " if " => " in row else " =>")
+        written, said, status = answer(words_in(words), bytes_in(stream), refuses)
+        is_same = f"{said.decode().strip()} (status {status})" == told if status else written == bytes_in(told)
+        if not is_same:
+            differing += 1
+            print(f"{row}\nmodel: {said or written!r}")
+    print(f"{len(rows)} rows, {differing} of them differ")
+    return differing
+
+
+# ---- runs on several processes
+
+
 def compared(task):
     """Returns what `compare_block` says, or the text of a difference."""
     try:
@@ -111,7 +153,10 @@ def main():
     parser.add_argument("--processes", type=int, default=PROCESSES)
     parser.add_argument("--without-refusal", action="store_true")
     parser.add_argument("--only", type=int, help="compare the run of this seed alone")
+    parser.add_argument("--rows", action="store_true", help="compare the model with the stored rows")
     asked = parser.parse_args()
+    if asked.rows:
+        return 1 if compare_rows(not asked.without_refusal) else 0
     if asked.only is not None:
         said = compared((asked.program, asked.only, asked.block, not asked.without_refusal))
         print(said if isinstance(said, str) else "no difference")
