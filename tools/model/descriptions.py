@@ -6,7 +6,6 @@ from typing import NamedTuple
 from .components import Component, Compound, First, Literal, Maybe, Part
 from .faults import Faulty
 
-SPACE = b" \t\n\f\r"
 MOST_LEVELS = 127
 
 

@@ -11,7 +11,6 @@ DIGIT = frozenset(b"0123456789")
 LETTER = frozenset(b"ABCDEFGHIJKLMNOPQRSTUVWXYZabcdefghijklmnopqrstuvwxyz")
 WORD = DIGIT | LETTER
 SIGN = frozenset(b"+-")
-SPACE = frozenset(b" \t\n\f\r")
 BEFORE_SIGN = frozenset(b" \t\n\f\r([{<\"'`=:,;|")
 PARAMETER = DIGIT | frozenset(b";")
 

@@ -20,6 +20,8 @@ LANGUAGES = {
 }
 # Names of formats: each stands for a language and a description.
 SYNONYMS = {}
+# What may stand before the sources, in this order, each behind its name.
+NAMED = (b"year", b"time")
 SOURCES = b", ".join((*FORMATS, *LANGUAGES))
 USAGE = b"usage: instants-lines MODE [TARGET [ASSUMED [LIMIT]]] [year N] [time HH:MM] SOURCE..."
 NO_FILES = b"no such source; files are read from standard input: instants-lines .. < FILE"
@@ -43,6 +45,10 @@ def said(word, reading, wrong):
     if value is None:
         raise WrongWords(b'"' + word + b'": ' + wrong)
     return value
+
+
+def maybe_said(word, reading, wrong):
+    return None if word is None else said(word, reading, wrong)
 
 
 # ---- the words in their order
@@ -121,18 +127,18 @@ def asked_by(words, refuses_lacking=True):
     if words[0] not in MODES:
         raise WrongWords(b'"%s": no such mode; there are %s' % (words[0], b", ".join(MODES)))
     settings, rest = front_settings(list(words[1:]))
-    year_word, rest = named_word(b"year", rest)
-    time_word, rest = named_word(b"time", rest)
+    named = {}
+    for name in NAMED:
+        named[name], rest = named_word(name, rest)
     if not rest:
         raise WrongWords(b"no source is named; there are " + SOURCES)
     target, assumed, limit = settings + [b"+00:00", b"-", b"1048576"][len(settings) :]
     target = said(as_offset(target), offset_said, b"no target offset; it must be +HH:MM, -HH:MM, Z or UTC")
     assumed = None if assumed == b"-" else said(as_offset(assumed), offset_said, b"no assumed offset; it must be +HH:MM, -HH:MM, Z, UTC or -")
     limit = said(limit, lambda it: number_said(1, 1_048_576, 7, it), b"no limit; it must be a number from 1 to 1048576")
-    year = None if year_word is None else said(year_word, year_said, b"no year; it must be a number from 0 to 9999")
-    minutes = None if time_word is None else said(time_word, time_said, b"no time of day; it must be HH:MM")
-    named = sources_said(rest, len(settings) == 3)
-    sources = tuple(source_made(place, *it) for place, it in enumerate(named, 1))
+    year = maybe_said(named[b"year"], year_said, b"no year; it must be a number from 0 to 9999")
+    minutes = maybe_said(named[b"time"], time_said, b"no time of day; it must be HH:MM")
+    sources = tuple(source_made(place, *it) for place, it in enumerate(sources_said(rest, len(settings) == 3), 1))
     asked = Asked(words[0].decode(), target, assumed, limit, year, minutes, sources)
     if refuses_lacking and words[0] in DATING:
         refuse_lacking(asked)
