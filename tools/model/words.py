@@ -1,6 +1,5 @@
 """What the words of a run say, or the first thing wrong with them."""
 
-import re
 from typing import NamedTuple
 
 from . import descriptions, strftime
