@@ -57,13 +57,20 @@ def right_words(rng, mode=None):
 
 
 ODD = [
-    "", "-", "+", "+00:0", "+24:00", "-23:60", "+0200", "*02:00", "z", "utc", "UTC+1", "Z", "0", "1", "1048576", "1048577", "00000001", "12x", "-1", "year", "time", "10000", "2024",
-    "12:60", "24:00", "1:00", "rfc3339", "rfc2822", "iso8601", "RFC3339", "rfc3339.log", "/var/log/app", "./a", "v1", "v2", "v3", "v4", "strftime", "%F %T", "%T", "%Z", "%",
-    "%-", "%Ey", "%^b", "%f", "%\u00e9x", "%3S", "%_", "[year]", "[year", "[]", "[ ]", "[yaer]", "[year repr]", "[year repr:]", "[year :full]", "[year repr:full repr:full]", "[optional]",
-    "[optional [", "[optional [x]", "[first [x] y]", "[optional x]", "[month repr:long padding:zero]", "[ignore]", "[ignore count:0]", "[ignore count:65536]", "[ignore count:x]",
-    "\\", "\\x", "\\[", "[[", "]", "[first [a][b]]", "[Year]", "[year REPR:full]", "[weekday repr:12]", "[hour repr:12][period]", "[end trailing_input:keep]", "[unix_timestamp precision:hour]",
-    "[optional [" * 128 + "x" + "]]" * 128, "[optional [" * 127 + "x" + "]]" * 127, "[subsecond digits:10]", "[year base:iso_week sign:mandatory range:extended]", "[ \tday\fpadding:none\r]", "[day padding:none ",
-    "[year repr:last_two sign:mandatory]", "[weekday one_indexed:true]", "[first ]", "[first []]", "[optional []x]", "key", "carry", "explain", "guess", "--help me", "\u00e9",
+    "", "-", "+", "+00:0", "+24:00", "-23:60", "+0200", "*02:00", "z", "utc", "UTC+1", "Z", "0", "1", "1048576", "1048577", "00000001",
+    "12x", "-1", "year", "time", "10000", "2024",
+    "12:60", "24:00", "1:00", "rfc3339", "rfc2822", "iso8601", "RFC3339", "rfc3339.log", "/var/log/app", "./a", "v1", "v2", "v3", "v4",
+    "strftime", "%F %T", "%T", "%Z", "%",
+    "%-", "%Ey", "%^b", "%f", "%\u00e9x", "%3S", "%_", "[year]", "[year", "[]", "[ ]", "[yaer]", "[year repr]", "[year repr:]",
+    "[year :full]", "[year repr:full repr:full]", "[optional]",
+    "[optional [", "[optional [x]", "[first [x] y]", "[optional x]", "[month repr:long padding:zero]", "[ignore]", "[ignore count:0]",
+    "[ignore count:65536]", "[ignore count:x]",
+    "\\", "\\x", "\\[", "[[", "]", "[first [a][b]]", "[Year]", "[year REPR:full]", "[weekday repr:12]", "[hour repr:12][period]",
+    "[end trailing_input:keep]", "[unix_timestamp precision:hour]",
+    "[optional [" * 128 + "x" + "]]" * 128, "[optional [" * 127 + "x" + "]]" * 127, "[subsecond digits:10]",
+    "[year base:iso_week sign:mandatory range:extended]", "[ \tday\fpadding:none\r]", "[day padding:none ",
+    "[year repr:last_two sign:mandatory]", "[weekday one_indexed:true]", "[first ]", "[first []]", "[optional []x]", "key", "carry",
+    "explain", "guess", "--help me", "\u00e9",
 ]
 
 

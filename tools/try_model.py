@@ -50,7 +50,11 @@ class Difference(Exception):
 def said_by_program(program, words, stream):
     """Returns the output, the sentence and the status of the program."""
     ran = subprocess.run([program, *words], input=stream, capture_output=True)
-    said = [it for it in ran.stderr.splitlines(keepends=True) if not it.startswith(NOTES)]
+    said = ran.stderr.splitlines(keepends=True)
+    if NOTES[0] in ran.stderr:
+        # (a trial ends an output that has no line feed at its end by one among what is said)
+        said = [it for it in said if it != b"\n"]
+    said = [it for it in said if not it.startswith(NOTES)]
     return ran.stdout, b"".join(said), ran.returncode
 
 
