@@ -1,7 +1,7 @@
 #!/usr/bin/env python3
 """Compares the program `instants-lines` with a model of it (tools/model_lines.py) on lines that are made at random.
 
-    tools/try_model.py [--lines N] [--seed S] [--program PATH] [--block N] [--processes N] [--without-refusal]
+    tools/try_model.py [--lines N] [--seed S] [--program PATH] [--block N] [--processes N]
     tools/try_model.py --only SEED [..]    the run of one seed, as a difference names it
     tools/try_model.py --rows              the model beside the stored rows of dated lines (crates/rows), without the program
 
@@ -10,8 +10,8 @@ random, and a stream of lines with dates of all kinds, changed bytes and odd end
 status and the sentence on standard error have to be the same, byte by byte. Of the first run that differs the words are printed, the
 first line that is answered differently, and both outputs; the status is 1 then.
 
-The program is the one that was built last, and else `./instants-lines`, whose trials take half a minute each: give it --block 8000 or so,
-and few lines. --without-refusal is for a program that does not refuse a source which names no moment.
+The program is the one that was built last, and else `./instants-lines`, whose trials take half a minute each: give it --block 4000 or so,
+and few lines.
 """
 
 import argparse
@@ -80,25 +80,25 @@ def first_difference(words, stream, program, model):
     return "\n".join(text)
 
 
-def compare(program, words, stream, refuses):
+def compare(program, words, stream):
     """Compares one run, and returns the model's answer, or raises Difference."""
-    expected = answer([it.encode() for it in words], stream, refuses)
+    expected = answer([it.encode() for it in words], stream)
     given = said_by_program(program, words, stream if expected[2] == 0 else b"")
     if given != expected:
         raise Difference(first_difference(words, stream, given, expected))
     return expected
 
 
-def compare_block(program, seed, count, refuses):
+def compare_block(program, seed, count):
     """Compares one run with lines, or now and then runs whose words are wrong. Returns the mode, and how many lines and lists of wrong
     words were compared."""
     rng = random.Random(seed)
     if rng.random() < 0.05:
         lists = [sample_words.wrong_words(rng) for _ in range(count // LINES_OF_A_LIST + 1)]
-        return "", 0, sum(compare(program, it.words, b"", refuses)[2] == WRONG for it in lists)
+        return "", 0, sum(compare(program, it.words, b"")[2] == WRONG for it in lists)
     asked = sample_words.right_words(rng)
     stream = sample_lines.some_stream(rng, asked, count)
-    status = compare(program, asked.words, stream, refuses)[2]
+    status = compare(program, asked.words, stream)[2]
     return asked.words[0], count * (status == 0), int(status == WRONG)
 
 
@@ -121,14 +121,14 @@ def bytes_in(text):
     return read if is_cut else read + b"\n"
 
 
-def compare_rows(refuses):
+def compare_rows():
     """Compares the model with the stored rows, prints those that differ, and returns how many."""
     rows = [it for it in ROWS.read_text().partition(DATED)[2].splitlines() if it and it[0] != "#"]
     differing = 0
     for row in rows:
         words, _, stream = row.partition("|")
         stream, _, told = stream.removeprefix(" ").partition(" => " if " => " in row else " =>")
-        written, said, status = answer(words_in(words), bytes_in(stream), refuses)
+        written, said, status = answer(words_in(words), bytes_in(stream))
         is_same = f"{said.decode().strip()} (status {status})" == told if status else written == bytes_in(told)
         if not is_same:
             differing += 1
@@ -155,18 +155,17 @@ def main():
     parser.add_argument("--program", default=str(BUILT if os.access(BUILT, os.X_OK) else ROOT / "instants-lines"))
     parser.add_argument("--block", type=int, default=200, help="lines of a run")
     parser.add_argument("--processes", type=int, default=PROCESSES)
-    parser.add_argument("--without-refusal", action="store_true")
     parser.add_argument("--only", type=int, help="compare the run of this seed alone")
     parser.add_argument("--rows", action="store_true", help="compare the model with the stored rows")
     asked = parser.parse_args()
     if asked.rows:
-        return 1 if compare_rows(not asked.without_refusal) else 0
+        return 1 if compare_rows() else 0
     if asked.only is not None:
-        said = compared((asked.program, asked.only, asked.block, not asked.without_refusal))
+        said = compared((asked.program, asked.only, asked.block))
         print(said if isinstance(said, str) else "no difference")
         return 1 if isinstance(said, str) else 0
     runs = (asked.lines + asked.block - 1) // asked.block
-    tasks = ((asked.program, asked.seed * 1_000_000 + it, asked.block, not asked.without_refusal) for it in range(runs * 2))
+    tasks = ((asked.program, asked.seed * 1_000_000 + it, asked.block) for it in range(runs * 2))
     lines, wrong, by_mode, began = 0, 0, {}, time.monotonic()
     with multiprocessing.Pool(asked.processes) as pool:
         for said in pool.imap(compared, tasks):

@@ -8,8 +8,6 @@ from .faults import Refused
 from .record import TIME_PARTS, YEAR_PARTS, moment_named, with_offset
 
 LEAST_UNIX, GREATEST_UNIX = 10**17, 10**19
-# The line's date is in doubt.
-DOUBT = "doubt"
 
 
 class Given(NamedTuple):
@@ -34,9 +32,17 @@ class Date(NamedTuple):
 
 
 class Candidate(NamedTuple):
+    """A date that a source reads, how far it reaches for sure, and why it does not stand whole, or None."""
+
     date: Date
     reach: int
-    is_whole: bool
+    doubt: str
+
+
+class Doubtful(NamedTuple):
+    """The line's date is in doubt: none of those that are read there stands whole."""
+
+    read: tuple
 
 
 # ---- the moment of a front
@@ -79,17 +85,18 @@ def front_named(given, source, text):
 # ---- a date at a place
 
 
-def is_gainsaid(given, source, line, text, begins, ends, moment):
-    """Whether the line says another offset, a clock or another year beside the date than what was given and is needed."""
+def gainsaid(given, source, line, text, begins, ends, moment):
+    """Returns what the line says otherwise beside the date than what was given and is needed, or None."""
 
     def is_needed(without):
         return front_named(without, source, text) is None
 
     if edges.has_another_offset(line, ends, given.offset) and is_needed(given._replace(offset=None)):
-        return True
+        return "another offset"
     if edges.has_clock_beside(line, begins, ends) and is_needed(given._replace(minutes=None)):
-        return True
-    return edges.has_another_year(line, begins, ends, moment.year()) and is_needed(given._replace(year=None, above=None))
+        return "another time"
+    is_other = edges.has_another_year(line, begins, ends, moment.year()) and is_needed(given._replace(year=None, above=None))
+    return "another year" if is_other else None
 
 
 def candidate(given, line, place, number, source):
@@ -100,17 +107,17 @@ def candidate(given, line, place, number, source):
         return None
     moment, after = front
     long = source.lengths(text, after)
-    begins, ends = place + long.begins, place + long.ends
+    begins, ends, zone = place + long.begins, place + long.ends, place + long.zone
     is_edge = edges.is_edge(line, place + edges.trimmed_length(text[:after]))
     if not edges.may_say(line, begins) or (source.has_unix_time and not is_edge):
         return None
-    is_whole = (
-        is_edge
-        and (long.is_chosen or not edges.has_clock_in_front(line, begins))
-        and not is_gainsaid(given, source, line, text, begins, ends, moment)
-    )
-    date = Date(begins, place + long.zone, number, moment)
-    return Candidate(date, edges.reach(line, begins, ends, place + long.zone), is_whole)
+    if not is_edge:
+        doubt = "goes on"
+    elif not long.is_chosen and edges.has_clock_in_front(line, begins):
+        doubt = "clock in front"
+    else:
+        doubt = gainsaid(given, source, line, text, begins, ends, moment)
+    return Candidate(Date(begins, zone, number, moment), edges.reach(line, begins, ends, zone), doubt)
 
 
 # ---- the date of a line
@@ -121,14 +128,14 @@ def at_place(given, sources, line, place):
         return None
     read = [candidate(given, line, place, number, source) for number, source in enumerate(sources)]
     read = [it for it in read if it]
-    whole = [it for it in read if it.is_whole]
+    whole = [it for it in read if it.doubt is None]
     if whole:
         return max(whole, key=lambda it: it.reach).date
-    return DOUBT if read else None
+    return Doubtful(tuple(read)) if read else None
 
 
 def found(limit, given, sources, line):
-    """Returns the date, or DOUBT, or None."""
+    """Returns the date, or that it is in doubt, or None."""
     for place in range(min(limit, len(line))):
         there = at_place(given, sources, line, place)
         if there:

@@ -3,10 +3,10 @@
 from . import calendar
 from .edges import WINDOW
 from .faults import Refused, WrongWords
-from .found import DOUBT, Given, found
+from .found import Date, Doubtful, Given, found
 from .words import asked_by
 
-NONE, DOUBTFUL, LONG = b"! none", b"! doubt", b"! long"
+NONE, DOUBT, LONG = b"! none", b"! doubt", b"! long"
 
 
 class Run:
@@ -25,22 +25,29 @@ class Run:
         text = MODES[self.asked.mode](self, line, date)
         if self.asked.mode == "carry":
             self.key = self.key_of(date)
-        if date and date != DOUBT:
+        if isinstance(date, Date):
             self.given = self.given.below(date.moment)
         return text
 
     def key_of(self, date):
         if date is None:
             return self.key
-        return DOUBTFUL if date == DOUBT else calendar.place_text(self.asked.target, date.moment)
+        return DOUBT if isinstance(date, Doubtful) else calendar.place_text(self.asked.target, date.moment)
 
     def keyed(self, line, date):
-        return self.key_of(date) + b"\t" + line
+        label = b"" if self.asked.label is None else self.asked.label + b"\t"
+        return self.key_of(date) + b"\t" + label + line
 
     def replaced(self, line, date):
         """A line without a date stays, and one whose date is in doubt or whose year is not written."""
-        shown = date and date != DOUBT and calendar.shown_at(self.asked.target, date.moment)
+        shown = isinstance(date, Date) and calendar.shown_at(self.asked.target, date.moment)
         return line[: date.start] + calendar.moment_text(shown) + line[date.end :] if shown else line
+
+    def located(self, line, date):
+        """The key of the date, the source's number and where the date is; of a date in doubt the same of each source, and why."""
+        if isinstance(date, Doubtful):
+            return b"\t".join((DOUBT, *(place_of(it.date) + b"\t" + it.doubt.encode() for it in date.read)))
+        return NONE if date is None else self.key_of(date) + b"\t" + place_of(date)
 
     # ---- explained lines
 
@@ -65,10 +72,16 @@ class Run:
             return (LONG if len(line) > self.asked.limit else self.explained(line)) + (end or b"\n")
         near = self.asked.limit + WINDOW + 64 + 1
         last_end = b"" if self.asked.mode == "replace" else b"\n"
-        return self.dated(line[:near]) + line[near:] + (end or last_end)
+        rest = b"" if self.asked.mode == "locate" else line[near:]
+        return self.dated(line[:near]) + rest + (end or last_end)
 
 
-MODES = {"key": Run.keyed, "carry": Run.keyed, "replace": Run.replaced}
+def place_of(date):
+    """Returns the number of a date's source, counted from 1, and the date's first and last byte, counted from 1 too."""
+    return b"%d\t%d-%d" % (date.source + 1, date.start + 1, date.end)
+
+
+MODES = {"key": Run.keyed, "carry": Run.keyed, "replace": Run.replaced, "locate": Run.located}
 
 
 def output(asked, stream):
@@ -80,9 +93,9 @@ def output(asked, stream):
     return b"".join(written)
 
 
-def answer(words, stream, refuses_lacking=True):
+def answer(words, stream):
     """Returns the output, what is said on standard error, and the status."""
     try:
-        return output(asked_by(words, refuses_lacking), stream), b"", 0
+        return output(asked_by(words), stream), b"", 0
     except WrongWords as wrong:
         return b"", wrong.sentence + b"\n", 2

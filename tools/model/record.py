@@ -1,9 +1,10 @@
 """A record: the values of all components that were read, by name, and the moment that they name together.
 
-Of a record of a dict the keys are `year`, `century`, `last_two` (and the same three after `iso_`), `month`, `day`, `ordinal`,
-`weekday` (days since Monday), `iso_week`, `sunday_week`, `monday_week`, `hour_24`, `hour_12`, `is_pm`, `minute`, `second`,
-`subsecond` (nanoseconds), `offset_hour`, `offset_minute`, `offset_second`, `unix` (nanoseconds), and four flags that are false
-where they are missing: `century_is_negative`, `iso_century_is_negative`, `offset_is_negative`, `leap_second_is_permitted`.
+It is a dict. Its keys are `year`, `century`, `last_two` (and the same three after `iso_`), `month`, `day`, `ordinal`, `weekday`
+(days since Monday), `iso_week`, `sunday_week`, `monday_week`, `hour_24`, `hour_12`, `is_pm`, `minute`, `second`, `subsecond`
+(nanoseconds), `offset_hour`, `offset_minute`, `offset_second`, `unix` (nanoseconds), and four flags that are false where they are
+missing: `century_is_negative`, `iso_century_is_negative`, `offset_is_negative`, `leap_second_is_permitted`. What is not there was
+not read.
 """
 
 from . import calendar

@@ -1,5 +1,7 @@
 """What the words of a run say, or the first thing wrong with them."""
 
+import pathlib
+import re
 from typing import NamedTuple
 
 from . import descriptions, strftime
@@ -7,9 +9,10 @@ from .faults import Faulty, WrongWords
 from .pieces import number_said, offset_said, time_said, year_said
 from .sources import Source
 
-MODES = (b"key", b"carry", b"replace", b"explain")
-# The modes whose sources have to name a moment.
-DATING = (b"key", b"carry", b"replace")
+ROOT = pathlib.Path(__file__).resolve().parent.parent.parent
+MODES = (b"key", b"carry", b"replace", b"explain", b"locate")
+# The modes in which a label stands behind the key.
+LABELLED = (b"key", b"carry")
 FORMATS = (b"rfc3339", b"rfc2822", b"iso8601")
 LANGUAGES = {
     b"v1": lambda text: descriptions.items_of(1, text),
@@ -17,13 +20,22 @@ LANGUAGES = {
     b"v3": lambda text: descriptions.items_of(3, text),
     b"strftime": strftime.items_of,
 }
-# Names of formats: each stands for a language and a description.
-SYNONYMS = {}
 # What may stand before the sources, in this order, each behind its name.
-NAMED = (b"year", b"time")
-SOURCES = b", ".join((*FORMATS, *LANGUAGES))
-USAGE = b"usage: instants-lines MODE [TARGET [ASSUMED [LIMIT]]] [year N] [time HH:MM] SOURCE..."
+NAMED = (b"year", b"time", b"label")
+SOURCES = b", ".join((*FORMATS, *LANGUAGES)) + b", and the names of --help"
+USAGE = b"usage: instants-lines MODE [TARGET [ASSUMED [LIMIT]]] [year N] [time HH:MM] [label TEXT] SOURCE..."
 NO_FILES = b"no such source; files are read from standard input: instants-lines .. < FILE"
+
+
+def named_formats():
+    """Returns the language and the description that each name of a format stands for, as the table of definitions has them."""
+    text = (ROOT / "crates" / "instants_formats" / "specs" / "Table.antt").read_text()
+    word = r'codes "((?:[^"\\]|\\.)*)"'
+    rows = re.findall(rf"name = {word}; language = {word}; description = {word};", text)
+    return {name.encode(): tuple(re.sub(r"\\(.)", r"\1", it).encode() for it in words) for name, *words in rows}
+
+
+SYNONYMS = named_formats()
 
 
 class Asked(NamedTuple):
@@ -33,6 +45,7 @@ class Asked(NamedTuple):
     limit: int
     year: int  # or None
     minutes: int  # of the day, or None
+    label: bytes  # or None
     sources: tuple
 
 
@@ -44,6 +57,10 @@ def said(word, reading, wrong):
     if value is None:
         raise WrongWords(b'"' + word + b'": ' + wrong)
     return value
+
+
+def label_said(mode, word):
+    return word if mode in LABELLED and b"\t" not in word and b"\n" not in word else None
 
 
 def maybe_said(word, reading, wrong):
@@ -119,7 +136,7 @@ def refuse_lacking(asked):
             raise WrongWords(b"source %d names no moment: it has no %s" % (place, lack.encode()))
 
 
-def asked_by(words, refuses_lacking=True):
+def asked_by(words):
     """Returns what words ask for, or raises WrongWords."""
     if not words:
         raise WrongWords(USAGE)
@@ -137,8 +154,8 @@ def asked_by(words, refuses_lacking=True):
     limit = said(limit, lambda it: number_said(1, 1_048_576, 7, it), b"no limit; it must be a number from 1 to 1048576")
     year = maybe_said(named[b"year"], year_said, b"no year; it must be a number from 0 to 9999")
     minutes = maybe_said(named[b"time"], time_said, b"no time of day; it must be HH:MM")
+    label = maybe_said(named[b"label"], lambda it: label_said(words[0], it), b"no label; modes key and carry take one, without tabs and line feeds")
     sources = tuple(source_made(place, *it) for place, it in enumerate(sources_said(rest, len(settings) == 3), 1))
-    asked = Asked(words[0].decode(), target, assumed, limit, year, minutes, sources)
-    if refuses_lacking and words[0] in DATING:
-        refuse_lacking(asked)
+    asked = Asked(words[0].decode(), target, assumed, limit, year, minutes, label, sources)
+    refuse_lacking(asked)
     return asked
