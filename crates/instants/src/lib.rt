@@ -40,6 +40,6 @@ pub use instants_stream::{
 };
 pub use instants_timeline::{
     FaultText, LineFault, NewFault, ProgramFault, RunsLines, Timeline, answer_by, answer_moment,
-    answer_named, run, run_over, run_words, run_words_by, shown_at,
+    answer_named, asked_timeline, run, run_over, run_program, run_words, shown_at,
 };
 pub use instants_words::{SourceText, Sources, Words, WordsFault, read_words};

@@ -1,9 +1,12 @@
 -- Clocks before a place.
 use Rattle.std.proofs.Common.{◌≡◌, ℕ, zero, suc, ◌+◌, ◌-◌, ◌<◌, ◌≤◌, ◌==◌, Bool, true, false, ◌||◌, not, List, length, get_or, refl, subst, inl, inr, add-one, below_more, arith}
-use Rattle.std.specs.Prelude.{min}
+use Rattle.std.specs.Prelude.{min, nat_le, ◌&&◌}
+use Rattle.std.proofs.lemmas.Bool.Decides.{nat_tests}
 use Rattle.std.proofs.lemmas.Bool.{cases_lt}
 use Rattle.std.proofs.lemmas.List.Sums.{prefix_len_is, prefix_len_stops}
-use Rattle.instants_edges.specs.Clock.{ends_seconds, has_seconds_before, quote_place, has_clock_in_front}
+use Rattle.base.specs.Bytes.{colon}
+use Rattle.instants_edges.specs.Edge.{byte_before}
+use Rattle.instants_edges.specs.Clock.{ends_pair, ends_clock, ends_seconds, has_seconds_before, quote_place, has_clock_in_front, HasNoColon}
 
 -- no clock and no quotation mark comes before a place
 abbrev pub NoneSoFar : List ℕ → ℕ → Type 0
@@ -73,3 +76,47 @@ none_there line at place within past before none =
     let later : at ≤ quote_place line = quote_later line at (omega arith) none.quotes in
     let least : min place (quote_place line) ≡ at = omega (arith, later) in
     rw least none.clocks
+
+-- ---- without a colon
+
+pair_none : (pair x y q r : Bool) → (true && (pair && false) && x && y) && q && r ≡ false
+pair_none true x y q r = refl
+pair_none false x y q r = refl
+
+-- no clock ends at a place before which no colon stands
+unended : (line : List ℕ) (place at : ℕ) → at ≤ place → HasNoColon line place → ends_seconds line at ≡ false
+unended line place at within none =
+    elim (cases_lt at 8) [
+      | inl low ↦
+          let few : nat_le 8 at ≡ false = grind (arith, nat_tests) in
+          rw few refl
+      | inr far ↦
+          let eight : nat_le 8 at ≡ true = grind (arith, nat_tests) in
+          let near : nat_le 3 at ≡ true = grind (arith, nat_tests) in
+          let other : (get_or line (at - 3) 0 == colon) ≡ false = none (at - 3) (omega (arith, far, within)) in
+          rw (eight, near, other) (pair_none (ends_pair line at) (ends_clock line (at - 3)) (ends_pair line (at - 6)) _ _)
+    ]
+
+none_before : (line : List ℕ) (place n : ℕ) → n ≤ place → HasNoColon line place → has_seconds_before line n ≡ false
+unfolding has_seconds_before
+none_before line place zero within none = refl
+none_before line place (suc n) within none = rw (unended line place n (omega (arith, within)) none) (none_before line place n (omega (arith, within)) none)
+
+pub no_colon_no_clock : (line : List ℕ) (place : ℕ) → HasNoColon line place → has_clock_in_front line place ≡ false
+unfolding has_clock_in_front
+no_colon_no_clock line place none = none_before line place (min place (quote_place line)) (omega arith) none
+
+-- sixteen bytes more without one
+pub none_among : (line : List ℕ) (seen at place : ℕ) → at ≤ seen → place ≡ at + 16 → HasNoColon line seen → ((k : ℕ) → k < 16 → (get_or line (at + k) 0 == colon) ≡ false) → HasNoColon line place
+none_among line seen at place le is none here = λ k lt.
+    elim (cases_lt k seen) [
+      | inl low ↦ none k low
+      | inr high ↦
+          let same : at + (k - at) ≡ k = omega (arith, high, le) in
+          let P : ℕ → Type 0 = λ n. (get_or line n 0 == colon) ≡ false in
+          subst P same (here (k - at) (omega (arith, high, le, is, lt)))
+    ]
+
+pub is_none : (b : Bool) → not b ≡ true → b ≡ false
+is_none true h = absurd cc
+is_none false h = refl

@@ -2,6 +2,7 @@ pub mod Fronts
 pub mod Edges
 pub mod Texts
 pub mod Clocks
+pub mod Lanes
 pub mod Numbers
 pub mod Zones
 pub mod Offsets

@@ -1,5 +1,5 @@
 -- Clocks beside a date and before it.
-use Rattle.std.specs.Prelude.{ℕ, zero, suc, ◌+◌, ◌-◌, ◌==◌, ◌&&◌, ◌||◌, not, nat_le, min, Bool, false, List, drop, get_or}
+use Rattle.std.specs.Prelude.{◌≡◌, ◌<◌, ℕ, zero, suc, ◌+◌, ◌-◌, ◌==◌, ◌&&◌, ◌||◌, not, nat_le, min, Bool, false, List, drop, get_or}
 use Rattle.std.specs.Char.{is_ascii_digit, is_ascii_alphanumeric}
 use Rattle.std.specs.List.{prefix_len}
 use Rattle.base.specs.Bytes.{colon}
@@ -41,3 +41,7 @@ quote_place line = prefix_len (λ byte. not (byte == 34)) line
 -- a clock with seconds stands in front of a place and of all quotation marks
 unfoldable pub has_clock_in_front : List ℕ → ℕ → Bool
 has_clock_in_front line place = has_seconds_before line (min place (quote_place line))
+
+-- no colon stands before a place, and so no clock
+abbrev pub HasNoColon : List ℕ → ℕ → Type 0
+HasNoColon line place = (k : ℕ) → k < place → (get_or line k 0 == colon) ≡ false

@@ -6,6 +6,7 @@ ghost use Rattle.instants_edges.specs.Edge.{byte_before};
 ghost use Rattle.instants_edges.specs.Clock as Clock;
 
 use crate::bytes::{byte_at, byte_before};
+use crate::colons::lacks_colon;
 
 // Whether a clock stands at a place: one digit or two, a colon and a digit.
 #[tactic(auto, using(crate::proofs::Fronts::drop_at))]
@@ -80,9 +81,10 @@ fn ends_seconds(line: &[u8], place: usize) -> bool
         && stands_alone(line, place)
 }
 
-/// Whether a clock with seconds ends before a place, and before the first quotation mark.
+// The same, looked for byte by byte.
+#[inline(never)]
 #[tactic(auto, unfolding(crate::specs::Clock::has_clock_in_front))]
-pub fn has_clock_in_front(line: &[u8], place: usize) -> bool
+fn has_seconds_in_front(line: &[u8], place: usize) -> bool
     requires { place ≤ length line.now }
     ensures { result ≡ Clock.has_clock_in_front line.now place }
 {
@@ -95,4 +97,16 @@ pub fn has_clock_in_front(line: &[u8], place: usize) -> bool
         }
     }
     false
+}
+
+/// Whether a clock with seconds ends before a place, and before the first quotation mark. Most lines have no colon there.
+#[inline(always)]
+pub fn has_clock_in_front(line: &[u8], place: usize) -> bool
+    requires { place ≤ length line.now }
+    ensures { result ≡ Clock.has_clock_in_front line.now place }
+{
+    if lacks_colon(line, place) {
+        return false;
+    }
+    has_seconds_in_front(line, place)
 }

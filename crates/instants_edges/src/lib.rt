@@ -3,6 +3,7 @@
 
 mod bytes;
 mod clock;
+mod colons;
 mod digits;
 mod edge;
 mod offset;

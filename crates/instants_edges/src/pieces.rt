@@ -68,10 +68,12 @@ fn last_digits(bytes: &[u8]) -> usize
 /// are no fraction, and else to the end of its zone, which is given.
 #[tactic(auto, unfolding(crate::specs::Pieces::reach))]
 pub fn reach(line: &[u8], begins: usize, ends: usize, zone: usize) -> usize
-    requires order { begins ≤ ends }
-    requires within { ends ≤ length line.now }
+    requires { ends ≤ length line.now }
     ensures { result ≡ Pieces.reach line.now begins ends zone }
 {
+    if ends <= begins {
+        return zone;
+    }
     let digits = last_digits(&line[begins..ends]);
     if digits + 1 >= ends - begins {
         return zone;

@@ -29,15 +29,24 @@ without_year given = record given { years = Unknown }
 abbrev pub names_nothing : Given → Grammar → List ℕ → Bool
 names_nothing without grammar bytes = is_none (front_named without grammar (text_for grammar bytes))
 
--- the line says another offset, a clock or another year beside the date than what was given and is needed
+-- the line says another offset after the date than one that was given and is needed
+abbrev pub says_another_offset : Given → Grammar → List ℕ → ℕ → Front → Bool
+says_another_offset given grammar line start front =
+    has_another_offset line (start + front.ends) given.offset && names_nothing (without_offset given) grammar (drop start line)
+
+-- it says a clock beside a date whose time of day was given and is needed
+abbrev pub says_another_time : Given → Grammar → List ℕ → ℕ → Front → Bool
+says_another_time given grammar line start front =
+    has_clock_beside line (start + front.begins) (start + front.ends) && names_nothing (without_time given) grammar (drop start line)
+
+-- it says another year beside the date than one that was given and is needed
+abbrev pub says_another_year : Given → Grammar → List ℕ → ℕ → Front → Bool
+says_another_year given grammar line start front =
+    has_another_year line (start + front.begins) (start + front.ends) (year_of front.moment) && names_nothing (without_year given) grammar (drop start line)
+
 unfoldable pub is_gainsaid : Given → Grammar → List ℕ → ℕ → Front → Bool
 is_gainsaid given grammar line start front =
-    let bytes = drop start line in
-    let begins = start + front.begins in
-    let ends = start + front.ends in
-    (has_another_offset line ends given.offset && names_nothing (without_offset given) grammar bytes) ||
-    (has_clock_beside line begins ends && names_nothing (without_time given) grammar bytes) ||
-    (has_another_year line begins ends (year_of front.moment) && names_nothing (without_year given) grammar bytes)
+    says_another_offset given grammar line start front || says_another_time given grammar line start front || says_another_year given grammar line start front
 
 -- ---- a date at a place
 

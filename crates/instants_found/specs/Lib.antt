@@ -2,6 +2,7 @@ pub mod Beside
 pub mod Candidate
 pub mod Kept
 pub mod Found
+pub mod Doubts
 pub mod Within
 pub mod IsFound
 pub mod Starts

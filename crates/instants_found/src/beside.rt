@@ -1,14 +1,11 @@
 //! Whether a date stands whole in its line, and nothing beside it says otherwise.
-ghost use Rattle.std.specs.Prelude.{◌≡◌, ◌<◌, ◌≤◌, ◌+◌, ◌&&◌, drop, length, Some};
+ghost use Rattle.std.specs.Prelude.{◌≡◌, ◌<◌, ◌≤◌, ◌+◌, drop, length, Some};
 ghost use Rattle.instants_fronts.specs.Front.{front_at};
 ghost use Rattle.instants_fronts.specs.DateSource.{grammar_in};
 ghost use Rattle.instants_found.specs.Beside as Beside;
-ghost use Rattle.instants_found.specs.Beside.{names_nothing, without_offset, without_time, without_year};
-ghost use Rattle.instants_edges.specs.Clock.{has_clock_beside};
-ghost use Rattle.instants_edges.specs.Offset.{has_another_offset};
-ghost use Rattle.instants_edges.specs.Year.{has_another_year};
-ghost use Rattle.instants_fronts.specs.Given.{year_of};
+ghost use Rattle.instants_found.specs.Doubts as Doubts;
 
+use crate::doubt::Doubt;
 use instants_edges::{
     has_another_offset, has_another_year, has_clock_beside, has_clock_in_front, is_edge, may_say,
 };
@@ -48,8 +45,7 @@ fn says_another_offset(
     requires within { start < length line.now }
     requires ends { start + front.now.ends ≤ length line.now }
     requires read { front_at given.now (grammar_in source.now) (drop start line.now) ≡ Some front.now }
-    ensures { result ≡ (has_another_offset line.now (start + front.now.ends) given.now.offset
-        && names_nothing (without_offset given.now) (grammar_in source.now) (drop start line.now)) }
+    ensures { result ≡ Beside.says_another_offset given.now (grammar_in source.now) line.now start front.now }
 {
     if given.offset.is_none() || !has_another_offset(line, start + front.ends, given.offset) {
         return false;
@@ -75,8 +71,7 @@ fn says_another_time(
     requires begins { start + front.now.begins ≤ length line.now }
     requires ends { start + front.now.ends ≤ length line.now }
     requires read { front_at given.now (grammar_in source.now) (drop start line.now) ≡ Some front.now }
-    ensures { result ≡ (has_clock_beside line.now (start + front.now.begins) (start + front.now.ends)
-        && names_nothing (without_time given.now) (grammar_in source.now) (drop start line.now)) }
+    ensures { result ≡ Beside.says_another_time given.now (grammar_in source.now) line.now start front.now }
 {
     if given.time.is_none() || !has_clock_beside(line, start + front.begins, start + front.ends) {
         return false;
@@ -102,8 +97,7 @@ fn says_another_year(
     requires begins { start + front.now.begins ≤ length line.now }
     requires ends { start + front.now.ends ≤ length line.now }
     requires read { front_at given.now (grammar_in source.now) (drop start line.now) ≡ Some front.now }
-    ensures { result ≡ (has_another_year line.now (start + front.now.begins) (start + front.now.ends) (year_of front.now.moment)
-        && names_nothing (without_year given.now) (grammar_in source.now) (drop start line.now)) }
+    ensures { result ≡ Beside.says_another_year given.now (grammar_in source.now) line.now start front.now }
 {
     if let Years::Unknown = given.years {
         return false;
@@ -120,9 +114,43 @@ fn says_another_year(
     source.needs(after(line, start), &without)
 }
 
+/// Why the date that a source reads at a place does not stand whole there, if it does not.
+#[inline(always)]
+#[tactic(auto, unfolding(crate::specs::Doubts::why))]
+pub(crate) fn why(
+    source: &DateSource<'_>,
+    given: &Given,
+    line: &[u8],
+    start: usize,
+    front: &Front,
+) -> Option<Doubt>
+    requires within { start < length line.now }
+    requires begins { start + front.now.begins ≤ length line.now }
+    requires ends { start + front.now.ends ≤ length line.now }
+    requires all { start + front.now.all ≤ length line.now }
+    requires read { front_at given.now (grammar_in source.now) (drop start line.now) ≡ Some front.now }
+    ensures { result ≡ Doubts.why given.now (grammar_in source.now) line.now start front.now }
+{
+    if !is_edge(line, start + front.all) {
+        return Some(Doubt::Behind);
+    }
+    if !front.is_chosen && has_clock_in_front(line, start + front.begins) {
+        return Some(Doubt::ClockInFront);
+    }
+    if says_another_offset(source, given, line, start, front) {
+        return Some(Doubt::AnotherOffset);
+    }
+    if says_another_time(source, given, line, start, front) {
+        return Some(Doubt::AnotherTime);
+    }
+    if says_another_year(source, given, line, start, front) {
+        return Some(Doubt::AnotherYear);
+    }
+    None
+}
+
 /// Whether the date that a source reads at a place stands whole there.
 #[inline(always)]
-#[tactic(auto, unfolding(crate::specs::Beside::stands_whole, crate::specs::Beside::is_gainsaid))]
 pub(crate) fn stands_whole(
     source: &DateSource<'_>,
     given: &Given,
@@ -137,9 +165,5 @@ pub(crate) fn stands_whole(
     requires read { front_at given.now (grammar_in source.now) (drop start line.now) ≡ Some front.now }
     ensures { result ≡ Beside.stands_whole given.now (grammar_in source.now) line.now start front.now }
 {
-    is_edge(line, start + front.all)
-        && (front.is_chosen || !has_clock_in_front(line, start + front.begins))
-        && !(says_another_offset(source, given, line, start, front)
-            || says_another_time(source, given, line, start, front)
-            || says_another_year(source, given, line, start, front))
+    why(source, given, line, start, front).is_none()
 }

@@ -1,13 +1,17 @@
 //! Laws that follow from the definitions, each the contract of a function here.
 ghost use Rattle.std.specs.Prelude.{◌≡◌, ◌+◌, ◌<◌, ◌≤◌, ℕ, Option, Some, List, ◌++◌, length};
 ghost use Rattle.instants_sources.specs.Grammar.{Grammar};
+ghost use Rattle.std.specs.Option.{is_none};
+ghost use Rattle.instants_fronts.specs.declared.front.Front.{Front};
 ghost use Rattle.instants_fronts.specs.declared.given.Given.{Given};
 ghost use Rattle.instants_fronts.specs.Reading.{window};
+ghost use Rattle.instants_found.specs.Beside.{stands_whole};
+ghost use Rattle.instants_found.specs.Doubts.{HasDoubt, why};
 ghost use Rattle.instants_found.specs.Found.{found};
 ghost use Rattle.instants_found.specs.IsFound.{IsFound};
 ghost use Rattle.instants_found.specs.declared.found.Found.{Found};
 ghost use Rattle.instants_found.specs.declared.found.Finding.{Finding};
-ghost use Rattle.instants_found.specs.declared.found.Finding.TheVariants.{There};
+ghost use Rattle.instants_found.specs.declared.found.Finding.TheVariants.{Doubtful, There};
 
 /// What is found, and nothing else, is the longest date that stands whole at the least place of the line at which a source reads
 /// one, or that it is in doubt. Where nothing is found no source reads a date at any of the first places.
@@ -32,4 +36,13 @@ pub fn looks_near()
     ensures { (limit : ℕ) (given : Given) (sources : List Grammar) (line rest : List ℕ)
         → limit + window + 64 ≤ length line
         → found limit given sources (line ++ rest) ≡ found limit given sources line }
+{}
+
+/// A date stands whole exactly where there is no reason against it. Where the date of a line is in doubt some source reads a date
+/// there that is.
+pub fn doubts()
+    ensures whole { (given : Given) (grammar : Grammar) (line : List ℕ) (start : ℕ) (front : Front)
+        → stands_whole given grammar line start front ≡ is_none (why given grammar line start front) }
+    ensures some { (limit : ℕ) (given : Given) (sources : List Grammar) (line : List ℕ)
+        → found limit given sources line ≡ Some Doubtful → HasDoubt limit given sources line }
 {}

@@ -3,6 +3,7 @@
 
 mod beside;
 mod candidate;
+mod doubt;
 mod finder;
 mod finding;
 mod found;
@@ -15,5 +16,6 @@ mod marks;
 mod source_key;
 mod starts;
 
+pub use doubt::{Doubt, Doubted};
 pub use finder::Finder;
 pub use found::{Finding, Found};

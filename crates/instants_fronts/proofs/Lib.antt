@@ -13,6 +13,7 @@ pub mod Firsts
 pub mod EndLemmas
 pub mod Extents
 pub mod FrontsAt
+pub mod Planned
 pub mod NoneNamed
 pub mod Windows
 pub mod RuledOut

@@ -9,10 +9,10 @@ use crate::ends::Ends;
 use crate::front::Front;
 use crate::given::Given;
 use crate::lacks::{Lack, lack_of};
-use crate::lengths::front_of;
-use crate::named::front_named;
-use crate::window::text_for;
-use instants_sources::Source;
+use crate::lengths::{front_of, front_of_nodes};
+use crate::named::{assumed, front_named, has_offset};
+use crate::window::{near, text_for};
+use instants_sources::{Named, Source};
 
 /// A source that reads dates inside lines, with what is found of it once.
 #[derive(Drop)]
@@ -59,18 +59,42 @@ impl<'a> DateSource<'a> {
         self.contents.has_unix_time
     }
 
-    /// The front of bytes that the source reads as a date, with what is given where the date lacks it. It lies within the
-    /// first 256 bytes.
-    #[inline(always)]
-    pub fn read(&self, bytes: &[u8], given: &Given) -> Option<Front>
+    // The front of bytes that the source reads as a date, with what is given where the date lacks it.
+    #[inline(never)]
+    fn read_any(&self, bytes: &[u8], given: &Given) -> Option<Front>
         ensures front { result ≡ front_at given.now (grammar_in self.now) bytes.now }
         ensures within { IfSome result (IsWithin bytes.now) }
     {
         let text = text_for(&self.source, bytes);
         match front_named(&self.source, self.contents, text, given) {
-            Some((moment, rest)) => Some(front_of(&self.source, self.ends, text, moment, rest)),
+            Some((moment, rest)) => Some(front_of(&self.source, &self.ends, text, moment, rest)),
             None => None,
         }
+    }
+
+    /// The front of bytes that the source reads as a date, with what is given where the date lacks it. It lies within the
+    /// first 256 bytes. Where a plan reads a description's items, the front is made here.
+    #[inline(never)]
+    pub fn read(&self, bytes: &[u8], given: &Given) -> Option<Front>
+        ensures front { result ≡ front_at given.now (grammar_in self.now) bytes.now }
+        ensures within { IfSome result (IsWithin bytes.now) }
+    {
+        let Source::Items(described) = &self.source else {
+            return self.read_any(bytes, given);
+        };
+        if self.contents.has_unix_time || !has_offset(self.contents, given) {
+            return self.read_any(bytes, given);
+        }
+        let text = near(bytes);
+        let Some((fields, rest)) = described.read_front(text, assumed(self.contents, given)) else {
+            return if described.cannot_match(text) {
+                None
+            } else {
+                self.read_any(bytes, given)
+            };
+        };
+        let moment = Named::of_fields(fields);
+        Some(front_of_nodes(described.items(), &self.ends, text, moment, rest))
     }
 
     /// What the source lacks to name a moment with what is given: such a source finds no date in any line.

@@ -20,8 +20,8 @@ pub(crate) struct Extent {
 
 // By the lengths of the texts, where so many bytes were read in all.
 #[inline(always)]
-fn by_texts(ends: Ends, read: usize) -> Option<Extent>
-    ensures { IfSome result (λ extent. IsByTexts ends read extent) }
+fn by_texts(ends: &Ends, read: usize) -> Option<Extent>
+    ensures { IfSome result (λ extent. IsByTexts ends.now read extent) }
 {
     let texts = ends.texts?;
     Some(Extent {
@@ -33,8 +33,8 @@ fn by_texts(ends: Ends, read: usize) -> Option<Extent>
 
 // By reading the text again.
 #[inline(never)]
-fn by_reading<N: Node>(nodes: &[N], ends: Ends, text: &[u8]) -> Extent
-    requires { AreEnds (map N.tree nodes.now) ends }
+fn by_reading<N: Node>(nodes: &[N], ends: &Ends, text: &[u8]) -> Extent
+    requires { AreEnds (map N.tree nodes.now) ends.now }
     ensures { IsExtent N.language (map N.tree nodes.now) text.now result }
 {
     Extent {
@@ -46,8 +46,8 @@ fn by_reading<N: Node>(nodes: &[N], ends: Ends, text: &[u8]) -> Extent
 
 /// The extent of nodes in a text that they read up to the rest.
 #[inline(always)]
-pub(crate) fn extent_of<N: Node>(nodes: &[N], ends: Ends, text: &[u8], rest: &[u8]) -> Extent
-    requires ends { AreEnds (map N.tree nodes.now) ends }
+pub(crate) fn extent_of<N: Node>(nodes: &[N], ends: &Ends, text: &[u8], rest: &[u8]) -> Extent
+    requires ends { AreEnds (map N.tree nodes.now) ends.now }
     requires read { LeavesAfter N.language (map N.tree nodes.now) text.now rest.now }
     ensures { IsExtent N.language (map N.tree nodes.now) text.now result }
 {

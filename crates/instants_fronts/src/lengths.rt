@@ -16,16 +16,16 @@ use instants_sources::{Named, Source};
 use parsing_record::{Node, NodeStep};
 use std::slice;
 
-// The front that nodes read, one after the other.
+/// The front that nodes read up to the rest of a text, one after the other.
 #[inline(always)]
-fn front_of_nodes<N: Node>(
+pub(crate) fn front_of_nodes<N: Node>(
     nodes: &[N],
-    ends: Ends,
+    ends: &Ends,
     text: &[u8],
     moment: Named,
     rest: &[u8],
 ) -> Front
-    requires ends { AreEnds (map N.tree nodes.now) ends }
+    requires ends { AreEnds (map N.tree nodes.now) ends.now }
     requires read { LeavesAfter N.language (map N.tree nodes.now) text.now rest.now }
     ensures { result
         ≡ with_lengths text.now moment rest.now
@@ -39,12 +39,12 @@ fn front_of_nodes<N: Node>(
 #[inline(always)]
 fn front_of_tree(
     description: &FormatDescriptionV3<'_>,
-    ends: Ends,
+    ends: &Ends,
     text: &[u8],
     moment: Named,
     rest: &[u8],
 ) -> Front
-    requires ends { AreEnds (items_of (v3_tree description.now)) ends }
+    requires ends { AreEnds (items_of (v3_tree description.now)) ends.now }
     requires read { LeavesRest (grammar.V3 (v3_tree description.now)) text.now rest.now }
     ensures { result
         ≡ with_lengths text.now moment rest.now
@@ -62,12 +62,12 @@ fn front_of_tree(
 #[inline(always)]
 pub(crate) fn front_of(
     source: &Source<'_>,
-    ends: Ends,
+    ends: &Ends,
     text: &[u8],
     moment: Named,
     rest: &[u8],
 ) -> Front
-    requires ends { AreEnds (items_in (grammar_of source.now)) ends }
+    requires ends { AreEnds (items_in (grammar_of source.now)) ends.now }
     requires read { LeavesRest (grammar_of source.now) text.now rest.now }
     ensures { result
         ≡ with_lengths text.now moment rest.now (lengths (grammar_of source.now) text.now rest.now) }

@@ -70,9 +70,9 @@ fn named_by_record<'b, F: Parsable>(
     kept(has_unix_time, Named::of_moment(moment), rest)
 }
 
-// The offset that a plan is given: where a description reads no part of an offset, the one that is given.
+/// The offset that a plan is given: where a description reads no part of an offset, the one that is given.
 #[inline(always)]
-fn assumed(contents: Contents, given: &Given) -> Option<UtcOffset>
+pub(crate) fn assumed(contents: Contents, given: &Given) -> Option<UtcOffset>
     ensures { result ≡ (if contents.has_offset_part then None else given.now.offset) }
 {
     if contents.has_offset_part {
@@ -82,9 +82,9 @@ fn assumed(contents: Contents, given: &Given) -> Option<UtcOffset>
     }
 }
 
-// Whether a description and what is given have an offset, without which there is no moment.
+/// Whether a description and what is given have an offset, without which there is no moment.
 #[inline(always)]
-fn has_offset(contents: Contents, given: &Given) -> bool
+pub(crate) fn has_offset(contents: Contents, given: &Given) -> bool
     ensures { result ≡ (contents.is_placed || is_some given.now.offset) }
 {
     contents.is_placed || given.offset.is_some()

@@ -8,9 +8,9 @@ use instants_sources::Source;
 
 const WINDOW: usize = 256;
 
-// The bytes within the window.
+/// The bytes within the window.
 #[inline(always)]
-fn near(bytes: &[u8]) -> &[u8]
+pub(crate) fn near(bytes: &[u8]) -> &[u8]
     ensures { result.now ≡ take 256 bytes.now }
 {
     if bytes.len() > WINDOW {

@@ -11,9 +11,9 @@ use Rattle.instants_stream.specs.Steps.{state_within, line_next, written, behind
 use Rattle.instants_stream.proofs.Written.{line_next-longer, line_next-short}
 use Rattle.instants_timeline.specs.Place.{Setting}
 use Rattle.instants_lines.specs.Dates.{date_in, key_or}
-use Rattle.instants_lines.specs.Going.{Going, search_below, key_of_line, key_below, next_in, near, lines_steps}
-use Rattle.instants_lines.specs.declared.mode.Mode.{Mode}
-use Rattle.instants_lines.specs.declared.mode.Mode.TheVariants.{Key, Carry, Replace, Explain}
+use Rattle.instants_lines.specs.Going.{Going, search_below, key_of_line, key_below, keyed, label_front, next_in, near, lines_steps}
+use Rattle.instants_lines_words.specs.declared.mode.Mode.{Mode}
+use Rattle.instants_lines_words.specs.declared.mode.Mode.TheVariants.{Key, Carry, Replace, Explain, Locate}
 use Rattle.instants_lines.proofs.Handed.{HandsOn, handed_said, handed_next}
 use Rattle.instants_lines.proofs.Joined.{given_stays, joined}
 use Rattle.instants_lines.proofs.WithoutKeys.{IsKeyed, keyed_hands, text_of, output_is}
@@ -35,6 +35,7 @@ next_key Key going line e = (_, below_key going line (key_below going.mode going
 next_key Carry going line e = (_, below_key going line (key_below going.mode going.key (key_of_line going line)) e)
 next_key Replace going line e = (_, below_key going line (key_below going.mode going.key (key_of_line going line)) e)
 next_key Explain going line e = (going.key, refl)
+next_key Locate going line e = (_, below_key going line (key_below going.mode going.key (key_of_line going line)) e)
 
 within_key : (many : ℕ) (going : Going) (line : List ℕ) → going.search.given.years ≡ Unknown → IsWithKey going (state_within lines_steps many going line)
 unfolding state_within
@@ -66,11 +67,11 @@ module _ (going : Going) (line : List ℕ) (others : List (List ℕ)) (finding :
   abbrev many : ℕ
   many = near going.mode going.search.limit
 
-  keyed : IsKeyed going.mode
-  keyed = inr carries
+  keys : IsKeyed going.mode
+  keys = inr carries
 
   hands : HandsOn going.mode
-  hands = keyed_hands going.mode keyed
+  hands = keyed_hands going.mode keys
 
   key_found : (key : List ℕ) → key_of_line (with_key going key) line ≡ key_of_line going line
   unfolding key_of_line
@@ -84,23 +85,23 @@ module _ (going : Going) (line : List ℕ) (others : List (List ℕ)) (finding :
       (ap (λ (mode : Mode). key_below mode key (key_of_line (with_key going key) line)) carries ∙ key_found key)
 
   written_from : (key : List ℕ) → written lines_steps many (with_key going key) (line ∷ others)
-      ≡ ((key_of_line going line ++ tab ∷ line) ++ line_feed ∷ []) ++ written lines_steps many (record going { search = search_below going.search line; key = key_of_line going line }) others
+      ≡ (keyed going line ++ line_feed ∷ []) ++ written lines_steps many (record going { search = search_below going.search line; key = key_of_line going line }) others
   unfolding written
   written_from key =
       ap (λ (text : List ℕ). text ++ written lines_steps many (line_next lines_steps many (with_key going key) line) others)
       (handed_said (with_key going key) line hands
-      ∙ ap (λ (text : List ℕ). text ++ line_feed ∷ []) (text_of going.mode keyed (with_key going key) line ∙ ap (λ (k : List ℕ). k ++ tab ∷ line) (key_found key)))
-      ∙ ap (λ (next : Going). ((key_of_line going line ++ tab ∷ line) ++ line_feed ∷ []) ++ written lines_steps many next others) (next_found key)
+      ∙ ap (λ (text : List ℕ). text ++ line_feed ∷ []) (text_of going.mode keys (with_key going key) line ∙ ap (λ (k : List ℕ). k ++ tab ∷ (label_front going.label ++ line)) (key_found key)))
+      ∙ ap (λ (next : Going). (keyed going line ++ line_feed ∷ []) ++ written lines_steps many next others) (next_found key)
 
   module _ (second : List ℕ) (cut : lines second ≡ line ∷ others) where
     output_from : (key : List ℕ) → output lines_steps (with_key going key) many second ≡ output lines_steps going many second
     output_from key =
-        output_is many (with_key going key) keyed second
+        output_is many (with_key going key) keys second
         ∙ ap (λ (some : List (List ℕ)). written lines_steps many (with_key going key) some) cut
         ∙ written_from key
         ∙ sym (written_from going.key)
         ∙ sym (ap (λ (some : List (List ℕ)). written lines_steps many going some) cut)
-        ∙ sym (output_is many going keyed second)
+        ∙ sym (output_is many going keys second)
 
     pub joined_carried : (first : List ℕ) → going.search.given.years ≡ Unknown → last_part first ≡ []
         → output lines_steps going many (first ++ second) ≡ output lines_steps going many first ++ output lines_steps going many second

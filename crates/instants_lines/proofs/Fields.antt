@@ -1,9 +1,9 @@
 -- Keys have no tab and no line feed.
-use Rattle.std.proofs.Common.{◌≡◌, ◌+◌, ◌/◌, ◌%◌, ◌==◌, ℕ, zero, suc, Bool, true, false, ◌&&◌, ◌||◌, not, List, [], ◌∷◌, ◌++◌, drop, Option, Some, None, Ok, Err, refl, ap, ◌∙◌, arith, ℤ, pos, unsigned_abs, int_lt, int_eq}
+use Rattle.std.proofs.Common.{◌≡◌, ◌+◌, ◌/◌, ◌%◌, ◌==◌, ℕ, zero, suc, Bool, true, false, ◌&&◌, ◌||◌, not, List, [], ◌∷◌, ◌++◌, drop, Option, Some, None, Ok, Err, refl, ap, ◌∙◌, arith, append_assoc, ℤ, pos, unsigned_abs, int_lt, int_eq}
 use Rattle.std.specs.Prelude.{codes, if◌then◌else◌}
 use Rattle.std.specs.List.{prefix_len}
 use Rattle.std.proofs.lemmas.Bool.Decides.{nat_tests}
-use Rattle.std.proofs.lemmas.List.Elements.{All-nil, All-cons}
+use Rattle.std.proofs.lemmas.List.Elements.{All-nil, All-cons, All-append}
 use Rattle.std.proofs.lemmas.List.Folds.{list_all-append}
 use Rattle.base.specs.Bytes.{tab, line_feed, digit_zero}
 use Rattle.calendar_count.specs.Calendar.{YearMonthDay}
@@ -16,10 +16,10 @@ use Rattle.instants_stream.specs.Lines.{HasNoLineFeed}
 use Rattle.instants_timeline.specs.Place.{Setting, in_written_years, place_text}
 use Rattle.instants_timeline.specs.Refusal.{year}
 use Rattle.instants_lines.specs.Dates.{date_in, key_or, place_of_date}
-use Rattle.instants_lines.specs.Fields.{is_field, without_key}
-use Rattle.instants_lines.specs.Going.{Going, key_of_line, key_below}
-use Rattle.instants_lines.specs.declared.mode.Mode.{Mode}
-use Rattle.instants_lines.specs.declared.mode.Mode.TheVariants.{Key, Carry, Replace, Explain}
+use Rattle.instants_lines.specs.Fields.{IsLabel, is_field, without_fields, without_key}
+use Rattle.instants_lines.specs.Going.{Going, key_of_line, key_below, label_front}
+use Rattle.instants_lines_words.specs.declared.mode.Mode.{Mode}
+use Rattle.instants_lines_words.specs.declared.mode.Mode.TheVariants.{Key, Carry, Replace, Explain, Locate}
 
 -- ---- keys
 
@@ -85,6 +85,7 @@ below_field Carry key above is is_above = is_above
 below_field Key key above is is_above = is
 below_field Replace key above is is_above = is
 below_field Explain key above is is_above = is
+below_field Locate key above is is_above = is
 
 -- ---- what a field is without
 
@@ -117,3 +118,14 @@ one_more byte bytes e =
 pub without_field : (key line : List ℕ) → is_field key ≡ true → without_key (key ++ tab ∷ line) ≡ line
 without_field [] line is = refl
 without_field (byte ∷ key) line is = one_more byte (key ++ tab ∷ line) (first_byte byte key is).0 ∙ without_field key line (other_bytes byte key is)
+
+-- a label has no line feed
+pub label_free : (label : Option (List ℕ)) → IsLabel label → HasNoLineFeed (label_front label)
+label_free None is = All-nil (λ (b : ℕ). (b == 10) ≡ false)
+label_free (Some text) is = All-append (λ (b : ℕ). (b == 10) ≡ false) text (tab ∷ []) (field_free text is) (All-cons (λ (b : ℕ). (b == 10) ≡ false) tab [] refl (All-nil (λ (b : ℕ). (b == 10) ≡ false)))
+
+-- what stands after a key and a label
+pub without_both : (key : List ℕ) (label : Option (List ℕ)) (line : List ℕ) → is_field key ≡ true → IsLabel label → without_fields label (key ++ tab ∷ (label_front label ++ line)) ≡ line
+without_both key None line is label_is = without_field key line is
+without_both key (Some text) line is label_is =
+    ap without_key (without_field key ((text ++ tab ∷ []) ++ line) is ∙ append_assoc text (tab ∷ []) line) ∙ without_field text line label_is

@@ -15,45 +15,43 @@ use Rattle.instants_stream.proofs.Written.{line_said-longer, line_next-longer, l
 use Rattle.instants_timeline.specs.Place.{Setting}
 use Rattle.instants_timeline.specs.Refusal.{Refusal}
 use Rattle.instants_lines.specs.Dates.{date_in, key_or, place_of_date, with_date_time, with_date, replaced}
-use Rattle.instants_lines.specs.Going.{Going, below, given_below, search_below, key_of_line, key_below, text_in, next_in, near, begun_in, hands_on, end_in, lines_steps}
-use Rattle.instants_lines.specs.declared.mode.Mode.{Mode}
-use Rattle.instants_lines.specs.declared.mode.Mode.TheVariants.{Key, Carry, Replace, Explain}
+use Rattle.instants_lines.specs.Going.{Going, below, given_below, search_below, key_of_line, key_below, keyed, label_front, text_in, next_in, near, begun_in, hands_on, end_in, lines_steps}
+use Rattle.instants_lines_words.specs.declared.mode.Mode.{Mode}
+use Rattle.instants_lines_words.specs.declared.mode.Mode.TheVariants.{Key, Carry, Replace, Explain, Locate}
 
 -- ---- what the modes that hand on have in common
 
--- lines are not explained
+-- the rest of a long line is handed on
 abbrev pub HandsOn : Mode → Type 0
-HandsOn mode = mode ≡ Explain → ⊥
+HandsOn mode = hands_on mode ≡ true
 
 near_of : (mode : Mode) → HandsOn mode → (limit : ℕ) → near mode limit ≡ limit + 256 + 64
 near_of Key other limit = refl
 near_of Carry other limit = refl
 near_of Replace other limit = refl
-near_of Explain other limit = absurd (other refl)
+near_of Explain other limit = absurd cc
+near_of Locate other limit = absurd cc
 
 next_of : (mode : Mode) → HandsOn mode → (going : Going) (line : List ℕ) → next_in mode going line ≡ below going line
 next_of Key other going line = refl
 next_of Carry other going line = refl
 next_of Replace other going line = refl
-next_of Explain other going line = absurd (other refl)
+next_of Explain other going line = absurd cc
+next_of Locate other going line = absurd cc
 
 begun_of : (mode : Mode) → HandsOn mode → (going : Going) (line : List ℕ) → begun_in mode going line ≡ text_in mode going line
 begun_of Key other going line = refl
 begun_of Carry other going line = refl
 begun_of Replace other going line = refl
-begun_of Explain other going line = absurd (other refl)
-
-hands_of : (mode : Mode) → HandsOn mode → hands_on mode ≡ true
-hands_of Key other = refl
-hands_of Carry other = refl
-hands_of Replace other = refl
-hands_of Explain other = absurd (other refl)
+begun_of Explain other going line = absurd cc
+begun_of Locate other going line = absurd cc
 
 end_of : (mode : Mode) → HandsOn mode → (end : List ℕ) → end_in mode end ≡ end
 end_of Key other end = refl
 end_of Carry other end = refl
 end_of Replace other end = refl
-end_of Explain other end = absurd (other refl)
+end_of Explain other end = absurd cc
+end_of Locate other end = absurd cc
 
 -- ---- a line with a date-time in place of its date
 
@@ -102,11 +100,11 @@ module _ (going : Going) (line : List ℕ) (many : ℕ) (other : HandsOn going.m
       ap (λ (o : Option Finding). record going { search = record going.search { given = given_below going.search.given o }; key = key_below going.mode going.key (key_of_line going front) }) same_date
       ∙ ap (λ (key : List ℕ). record going { search = search_below going.search line; key = key_below going.mode going.key key }) same_key
 
-  same_keyed : (key_of_line going front ++ tab ∷ front) ++ rest ≡ key_of_line going line ++ tab ∷ line
+  same_keyed : keyed going front ++ rest ≡ keyed going line
   same_keyed =
-      append_assoc (key_of_line going front) (tab ∷ front) rest
-      ∙ ap (λ (l : List ℕ). key_of_line going front ++ tab ∷ l) joined
-      ∙ ap (λ (key : List ℕ). key ++ tab ∷ line) same_key
+      append_assoc (key_of_line going front) (tab ∷ (label_front going.label ++ front)) rest
+      ∙ ap (λ (l : List ℕ). key_of_line going front ++ tab ∷ l) (append_assoc (label_front going.label) front rest ∙ ap (λ (l : List ℕ). label_front going.label ++ l) joined)
+      ∙ ap (λ (key : List ℕ). key ++ tab ∷ (label_front going.label ++ line)) same_key
 
   lies : LiesIn front (date_in going.search front)
   lies = λ date e.
@@ -124,7 +122,8 @@ module _ (going : Going) (line : List ℕ) (many : ℕ) (other : HandsOn going.m
   same_text Key own = same_keyed
   same_text Carry own = same_keyed
   same_text Replace own = same_replaced
-  same_text Explain own = absurd (own refl)
+  same_text Explain own = absurd cc
+  same_text Locate own = absurd cc
 
   within_is : state_within lines_steps many going line ≡ below going front
   unfolding state_within
@@ -135,7 +134,7 @@ module _ (going : Going) (line : List ℕ) (many : ℕ) (other : HandsOn going.m
   opened_is =
       ap (λ (text : List ℕ). text ++ passed (hands_on (state_within lines_steps many going line).mode) rest) (begun_of going.mode other going front)
       ∙ ap (λ (within : Going). text_in going.mode going front ++ passed (hands_on within.mode) rest) within_is
-      ∙ ap (λ (on : Bool). text_in going.mode going front ++ passed on rest) (hands_of going.mode other)
+      ∙ ap (λ (on : Bool). text_in going.mode going front ++ passed on rest) other
       ∙ same_text going.mode other
 
   ended_is : end_in (state_within lines_steps many going line).mode (line_feed ∷ []) ≡ line_feed ∷ []

@@ -11,8 +11,8 @@ use Rattle.instants_stream.specs.Steps.{state_within, line_next, behind, output}
 use Rattle.instants_stream.proofs.Written.{line_next-longer, line_next-short, output-append}
 use Rattle.instants_lines.specs.Dates.{date_in}
 use Rattle.instants_lines.specs.Going.{Going, below, given_below, years_below, key_of_line, key_below, next_in, lines_steps}
-use Rattle.instants_lines.specs.declared.mode.Mode.{Mode}
-use Rattle.instants_lines.specs.declared.mode.Mode.TheVariants.{Key, Carry, Replace, Explain}
+use Rattle.instants_lines_words.specs.declared.mode.Mode.{Mode}
+use Rattle.instants_lines_words.specs.declared.mode.Mode.TheVariants.{Key, Carry, Replace, Explain, Locate}
 
 -- ---- what is kept where no year is given
 
@@ -28,6 +28,7 @@ key_stays Key other key above = refl
 key_stays Carry other key above = absurd (other refl)
 key_stays Replace other key above = refl
 key_stays Explain other key above = refl
+key_stays Locate other key above = refl
 
 below_stays : (going : Going) (line : List ℕ) → (going.mode ≡ Carry → ⊥) → going.search.given.years ≡ Unknown → below going line ≡ going
 below_stays going line other e =
@@ -39,6 +40,7 @@ next_stays Key other going line e = e
 next_stays Carry other going line e = e
 next_stays Replace other going line e = e
 next_stays Explain other going line e = refl
+next_stays Locate other going line e = e
 
 -- ---- lines that change nothing
 

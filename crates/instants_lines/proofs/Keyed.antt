@@ -6,8 +6,8 @@ use Rattle.instants_found.specs.declared.found.Finding.TheVariants.{Doubtful, Th
 use Rattle.instants_timeline.specs.Place.{shown_or_refused, place_text}
 use Rattle.instants_lines.specs.Dates.{date_in, doubt, key_or, place_of_date}
 use Rattle.instants_lines.specs.Going.{Going, below, given_below, key_of_line, key_below}
-use Rattle.instants_lines.specs.declared.mode.Mode.{Mode}
-use Rattle.instants_lines.specs.declared.mode.Mode.TheVariants.{Key, Carry, Replace, Explain}
+use Rattle.instants_lines_words.specs.declared.mode.Mode.{Mode}
+use Rattle.instants_lines_words.specs.declared.mode.Mode.TheVariants.{Key, Carry, Replace, Explain, Locate}
 
 pub dated : (going : Going) (line : List ℕ) (date : Found) (key : List ℕ) → Some (There date) ≡ date_in going.search line → key ≡ place_text (shown_or_refused going.search.setting.target (Ok date.moment)) → key ≡ key_of_line going line
 unfolding key_of_line place_of_date
@@ -27,6 +27,7 @@ below_itself Carry key = refl
 below_itself Key key = refl
 below_itself Replace key = refl
 below_itself Explain key = refl
+below_itself Locate key = refl
 
 -- below a line by what is found in it
 pub below_found : (going : Going) (line : List ℕ) (finding : Option Finding) → finding ≡ date_in going.search line
@@ -40,16 +41,30 @@ below_undated going line e =
     let key : key_of_line going line ≡ going.key = sym (undated going line (sym e)) in
     rw (e, key, below_itself going.mode going.key) refl
 
--- where dates are replaced the key stays, also below a line whose date is in doubt
-below_here : (going : Going) (line : List ℕ) (finding : Option Finding) → going.mode ≡ Replace → finding ≡ date_in going.search line
+-- where the key stays, it does so below a line with a date and below one whose date is in doubt
+below_here : (going : Going) (line : List ℕ) (finding : Option Finding) → going.key ≡ key_below going.mode going.key (key_of_line going line) → finding ≡ date_in going.search line
     → record going { search = record going.search { given = given_below going.search.given finding } } ≡ below going line
-below_here going line finding mode e =
-    let key : going.key ≡ key_below going.mode going.key (key_of_line going line) = rw mode refl in
+below_here going line finding key e =
     ap (λ (k : List ℕ). record going { search = record going.search { given = given_below going.search.given finding }; key = k }) key ∙ below_found going line finding e
 
+replace_key : (going : Going) (line : List ℕ) → going.mode ≡ Replace → going.key ≡ key_below going.mode going.key (key_of_line going line)
+replace_key going line mode = rw mode refl
+
+locate_key : (going : Going) (line : List ℕ) → going.mode ≡ Locate → going.key ≡ key_below going.mode going.key (key_of_line going line)
+locate_key going line mode = rw mode refl
+
+-- where dates are replaced
 pub below_doubtful : (going : Going) (line : List ℕ) → going.mode ≡ Replace → date_in going.search line ≡ Some Doubtful → below going line ≡ going
-below_doubtful going line mode e = sym (below_here going line (Some Doubtful) mode (sym e))
+below_doubtful going line mode e = sym (below_here going line (Some Doubtful) (replace_key going line mode) (sym e))
 
 pub below_dated : (going : Going) (line : List ℕ) (date : Found) → going.mode ≡ Replace → date_in going.search line ≡ Some (There date)
     → record going { search = record going.search { given = given_below going.search.given (Some (There date)) } } ≡ below going line
-below_dated going line date mode e = below_here going line (Some (There date)) mode (sym e)
+below_dated going line date mode e = below_here going line (Some (There date)) (replace_key going line mode) (sym e)
+
+-- where they are located
+pub located_doubtful : (going : Going) (line : List ℕ) → going.mode ≡ Locate → date_in going.search line ≡ Some Doubtful → below going line ≡ going
+located_doubtful going line mode e = sym (below_here going line (Some Doubtful) (locate_key going line mode) (sym e))
+
+pub located_dated : (going : Going) (line : List ℕ) (date : Found) → going.mode ≡ Locate → date_in going.search line ≡ Some (There date)
+    → record going { search = record going.search { given = given_below going.search.given (Some (There date)) } } ≡ below going line
+located_dated going line date mode e = below_here going line (Some (There date)) (locate_key going line mode) (sym e)

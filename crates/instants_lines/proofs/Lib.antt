@@ -1,4 +1,3 @@
-mod AskedWords
 pub mod Outside
 pub mod Sayings
 pub mod Decimals
@@ -9,9 +8,6 @@ pub mod Keys
 pub mod Wholly
 pub mod Joined
 pub mod Carried
-pub mod Stays
-mod Told
-mod Reading
 pub mod Handed
 pub mod Fields
 pub mod WithoutKeys

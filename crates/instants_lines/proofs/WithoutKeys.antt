@@ -1,5 +1,5 @@
 -- The lines of the output, without their keys, are those of the stream.
-use Rattle.std.proofs.Common.{◌≡◌, ◌⊎◌, ◌+◌, ◌==◌, ℕ, Bool, true, false, List, [], ◌∷◌, ◌++◌, length, take, map, nat_lt, refl, sym, ap, subst, ◌∙◌, inl, inr, arith, append-nil}
+use Rattle.std.proofs.Common.{◌≡◌, ◌⊎◌, ◌+◌, ◌==◌, ℕ, Bool, true, false, Option, List, [], ◌∷◌, ◌++◌, length, take, map, nat_lt, refl, sym, ap, subst, ◌∙◌, inl, inr, arith, append-nil}
 use Rattle.std.specs.Prelude.{⊤, cond, if◌then◌else◌}
 use Rattle.std.specs.List.{slice_split, onto_first}
 use Rattle.std.proofs.lemmas.List.Elements.{All-nil, All-cons, All-append}
@@ -8,11 +8,11 @@ use Rattle.instants_stream.specs.Lines.{HasNoLineFeed, but_last, if_nonempty, pa
 use Rattle.instants_stream.specs.Steps.{state_within, opened, line_said, line_next, written, behind, last_part_said, output}
 use Rattle.instants_stream.proofs.Lines.{whole_lines-line, last_part-line, last_part-append, lines-append, whole_lines_none, last_part_of_none, last_part_free}
 use Rattle.instants_stream.proofs.Written.{is_no_longer, written-append}
-use Rattle.instants_lines.specs.Fields.{is_field, without_key}
-use Rattle.instants_lines.specs.Going.{Going, below, key_of_line, text_in, next_in, near, end_in, last_end, lines_steps}
-use Rattle.instants_lines.specs.declared.mode.Mode.{Mode}
-use Rattle.instants_lines.specs.declared.mode.Mode.TheVariants.{Key, Carry, Replace, Explain}
-use Rattle.instants_lines.proofs.Fields.{line_field, below_field, field_free, without_field}
+use Rattle.instants_lines.specs.Fields.{IsLabel, is_field, without_fields}
+use Rattle.instants_lines.specs.Going.{Going, below, hands_on, key_of_line, keyed, label_front, text_in, next_in, near, end_in, last_end, lines_steps}
+use Rattle.instants_lines_words.specs.declared.mode.Mode.{Mode}
+use Rattle.instants_lines_words.specs.declared.mode.Mode.TheVariants.{Key, Carry, Replace, Explain, Locate}
+use Rattle.instants_lines.proofs.Fields.{line_field, below_field, field_free, label_free, without_both}
 use Rattle.instants_lines.proofs.Handed.{HandsOn, handed_said, handed_next}
 
 -- ---- the lines of a stream have no line feed
@@ -66,10 +66,10 @@ abbrev pub IsKeyed : Mode → Type 0
 IsKeyed mode = (mode ≡ Key) ⊎ (mode ≡ Carry)
 
 pub keyed_hands : (mode : Mode) → IsKeyed mode → HandsOn mode
-keyed_hands mode (inl key) = λ explain. absurd cc
-keyed_hands mode (inr carry) = λ explain. absurd cc
+keyed_hands mode (inl key) = ap hands_on key
+keyed_hands mode (inr carry) = ap hands_on carry
 
-pub text_of : (mode : Mode) → IsKeyed mode → (going : Going) (line : List ℕ) → text_in mode going line ≡ key_of_line going line ++ tab ∷ line
+pub text_of : (mode : Mode) → IsKeyed mode → (going : Going) (line : List ℕ) → text_in mode going line ≡ keyed going line
 text_of mode (inl key) going line = ap (λ (m : Mode). text_in m going line) key
 text_of mode (inr carry) going line = ap (λ (m : Mode). text_in m going line) carry
 
@@ -83,6 +83,7 @@ mode_next Key going line = refl
 mode_next Carry going line = refl
 mode_next Replace going line = refl
 mode_next Explain going line = refl
+mode_next Locate going line = refl
 
 mode_within : (many : ℕ) (going : Going) (line : List ℕ) → (state_within lines_steps many going line).mode ≡ going.mode
 unfolding state_within
@@ -139,43 +140,47 @@ one_line : (text : List ℕ) → HasNoLineFeed text → lines (text ++ line_feed
 unfolding lines
 one_line text free = rw (whole_lines-line [] text free, last_part-line [] text free, whole_lines_none, last_part_of_none) refl
 
-record AreLines (texts : List ℕ) (some : List (List ℕ)) : Type 0 where
+record AreLines (label : Option (List ℕ)) (texts : List ℕ) (some : List (List ℕ)) : Type 0 where
   ends : last_part texts ≡ []
-  are : map without_key (lines texts) ≡ some
+  are : map (without_fields label) (lines texts) ≡ some
 
-none_are : (texts : List ℕ) → texts ≡ [] → AreLines texts []
+none_are : (label : Option (List ℕ)) (texts : List ℕ) → texts ≡ [] → AreLines label texts []
 unfolding lines
-none_are texts e =
-    let P : List ℕ → Type 0 = λ t. AreLines t [] in
+none_are label texts e =
+    let P : List ℕ → Type 0 = λ t. AreLines label t [] in
     subst P (sym e) (record { ends = last_part_of_none; are = rw (whole_lines_none, last_part_of_none) refl })
 
-one_more : (key line texts more : List ℕ) (others : List (List ℕ)) → is_field key ≡ true → HasNoLineFeed line → texts ≡ ((key ++ tab ∷ line) ++ line_feed ∷ []) ++ more → AreLines more others → AreLines texts (line ∷ others)
-one_more key line texts more others is free e rest =
-    let text : List ℕ = key ++ tab ∷ line in
-    let text_free : HasNoLineFeed text = All-append (λ (b : ℕ). (b == 10) ≡ false) key (tab ∷ line) (field_free key is) (one_free tab line refl free) in
-    let end : last_part (text ++ line_feed ∷ []) ≡ [] = last_part-line [] text text_free in
-    record {
-      ends = ap last_part e ∙ last_part-append (text ++ line_feed ∷ []) more end ∙ rest.ends;
-      are =
-          ap (λ (t : List ℕ). map without_key (lines t)) e
-          ∙ ap (λ (ls : List (List ℕ)). map without_key ls) (lines-append (text ++ line_feed ∷ []) more end ∙ ap (λ (ls : List (List ℕ)). ls ++ lines more) (one_line text text_free))
-          ∙ ap (λ (l : List ℕ). l ∷ map without_key (lines more)) (without_field key line is)
-          ∙ ap (λ (ls : List (List ℕ)). line ∷ ls) rest.are;
-    }
+module _ (label : Option (List ℕ)) (is_label : IsLabel label) where
+  one_more : (key line texts more : List ℕ) (others : List (List ℕ)) → is_field key ≡ true → HasNoLineFeed line → texts ≡ ((key ++ tab ∷ (label_front label ++ line)) ++ line_feed ∷ []) ++ more → AreLines label more others
+      → AreLines label texts (line ∷ others)
+  one_more key line texts more others is free e rest =
+      let text : List ℕ = key ++ tab ∷ (label_front label ++ line) in
+      let line_is : HasNoLineFeed (label_front label ++ line) = All-append (λ (b : ℕ). (b == 10) ≡ false) (label_front label) line (label_free label is_label) free in
+      let text_free : HasNoLineFeed text = All-append (λ (b : ℕ). (b == 10) ≡ false) key (tab ∷ (label_front label ++ line)) (field_free key is) (one_free tab (label_front label ++ line) refl line_is) in
+      let end : last_part (text ++ line_feed ∷ []) ≡ [] = last_part-line [] text text_free in
+      record {
+        ends = ap last_part e ∙ last_part-append (text ++ line_feed ∷ []) more end ∙ rest.ends;
+        are =
+            ap (λ (t : List ℕ). map (without_fields label) (lines t)) e
+            ∙ ap (λ (ls : List (List ℕ)). map (without_fields label) ls) (lines-append (text ++ line_feed ∷ []) more end ∙ ap (λ (ls : List (List ℕ)). ls ++ lines more) (one_line text text_free))
+            ∙ ap (λ (l : List ℕ). l ∷ map (without_fields label) (lines more)) (without_both key label line is is_label)
+            ∙ ap (λ (ls : List (List ℕ)). line ∷ ls) rest.are;
+      }
 
-written_lines : (going : Going) → IsKeyed going.mode → is_field going.key ≡ true → (some : List (List ℕ)) → Frees some → AreLines (written lines_steps (near going.mode going.search.limit) going some) some
+written_lines : (going : Going) → IsKeyed going.mode → IsLabel going.label → is_field going.key ≡ true → (some : List (List ℕ)) → Frees some → AreLines going.label (written lines_steps (near going.mode going.search.limit) going some) some
 unfolding written
-written_lines going keyed is [] free = none_are [] refl
-written_lines going keyed is (line ∷ others) free =
+written_lines going keys is_label is [] free = none_are going.label [] refl
+written_lines going keys is_label is (line ∷ others) free =
     let many : ℕ = near going.mode going.search.limit in
     let key_is = line_field going line is in
-    let rest = written_lines (below going line) keyed (below_field going.mode going.key (key_of_line going line) is key_is) others free.1 in
-    let hands = keyed_hands going.mode keyed in
-    one_more (key_of_line going line) line _ (written lines_steps many (below going line) others) others key_is free.0
-    (ap (λ (text : List ℕ). text ++ written lines_steps many (line_next lines_steps many going line) others) (handed_said going line hands ∙ ap (λ (text : List ℕ). text ++ line_feed ∷ []) (text_of going.mode keyed going line))
-    ∙ ap (λ (next : Going). ((key_of_line going line ++ tab ∷ line) ++ line_feed ∷ []) ++ written lines_steps many next others) (handed_next going line hands))
+    let rest = written_lines (below going line) keys is_label (below_field going.mode going.key (key_of_line going line) is key_is) others free.1 in
+    let hands = keyed_hands going.mode keys in
+    one_more going.label is_label (key_of_line going line) line _ (written lines_steps many (below going line) others) others key_is free.0
+    (ap (λ (text : List ℕ). text ++ written lines_steps many (line_next lines_steps many going line) others) (handed_said going line hands ∙ ap (λ (text : List ℕ). text ++ line_feed ∷ []) (text_of going.mode keys going line))
+    ∙ ap (λ (next : Going). (keyed going line ++ line_feed ∷ []) ++ written lines_steps many next others) (handed_next going line hands))
     rest
 
-pub without_keys : (going : Going) (stream : List ℕ) → IsKeyed going.mode → is_field going.key ≡ true → map without_key (lines (output lines_steps going (near going.mode going.search.limit) stream)) ≡ lines stream
-without_keys going stream keyed is =
-    ap (λ (text : List ℕ). map without_key (lines text)) (output_is (near going.mode going.search.limit) going keyed stream) ∙ (written_lines going keyed is (lines stream) (lines_free stream)).are
+pub without_keys : (going : Going) (stream : List ℕ) → IsKeyed going.mode → IsLabel going.label → is_field going.key ≡ true
+    → map (without_fields going.label) (lines (output lines_steps going (near going.mode going.search.limit) stream)) ≡ lines stream
+without_keys going stream keys is_label is =
+    ap (λ (text : List ℕ). map (without_fields going.label) (lines text)) (output_is (near going.mode going.search.limit) going keys stream) ∙ (written_lines going keys is_label is (lines stream) (lines_free stream)).are

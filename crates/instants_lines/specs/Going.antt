@@ -11,25 +11,37 @@ use Rattle.instants_found.specs.declared.found.Finding.TheVariants.{Doubtful, Th
 use Rattle.instants_stream.specs.Steps.{Steps}
 use Rattle.instants_lines.specs.Dates.{Search, date_in, key_or, replaced}
 use Rattle.instants_lines.specs.Explained.{explained}
-use Rattle.instants_lines.specs.declared.mode.Mode.{Mode}
-use Rattle.instants_lines.specs.declared.mode.Mode.TheVariants.{Key, Carry, Replace, Explain}
+use Rattle.instants_lines.specs.Located.{located}
+use Rattle.instants_lines_words.specs.declared.mode.Mode.{Mode}
+use Rattle.instants_lines_words.specs.declared.mode.Mode.TheVariants.{Key, Carry, Replace, Explain, Locate}
 
--- the mode, what dates are looked for by, and the key that a line without a date takes
+-- the mode, what dates are looked for by, the label of the lines, and the key that a line without a date takes
 pub record Going : Type 0 where
   pub mode : Mode
   pub search : Search
+  pub label : Option (List ℕ)
   pub key : List ℕ
 
 -- the key of a line: that of its date, and where it has none the one that such a line takes
 unfoldable pub key_of_line : Going → List ℕ → List ℕ
 key_of_line going line = key_or going.search.setting going.key (date_in going.search line)
 
--- the text for a line: it stands after its key and a tab, or has the date-time in place of its date, or is explained
+-- what stands before a line for its label: the label and a tab, or nothing
+abbrev pub label_front : Option (List ℕ) → List ℕ
+label_front None = []
+label_front (Some label) = label ++ tab ∷ []
+
+-- a line after its key and a tab, and after its label
+abbrev pub keyed : Going → List ℕ → List ℕ
+keyed going line = key_of_line going line ++ tab ∷ (label_front going.label ++ line)
+
+-- the text for a line: it stands after its key and its label, or has the date-time in place of its date, or is explained, or its date is located
 abbrev pub text_in : Mode → Going → List ℕ → List ℕ
-text_in Key going line = key_of_line going line ++ tab ∷ line
-text_in Carry going line = key_of_line going line ++ tab ∷ line
+text_in Key going line = keyed going line
+text_in Carry going line = keyed going line
 text_in Replace going line = replaced going.search line
 text_in Explain going line = explained going.search.setting line
+text_in Locate going line = located going.search line
 
 -- a line's text ends in a line feed; where dates are replaced a last line without one stays so
 abbrev pub last_end : Mode → List ℕ
@@ -37,6 +49,7 @@ last_end Key = line_feed ∷ []
 last_end Carry = line_feed ∷ []
 last_end Replace = []
 last_end Explain = line_feed ∷ []
+last_end Locate = line_feed ∷ []
 
 -- ---- the line below
 
@@ -61,6 +74,7 @@ key_below Carry key above = above
 key_below Key key above = key
 key_below Replace key above = key
 key_below Explain key above = key
+key_below Locate key above = key
 
 abbrev pub below : Going → List ℕ → Going
 below going line = record going { search = search_below going.search line; key = key_below going.mode going.key (key_of_line going line) }
@@ -71,6 +85,7 @@ next_in Key going line = below going line
 next_in Carry going line = below going line
 next_in Replace going line = below going line
 next_in Explain going line = going
+next_in Locate going line = below going line
 
 -- ---- long lines
 
@@ -80,6 +95,7 @@ near Key limit = limit + window + 64
 near Carry limit = limit + window + 64
 near Replace limit = limit + window + 64
 near Explain limit = limit
+near Locate limit = limit + window + 64
 
 -- the text for the first bytes of a longer line
 abbrev pub begun_in : Mode → Going → List ℕ → List ℕ
@@ -87,12 +103,14 @@ begun_in Key going front = text_in Key going front
 begun_in Carry going front = text_in Carry going front
 begun_in Replace going front = text_in Replace going front
 begun_in Explain going front = []
+begun_in Locate going front = text_in Locate going front
 
 abbrev pub hands_on : Mode → Bool
 hands_on Key = true
 hands_on Carry = true
 hands_on Replace = true
 hands_on Explain = false
+hands_on Locate = false
 
 -- what stands at its end
 abbrev pub end_in : Mode → List ℕ → List ℕ
@@ -100,6 +118,7 @@ end_in Key end = end
 end_in Carry end = end
 end_in Replace end = end
 end_in Explain end = codes "! long" ++ end
+end_in Locate end = end
 
 abbrev pub lines_steps : Steps Going
 lines_steps =
@@ -115,5 +134,5 @@ lines_steps =
     }
 
 -- at the beginning a line without a date takes `! none`
-abbrev pub beginning : Mode → Search → Going
-beginning mode search = record { mode = mode; search = search; key = codes "! none" }
+abbrev pub beginning : Mode → Option (List ℕ) → Search → Going
+beginning mode label search = record { mode = mode; search = search; label = label; key = codes "! none" }

@@ -1,13 +1,11 @@
-pub mod Modes
 pub mod Dates
 pub mod Explained
+pub mod Located
+pub mod Lacking
 pub mod Going
 pub mod Fields
 pub mod Asked
 pub mod Showing
 pub mod Writing
-pub mod Wrong
-pub mod Filled
-pub mod Words
 pub mod ProgramText
 pub mod Program

@@ -11,41 +11,52 @@ use Rattle.instants_timeline.specs.Program as instants
 use Rattle.instants_timeline.specs.declared.program_fault.ProgramFault.TheVariants as program
 use Rattle.instants_lines.specs.Going.{Going, lines_steps, near}
 use Rattle.instants_lines.specs.Asked.{begins_by}
-use Rattle.instants_lines.specs.Words.{mode_words_said}
-use Rattle.instants_lines.specs.Wrong.{Wrong, wrong_of}
-use Rattle.instants_lines.specs.declared.asked.Asked.{Asked}
+use Rattle.instants_lines_words.specs.Words.{mode_words_said}
+use Rattle.instants_lines_words.specs.Wrong.{Wrong, wrong_of}
+use Rattle.instants_lines_words.specs.Asked.{Asking}
+use Rattle.instants_lines_words.specs.declared.words_fault.ModeWordsFault.{ModeWordsFault}
+use Rattle.instants_lines_words.specs.declared.words_fault.ModeWordsFault.TheVariants as fault
 use Rattle.instants_lines.specs.declared.lines_fault.LinesFault.{LinesFault}
 use Rattle.instants_lines.specs.declared.lines_fault.LinesFault.TheVariants as lines
 
 -- the words ask for this beginning
 pub record AsksFor (words : List (List ℕ)) (going : Going) : Type 0 where
-  pub asked : Asked
+  pub asked : Asking
   pub said : Words
   pub is_said : mode_words_said words ≡ Ok (asked, said)
   pub setting : Setting
   pub asks : Asks said setting
   pub begins : going ≡ begins_by asked setting said.limit
 
+-- the same fault of the words as one of the program
+abbrev pub of_words : ModeWordsFault → LinesFault
+of_words (fault.Wrong wrong) = lines.Words wrong
+of_words fault.Memory = lines.Program program.Memory
+
 -- how the run ended, where one was begun
 abbrev pub run_of : Result (Unit {0}) LinesFault → Option (Result (Unit {0}) RunFault)
 run_of (Ok done) = Some (Ok done)
 run_of (Err (lines.Words wrong)) = None
+run_of (Err (lines.Lacks lacking)) = None
 run_of (Err (lines.Program fault)) = instants.run_of (Err fault)
 
 -- a fault that comes before anything is read or written
 abbrev pub IsBeforeRun : LinesFault → Type 0
 IsBeforeRun (lines.Words wrong) = ⊤
+IsBeforeRun (lines.Lacks lacking) = ⊤
 IsBeforeRun (lines.Program fault) = instants.IsBeforeRun fault
 
 -- what is wrong with the words, where that ended the program
 abbrev pub wrong_in : Result (Unit {0}) LinesFault → Option Wrong
 wrong_in (Ok done) = None
 wrong_in (Err (lines.Words wrong)) = Some (wrong_of wrong)
+wrong_in (Err (lines.Lacks lacking)) = None
 wrong_in (Err (lines.Program fault)) = None
 
 -- the words are wrong
 abbrev pub IsOfWords : LinesFault → Type 0
 IsOfWords (lines.Words wrong) = ⊤
+IsOfWords (lines.Lacks lacking) = ⊥
 IsOfWords (lines.Program (program.Words words.Memory)) = ⊥
 IsOfWords (lines.Program (program.Words _)) = ⊤
 IsOfWords (lines.Program _) = ⊥
@@ -53,11 +64,13 @@ IsOfWords (lines.Program _) = ⊥
 -- memory ran out
 abbrev pub IsMemory : LinesFault → Type 0
 IsMemory (lines.Words wrong) = ⊥
+IsMemory (lines.Lacks lacking) = ⊥
 IsMemory (lines.Program fault) = instants.IsMemory fault
 
 -- the words are refused so: they are wrong, or there is no memory for a list of words that are accepted
 abbrev pub IsToldAs : List (List ℕ) → LinesFault → Type 0
 IsToldAs words (lines.Words wrong) = mode_words_said words ≡ Err (wrong_of wrong)
+IsToldAs words (lines.Lacks lacking) = ⊥
 IsToldAs words (lines.Program program.Memory) = IsOk (mode_words_said words)
 IsToldAs words (lines.Program _) = ⊥
 

@@ -1,55 +1,35 @@
 -- What the program says on standard error, and the status that it ends with: of a fault that `instants` has too, what that says.
-use Rattle.std.specs.Prelude.{ℕ, Bool, false, ◌||◌, ◌==◌, if◌then◌else◌, List, [], ◌∷◌, ◌++◌, codes}
+use Rattle.std.specs.Prelude.{ℕ, List, ◌++◌, codes}
 use Rattle.std.specs.Fmt.{decimal}
-use Rattle.std.specs.List.{list_any}
-use Rattle.base.specs.Bytes.{dot}
 use Rattle.instants_timeline.specs.ProgramText.{text_of}
 use Rattle.instants_timeline.specs.ProgramText as instants
-use Rattle.instants_lines.specs.Wrong.{Wrong, wrong_of, NoMode, UnknownMode, NoSource, Target, Assumed, Limit, Year, Time, Source, FirstSource, NoDescription}
+use Rattle.instants_lines_words.specs.Wrong.{wrong_of}
+use Rattle.instants_lines_words.specs.WrongText.{wrong_text}
+use Rattle.instants_fronts.specs.Lacks.{Lack, Century, Year, Day, Hour, Offset}
+use Rattle.instants_lines.specs.declared.lacking.Lacking.{Lacking}
 use Rattle.instants_lines.specs.declared.lines_fault.LinesFault.{LinesFault}
 use Rattle.instants_lines.specs.declared.lines_fault.LinesFault.TheVariants as lines
 
--- a word begins with a slash
-abbrev pub has_slash_in_front : List ℕ → Bool
-has_slash_in_front [] = false
-has_slash_in_front (first ∷ rest) = first == 47
+-- what a source lacks
+abbrev pub lack_word : Lack → List ℕ
+lack_word Century = codes "century"
+lack_word Year = codes "year"
+lack_word Day = codes "day"
+lack_word Hour = codes "hour"
+lack_word Offset = codes "offset"
 
--- a word looks like the name of a file: it has a dot, or a slash in front
-unfoldable pub is_file_name : List ℕ → Bool
-is_file_name word = list_any (λ b. b == dot) word || has_slash_in_front word
-
--- what is said of a word that is no source
-abbrev pub no_such_source : List ℕ → List ℕ
-no_such_source word =
-    if is_file_name word then codes "no such source; files are read from standard input: instants-lines .. < FILE"
-    else codes "no such source; there are rfc3339, rfc2822, iso8601, v1, v2, v3, strftime"
-
--- the same, where the word may be an offset that is misspelt
-abbrev pub no_such_first_source : List ℕ → List ℕ
-no_such_first_source word =
-    if is_file_name word then codes "no such source; files are read from standard input: instants-lines .. < FILE"
-    else codes "no such source; there are rfc3339, rfc2822, iso8601, v1, v2, v3, strftime; an offset before the sources is +HH:MM, -HH:MM, Z or UTC"
-
--- the sentence for what is wrong with words, behind the name of the program
-abbrev pub wrong_text : Wrong → List ℕ
-wrong_text NoMode = codes "usage: instants-lines MODE [TARGET [ASSUMED [LIMIT]]] [year N] [time HH:MM] SOURCE..."
-wrong_text (UnknownMode word) = codes "\"" ++ (word ++ codes "\": no such mode; there are key, carry, replace, explain")
-wrong_text NoSource = codes "no source is named; there are rfc3339, rfc2822, iso8601, v1, v2, v3, strftime"
-wrong_text (Target word) = codes "\"" ++ (word ++ codes "\": no target offset; it must be +HH:MM, -HH:MM, Z or UTC")
-wrong_text (Assumed word) = codes "\"" ++ (word ++ codes "\": no assumed offset; it must be +HH:MM, -HH:MM, Z, UTC or -")
-wrong_text (Limit word) = codes "\"" ++ (word ++ codes "\": no limit; it must be a number from 1 to 1048576")
-wrong_text (Year word) = codes "\"" ++ (word ++ codes "\": no year; it must be a number from 0 to 9999")
-wrong_text (Time word) = codes "\"" ++ (word ++ codes "\": no time of day; it must be HH:MM")
-wrong_text (Source place word) = codes "source " ++ (decimal place ++ (codes ": \"" ++ (word ++ (codes "\": " ++ no_such_source word))))
-wrong_text (FirstSource word) = codes "source 1: \"" ++ (word ++ (codes "\": " ++ no_such_first_source word))
-wrong_text (NoDescription place language) = codes "source " ++ (decimal place ++ (codes ": \"" ++ (language ++ codes "\" needs a description in the next argument")))
+-- the sentence for a source that lacks something, behind the name of the program
+abbrev pub lacking_text : Lacking → List ℕ
+lacking_text lacking = codes "source " ++ (decimal lacking.place ++ (codes " names no moment: it has no " ++ lack_word lacking.lack))
 
 -- the sentence for a fault, without a line feed
 abbrev pub sentence : LinesFault → List ℕ
 sentence (lines.Words wrong) = codes "instants-lines: " ++ wrong_text (wrong_of wrong)
-sentence (lines.Program fault) = codes "instants-lines" ++ text_of (codes "instants-lines MODE [TARGET [ASSUMED [LIMIT]]] [year N] [time HH:MM] SOURCE...") fault
+sentence (lines.Lacks lacking) = codes "instants-lines: " ++ lacking_text lacking
+sentence (lines.Program fault) = codes "instants-lines" ++ text_of (codes "instants-lines MODE [TARGET [ASSUMED [LIMIT]]] [year N] [time HH:MM] [label TEXT] SOURCE...") fault
 
--- 2 where the words or a description among them are wrong, 1 where memory, reading or writing failed
+-- 2 where the words or a description among them are wrong or a source names no moment, 1 where memory, reading or writing failed
 abbrev pub status_of : LinesFault → ℕ
 status_of (lines.Words wrong) = 2
+status_of (lines.Lacks lacking) = 2
 status_of (lines.Program fault) = instants.status_of fault

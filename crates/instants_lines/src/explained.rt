@@ -1,5 +1,5 @@
 //! What the sources say of a line, each of which reads it as a whole.
-ghost use Rattle.std.specs.Prelude.{◌≡◌, ◌<◌, ◌≤◌, ◌+◌, [], ◌∷◌, ◌++◌, length, true, false, decimal, option_map, OnOk, OnErr};
+ghost use Rattle.std.specs.Prelude.{◌≡◌, [], ◌∷◌, ◌++◌, true, false, decimal, option_map, OnOk, OnErr};
 ghost use Rattle.std.specs.Io.KnownBytes.{Appends};
 ghost use Rattle.base.specs.Bytes.{tab, line_feed};
 ghost use Rattle.instants_stream.specs.Told.{AppendsFront};
@@ -8,35 +8,11 @@ ghost use Rattle.instants_lines.specs.Showing.{setting_in};
 ghost use Rattle.instants_lines.specs.Explained.{text_by, said_by, answer_by, first_answer, parted, all_said, explained};
 
 use crate::date_sources::DateSources;
+use crate::decimals::numbered;
 use crate::parts::{write_parts, write_three};
 use instants_answers::Answer;
 use instants_fronts::DateSource;
 use instants_stream::{ByteWriter, DeviceFailed};
-
-// Adds a number in decimal.
-#[tactic(auto, using(crate::proofs::Decimals::decimal_steps))]
-fn push_decimal(answer: &mut Answer, number: usize)
-    requires { length answer.old + length (decimal number) ≤ 64 }
-    ensures { answer.new ≡ answer.old ++ decimal number }
-{
-    if number < 10 {
-        answer.push(b'0' + number as u8);
-        return;
-    }
-    push_decimal(answer, number / 10);
-    answer.push(b'0' + (number % 10) as u8);
-}
-
-// A number and a tab.
-#[tactic(auto, using(crate::proofs::Decimals::decimal_steps))]
-fn numbered(number: usize) -> Answer
-    ensures { result ≡ decimal number ++ tab ∷ [] }
-{
-    let mut answer = Answer::new();
-    push_decimal(&mut answer, number);
-    answer.push(b'\t');
-    answer
-}
 
 // What stands before a number.
 fn before(number: usize) -> &'static [u8]

@@ -1,5 +1,5 @@
 //! Laws of what is written, each the contract of a function.
-ghost use Rattle.std.specs.Prelude.{◌≡◌, ◌<◌, ◌≤◌, ◌↔◌, ◌⊎◌, ◌+◌, ℕ, true, List, [], ◌∷◌, ◌++◌, Some, None, Ok, Err, length, take, drop, map, decimal, IsOk};
+ghost use Rattle.std.specs.Prelude.{◌≡◌, ◌<◌, ◌≤◌, ◌↔◌, ◌⊎◌, ◌+◌, ℕ, true, Option, List, [], ◌∷◌, ◌++◌, Some, None, Ok, Err, length, take, drop, map, decimal, IsOk};
 ghost use Rattle.std.specs.Ordering.{nat_cmp, int_cmp};
 ghost use Rattle.std.specs.Cmp.Lexicographic.{slice_cmp};
 ghost use Rattle.base.specs.Bytes.{tab, line_feed};
@@ -17,16 +17,14 @@ ghost use Rattle.instants_stream.specs.Lines.{whole_lines, lines};
 ghost use Rattle.instants_stream.specs.Steps.{line_said, line_next, behind, output};
 ghost use Rattle.instants_timeline.specs.Place.{Setting, first_named, answer_to};
 ghost use Rattle.instants_timeline.specs.Refusal.{Refusal};
-ghost use Rattle.instants_words.specs.Words.{words_said};
-ghost use Rattle.instants_words.specs.declared.words.Words.{Words};
 ghost use Rattle.instants_lines.specs.Dates.{Search, date_in, place_of_date, key_of_date, replaced};
 ghost use Rattle.instants_lines.specs.Explained.{IsFirstToName, explained};
-ghost use Rattle.instants_lines.specs.Fields.{is_field, without_key};
-ghost use Rattle.instants_lines.specs.Filled.{filled};
-ghost use Rattle.instants_lines.specs.Going.{Going, below, beginning, key_of_line, lines_steps, near, text_in};
-ghost use Rattle.instants_lines.specs.declared.mode.Mode.{Mode};
-ghost use Rattle.instants_lines.specs.declared.mode.Mode.TheVariants.{Key, Carry, Explain};
+ghost use Rattle.instants_lines.specs.Fields.{IsLabel, is_field, without_fields};
+ghost use Rattle.instants_lines.specs.Going.{Going, below, beginning, hands_on, key_of_line, lines_steps, near, text_in};
+ghost use Rattle.instants_lines_words.specs.declared.mode.Mode.{Mode};
+ghost use Rattle.instants_lines_words.specs.declared.mode.Mode.TheVariants.{Key, Carry, Explain};
 
+pub use instants_lines_words::laws::words_in_full;
 use parsing_laws::two_roads::{two_roads_of_rfc2822, two_roads_of_rfc3339};
 
 /// What stands before and after the date of a line is unchanged where it is replaced, and between them stands the
@@ -131,33 +129,29 @@ pub fn explained_answer()
         ≡ (decimal (length first.before + 1) ++ tab ∷ []) ++ answer_to setting line) }
 {}
 
-/// Words that `instants` accepts stay as they are: behind a mode they say what they say to it.
-pub fn words_in_full()
-    ensures { (words : List (List ℕ)) (said : Words)
-        → words_said words ≡ Ok said → filled words ≡ words }
-{}
-
-/// Where lines are not explained, what is written for a line of any length is its text and a line feed, as if it had been
-/// looked at whole, and so is what is kept for the lines below it.
+/// Where the rest of a long line is handed on, what is written for a line of any length is its text and a line feed, as if it
+/// had been looked at whole, and so is what is kept for the lines below it.
 pub fn handed_on()
-    ensures said { (going : Going) (line : List ℕ) → (going.mode ≡ Explain → ⊥)
+    ensures said { (going : Going) (line : List ℕ) → hands_on going.mode ≡ true
         → line_said lines_steps (near going.mode going.search.limit) going line
         ≡ text_in going.mode going line ++ line_feed ∷ [] }
-    ensures next { (going : Going) (line : List ℕ) → (going.mode ≡ Explain → ⊥)
+    ensures next { (going : Going) (line : List ℕ) → hands_on going.mode ≡ true
         → line_next lines_steps (near going.mode going.search.limit) going line
         ≡ below going line }
 {}
 
-/// In modes `key` and `carry` the lines of the output, without what stands before each one's first tab, are the lines of the
-/// stream.
+/// In modes `key` and `carry` the lines of the output, without what stands before each one's first tab, and without the label
+/// where there is one, are the lines of the stream.
 pub fn without_keys()
-    ensures from_beginning { (mode : Mode) (search : Search) (stream : List ℕ)
-        → ((mode ≡ Key) ⊎ (mode ≡ Carry))
-        → map without_key (lines (output lines_steps (beginning mode search) (near mode search.limit) stream))
+    ensures from_beginning { (mode : Mode) (label : Option (List ℕ)) (search : Search)
+        (stream : List ℕ) → ((mode ≡ Key) ⊎ (mode ≡ Carry)) → IsLabel label
+        → map (without_fields label)
+        (lines (output lines_steps (beginning mode label search) (near mode search.limit) stream))
         ≡ lines stream }
     ensures from_anywhere { (going : Going) (stream : List ℕ)
-        → ((going.mode ≡ Key) ⊎ (going.mode ≡ Carry)) → is_field going.key ≡ true
-        → map without_key
+        → ((going.mode ≡ Key) ⊎ (going.mode ≡ Carry)) → IsLabel going.label
+        → is_field going.key ≡ true
+        → map (without_fields going.label)
         (lines (output lines_steps going (near going.mode going.search.limit) stream))
         ≡ lines stream }
 {}

@@ -1,4 +1,4 @@
-//! Dates inside lines onto one timeline: each line is written behind the key of its first date, or with the date-time in
+//! Dates inside lines onto one timeline: each line is written after the key of its date, or with the date-time in
 //! place of it.
 //!
 //! ```
@@ -12,27 +12,22 @@
 //! - `laws` has what follows from the contracts. A call of a law hands it to a proof.
 #![tactic(auto)]
 
-mod asked;
-mod asked_words;
 mod date_sources;
+mod decimals;
 mod explained;
-mod filled;
+mod lacking;
 pub mod laws;
 mod line_writer;
 mod lines_fault;
-mod mode;
-mod number;
+mod located;
 mod parts;
 mod program;
-mod words;
-mod wrong_source;
-mod wrong_words;
 
+pub use instants_lines_words::{Mode, WrongWords};
 pub use instants_timeline::{
     BlockWriter, ByteReader, ByteWriter, NewFault, ProgramFault, RunFault, StdReader, StdWriter,
     WordsFault,
 };
+pub use lacking::Lacking;
 pub use lines_fault::LinesFault;
-pub use mode::Mode;
 pub use program::run_words;
-pub use wrong_words::WrongWords;

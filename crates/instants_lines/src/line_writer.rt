@@ -6,9 +6,9 @@ mod calls;
 mod writes;
 
 use crate::date_sources::DateSources;
-use crate::mode::Mode;
 use instants_answers::Answer;
 use instants_fronts::Given;
+use instants_lines_words::Mode;
 
 /// Writes lines in a mode, by their dates. It keeps the key that a line without a date takes, and
 /// the year of the last date where one is given.
@@ -17,10 +17,11 @@ pub(crate) struct LineWriter<'a, 'b> {
     mode: Mode,
     dates: &'a DateSources<'b>,
     given: Given,
+    label: Option<&'a str>,
     key: Answer,
     // The same and a tab, which are written at once.
     tabbed: Answer,
-    // There is room for a tab behind it.
+    // There is room for a tab after it.
     ghost room: { length key ≤ 63 },
     ghost tabbed_is: { tabbed ≡ key ++ tab ∷ [] },
 }

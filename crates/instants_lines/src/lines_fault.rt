@@ -1,20 +1,23 @@
 //! What ends the program early.
 ghost use Rattle.std.specs.Prelude.{◌≡◌, Some};
 
-use crate::wrong_words::WrongWords;
-use instants_timeline::{FaultText, ProgramFault};
+use crate::lacking::Lacking;
+use instants_lines_words::{ModeWordsFault, WrongWords};
+use instants_timeline::{FaultText, ProgramFault, RunsFault};
 use std::alloc::AllocError;
 use std::fmt;
 
 // The words of the program behind its name.
 const USAGE: &str =
-    "instants-lines MODE [TARGET [ASSUMED [LIMIT]]] [year N] [time HH:MM] SOURCE...";
+    "instants-lines MODE [TARGET [ASSUMED [LIMIT]]] [year N] [time HH:MM] [label TEXT] SOURCE...";
 
 /// Why the program did not write its whole output. `Display` gives the sentence for standard error, without a line feed.
 #[derive(Clone, Copy, Debug, PartialEq, Eq)]
 pub enum LinesFault<'a> {
     /// The words are wrong.
     Words(WrongWords<'a>),
+    /// A source can name no moment.
+    Lacks(Lacking),
     /// What can end `instants` too: a description that is none, a device, or memory.
     Program(ProgramFault<'a>),
 }
@@ -22,12 +25,12 @@ pub enum LinesFault<'a> {
 impl LinesFault<'_> {
     ghost use Rattle.instants_lines.specs.ProgramText.{status_of};
 
-    /// The status to end with: 2 where the words or a description among them are wrong, else 1.
+    /// The status to end with: 2 where the words or a description among them are wrong or a source names no moment, else 1.
     pub fn status(&self) -> u8
         ensures { result ≡ status_of self.now }
     {
         match self {
-            LinesFault::Words(_) => 2,
+            LinesFault::Words(_) | LinesFault::Lacks(_) => 2,
             LinesFault::Program(fault) => fault.status(),
         }
     }
@@ -42,6 +45,7 @@ impl fmt::Display for LinesFault<'_> {
     fn fmt<W: fmt::Write>(&self, f: &mut fmt::Formatter<W>) -> fmt::Result {
         match self {
             LinesFault::Words(wrong) => write!(f, "instants-lines: {wrong}"),
+            LinesFault::Lacks(lacking) => write!(f, "instants-lines: {lacking}"),
             LinesFault::Program(fault) => {
                 let text = FaultText {
                     fault: *fault,
@@ -61,6 +65,32 @@ impl<'a> From<ProgramFault<'a>> for LinesFault<'a> {
 
     fn from(ended: ProgramFault<'a>) -> Self {
         LinesFault::Program(ended)
+    }
+}
+
+impl<'a> From<ModeWordsFault<'a>> for LinesFault<'a> {
+    ghost use Rattle.std.specs.Prelude.{◌≡◌};
+    ghost use Rattle.instants_lines.specs.Program.{of_words};
+
+    ghost from_gives = { λ fault e. e ≡ of_words fault };
+
+    fn from(fault: ModeWordsFault<'a>) -> Self {
+        match fault {
+            ModeWordsFault::Wrong(wrong) => LinesFault::Words(wrong),
+            ModeWordsFault::Memory => LinesFault::Program(ProgramFault::Memory),
+        }
+    }
+}
+
+impl From<RunsFault> for LinesFault<'_> {
+    ghost use Rattle.std.specs.Prelude.{◌≡◌};
+    ghost use Rattle.instants_timeline.specs.Program.{of_runs};
+    ghost use Rattle.instants_lines.specs.declared.lines_fault.LinesFault.TheVariants as lines;
+
+    ghost from_gives = { λ fault e. e ≡ lines.Program (of_runs fault) };
+
+    fn from(fault: RunsFault) -> Self {
+        LinesFault::Program(ProgramFault::from(fault))
     }
 }
 

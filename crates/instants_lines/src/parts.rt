@@ -1,8 +1,9 @@
-//! Parts of a line, written one behind the other.
-ghost use Rattle.std.specs.Prelude.{◌≡◌, ◌≤◌, [], ◌∷◌, ◌++◌, length, true, false, OnOk, OnErr};
+//! Parts of a line, written one after the other.
+ghost use Rattle.std.specs.Prelude.{◌≡◌, ◌≤◌, [], ◌∷◌, ◌++◌, length, option_map, true, false, OnOk, OnErr};
 ghost use Rattle.std.specs.Io.KnownBytes.{Appends};
 ghost use Rattle.base.specs.Bytes.{tab, line_feed};
 ghost use Rattle.instants_stream.specs.Told.{AppendsFront};
+ghost use Rattle.instants_lines.specs.Going.{label_front};
 
 use instants_answers::Answer;
 use instants_stream::{ByteWriter, DeviceFailed};
@@ -86,40 +87,84 @@ fn write_fed<W: ByteWriter>(writer: &mut W, line: &[u8]) -> Result<(), DeviceFai
     writer.write_front(&LINE_FEED, 1)
 }
 
-// Writes a tab, a line and a line feed.
+/// Writes a label and a tab, where there is a label.
 #[inline(always)]
-fn write_tabbed<W: ByteWriter>(writer: &mut W, line: &[u8]) -> Result<(), DeviceFailed>
+pub(crate) fn write_label<W: ByteWriter>(
+    writer: &mut W,
+    label: Option<&str>,
+) -> Result<(), DeviceFailed>
     requires { W.failed writer.old ≡ false }
     ensures written { OnOk result (Appends (W.held writer.old) (W.held writer.new)
-        (tab ∷ (line.now ++ line_feed ∷ []))) }
+        (label_front (option_map (λ text. text.now) label))) }
     ensures ok { OnOk result (W.failed writer.new ≡ W.failed writer.old) }
     ensures front { OnErr result (AppendsFront (W.held writer.old) (W.held writer.new)
-        (tab ∷ (line.now ++ line_feed ∷ []))) }
+        (label_front (option_map (λ text. text.now) label))) }
     ensures err { OnErr result (W.failed writer.new ≡ true) }
 {
-    writer.write_front(&TAB, 1)?;
+    match label {
+        Some(text) => write_both(writer, text.as_bytes(), b"\t"),
+        None => Ok(()),
+    }
+}
+
+// Writes a line after its label, and a line feed.
+#[inline(always)]
+fn write_labelled<W: ByteWriter>(
+    writer: &mut W,
+    label: Option<&str>,
+    line: &[u8],
+) -> Result<(), DeviceFailed>
+    requires { W.failed writer.old ≡ false }
+    ensures written { OnOk result (Appends (W.held writer.old) (W.held writer.new)
+        (label_front (option_map (λ text. text.now) label) ++ (line.now ++ line_feed ∷ []))) }
+    ensures ok { OnOk result (W.failed writer.new ≡ W.failed writer.old) }
+    ensures front { OnErr result (AppendsFront (W.held writer.old) (W.held writer.new)
+        (label_front (option_map (λ text. text.now) label) ++ (line.now ++ line_feed ∷ []))) }
+    ensures err { OnErr result (W.failed writer.new ≡ true) }
+{
+    write_label(writer, label)?;
     write_fed(writer, line)
 }
 
-/// Writes an answer, a tab, a line and a line feed.
+// Writes a tab, a line after its label, and a line feed.
+#[inline(always)]
+fn write_tabbed<W: ByteWriter>(
+    writer: &mut W,
+    label: Option<&str>,
+    line: &[u8],
+) -> Result<(), DeviceFailed>
+    requires { W.failed writer.old ≡ false }
+    ensures written { OnOk result (Appends (W.held writer.old) (W.held writer.new)
+        (tab ∷ (label_front (option_map (λ text. text.now) label) ++ (line.now ++ line_feed ∷ [])))) }
+    ensures ok { OnOk result (W.failed writer.new ≡ W.failed writer.old) }
+    ensures front { OnErr result (AppendsFront (W.held writer.old) (W.held writer.new)
+        (tab ∷ (label_front (option_map (λ text. text.now) label) ++ (line.now ++ line_feed ∷ [])))) }
+    ensures err { OnErr result (W.failed writer.new ≡ true) }
+{
+    writer.write_front(&TAB, 1)?;
+    write_labelled(writer, label, line)
+}
+
+/// Writes an answer, a tab, a line after its label, and a line feed.
 #[inline(always)]
 pub(crate) fn write_behind<W: ByteWriter>(
     writer: &mut W,
     answer: &Answer,
+    label: Option<&str>,
     line: &[u8],
 ) -> Result<(), DeviceFailed>
     requires works { W.failed writer.old ≡ false }
     requires room { length answer.now ≤ 64 }
     ensures written { OnOk result (Appends (W.held writer.old) (W.held writer.new)
-        ((answer.now ++ tab ∷ line.now) ++ line_feed ∷ [])) }
+        ((answer.now ++ tab ∷ (label_front (option_map (λ text. text.now) label) ++ line.now)) ++ line_feed ∷ [])) }
     ensures ok { OnOk result (W.failed writer.new ≡ W.failed writer.old) }
     ensures front { OnErr result (AppendsFront (W.held writer.old) (W.held writer.new)
-        ((answer.now ++ tab ∷ line.now) ++ line_feed ∷ [])) }
+        ((answer.now ++ tab ∷ (label_front (option_map (λ text. text.now) label) ++ line.now)) ++ line_feed ∷ [])) }
     ensures err { OnErr result (W.failed writer.new ≡ true) }
 {
     let (bytes, len) = answer.padded();
     writer.write_front(bytes, len)?;
-    write_tabbed(writer, line)
+    write_tabbed(writer, label, line)
 }
 
 /// An answer and a tab.
@@ -133,23 +178,24 @@ pub(crate) fn tabbed(answer: Answer) -> Answer
     tabbed
 }
 
-/// Writes an answer, a line and a line feed.
+/// Writes an answer, a line after its label, and a line feed.
 #[inline(always)]
 pub(crate) fn write_after<W: ByteWriter>(
     writer: &mut W,
     answer: &Answer,
+    label: Option<&str>,
     line: &[u8],
 ) -> Result<(), DeviceFailed>
     requires works { W.failed writer.old ≡ false }
     requires room { length answer.now ≤ 64 }
     ensures written { OnOk result (Appends (W.held writer.old) (W.held writer.new)
-        (answer.now ++ (line.now ++ line_feed ∷ []))) }
+        (answer.now ++ (label_front (option_map (λ text. text.now) label) ++ (line.now ++ line_feed ∷ [])))) }
     ensures ok { OnOk result (W.failed writer.new ≡ W.failed writer.old) }
     ensures front { OnErr result (AppendsFront (W.held writer.old) (W.held writer.new)
-        (answer.now ++ (line.now ++ line_feed ∷ []))) }
+        (answer.now ++ (label_front (option_map (λ text. text.now) label) ++ (line.now ++ line_feed ∷ [])))) }
     ensures err { OnErr result (W.failed writer.new ≡ true) }
 {
     let (bytes, len) = answer.padded();
     writer.write_front(bytes, len)?;
-    write_fed(writer, line)
+    write_labelled(writer, label, line)
 }

@@ -1,64 +1,63 @@
 //! The program between its words and its end.
-ghost use Rattle.std.specs.Prelude.{◌≡◌, ◌<◌, ◌≤◌, ◌+◌, ◌^◌, ℕ, false, length, map, Some, Ok, Err, IsOk, IfSome, IfErr};
-ghost use Rattle.instants_stream.specs.Ran.{Ran, RanAndFlushed};
-ghost use Rattle.instants_stream.specs.Steps.{by_steps};
+ghost use Rattle.std.specs.Prelude.{◌≡◌, ◌<◌, ◌≤◌, ◌+◌, ◌^◌, ℕ, false, length, map, option_map, None, Some, Ok, Err, IsOk, IfSome, IfErr};
+ghost use Rattle.instants_stream.specs.Ran.{RanAndFlushed};
 ghost use Rattle.instants_words.specs.declared.words.Words.{Words};
-ghost use Rattle.instants_lines.specs.Asked.{given_by};
-ghost use Rattle.instants_lines.specs.Showing.{search_in};
 ghost use Rattle.instants_timeline.specs.Place.{Setting};
-ghost use Rattle.instants_timeline.specs.Program.{block};
 ghost use Rattle.instants_timeline.specs.Sources.{IsRefusal};
 ghost use Rattle.instants_timeline.specs.declared.new_fault.NewFault.{NewFault};
 ghost use Rattle.instants_timeline.specs.declared.program_fault.ProgramFault.{ProgramFault};
-ghost use Rattle.instants_lines.specs.Going.{Going, beginning, lines_steps, near};
+ghost use Rattle.instants_lines_words.specs.Asked.{Asking, asking_of};
+ghost use Rattle.instants_lines_words.specs.Words.{mode_words_said};
+ghost use Rattle.instants_lines_words.specs.Wrong.{Wrong};
+ghost use Rattle.instants_lines.specs.Asked.{given_by};
+ghost use Rattle.instants_lines.specs.Going.{Going, near};
+ghost use Rattle.instants_lines.specs.Lacking.{lacking_in};
 ghost use Rattle.instants_lines.specs.Program.{AsksFor, IsBeforeRun, IsMemory, IsOfWords, IsToldAs, run_of, writing, wrong_in};
-ghost use Rattle.instants_lines.specs.Words.{mode_words_said};
-ghost use Rattle.instants_lines.specs.Wrong.{Wrong};
-ghost use Rattle.instants_lines.specs.declared.asked.Asked.{Asked};
+ghost use Rattle.instants_lines.specs.declared.lacking.Lacking.{Lacking};
 
-use crate::asked::Asked;
 use crate::date_sources::DateSources;
 use crate::line_writer::LineWriter;
 use crate::lines_fault::LinesFault;
-use crate::mode::Mode;
-use crate::words::read_mode_words;
 use calendar::UtcOffset;
 use instants_fronts::{Given, Years};
+use instants_lines_words::{Asked, Mode, read_mode_words};
 use instants_stream::write_lines;
 use instants_timeline::{
-    ByteReader, ByteWriter, RunFault, RunsFault, RunsLines, Timeline, run_words_by,
+    ByteReader, ByteWriter, RunFault, RunsLines, asked_timeline, run_program,
 };
 use std::alloc::Global;
 
-impl RunsLines for Asked {
-    ghost use Rattle.instants_lines.specs.Asked.{begins_by};
-    ghost use Rattle.instants_lines.specs.Program.{writing};
+// What writes for the lines of a stream as words ask.
+struct LinesAsked<'a, 'b> {
+    asked: Asked<'a>,
+    given: Given,
+    dates: DateSources<'b>,
+}
 
-    ghost writing = { λ asked setting limit. writing (begins_by asked setting limit) };
+impl RunsLines for LinesAsked<'_, '_> {
+    ghost use Rattle.instants_lines.specs.Writing.{writing_for};
 
+    ghost writing = { λ lines limit. writing_for lines limit };
+
+    // A function of its own, in which the reader, the writer and the buffer are known to lie apart.
+    #[inline(never)]
     fn run<R: ByteReader, W: ByteWriter>(
         &self,
-        alloc: Global,
-        timeline: Timeline<'_>,
         limit: usize,
         buffer: &mut [u8],
         reader: &mut R,
         writer: &mut W,
-    ) -> Result<(), RunsFault> {
-        let given = given_by(*self, timeline.assumed());
-        let Ok(dates) = DateSources::of_timeline(alloc, timeline, limit) else {
-            return Err(RunsFault::Memory);
-        };
-        match run_in_mode(self.mode, given, &dates, limit, buffer, reader, writer) {
-            Ok(()) => Ok(()),
-            Err(fault) => Err(RunsFault::Run(fault)),
-        }
+    ) -> Result<(), RunFault> {
+        let mode = self.asked.mode;
+        let mut lines = LineWriter::new(mode, self.asked.label, &self.dates, self.given);
+        write_lines(&mut lines, near(mode, limit), buffer, reader, writer)
     }
 }
 
 // What is given for dates that lack it.
-fn given_by(asked: Asked, assumed: Option<UtcOffset>) -> Given
-    ensures { (setting : Setting) → setting.assumed ≡ assumed → result ≡ given_by asked setting }
+fn given_by(asked: &Asked<'_>, assumed: Option<UtcOffset>) -> Given
+    ensures { (setting : Setting) → setting.assumed ≡ assumed
+        → result ≡ given_by (asking_of asked.now) setting }
 {
     let years = match asked.year {
         Some(year) => Years::In(year),
@@ -77,7 +76,7 @@ fn near(mode: Mode, limit: usize) -> usize
     ensures { result ≡ near mode limit }
 {
     match mode {
-        Mode::Key | Mode::Carry | Mode::Replace => limit + 320,
+        Mode::Key | Mode::Carry | Mode::Replace | Mode::Locate => limit + 320,
         Mode::Explain => limit,
     }
 }
@@ -85,12 +84,13 @@ fn near(mode: Mode, limit: usize) -> usize
 /// Writes for each line that the reader gives what the words say, hands it on before each read, and flushes the writer at
 /// the end.
 ///
-/// The words are `MODE [TARGET [ASSUMED [LIMIT]]] [year N] [time HH:MM] SOURCE...`, where `MODE` is `key`, `carry`, `replace` or
-/// `explain`, and the others are those of `instants`. `TARGET`, `ASSUMED` and `LIMIT` begin with a sign or a digit, or are `Z` or
-/// `UTC`, which say `+00:00`; those that are left out are `+00:00`, `-` and `1048576`. `year` gives the year, 0 to 9999, of the
-/// first date of lines that say none, and `time` the time of day, 00:00 to 23:59, of dates without one. All words are looked
-/// at, and all memory is taken, before anything is read. The first device that fails ends the run; after a failed read what
-/// was written is flushed.
+/// The words are `MODE [TARGET [ASSUMED [LIMIT]]] [year N] [time HH:MM] [label TEXT] SOURCE...`, where `MODE` is `key`, `carry`,
+/// `replace`, `explain` or `locate`, and the others are those of `instants`. `TARGET`, `ASSUMED` and `LIMIT` begin with a sign or a
+/// digit, or are `Z` or `UTC`, which say `+00:00`; those that are left out are `+00:00`, `-` and `1048576`. `year` gives the year, 0
+/// to 9999, of the first date of lines that say none, and `time` the time of day, 00:00 to 23:59, of dates without one. `label`
+/// gives a text that stands between the key of a line and the line, in modes `key` and `carry`. The name of a format is a source
+/// too, and says its language and its description. All words are looked at, and all memory is taken, before anything is read.
+/// The first device that fails ends the run; after a failed read what was written is flushed.
 pub fn run_words<'a, R: ByteReader, W: ByteWriter>(
     alloc: Global,
     words: &[&'a str],
@@ -104,6 +104,13 @@ pub fn run_words<'a, R: ByteReader, W: ByteWriter>(
         × AsksFor (map (λ word. word.now) words.now) going
         × RanAndFlushed (writing going)
         R.ByteReader reader.old reader.new W.ByteWriter writer.old writer.new ended) }
+    // Where a run is begun each source can name a moment.
+    ensures names { IfSome (run_of result) (λ ended. (going : Going)
+        × AsksFor (map (λ word. word.now) words.now) going × (lacking_in going.search ≡ None)) }
+    // The first source that can name none is refused with what it lacks.
+    ensures lacks { (lacking : Lacking) → result ≡ Err (LinesFault.Lacks lacking)
+        → (going : Going) × AsksFor (map (λ word. word.now) words.now) going
+        × (lacking_in going.search ≡ Some lacking) }
     // Words that are wrong are refused, whatever the devices have.
     ensures refused { (wrong : Wrong)
         → mode_words_said (map (λ word. word.now) words.now) ≡ Err wrong
@@ -113,7 +120,7 @@ pub fn run_words<'a, R: ByteReader, W: ByteWriter>(
         → IsToldAs (map (λ word. word.now) words.now) fault) }
     // A source that is no description is refused by its place and its fault; it is the first such one.
     ensures new { (fault : NewFault) → result ≡ Err (LinesFault.Program (ProgramFault.New fault))
-        → (asked : Asked) × (said : Words)
+        → (asked : Asking) × (said : Words)
         × (mode_words_said (map (λ word. word.now) words.now) ≡ Ok (asked, said))
         × IsRefusal said.sources fault }
     ensures memory { IfErr result (λ fault.
@@ -121,33 +128,18 @@ pub fn run_words<'a, R: ByteReader, W: ByteWriter>(
     ensures before { IfErr result (λ fault.
         IsBeforeRun fault → (reader.new ≡ reader.old) × (writer.new ≡ writer.old)) }
 {
-    let (asked, filled) = match read_mode_words(alloc, words) {
-        Ok(read) => read,
-        Err(fault) => return Err(fault),
-    };
-    match run_words_by(&asked, alloc, filled.as_slice(), reader, writer) {
-        Ok(()) => Ok(()),
-        Err(fault) => Err(LinesFault::Program(fault)),
+    let (asked, filled) = read_mode_words(alloc, words)?;
+    let (timeline, limit) = asked_timeline(alloc, filled.as_slice())?;
+    let given = given_by(&asked, timeline.assumed());
+    let dates = DateSources::of_timeline(alloc, timeline, limit)?;
+    if let Some(lacking) = dates.lacking(&given) {
+        return Err(LinesFault::Lacks(lacking));
     }
-}
-
-// Writes for each line. A function of its own, in which the reader, the writer and the buffer are known to lie apart.
-#[inline(never)]
-fn run_in_mode<R: ByteReader, W: ByteWriter>(
-    mode: Mode,
-    given: Given,
-    dates: &DateSources<'_>,
-    limit: usize,
-    buffer: &mut [u8],
-    reader: &mut R,
-    writer: &mut W,
-) -> Result<(), RunFault>
-    requires room { limit + block ≤ length buffer.old }
-    requires reader { R.failed reader.old ≡ false }
-    requires writer { W.failed writer.old ≡ false }
-    ensures { Ran (by_steps lines_steps (beginning mode (search_in dates.now given)) (near mode limit))
-        R.ByteReader reader.old reader.new W.ByteWriter writer.old writer.new result }
-{
-    let mut lines = LineWriter::new(mode, dates, given);
-    write_lines(&mut lines, near(mode, limit), buffer, reader, writer)
+    let lines = LinesAsked {
+        asked,
+        given,
+        dates,
+    };
+    run_program(&lines, alloc, limit, reader, writer)?;
+    Ok(())
 }

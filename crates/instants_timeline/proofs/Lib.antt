@@ -2,4 +2,3 @@ pub mod Counted
 pub mod FirstNamed
 pub mod Means
 pub mod LineLength
-mod RunsEnds

@@ -22,7 +22,7 @@ pub use instants_stream::{
 pub use instants_words::{SourceText, Sources, Words, WordsFault, read_words};
 pub use line_fault::LineFault;
 pub use new_fault::NewFault;
-pub use program::{RunsLines, run_words, run_words_by};
+pub use program::{RunsLines, asked_timeline, run_program, run_words};
 pub use program_fault::{FaultText, ProgramFault};
 pub use runs::{run, run_over};
 pub use runs_fault::RunsFault;

@@ -1,7 +1,8 @@
-//! What ends a program's run early.
+//! What ends the run of a program early.
 
 use crate::program_fault::ProgramFault;
 use instants_stream::RunFault;
+use std::alloc::AllocError;
 
 /// Why a program did not write for all lines of a stream.
 #[derive(Clone, Copy, Debug, PartialEq, Eq)]
@@ -20,6 +21,17 @@ impl From<RunFault> for RunsFault {
 
     fn from(fault: RunFault) -> Self {
         RunsFault::Run(fault)
+    }
+}
+
+impl From<AllocError> for RunsFault {
+    ghost use Rattle.std.specs.Prelude.{◌≡◌};
+    ghost use Rattle.instants_timeline.specs.declared.runs_fault.RunsFault.TheVariants as runs;
+
+    ghost from_gives = { λ _ e. e ≡ runs.Memory };
+
+    fn from(_fault: AllocError) -> Self {
+        RunsFault::Memory
     }
 }
 

@@ -1,9 +1,10 @@
 //! The calls of a finder.
-ghost use Rattle.std.specs.Prelude.{◌≡◌, ◌<◌, ◌≤◌, ◌+◌, length, map, min, false, None, All, IfOk, IfSome, IfNone};
+ghost use Rattle.std.specs.Prelude.{◌≡◌, ◌<◌, ◌≤◌, ◌+◌, length, map, min, take, false, None, All, IfOk, IfSome, IfNone};
 ghost use Rattle.instants_fronts.specs.declared.given.Given.{Given};
 ghost use Rattle.instants_fronts.specs.DateSource.{grammar_in};
 ghost use Rattle.instants_sources.specs.Grammar.{grammar_of};
 ghost use Rattle.instants_found.specs.Found.{found};
+ghost use Rattle.instants_found.specs.Doubts.{doubt_of, first_read};
 ghost use Rattle.instants_found.specs.Finder.{limit_of, sources_of};
 ghost use Rattle.instants_found.specs.Keys.{NeedsFour};
 ghost use Rattle.instants_found.specs.Marks.{AreMarks};
@@ -11,6 +12,7 @@ ghost use Rattle.instants_found.specs.Starts.{HasNoDate, IsNoDate, MarkPlaces};
 ghost use Rattle.instants_found.specs.Within.{IsWithin};
 
 use crate::beside::after;
+use crate::doubt::{Doubted, doubted_at};
 use crate::finder::Finder;
 use crate::finding::{at_place, may_read};
 use crate::found::Finding;
@@ -265,6 +267,37 @@ impl<'a> Finder<'a> {
             return None;
         };
         self.find_from(given, line, start)
+    }
+
+    // The least place, among the first ones, at which a source reads a date.
+    fn first_read(&self, given: &Given, line: &[u8]) -> Option<usize>
+        ensures place { result ≡ first_read given.now (sources_of self.now) line.now 0
+            (take (limit_of self.now) line.now) }
+        ensures within { IfSome result (λ place. place < length line.now) }
+    {
+        for place in 0..self.end(line) {
+            if at_place(self.sources.as_slice(), given, line, place).is_some() {
+                return Some(place);
+            }
+        }
+        None
+    }
+
+    /// Why what one source reads is in doubt, with what is given, at the least place, among the first ones, at which some source
+    /// reads a date: `find` looks there too. `None` where the source of this number reads none there, where its date stands whole,
+    /// and where no source has this number.
+    pub fn doubt_of(&self, given: &Given, line: &[u8], number: usize) -> Option<Doubted>
+        ensures is { result ≡ doubt_of (limit_of self.now) given.now (sources_of self.now) line.now number }
+        ensures start { IfSome result (λ date. date.start ≤ length line.now) }
+        ensures end { IfSome result (λ date. date.end ≤ length line.now) }
+    {
+        let Some(source) = self.sources.as_slice().get(number) else {
+            return None;
+        };
+        let Some(place) = self.first_read(given, line) else {
+            return None;
+        };
+        doubted_at(source, given, line, place)
     }
 }
 

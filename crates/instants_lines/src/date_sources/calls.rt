@@ -11,12 +11,15 @@ ghost use Rattle.instants_timeline.specs.Place.{place_text, shown_or_refused};
 ghost use Rattle.instants_timeline.specs.Refusal.{year};
 ghost use Rattle.instants_timeline.specs.Settings.{setting_of};
 ghost use Rattle.instants_lines.specs.Dates.{date_in};
+ghost use Rattle.instants_lines.specs.Lacking.{first_lacking};
+ghost use Rattle.instants_found.specs.Doubts.{doubt_of};
 ghost use Rattle.instants_lines.specs.Showing.{limit_in, search_in, setting_in};
 
 use crate::date_sources::DateSources;
 use datetime_types::OffsetDateTime;
 use instants_answers::Answer;
-use instants_found::{Finder, Finding};
+use crate::lacking::Lacking;
+use instants_found::{Doubted, Finder, Finding};
 use instants_fronts::{DateSource, Given};
 use instants_sources::Named;
 use instants_timeline::{Timeline, answer_by, answer_named, shown_at};
@@ -47,6 +50,31 @@ impl<'a> DateSources<'a> {
         ensures { map grammar_in result.now ≡ (setting_in self.now).sources }
     {
         self.finder.sources()
+    }
+
+    /// The first source that can name no moment, with what is given.
+    pub(crate) fn lacking(&self, given: &Given) -> Option<Lacking>
+        ensures { result ≡ first_lacking given.now 1 (setting_in self.now).sources }
+    {
+        let sources = self.sources();
+        for number in 0..sources.len() {
+            if let Some(lack) = sources[number].lack(given) {
+                return Some(Lacking {
+                    place: number + 1,
+                    lack,
+                });
+            }
+        }
+        None
+    }
+
+    /// What a source has read that is in doubt, where the date of the line is.
+    pub(crate) fn doubt_of(&self, given: &Given, line: &[u8], number: usize) -> Option<Doubted>
+        ensures is { result ≡ doubt_of (limit_in self.now) given.now
+            (setting_in self.now).sources line.now number }
+        ensures start { IfSome result (λ date. date.start ≤ length line.now) }
+    {
+        self.finder.doubt_of(given, line, number)
     }
 
     /// The date of a line, with what is given.

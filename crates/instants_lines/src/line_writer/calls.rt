@@ -1,5 +1,5 @@
 //! What is written for lines one after another.
-ghost use Rattle.std.specs.Prelude.{◌≡◌, ◌<◌, ◌≤◌, [], ◌∷◌, ◌++◌, length, true, false, Some, OnOk, OnErr};
+ghost use Rattle.std.specs.Prelude.{◌≡◌, ◌<◌, ◌≤◌, [], ◌∷◌, ◌++◌, length, option_map, true, false, Some, OnOk, OnErr};
 ghost use Rattle.std.specs.Io.KnownBytes.{Appends};
 ghost use Rattle.base.specs.Bytes.{tab, line_feed};
 ghost use Rattle.instants_found.specs.Starts.{HasNoDate};
@@ -7,23 +7,31 @@ ghost use Rattle.instants_found.specs.declared.found.Finding.TheVariants.{There}
 ghost use Rattle.instants_stream.specs.Told.{AppendsFront};
 ghost use Rattle.instants_lines.specs.Showing.{search_in};
 ghost use Rattle.instants_lines.specs.Dates.{date_in, doubt, replaced};
-ghost use Rattle.instants_lines.specs.Going.{below, beginning, given_below, key_of_line, key_below};
+ghost use Rattle.instants_lines.specs.Going.{below, beginning, given_below, key_of_line, key_below, keyed, label_front};
+ghost use Rattle.instants_lines.specs.Located.{located};
 ghost use Rattle.instants_lines.specs.Writing.{going_of};
-ghost use Rattle.instants_lines.specs.declared.mode.Mode.{Mode};
+ghost use Rattle.instants_lines_words.specs.declared.mode.Mode.{Mode};
 
 use crate::date_sources::DateSources;
 use crate::line_writer::LineWriter;
-use crate::mode::Mode;
-use crate::parts::{tabbed, write_after, write_behind, write_three};
+use crate::located::write_finding;
+use crate::parts::{tabbed, write_after, write_behind, write_both, write_label, write_three};
 use instants_answers::{Answer, rfc3339_line};
 use instants_found::{Finding, Found};
 use instants_fronts::{Given, Years};
+use instants_lines_words::Mode;
 use instants_stream::{ByteWriter, DeviceFailed};
 
 impl<'a, 'b> LineWriter<'a, 'b> {
     /// At the beginning a line without a date takes `! none`.
-    pub(crate) fn new(mode: Mode, dates: &'a DateSources<'b>, given: Given) -> LineWriter<'a, 'b>
-        ensures { going_of result ≡ beginning mode (search_in dates.now given) }
+    pub(crate) fn new(
+        mode: Mode,
+        label: Option<&'a str>,
+        dates: &'a DateSources<'b>,
+        given: Given,
+    ) -> LineWriter<'a, 'b>
+        ensures { going_of result ≡ beginning mode (option_map (λ text. text.now) label)
+            (search_in dates.now given) }
     {
         let mut key = Answer::new();
         key.push_bytes(b"! none");
@@ -31,6 +39,7 @@ impl<'a, 'b> LineWriter<'a, 'b> {
             mode,
             dates,
             given,
+            label,
             key,
             tabbed: tabbed(key),
         }
@@ -49,6 +58,7 @@ impl<'a, 'b> LineWriter<'a, 'b> {
                 mode: self.mode,
                 dates: self.dates,
                 given: self.given,
+                label: self.label,
                 key,
                 tabbed: tabbed(key),
             };
@@ -79,13 +89,13 @@ impl<'a, 'b> LineWriter<'a, 'b> {
     fn write_undated<W: ByteWriter>(&self, line: &[u8], writer: &mut W) -> Result<(), DeviceFailed>
         requires { W.failed writer.old ≡ false }
         ensures written { OnOk result (Appends (W.held writer.old) (W.held writer.new)
-            (((going_of self.now).key ++ tab ∷ line.now) ++ line_feed ∷ [])) }
+            (((going_of self.now).key ++ tab ∷ (label_front (going_of self.now).label ++ line.now)) ++ line_feed ∷ [])) }
         ensures ok { OnOk result (W.failed writer.new ≡ W.failed writer.old) }
         ensures front { OnErr result (AppendsFront (W.held writer.old) (W.held writer.new)
-            (((going_of self.now).key ++ tab ∷ line.now) ++ line_feed ∷ [])) }
+            (((going_of self.now).key ++ tab ∷ (label_front (going_of self.now).label ++ line.now)) ++ line_feed ∷ [])) }
         ensures err { OnErr result (W.failed writer.new ≡ true) }
     {
-        write_after(writer, &self.tabbed, line)
+        write_after(writer, &self.tabbed, self.label, line)
     }
 
     // The key of a line by what is found in it, which is kept for the lines below.
@@ -126,16 +136,16 @@ impl<'a, 'b> LineWriter<'a, 'b> {
         requires within { first < length line.now }
         requires passed { HasNoDate (going_of self.old).search.setting.sources line.now 0 first }
         ensures written { OnOk result (Appends (W.held writer.old) (W.held writer.new)
-            ((key_of_line (going_of self.old) line.now ++ tab ∷ line.now) ++ line_feed ∷ [])) }
+            (keyed (going_of self.old) line.now ++ line_feed ∷ [])) }
         ensures next { OnOk result (going_of self.new ≡ below (going_of self.old) line.now) }
         ensures ok { OnOk result (W.failed writer.new ≡ W.failed writer.old) }
         ensures front { OnErr result (AppendsFront (W.held writer.old) (W.held writer.new)
-            ((key_of_line (going_of self.old) line.now ++ tab ∷ line.now) ++ line_feed ∷ [])) }
+            (keyed (going_of self.old) line.now ++ line_feed ∷ [])) }
         ensures err { OnErr result (W.failed writer.new ≡ true) }
     {
         let finding = self.dates.date_from(&self.given, line, first);
         let key = self.take_key(line, finding);
-        write_behind(writer, &key, line)
+        write_behind(writer, &key, self.label, line)
     }
 
     /// Writes a line behind its key and a tab, and a line feed.
@@ -147,11 +157,11 @@ impl<'a, 'b> LineWriter<'a, 'b> {
     ) -> Result<(), DeviceFailed>
         requires { W.failed writer.old ≡ false }
         ensures written { OnOk result (Appends (W.held writer.old) (W.held writer.new)
-            ((key_of_line (going_of self.old) line.now ++ tab ∷ line.now) ++ line_feed ∷ [])) }
+            (keyed (going_of self.old) line.now ++ line_feed ∷ [])) }
         ensures next { OnOk result (going_of self.new ≡ below (going_of self.old) line.now) }
         ensures ok { OnOk result (W.failed writer.new ≡ W.failed writer.old) }
         ensures front { OnErr result (AppendsFront (W.held writer.old) (W.held writer.new)
-            ((key_of_line (going_of self.old) line.now ++ tab ∷ line.now) ++ line_feed ∷ [])) }
+            (keyed (going_of self.old) line.now ++ line_feed ∷ [])) }
         ensures err { OnErr result (W.failed writer.new ≡ true) }
     {
         let Some(first) = self.dates.undated_len(line) else {
@@ -170,16 +180,18 @@ impl<'a, 'b> LineWriter<'a, 'b> {
     ) -> Result<(), DeviceFailed>
         requires { W.failed writer.old ≡ false }
         ensures written { OnOk result (Appends (W.held writer.old) (W.held writer.new)
-            (key_of_line (going_of self.old) front.now ++ tab ∷ front.now)) }
+            (keyed (going_of self.old) front.now)) }
         ensures next { OnOk result (going_of self.new ≡ below (going_of self.old) front.now) }
         ensures ok { OnOk result (W.failed writer.new ≡ W.failed writer.old) }
         ensures front { OnErr result (AppendsFront (W.held writer.old) (W.held writer.new)
-            (key_of_line (going_of self.old) front.now ++ tab ∷ front.now)) }
+            (keyed (going_of self.old) front.now)) }
         ensures err { OnErr result (W.failed writer.new ≡ true) }
     {
         let finding = self.dates.date_in(&self.given, front);
         let key = self.take_key(front, finding);
-        write_three(writer, key.as_bytes(), b"\t", front)
+        write_both(writer, key.as_bytes(), b"\t")?;
+        write_label(writer, self.label)?;
+        writer.write_all(front)
     }
 
     // Writes a line with the date-time in place of this date of it, or as it is where the date's year is not written.
@@ -258,6 +270,53 @@ impl<'a, 'b> LineWriter<'a, 'b> {
         ensures err { OnErr result (W.failed writer.new ≡ true) }
     {
         self.write_replaced(line, writer)?;
+        writer.write_all(b"\n")
+    }
+
+    /// Writes where the date of a line is, or why it is in doubt, without a line feed.
+    #[cold]
+    #[inline(never)]
+    #[tactic(auto, using(crate::proofs::Keyed::below_undated, crate::proofs::Keyed::located_doubtful, crate::proofs::Keyed::located_dated), unfolding(crate::specs::Located::located))]
+    pub(crate) fn write_located<W: ByteWriter>(
+        &mut self,
+        line: &[u8],
+        writer: &mut W,
+    ) -> Result<(), DeviceFailed>
+        requires works { W.failed writer.old ≡ false }
+        requires mode { (going_of self.old).mode ≡ Mode.Locate }
+        ensures written { OnOk result (Appends (W.held writer.old) (W.held writer.new)
+            (located (going_of self.old).search line.now)) }
+        ensures next { OnOk result (going_of self.new ≡ below (going_of self.old) line.now) }
+        ensures ok { OnOk result (W.failed writer.new ≡ W.failed writer.old) }
+        ensures front { OnErr result (AppendsFront (W.held writer.old) (W.held writer.new)
+            (located (going_of self.old).search line.now)) }
+        ensures err { OnErr result (W.failed writer.new ≡ true) }
+    {
+        let finding = self.dates.date_in(&self.given, line);
+        write_finding(self.dates, &self.given, line, &finding, writer)?;
+        if let Some(Finding::There(date)) = &finding {
+            self.keep_year(date);
+        }
+        Ok(())
+    }
+
+    /// The same with a line feed.
+    pub(crate) fn write_located_line<W: ByteWriter>(
+        &mut self,
+        line: &[u8],
+        writer: &mut W,
+    ) -> Result<(), DeviceFailed>
+        requires works { W.failed writer.old ≡ false }
+        requires mode { (going_of self.old).mode ≡ Mode.Locate }
+        ensures written { OnOk result (Appends (W.held writer.old) (W.held writer.new)
+            (located (going_of self.old).search line.now ++ line_feed ∷ [])) }
+        ensures next { OnOk result (going_of self.new ≡ below (going_of self.old) line.now) }
+        ensures ok { OnOk result (W.failed writer.new ≡ W.failed writer.old) }
+        ensures front { OnErr result (AppendsFront (W.held writer.old) (W.held writer.new)
+            (located (going_of self.old).search line.now ++ line_feed ∷ [])) }
+        ensures err { OnErr result (W.failed writer.new ≡ true) }
+    {
+        self.write_located(line, writer)?;
         writer.write_all(b"\n")
     }
 }

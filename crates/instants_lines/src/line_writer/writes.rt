@@ -2,7 +2,7 @@
 
 use crate::explained::write_explained;
 use crate::line_writer::LineWriter;
-use crate::mode::Mode;
+use instants_lines_words::Mode;
 use instants_stream::{ByteWriter, DeviceFailed, WritesLines};
 
 impl WritesLines for LineWriter<'_, '_> {
@@ -25,6 +25,7 @@ impl WritesLines for LineWriter<'_, '_> {
             Mode::Key | Mode::Carry => self.write_keyed(line, writer),
             Mode::Replace => self.write_replaced_line(line, writer),
             Mode::Explain => write_explained(self.dates, line, writer),
+            Mode::Locate => self.write_located_line(line, writer),
         }
     }
 
@@ -39,6 +40,7 @@ impl WritesLines for LineWriter<'_, '_> {
             Mode::Key | Mode::Carry => self.write_keyed(line, writer),
             Mode::Replace => self.write_replaced(line, writer),
             Mode::Explain => write_explained(self.dates, line, writer),
+            Mode::Locate => self.write_located_line(line, writer),
         }
     }
 
@@ -53,23 +55,27 @@ impl WritesLines for LineWriter<'_, '_> {
             Mode::Key | Mode::Carry => self.begin_keyed(front, writer),
             Mode::Replace => self.write_replaced(front, writer),
             Mode::Explain => Ok(()),
+            Mode::Locate => self.write_located(front, writer),
         }
     }
 
     fn hands_on(&self) -> bool {
-        self.mode != Mode::Explain
+        match self.mode {
+            Mode::Key | Mode::Carry | Mode::Replace => true,
+            Mode::Explain | Mode::Locate => false,
+        }
     }
 
     fn end_line<W: ByteWriter>(&self, writer: &mut W) -> Result<(), DeviceFailed> {
         match self.mode {
-            Mode::Key | Mode::Carry | Mode::Replace => writer.write_all(b"\n"),
+            Mode::Key | Mode::Carry | Mode::Replace | Mode::Locate => writer.write_all(b"\n"),
             Mode::Explain => writer.write_all(b"! long\n"),
         }
     }
 
     fn end_last_line<W: ByteWriter>(&self, writer: &mut W) -> Result<(), DeviceFailed> {
         match self.mode {
-            Mode::Key | Mode::Carry => writer.write_all(b"\n"),
+            Mode::Key | Mode::Carry | Mode::Locate => writer.write_all(b"\n"),
             Mode::Replace => Ok(()),
             Mode::Explain => writer.write_all(b"! long\n"),
         }

@@ -14,7 +14,7 @@ use Rattle.instants_fronts.proofs.lengths.front_of_tree.Goals as goal
 pub front_of_nodes-requires-clause-ends : goal.front_of_nodes-requires-clause-ends
 front_of_nodes-requires-clause-ends c =
     let items = inner_trees c.in-Compound.nodes.now in
-    let P : List Tree → Type 0 = λ items. AreEnds items c.args.ends in
+    let P : List Tree → Type 0 = λ items. AreEnds items c.args.ends.now in
     subst P (compound_items (v3_tree c.args.description.now) items (c.in-Compound.ensures ∙ c.inner-node.ensures.tree)) c.requires.ends
 
 pub front_of_nodes-requires-clause-read : goal.front_of_nodes-requires-clause-read
@@ -32,7 +32,7 @@ front_of_nodes-requires-in_default c =
     let one = single_items inner_tree c.step.result tree c.in_default.not-Compound (c.step.ensures ∙ c.inner-node.ensures.tree) in
     let same : items ≡ items_of tree = ap inner_trees c.from_ref.ensures.value ∙ ap (λ x. x ∷ []) c.inner-node.ensures.tree ∙ sym one in
     let text = c.args.text.now in
-    let P : List Tree → Type 0 = λ items. AreEnds items c.args.ends in
+    let P : List Tree → Type 0 = λ items. AreEnds items c.args.ends.now in
     record {
       ends = subst P (sym same) c.requires.ends;
       read = (c.requires.read.0, ap (λ xs. reading_of_all reads_component_v3 (listed xs) empty text) same ∙ by_items reads_component_v3 tree empty text ∙ c.requires.read.1);

@@ -1,25 +1,66 @@
-use Rattle.std.proofs.Common.{◌≤◌, length, Some, None, sym, ap, subst, ◌∙◌, arith}
-use Rattle.std.proofs.lemmas.List.{length-take}
+use Rattle.std.proofs.Common.{◌≡◌, List, Option, Some, None, sym, ap, subst, map, ◌∙◌}
+use Rattle.description_items.specs.declared.item.BorrowedFormatItem.{BorrowedFormatItem}
+use Rattle.description_items.specs.Tree.{listed, trees}
+use Rattle.parsing_components.specs.Component.{reads_component}
+use Rattle.parsing_fields.specs.Moment.{moment_of}
+use Rattle.parsing_record.specs.Reads.{reading_of_all}
+use Rattle.parsing_record.specs.Record.{empty}
+use Rattle.datetime_wall.specs.Wall.{Shown}
+use Rattle.instants_sources.specs.Grammar.{Grammar, Items, grammar_of}
+use Rattle.instants_fronts.specs.Contents.{AreContents}
 use Rattle.instants_fronts.specs.DateSource.{grammar_in, IsWithin}
+use Rattle.instants_fronts.specs.Ends.{LeavesAfter}
+use Rattle.instants_fronts.specs.Front.{front_at, with_lengths}
+use Rattle.instants_fronts.specs.Lengths.{lengths_by}
 use Rattle.instants_fronts.specs.declared.front.Front.{Front}
-use Rattle.instants_fronts.proofs.FrontsAt.{front_at_is, named_leaves, within_bytes, front_within, text_within}
+use Rattle.instants_fronts.proofs.Planned.{planned_named, planned_leaves, planned_at, planned_within, refused_at}
+use Rattle.instants_fronts.proofs.ReadFronts.{items_front, refused_front}
 use Rattle.instants_fronts.proofs.date_source.DateSource.read.Goals as goal
 
-pub returns-in-None-clause-front : goal.returns-in-None-clause-front
-returns-in-None-clause-front c = sym (front_at_is c.args.given.now (grammar_in c.args.self.now) c.args.bytes.now c.text_for-text.result.now None c.text_for-text.ensures c.in-None.ensures)
+pub returns-then-cannot_match-clause-front : goal.returns-then-cannot_match-clause-front
+returns-then-cannot_match-clause-front c =
+    let given = c.args.given.now in
+    let contents = c.args.self.now.contents in
+    let text = c.near-text.result.now in
+    let items = trees c.in-Items.described.items.items in
+    let is : grammar_in c.args.self.now ≡ Items items = ap grammar_of c.in-Items.is in
+    let P : Grammar → Type 0 = λ g. AreContents g contents in
+    let are : AreContents (Items items) contents = subst P is c.args.self.now.has in
+    let none = items_front given items contents text are ∙ refused_front given contents.has_unix_time (reading_of_all reads_component (listed items) empty text) (c.cannot_match.ensures c.if-cannot_match.true empty) in
+    let At : Grammar → Type 0 = λ g. ◌≡◌ {A = Option Front} None (front_at given g c.args.bytes.now) in
+    subst At (sym is) (refused_at given items c.args.bytes.now text c.near-text.ensures none)
 
-pub front_of-requires-clause-read : goal.front_of-requires-clause-read
-front_of-requires-clause-read c = named_leaves c.args.given.now (grammar_in c.args.self.now) c.text_for-text.result.now c.in-Some.moment c.in-Some.rest.now (sym c.in-Some.ensures)
+pub front_of_nodes-requires-clause-read : goal.front_of_nodes-requires-clause-read
+front_of_nodes-requires-clause-read c =
+    let given = c.args.given.now in
+    let contents = c.args.self.now.contents in
+    let text = c.near-text.result.now in
+    let items = trees c.in-Items.described.items.items in
+    let is : grammar_in c.args.self.now ≡ Items items = ap grammar_of c.in-Items.is in
+    let P : Grammar → Type 0 = λ g. AreContents g contents in
+    let are : AreContents (Items items) contents = subst P is c.args.self.now.has in
+    let named = planned_named given items c.args.bytes.now text c.near-text.ensures contents c.assumed.result c.in-Some.rest.now (moment_of c.in-Some.fields) are c.if-self.false c.assumed.ensures c.in-Some.ensures.front in
+    let Q : List BorrowedFormatItem → Type 0 = λ xs. LeavesAfter reads_component (trees xs) text c.in-Some.rest.now in
+    subst Q (sym c.items.ensures) (planned_leaves given items c.args.bytes.now text c.near-text.ensures c.in-Some.rest.now (moment_of c.in-Some.fields) named)
 
-pub returns-in-Some-clause-front : goal.returns-in-Some-clause-front
-returns-in-Some-clause-front c =
-    ap Some c.front_of.ensures ∙ sym (front_at_is c.args.given.now (grammar_in c.args.self.now) c.args.bytes.now c.text_for-text.result.now (Some (c.in-Some.moment, c.in-Some.rest.now)) c.text_for-text.ensures c.in-Some.ensures)
+pub returns-clause-front : goal.returns-clause-front
+returns-clause-front c =
+    let given = c.args.given.now in
+    let contents = c.args.self.now.contents in
+    let text = c.near-text.result.now in
+    let rest = c.in-Some.rest.now in
+    let items = trees c.in-Items.described.items.items in
+    let is : grammar_in c.args.self.now ≡ Items items = ap grammar_of c.in-Items.is in
+    let P : Grammar → Type 0 = λ g. AreContents g contents in
+    let are : AreContents (Items items) contents = subst P is c.args.self.now.has in
+    let named = planned_named given items c.args.bytes.now text c.near-text.ensures contents c.assumed.result rest (moment_of c.in-Some.fields) are c.if-self.false c.assumed.ensures c.in-Some.ensures.front in
+    let made : Some c.front_of_nodes.result ≡ Some (with_lengths text (moment_of c.in-Some.fields) rest (lengths_by reads_component text items)) =
+        ap Some (c.front_of_nodes.ensures ∙ ap (λ (m : Shown). with_lengths text m rest (lengths_by reads_component text (trees c.items.result.now))) c.of_fields-moment.ensures ∙ ap (λ (xs : List BorrowedFormatItem). with_lengths text (moment_of c.in-Some.fields) rest (lengths_by reads_component text (trees xs))) c.items.ensures) in
+    let At : Grammar → Type 0 = λ g. Some c.front_of_nodes.result ≡ front_at given g c.args.bytes.now in
+    subst At (sym is) (made ∙ planned_at given items c.args.bytes.now text c.near-text.ensures rest (moment_of c.in-Some.fields) named)
 
-pub returns-in-Some-clause-within : goal.returns-in-Some-clause-within
-returns-in-Some-clause-within c =
-    let grammar = grammar_in c.args.self.now in
-    let text = c.text_for-text.result.now in
-    let bytes = c.args.bytes.now in
-    let le : length text ≤ length bytes = omega (arith, ap length c.text_for-text.ensures, text_within grammar bytes, length-take 256 bytes) in
-    let P : Front → Type 0 = λ front. IsWithin bytes front in
-    subst P (sym c.front_of.ensures) (within_bytes text bytes _ le (front_within grammar text c.in-Some.moment c.in-Some.rest.now))
+pub returns-clause-within : goal.returns-clause-within
+returns-clause-within c =
+    let text = c.near-text.result.now in
+    let P : Front → Type 0 = λ front. IsWithin c.args.bytes.now front in
+    subst P (sym c.front_of_nodes.ensures) (planned_within c.args.given.now (trees c.items.result.now) c.args.bytes.now text c.near-text.ensures c.in-Some.rest.now c.of_fields-moment.result)

@@ -1,0 +1,173 @@
+-- Words that nothing is left out of stay as they are.
+use Rattle.std.proofs.Common.{◌≡◌, ℕ, ◌+◌, ◌<◌, ◌⊎◌, inl, inr, Bool, true, false, ◌&&◌, ◌||◌, ◌==◌, nat_le, Option, None, Some, is_some, option_map, Result, Ok, Err, List, [], ◌∷◌, length, codes, if◌then◌else◌, refl, sym, ap, ◌∙◌, subst, arith, ℤ}
+use Rattle.std.proofs.lemmas.Slice.Eq.{bytes_eq-Decides}
+use Rattle.std.specs.Char.{is_ascii_digit}
+use Rattle.std.specs.List.{list_all}
+use Rattle.std.specs.Str.{bytes_eq}
+use Rattle.std.specs.Str.Parse.{digits_value}
+use Rattle.base.specs.Bytes.{plus, hyphen, colon}
+use Rattle.instants_words.specs.declared.words.Words.{Words}
+use Rattle.instants_words.specs.Pieces.{number_said, clock_seconds, with_sign, offset_said, limit_said, assumed_said}
+use Rattle.instants_words.specs.Sources.{SourceSaid, also, format_named, language_named, last_said, next_said, sources_said}
+use Rattle.instants_words.specs.Words.{words_said}
+use Rattle.instants_words.specs.declared.fault.WordsFault.{WordsFault}
+use Rattle.instants_lines_words.specs.Spelled.{spelled_out}
+use Rattle.instants_lines_words.proofs.Spelling.{as_itself, format_alone, spelled_language, spelled_none}
+use Rattle.instants_lines_words.proofs.Told.{by_parts, parts}
+use Rattle.instants_lines_words.specs.Filled.{has_sign_or_digit, is_utc, is_setting, as_offset, target_in, assumed_in, limit_in, sources_in, filled}
+
+signed : (sign : ℕ) (number : Option ℕ) (offset : ℤ) → with_sign sign number ≡ Some offset → (sign == plus || sign == hyphen) ≡ true
+signed sign (Some number) offset e = grind arith
+signed sign None offset e = absurd cc
+
+six : (mark : Bool) (sign : ℕ) (clock : Option ℕ) (offset : ℤ) → (if mark then with_sign sign clock else None) ≡ Some offset → (sign == plus || sign == hyphen) ≡ true
+six true sign clock offset e = signed sign clock offset e
+six false sign clock offset e = absurd cc
+
+-- an offset begins with a sign, and is no name of UTC
+sign_first : (word : List ℕ) (offset : ℤ) → offset_said word ≡ Some offset → has_sign_or_digit word ≡ true
+unfolding offset_said has_sign_or_digit
+sign_first (sign ∷ h ∷ i ∷ mark ∷ m ∷ n ∷ []) offset e =
+    let sign_is = six (mark == colon) sign (clock_seconds (number_said 0 23 2 (h ∷ i ∷ [])) (number_said 0 59 2 (m ∷ n ∷ []))) offset e in rw sign_is refl
+sign_first [] offset e = absurd cc
+sign_first (a ∷ []) offset e = absurd cc
+sign_first (a ∷ b ∷ []) offset e = absurd cc
+sign_first (a ∷ b ∷ c ∷ []) offset e = absurd cc
+sign_first (a ∷ b ∷ c ∷ d ∷ []) offset e = absurd cc
+sign_first (a ∷ b ∷ c ∷ d ∷ f ∷ []) offset e = absurd cc
+sign_first (a ∷ b ∷ c ∷ d ∷ f ∷ g ∷ h ∷ word) offset e = absurd cc
+
+no_name : (word : List ℕ) (offset : ℤ) → offset_said word ≡ Some offset → is_utc word ≡ false
+unfolding offset_said is_utc
+no_name (sign ∷ h ∷ i ∷ mark ∷ m ∷ n ∷ []) offset e = grind arith
+no_name [] offset e = absurd cc
+no_name (a ∷ []) offset e = absurd cc
+no_name (a ∷ b ∷ []) offset e = absurd cc
+no_name (a ∷ b ∷ c ∷ []) offset e = absurd cc
+no_name (a ∷ b ∷ c ∷ d ∷ []) offset e = absurd cc
+no_name (a ∷ b ∷ c ∷ d ∷ f ∷ []) offset e = absurd cc
+no_name (a ∷ b ∷ c ∷ d ∷ f ∷ g ∷ h ∷ word) offset e = absurd cc
+
+first_test : (digits short least greatest : Bool) (number limit : ℕ) → (if digits && short && least && greatest then Some number else None) ≡ Some limit → digits ≡ true
+first_test true short least greatest number limit e = refl
+first_test false short least greatest number limit e = absurd cc
+
+-- a limit begins with a digit
+digit_first : (word : List ℕ) (limit : ℕ) → limit_said word ≡ Some limit → has_sign_or_digit word ≡ true
+unfolding number_said has_sign_or_digit
+digit_first [] limit e = absurd cc
+digit_first (first ∷ rest) limit e =
+    let all = first_test (list_all is_ascii_digit (first ∷ rest)) (nat_le (length (first ∷ rest)) 7) (nat_le 1 (digits_value 10 (first ∷ rest))) (nat_le (digits_value 10 (first ∷ rest)) 1_048_576) (digits_value 10 (first ∷ rest)) limit e in
+    grind arith
+
+-- what is assumed begins with a sign, and is no name of UTC
+by_offset : (said : Option ℤ) (word : List ℕ) (assumed : Option ℤ) → offset_said word ≡ said → option_map Some said ≡ Some assumed → (has_sign_or_digit word ≡ true) × (is_utc word ≡ false)
+by_offset (Some offset) word assumed is e = (sign_first word offset is, no_name word offset is)
+by_offset None word assumed is e = absurd cc
+
+bare_or : (bare : Bool) (word : List ℕ) (assumed : Option ℤ) → bytes_eq word (codes "-") ≡ bare → (if bare then Some None else option_map Some (offset_said word)) ≡ Some assumed
+    → (has_sign_or_digit word ≡ true) × (is_utc word ≡ false)
+unfolding has_sign_or_digit is_utc
+bare_or true [] assumed bare e = absurd cc
+bare_or true (first ∷ rest) assumed bare e = grind arith
+bare_or false word assumed bare e = by_offset (offset_said word) word assumed refl e
+
+assumed_first : (word : List ℕ) (assumed : Option ℤ) → assumed_said word ≡ Some assumed → (has_sign_or_digit word ≡ true) × (is_utc word ≡ false)
+assumed_first word assumed e = bare_or (bytes_eq word (codes "-")) word assumed refl e
+
+setting : (word : List ℕ) → has_sign_or_digit word ≡ true → is_setting word ≡ true
+unfolding is_setting
+setting word e = rw e refl
+
+as_is : (word : List ℕ) → is_utc word ≡ false → as_offset word ≡ word
+unfolding as_offset
+as_is word e = rw e refl
+
+-- the first of sources that are accepted is not the name of anything else
+is_known : (place : ℕ) (source : List ℕ) (others : List (List ℕ)) (all : List SourceSaid) → format_named source ≡ None → language_named source ≡ None → sources_said place (source ∷ others) ≡ Ok all → ⊥
+unfolding sources_said
+is_known place source [] all f l e = let none = rw f at e in absurd cc
+is_known place source (next ∷ others) all f l e = let none = rw f at (rw l at e) in absurd cc
+
+other_name : (source name : List ℕ) (others : List (List ℕ)) (all : List SourceSaid) (same : Bool) → format_named name ≡ None → language_named name ≡ None → sources_said 1 (source ∷ others) ≡ Ok all
+    → bytes_eq source name ≡ same → same ≡ false
+other_name source name others all false f l e is = refl
+other_name source name others all true f l e is =
+    let named : source ≡ name = (bytes_eq-Decides source name).0 is in
+    let P : List ℕ → Type 0 = λ word. sources_said 1 (word ∷ others) ≡ Ok all in
+    absurd (is_known 1 name others all f l (subst P named e))
+
+no_year : (source : List ℕ) (others : List (List ℕ)) (all : List SourceSaid) → sources_said 1 (source ∷ others) ≡ Ok all → bytes_eq source (codes "year") ≡ false
+no_year source others all e = other_name source (codes "year") others all (bytes_eq source (codes "year")) refl refl e refl
+
+no_time : (source : List ℕ) (others : List (List ℕ)) (all : List SourceSaid) → sources_said 1 (source ∷ others) ≡ Ok all → bytes_eq source (codes "time") ≡ false
+no_time source others all e = other_name source (codes "time") others all (bytes_eq source (codes "time")) refl refl e refl
+
+no_label : (source : List ℕ) (others : List (List ℕ)) (all : List SourceSaid) → sources_said 1 (source ∷ others) ≡ Ok all → bytes_eq source (codes "label") ≡ false
+no_label source others all e = other_name source (codes "label") others all (bytes_eq source (codes "label")) refl refl e refl
+
+-- sources that are accepted have no names of formats to spell out
+also_ok : (source : SourceSaid) (sources : Result (List SourceSaid) WordsFault) (all : List SourceSaid) → also source sources ≡ Ok all → (others : List SourceSaid) × (sources ≡ Ok others)
+also_ok source (Ok others) all e = (others, refl)
+also_ok source (Err fault) all e = absurd cc
+
+last_format : (place : ℕ) (format : Option SourceSaid) (all : List SourceSaid) → last_said place format ≡ Ok all → is_some format ≡ true
+last_format place (Some format) all e = refl
+last_format place None all e = absurd cc
+
+-- a format with sources behind it, or a language with its description and others behind these
+next_source : (place : ℕ) (format : Option SourceSaid) (language : Option (List ℕ → SourceSaid)) (next : List ℕ) (behind behind_description : Result (List SourceSaid) WordsFault) (all : List SourceSaid)
+    → next_said place format language next behind behind_description ≡ Ok all
+    → ((is_some format ≡ true) × ((others : List SourceSaid) × (behind ≡ Ok others))) ⊎ ((is_some language ≡ true) × ((others : List SourceSaid) × (behind_description ≡ Ok others)))
+next_source place (Some format) language next behind behind_description all e = inl (refl, also_ok format behind all e)
+next_source place None (Some language) next behind behind_description all e = inr (refl, also_ok (language next) behind_description all e)
+next_source place None None next behind behind_description all e = absurd cc
+
+spelled : (place : ℕ) (sources : List (List ℕ)) (all : List SourceSaid) → sources_said place sources ≡ Ok all → spelled_out sources ≡ sources
+unfolding sources_said
+spelled place [] all e = spelled_none [] refl
+spelled place (word ∷ []) all e = as_itself word [] (format_alone word (last_format place (format_named word) all e)).1 (format_alone word (last_format place (format_named word) all e)).0 ∙ ap (λ (l : List (List ℕ)). word ∷ l) (spelled_none [] refl)
+spelled place (word ∷ next ∷ words) all e =
+    elim (next_source place (format_named word) (language_named word) next (sources_said (place + 1) (next ∷ words)) (sources_said (place + 1) words) all e) [
+      | inl h ↦
+          let alone = format_alone word h.0 in
+          as_itself word (next ∷ words) alone.1 alone.0 ∙ ap (λ (l : List (List ℕ)). word ∷ l) (spelled (place + 1) (next ∷ words) h.1.0 h.1.1)
+      | inr h ↦ spelled_language word next words h.0 ∙ ap (λ (l : List (List ℕ)). word ∷ next ∷ l) (spelled (place + 1) words h.1.0 h.1.1)
+    ]
+
+-- three such words are the target, the assumed offset and the limit, where the next one is no name
+stays : (target assumed limit source : List ℕ) (others : List (List ℕ)) → is_setting target ≡ true → is_setting assumed ≡ true → is_setting limit ≡ true → as_offset target ≡ target → as_offset assumed ≡ assumed
+    → bytes_eq source (codes "year") ≡ false → bytes_eq source (codes "time") ≡ false → bytes_eq source (codes "label") ≡ false → spelled_out (source ∷ others) ≡ source ∷ others
+    → filled (target ∷ assumed ∷ limit ∷ source ∷ others) ≡ target ∷ assumed ∷ limit ∷ source ∷ others
+unfolding filled target_in assumed_in limit_in sources_in
+stays target assumed limit source others t a l et ea y n b s = rw t (rw a (rw l (rw et (rw ea (rw y (rw n (rw b (rw s refl))))))))
+
+known : (t : Option ℤ) (a : Option (Option ℤ)) (l : Option ℕ) (sources : Result (List SourceSaid) WordsFault) (said : Words) → by_parts t a l sources ≡ Ok said
+    → (t ≡ Some said.target) × (a ≡ Some said.assumed) × (l ≡ Some said.limit) × (sources ≡ Ok said.sources)
+known None a l sources said e = absurd cc
+known (Some t) None l sources said e = absurd cc
+known (Some t) (Some a) None sources said e = absurd cc
+known (Some t) (Some a) (Some l) (Err fault) said e = absurd cc
+known (Some t) (Some a) (Some l) (Ok sources) said e =
+    let same : record { target = t; assumed = a; limit = l; sources = sources } ≡ said = cc in
+    (ap (λ words. Some words.target) same, ap (λ words. Some words.assumed) same, ap (λ words. Some words.limit) same, ap (λ words. Ok words.sources) same)
+
+few : (words : List (List ℕ)) (said : Words) → length words < 4 → words_said words ≡ Ok said → ⊥
+unfolding words_said
+few [] said h e = cc
+few (t ∷ []) said h e = cc
+few (t ∷ a ∷ []) said h e = cc
+few (t ∷ a ∷ l ∷ []) said h e = cc
+few (t ∷ a ∷ l ∷ source ∷ others) said h e = omega arith
+
+-- words that `instants` accepts stay as they are
+pub in_full : (words : List (List ℕ)) (said : Words) → words_said words ≡ Ok said → filled words ≡ words
+in_full [] said e = absurd (few [] said (omega arith) e)
+in_full (t ∷ []) said e = absurd (few (t ∷ []) said (omega arith) e)
+in_full (t ∷ a ∷ []) said e = absurd (few (t ∷ a ∷ []) said (omega arith) e)
+in_full (t ∷ a ∷ l ∷ []) said e = absurd (few (t ∷ a ∷ l ∷ []) said (omega arith) e)
+in_full (t ∷ a ∷ l ∷ source ∷ others) said e =
+    let is = known (offset_said t) (assumed_said a) (limit_said l) (sources_said 1 (source ∷ others)) said (sym (parts t a l source others) ∙ e) in
+    let assumed = assumed_first a said.assumed is.1 in
+    stays t a l source others (setting t (sign_first t said.target is.0)) (setting a assumed.0) (setting l (digit_first l said.limit is.2))
+    (as_is t (no_name t said.target is.0)) (as_is a assumed.1) (no_year source others said.sources is.3) (no_time source others said.sources is.3) (no_label source others said.sources is.3) (spelled 1 (source ∷ others) said.sources is.3)

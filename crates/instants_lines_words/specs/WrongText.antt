@@ -1,0 +1,42 @@
+-- The sentence for what is wrong with words, behind the name of the program.
+use Rattle.std.specs.Prelude.{ℕ, Bool, false, ◌||◌, ◌==◌, if◌then◌else◌, List, [], ◌∷◌, ◌++◌, codes}
+use Rattle.std.specs.Fmt.{decimal}
+use Rattle.std.specs.List.{list_any}
+use Rattle.base.specs.Bytes.{dot}
+use Rattle.instants_lines_words.specs.Wrong.{Wrong, NoMode, UnknownMode, NoSource, Target, Assumed, Limit, Year, Time, Label, Source, FirstSource, NoDescription}
+
+-- a word begins with a slash
+abbrev pub has_slash_in_front : List ℕ → Bool
+has_slash_in_front [] = false
+has_slash_in_front (first ∷ rest) = first == 47
+
+-- a word looks like the name of a file: it has a dot, or a slash in front
+unfoldable pub is_file_name : List ℕ → Bool
+is_file_name word = list_any (λ b. b == dot) word || has_slash_in_front word
+
+-- what is said of a word that is no source
+abbrev pub no_such_source : List ℕ → List ℕ
+no_such_source word =
+    if is_file_name word then codes "no such source; files are read from standard input: instants-lines .. < FILE"
+    else codes "no such source; there are rfc3339, rfc2822, iso8601, v1, v2, v3, strftime, and the names of --help"
+
+-- the same, where the word may be an offset that is misspelt
+abbrev pub no_such_first_source : List ℕ → List ℕ
+no_such_first_source word =
+    if is_file_name word then codes "no such source; files are read from standard input: instants-lines .. < FILE"
+    else codes "no such source; there are rfc3339, rfc2822, iso8601, v1, v2, v3, strftime, and the names of --help; an offset before the sources is +HH:MM, -HH:MM, Z or UTC"
+
+-- the sentence for what is wrong with words, behind the name of the program
+abbrev pub wrong_text : Wrong → List ℕ
+wrong_text NoMode = codes "usage: instants-lines MODE [TARGET [ASSUMED [LIMIT]]] [year N] [time HH:MM] [label TEXT] SOURCE..."
+wrong_text (UnknownMode word) = codes "\"" ++ (word ++ codes "\": no such mode; there are key, carry, replace, explain, locate")
+wrong_text NoSource = codes "no source is named; there are rfc3339, rfc2822, iso8601, v1, v2, v3, strftime, and the names of --help"
+wrong_text (Target word) = codes "\"" ++ (word ++ codes "\": no target offset; it must be +HH:MM, -HH:MM, Z or UTC")
+wrong_text (Assumed word) = codes "\"" ++ (word ++ codes "\": no assumed offset; it must be +HH:MM, -HH:MM, Z, UTC or -")
+wrong_text (Limit word) = codes "\"" ++ (word ++ codes "\": no limit; it must be a number from 1 to 1048576")
+wrong_text (Year word) = codes "\"" ++ (word ++ codes "\": no year; it must be a number from 0 to 9999")
+wrong_text (Time word) = codes "\"" ++ (word ++ codes "\": no time of day; it must be HH:MM")
+wrong_text (Label word) = codes "\"" ++ (word ++ codes "\": no label; modes key and carry take one, without tabs and line feeds")
+wrong_text (Source place word) = codes "source " ++ (decimal place ++ (codes ": \"" ++ (word ++ (codes "\": " ++ no_such_source word))))
+wrong_text (FirstSource word) = codes "source 1: \"" ++ (word ++ (codes "\": " ++ no_such_first_source word))
+wrong_text (NoDescription place language) = codes "source " ++ (decimal place ++ (codes ": \"" ++ (language ++ codes "\" needs a description in the next argument")))

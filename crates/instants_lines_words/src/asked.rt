@@ -1,0 +1,15 @@
+//! What is asked of the lines of a stream.
+
+use crate::mode::Mode;
+
+/// What is written for lines, and what is given for dates that lack it.
+#[derive(Clone, Copy, Debug, PartialEq, Eq)]
+pub struct Asked<'a> {
+    pub mode: Mode,
+    /// The year of the first date, 0 to 9999.
+    pub year: Option<i32>,
+    /// The time of day of dates without one, in minutes, 0 to 1439.
+    pub time: Option<u16>,
+    /// What stands between the key of a line and the line, without a tab and a line feed.
+    pub label: Option<&'a str>,
+}

@@ -1,0 +1,137 @@
+//! The words that say a year, a time of day and a label.
+ghost use Rattle.std.specs.Prelude.{◌≡◌, ◌∷◌, ◌==◌, ◌||◌, not, [], option_map, true, IfOk, IfErr, Ok, Err};
+ghost use Rattle.instants_words.specs.Pieces.{number_said};
+ghost use Rattle.instants_lines_words.specs.Asked.{asking_of};
+ghost use Rattle.instants_lines_words.specs.Words.{asked_by, clock_minutes, has_label, is_field, label_read, time_read, time_said, year_read, year_said};
+ghost use Rattle.instants_lines_words.specs.Wrong.{wrong_of};
+
+use crate::asked::Asked;
+use crate::filled::Parted;
+use crate::mode::Mode;
+use crate::number::number;
+use crate::wrong_words::WrongWords;
+
+const GREATEST_YEAR: u32 = 9999;
+
+const YEAR_DIGITS: usize = 4;
+
+// A year of one to four digits.
+#[tactic(auto, using(crate::proofs::AskedWords::year_some), unfolding(crate::specs::Words::year_said))]
+fn year(word: &str) -> Option<i32>
+    ensures { result ≡ year_said word.now }
+{
+    if word.is_empty() {
+        return None;
+    }
+    let year = number(word.as_bytes(), GREATEST_YEAR, YEAR_DIGITS)?;
+    Some(year as i32)
+}
+
+// The minutes of a clock.
+fn clock(hours: &[u8], minutes: &[u8]) -> Option<u16>
+    ensures { result ≡ clock_minutes (number_said 0 23 2 hours.now) (number_said 0 59 2 minutes.now) }
+{
+    let hours = number(hours, 23, 2)?;
+    let minutes = number(minutes, 59, 2)?;
+    Some((hours * 60 + minutes) as u16)
+}
+
+// A time of day `HH:MM`, in minutes.
+#[tactic(auto, using(crate::proofs::AskedWords::time_five), unfolding(crate::specs::Words::time_said))]
+fn time(word: &str) -> Option<u16>
+    ensures { result ≡ time_said word.now }
+{
+    let [h, i, b':', m, n] = word.as_bytes() else {
+        return None;
+    };
+    clock(&[*h, *i], &[*m, *n])
+}
+
+// The year that a word says, where there is one.
+fn read_year(word: Option<&str>) -> Result<Option<i32>, WrongWords<'_>>
+    ensures ok { IfOk result (λ year. year_read (option_map (λ word. word.now) word.entry) ≡ Ok year) }
+    ensures err { IfErr result (λ wrong. year_read (option_map (λ word. word.now) word.entry) ≡ Err (wrong_of wrong)) }
+{
+    let Some(word) = word else {
+        return Ok(None);
+    };
+    match year(word) {
+        Some(year) => Ok(Some(year)),
+        None => Err(WrongWords::Year(word)),
+    }
+}
+
+// The time that a word says, where there is one.
+fn read_time(word: Option<&str>) -> Result<Option<u16>, WrongWords<'_>>
+    ensures ok { IfOk result (λ time. time_read (option_map (λ word. word.now) word.entry) ≡ Ok time) }
+    ensures err { IfErr result (λ wrong. time_read (option_map (λ word. word.now) word.entry) ≡ Err (wrong_of wrong)) }
+{
+    let Some(word) = word else {
+        return Ok(None);
+    };
+    match time(word) {
+        Some(time) => Ok(Some(time)),
+        None => Err(WrongWords::Time(word)),
+    }
+}
+
+// Whether a label stands behind the keys of a mode.
+fn has_label(mode: Mode) -> bool
+    ensures { result ≡ has_label mode }
+{
+    match mode {
+        Mode::Key | Mode::Carry => true,
+        Mode::Replace | Mode::Explain | Mode::Locate => false,
+    }
+}
+
+// Whether no byte of a word is a tab or a line feed.
+fn is_field(word: &str) -> bool
+    ensures { result ≡ is_field word.now }
+{
+    word.as_bytes().iter().all(|byte| *byte != b'\t' && *byte != b'\n')
+}
+
+// The label that a word says, where there is one.
+fn read_label<'a>(mode: Mode, word: Option<&'a str>) -> Result<Option<&'a str>, WrongWords<'a>>
+    ensures ok { IfOk result (λ label. label_read mode (option_map (λ word. word.now) word.entry)
+        ≡ Ok (option_map (λ word. word.now) label)) }
+    ensures err { IfErr result (λ wrong.
+        label_read mode (option_map (λ word. word.now) word.entry) ≡ Err (wrong_of wrong)) }
+{
+    match word {
+        Some(label) if !has_label(mode) || !is_field(label) => Err(WrongWords::Label(label)),
+        other => Ok(other),
+    }
+}
+
+/// What is asked in a mode, with the year, the time and the label that words say.
+pub fn read_asked<'a>(mode: Mode, parted: &Parted<'a, '_>) -> Result<Asked<'a>, WrongWords<'a>>
+    ensures ok { IfOk result (λ asked. asked_by mode
+        (year_read (option_map (λ word. word.now) parted.now.year))
+        (time_read (option_map (λ word. word.now) parted.now.time))
+        (label_read mode (option_map (λ word. word.now) parted.now.label))
+        ≡ Ok (asking_of asked)) }
+    ensures err { IfErr result (λ wrong. asked_by mode
+        (year_read (option_map (λ word. word.now) parted.now.year))
+        (time_read (option_map (λ word. word.now) parted.now.time))
+        (label_read mode (option_map (λ word. word.now) parted.now.label)) ≡ Err (wrong_of wrong)) }
+{
+    let year = match read_year(parted.year) {
+        Ok(year) => year,
+        Err(wrong) => return Err(wrong),
+    };
+    let time = match read_time(parted.time) {
+        Ok(time) => time,
+        Err(wrong) => return Err(wrong),
+    };
+    match read_label(mode, parted.label) {
+        Ok(label) => Ok(Asked {
+            mode,
+            year,
+            time,
+            label,
+        }),
+        Err(wrong) => Err(wrong),
+    }
+}

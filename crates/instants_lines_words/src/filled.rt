@@ -1,0 +1,146 @@
+//! The words behind the mode, of which some may be left out.
+ghost use Rattle.std.specs.Prelude.{◌≡◌, ◌∷◌, map, option_map, IfOk};
+ghost use Rattle.instants_lines_words.specs.Filled.{assumed_in, as_offset, behind_named, behind_setting, filled, front_named, front_setting, has_sign_or_digit, is_setting, is_utc, is_whole, label_in, limit_in, sources_in, target_in, time_in, year_in};
+ghost use Rattle.instants_lines_words.specs.Spelled.{spelled_out};
+
+use crate::spelled::spell_out;
+use std::alloc::{AllocError, Global};
+
+// What is taken where a word is left out.
+const TARGET: &str = "+00:00";
+
+const ASSUMED: &str = "-";
+
+const LIMIT: &str = "1048576";
+
+/// What stands before the sources, or is taken where it is left out, and the sources.
+#[derive(Clone, Copy)]
+pub struct Parted<'a, 'b> {
+    pub target: &'a str,
+    pub assumed: &'a str,
+    pub limit: &'a str,
+    /// Whether none of these is left out.
+    pub is_whole: bool,
+    /// The word after `year`, that after `time` and that after `label`.
+    pub year: Option<&'a str>,
+    pub time: Option<&'a str>,
+    pub label: Option<&'a str>,
+    /// The words of the sources, with names of formats.
+    pub sources: &'b [&'a str],
+}
+
+// Whether a word names UTC.
+#[tactic(auto, unfolding(crate::specs::Filled::is_utc))]
+fn is_utc(word: &str) -> bool
+    ensures { result ≡ is_utc word.now }
+{
+    word == "Z" || word == "UTC"
+}
+
+// Whether a word begins with a sign or a digit.
+#[tactic(auto, unfolding(crate::specs::Filled::has_sign_or_digit))]
+fn has_sign_or_digit(word: &str) -> bool
+    ensures { result ≡ has_sign_or_digit word.now }
+{
+    match word.as_bytes() {
+        [first, ..] => *first == b'+' || *first == b'-' || first.is_ascii_digit(),
+        [] => false,
+    }
+}
+
+// Whether a word is an offset or a limit by its looks, and no source.
+#[tactic(auto, unfolding(crate::specs::Filled::is_setting))]
+fn is_setting(word: &str) -> bool
+    ensures { result ≡ is_setting word.now }
+{
+    has_sign_or_digit(word) || is_utc(word)
+}
+
+// The first word, where it is such a word, and those behind it.
+fn front_setting<'a, 'b>(words: &'b [&'a str]) -> (Option<&'a str>, &'b [&'a str])
+    ensures front { option_map (λ word. word.now) result.0
+        ≡ front_setting (map (λ word. word.now) words.now) }
+    ensures behind { map (λ word. word.now) result.1.now
+        ≡ behind_setting (map (λ word. word.now) words.now) }
+{
+    let Some((word, behind)) = words.split_first() else {
+        return (None, words);
+    };
+    if is_setting(word) {
+        (Some(word), behind)
+    } else {
+        (None, words)
+    }
+}
+
+// The offset that a word says where it names UTC, and else the word.
+#[tactic(auto, unfolding(crate::specs::Filled::as_offset))]
+fn as_offset(word: &str) -> &str
+    ensures { result.now ≡ as_offset word.now }
+{
+    if is_utc(word) { TARGET } else { word }
+}
+
+// The word behind a name that the words begin with, and those behind it.
+fn front_named<'a, 'b>(name: &str, words: &'b [&'a str]) -> (Option<&'a str>, &'b [&'a str])
+    ensures front { option_map (λ word. word.now) result.0
+        ≡ front_named name.now (map (λ word. word.now) words.now) }
+    ensures behind { map (λ word. word.now) result.1.now
+        ≡ behind_named name.now (map (λ word. word.now) words.now) }
+{
+    let Some((word, behind)) = words.split_first() else {
+        return (None, words);
+    };
+    if *word != name {
+        return (None, words);
+    }
+    match behind.split_first() {
+        Some((said, others)) => (Some(said), others),
+        None => (None, behind),
+    }
+}
+
+/// Parts the words behind the mode.
+#[tactic(auto, unfolding(crate::specs::Filled::target_in, crate::specs::Filled::assumed_in, crate::specs::Filled::limit_in, crate::specs::Filled::is_whole, crate::specs::Filled::year_in, crate::specs::Filled::time_in, crate::specs::Filled::label_in, crate::specs::Filled::sources_in))]
+pub fn part<'a, 'b>(words: &'b [&'a str]) -> Parted<'a, 'b>
+    ensures target { result.target.now ≡ target_in (map (λ word. word.now) words.now) }
+    ensures assumed { result.assumed.now ≡ assumed_in (map (λ word. word.now) words.now) }
+    ensures limit { result.limit.now ≡ limit_in (map (λ word. word.now) words.now) }
+    ensures whole { result.is_whole ≡ is_whole (map (λ word. word.now) words.now) }
+    ensures year { option_map (λ word. word.now) result.year
+        ≡ year_in (map (λ word. word.now) words.now) }
+    ensures time { option_map (λ word. word.now) result.time
+        ≡ time_in (map (λ word. word.now) words.now) }
+    ensures label { option_map (λ word. word.now) result.label
+        ≡ label_in (map (λ word. word.now) words.now) }
+    ensures sources { spelled_out (map (λ word. word.now) result.sources.now)
+        ≡ sources_in (map (λ word. word.now) words.now) }
+{
+    let (target, behind_target) = front_setting(words);
+    let (assumed, behind_assumed) = front_setting(behind_target);
+    let (limit, behind_limit) = front_setting(behind_assumed);
+    let (year, behind_year) = front_named("year", behind_limit);
+    let (time, behind_time) = front_named("time", behind_year);
+    let (label, sources) = front_named("label", behind_time);
+    Parted {
+        target: as_offset(target.unwrap_or(TARGET)),
+        assumed: as_offset(assumed.unwrap_or(ASSUMED)),
+        limit: limit.unwrap_or(LIMIT),
+        is_whole: limit.is_some(),
+        year,
+        time,
+        label,
+        sources,
+    }
+}
+
+/// The words that `instants` has in place of these.
+pub fn fill<'a>(alloc: Global, parted: &Parted<'a, '_>) -> Result<Vec<&'a str>, AllocError>
+    ensures { IfOk result (λ words. map (λ word. word.now) words.items
+        ≡ parted.now.target.now ∷ parted.now.assumed.now ∷ parted.now.limit.now
+        ∷ spelled_out (map (λ word. word.now) parted.now.sources.now)) }
+{
+    let mut words = Vec::from_slice(alloc, &[parted.target, parted.assumed, parted.limit])?;
+    spell_out(parted.sources, &mut words)?;
+    Ok(words)
+}

@@ -1,0 +1,30 @@
+//! The arguments of `instants-lines`: what they ask for, or the first thing that is wrong with them.
+//!
+//! ```
+//! let words = ["carry", "+00:00", "-", "64", "label", "web", "access-log"];
+//! let (asked, words) = read_mode_words(alloc, &words)?;
+//! ```
+//!
+//! - `Asked` is the mode, what is given for dates that lack it, and the label.
+//! - `read_mode_words` gives it with the words of `instants` behind it: those that are left out are filled in, and names of
+//!   formats are spelled out.
+//! - `WrongWords` says what is wrong.
+#![tactic(auto)]
+
+mod asked;
+mod asked_words;
+mod filled;
+pub mod laws;
+mod mode;
+mod number;
+mod spelled;
+mod words;
+mod words_fault;
+mod wrong_source;
+mod wrong_words;
+
+pub use asked::Asked;
+pub use mode::Mode;
+pub use words::read_mode_words;
+pub use words_fault::ModeWordsFault;
+pub use wrong_words::WrongWords;

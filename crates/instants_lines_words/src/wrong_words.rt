@@ -1,0 +1,126 @@
+//! What can be wrong with the words.
+ghost use Rattle.std.specs.Prelude.{◌≡◌};
+ghost use Rattle.instants_lines_words.specs.WrongText.{is_file_name, no_such_first_source, no_such_source};
+
+use std::fmt;
+
+/// The first thing that is wrong with the words. `Display` gives the sentence behind the program's name, without a line feed.
+#[derive(Clone, Copy, Debug, PartialEq, Eq)]
+pub enum WrongWords<'a> {
+    /// There are none.
+    NoMode,
+    /// The first is no mode.
+    UnknownMode(&'a str),
+    /// No source stands behind the mode, the offsets and the limit.
+    NoSource,
+    /// The target is no offset.
+    Target(&'a str),
+    /// What is to be assumed is no offset, and not `-`.
+    Assumed(&'a str),
+    /// The limit is not a number from 1 to 1048576, in one to seven digits.
+    Limit(&'a str),
+    /// The word after `year` is not a number from 0 to 9999, in one to four digits.
+    Year(&'a str),
+    /// The word after `time` is not a time of day from 00:00 to 23:59.
+    Time(&'a str),
+    /// The word after `label` has a tab or a line feed, or the mode writes no label.
+    Label(&'a str),
+    /// The source in this place, counted from 1, is not known.
+    Source { place: usize, word: &'a str },
+    /// The first source is not known, and an offset or the limit is left out: the word may be one that is misspelt.
+    FirstSource(&'a str),
+    /// The source in this place, counted from 1, is a language, and the last word.
+    NoDescription { place: usize, language: &'a str },
+}
+
+impl fmt::Display for WrongWords<'_> {
+    ghost use Rattle.std.specs.Prelude.{Some};
+    ghost use Rattle.instants_lines_words.specs.WrongText.{wrong_text};
+    ghost use Rattle.instants_lines_words.specs.Wrong.{wrong_of};
+
+    ghost output = { λ wrong. Some (wrong_text (wrong_of wrong)) };
+
+    fn fmt<W: fmt::Write>(&self, f: &mut fmt::Formatter<W>) -> fmt::Result {
+        match self {
+            WrongWords::NoMode => {
+                f.write_str(
+                    "usage: instants-lines MODE [TARGET [ASSUMED [LIMIT]]] [year N] [time HH:MM] [label TEXT] SOURCE...",
+                )
+            }
+            WrongWords::UnknownMode(word) => write!(
+                f,
+                "\"{word}\": no such mode; there are key, carry, replace, explain, locate"
+            ),
+            WrongWords::NoSource => f.write_str(
+                "no source is named; there are rfc3339, rfc2822, iso8601, v1, v2, v3, strftime, and the names of --help",
+            ),
+            WrongWords::Target(word) => write!(
+                f,
+                "\"{word}\": no target offset; it must be +HH:MM, -HH:MM, Z or UTC"
+            ),
+            WrongWords::Assumed(word) => write!(
+                f,
+                "\"{word}\": no assumed offset; it must be +HH:MM, -HH:MM, Z, UTC or -"
+            ),
+            WrongWords::Limit(word) => write!(
+                f,
+                "\"{word}\": no limit; it must be a number from 1 to 1048576"
+            ),
+            WrongWords::Year(word) => write!(
+                f,
+                "\"{word}\": no year; it must be a number from 0 to 9999"
+            ),
+            WrongWords::Time(word) => { write!(f, "\"{word}\": no time of day; it must be HH:MM") }
+            WrongWords::Label(word) => write!(
+                f,
+                "\"{word}\": no label; modes key and carry take one, without tabs and line feeds"
+            ),
+            WrongWords::Source { place, word } => {
+                let there_are = no_such_source(word);
+                write!(f, "source {place}: \"{word}\": {there_are}")
+            }
+            WrongWords::FirstSource(word) => {
+                let there_are = no_such_first_source(word);
+                write!(f, "source 1: \"{word}\": {there_are}")
+            }
+            WrongWords::NoDescription { place, language } => write!(
+                f,
+                "source {place}: \"{language}\" needs a description in the next argument"
+            ),
+        }
+    }
+}
+
+// Whether a word looks like the name of a file.
+#[tactic(auto, unfolding(crate::specs::WrongText::is_file_name))]
+fn is_file_name(word: &str) -> bool
+    ensures { result ≡ is_file_name word.now }
+{
+    match word.as_bytes() {
+        [b'/', ..] => true,
+        bytes => bytes.contains(&b'.'),
+    }
+}
+
+// What is said of a word that is no source.
+fn no_such_source(word: &str) -> &'static str
+    ensures { result.now ≡ no_such_source word.now }
+{
+    if is_file_name(word) {
+        "no such source; files are read from standard input: instants-lines .. < FILE"
+    } else {
+        "no such source; there are rfc3339, rfc2822, iso8601, v1, v2, v3, strftime, and the names of --help"
+    }
+}
+
+// The same, where the word may be an offset that is misspelt.
+fn no_such_first_source(word: &str) -> &'static str
+    ensures { result.now ≡ no_such_first_source word.now }
+{
+    if is_file_name(word) {
+        "no such source; files are read from standard input: instants-lines .. < FILE"
+    } else {
+        "no such source; there are rfc3339, rfc2822, iso8601, v1, v2, v3, strftime, and the names of --help; \
+         an offset before the sources is +HH:MM, -HH:MM, Z or UTC"
+    }
+}
