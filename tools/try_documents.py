@@ -57,6 +57,7 @@ DOCUMENTS = (
     "docs/DESCRIPTIONS.md",
     "docs/FORMATS.md",
     "docs/SCALE.md",
+    "docs/PEERS.md",
     "docs/instants.1",
     "docs/instants-lines.1",
 )

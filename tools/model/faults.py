@@ -1,0 +1,35 @@
+"""What can be wrong with a line, with a description, and with the words of a run."""
+
+
+class Refused(Exception):
+    """A text names no moment. `why` is what an answer says behind `! `."""
+
+    def __init__(self, why):
+        super().__init__(why)
+        self.why = why
+
+    @classmethod
+    def component(cls, name):
+        """The component of this name can't be read."""
+        return cls(f"component {name}")
+
+    @classmethod
+    def range(cls, name):
+        """All was read, and the value of this name is out of range."""
+        return cls(f"range {name}")
+
+
+class Faulty(Exception):
+    """A description is none. `sentence` says, in bytes, what is wrong and where."""
+
+    def __init__(self, sentence, index):
+        super().__init__(sentence)
+        self.sentence = sentence + b" at byte index %d" % index
+
+
+class WrongWords(Exception):
+    """The words of a run are wrong. `sentence` is what the program says, in bytes."""
+
+    def __init__(self, sentence):
+        super().__init__(sentence)
+        self.sentence = b"instants-lines: " + sentence

@@ -1,0 +1,116 @@
+"""A source: what a line, or the bytes from a place of a line on, say by it."""
+
+from typing import NamedTuple
+
+from . import edges, iso8601, record, rfc2822, rfc3339
+from .components import Compound, Literal, components_of, read_all
+from .faults import Refused
+
+FORMATS = {"rfc3339": rfc3339, "rfc2822": rfc2822, "iso8601": iso8601}
+SILENT = ("ignore", "end")
+YEARS, CENTURIES, LAST_TWOS = ("year", "iso_year"), ("century", "iso_century"), ("last_two", "iso_last_two")
+MONTHS, WEEKS = ("month", "month_short", "month_long"), ("week_iso", "week_sunday", "week_monday")
+WEEKDAYS, HOURS = ("weekday_short", "weekday_long", "weekday_sunday", "weekday_monday"), ("hour_12", "hour_24")
+
+
+class Lengths(NamedTuple):
+    """Where in a front its date begins and ends, where the word of its zone ends, and whether text before it chose the place."""
+
+    begins: int
+    ends: int
+    zone: int
+    is_chosen: bool
+
+
+def is_silent(item):
+    """Whether an item says nothing of a date."""
+    return all(it.kind in SILENT for it in components_of(item))
+
+
+class Source:
+    """`kind` is a format, or `items` for the items of version 1, version 2 or strftime, or `v3`."""
+
+    def __init__(self, kind, items=()):
+        self.kind, self.items, self.is_three = kind, items, kind == "v3"
+        self.kinds = {it.kind for it in components_of(Compound(tuple(items)))}
+        self.has_unix_time = "unix" in self.kinds
+        first = 0
+        while first < len(items) and is_silent(items[first]):
+            first += 1
+        last = len(items)
+        while last and is_silent(items[last - 1]):
+            last -= 1
+        written = last
+        while written < len(items) and isinstance(items[written], Literal):
+            written += 1
+        self.before_first, self.up_to_last, self.with_text = items[:first], items[:last], items[:written]
+
+    # ---- reading
+
+    def into_record(self, start, text):
+        """Returns a record with what the front of a text says, and the place after it."""
+        if self.kind in FORMATS:
+            return FORMATS[self.kind].into_record(start, text)
+        return read_all(self.items, start, text, 0, self.is_three)
+
+    def moment_of_line(self, assumed, line):
+        """Returns the moment of a whole line, or raises its fault."""
+        if assumed is None and self.kind in ("rfc3339", "rfc2822"):
+            return FORMATS[self.kind].moment(line)
+        start = {} if assumed is None else record.with_offset({}, assumed)
+        read, at = self.into_record(start, line)
+        if at < len(line):
+            raise Refused("trailing")
+        return record.moment_named(read)
+
+    def text_for(self, line, place):
+        """Returns what the source is given of a line from a place on."""
+        text = line[place : place + edges.WINDOW]
+        if self.kind == "iso8601":
+            return edges.iso_text(text)
+        return edges.mail_text(text) if self.kind == "rfc2822" else text
+
+    def front(self, text):
+        """Returns the record of the front of a text, from no record, and the place after it; or None."""
+        # (a mail's date begins with its weekday or its day, and not with white space or a comment)
+        if self.kind == "rfc2822" and not text[:1].isalnum():
+            return None
+        try:
+            return self.into_record({}, text)
+        except Refused:
+            return None
+
+    def lengths(self, text, at):
+        if self.kind in FORMATS:
+            long = edges.trimmed_length(text[:at])
+            return Lengths(0, long, long, False)
+        begins = self.length_of(self.before_first, text)
+        ends = edges.trimmed_length(text[: self.length_of(self.up_to_last, text)])
+        written = self.length_of(self.with_text, text)
+        zone = ends + edges.zone_length(text[ends:written])
+        return Lengths(begins + edges.blanks(text[begins:]), ends, zone, begins > 0)
+
+    def length_of(self, items, text):
+        """Returns how many bytes some items read, 0 where they are refused."""
+        try:
+            return read_all(items, {}, text, 0, self.is_three)[1]
+        except Refused:
+            return 0
+
+    # ---- what it lacks
+
+    def has(self, kinds):
+        """Whether a component of one of these kinds is in it; the well-known formats have all that a moment needs."""
+        return self.kind in FORMATS or bool(self.kinds & set(kinds))
+
+    def lack(self, has_offset, has_year, has_time):
+        """Returns what it never names and nobody gives, the first of these, or None."""
+        if self.has(("unix",)):
+            return None
+        if not (self.has(YEARS) or (self.has(CENTURIES) and self.has(LAST_TWOS)) or has_year):
+            return "century" if self.has(LAST_TWOS) else "year"
+        if not ((self.has(MONTHS) and self.has(("day",))) or self.has(("ordinal",)) or (self.has(WEEKS) and self.has(WEEKDAYS))):
+            return "day"
+        if not (self.has(HOURS) or has_time):
+            return "hour"
+        return None if self.has(("offset_hour",)) or has_offset else "offset"

@@ -1,0 +1,161 @@
+"""What the words of a run say, or the first thing wrong with them."""
+
+import pathlib
+import re
+from typing import NamedTuple
+
+from . import descriptions, strftime
+from .faults import Faulty, WrongWords
+from .pieces import number_said, offset_said, time_said, year_said
+from .sources import Source
+
+ROOT = pathlib.Path(__file__).resolve().parent.parent.parent
+MODES = (b"key", b"carry", b"replace", b"explain", b"locate")
+# The modes in which a label stands behind the key.
+LABELLED = (b"key", b"carry")
+FORMATS = (b"rfc3339", b"rfc2822", b"iso8601")
+LANGUAGES = {
+    b"v1": lambda text: descriptions.items_of(1, text),
+    b"v2": lambda text: descriptions.items_of(2, text),
+    b"v3": lambda text: descriptions.items_of(3, text),
+    b"strftime": strftime.items_of,
+}
+# What may stand before the sources, in this order, each behind its name.
+NAMED = (b"year", b"time", b"label")
+SOURCES = b", ".join((*FORMATS, *LANGUAGES)) + b", and the names of --help"
+USAGE = b"usage: instants-lines MODE [TARGET [ASSUMED [LIMIT]]] [year N] [time HH:MM] [label TEXT] SOURCE..."
+NO_FILES = b"no such source; files are read from standard input: instants-lines .. < FILE"
+
+
+def named_formats():
+    """Returns the language and the description that each name of a format stands for, as the table of definitions has them."""
+    text = (ROOT / "crates" / "instants_formats" / "specs" / "Table.antt").read_text()
+    word = r'codes "((?:[^"\\]|\\.)*)"'
+    rows = re.findall(rf"name = {word}; language = {word}; description = {word};", text)
+    return {name.encode(): tuple(re.sub(r"\\(.)", r"\1", it).encode() for it in words) for name, *words in rows}
+
+
+SYNONYMS = named_formats()
+
+
+class Asked(NamedTuple):
+    mode: str
+    target: int
+    assumed: int  # or None
+    limit: int
+    year: int  # or None
+    minutes: int  # of the day, or None
+    label: bytes  # or None
+    sources: tuple
+
+
+# ---- what one word says
+
+
+def said(word, reading, wrong):
+    value = reading(word)
+    if value is None:
+        raise WrongWords(b'"' + word + b'": ' + wrong)
+    return value
+
+
+def label_said(mode, word):
+    return word if mode in LABELLED and b"\t" not in word and b"\n" not in word else None
+
+
+def maybe_said(word, reading, wrong):
+    return None if word is None else said(word, reading, wrong)
+
+
+# ---- the words in their order
+
+
+def is_setting(word):
+    return word[:1] in (b"+", b"-") or word[:1].isdigit() or word in (b"Z", b"UTC")
+
+
+def as_offset(word):
+    return b"+00:00" if word in (b"Z", b"UTC") else word
+
+
+def front_settings(words):
+    """Returns the target, the assumed offset and the limit, as far as they are there, and the words behind them."""
+    count = 0
+    while count < min(3, len(words)) and is_setting(words[count]):
+        count += 1
+    return words[:count], words[count:]
+
+
+def named_word(name, words):
+    """Returns the word behind a name, or None, and the words behind both."""
+    if words[:1] != [name]:
+        return None, words
+    return (words[1] if words[1:] else None), words[2:]
+
+
+def no_such_source(word, may_be_offset):
+    if b"." in word or word[:1] == b"/":
+        return NO_FILES
+    offset = b"; an offset before the sources is +HH:MM, -HH:MM, Z or UTC" if may_be_offset else b""
+    return b"no such source; there are " + SOURCES + offset
+
+
+def sources_said(words, is_whole):
+    """Returns the words of each source, or raises what is wrong with the first that is none."""
+    sources, rest = [], list(words)
+    while rest:
+        word, rest, place = rest[0], rest[1:], len(sources) + 1
+        if word in FORMATS:
+            sources.append((word, None))
+        elif word in SYNONYMS:
+            sources.append(SYNONYMS[word])
+        elif word in LANGUAGES and rest:
+            sources.append((word, rest[0]))
+            rest = rest[1:]
+        elif word in LANGUAGES:
+            raise WrongWords(b'source %d: "%s" needs a description in the next argument' % (place, word))
+        else:
+            raise WrongWords(b'source %d: "%s": %s' % (place, word, no_such_source(word, place == 1 and not is_whole)))
+    return sources
+
+
+def source_made(place, language, description):
+    if description is None:
+        return Source(language.decode())
+    try:
+        return Source("v3" if language == b"v3" else "items", LANGUAGES[language](description))
+    except Faulty as fault:
+        raise WrongWords(b"source %d: %s" % (place, fault.sentence)) from None
+
+
+def refuse_lacking(asked):
+    """A source that never names a moment is refused with what it lacks."""
+    for place, source in enumerate(asked.sources, 1):
+        lack = source.lack(asked.assumed is not None, asked.year is not None, asked.minutes is not None)
+        if lack:
+            raise WrongWords(b"source %d names no moment: it has no %s" % (place, lack.encode()))
+
+
+def asked_by(words):
+    """Returns what words ask for, or raises WrongWords."""
+    if not words:
+        raise WrongWords(USAGE)
+    if words[0] not in MODES:
+        raise WrongWords(b'"%s": no such mode; there are %s' % (words[0], b", ".join(MODES)))
+    settings, rest = front_settings(list(words[1:]))
+    named = {}
+    for name in NAMED:
+        named[name], rest = named_word(name, rest)
+    if not rest:
+        raise WrongWords(b"no source is named; there are " + SOURCES)
+    target, assumed, limit = settings + [b"+00:00", b"-", b"1048576"][len(settings) :]
+    target = said(as_offset(target), offset_said, b"no target offset; it must be +HH:MM, -HH:MM, Z or UTC")
+    assumed = None if assumed == b"-" else said(as_offset(assumed), offset_said, b"no assumed offset; it must be +HH:MM, -HH:MM, Z, UTC or -")
+    limit = said(limit, lambda it: number_said(1, 1_048_576, 7, it), b"no limit; it must be a number from 1 to 1048576")
+    year = maybe_said(named[b"year"], year_said, b"no year; it must be a number from 0 to 9999")
+    minutes = maybe_said(named[b"time"], time_said, b"no time of day; it must be HH:MM")
+    label = maybe_said(named[b"label"], lambda it: label_said(words[0], it), b"no label; modes key and carry take one, without tabs and line feeds")
+    sources = tuple(source_made(place, *it) for place, it in enumerate(sources_said(rest, len(settings) == 3), 1))
+    asked = Asked(words[0].decode(), target, assumed, limit, year, minutes, label, sources)
+    refuse_lacking(asked)
+    return asked

@@ -1,0 +1,189 @@
+#!/usr/bin/env python3
+"""Compares the program `instants-lines` with a model of it (tools/model_lines.py) on lines that are made at random.
+
+    tools/try_model.py [--lines N] [--seed S] [--program PATH] [--block N] [--processes N]
+    tools/try_model.py --only SEED [..]    the run of one seed, as a difference names it
+    tools/try_model.py --rows              the model beside the stored rows of dated lines (crates/rows), without the program
+
+Each run has words of its own: a mode, offsets, a limit, a year, a time of day and sources, among them descriptions that are made at
+random, and a stream of lines with dates of all kinds, changed bytes and odd ends. One run in twenty has words that are wrong. Output,
+status and the sentence on standard error have to be the same, byte by byte. Of the first run that differs the words are printed, the
+first line that is answered differently, and both outputs; the status is 1 then.
+
+The program is the one that was built last, and else `./instants-lines`, whose trials take half a minute each: give it --block 4000 or so,
+and few lines.
+"""
+
+import argparse
+import multiprocessing
+import os
+import pathlib
+import random
+import re
+import shlex
+import subprocess
+import sys
+import time
+
+sys.dont_write_bytecode = True
+
+import sample_lines
+import sample_words
+from model.lines import answer
+
+ROOT = pathlib.Path(__file__).resolve().parent.parent
+BUILT = ROOT / "crates" / "instants_lines_program" / "out" / "instants_lines_program"
+ROWS, DATED = ROOT / "crates" / "rows" / "stdout", "\n## Dated lines\n"
+# What is said beside the sentence of a run: of a trial, and of a description that is literal text alone.
+NOTES = (b"instants-lines: the program is not built", b"instants-lines: what follows is of a trial", b"instants-lines: warning: ")
+PROCESSES = 2
+# A list of wrong words costs a run of its own, which takes as long as so many lines.
+LINES_OF_A_LIST, WRONG = 10, 2
+# After how many lines it is told that the trial goes on.
+SIGN_OF_LIFE = 50_000
+
+
+class Difference(Exception):
+    """The program and the model differ; the text says where."""
+
+
+def said_by_program(program, words, stream):
+    """Returns the output, the sentence and the status of the program."""
+    ran = subprocess.run([program, *words], input=stream, capture_output=True)
+    said = ran.stderr.splitlines(keepends=True)
+    if NOTES[0] in ran.stderr:
+        # (a trial ends an output that has no line feed at its end by one among what is said)
+        said = [it for it in said if it != b"\n"]
+    said = [it for it in said if not it.startswith(NOTES)]
+    return ran.stdout, b"".join(said), ran.returncode
+
+
+def lines_alike(one, other):
+    """Returns how many lines at the front of two outputs are the same."""
+    pairs = enumerate(zip(one, other))
+    return next((at for at, (left, right) in pairs if left != right), min(len(one), len(other)))
+
+
+def first_difference(words, stream, program, model):
+    """Returns what is printed of two answers that differ."""
+    text = [f"words: {shlex.join(words)}"]
+    if program[1:] != model[1:]:
+        text += [f"program: status {program[2]}, {program[1]!r}", f"model:   status {model[2]}, {model[1]!r}"]
+    left, right = program[0].split(b"\n"), model[0].split(b"\n")
+    at = lines_alike(left, right)
+    if left != right:
+        given = stream.split(b"\n")
+        text += [f"line {at + 1}: {given[at] if at < len(given) else b''!r}"]
+        text += [f"program: {left[at] if at < len(left) else b''!r}", f"model:   {right[at] if at < len(right) else b''!r}"]
+        above = model[0].split(b"\n")[max(at - 1, 0) : at]
+        text += [f"above:   {it!r}" for it in above]
+    return "\n".join(text)
+
+
+def compare(program, words, stream):
+    """Compares one run, and returns the model's answer, or raises Difference."""
+    expected = answer([it.encode() for it in words], stream)
+    given = said_by_program(program, words, stream if expected[2] == 0 else b"")
+    if given != expected:
+        raise Difference(first_difference(words, stream, given, expected))
+    return expected
+
+
+def compare_block(program, seed, count):
+    """Compares one run with lines, or now and then runs whose words are wrong. Returns the mode, and how many lines and lists of wrong
+    words were compared."""
+    rng = random.Random(seed)
+    if rng.random() < 0.05:
+        lists = [sample_words.wrong_words(rng) for _ in range(count // LINES_OF_A_LIST + 1)]
+        return "", 0, sum(compare(program, it.words, b"")[2] == WRONG for it in lists)
+    asked = sample_words.right_words(rng)
+    stream = sample_lines.some_stream(rng, asked, count)
+    status = compare(program, asked.words, stream)[2]
+    return asked.words[0], count * (status == 0), int(status == WRONG)
+
+
+# ---- the stored rows
+
+
+def words_in(text):
+    """Returns words that are parted by blanks; one with a blank in it is in single quotes."""
+    words = shlex.shlex(text, posix=True)
+    words.whitespace_split, words.escape, words.quotes, words.commenters = True, "", "'", ""
+    return [it.encode() for it in words]
+
+
+def bytes_in(text):
+    """Returns the bytes of a stream or an answer: a line feed ends it, unless `\\c` does."""
+    is_cut = text.endswith("\\c")
+    marks = {"n": b"\n", "r": b"\r", "t": b"\t", "\\": b"\\"}
+    parts = re.split(r"\\(x[0-9a-fA-F]{2}|[nrt\\])", text[:-2] if is_cut else text)
+    read = b"".join(part.encode() if at % 2 == 0 else marks.get(part) or bytes.fromhex(part[1:]) for at, part in enumerate(parts))
+    return read if is_cut else read + b"\n"
+
+
+def compare_rows():
+    """Compares the model with the stored rows, prints those that differ, and returns how many."""
+    rows = [it for it in ROWS.read_text().partition(DATED)[2].splitlines() if it and it[0] != "#"]
+    differing = 0
+    for row in rows:
+        words, _, stream = row.partition("|")
+        stream, _, told = stream.removeprefix(" ").partition(" => " if " => " in row else " =>")
+        written, said, status = answer(words_in(words), bytes_in(stream))
+        is_same = f"{said.decode().strip()} (status {status})" == told if status else written == bytes_in(told)
+        if not is_same:
+            differing += 1
+            print(f"{row}\nmodel: {said or written!r}")
+    print(f"{len(rows)} rows, {differing} of them differ")
+    return differing
+
+
+# ---- runs on several processes
+
+
+def compared(task):
+    """Returns what `compare_block` says, or the text of a difference."""
+    try:
+        return compare_block(*task)
+    except Difference as difference:
+        return f"seed {task[1]}\n{difference}"
+
+
+def main():
+    parser = argparse.ArgumentParser(description=__doc__, formatter_class=argparse.RawDescriptionHelpFormatter)
+    parser.add_argument("--lines", type=int, default=500_000)
+    parser.add_argument("--seed", type=int, default=1)
+    parser.add_argument("--program", default=str(BUILT if os.access(BUILT, os.X_OK) else ROOT / "instants-lines"))
+    parser.add_argument("--block", type=int, default=200, help="lines of a run")
+    parser.add_argument("--processes", type=int, default=PROCESSES)
+    parser.add_argument("--only", type=int, help="compare the run of this seed alone")
+    parser.add_argument("--rows", action="store_true", help="compare the model with the stored rows")
+    asked = parser.parse_args()
+    if asked.rows:
+        return 1 if compare_rows() else 0
+    if asked.only is not None:
+        said = compared((asked.program, asked.only, asked.block))
+        print(said if isinstance(said, str) else "no difference")
+        return 1 if isinstance(said, str) else 0
+    runs = (asked.lines + asked.block - 1) // asked.block
+    tasks = ((asked.program, asked.seed * 1_000_000 + it, asked.block) for it in range(runs * 2))
+    lines, wrong, by_mode, began = 0, 0, {}, time.monotonic()
+    with multiprocessing.Pool(asked.processes) as pool:
+        for said in pool.imap(compared, tasks):
+            if isinstance(said, str):
+                print(f"after {lines} lines without a difference:\n{said}")
+                return 1
+            mode, count, refused = said
+            if (lines + count) // SIGN_OF_LIFE > lines // SIGN_OF_LIFE:
+                print(f"{lines + count} lines so far", file=sys.stderr, flush=True)
+            lines, wrong = lines + count, wrong + refused
+            by_mode[mode] = by_mode.get(mode, 0) + count
+            if lines >= asked.lines:
+                break
+        pool.terminate()
+    told = ", ".join(f"{count} in mode {mode}" for mode, count in sorted(by_mode.items()) if count)
+    print(f"{lines} lines without a difference in {time.monotonic() - began:.0f} s: {told}; and {wrong} lists of words that are wrong")
+    return 0
+
+
+if __name__ == "__main__":
+    sys.exit(main())
