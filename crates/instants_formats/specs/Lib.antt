@@ -1,0 +1,4 @@
+pub mod Format
+pub mod Table
+pub mod Named
+pub mod Words
