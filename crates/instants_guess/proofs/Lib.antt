@@ -1,0 +1,4 @@
+mod Decimals
+mod FirstLine
+mod Ranking
+mod Written

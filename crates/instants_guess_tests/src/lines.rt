@@ -1,0 +1,1 @@
+//! The line of each format, as it stands in the table.
