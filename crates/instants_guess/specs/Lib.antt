@@ -1,4 +1,5 @@
 pub mod Offers
+pub mod Descriptions
 pub mod Trials
 pub mod Candidate
 pub mod Tallies

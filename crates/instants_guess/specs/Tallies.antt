@@ -1,5 +1,5 @@
 -- What is found in lines by a format, counted.
-use Rattle.std.specs.Prelude.{ℕ, ◌+◌, Bool, true, false, max, List, [], ◌∷◌, map, count_by, Option, None, Some}
+use Rattle.std.specs.Prelude.{◌≤◌, ℕ, ◌+◌, Bool, true, false, max, List, [], ◌∷◌, map, count_by, Option, None, Some, ⊤}
 use Rattle.instants_found.specs.Found.{found}
 use Rattle.instants_found.specs.declared.found.Finding.{Finding}
 use Rattle.instants_found.specs.declared.found.Finding.TheVariants.{Doubtful, There}
@@ -44,3 +44,8 @@ abbrev pub counted : Tally → Option Finding → Tally
 counted tally None = tally
 counted tally (Some Doubtful) = record tally { doubtful = tally.doubtful + 1 }
 counted tally (Some (There date)) = record tally { dated = tally.dated + 1; limit = max tally.limit (date.start + 1) }
+
+-- where a line has a date it begins so near
+abbrev pub StartsWithin : ℕ → Finding → Type 0
+StartsWithin bytes Doubtful = ⊤
+StartsWithin bytes (There date) = date.start ≤ bytes

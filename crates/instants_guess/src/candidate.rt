@@ -1,14 +1,14 @@
 //! A format that is tried on lines.
-ghost use Rattle.std.specs.Prelude.{◌≡◌, ◌≢◌, ◌≤◌, ◌∷◌, [], length, map, IfOk};
+ghost use Rattle.std.specs.Prelude.{◌≡◌, ◌≢◌, ◌≤◌, ◌∷◌, [], length, IfOk};
 ghost use Rattle.description_lexer.specs.Fault.{Fault};
 ghost use Rattle.instants_found.specs.Finder.{limit_of, sources_of};
 ghost use Rattle.instants_sources.specs.Grammar.{IsFaulty, Means, grammar_of};
 ghost use Rattle.instants_stream.specs.Lines.{lines};
 ghost use Rattle.instants_words.specs.Sources.{said_by};
-ghost use Rattle.instants_guess.specs.Candidate.{AreDescriptions, trial_of};
+ghost use Rattle.instants_guess.specs.Descriptions.{IsDescription};
 ghost use Rattle.instants_guess.specs.Offers.{offer_said};
 ghost use Rattle.instants_guess.specs.Tallies.{findings, most, tally_of};
-ghost use Rattle.instants_guess.specs.Trials.{AreTrials, IsTrial, given_for};
+ghost use Rattle.instants_guess.specs.Trials.{IsTrial, given_for};
 
 use crate::line::first_line;
 use crate::offer::Offer;
@@ -58,9 +58,11 @@ fn finder(alloc: Global, source: Source<'static>) -> Result<Finder<'static>, All
 }
 
 impl Candidate {
-    // A format that is tried.
-    fn new(alloc: Global, offer: &Offer) -> Result<Candidate, AllocError>
-        requires { (fault : Fault) → IsFaulty (offer_said offer.now).source fault → ⊥ }
+    ghost use Rattle.instants_guess.specs.Candidate.{trial_of};
+
+    /// A format that is tried.
+    pub(crate) fn new(alloc: Global, offer: &Offer) -> Result<Candidate, AllocError>
+        requires { IsDescription (offer_said offer.now) }
         ensures { IfOk result
             (λ candidate. IsTrial (offer_said offer.now) (trial_of candidate)) }
     {
@@ -104,18 +106,4 @@ fn given_for(lacks: Lacking) -> Given
         years,
         time,
     }
-}
-
-/// All formats of a list, each of which is tried by itself.
-pub(crate) fn candidates(alloc: Global, offers: &[Offer]) -> Result<Vec<Candidate>, AllocError>
-    requires { AreDescriptions (map offer_said offers.now) }
-    ensures { IfOk result
-        (λ all. AreTrials (map offer_said offers.now) (map trial_of all.items)) }
-{
-    let mut all = Vec::with_capacity(alloc, offers.len())?;
-    for offer in offers {
-        all.push(Candidate::new(alloc, offer)?)
-            .map_err(AllocError::from)?;
-    }
-    Ok(all)
 }

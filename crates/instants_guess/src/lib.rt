@@ -2,14 +2,15 @@
 #![tactic(auto)]
 
 mod candidate;
+mod candidates;
 mod count;
-mod guess;
 mod guessed;
 mod line;
 mod offer;
+mod program;
 mod rank;
 mod sample;
 mod tally;
 mod write;
 
-pub use guess::guess;
+pub use program::guess;

@@ -2,7 +2,7 @@
 ghost use Rattle.std.specs.Prelude.{◌≡◌, map, IfOk};
 ghost use Rattle.instants_words.specs.Sources.{said_by};
 ghost use Rattle.instants_formats.specs.Format.{format_said};
-ghost use Rattle.instants_guess.specs.Offers.{described, offer_of, offer_said, offers};
+ghost use Rattle.instants_guess.specs.Offers.{described, offer_of, offer_said, offers, well_known};
 
 use instants_formats::{Format, Lacking, formats};
 use instants_words::SourceText;
@@ -17,28 +17,30 @@ pub(crate) struct Offer {
 }
 
 // The formats that a word names.
-static WELL_KNOWN: [Offer; 4] = [
-    Offer {
+fn well_known(alloc: Global) -> Result<Vec<Offer>, AllocError>
+    ensures { IfOk result (λ all. map offer_said all.items ≡ well_known) }
+{
+    let rfc3339 = Offer {
         name: "rfc3339",
         source: SourceText::Rfc3339,
         lacks: Lacking::Nothing,
-    },
-    Offer {
+    };
+    let rfc2822 = Offer {
         name: "rfc2822",
         source: SourceText::Rfc2822,
         lacks: Lacking::Nothing,
-    },
-    Offer {
+    };
+    let iso8601 = Offer {
         name: "iso8601",
         source: SourceText::Iso8601,
         lacks: Lacking::Nothing,
-    },
-    Offer {
-        name: "iso8601",
-        source: SourceText::Iso8601,
+    };
+    let iso8601_assumed = Offer {
         lacks: Lacking::Offset,
-    },
-];
+        ..iso8601
+    };
+    Ok(vec![in alloc; rfc3339, rfc2822, iso8601, iso8601_assumed]?)
+}
 
 // A description in one of the two languages of formats.
 fn described(language: &str, description: &'static str) -> SourceText<'static>
@@ -67,10 +69,7 @@ pub(crate) fn offers(alloc: Global) -> Result<Vec<Offer>, AllocError>
     ensures { IfOk result (λ all. map offer_said all.items ≡ offers) }
 {
     let named = formats();
-    let mut all = Vec::with_capacity(alloc, WELL_KNOWN.len() + named.len())?;
-    for offer in WELL_KNOWN {
-        all.push(offer).map_err(AllocError::from)?;
-    }
+    let mut all = well_known(alloc)?;
     for format in named {
         all.push(offer_of(format)).map_err(AllocError::from)?;
     }

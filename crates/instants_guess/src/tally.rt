@@ -1,7 +1,6 @@
 //! What a format finds in lines, counted.
 ghost use Rattle.std.specs.Prelude.{◌≡◌, ◌<◌, ◌≤◌, ◌+◌, max, IfSome};
-ghost use Rattle.instants_found.specs.Within.{IsWithin};
-ghost use Rattle.instants_guess.specs.Tallies.{counted, most};
+ghost use Rattle.instants_guess.specs.Tallies.{StartsWithin, counted, most};
 
 use instants_found::Finding;
 
@@ -25,7 +24,7 @@ impl Tally {
     pub(crate) fn counted(self, finding: Option<Finding>) -> Tally
         requires dated { self.dated < most }
         requires doubtful { self.doubtful < most }
-        requires within { IfSome finding (IsWithin most 1) }
+        requires within { IfSome finding (StartsWithin most) }
         ensures { result ≡ counted self finding }
     {
         match finding {

@@ -1,5 +1,5 @@
 //! Which formats date the lines of a stream.
-ghost use Rattle.std.specs.Prelude.{◌≡◌, ◌≤◌, [], List, length, map, false, Err, IfSome, vec_capacity};
+ghost use Rattle.std.specs.Prelude.{◌≡◌, ◌≤◌, [], List, length, map, false, Err, IfOk, IfSome, vec_capacity};
 ghost use Rattle.instants_timeline.specs.Program.{ended_of};
 ghost use Rattle.instants_guess.specs.Candidate.{trial_of};
 ghost use Rattle.instants_guess.specs.Offers.{offers};
@@ -8,7 +8,8 @@ ghost use Rattle.instants_guess.specs.Tallies.{most};
 ghost use Rattle.instants_guess.specs.Text.{guessed};
 ghost use Rattle.instants_guess.specs.Trials.{AreTrials, Trial};
 
-use crate::candidate::{Candidate, MOST, candidates};
+use crate::candidate::{Candidate, MOST};
+use crate::candidates::candidates;
 use crate::count::count;
 use crate::guessed::Guess;
 use crate::line::count_lines;
@@ -58,6 +59,10 @@ pub fn guess<R: ByteReader, W: ByteWriter>(
 
 // All formats that are tried, room for what each finds, and for the first bytes of a stream.
 fn prepared(alloc: Global) -> Result<(Vec<Candidate>, Vec<Guess>, Vec<u8>), AllocError>
+    ensures trials { IfOk result (λ x. AreTrials offers (map trial_of x.0.items)) }
+    ensures none { IfOk result (λ x. x.1.items ≡ []) }
+    ensures room { IfOk result (λ x. length x.0.items ≤ vec_capacity x.1) }
+    ensures buffer { IfOk result (λ x. length x.2.items ≡ most) }
 {
     let offers = offers(alloc)?;
     let candidates = candidates(alloc, offers.as_slice())?;
