@@ -20,7 +20,7 @@ ROOT = pathlib.Path(__file__).resolve().parent.parent
 PAGE = ROOT / "docs" / "CALLS.md"
 FAMILIES = ("calendar", "datetime", "description", "parsing", "instants")
 # Crates whose calls no named crate gives on, but which have users of their own.
-ALONE = ("instants_edges", "instants_fronts", "instants_found", "instants_lines", "instants_memory", "instants_c")
+ALONE = ("instants_formats", "instants_edges", "instants_fronts", "instants_found", "instants_lines", "instants_guess", "instants_memory", "instants_c")
 # The calls of the crates below these of which CLAIMS.md speaks: all that a crate gives on, or some of them.
 BELOW = {
     "parsing_combinator": {"digit_chunk", "nine_digits"},
@@ -57,6 +57,7 @@ MODULES = {
     "parsing_rfc2822::laws": ("parsing_rfc2822/src/laws.rt",),
     "parsing_laws::two_roads": ("parsing_laws/src/two_roads.rt",),
     "instants::laws": ("instants_laws/src/lines.rt", "instants_laws/src/moments.rt", "instants_answers/src/laws.rt", "instants_stream/src/laws.rt"),
+    "instants_formats::laws": ("instants_formats/src/laws.rt",),
     "instants_found::laws": ("instants_found/src/laws.rt",),
     "instants_lines::laws": ("instants_lines/src/laws.rt",),
     "instants_memory::laws": ("instants_memory/src/laws.rt",),

@@ -6,6 +6,4 @@ mod formats;
 #[cfg(test)]
 mod guesses;
 #[cfg(test)]
-mod lines;
-#[cfg(test)]
 mod support;

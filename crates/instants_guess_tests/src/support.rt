@@ -31,7 +31,7 @@ pub fn guess_is(
     ended: Result<(), RunFault>,
     text: &[u8],
 ) {
-    let mut space = [0; 4096];
+    let mut space = [0; 512];
     let mut reader = CutReader::new(stream, devices.most.max(1), devices.read);
     let mut writer = CutWriter::new(&mut space, devices.most.max(1), devices.write);
     match guess(alloc, &mut reader, &mut writer) {
@@ -39,6 +39,6 @@ pub fn guess_is(
         Err(RunsFault::Run(fault)) => assert_eq!(rt; ended, Err(fault)),
         Err(RunsFault::Memory) => assert!(rt; false, "out of memory"),
     }
-    assert_eq!(rt; writer.is_flushed(), ended.is_ok());
+    assert_eq!(rt; writer.is_flushed(), ended != Err(RunFault::Write));
     assert_eq!(rt; writer.written(), text);
 }

@@ -1,1 +1,0 @@
-//! The line of each format, as it stands in the table.
