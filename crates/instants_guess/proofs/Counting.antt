@@ -1,5 +1,5 @@
 -- What is found in lines, counted one line after another.
-use Rattle.std.proofs.Common.{◌≡◌, ℕ, ◌+◌, ◌<◌, ◌≤◌, max, cond, List, [], ◌∷◌, ◌++◌, map, take, get_or, length, count_by, Option, None, Some, IfSome, refl, sym, ap, ◌∙◌, arith}
+use Rattle.std.proofs.Common.{◌≡◌, ℕ, ◌+◌, ◌≤◌, max, cond, List, [], ◌∷◌, count_by, Option, None, Some, IfSome, refl, arith}
 use Rattle.std.proofs.lemmas.List.Sums.{sum_by-cons}
 use Rattle.instants_found.specs.Found.{found}
 use Rattle.instants_found.specs.Within.{IsWithin}

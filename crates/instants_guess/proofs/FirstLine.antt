@@ -1,6 +1,6 @@
 -- The first line of a text, and the lines behind it.
-use Rattle.std.proofs.Common.{◌≡◌, ℕ, ◌+◌, ◌-◌, ◌<◌, List, [], ◌∷◌, ◌++◌, length, take, drop, get_or, refl, sym, ap, ◌∙◌, arith, append_assoc, take-append-drop}
-use Rattle.std.proofs.lemmas.List.{drop_more, take_rest}
+use Rattle.std.proofs.Common.{◌≡◌, ℕ, ◌+◌, ◌<◌, List, [], ◌∷◌, ◌++◌, length, take, drop, get_or, refl, sym, ap, ◌∙◌, arith, append_assoc, take-append-drop}
+use Rattle.std.proofs.lemmas.List.{drop_more}
 use Rattle.instants_stream.specs.Lines.{HasNoLineFeed, if_nonempty, whole_lines, last_part, lines}
 use Rattle.instants_stream.proofs.Lines.{whole_lines-piece, last_part-piece, whole_lines-line, last_part-line, lines-append, whole_lines_none, last_part_of_none}
 

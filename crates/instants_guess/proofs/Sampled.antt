@@ -1,5 +1,5 @@
 -- The first bytes of a stream, as they were read.
-use Rattle.std.proofs.Common.{◌≡◌, ℕ, ◌+◌, ◌<◌, ◌≤◌, ◌⊎◌, List, [], ◌++◌, length, map, take, drop, Option, None, Some, IfSome, Result, Ok, Err, refl, sym, ap, ◌∙◌, subst, arith, append-nil, length-take-le, inl, inr}
+use Rattle.std.proofs.Common.{◌≡◌, ℕ, ◌<◌, ◌≤◌, ◌⊎◌, List, [], ◌++◌, length, map, take, drop, Option, None, Some, IfSome, refl, sym, ap, ◌∙◌, subst, arith, append-nil, length-take-le, inl, inr}
 use Rattle.std.proofs.Math.ListN.{drop_of_length-le}
 use Rattle.std.proofs.Math.Nat.{eq-or-lt_of_le}
 use Rattle.std.proofs.Math.Seq.{take-append_seam, drop-append_seam}
@@ -22,9 +22,10 @@ all_bytes stream front rest e h none =
 
 -- as many as are looked at
 most_bytes : (stream front rest : List ℕ) → stream ≡ front ++ rest → length front ≡ most → Parted stream front rest
-most_bytes stream front rest e h =
-    (sym (ap (drop most) e ∙ subst (λ n. drop n (front ++ rest) ≡ rest) h (drop-append_seam front rest)),
-    ap (take most) e ∙ subst (λ n. take n (front ++ rest) ≡ front) h (take-append_seam front rest))
+most_bytes stream front rest e h = (
+  sym (ap (drop most) e ∙ subst (λ n. drop n (front ++ rest) ≡ rest) h (drop-append_seam front rest)),
+  ap (take most) e ∙ subst (λ n. take n (front ++ rest) ≡ front) h (take-append_seam front rest),
+)
 
 parted : (stream front rest : List ℕ) → stream ≡ front ++ rest → (length front ≡ most) ⊎ (length front < most) → (length front < most → rest ≡ []) → Parted stream front rest
 parted stream front rest e (inl all) ends = most_bytes stream front rest e all

@@ -2,7 +2,6 @@
 use Rattle.std.specs.Prelude.{ℕ, Bool, ◌==◌, nat_lt, List, [], ◌∷◌, ◌++◌, length, map, filter, codes, if◌then◌else◌}
 use Rattle.std.specs.Fmt.{decimal}
 use Rattle.std.specs.List.{concat, flat_map, list_any}
-use Rattle.base.specs.Bytes.{line_feed}
 use Rattle.instants_formats.specs.declared.format.Lacking.{Lacking}
 use Rattle.instants_formats.specs.declared.format.Lacking.TheVariants.{Nothing, Offset, YearAndOffset, TimeAndOffset}
 use Rattle.instants_stream.specs.Lines.{lines}

@@ -1,5 +1,5 @@
 -- A format with what it means, and what is given to its dates.
-use Rattle.std.specs.Prelude.{◌≡◌, ℕ, List, [], ◌∷◌, Option, None, Some, pos, ⊤}
+use Rattle.std.specs.Prelude.{◌≡◌, ℕ, List, [], ◌∷◌, None, Some, pos, ⊤}
 use Rattle.instants_sources.specs.Grammar.{Grammar, Means}
 use Rattle.instants_fronts.specs.declared.given.Given.{Given}
 use Rattle.instants_fronts.specs.declared.given.Years.TheVariants.{Unknown, In}

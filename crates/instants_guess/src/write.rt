@@ -89,11 +89,7 @@ fn write_parts<W: ByteWriter>(writer: &mut W, parts: &[&[u8]]) -> Result<(), Dev
 
 // Writes the line of a format.
 #[tactic(auto, unfolding(crate::specs::Text::line_of))]
-fn write_line<W: ByteWriter>(
-    writer: &mut W,
-    all: usize,
-    guess: &Guess,
-) -> Result<(), DeviceFailed>
+fn write_line<W: ByteWriter>(writer: &mut W, all: usize, guess: &Guess) -> Result<(), DeviceFailed>
     requires { W.failed writer.old ≡ false }
     ensures written { OnOk result (Appends (W.held writer.old) (W.held writer.new)
         (line_of all (guess_said guess.now))) }
@@ -124,11 +120,7 @@ fn write_line<W: ByteWriter>(
 }
 
 // Writes the line of a format that dates some line, and nothing of others.
-fn write_guess<W: ByteWriter>(
-    writer: &mut W,
-    all: usize,
-    guess: &Guess,
-) -> Result<(), DeviceFailed>
+fn write_guess<W: ByteWriter>(writer: &mut W, all: usize, guess: &Guess) -> Result<(), DeviceFailed>
     requires { W.failed writer.old ≡ false }
     ensures written { OnOk result (Appends (W.held writer.old) (W.held writer.new)
         (lines_of all (guess_said guess.now ∷ []))) }

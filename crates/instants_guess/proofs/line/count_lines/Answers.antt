@@ -1,5 +1,4 @@
-use Rattle.std.proofs.Common.{◌≡◌, ◌+◌, length, ap, arith, rules}
-use Rattle.instants_stream.specs.Lines.{lines}
+use Rattle.std.proofs.Common.{◌≡◌, length, ap, arith, rules}
 use Rattle.instants_guess.proofs.FirstLine.{lines_none}
 use Rattle.instants_guess.proofs.line.count_lines.Goals as goal
 

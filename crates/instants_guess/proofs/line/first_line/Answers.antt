@@ -1,4 +1,4 @@
-use Rattle.std.proofs.Common.{◌≡◌, ◌+◌, [], ◌∷◌, length, ap, ◌∙◌, refl}
+use Rattle.std.proofs.Common.{◌+◌, [], ◌∙◌, refl}
 use Rattle.std.proofs.lemmas.List.{take_rest}
 use Rattle.instants_guess.proofs.FirstLine.{lines_none, only_line, first_and_others}
 use Rattle.instants_guess.proofs.line.first_line.Goals as goal

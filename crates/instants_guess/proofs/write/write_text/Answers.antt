@@ -1,4 +1,4 @@
-use Rattle.std.proofs.Common.{◌≡◌, true, false, sym, ◌∙◌}
+use Rattle.std.proofs.Common.{sym, ◌∙◌}
 use Rattle.instants_guess.proofs.Written.{text_none, text_some}
 use Rattle.instants_guess.proofs.write.write_text.Goals as goal
 

@@ -16,9 +16,9 @@ loop-rest-preserved c =
     let behind = lines c.first_line.result.1.now in
     let before = c.loop-rest.tally in
     let here : c.find.result ≡ found most (given_for trial.lacks) trial.sources line =
-        c.find.ensures.found ∙ (ap (λ n. found n c.given_for-given.result trial.sources line) c.args.self.now.wide ∙ ap (λ given. found most given trial.sources line) c.given_for-given.ensures) in
+    c.find.ensures.found ∙ (ap (λ n. found n c.given_for-given.result trial.sources line) c.args.self.now.wide ∙ ap (λ given. found most given trial.sources line) c.given_for-given.ensures) in
     let split : findings trial (lines c.loop-rest.rest.now) ≡ c.find.result ∷ findings trial behind =
-        ap (findings trial) c.first_line.ensures.lines ∙ (findings_more trial line behind ∙ ap (λ one. one ∷ findings trial behind) (sym here)) in
+    ap (findings trial) c.first_line.ensures.lines ∙ (findings_more trial line behind ∙ ap (λ one. one ∷ findings trial behind) (sym here)) in
     let dated : c.counted-tally.result.dated ≤ before.dated + 1 = rw c.counted-tally.ensures (counted_dated before c.find.result) in
     let doubtful : c.counted-tally.result.doubtful ≤ before.doubtful + 1 = rw c.counted-tally.ensures (counted_doubtful before c.find.result) in
     record {
