@@ -76,6 +76,7 @@ CHECKS = (
     ("header_numbers.py", "--check"),
     ("pictures.py", "--check"),
     ("page_links.py", "--check"),
+    ("formats_page.py", "--check"),
 )
 SECONDS = 300
 # Fences of code that is read and not run.
@@ -176,7 +177,7 @@ def examples_of_tables(lines):
             cells = dict(zip(head, cells_of(row)))
             if cells["line"].strip() and not re.fullmatch(r"-+", cells["line"]):
                 words = cells.get("arguments") or f"+00:00 +00:00 100 {cells['example']}"
-                program, answer = ("instants-lines key", f"{cells['key']}\t{cells['line']}") if "key" in head else ("instants", cells["answer"])
+                program, answer = ("instants-lines key", cells["key"] + "\t" + cells["line"].replace("\\t", "\t")) if "key" in head else ("instants", cells["answer"])
                 found.append(Example(at, [f"printf '%b\\n' {shlex.quote(cells['line'])} | {program} {words}"], [answer], section))
     return found
 

@@ -27,3 +27,7 @@ taken =
 -- a word that means nothing else, and can't be taken for an offset or a limit
 abbrev pub is_free : List ℕ → Bool
 is_free word = begins_small word && not (is_among taken word)
+
+-- a word is one of the two languages of the table
+abbrev pub is_language : List ℕ → Bool
+is_language word = is_among (codes "v3" ∷ codes "strftime" ∷ []) word

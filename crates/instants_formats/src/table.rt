@@ -40,7 +40,7 @@ pub(crate) static FORMATS: [Format; 40] = [
         lacks: Lacking::Nothing,
     },
     // PostgreSQL: output of `timestamptz`; macOS: `install.log`.
-    //      7 | 2021-01-02 03:04:05.5+01 | up
+    //     7 | 2021-01-02 03:04:05.5+01 | up
     //     2021-01-02T02:04:05.500000000Z
     Format {
         name: "psql",
@@ -58,7 +58,7 @@ pub(crate) static FORMATS: [Format; 40] = [
         lacks: Lacking::Nothing,
     },
     // Docker: files of `json-file`, where a message has a date of its own.
-    //     {"log":"until 2027-01-01T00:00:00Z\n","stream":"stdout","time":"2021-01-02T03:04:05.123456789Z"}
+    //     {"log":"until 2027-01-01T00:00:00Z","stream":"stdout","time":"2021-01-02T03:04:05.123456789Z"}
     //     2021-01-02T03:04:05.123456789Z
     Format {
         name: "docker-json",

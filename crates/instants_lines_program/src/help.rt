@@ -6,9 +6,13 @@ ghost use Rattle.std.specs.Str.{bytes_eq};
 pub(crate) const VERSION: &str = "instants-lines 0.1.0";
 
 pub(crate) const HELP: &str = "\
-instants-lines MODE [TARGET [ASSUMED [LIMIT]]] [year N] [time HH:MM] SOURCE...
+instants-lines MODE [TARGET [ASSUMED [LIMIT]]] [year N] [time HH:MM]
+               [label TEXT] SOURCE...
     reads lines from standard input, finds the date-time of each, and writes
     the line to standard output with that at one offset
+instants-lines guess
+    reads the first 1048576 bytes of standard input, and writes which formats
+    date its lines, and by which words, the best first
 
     MODE     key      the line after the date-time and a tab; `! none` where it
                       has no date-time, `! doubt` where that is in doubt, `! year`
@@ -16,6 +20,8 @@ instants-lines MODE [TARGET [ASSUMED [LIMIT]]] [year N] [time HH:MM] SOURCE...
              carry    the same, but a line without a date-time takes the key of
                       the line above
              replace  the line with the date-time in place of the found one
+             locate   where the date-time of each line begins and ends, and by
+                      which source, or why it is in doubt
              explain  the number of the source that reads all of the line, and
                       its answer, or each source's number and fault
     TARGET   the offset at which moments are written: +HH:MM, -HH:MM, Z or UTC;
@@ -27,8 +33,12 @@ instants-lines MODE [TARGET [ASSUMED [LIMIT]]] [year N] [time HH:MM] SOURCE...
     year N   the year of the first date of lines that say none, 0 to 9999
     time HH:MM
              the time of day of dates without one, 00:00 to 23:59
+    label TEXT
+             in the modes key and carry, what stands behind the key and a tab,
+             with a tab behind it
     SOURCE   rfc3339, rfc2822, iso8601, or v1, v2, v3 or strftime with a
-             description in the next argument; several are tried in order
+             description in the next argument, or a format by its name;
+             several are tried in order
 
     instants-lines carry rfc3339 strftime '%d/%b/%Y:%H:%M:%S %z' < LOG
 
@@ -36,7 +46,9 @@ instants-lines --help     prints this
 instants-lines --version  prints the version
 ./instants-lines --build  in the folder of the sources: proves the program and builds it
 
-The guide is docs/GUIDE.md, the manual page docs/instants-lines.1.";
+The guide is docs/GUIDE.md, the manual page docs/instants-lines.1.
+
+Formats by name, each a language and a description (docs/FORMATS.md):";
 
 /// The text that a word alone asks for.
 pub(crate) fn text_for(word: &str) -> Option<&'static str>

@@ -1,6 +1,6 @@
 //! `instants-lines MODE [TARGET [ASSUMED [LIMIT]]] [year N] [time HH:MM] SOURCE...`: reads lines with dates in them from
 //! standard input, and writes each to standard output: behind the date-time at the target offset, or with that in place of
-//! its date.
+//! its date. `instants-lines guess`: writes which formats date the lines of standard input.
 #![tactic(auto)]
 
 mod bare;
@@ -8,14 +8,16 @@ mod help;
 mod noting;
 
 use crate::bare::warn_of_bare;
-use crate::help::text_for;
+use crate::help::{HELP, text_for};
 use crate::noting::Noting;
+use instants_formats::formats;
+use instants_guess::guess;
 use instants_lines::{
     BlockWriter, LinesFault, ProgramFault, RunFault, StdReader, StdWriter, run_words,
 };
 use std::alloc::Global;
 use std::env;
-use std::io::ErrorKind;
+use std::io::{self, ErrorKind};
 use std::process::ExitCode;
 
 // Bytes that are written at once.
@@ -45,9 +47,21 @@ fn asked_text(words: &Vec<String>) -> Option<&'static str> {
     }
 }
 
+// Prints a text, and below the help the name of each format.
+fn print_text(rt: &HostRuntime, text: &str) -> io::Result<()> {
+    println!(rt; "{text}")?;
+    if text == HELP {
+        for format in formats() {
+            let name = format.name;
+            println!(rt; "    {name}")?;
+        }
+    }
+    Ok(())
+}
+
 // Shows a text.
 fn shown(rt: &HostRuntime, text: &str) -> ExitCode {
-    match println!(rt; "{text}") {
+    match print_text(rt, text) {
         Ok(()) => ExitCode::SUCCESS,
         Err(fault) => {
             let end = LinesFault::Program(ProgramFault::Run(RunFault::Write));
@@ -78,10 +92,25 @@ fn write_by(rt: &HostRuntime, words: &[&str]) -> ExitCode {
     let mut output = Noting::new(rt.stdout());
     let mut reader = StdReader::new(&mut input);
     let mut writer = BlockWriter::new(block, StdWriter::new(&mut output));
-    let end = run_words(rt.alloc(), words, &mut reader, &mut writer);
+    let end = if asks_guess(words) {
+        match guess(rt.alloc(), &mut reader, &mut writer) {
+            Ok(()) => Ok(()),
+            Err(fault) => Err(LinesFault::Program(ProgramFault::from(fault))),
+        }
+    } else {
+        run_words(rt.alloc(), words, &mut reader, &mut writer)
+    };
     drop(writer);
     drop(reader);
     ended(rt, end, output.failure().or(input.failure()))
+}
+
+// Whether the words ask which formats date the lines.
+fn asks_guess(words: &[&str]) -> bool {
+    match words {
+        [word] => *word == "guess",
+        _ => false,
+    }
 }
 
 // Says what ended the program early, if anything did, and ends it. A pipe whose reader has read enough is no news.

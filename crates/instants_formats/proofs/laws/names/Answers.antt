@@ -10,3 +10,7 @@ returns-clause-distinct c = refl
 pub returns-clause-free : goal.returns-clause-free
 unfolding table
 returns-clause-free c = refl
+
+pub returns-clause-languages : goal.returns-clause-languages
+unfolding table
+returns-clause-languages c = refl

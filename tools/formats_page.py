@@ -1,0 +1,88 @@
+#!/usr/bin/env python3
+"""Writes the tables of dates inside lines of docs/FORMATS.md from the table of formats that have a name.
+
+    tools/formats_page.py            writes them
+    tools/formats_page.py --check    says whether they are as they would be written, with status 1 where they are not
+
+Above each entry of crates/instants_formats/src/table.rt stand the programs that write the format, a line, and the key of that
+line. One table has for each format the arguments with its name; the other has the language and the description that the name
+stands for. `\\t` in a line is a tab.
+"""
+
+import pathlib
+import re
+import sys
+
+ROOT = pathlib.Path(__file__).resolve().parent.parent
+PAGE = ROOT / "docs" / "FORMATS.md"
+TABLE = ROOT / "crates" / "instants_formats" / "src" / "table.rt"
+BEGINS, ENDS = "<!-- tools/formats_page.py begins -->", "<!-- tools/formats_page.py ends -->"
+ENTRY = re.compile(
+    r"((?:    // [^\n]*\n)+)    Format \{\n"
+    r'        name: "([^"]*)",\n'
+    r'        language: "([^"]*)",\n'
+    r'        description: "((?:[^"\\]|\\.)*)",\n'
+    r"        lacks: Lacking::(\w+),\n"
+    r"    \},\n"
+)
+# The arguments before the name, where lines lack something.
+GIVEN = {
+    "Nothing": "",
+    "Offset": "+00:00 +00:00 ",
+    "YearAndOffset": "+00:00 +00:00 year 2024 ",
+    "TimeAndOffset": "+00:00 +00:00 time 00:00 ",
+}
+# What lines lack, in words.
+LACKING = {
+    "Nothing": "",
+    "Offset": "the offset",
+    "YearAndOffset": "the year and the offset",
+    "TimeAndOffset": "the time of day and the offset",
+}
+
+
+def entries():
+    """Returns of each format its programs, a line, its key, its name, its language, its description, and what its lines lack."""
+    text = TABLE.read_text()
+    found = ENTRY.findall(text)
+    if len(found) != text.count("    Format {"):
+        sys.exit(f"{TABLE.name}: an entry has another form")
+    for comment, name, language, description, lacks in found:
+        lines = [line.removeprefix("    // ") for line in comment.splitlines()]
+        key, line = lines.pop().strip(), lines.pop().removeprefix("    ")
+        description = re.sub(r"\\(.)", r"\1", description)
+        yield " ".join(lines).removesuffix("."), line, key, name, language, description, lacks
+
+
+def cell(text):
+    """Returns a text as code in a cell of a table."""
+    return "`" + text.replace("|", "\\|") + "`"
+
+
+def tables():
+    """Returns the two tables."""
+    by_line = ["| format | arguments | line | key |", "|---|---|---|---|"]
+    by_name = ["| name | language and description | what its lines do not say |", "|---|---|---|"]
+    for programs, line, key, name, language, description, lacks in entries():
+        by_line.append(f"| {programs} | {cell(GIVEN[lacks] + name)} | {cell(line)} | {cell(key)} |")
+        words = f"{language} '{description}'"
+        by_name.append(f"| {cell(name)} | {cell(words)} | {LACKING[lacks]} |")
+    return "\n".join(by_line) + "\n\nA name is the same as the two words that it stands for:\n\n" + "\n".join(by_name) + "\n"
+
+
+def main(words):
+    text = PAGE.read_text()
+    if text.count(BEGINS) != 1 or text.count(ENDS) != 1:
+        sys.exit(f"{PAGE.name}: there is no place for the tables")
+    before, rest = text.split(BEGINS)
+    new = f"{before}{BEGINS}\n\n{tables()}\n{ENDS}{rest.split(ENDS)[1]}"
+    if words == ["--check"]:
+        if new != text:
+            print("docs/FORMATS.md is not as tools/formats_page.py writes it")
+        return new != text
+    PAGE.write_text(new)
+    return 0
+
+
+if __name__ == "__main__":
+    sys.exit(main(sys.argv[1:]))
