@@ -69,7 +69,6 @@ MODULES = {
     "instants::laws": ("instants_laws/src/lines.rt", "instants_laws/src/moments.rt", "instants_answers/src/laws.rt", "instants_stream/src/laws.rt"),
     "instants_formats::laws": ("instants_formats/src/laws.rt",),
     "instants_found::laws": ("instants_found/src/laws.rt",),
-    "instants_formats::laws": ("instants_formats/src/laws.rt",),
     "instants_lines_words::laws": ("instants_lines_words/src/laws.rt",),
     "instants_lines::laws": ("instants_lines/src/laws.rt",),
     "instants_memory::laws": ("instants_memory/src/laws.rt",),

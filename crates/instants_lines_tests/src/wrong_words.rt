@@ -40,27 +40,27 @@ static ROWS: [(&str, &str); 74] = [
     ),
     (
         "key",
-        "no source is named; there are rfc3339, rfc2822, iso8601, v1, v2, v3, strftime",
+        "no source is named; there are rfc3339, rfc2822, iso8601, v1, v2, v3, strftime, and the names of --help",
     ),
     (
         "key|+00:00",
-        "no source is named; there are rfc3339, rfc2822, iso8601, v1, v2, v3, strftime",
+        "no source is named; there are rfc3339, rfc2822, iso8601, v1, v2, v3, strftime, and the names of --help",
     ),
     (
         "key|+00:00|-",
-        "no source is named; there are rfc3339, rfc2822, iso8601, v1, v2, v3, strftime",
+        "no source is named; there are rfc3339, rfc2822, iso8601, v1, v2, v3, strftime, and the names of --help",
     ),
     (
         "key|+00:00|-|100",
-        "no source is named; there are rfc3339, rfc2822, iso8601, v1, v2, v3, strftime",
+        "no source is named; there are rfc3339, rfc2822, iso8601, v1, v2, v3, strftime, and the names of --help",
     ),
     (
         "carry|Z",
-        "no source is named; there are rfc3339, rfc2822, iso8601, v1, v2, v3, strftime",
+        "no source is named; there are rfc3339, rfc2822, iso8601, v1, v2, v3, strftime, and the names of --help",
     ),
     (
         "carry|UTC|UTC",
-        "no source is named; there are rfc3339, rfc2822, iso8601, v1, v2, v3, strftime",
+        "no source is named; there are rfc3339, rfc2822, iso8601, v1, v2, v3, strftime, and the names of --help",
     ),
     (
         "key|+24:00|-|100|rfc3339",
@@ -164,15 +164,15 @@ static ROWS: [(&str, &str); 74] = [
     ),
     (
         "key|year",
-        "no source is named; there are rfc3339, rfc2822, iso8601, v1, v2, v3, strftime",
+        "no source is named; there are rfc3339, rfc2822, iso8601, v1, v2, v3, strftime, and the names of --help",
     ),
     (
         "key|year|24x",
-        "no source is named; there are rfc3339, rfc2822, iso8601, v1, v2, v3, strftime",
+        "no source is named; there are rfc3339, rfc2822, iso8601, v1, v2, v3, strftime, and the names of --help",
     ),
     (
         "key|year|2024|time|12:30",
-        "no source is named; there are rfc3339, rfc2822, iso8601, v1, v2, v3, strftime",
+        "no source is named; there are rfc3339, rfc2822, iso8601, v1, v2, v3, strftime, and the names of --help",
     ),
     (
         "key|time|12:30|year|2024|rfc3339",
@@ -268,7 +268,7 @@ static ROWS: [(&str, &str); 74] = [
     ),
     (
         "key|label|web",
-        "no source is named; there are rfc3339, rfc2822, iso8601, v1, v2, v3, strftime",
+        "no source is named; there are rfc3339, rfc2822, iso8601, v1, v2, v3, strftime, and the names of --help",
     ),
     (
         "key|mysql|strftime",
@@ -291,7 +291,7 @@ static ROWS: [(&str, &str); 74] = [
         "source 1 names no moment: it has no year",
     ),
     (
-        "key|+00:00|+00:00|100|year|2024|strftime|%y/%m/%d %T",
+        "key|+00:00|+00:00|100|strftime|%y/%m/%d %T",
         "source 1 names no moment: it has no century",
     ),
     (
