@@ -56,7 +56,17 @@ fn with_others(
     finding(longest)
 }
 
-// What all sources find at a place. Where the last one alone reads a date, nothing is compared.
+// The sources from a number on.
+#[inline(always)]
+#[tactic(auto, using(std::proofs::lemmas::List::take_rest))]
+fn sources_from<'s, 'a>(sources: &'s [DateSource<'a>], number: usize) -> &'s [DateSource<'a>]
+    requires { number ≤ length sources.now }
+    ensures { result.now ≡ drop number sources.now }
+{
+    &sources[number..]
+}
+
+// What all sources find at a place. Where none after the first that reads a date may read one, nothing is compared.
 #[inline(always)]
 fn by_sources(
     sources: &[DateSource<'_>],
@@ -82,7 +92,7 @@ fn by_sources(
             continue;
         }
         let is_whole = stands_whole(source, given, line, start, &front);
-        if number + 1 < sources.len() {
+        if may_read(sources_from(sources, number + 1), bytes) {
             return Some(with_others(sources, given, line, start, number, front, is_whole));
         }
         if !is_whole {
