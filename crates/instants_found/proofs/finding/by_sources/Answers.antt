@@ -36,8 +36,8 @@ loop-number-preserved c =
     let none = none_there given line start c.loop-number.number (grammar_in source) (refused given line start (grammar_in source) front (rw c.after-bytes.ensures at c.in-Some.ensures.front) (sym c.is_read.ensures ∙ c.if-not-is_read.true)) in
     none_read given line start c.args.sources.now c.loop-number.number source (omega arith) c.index-sources-number.is c.loop-number.invariant none
 
-pub returns-then-may_read-clause-found : goal.returns-then-may_read-clause-found
-returns-then-may_read-clause-found c =
+pub returns-then-others_may_read-clause-found : goal.returns-then-others_may_read-clause-found
+returns-then-others_may_read-clause-found c =
     let given = c.args.given.now in
     let line = c.args.line.now in
     let start = c.args.start in
@@ -60,7 +60,7 @@ returns-then-not-is_whole-clause-found c =
     let front = c.in-Some.front in
     let one = as_candidate given line start number (grammar_in source) front in
     let there = some_there given line start number (grammar_in source) front (accepted given line start (grammar_in source) front (rw c.after-bytes.ensures at c.in-Some.ensures.front) (sym c.is_read.ensures ∙ c.if-not-is_read.false)) in
-    let others = no_candidates given line start (number + 1) (map grammar_in (drop (number + 1) c.args.sources.now)) (rw (c.sources_from.ensures, c.after-bytes.ensures) at (c.may_read.ensures c.if-may_read.false)) in
+    let others = no_candidates given line start (number + 1) (map grammar_in (drop (number + 1) c.args.sources.now)) (rw c.after-bytes.ensures at (c.others_may_read.ensures c.if-others_may_read.false)) in
     let whole : stands_whole given (grammar_in source) line start front ≡ false = sym c.stands_whole-is_whole.ensures ∙ c.if-not-is_whole.true in
     ap (λ (b : Bool). Some (finding (if b then Some one else None))) (sym whole) ∙ sym (last_read given line start c.args.sources.now number source (omega arith) c.index-sources-number.is one others c.loop-number.invariant there)
 
@@ -74,7 +74,7 @@ returns-in-loop-number-clause-found c =
     let front = c.in-Some.front in
     let one = as_candidate given line start number (grammar_in source) front in
     let there = some_there given line start number (grammar_in source) front (accepted given line start (grammar_in source) front (rw c.after-bytes.ensures at c.in-Some.ensures.front) (sym c.is_read.ensures ∙ c.if-not-is_read.false)) in
-    let others = no_candidates given line start (number + 1) (map grammar_in (drop (number + 1) c.args.sources.now)) (rw (c.sources_from.ensures, c.after-bytes.ensures) at (c.may_read.ensures c.if-may_read.false)) in
+    let others = no_candidates given line start (number + 1) (map grammar_in (drop (number + 1) c.args.sources.now)) (rw c.after-bytes.ensures at (c.others_may_read.ensures c.if-others_may_read.false)) in
     let whole : stands_whole given (grammar_in source) line start front ≡ true = sym c.stands_whole-is_whole.ensures ∙ c.if-not-is_whole.false in
     ap (λ (d : Found). Some (There d)) c.found_at.ensures
     ∙ ap (λ (b : Bool). Some (finding (if b then Some one else None))) (sym whole) ∙ sym (last_read given line start c.args.sources.now number source (omega arith) c.index-sources-number.is one others c.loop-number.invariant there)
