@@ -21,7 +21,7 @@ pub no_candidate : (given : Given) (line : List ℕ) (start number : ℕ) (gramm
 unfolding candidate front_at
 no_candidate given line start number grammar none = rw (none given) refl
 
-no_candidates : (given : Given) (line : List ℕ) (start number : ℕ) (sources : List Grammar) → All (HasNoFront (drop start line)) sources → candidates given line start number sources ≡ []
+pub no_candidates : (given : Given) (line : List ℕ) (start number : ℕ) (sources : List Grammar) → All (HasNoFront (drop start line)) sources → candidates given line start number sources ≡ []
 unfolding candidates
 no_candidates given line start number [] none = refl
 no_candidates given line start number (grammar ∷ others) none =

@@ -98,11 +98,10 @@ module _ (given : Given) (line : List ℕ) (start : ℕ) (sources : List DateSou
       let step = rw (← e) at (source_step given line start sources number source within is) in
       rw (sym give ∙ step) refl
 
-  pub last_read : (one : Candidate) → length sources ≤ number + 1 → GiveAll given line start sources number → Some one ≡ candidate given line start number (grammar_in source)
+  pub last_read : (one : Candidate) → from_number given line start sources (number + 1) ≡ [] → GiveAll given line start sources number → Some one ≡ candidate given line start number (grammar_in source)
       → of_candidates (candidates given line start 0 (map grammar_in sources)) ≡ Some (finding (if one.is_whole then Some one else None))
   unfolding longest
-  last_read one past give e =
-      let none = no_sources given line start sources (number + 1) past in
+  last_read one none give e =
       first_read one give e ∙ ap (λ (others : List Candidate). Some (finding (longest (one ∷ others)))) none
 
 pub no_read : (given : Given) (line : List ℕ) (start : ℕ) (sources : List DateSource) (number : ℕ) → length sources ≤ number → GiveAll given line start sources number → None ≡ of_candidates (candidates given line start 0 (map grammar_in sources))

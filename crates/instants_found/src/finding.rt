@@ -56,7 +56,37 @@ fn with_others(
     finding(longest)
 }
 
-// What all sources find at a place. Where the last one alone reads a date, nothing is compared.
+// The sources from a number on.
+#[inline(always)]
+#[tactic(auto, using(std::proofs::lemmas::List::take_rest))]
+fn sources_from<'s, 'a>(sources: &'s [DateSource<'a>], number: usize) -> &'s [DateSource<'a>]
+    requires { number ≤ length sources.now }
+    ensures { result.now ≡ drop number sources.now }
+{
+    &sources[number..]
+}
+
+// Whether the bytes may have a front that one of these sources reads. Few places have a second one, so it is a call of its own.
+#[inline(never)]
+fn some_may_read(sources: &[DateSource<'_>], bytes: &[u8]) -> bool
+    ensures { result ≡ false → All (HasNoFront bytes.now) (map grammar_in sources.now) }
+{
+    may_read(sources, bytes)
+}
+
+// The same of the sources from a number on.
+#[inline(always)]
+fn others_may_read(sources: &[DateSource<'_>], number: usize, bytes: &[u8]) -> bool
+    requires { number ≤ length sources.now }
+    ensures { result ≡ false → All (HasNoFront bytes.now) (map grammar_in (drop number sources.now)) }
+{
+    if number == sources.len() {
+        return false;
+    }
+    some_may_read(sources_from(sources, number), bytes)
+}
+
+// What all sources find at a place. Where none after the first that reads a date may read one, nothing is compared.
 #[inline(always)]
 fn by_sources(
     sources: &[DateSource<'_>],
@@ -82,7 +112,7 @@ fn by_sources(
             continue;
         }
         let is_whole = stands_whole(source, given, line, start, &front);
-        if number + 1 < sources.len() {
+        if others_may_read(sources, number + 1, bytes) {
             return Some(with_others(sources, given, line, start, number, front, is_whole));
         }
         if !is_whole {

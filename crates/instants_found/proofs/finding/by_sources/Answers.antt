@@ -1,4 +1,4 @@
-use Rattle.std.proofs.Common.{◌≡◌, ◌+◌, ◌∷◌, Bool, true, false, Some, None, sym, ap, ◌∙◌, arith}
+use Rattle.std.proofs.Common.{map, drop, ◌≡◌, ◌+◌, ◌∷◌, Bool, true, false, Some, None, sym, ap, ◌∙◌, arith}
 use Rattle.std.specs.Prelude.{if◌then◌else◌}
 use Rattle.instants_fronts.specs.DateSource.{grammar_in}
 use Rattle.instants_found.specs.Beside.{stands_whole}
@@ -6,7 +6,7 @@ use Rattle.instants_found.specs.Candidate.{as_candidate, candidate_with, longest
 use Rattle.instants_found.specs.Found.{finding}
 use Rattle.instants_found.specs.declared.found.Found.{Found}
 use Rattle.instants_found.specs.declared.found.Finding.TheVariants.{There}
-use Rattle.instants_found.proofs.NoDates.{no_candidate}
+use Rattle.instants_found.proofs.NoDates.{no_candidate, no_candidates}
 use Rattle.instants_found.proofs.ReadAt.{none_there, some_there, unread, refused, accepted}
 use Rattle.instants_found.proofs.Steps.{from_number, none_read, first_read, last_read, no_read}
 use Rattle.instants_found.proofs.finding.by_sources.Goals as goal
@@ -36,8 +36,8 @@ loop-number-preserved c =
     let none = none_there given line start c.loop-number.number (grammar_in source) (refused given line start (grammar_in source) front (rw c.after-bytes.ensures at c.in-Some.ensures.front) (sym c.is_read.ensures ∙ c.if-not-is_read.true)) in
     none_read given line start c.args.sources.now c.loop-number.number source (omega arith) c.index-sources-number.is c.loop-number.invariant none
 
-pub returns-then-number-sources-clause-found : goal.returns-then-number-sources-clause-found
-returns-then-number-sources-clause-found c =
+pub returns-then-others_may_read-clause-found : goal.returns-then-others_may_read-clause-found
+returns-then-others_may_read-clause-found c =
     let given = c.args.given.now in
     let line = c.args.line.now in
     let start = c.args.start in
@@ -60,8 +60,9 @@ returns-then-not-is_whole-clause-found c =
     let front = c.in-Some.front in
     let one = as_candidate given line start number (grammar_in source) front in
     let there = some_there given line start number (grammar_in source) front (accepted given line start (grammar_in source) front (rw c.after-bytes.ensures at c.in-Some.ensures.front) (sym c.is_read.ensures ∙ c.if-not-is_read.false)) in
+    let others = no_candidates given line start (number + 1) (map grammar_in (drop (number + 1) c.args.sources.now)) (rw c.after-bytes.ensures at (c.others_may_read.ensures c.if-others_may_read.false)) in
     let whole : stands_whole given (grammar_in source) line start front ≡ false = sym c.stands_whole-is_whole.ensures ∙ c.if-not-is_whole.true in
-    ap (λ (b : Bool). Some (finding (if b then Some one else None))) (sym whole) ∙ sym (last_read given line start c.args.sources.now number source (omega arith) c.index-sources-number.is one (omega arith) c.loop-number.invariant there)
+    ap (λ (b : Bool). Some (finding (if b then Some one else None))) (sym whole) ∙ sym (last_read given line start c.args.sources.now number source (omega arith) c.index-sources-number.is one others c.loop-number.invariant there)
 
 pub returns-in-loop-number-clause-found : goal.returns-in-loop-number-clause-found
 returns-in-loop-number-clause-found c =
@@ -73,9 +74,10 @@ returns-in-loop-number-clause-found c =
     let front = c.in-Some.front in
     let one = as_candidate given line start number (grammar_in source) front in
     let there = some_there given line start number (grammar_in source) front (accepted given line start (grammar_in source) front (rw c.after-bytes.ensures at c.in-Some.ensures.front) (sym c.is_read.ensures ∙ c.if-not-is_read.false)) in
+    let others = no_candidates given line start (number + 1) (map grammar_in (drop (number + 1) c.args.sources.now)) (rw c.after-bytes.ensures at (c.others_may_read.ensures c.if-others_may_read.false)) in
     let whole : stands_whole given (grammar_in source) line start front ≡ true = sym c.stands_whole-is_whole.ensures ∙ c.if-not-is_whole.false in
     ap (λ (d : Found). Some (There d)) c.found_at.ensures
-    ∙ ap (λ (b : Bool). Some (finding (if b then Some one else None))) (sym whole) ∙ sym (last_read given line start c.args.sources.now number source (omega arith) c.index-sources-number.is one (omega arith) c.loop-number.invariant there)
+    ∙ ap (λ (b : Bool). Some (finding (if b then Some one else None))) (sym whole) ∙ sym (last_read given line start c.args.sources.now number source (omega arith) c.index-sources-number.is one others c.loop-number.invariant there)
 
 pub returns-clause-found : goal.returns-clause-found
 returns-clause-found c = no_read c.args.given.now c.args.line.now c.args.start c.args.sources.now c.loop-number.number (omega arith) c.loop-number.invariant
