@@ -22,9 +22,7 @@ use calendar::UtcOffset;
 use instants_fronts::{Given, Years};
 use instants_lines_words::{Asked, Mode, read_mode_words};
 use instants_stream::write_lines;
-use instants_timeline::{
-    ByteReader, ByteWriter, RunFault, RunsLines, asked_timeline, run_program,
-};
+use instants_timeline::{ByteReader, ByteWriter, RunFault, RunsLines, asked_timeline, run_program};
 use std::alloc::Global;
 
 // What writes for the lines of a stream as words ask.

@@ -47,18 +47,15 @@ static ROWS: [(&str, &[u8], &[u8]); 5] = [
 static IN_FULL: [(&str, &str); 5] = [
     ("key|rfc3339", "key|+00:00|-|1048576|rfc3339"),
     (
-        "carry|UTC|strftime|rfc3339",
-        "carry|+00:00|-|1048576|strftime|rfc3339",
+        "carry|UTC|strftime|%s",
+        "carry|+00:00|-|1048576|strftime|%s",
     ),
     ("key|+05:30|Z|iso8601", "key|+05:30|+00:00|1048576|iso8601"),
     (
         "replace|Z|UTC|40|iso8601|rfc3339",
         "replace|+00:00|+00:00|40|iso8601|rfc3339",
     ),
-    (
-        "explain|v2|Z|rfc3339",
-        "explain|+00:00|-|1048576|v2|Z|rfc3339",
-    ),
+    ("locate|rfc3339", "locate|+00:00|-|1048576|rfc3339"),
 ];
 
 const LINES: &[u8] = b"at 2021-01-02T04:04:05\n at 2021-01-02T03:04:05Z.\nrfc3339\nZ";

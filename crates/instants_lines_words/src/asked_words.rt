@@ -89,7 +89,9 @@ fn has_label(mode: Mode) -> bool
 fn is_field(word: &str) -> bool
     ensures { result ≡ is_field word.now }
 {
-    word.as_bytes().iter().all(|byte| *byte != b'\t' && *byte != b'\n')
+    word.as_bytes()
+        .iter()
+        .all(|byte| *byte != b'\t' && *byte != b'\n')
 }
 
 // The label that a word says, where there is one.

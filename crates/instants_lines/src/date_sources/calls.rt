@@ -16,9 +16,9 @@ ghost use Rattle.instants_found.specs.Doubts.{doubt_of};
 ghost use Rattle.instants_lines.specs.Showing.{limit_in, search_in, setting_in};
 
 use crate::date_sources::DateSources;
+use crate::lacking::Lacking;
 use datetime_types::OffsetDateTime;
 use instants_answers::Answer;
-use crate::lacking::Lacking;
 use instants_found::{Doubted, Finder, Finding};
 use instants_fronts::{DateSource, Given};
 use instants_sources::Named;

@@ -123,7 +123,55 @@ impl<'a, 'b> LineWriter<'a, 'b> {
         }
     }
 
-    // Writes a line behind its key and a tab, where no date begins before a place. A call of its own, so that lines in which
+    // Writes a line after the key of its date. The key is made where it is written from.
+    #[inline(always)]
+    fn write_dated<W: ByteWriter>(
+        &mut self,
+        date: &Found,
+        line: &[u8],
+        writer: &mut W,
+    ) -> Result<(), DeviceFailed>
+        requires works { W.failed writer.old ≡ false }
+        requires found { date_in (going_of self.old).search line.now ≡ Some (There date.now) }
+        ensures written { OnOk result (Appends (W.held writer.old) (W.held writer.new)
+            (keyed (going_of self.old) line.now ++ line_feed ∷ [])) }
+        ensures next { OnOk result (going_of self.new ≡ below (going_of self.old) line.now) }
+        ensures ok { OnOk result (W.failed writer.new ≡ W.failed writer.old) }
+        ensures front { OnErr result (AppendsFront (W.held writer.old) (W.held writer.new)
+            (keyed (going_of self.old) line.now ++ line_feed ∷ [])) }
+        ensures err { OnErr result (W.failed writer.new ≡ true) }
+    {
+        let label = self.label;
+        let key = self.dates.answer_named(&date.moment);
+        self.keep_year(date);
+        self.keep(key);
+        write_behind(writer, &key, label, line)
+    }
+
+    // Writes a line after the key that it takes by what is found in it.
+    #[cold]
+    #[inline(never)]
+    fn write_by<W: ByteWriter>(
+        &mut self,
+        finding: Option<Finding>,
+        line: &[u8],
+        writer: &mut W,
+    ) -> Result<(), DeviceFailed>
+        requires works { W.failed writer.old ≡ false }
+        requires found { finding ≡ date_in (going_of self.old).search line.now }
+        ensures written { OnOk result (Appends (W.held writer.old) (W.held writer.new)
+            (keyed (going_of self.old) line.now ++ line_feed ∷ [])) }
+        ensures next { OnOk result (going_of self.new ≡ below (going_of self.old) line.now) }
+        ensures ok { OnOk result (W.failed writer.new ≡ W.failed writer.old) }
+        ensures front { OnErr result (AppendsFront (W.held writer.old) (W.held writer.new)
+            (keyed (going_of self.old) line.now ++ line_feed ∷ [])) }
+        ensures err { OnErr result (W.failed writer.new ≡ true) }
+    {
+        let key = self.take_key(line, finding);
+        write_behind(writer, &key, self.label, line)
+    }
+
+    // Writes a line after its key and a tab, where no date begins before a place. A call of its own, so that lines in which
     // none can begin make no room for a date and an answer.
     #[inline(never)]
     fn write_from<W: ByteWriter>(
@@ -144,11 +192,13 @@ impl<'a, 'b> LineWriter<'a, 'b> {
         ensures err { OnErr result (W.failed writer.new ≡ true) }
     {
         let finding = self.dates.date_from(&self.given, line, first);
-        let key = self.take_key(line, finding);
-        write_behind(writer, &key, self.label, line)
+        if let Some(Finding::There(date)) = &finding {
+            return self.write_dated(date, line, writer);
+        }
+        self.write_by(finding, line, writer)
     }
 
-    /// Writes a line behind its key and a tab, and a line feed.
+    /// Writes a line after its key and a tab, and a line feed.
     #[tactic(auto, using(crate::proofs::Keyed::undated, crate::proofs::Keyed::below_undated))]
     pub(crate) fn write_keyed<W: ByteWriter>(
         &mut self,

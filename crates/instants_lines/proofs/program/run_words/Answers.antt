@@ -41,10 +41,13 @@ returns-in_err-run_program-clause-ran g c =
     let p = err_from_is_err_and c.from_residual-in_err-run_program.result c.from_residual-in_err-run_program.ensures.1 in
     let asked = asked_for g at in
     let Q : Result (Unit {0}) RunFault → Type 0 = λ ended. (one : Going) × AsksFor (map (λ word. word.now) c.args.words.now) one
-        × RanAndFlushed (writing one) g.R.ByteReader c.args.reader.now c.run_program.new.reader g.W.ByteWriter c.args.writer.now c.run_program.new.writer ended in
-    rw (p.1, p.2) (ended_so _ Q (λ ended ran.
-      (_, asked, written_so (asking_of c.in_ok-asked.asked) (setting_of c.in_ok-timeline.timeline) c.in_ok-timeline.limit
-      (λ w. RanAndFlushed w g.R.ByteReader c.args.reader.now c.run_program.new.reader g.W.ByteWriter c.args.writer.now c.run_program.new.writer ended) _ (searched g at) ran)) _ c.in_err-run_program.ensures.ran)
+    × RanAndFlushed (writing one) g.R.ByteReader c.args.reader.now c.run_program.new.reader g.W.ByteWriter c.args.writer.now c.run_program.new.writer ended in
+    rw (p.1, p.2) (ended_so _ Q (λ ended ran. (
+      _,
+      asked,
+      written_so (asking_of c.in_ok-asked.asked) (setting_of c.in_ok-timeline.timeline) c.in_ok-timeline.limit
+          (λ w. RanAndFlushed w g.R.ByteReader c.args.reader.now c.run_program.new.reader g.W.ByteWriter c.args.writer.now c.run_program.new.writer ended) _ (searched g at) ran,
+    )) _ c.in_err-run_program.ensures.ran)
 
 pub returns-in_err-run_program-clause-names : goal.returns-in_err-run_program-clause-names
 returns-in_err-run_program-clause-names g c =
@@ -56,9 +59,12 @@ returns-in_err-run_program-clause-names g c =
 
 pub returns-clause-ran : goal.returns-clause-ran
 returns-clause-ran g c =
-    let at = (goal.at.returns-clause-ran g c).In_ok-dates in
-    (_, asked_for g at, written_so (asking_of c.in_ok-asked.asked) (setting_of c.in_ok-timeline.timeline) c.in_ok-timeline.limit
-    (λ w. IsThrough w g.R.ByteReader c.args.reader.now c.run_program.new.reader g.W.ByteWriter c.args.writer.now c.run_program.new.writer) _ (searched g at) c.in_ok-run_program.ensures.ran)
+    let at = (goal.at.returns-clause-ran g c).In_ok-dates in (
+      _,
+      asked_for g at,
+      written_so (asking_of c.in_ok-asked.asked) (setting_of c.in_ok-timeline.timeline) c.in_ok-timeline.limit
+          (λ w. IsThrough w g.R.ByteReader c.args.reader.now c.run_program.new.reader g.W.ByteWriter c.args.writer.now c.run_program.new.writer) _ (searched g at) c.in_ok-run_program.ensures.ran,
+    )
 
 pub returns-clause-names : goal.returns-clause-names
 returns-clause-names g c =

@@ -55,7 +55,7 @@ returns-clause-front c =
     let are : AreContents (Items items) contents = subst P is c.args.self.now.has in
     let named = planned_named given items c.args.bytes.now text c.near-text.ensures contents c.assumed.result rest (moment_of c.in-Some.fields) are c.if-self.false c.assumed.ensures c.in-Some.ensures.front in
     let made : Some c.front_of_nodes.result ≡ Some (with_lengths text (moment_of c.in-Some.fields) rest (lengths_by reads_component text items)) =
-        ap Some (c.front_of_nodes.ensures ∙ ap (λ (m : Shown). with_lengths text m rest (lengths_by reads_component text (trees c.items.result.now))) c.of_fields-moment.ensures ∙ ap (λ (xs : List BorrowedFormatItem). with_lengths text (moment_of c.in-Some.fields) rest (lengths_by reads_component text (trees xs))) c.items.ensures) in
+    ap Some (c.front_of_nodes.ensures ∙ ap (λ (m : Shown). with_lengths text m rest (lengths_by reads_component text (trees c.items.result.now))) c.of_fields-moment.ensures ∙ ap (λ (xs : List BorrowedFormatItem). with_lengths text (moment_of c.in-Some.fields) rest (lengths_by reads_component text (trees xs))) c.items.ensures) in
     let At : Grammar → Type 0 = λ g. Some c.front_of_nodes.result ≡ front_at given g c.args.bytes.now in
     subst At (sym is) (made ∙ planned_at given items c.args.bytes.now text c.near-text.ensures rest (moment_of c.in-Some.fields) named)
 

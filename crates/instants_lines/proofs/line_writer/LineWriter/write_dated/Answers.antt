@@ -1,0 +1,38 @@
+use Rattle.std.proofs.Common.{◌≡◌, ℕ, List, [], ◌∷◌, ◌++◌, Some, sym, ap, ◌∙◌}
+use Rattle.base.specs.Bytes.{tab, line_feed}
+use Rattle.instants_found.specs.declared.found.Finding.TheVariants.{There}
+use Rattle.instants_stream.proofs.Gathering.{OnOk-map}
+use Rattle.instants_lines.specs.Going.{Going, given_below, key_below, key_of_line, keyed, label_front}
+use Rattle.instants_lines.specs.Writing.{going_of}
+use Rattle.instants_lines.proofs.Keyed.{dated, below_found}
+use Rattle.instants_lines.proofs.line_writer.LineWriter.write_dated.Goals as goal
+
+pub returns-clause-written : goal.returns-clause-written
+returns-clause-written g c =
+    let old = going_of c.args.self.now in
+    let line = c.args.line.now in
+    let key : c.answer_named-key.result ≡ key_of_line old line = dated old line c.args.date.now c.answer_named-key.result (sym c.requires.found) c.answer_named-key.ensures.bytes in
+    let text : (c.answer_named-key.result ++ tab ∷ (label_front old.label ++ line)) ++ line_feed ∷ [] ≡ keyed old line ++ line_feed ∷ [] = ap (λ (k : List ℕ). (k ++ tab ∷ (label_front old.label ++ line)) ++ line_feed ∷ []) key in
+    rw (← text) c.write_behind.ensures.written
+
+pub returns-clause-front : goal.returns-clause-front
+returns-clause-front g c =
+    let old = going_of c.args.self.now in
+    let line = c.args.line.now in
+    let key : c.answer_named-key.result ≡ key_of_line old line = dated old line c.args.date.now c.answer_named-key.result (sym c.requires.found) c.answer_named-key.ensures.bytes in
+    let text : (c.answer_named-key.result ++ tab ∷ (label_front old.label ++ line)) ++ line_feed ∷ [] ≡ keyed old line ++ line_feed ∷ [] = ap (λ (k : List ℕ). (k ++ tab ∷ (label_front old.label ++ line)) ++ line_feed ∷ []) key in
+    rw (← text) c.write_behind.ensures.front
+
+pub returns-clause-next : goal.returns-clause-next
+returns-clause-next g c =
+    let old = going_of c.args.self.now in
+    let line = c.args.line.now in
+    let date = c.args.date.now in
+    let found = sym c.requires.found in
+    let key : c.answer_named-key.result ≡ key_of_line old line = dated old line date c.answer_named-key.result found c.answer_named-key.ensures.bytes in
+    let next =
+    c.keep.ensures
+    ∙ ap (λ (g : Going). record g { key = key_below g.mode g.key c.answer_named-key.result }) c.keep_year.ensures
+    ∙ ap (λ (k : List ℕ). record old { search = record old.search { given = given_below old.search.given (Some (There date)) }; key = key_below old.mode old.key k }) key
+    ∙ below_found old line (Some (There date)) found in
+    OnOk-map c.write_behind.result (λ _. next) c.write_behind.ensures.ok
