@@ -3,12 +3,12 @@
 
     tools/try_wrong_words.py [PROGRAM]    crates/instants_lines_program/out/instants_lines_program where none is named
 
-The table of wrong arguments is a test of the gate (crates/instants_tests/src/wrong_words.rt); here is what only a process shows:
+The table of wrong arguments is a test of the gate (crates/instants_lines_tests/src/wrong_words.rt); here is what only a process shows:
 
 - each kind of wrong argument by one row, with status 2 and nothing on standard output;
 - an input that can't be read and an output that is full are told with their reason, with status 1;
 - a pipe whose reader has ended is no news: status 1, and nothing on standard error;
-- a description that names no component is warned of, and the run goes on with status 0;
+- a description that names no component is warned of, before it is refused with status 2;
 - `--help`, `-h` and `--version` alone are answered on standard output with status 0, as ./instants-lines answers them.
 
 The last line counts what passed; the status is 1 where anything failed.
@@ -21,11 +21,11 @@ import sys
 
 ROOT = pathlib.Path(__file__).resolve().parent.parent
 PROGRAM = ROOT / "crates" / "instants_lines_program" / "out" / "instants_lines_program"
-SOURCES = "rfc3339, rfc2822, iso8601, v1, v2, v3, strftime"
+SOURCES = "rfc3339, rfc2822, iso8601, v1, v2, v3, strftime, and the names of --help"
 # Arguments, and the sentence behind the program's name.
 ROWS = (
-    ("", "usage: instants-lines MODE [TARGET [ASSUMED [LIMIT]]] [year N] [time HH:MM] SOURCE..."),
-    ("keys rfc3339", '"keys": no such mode; there are key, carry, replace, explain'),
+    ("", "usage: instants-lines MODE [TARGET [ASSUMED [LIMIT]]] [year N] [time HH:MM] [label TEXT] SOURCE..."),
+    ("keys rfc3339", '"keys": no such mode; there are key, carry, replace, explain, locate'),
     ("key", f"no source is named; there are {SOURCES}"),
     ("key +24:00 rfc3339", '"+24:00": no target offset; it must be +HH:MM, -HH:MM, Z or UTC'),
     ("key Z 7 rfc3339", '"7": no assumed offset; it must be +HH:MM, -HH:MM, Z, UTC or -'),
@@ -72,8 +72,8 @@ def try_devices(program):
     os.close(writes)
     tell("a closed pipe", (ran.returncode, ran.stderr) == (1, ""), ran.stderr)
     ran = call(program, ["key", "v3", "%F"], **how)
-    warning = 'instants-lines: warning: v3 "%F" names no component, as [year]\n'
-    tell("a description without components", (ran.returncode, ran.stdout, ran.stderr) == (0, "! none\tx\n", warning), ran.stderr)
+    said = 'instants-lines: warning: v3 "%F" names no component, as [year]\ninstants-lines: source 1 names no moment: it has no year\n'
+    tell("a description without components", (ran.returncode, ran.stdout, ran.stderr) == (2, "", said), ran.stderr)
 
 
 def try_texts(program):
