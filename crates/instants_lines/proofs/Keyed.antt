@@ -1,5 +1,6 @@
 -- The key of a line, and what is kept below it.
-use Rattle.std.proofs.Common.{◌≡◌, ℕ, List, Option, None, Some, Ok, refl, sym, ap, ◌∙◌}
+use Rattle.std.proofs.Common.{◌≡◌, ℕ, List, [], ◌∷◌, ◌++◌, Option, None, Some, Ok, refl, sym, ap, ◌∙◌, append_assoc}
+use Rattle.base.specs.Bytes.{tab, line_feed}
 use Rattle.instants_found.specs.declared.found.Found.{Found}
 use Rattle.instants_found.specs.declared.found.Finding.{Finding}
 use Rattle.instants_found.specs.declared.found.Finding.TheVariants.{Doubtful, There}
@@ -68,3 +69,12 @@ located_doubtful going line mode e = sym (below_here going line (Some Doubtful) 
 pub located_dated : (going : Going) (line : List ℕ) (date : Found) → going.mode ≡ Locate → date_in going.search line ≡ Some (There date)
     → record going { search = record going.search { given = given_below going.search.given (Some (There date)) } } ≡ below going line
 located_dated going line date mode e = below_here going line (Some (There date)) (locate_key going line mode) (sym e)
+
+-- ---- a key and the tab behind it are written as one part
+
+pub key_and_tab : (key tabbed label line : List ℕ) → tabbed ≡ key ++ tab ∷ [] → (key ++ tab ∷ (label ++ line)) ++ line_feed ∷ [] ≡ tabbed ++ (label ++ (line ++ line_feed ∷ []))
+key_and_tab key tabbed label line is =
+    append_assoc key (tab ∷ (label ++ line)) (line_feed ∷ [])
+    ∙ ap (λ (l : List ℕ). key ++ tab ∷ l) (append_assoc label line (line_feed ∷ []))
+    ∙ sym (append_assoc key (tab ∷ []) (label ++ (line ++ line_feed ∷ [])))
+    ∙ ap (λ (front : List ℕ). front ++ (label ++ (line ++ line_feed ∷ []))) (sym is)

@@ -172,7 +172,7 @@ impl<'a> Finder<'a> {
 
     // The first place from one on at which a date can begin, looked for by marks. The last sixteen places begin before the end of
     // those before them.
-    #[inline(never)]
+    #[inline(always)]
     fn by_blocks(&self, marks: &Marks, line: &[u8], from: usize) -> Option<usize>
         requires some { REACH ≤ length line.now }
         requires within { from ≤ length line.now }
@@ -233,7 +233,7 @@ impl<'a> Finder<'a> {
 
     /// The date of a line with what is given, where none begins before a place, as `find` finds it: `undated_len` gives such a
     /// place. The two calls are for a caller that makes room for a date only where one may begin.
-    #[inline(never)]
+    #[inline(always)]
     pub fn find_from(&self, given: &Given, line: &[u8], first: usize) -> Option<Finding>
         requires within { first < length line.now }
         requires passed { HasNoDate (sources_of self.now) line.now 0 first }

@@ -3,7 +3,7 @@ ghost use Rattle.std.specs.Prelude.{◌≡◌, ◌<◌, ◌≤◌, [], ◌∷◌
 ghost use Rattle.std.specs.Io.KnownBytes.{Appends};
 ghost use Rattle.base.specs.Bytes.{tab, line_feed};
 ghost use Rattle.instants_found.specs.Starts.{HasNoDate};
-ghost use Rattle.instants_found.specs.declared.found.Finding.TheVariants.{There};
+ghost use Rattle.instants_found.specs.declared.found.Finding.TheVariants.{Doubtful, There};
 ghost use Rattle.instants_stream.specs.Told.{AppendsFront};
 ghost use Rattle.instants_lines.specs.Showing.{search_in};
 ghost use Rattle.instants_lines.specs.Dates.{date_in, doubt, replaced};
@@ -123,7 +123,7 @@ impl<'a, 'b> LineWriter<'a, 'b> {
         }
     }
 
-    // Writes a line after the key of its date. The key is made where it is written from.
+    // Writes a line after the key of its date. The key is made where it is written from, with the tab behind it.
     #[inline(always)]
     fn write_dated<W: ByteWriter>(
         &mut self,
@@ -142,23 +142,23 @@ impl<'a, 'b> LineWriter<'a, 'b> {
         ensures err { OnErr result (W.failed writer.new ≡ true) }
     {
         let label = self.label;
-        let key = self.dates.answer_named(&date.moment);
+        let mut key = self.dates.answer_named(&date.moment);
         self.keep_year(date);
         self.keep(key);
-        write_behind(writer, &key, label, line)
+        key.push(b'\t');
+        write_after(writer, &key, label, line)
     }
 
-    // Writes a line after the key that it takes by what is found in it.
+    // Writes a line whose date is in doubt after the key that says so.
     #[cold]
     #[inline(never)]
-    fn write_by<W: ByteWriter>(
+    fn write_doubtful<W: ByteWriter>(
         &mut self,
-        finding: Option<Finding>,
         line: &[u8],
         writer: &mut W,
     ) -> Result<(), DeviceFailed>
         requires works { W.failed writer.old ≡ false }
-        requires found { finding ≡ date_in (going_of self.old).search line.now }
+        requires found { date_in (going_of self.old).search line.now ≡ Some Doubtful }
         ensures written { OnOk result (Appends (W.held writer.old) (W.held writer.new)
             (keyed (going_of self.old) line.now ++ line_feed ∷ [])) }
         ensures next { OnOk result (going_of self.new ≡ below (going_of self.old) line.now) }
@@ -167,13 +167,15 @@ impl<'a, 'b> LineWriter<'a, 'b> {
             (keyed (going_of self.old) line.now ++ line_feed ∷ [])) }
         ensures err { OnErr result (W.failed writer.new ≡ true) }
     {
-        let key = self.take_key(line, finding);
-        write_behind(writer, &key, self.label, line)
+        let label = self.label;
+        let key = self.take_key(line, Some(Finding::Doubtful));
+        write_behind(writer, &key, label, line)
     }
 
     // Writes a line after its key and a tab, where no date begins before a place. A call of its own, so that lines in which
     // none can begin make no room for a date and an answer.
     #[inline(never)]
+    #[tactic(auto, using(crate::proofs::Keyed::undated, crate::proofs::Keyed::below_undated))]
     fn write_from<W: ByteWriter>(
         &mut self,
         first: usize,
@@ -192,13 +194,15 @@ impl<'a, 'b> LineWriter<'a, 'b> {
         ensures err { OnErr result (W.failed writer.new ≡ true) }
     {
         let finding = self.dates.date_from(&self.given, line, first);
-        if let Some(Finding::There(date)) = &finding {
-            return self.write_dated(date, line, writer);
+        match &finding {
+            Some(Finding::There(date)) => self.write_dated(date, line, writer),
+            Some(Finding::Doubtful) => self.write_doubtful(line, writer),
+            None => self.write_undated(line, writer),
         }
-        self.write_by(finding, line, writer)
     }
 
     /// Writes a line after its key and a tab, and a line feed.
+    #[inline(always)]
     #[tactic(auto, using(crate::proofs::Keyed::undated, crate::proofs::Keyed::below_undated))]
     pub(crate) fn write_keyed<W: ByteWriter>(
         &mut self,

@@ -3,15 +3,8 @@ use Rattle.std.proofs.lemmas.List.{length-append}
 use Rattle.base.specs.Bytes.{tab, line_feed}
 use Rattle.instants_lines.specs.Going.{label_front}
 use Rattle.instants_lines.specs.Writing.{going_of}
+use Rattle.instants_lines.proofs.Keyed.{key_and_tab}
 use Rattle.instants_lines.proofs.line_writer.LineWriter.write_undated.Goals as goal
-
--- the key and the tab are one part
-joined : (key tabbed label line : List ℕ) → tabbed ≡ key ++ tab ∷ [] → (key ++ tab ∷ (label ++ line)) ++ line_feed ∷ [] ≡ tabbed ++ (label ++ (line ++ line_feed ∷ []))
-joined key tabbed label line is =
-    append_assoc key (tab ∷ (label ++ line)) (line_feed ∷ [])
-    ∙ ap (λ (l : List ℕ). key ++ tab ∷ l) (append_assoc label line (line_feed ∷ []))
-    ∙ sym (append_assoc key (tab ∷ []) (label ++ (line ++ line_feed ∷ [])))
-    ∙ ap (λ (front : List ℕ). front ++ (label ++ (line ++ line_feed ∷ []))) (sym is)
 
 -- which has room
 room : (key tabbed : List ℕ) → tabbed ≡ key ++ tab ∷ [] → length key ≤ 63 → length tabbed ≤ 64
@@ -24,8 +17,8 @@ write_after-requires-clause-room g c = room c.args.self.now.key c.args.self.now.
 
 pub returns-clause-written : goal.returns-clause-written
 returns-clause-written g c =
-    rw (joined c.args.self.now.key c.args.self.now.tabbed (label_front (going_of c.args.self.now).label) c.args.line.now c.args.self.now.tabbed_is) c.write_after.ensures.written
+    rw (key_and_tab c.args.self.now.key c.args.self.now.tabbed (label_front (going_of c.args.self.now).label) c.args.line.now c.args.self.now.tabbed_is) c.write_after.ensures.written
 
 pub returns-clause-front : goal.returns-clause-front
 returns-clause-front g c =
-    rw (joined c.args.self.now.key c.args.self.now.tabbed (label_front (going_of c.args.self.now).label) c.args.line.now c.args.self.now.tabbed_is) c.write_after.ensures.front
+    rw (key_and_tab c.args.self.now.key c.args.self.now.tabbed (label_front (going_of c.args.self.now).label) c.args.line.now c.args.self.now.tabbed_is) c.write_after.ensures.front
