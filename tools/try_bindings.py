@@ -47,6 +47,7 @@ import build_library
 import build_program
 import header_numbers
 from program import ROOT, Program
+from tries import report, summary
 
 sys.path.insert(0, str(ROOT / "bench"))
 
@@ -112,14 +113,6 @@ CHANGING = (
     ("+00:00", "strftime", "%F %T%z", "2021-01-02 04:04:05+0100"),
 )
 
-counts = {True: 0, False: 0}
-
-
-def tell(what, is_well, why=""):
-    counts[bool(is_well)] += 1
-    print(f"{'passed' if is_well else 'FAILED'}: {what}{f': {why}' if why and not is_well else ''}", flush=True)
-
-
 def ran(command, given=b"", **how):
     """Returns what a command answers: status, standard output, standard error."""
     done = subprocess.run(command, input=given, capture_output=True, check=False, **how)
@@ -129,7 +122,7 @@ def ran(command, given=b"", **how):
 def tell_run(what, command, **how):
     """Says whether a command ends well."""
     status, said, wrong = ran(command, **how)
-    tell(what, status == 0, (said + wrong).decode(errors="replace"))
+    report(what, status == 0, (said + wrong).decode(errors="replace"))
     return status == 0
 
 
@@ -137,7 +130,7 @@ def tell_same(what, got, wanted):
     """Says whether answers are those that are wanted."""
     due, given = wanted.split(b"\n"), got.split(b"\n")
     at = next((at for at, pair in enumerate(zip(due, given)) if pair[0] != pair[1]), min(len(due), len(given)))
-    tell(what, got == wanted, f"line {at + 1}: {given[at:at + 1]} in place of {due[at:at + 1]}")
+    report(what, got == wanted, f"line {at + 1}: {given[at:at + 1]} in place of {due[at:at + 1]}")
 
 
 def unix_second(text, offset):
@@ -183,7 +176,7 @@ class Library:
         tell_same(f"{what}: {self.input.count(10) + 1:,} lines", said if status == 0 else wrong, self.answers)
         for words in WRONG_WORDS:
             due, got = (ran([*it, *words], self.input[:100]) for it in ([self.program], command))
-            tell(f"{what}: refuses {words[2:] or words}", due == got, f"{got} in place of {due}")
+            report(f"{what}: refuses {words[2:] or words}", due == got, f"{got} in place of {due}")
 
 
 def compiled(name, library, flags=(), link=()):
@@ -197,8 +190,8 @@ def compiled(name, library, flags=(), link=()):
 def try_header(library):
     """Tries the header by itself."""
     wrong = header_numbers.wrong_numbers()
-    tell("the header: its numbers", not wrong, "; ".join(wrong))
-    tell("the header: it says how much stack a call needs", "@STACK@" not in header_numbers.HEADER.read_text(), "@STACK@ is no number")
+    report("the header: its numbers", not wrong, "; ".join(wrong))
+    report("the header: it says how much stack a call needs", "@STACK@" not in header_numbers.HEADER.read_text(), "@STACK@ is no number")
     strict = ["-Wall", "-Wextra", "-Wpedantic", "-Werror"]
     for language in ("c", "c++"):
         tell_run(f"the header: valid {language}", ["gcc", "-x", language, *strict, "-fsyntax-only", header_numbers.HEADER])
@@ -242,7 +235,7 @@ def try_moments(library):
             tell_same(f"C: moments at {target}", said if status == 0 else wrong, due)
         for words in WRONG_WORDS:
             status, _, wrong = ran([moments, *words])
-            tell(f"C: moments: refuses {words[2:] or words}", (status, wrong) == ran([library.program, *words])[::2], str(wrong))
+            report(f"C: moments: refuses {words[2:] or words}", (status, wrong) == ran([library.program, *words])[::2], str(wrong))
 
 
 def try_rust(library):
@@ -289,14 +282,14 @@ def try_crates(library, places):
     for what, named in (("INSTANTS_LIB_DIR", LIBRARY.parent), ("PKG_CONFIG_PATH", room)):
         tell_run(f"Rust: the packed crates, by {what}", test, cwd=room / "unpacked", env={**places, what: str(named)})
     status, _, wrong = ran(test, cwd=room / "unpacked", env={**places, "PKG_CONFIG_LIBDIR": str(room / "registry")})
-    tell("Rust: no library", status != 0 and b"name the folder of libinstants.a in INSTANTS_LIB_DIR" in wrong, wrong.decode(errors="replace"))
+    report("Rust: no library", status != 0 and b"name the folder of libinstants.a in INSTANTS_LIB_DIR" in wrong, wrong.decode(errors="replace"))
 
 
 def tell_refused_library(what, named, printed):
     """Says whether a library that INSTANTS_LIBRARY names is refused with a text."""
     places = {**os.environ, "INSTANTS_LIBRARY": str(named), "PYTHONPATH": str(BINDINGS / "python")}
     status, _, wrong = ran([PYTHON, "-B", "-c", "import instants"], env=places)
-    tell(f"Python: {what}", status != 0 and b"ImportError: instants: " in wrong and printed in wrong, wrong.decode(errors="replace"))
+    report(f"Python: {what}", status != 0 and b"ImportError: instants: " in wrong and printed in wrong, wrong.decode(errors="replace"))
 
 
 def try_library_of_python(library):
@@ -327,7 +320,7 @@ def try_python(library):
     """Tries the package."""
     os.environ["INSTANTS_LIBRARY"] = str(SHARED)
     status, _, said = ran([PYTHON, "-B", BINDINGS / "python" / "test_instants.py", "--verbose"])
-    tell("Python: its tests", status == 0, said.decode(errors="replace"))
+    report("Python: its tests", status == 0, said.decode(errors="replace"))
     for missing in sorted(set(re.findall("skipped '(.*)'", said.decode(errors="replace")))):
         print(f"skipped: Python: {missing}")
     strict = ["mypy", "--strict", "--cache-dir", library.room / "mypy", "instants", "wheel_of_package.py"]
@@ -360,7 +353,7 @@ def try_arrays(library):
     nanoseconds = [None if it.startswith("!") else unix_second(it, 0) * 10**9 + int(it[20:29]) for it in answers]
     due = [-(2**63) if it is None or abs(it) >= 2**63 else it for it in nanoseconds]
     found = instants.to_datetime64(library.input, sources=SOURCES, limit=100)
-    tell("Python: to_datetime64", found.dtype == numpy.dtype("datetime64[ns]") and found.view("int64").tolist() == due)
+    report("Python: to_datetime64", found.dtype == numpy.dtype("datetime64[ns]") and found.view("int64").tolist() == due)
 
 
 def quoted(words):
@@ -393,7 +386,7 @@ SELECT moment FROM log;
     tell_same(f"{what}: a table whose key it is", said if status == 0 else wrong, wanted)
     index = f"{table}CREATE INDEX by_moment ON lines ({call});\nEXPLAIN QUERY PLAN SELECT * FROM lines WHERE {call} > '2021';\n"
     status, said, wrong = queried(library, index, wrapper)
-    tell(f"{what}: an index", status == 0 and b"USING INDEX by_moment" in said, (said + wrong).decode(errors="replace"))
+    report(f"{what}: an index", status == 0 and b"USING INDEX by_moment" in said, (said + wrong).decode(errors="replace"))
     status, said, wrong = queried(library, columns_of(table, call), wrapper)
     tell_same(f"{what}: columns", said if status == 0 else wrong, due + b"0|1\n")
 
@@ -422,7 +415,7 @@ def try_bad_calls(library):
         (["+00:00", "+00:00", "x"], b"usage: "),
     ):
         status, said, wrong = queried(library, f"SELECT instant({quoted(arguments)});")
-        tell(f"SQLite: refuses {arguments}", status != 0 and printed in wrong, f"{said} {wrong}")
+        report(f"SQLite: refuses {arguments}", status != 0 and printed in wrong, f"{said} {wrong}")
     for call, printed in (
         ("instant('+00:00', 'rfc3339', NULL) IS NULL", b"1\n"),
         ("instant('+00:00', 'rfc3339', '')", b"! component year\n"),
@@ -440,7 +433,7 @@ def try_bad_calls(library):
         ("instant_fault('+00:00', 'rfc3339', NULL) IS NULL", b"1\n"),
     ):
         status, said, wrong = queried(library, f"SELECT {call};", VALGRIND)
-        tell(f"SQLite: {call}", status == 0 and said == printed, f"{said} {wrong}")
+        report(f"SQLite: {call}", status == 0 and said == printed, f"{said} {wrong}")
 
 
 def try_changing_words(library):
@@ -469,7 +462,7 @@ def try_changing_words(library):
     tell_same("SQLite: two places", said if status == 0 else wrong, b"! component yearcomponent year\n2021-01-02T03:04:05.000000000Zinsufficient\n! component yearcomponent year\n")
     text = "SELECT instant(column1, 'rfc3339', 'x') FROM (VALUES ('+00:00'), ('+25:00'));"
     status, said, wrong = queried(library, text, VALGRIND)
-    tell("SQLite: words that are refused at the second row", status == 1 and b"the target offset must be" in wrong, f"{status} {said} {wrong}")
+    report("SQLite: words that are refused at the second row", status == 1 and b"the target offset must be" in wrong, f"{status} {said} {wrong}")
 
 
 def try_sqlite(library):
@@ -506,8 +499,7 @@ def main():
         library = Library(pathlib.Path(folder), given.lines)
         for tried in (try_header, try_c, try_rust, try_python, try_sqlite):
             tried(library)
-    print(f"{counts[True]} passed, {counts[False]} failed")
-    return int(counts[False] > 0)
+    return summary()
 
 
 if __name__ == "__main__":

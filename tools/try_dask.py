@@ -28,6 +28,7 @@ sys.dont_write_bytecode = True
 
 from ended_with_caller import ended_with_caller
 from program import ROOT, Program
+from tries import report, summary
 
 sys.path.insert(0, str(ROOT / "bench"))
 
@@ -51,14 +52,6 @@ scheduler, file, output, size, begins, *command = sys.argv[1:]
 with Client(scheduler_file=scheduler) as client:
     answer_file(client, file, command, output, int(size), begins.encode() or None)
 """
-
-counts = {True: 0, False: 0}
-
-
-def tell(what, is_well, why=""):
-    counts[bool(is_well)] += 1
-    print(f"{'passed' if is_well else 'FAILED'}: {what}{f': {why}' if why and not is_well else ''}", flush=True)
-
 
 def until(is_so):
     """Waits until something is so, or patience ends; whether it is."""
@@ -115,8 +108,8 @@ def tell_same(what, ran, output, due):
     """Says whether a run ends well with an output, and leaves nothing beside it."""
     _, said = ran.communicate()
     got = output.read_bytes() if output.exists() else b""
-    tell(what, ran.returncode == 0 and got == due, f"status {ran.returncode}, {len(got):,} bytes in place of {len(due):,}; {said.decode(errors='replace')[-2000:]}")
-    tell(f"{what}: no part is left", not pathlib.Path(f"{output}.parts").exists())
+    report(what, ran.returncode == 0 and got == due, f"status {ran.returncode}, {len(got):,} bytes in place of {len(due):,}; {said.decode(errors='replace')[-2000:]}")
+    report(f"{what}: no part is left", not pathlib.Path(f"{output}.parts").exists())
     output.unlink(missing_ok=True)
 
 
@@ -135,7 +128,7 @@ def try_a_kill(cluster, file):
     is_killed = is_begun and until(lambda: is_at_work(killed)) and ran.poll() is None
     killed.kill()
     killed.wait()
-    tell("a worker is killed at work", is_killed)
+    report("a worker is killed at work", is_killed)
     tell_same(f"{WORKERS} workers, one of them killed", ran, output, one_process([PROGRAM, *WORDS], file))
 
 
@@ -156,13 +149,13 @@ def try_a_command(cluster, file):
     tell_same("python3 -m instants.dask", ran, output, one_process([PROGRAM, *WORDS], file))
     ran, output = cluster.run(file, [PROGRAM, "+25:00", *WORDS[1:]], file.stat().st_size)
     ran.communicate()
-    tell("a program that fails", ran.returncode != 0 and not output.exists() and not pathlib.Path(f"{output}.parts").exists())
+    report("a program that fails", ran.returncode != 0 and not output.exists() and not pathlib.Path(f"{output}.parts").exists())
     kept = pathlib.Path(f"{output}.parts", "kept")
     kept.parent.mkdir()
     kept.touch()
     ran, _ = cluster.run(file, [PROGRAM, *WORDS], file.stat().st_size)
     ran.communicate()
-    tell("a folder that is there already", ran.returncode != 0 and kept.exists() and not output.exists())
+    report("a folder that is there already", ran.returncode != 0 and kept.exists() and not output.exists())
 
 
 def main():
@@ -180,8 +173,7 @@ def main():
         try_a_kill(cluster, file)
         try_carry(cluster, room)
         try_a_command(cluster, file)
-    print(f"{counts[True]} passed, {counts[False]} failed")
-    return int(counts[False] > 0)
+    return summary()
 
 
 if __name__ == "__main__":

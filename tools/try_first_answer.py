@@ -30,6 +30,10 @@ import tempfile
 import time
 import uuid
 
+sys.dont_write_bytecode = True
+
+from tries import report, summary
+
 ROOT = pathlib.Path(__file__).resolve().parent.parent
 PROGRAM = ROOT / "crates" / "instants_program" / "out" / "instants_program"
 MARK = "FUZHELIK_TRIED"
@@ -38,14 +42,6 @@ LINES = [b"2021-01-02T03:04:05Z\n", b"Fri, 21 Nov 1997 09:55:06 -0600\n", b"x\n"
 ANSWERS = b"2021-01-02T03:04:05.000000000Z\n1997-11-21T15:55:06.000000000Z\n! component year\n"
 # A first answer is to come within so many seconds.
 A_MINUTE = 60
-
-counts = {True: 0, False: 0}
-
-
-def tell(what, is_well, why=""):
-    counts[bool(is_well)] += 1
-    print(f"{'ok' if is_well else 'FAILED'}: {what}{f': {why}' if why else ''}", flush=True)
-
 
 def copy_to(room):
     """Makes a copy of the checkout, as it stands, without what was built; returns its wrapper."""
@@ -91,7 +87,7 @@ def compare_rows(files):
     said = tried.stdout + tried.stderr
     ended = {int(at): int(status) for at, status in re.findall(r"^case=0*(\d+) .*?status=(\d+)", said, re.M)}
     wrong = [f"{row['words']} {row['stdin']!r}" for at, row in enumerate(rows) if ended.get(at) != row["status"]]
-    tell(f"a trial answers {len(rows)} rows as the proved program does", not wrong and not tried.returncode, "; ".join(wrong[:3]) or said[-600:] * bool(tried.returncode))
+    report(f"a trial answers {len(rows)} rows as the proved program does", not wrong and not tried.returncode, "; ".join(wrong[:3]) or said[-600:] * bool(tried.returncode))
 
 
 def try_first_call(wrapper):
@@ -99,14 +95,14 @@ def try_first_call(wrapper):
     with call(wrapper, WORDS, stdin=subprocess.PIPE) as ran:
         out, said = ran.communicate(b"".join(LINES))
     passed = time.monotonic() - began
-    tell(f"the first answer comes within {A_MINUTE} s (load {os.getloadavg()[0]:.1f})", out == ANSWERS and passed < A_MINUTE, f"{passed:.0f} s")
+    report(f"the first answer comes within {A_MINUTE} s (load {os.getloadavg()[0]:.1f})", out == ANSWERS and passed < A_MINUTE, f"{passed:.0f} s")
     first, _, last = said.decode().strip().partition("\n")
-    tell("it says first what it does and how long that takes", "builds a trial" in first and "half a minute" in first, first)
-    tell("it says that the answers are not proved, and how to prove the program", "not proved" in last and "--build" in last, last)
+    report("it says first what it does and how long that takes", "builds a trial" in first and "half a minute" in first, first)
+    report("it says that the answers are not proved, and how to prove the program", "not proved" in last and "--build" in last, last)
     with call(wrapper, [*WORDS[:3], "v1", "[foo"], stdin=subprocess.DEVNULL) as ran:
         out, said = ran.communicate()
     is_told = said.endswith(b"\ninstants: source 1: unclosed opening bracket at byte index 0\n")
-    tell("wrong words are refused by a trial", ran.returncode == 2 and not out and is_told, said.decode().strip().split("\n")[-1])
+    report("wrong words are refused by a trial", ran.returncode == 2 and not out and is_told, said.decode().strip().split("\n")[-1])
 
 
 def try_no_arguments(wrapper):
@@ -114,7 +110,7 @@ def try_no_arguments(wrapper):
     with call(wrapper, [], stdin=subprocess.DEVNULL) as ran:
         out, said = ran.communicate()
     is_usage = said == b"instants: usage: instants TARGET ASSUMED LIMIT SOURCE...\n"
-    tell("no arguments give the usage at once", ran.returncode == 2 and not out and is_usage and time.monotonic() - began < 1, said.decode().strip())
+    report("no arguments give the usage at once", ran.returncode == 2 and not out and is_usage and time.monotonic() - began < 1, said.decode().strip())
 
 
 def try_what_no_trial_serves(wrapper):
@@ -123,10 +119,10 @@ def try_what_no_trial_serves(wrapper):
         out, said = ran.communicate()
     os.close(reads)
     os.close(writes)
-    tell("a terminal is refused, with the command that builds the program", ran.returncode == 1 and not out and b"terminal" in said and b"--build" in said, said.decode().strip())
+    report("a terminal is refused, with the command that builds the program", ran.returncode == 1 and not out and b"terminal" in said and b"--build" in said, said.decode().strip())
     with call(wrapper, WORDS, stdin=subprocess.PIPE) as ran:
         out, said = ran.communicate(LINES[0] * 40_000)
-    tell("so is a longer input than a trial answers", ran.returncode == 1 and not out and b"MiB" in said and b"--build" in said, said.decode().strip())
+    report("so is a longer input than a trial answers", ran.returncode == 1 and not out and b"MiB" in said and b"--build" in said, said.decode().strip())
 
 
 def try_silent_pipe(wrapper):
@@ -136,7 +132,7 @@ def try_silent_pipe(wrapper):
             ran.stdin.flush()
             time.sleep(5)
         out, said = ran.communicate()
-    tell("a pipe that is silent for five seconds loses nothing", out == ANSWERS and ran.returncode == 0, said.decode().strip())
+    report("a pipe that is silent for five seconds loses nothing", out == ANSWERS and ran.returncode == 0, said.decode().strip())
 
 
 def try_ten_builds(wrapper):
@@ -144,10 +140,10 @@ def try_ten_builds(wrapper):
     said = [it.communicate()[1].decode() for it in calls]
     builds = sum("proving and building" in it for it in said)
     waits = sum("waiting for it" in it for it in said)
-    tell("ten calls at once build once", builds == 1 and not any(it.returncode for it in calls), f"{builds} built, {waits} waited")
+    report("ten calls at once build once", builds == 1 and not any(it.returncode for it in calls), f"{builds} built, {waits} waited")
     with call(wrapper, WORDS, stdin=subprocess.PIPE) as ran:
         out, said = ran.communicate(b"".join(LINES))
-    tell("the program that they built answers", out == ANSWERS and not said)
+    report("the program that they built answers", out == ANSWERS and not said)
 
 
 def try_ended_caller(wrapper, words, number, seconds):
@@ -161,7 +157,7 @@ def try_ended_caller(wrapper, words, number, seconds):
     while marked_processes(mark) and time.monotonic() < until:
         time.sleep(0.2)
     left = marked_processes(mark)
-    tell(f"{' '.join(words[:1])} ended by {signal.Signals(number).name} leaves nothing running", were > 1 and not left, f"{were} processes before, {len(left)} behind it {left[:2]}")
+    report(f"{' '.join(words[:1])} ended by {signal.Signals(number).name} leaves nothing running", were > 1 and not left, f"{were} processes before, {len(left)} behind it {left[:2]}")
 
 
 def main(files):
@@ -177,8 +173,7 @@ def main(files):
             try_ended_caller(wrapper, WORDS, number, 8)
             try_ended_caller(wrapper, ["--build"], number, 3)
         try_ten_builds(wrapper)
-    print(f"{counts[True]} passed, {counts[False]} failed")
-    return int(counts[False] > 0)
+    return summary()
 
 
 if __name__ == "__main__":

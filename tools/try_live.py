@@ -17,12 +17,17 @@ An answer that does not come within ten seconds has failed. The last line counts
 failed.
 """
 
+import functools
 import os
 import pathlib
 import select
 import subprocess
 import sys
 import time
+
+sys.dont_write_bytecode = True
+
+import tries
 
 ROOT = pathlib.Path(__file__).resolve().parent.parent
 WORDS = ["+00:00", "-", "100", "rfc3339"]
@@ -33,16 +38,8 @@ PATIENCE, SILENCE = 10, 0.2
 PIECES = 10
 # More bytes than are looked at of a line with the limit of the words.
 FAR = 500
-
-counts = {True: 0, False: 0}
-
-
-def tell(what, is_well, why=""):
-    counts[bool(is_well)] += 1
-    if not is_well:
-        print(f"FAILED: {what}{f': {why}' if why else ''}", flush=True)
-    return is_well
-
+# (each of the many lines that pass is not worth a line)
+report = functools.partial(tries.report, says_passed=False)
 
 class Live:
     """The program at work, its standard input and output in our hands."""
@@ -68,18 +65,18 @@ class Live:
         """Writes lines, and says whether exactly these answers come."""
         self.write(lines)
         came = self.read(len(wanted))
-        return tell(what, came == wanted, f"{came!r} in place of {wanted!r}")
+        return report(what, came == wanted, f"{came!r} in place of {wanted!r}")
 
     def end(self, what, last, wanted):
         """Writes a last line and the end, and says whether exactly this and the status 0 come."""
         self.write(last)
         self.program.stdin.close()
         came = self.read(len(wanted) + 1)
-        tell(what, came == wanted, f"{came!r} in place of {wanted!r}")
+        report(what, came == wanted, f"{came!r} in place of {wanted!r}")
         try:
-            tell("the status", self.program.wait(PATIENCE) == 0)
+            report("the status", self.program.wait(PATIENCE) == 0)
         except subprocess.TimeoutExpired:
-            tell("the end", False)
+            report("the end", False)
 
     def stop(self):
         if self.program.poll() is None:
@@ -103,7 +100,7 @@ def try_pieces(live):
         line, answer = line_and_answer(live, at)
         cut = 1 + at * (len(line) - 2) // (PIECES - 1)
         live.write(line[:cut])
-        tell(f"a line cut at {cut}", live.read(1, SILENCE) == b"", "it is answered before its line feed")
+        report(f"a line cut at {cut}", live.read(1, SILENCE) == b"", "it is answered before its line feed")
         if not live.answers(f"a line cut at {cut}", line[cut:], answer):
             return False
     return True
@@ -114,7 +111,7 @@ def try_several(live):
     live.answers("two lines at once", *(b"".join(it) for it in zip(*both)))
     for piece in (b"9" * 60, b"9" * 60):
         live.write(piece)
-        tell("a long line", live.read(1, SILENCE) == b"", "it is answered before its line feed")
+        report("a long line", live.read(1, SILENCE) == b"", "it is answered before its line feed")
     key = both[1][1].split(b"\t")[0]
     live.answers("a long line", b"9\n", key + live.behind(b"9" * 121) + b"\n" if live.behind(b"") else b"! long\n")
 
@@ -145,11 +142,10 @@ def main(words):
             line, answer = line_and_answer(live, 9)
             live.end("the last line", line[:-1], answer)
     except BrokenPipeError:
-        tell("the program reads on", False)
+        report("the program reads on", False)
     finally:
         live.stop()
-    print(f"{counts[True]} passed, {counts[False]} failed")
-    return int(counts[False] > 0)
+    return tries.summary()
 
 
 if __name__ == "__main__":

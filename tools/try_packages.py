@@ -20,6 +20,7 @@ import tempfile
 from make_packages import programs, put, run
 from page_links import lost_in
 from program import ROOT
+from tries import report, summary
 
 LIBDIR = "/usr/lib/x86_64-linux-gnu"
 # Where Debian's Python looks for what pip installs.
@@ -38,20 +39,6 @@ COMPLETE = '. "$0" && complete -p "$1" > /dev/null && COMP_WORDS=("$1" "") COMP_
 BELOW = ("libc6", "python3", "python3-minimal", "python3.11", "python3.11-minimal", "libpython3-stdlib", "libpython3.11-minimal",
          "libpython3.11-stdlib")
 COMMANDS = ("/bin/sh", "/usr/bin/dpkg", "/usr/bin/dpkg-query", "/usr/bin/python3.11")
-
-counts = {True: 0, False: 0}
-
-
-def tell(what, is_well, why=""):
-    counts[bool(is_well)] += 1
-    print(f"{'passed' if is_well else 'FAILED'}: {what}{f': {why}' if why and not is_well else ''}", flush=True)
-
-
-def told():
-    """Says how many tries passed, and returns the status."""
-    print(f"{counts[True]} passed, {counts[False]} failed")
-    return int(counts[False] > 0)
-
 
 def put_linked(file, root):
     """Copies a file, and the libraries that it is linked with, into a root."""
@@ -99,7 +86,7 @@ def try_in_c(what, root, libdir):
         made = root / "tmp" / "answer"
         run(["gcc", "-std=c11", "-o", made, ROOT / "bindings" / "c" / "answer.c", *link])
         ran = ran_in(root, ["/tmp/answer", *WORDS], LINE, LD_LIBRARY_PATH=libdir)
-        tell(f"{what}: a program in C answers, {kind} library", ran.returncode == 0 and ran.stdout == ANSWER, f"{ran}")
+        report(f"{what}: a program in C answers, {kind} library", ran.returncode == 0 and ran.stdout == ANSWER, f"{ran}")
         made.unlink()
 
 
@@ -109,22 +96,22 @@ def try_installed(what, root, prefix, libdir):
     for name in programs():
         words, given, due, known = CALLS[name]
         ran = ran_in(root, [f"{prefix}/bin/{name}", *words], given)
-        tell(f"{what}: {name} answers", ran.returncode == 0 and ran.stdout.startswith(due), f"{ran}")
+        report(f"{what}: {name} answers", ran.returncode == 0 and ran.stdout.startswith(due), f"{ran}")
         page = next((pages / "man/man1").glob(f"{name}.1*"), None)
         completed = run(["bash", "-c", COMPLETE, pages / "bash-completion/completions" / name, name])
-        tell(f"{what}: {name} has a manual page and completions", page and known in completed.split(), f"{page} {completed}")
+        report(f"{what}: {name} has a manual page and completions", page and known in completed.split(), f"{page} {completed}")
     ran = ran_in(root, ["/usr/bin/python3.11", "-B", "-c", IN_PYTHON])
-    tell(f"{what}: Python answers", ran.returncode == 0 and ran.stdout == ANSWER, f"{ran}")
+    report(f"{what}: Python answers", ran.returncode == 0 and ran.stdout == ANSWER, f"{ran}")
     documents = sorted((pages / "doc" / "instants").rglob("*.md"))
     lost = lost_in(pages / "doc" / "instants", documents)
-    tell(f"{what}: the links of {len(documents)} documents", not lost, "; ".join(lost))
+    report(f"{what}: the links of {len(documents)} documents", not lost, "; ".join(lost))
     try_in_c(what, root, libdir)
 
 
 def try_packages(archive, packages, version):
     """Installs all in an empty root, tries and removes them."""
     said = subprocess.run(["lintian", "--pedantic", "--allow-root", *packages], capture_output=True, text=True, check=False)
-    tell("lintian", said.returncode == 0 and not said.stdout.strip(), said.stdout + said.stderr)
+    report("lintian", said.returncode == 0 and not said.stdout.strip(), said.stdout + said.stderr)
     with tempfile.TemporaryDirectory(prefix="root-") as room:
         root = pathlib.Path(room, "root")
         empty_root(root)
@@ -133,7 +120,7 @@ def try_packages(archive, packages, version):
         try_installed("Debian's packages", root, "/usr", LIBDIR)
         run(["dpkg", f"--root={root}", "--purge", "instants", "libinstants0", "libinstants-dev", "python3-instants"])
         left = files_in(root) ^ before
-        tell("Debian's packages: nothing is left", not left, f"{sorted(left)}")
+        report("Debian's packages: nothing is left", not left, f"{sorted(left)}")
         run(["tar", "-xzf", archive, "-C", room])
         top = pathlib.Path(room, f"instants-{version}")
         install = ["make", "-C", top, f"DESTDIR={root}", "PREFIX=/usr/local"]
@@ -145,4 +132,4 @@ def try_packages(archive, packages, version):
         shutil.rmtree(modules)
         run([*install, "uninstall"])
         left = files_in(root) ^ before
-        tell("the archive: nothing is left", not left, f"{sorted(left)}")
+        report("the archive: nothing is left", not left, f"{sorted(left)}")

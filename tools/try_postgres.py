@@ -31,6 +31,7 @@ import tempfile
 sys.dont_write_bytecode = True
 
 from program import ROOT, Program
+from tries import report, summary
 from try_bindings import INCLUDE, LIBRARY, SOURCES, mixed_lines
 
 EXTENSION = ROOT / "bindings" / "postgres"
@@ -39,15 +40,6 @@ BIN = pathlib.Path(PG_CONFIG).parent
 # What a log has, as bytes: quotes, tabs, backslashes and a carriage return pass through COPY.
 LOG = b'2024-05-01T10:00:01+02:00 "GET /b"\ttab \\N \\.\r\n2024-05-01T07:59:59Z first\nno date\n'
 ESCAPES = r"sed 's/\\/\\\\/g; s/\r/\\r/g; s/\t/\\t/2g'"
-
-counts = {True: 0, False: 0}
-
-
-def tell(what, is_well, why=""):
-    counts[bool(is_well)] += 1
-    print(f"{'passed' if is_well else 'FAILED'}: {what}{f': {why}' if why and not is_well else ''}", flush=True)
-    return is_well
-
 
 class Server:
     """A server in a folder, and the user whose it is."""
@@ -68,7 +60,7 @@ class Server:
     def tell_run(self, what, command):
         """Says whether a command ends well."""
         status, said = self.run(command)
-        return tell(what, status == 0, said.decode(errors="replace"))
+        return report(what, status == 0, said.decode(errors="replace"))
 
     def asked(self, text, **places):
         """Returns the status and the rows of a script of SQL."""
@@ -109,7 +101,7 @@ def try_regression(server, is_written):
     made = server.room / "extension"
     status, said = server.run(["make", "-C", made, "--silent", f"PG_CONFIG={PG_CONFIG}", "installcheck"])
     differences = made / "regression.diffs"
-    tell("the regression test", status == 0, (differences.read_text() if differences.exists() else "") + said.decode(errors="replace"))
+    report("the regression test", status == 0, (differences.read_text() if differences.exists() else "") + said.decode(errors="replace"))
     if is_written:
         shutil.copyfile(made / "results" / "instants.out", EXTENSION / "expected" / "instants.out")
 
@@ -126,13 +118,13 @@ CREATE TABLE lines (place serial, line text);
 \\copy lines (line) FROM '{server.room}/lines' (FORMAT csv, DELIMITER E'\\x01', QUOTE E'\\x02', NULL E'\\x03')
 SELECT instant('+00:00', {sources}, line) FROM lines ORDER BY place;
 """)
-    tell(f"{len(read):,} lines", status == 0 and said == due, said[:500].decode(errors="replace"))
+    report(f"{len(read):,} lines", status == 0 and said == due, said[:500].decode(errors="replace"))
     status, said = server.asked(f"""CREATE INDEX by_moment ON lines (instant('+00:00', {sources}, line) COLLATE "C");
 SET enable_seqscan = off;
 SELECT instant('+00:00', {sources}, line) FROM lines ORDER BY instant('+00:00', {sources}, line) COLLATE "C";
 """)
     wanted = b"".join(sorted(it + b"\n" for it in due.split(b"\n")[:-1]))
-    tell("their order by an index", status == 0 and said == wanted, said[:500].decode(errors="replace"))
+    report("their order by an index", status == 0 and said == wanted, said[:500].decode(errors="replace"))
 
 
 def try_copy(server):
@@ -144,12 +136,12 @@ def try_copy(server):
     due = b"! none|no date\n2024-05-01T07:59:59.000000000Z|2024-05-01T07:59:59Z first\n2024-05-01T08:00:01.000000000Z|" + LOG.partition(b"\n")[0] + b"\n"
     server.asked('CREATE TABLE log (moment text COLLATE "C", line text); CREATE ROLE reader LOGIN; GRANT ALL ON log TO reader;')
     status, said = server.asked(copy + shown)
-    tell("COPY FROM PROGRAM, by a superuser", status == 0 and said == due, f"{said!r} in place of {due!r}")
+    report("COPY FROM PROGRAM, by a superuser", status == 0 and said == due, f"{said!r} in place of {due!r}")
     status, said = server.asked(copy, PGUSER="reader")
-    tell("COPY FROM PROGRAM, refused to another role", status != 0 and b"pg_execute_server_program" in said, said.decode(errors="replace"))
+    report("COPY FROM PROGRAM, refused to another role", status != 0 and b"pg_execute_server_program" in said, said.decode(errors="replace"))
     server.asked("TRUNCATE log; GRANT pg_execute_server_program TO reader;")
     status, said = server.asked(copy + shown, PGUSER="reader")
-    tell("COPY FROM PROGRAM, by who has the role for it", status == 0 and said == due, f"{said!r} in place of {due!r}")
+    report("COPY FROM PROGRAM, by who has the role for it", status == 0 and said == due, f"{said!r} in place of {due!r}")
 
 
 def main():
@@ -168,8 +160,7 @@ def main():
                     try_regression(server, given.write)
                     try_lines(server, given.lines)
                     try_copy(server)
-    print(f"{counts[True]} passed, {counts[False]} failed")
-    return int(counts[False] > 0)
+    return summary()
 
 
 if __name__ == "__main__":

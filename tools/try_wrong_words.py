@@ -19,6 +19,10 @@ import pathlib
 import subprocess
 import sys
 
+sys.dont_write_bytecode = True
+
+from tries import report, summary
+
 ROOT = pathlib.Path(__file__).resolve().parent.parent
 PROGRAM = ROOT / "crates" / "instants_lines_program" / "out" / "instants_lines_program"
 SOURCES = "rfc3339, rfc2822, iso8601, v1, v2, v3, strftime, and the names of --help"
@@ -38,14 +42,6 @@ ROWS = (
     ("key v3 [year", "source 1: unclosed opening bracket at byte index 0"),
 )
 
-counts = {True: 0, False: 0}
-
-
-def tell(what, is_well, why=""):
-    counts[bool(is_well)] += 1
-    print(f"{'ok' if is_well else 'FAILED'}: {what}{'' if is_well else f': {why}'}")
-
-
 def call(program, words, **how):
     how = {"stdout": subprocess.PIPE, **how} if "input" in how else {"stdin": subprocess.DEVNULL, "stdout": subprocess.PIPE, **how}
     return subprocess.run([program, *words], stderr=subprocess.PIPE, text=True, check=False, **how)
@@ -54,32 +50,32 @@ def call(program, words, **how):
 def try_words(program):
     for words, sentence in ROWS:
         ran = call(program, words.split())
-        tell(f"refused: {words}", (ran.returncode, ran.stdout, ran.stderr) == (2, "", f"instants-lines: {sentence}\n"), ran.stderr)
+        report(f"refused: {words}", (ran.returncode, ran.stdout, ran.stderr) == (2, "", f"instants-lines: {sentence}\n"), ran.stderr)
 
 
 def try_devices(program):
     folder = os.open("/", os.O_RDONLY)
     ran = call(program, ["key", "rfc3339"], stdin=folder)
     os.close(folder)
-    tell("a folder as input", (ran.returncode, ran.stderr) == (1, "instants-lines: reading failed: is a directory\n"), ran.stderr)
+    report("a folder as input", (ran.returncode, ran.stderr) == (1, "instants-lines: reading failed: is a directory\n"), ran.stderr)
     how = {"input": "x\n"}
     with open("/dev/full", "w") as full:
         ran = call(program, ["key", "rfc3339"], stdout=full, **how)
-    tell("a full output", (ran.returncode, ran.stderr) == (1, "instants-lines: writing failed: no storage space\n"), ran.stderr)
+    report("a full output", (ran.returncode, ran.stderr) == (1, "instants-lines: writing failed: no storage space\n"), ran.stderr)
     reads, writes = os.pipe()
     os.close(reads)
     ran = call(program, ["key", "rfc3339"], stdout=writes, **how)
     os.close(writes)
-    tell("a closed pipe", (ran.returncode, ran.stderr) == (1, ""), ran.stderr)
+    report("a closed pipe", (ran.returncode, ran.stderr) == (1, ""), ran.stderr)
     ran = call(program, ["key", "v3", "%F"], **how)
     said = 'instants-lines: warning: v3 "%F" names no component, as [year]\ninstants-lines: source 1 names no moment: it has no year\n'
-    tell("a description without components", (ran.returncode, ran.stdout, ran.stderr) == (2, "", said), ran.stderr)
+    report("a description without components", (ran.returncode, ran.stdout, ran.stderr) == (2, "", said), ran.stderr)
 
 
 def try_texts(program):
     for word in ("--help", "-h", "--version"):
         ran, wrapped = call(program, [word]), call(ROOT / "instants-lines", [word])
-        tell(word, ran.returncode == 0 and ran.stdout.startswith("instants-lines ") and ran.stdout == wrapped.stdout, ran.stderr)
+        report(word, ran.returncode == 0 and ran.stdout.startswith("instants-lines ") and ran.stdout == wrapped.stdout, ran.stderr)
 
 
 def main(program=PROGRAM):
@@ -88,8 +84,7 @@ def main(program=PROGRAM):
     try_words(program)
     try_devices(program)
     try_texts(program)
-    print(f"{counts[True]} passed, {counts[False]} failed")
-    return 1 if counts[False] else 0
+    return summary()
 
 
 if __name__ == "__main__":
