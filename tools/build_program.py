@@ -23,8 +23,7 @@ import tempfile
 import threading
 import time
 
-from ended_with_caller import ended_with_caller
-from program import PARTS, ROOT, BuildFailed, Program, lines_of_crates, uses
+from program import ENDED_WITH_CALLER, PARTS, ROOT, BuildFailed, Program, lines_of_crates, uses
 
 # What of a program's crate its stored run reads.
 RUN = ("args", "stdin", "stdout", "status")
@@ -112,8 +111,8 @@ def prove(programs, room):
     """Proves and builds what is laid out there, and tells of each crate."""
     began, log, progress = time.monotonic(), [], Progress(programs)
     how = {"cwd": room, "stdin": subprocess.DEVNULL, "stdout": subprocess.PIPE, "stderr": subprocess.STDOUT, "text": True}
-    whole = ["nice", "-n", "10", "rt", "ci"]
-    with hurrying(crates_of(programs), room), subprocess.Popen(whole, errors="replace", preexec_fn=ended_with_caller(), **how) as ran:
+    whole = [*ENDED_WITH_CALLER, "nice", "-n", "10", "rt", "ci"]
+    with hurrying(crates_of(programs), room), subprocess.Popen(whole, errors="replace", **how) as ran:
         for line in ran.stdout:
             log.append(line)
             proved = re.match(r"rt: (\w+) (?:proved$|is kept: )", line)
@@ -150,7 +149,7 @@ def hurrying(crates, room):
             if known.get(crate, USUAL) < least:
                 continue
             how = {"cwd": room, "stdin": subprocess.DEVNULL, "stdout": subprocess.DEVNULL, "stderr": subprocess.DEVNULL}
-            with subprocess.Popen(["rt", "ci", crate], preexec_fn=ended_with_caller(), **how) as ran:
+            with subprocess.Popen([*ENDED_WITH_CALLER, "rt", "ci", crate], **how) as ran:
                 while ran.poll() is None and not is_over.wait(1):
                     pass
                 ran.terminate()

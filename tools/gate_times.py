@@ -29,7 +29,7 @@ import time
 
 sys.dont_write_bytecode = True
 
-from ended_with_caller import ended_with_caller
+from program import ENDED_WITH_CALLER
 
 ROOT = pathlib.Path(__file__).resolve().parent.parent
 TABLE = ROOT / "docs" / "GATE.md"
@@ -75,7 +75,7 @@ def run_gate(command):
     """Runs the command and returns its status, its last line, its processor and wall seconds, and the seconds of each part."""
     seen, began = {}, time.monotonic()
     how = {"cwd": ROOT, "stdout": subprocess.PIPE, "text": True, "errors": "replace"}
-    child = subprocess.Popen(command, start_new_session=True, preexec_fn=ended_with_caller(), **how)
+    child = subprocess.Popen([*ENDED_WITH_CALLER, *command], start_new_session=True, **how)
     is_over = threading.Event()
 
     def watch():

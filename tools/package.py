@@ -29,6 +29,7 @@ sys.dont_write_bytecode = True
 
 import build_library
 import build_program
+import tries
 import try_packages
 from make_packages import CHECK, PROGRAMS, Commit, PackagingFailed, make, programs, version
 
@@ -50,12 +51,12 @@ def main():
         with tempfile.TemporaryDirectory(prefix="again-") as again:
             same = [one.read_bytes() == other.read_bytes() for one, other in zip(made, make(pathlib.Path(again), commit))]
         for it, is_same in zip(made, same):
-            try_packages.tell(f"{it}: the same bytes twice", is_same)
+            tries.report(f"{it}: the same bytes twice", is_same)
         if given.is_tried:
             try_packages.try_packages(made[0], made[1:], version())
     except (build_program.BuildFailed, build_library.BuildFailed, PackagingFailed) as fault:
         sys.exit(f"package: {fault}")
-    return try_packages.told()
+    return tries.summary()
 
 
 if __name__ == "__main__":

@@ -6,6 +6,8 @@ import sys
 
 ROOT = pathlib.Path(__file__).resolve().parent.parent
 PARTS = ("src", "specs", "proofs")
+# Before a command: it is told to end when the process that started it has ended, however that ends (util-linux).
+ENDED_WITH_CALLER = ("setpriv", "--pdeathsig", "TERM")
 
 
 class BuildFailed(Exception):

@@ -26,7 +26,7 @@ import time
 
 sys.dont_write_bytecode = True
 
-from ended_with_caller import ended_with_caller
+from program import ENDED_WITH_CALLER
 from program import ROOT, Program
 from tries import report, summary
 
@@ -76,9 +76,9 @@ class Cluster:
 
     def start(self, what, *words):
         """Starts a process, which is killed at the end."""
-        command = [PYTHON, "-m", f"distributed.cli.dask_{what}", "--scheduler-file", self.room / "address", *words]
+        command = [*ENDED_WITH_CALLER, PYTHON, "-m", f"distributed.cli.dask_{what}", "--scheduler-file", self.room / "address", *words]
         log = self.stack.enter_context(open(self.room / "log", "ab"))
-        started = subprocess.Popen(command, stdout=log, stderr=log, cwd=self.room, env=self.places, preexec_fn=ended_with_caller())
+        started = subprocess.Popen(command, stdout=log, stderr=log, cwd=self.room, env=self.places)
         self.stack.callback(started.wait)
         self.stack.callback(started.kill)
         until(lambda: what != "scheduler" or (self.room / "address").exists())
@@ -86,8 +86,8 @@ class Cluster:
 
     def begin(self, *words):
         """Starts a run of Python, and returns its process."""
-        command = [PYTHON, *words]
-        started = subprocess.Popen(command, cwd=self.room, env=self.places, stderr=subprocess.PIPE, preexec_fn=ended_with_caller())
+        command = [*ENDED_WITH_CALLER, PYTHON, *words]
+        started = subprocess.Popen(command, cwd=self.room, env=self.places, stderr=subprocess.PIPE)
         self.stack.callback(started.wait)
         self.stack.callback(started.kill)
         return started

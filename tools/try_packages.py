@@ -20,7 +20,7 @@ import tempfile
 from make_packages import programs, put, run
 from page_links import lost_in
 from program import ROOT
-from tries import report, summary
+from tries import report
 
 LIBDIR = "/usr/lib/x86_64-linux-gnu"
 # Where Debian's Python looks for what pip installs.
