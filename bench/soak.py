@@ -5,7 +5,7 @@
 
 A block of ten thousand lines is made once, in a fixed order: times of RFC 3339, of RFC 2822 and of a web server's log,
 and lines that name no moment. It is fed again and again. Each block of answers must be, byte for byte, that of the first
-block alone, which a run of its own gives. The resident memory is read at each hundredth of the run. The last line is
+block alone, which a run of its own gives. The resident memory is read at each hundredth of the run (Debian's python3-psutil). The last line is
 `N passed, M failed`; the status is 1 where something failed.
 """
 
@@ -15,6 +15,8 @@ import random
 import subprocess
 import sys
 import threading
+
+import psutil
 
 ROOT = pathlib.Path(__file__).resolve().parent.parent
 PROGRAM = ROOT / "crates" / "instants_program" / "out" / "instants_program"
@@ -43,10 +45,7 @@ def line(rng):
 
 def resident(pid):
     """Returns the resident memory of a process in KiB."""
-    for row in pathlib.Path(f"/proc/{pid}/status").read_text().splitlines():
-        if row.startswith("VmRSS:"):
-            return int(row.split()[1])
-    return 0
+    return psutil.Process(pid).memory_info().rss // 1024
 
 
 def feed(pipe, block, times):

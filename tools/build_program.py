@@ -13,6 +13,7 @@ for later builds. tools/build_all.py builds both programs and the library for C 
 import contextlib
 import fcntl
 import hashlib
+import json
 import os
 import pathlib
 import re
@@ -27,9 +28,9 @@ from program import ENDED_WITH_CALLER, PARTS, ROOT, BuildFailed, Program, lines_
 
 # What of a program's crate its stored run reads.
 RUN = ("args", "stdin", "stdout", "status")
-# What is known before the first crate is proved: for so many seconds the pace is that of docs/GATE.md.
+# What is known before the first crate is proved: for so many seconds the pace is that of docs/gate.json.
 FOREKNOWN = 300
-# How long a proof takes that docs/GATE.md does not tell of, and from which part of all proofs on one of the longest chain gets
+# How long a proof takes that docs/gate.json does not tell of, and from which part of all proofs on one of the longest chain gets
 # a run of its own.
 USUAL, LARGE = 100, 0.03
 
@@ -124,9 +125,9 @@ def prove(programs, room):
 
 
 def known_times():
-    """Returns how many seconds each crate's proof took for docs/GATE.md."""
-    rows = re.findall(r"^\| `(\w+)` \| (\d+)\*? \|", (ROOT / "docs" / "GATE.md").read_text(), re.M)
-    return {name: int(seconds) for name, seconds in rows}
+    """Returns how many seconds each crate's proof took for docs/gate.json."""
+    crates = json.loads((ROOT / "docs" / "gate.json").read_text())["crates"]
+    return {name: it["proof"] for name, it in crates.items()}
 
 
 def longest_chain(crates):
@@ -182,13 +183,13 @@ def told(seconds):
 
 
 def expected(*programs):
-    """Returns how many seconds a build of the programs from nothing takes on these processors, as the proofs took for docs/GATE.md."""
+    """Returns how many seconds a build of the programs from nothing takes on these processors, as the proofs took for docs/gate.json."""
     known = known_times()
     return sum(known.get(it, USUAL) for it in crates_of(programs)) / len(os.sched_getaffinity(0))
 
 
 class Progress:
-    """How far a build is, and how long the rest is likely to take: as the proofs took for docs/GATE.md, at the pace so far."""
+    """How far a build is, and how long the rest is likely to take: as the proofs took for docs/gate.json, at the pace so far."""
 
     def __init__(self, programs):
         known = known_times()

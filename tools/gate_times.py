@@ -1,16 +1,18 @@
 #!/usr/bin/env python3
-"""Runs the gate and says where its time goes: processor seconds for each crate, of its proof, its tests and its edits.
+"""Runs the gate and says where its time goes: processor seconds for each crate, of its proof, its tests and its mutations.
 
-    tools/gate_times.py             runs `rt ci`, passes on what it prints, then prints the table, and the gate's last line again
-    tools/gate_times.py --write     also writes the table to docs/GATE.md, where the gate passed
+    tools/gate_times.py             runs `rt ci`, passes on what it prints, then prints the page, and the gate's last line again
+    tools/gate_times.py --write     also writes docs/gate.json and docs/GATE.md, where the gate passed
+    tools/gate_times.py --page      writes docs/GATE.md from docs/gate.json
+    tools/gate_times.py --check     says whether docs/GATE.md is as docs/gate.json has it, with status 1 where it is not
 
-What a process takes is read from /proc while it runs, so it works on Linux; what is over between two looks is counted
-under `other`, as are rt itself and the programs that it runs. Machines differ, and so does one machine from day to day and
-within a run: all that both did of the crates that have not changed since the run in docs/GATE.md tells how this run's pace
-compares with that one's, and the bounds are at the pace of the run that the first of these tables told of.
+What a process takes is read while it runs (Debian's python3-psutil); what is over between two looks is counted under `other`,
+as are rt itself and the programs that it runs. Machines differ, and so does one machine from day to day and within a run: all
+that both did of the crates that have not changed since the run in docs/gate.json tells how this run's pace compares with that
+one's, and the bounds are at the pace of the run that the first of these files told of.
 
 `rt ci` keeps what it passed on a machine, so a run may do little of the work. What it did not do of a crate whose sources
-are as they were is told as it took in the run of docs/GATE.md, at this run's pace, and marked by a star: the table, the sum
+are as they were is told as it took in the run of docs/gate.json, at this run's pace, and marked by a star: the table, the sum
 and the bounds are those of a run from nothing.
 """
 
@@ -18,8 +20,8 @@ import argparse
 import collections
 import datetime
 import hashlib
+import json
 import os
-import pathlib
 import re
 import resource
 import subprocess
@@ -27,201 +29,222 @@ import sys
 import threading
 import time
 
+try:
+    import psutil
+except ImportError:
+    # (the page needs none)
+    psutil = None
+
 sys.dont_write_bytecode = True
 
-from program import ENDED_WITH_CALLER
+from program import ENDED_WITH_CALLER, PARTS, ROOT, uses
 
-ROOT = pathlib.Path(__file__).resolve().parent.parent
-TABLE = ROOT / "docs" / "GATE.md"
-TICKS = os.sysconf("SC_CLK_TCK")
+FIGURES, PAGE = ROOT / "docs" / "gate.json", ROOT / "docs" / "GATE.md"
 EVERY = 1
-PARTS = ("proof", "tests", "edits")
-# The bounds, in minutes of a processor: for everything, and for a crate with its tests and edits.
+# What the gate does of a crate.
+WORK = ("proof", "tests", "mutations")
+# The bounds, in minutes of a processor: for everything, and for a crate with its tests and mutations.
 BOUND, CRATE_BOUND = 90, 6
-# What a proof reads of its crate.
-SOURCES = ("src", "specs", "proofs")
 
 
-def part_of(words, folder):
+def work_of(words, folder):
     """Returns the crate and the part of the gate that a command of the prover works on, if it is one."""
     if not any(it.endswith("/rattle") for it in words[:1]) or "--crate-name" not in words:
         return None
     crate = words[words.index("--crate-name") + 1]
     if "/rt-edit-" in folder:
-        return crate, "edits"
+        return crate, "mutations"
     return crate, "tests" if "--test" in words else "proof"
 
 
-def look(session, seen):
-    """Notes the processor seconds that each process of the session has taken, and what it works on."""
-    for entry in os.scandir("/proc"):
-        if not entry.name.isdigit():
-            continue
+def look(process, seen):
+    """Notes the processor seconds that each process below this one has taken, and what it works on."""
+    for it in process.children(recursive=True):
         try:
-            stat = pathlib.Path(entry.path, "stat").read_text()
-            fields = stat[stat.rindex(")") + 2 :].split()
-            if int(fields[3]) != session:
-                continue
-            key = entry.name, fields[19]
-            if seen.get(key, (None,))[0] is None:
-                words = pathlib.Path(entry.path, "cmdline").read_text(errors="replace").split("\0")
-                seen[key] = part_of(words, os.readlink(f"{entry.path}/cwd")), 0
-            seen[key] = seen[key][0], (int(fields[11]) + int(fields[12])) / TICKS
-        except (OSError, ValueError):
+            with it.oneshot():
+                key = it.pid, it.create_time()
+                work = seen.get(key, (None,))[0] or work_of(it.cmdline(), it.cwd())
+                times = it.cpu_times()
+                seen[key] = work, times.user + times.system
+        except psutil.Error:
             continue
 
 
 def run_gate(command):
     """Runs the command and returns its status, its last line, its processor and wall seconds, and the seconds of each part."""
-    seen, began = {}, time.monotonic()
-    how = {"cwd": ROOT, "stdout": subprocess.PIPE, "text": True, "errors": "replace"}
-    child = subprocess.Popen([*ENDED_WITH_CALLER, *command], start_new_session=True, **how)
-    is_over = threading.Event()
+    seen, began, last, is_over = {}, time.monotonic(), "", threading.Event()
+    child = subprocess.Popen([*ENDED_WITH_CALLER, *command], cwd=ROOT, stdout=subprocess.PIPE, text=True, errors="replace")
+    process = psutil.Process(child.pid)
 
     def watch():
-        while not is_over.wait(EVERY):
-            look(child.pid, seen)
+        while not is_over.wait(EVERY) and process.is_running():
+            look(process, seen)
 
     watching = threading.Thread(target=watch)
     watching.start()
-    last = ""
     for line in child.stdout:
         print(line, end="", flush=True)
         last = line.strip() or last
-    status = child.wait()
     is_over.set()
     watching.join()
+    status = child.wait()
     used = resource.getrusage(resource.RUSAGE_CHILDREN)
     parts = collections.Counter()
-    for part, seconds in seen.values():
-        parts[part] += seconds
+    for work, seconds in seen.values():
+        parts[work] += seconds
     parts.pop(None, None)
     return status, last, used.ru_utime + used.ru_stime, time.monotonic() - began, parts
 
 
 def sum_of(crate):
     """Returns a short sum of all that the prover reads of a crate."""
-    files = sorted(it for part in SOURCES for it in (ROOT / "crates" / crate / part).rglob("*") if it.is_file())
+    files = sorted(it for part in PARTS for it in (ROOT / "crates" / crate / part).rglob("*") if it.is_file())
     found = hashlib.sha256()
     for file in files:
         found.update(f"{file.relative_to(ROOT)} {file.stat().st_size}\n".encode() + file.read_bytes())
     return found.hexdigest()[:8]
 
 
-def table_of(parts, total, kept):
-    """Returns the table's lines, the dearest crate first. A star stands behind what this run did not do."""
-    crates = sorted({crate for crate, _ in parts}, key=lambda it: -sum(parts[it, part] for part in PARTS))
-    lines = ["| crate | proof | tests | edits | files of edits | together | sources |", "|---|---|---|---|---|---|---|"]
-    for crate in crates:
-        seconds = [parts[crate, it] for it in PARTS]
-        told = " | ".join(f"{parts[crate, it]:.0f}{'*' * ((crate, it) in kept)}" for it in PARTS)
-        files = len(edits_of(crate))
-        lines.append(f"| `{crate}` | {told} | {files} | {sum(seconds):.0f} | {sum_of(crate)} |")
-    sums = [sum(parts[crate, it] for crate in crates) for it in PARTS]
-    files = len(list((ROOT / "crates").glob("*/must-fail/*.edit")))
-    lines.append(f"| all crates | {' | '.join(f'{it:.0f}' for it in sums)} | {files} | {sum(sums):.0f} | |")
-    lines.append(f"| other | | | | | {total - sum(sums):.0f} | |")
-    lines.append(f"| the gate | | | | | {total:.0f} | |")
-    return lines
-
-
-def edits_of(crate):
-    """Returns the crate's files of edits that the gate tries."""
-    return list((ROOT / "crates" / crate / "must-fail").glob("*.edit"))
-
-
-def rows_of(text):
-    """Returns the rows of a text of GATE.md: a crate's seconds for each part, and the sum of its sources."""
-    rows = re.findall(r"^\| `(\w+)` \| (\d+)\*? \| (\d+)\*? \| (\d+)\*? \|.* ([0-9a-f]{8}) \|$", text, re.M)
-    return {name: (dict(zip(PARTS, map(int, seconds))), told) for name, *seconds, told in rows}
+def mutations_of(crate):
+    """Returns how many files of mutations the gate tries of a crate."""
+    return len(list((ROOT / "crates" / crate / "must-fail").glob("*.edit")))
 
 
 def kept_of(before, parts, times):
     """Returns what this run did not do of the crates whose sources are as they were, so many times as long as it took then."""
-    listed = {it.partition(":")[0] for it in (ROOT / "crates.txt").read_text().split("\n")}
+    listed = uses()
     return {
-        (name, part): seconds[part] * times
-        for name, (seconds, told) in rows_of(before).items()
-        if name in listed and told == sum_of(name)
-        for part in PARTS
-        if seconds[part] and not parts[name, part] and (part != "edits" or edits_of(name))
+        (name, work): crate[work] * times
+        for name, crate in before["crates"].items()
+        if name in listed and crate["sources"] == sum_of(name)
+        for work in WORK
+        if crate[work] and not parts[name, work] and (work != "mutations" or mutations_of(name))
     }
 
 
 def pace_of(before, parts):
-    """Returns how this run's pace compares with that of the run that a text of GATE.md tells of, by all that both did of the
-    crates that are the same as they were then (proofs alone tell too little: a machine's pace changes while a run goes on):
-    the run that paces count from, the pace, and a sentence. None where there is nothing. Where that text compares its own run
-    with an earlier one, paces are multiplied."""
-    commit = re.search(r"commit (\w+)", before)
-    rows = rows_of(before)
-    same = [(name, part) for name, (seconds, told) in rows.items() if told == sum_of(name) for part in PARTS if parts[name, part] and seconds[part]]
-    was, now = sum(rows[name][0][part] for name, part in same), sum(parts[it] for it in same)
-    earlier = re.search(r"^Pace: (?:that of the run before, )?([\d.]+) times as long as the run of (\w+)", before, re.M)
-    if not was and rows and earlier:
-        # (nothing was proved anew)
-        return earlier[2], float(earlier[1]), f"Pace: that of the run before, {earlier[1]} times as long as the run of {earlier[2]}.", 1.0
+    """Returns how this run's pace compares with the first one's and with that of the run before, by all that both did of the
+    crates that are the same as they were then (proofs alone tell too little: a machine's pace changes while a run goes on),
+    with a sentence on it."""
+    crates, pace = before["crates"], before["pace"]
+    same = [(name, work) for name, crate in crates.items() for work in WORK if parts[name, work] and crate[work] and crate["sources"] == sum_of(name)]
+    was, now = sum(crates[name][work] for name, work in same), sum(parts[it] for it in same)
     if not was:
-        return None
-    first, pace = (earlier[2], float(earlier[1]) * now / was) if earlier else (commit[1], now / was)
-    told = (
-        f"Pace: {pace:.2f} times as long as the run of {first}, by all that both did of the {len({name for name, _ in same})} crates whose sources "
-        f"are as they were at {commit[1]} ({was} s in that commit's run, {now:.0f} s in this one)."
+        # (nothing was proved anew)
+        return {**pace, "said": f"that of the run before, {pace['times']:.2f} times as long as the run of {pace['first']}."}, 1.0
+    times = round(pace["times"] * now / was, 4)
+    some = len({name for name, _ in same})
+    said = (
+        f"{times:.2f} times as long as the run of {pace['first']}, by all that both did of the {some} crates whose sources are as they were at "
+        f"{before['commit']} ({was:.0f} s in that commit's run, {now:.0f} s in this one)."
     )
-    return first, pace, told, now / was
+    return {"first": pace["first"], "times": times, "said": said}, now / was
 
 
-def bounds_told(parts, total, pace):
-    """Returns the sentences on the bounds, at the pace of the first run where this run's is known."""
-    first, times, told, _ = pace or ("this run", 1.0, "Pace: not known, since no crate is as it was.", 1.0)
-    minutes = total / times / 60
-    crates = {crate for crate, _ in parts}
-    dear = {it: sum(parts[it, part] for part in PARTS) / times / 60 for it in crates}
+def figures_of(before, last, total, wall, parts):
+    """Returns the figures of a run from nothing, by this run and what was kept."""
+    pace, times = pace_of(before, parts)
+    kept = kept_of(before, parts, times)
+    run, whole = total, total + sum(kept.values())
+    parts.update(kept)
+    crates = {
+        name: {**{work: round(parts[name, work]) for work in WORK}, "kept": [work for work in WORK if (name, work) in kept], "files": mutations_of(name), "sources": sum_of(name)}
+        for name in sorted({name for name, _ in parts}, key=lambda it: -sum(parts[it, work] for work in WORK))
+    }
+    said = lambda *words: subprocess.run(words, cwd=ROOT, capture_output=True, text=True, check=True).stdout.strip()
+    return {
+        "date": str(datetime.date.today()),
+        "commit": said("git", "rev-parse", "--short", "HEAD"),
+        "kit": said("rt", "version"),
+        "last_line": last,
+        "minutes": round(wall / 60),
+        "processors": len(os.sched_getaffinity(0)),
+        "load": round(os.getloadavg()[2], 1),
+        "seconds_of_the_run": round(run),
+        "seconds_from_nothing": round(whole),
+        "pace": pace,
+        "crates": crates,
+    }
+
+
+def minutes_at_first_pace(figures, seconds):
+    return seconds / figures["pace"]["times"] / 60
+
+
+def bounds_told(figures):
+    """Returns the sentences on the bounds, at the pace of the first run."""
+    minutes = minutes_at_first_pace(figures, figures["seconds_from_nothing"])
+    dear = {name: minutes_at_first_pace(figures, sum(crate[work] for work in WORK)) for name, crate in figures["crates"].items()}
     over = sorted((it for it in dear if dear[it] > CRATE_BOUND), key=lambda it: -dear[it])
     longest = max(dear, key=dear.get, default="none")
     found = ", ".join(f"`{it}` {dear[it]:.1f}" for it in over)
     return (
-        f"{told} At the pace of {first} a run from nothing takes {minutes:.0f} processor minutes, {'within' if minutes <= BOUND else 'over'} the "
-        f"bound of {BOUND}. " + (f"Over the bound of {CRATE_BOUND} minutes are {found}." if over else f"No crate is over {CRATE_BOUND} minutes, the longest is `{longest}` with {dear.get(longest, 0):.1f}.")
+        f"Pace: {figures['pace']['said']} At the pace of {figures['pace']['first']} a run from nothing takes {minutes:.0f} processor minutes, "
+        f"{'within' if minutes <= BOUND else 'over'} the bound of {BOUND}. "
+        + (f"Over the bound of {CRATE_BOUND} minutes are {found}." if over else f"No crate is over {CRATE_BOUND} minutes, the longest is `{longest}` with {dear.get(longest, 0):.1f}.")
     )
 
 
-def text_of(lines, bounds, last, total, wall, kept):
-    processors, load = len(os.sched_getaffinity(0)), os.getloadavg()[2]
-    kit = subprocess.run(["rt", "version"], capture_output=True, text=True, check=True).stdout.strip()
-    commit = subprocess.run(["git", "rev-parse", "--short", "HEAD"], cwd=ROOT, capture_output=True, text=True, check=True).stdout.strip()
-    some = sum(kept.values()) / 60
-    stars = f" What is marked by a star was kept from earlier runs on this machine: {some:.0f} processor minutes more, told as they took in the run before, at this run's pace." if kept else ""
+def table_of(figures):
+    """Returns the table's lines, the dearest crate first. A star stands after what the run did not do."""
+    lines = ["| crate | proof | tests | mutations | files of mutations | together | sources |", "|---|---|---|---|---|---|---|"]
+    for name, crate in figures["crates"].items():
+        told = " | ".join(f"{crate[it]}{'*' * (it in crate['kept'])}" for it in WORK)
+        lines.append(f"| `{name}` | {told} | {crate['files']} | {sum(crate[it] for it in WORK)} | {crate['sources']} |")
+    sums = [sum(crate[it] for crate in figures["crates"].values()) for it in WORK]
+    lines.append(f"| all crates | {' | '.join(map(str, sums))} | {sum(it['files'] for it in figures['crates'].values())} | {sum(sums)} | |")
+    lines.append(f"| other | | | | | {figures['seconds_from_nothing'] - sum(sums)} | |")
+    lines.append(f"| the gate | | | | | {figures['seconds_from_nothing']} | |")
+    return lines
+
+
+def page_of(figures):
+    """Returns the page that the figures make."""
+    run, whole = figures["seconds_of_the_run"], figures["seconds_from_nothing"]
+    stars = f" What is marked by a star was kept from earlier runs on this machine: {(whole - run) / 60:.0f} processor minutes more, told as they took in the run before, at this run's pace." if whole > run else ""
     head = f"""# Where the gate's time goes
 
-Processor seconds of one `rt ci`, crate by crate, written by `tools/gate_times.py --write`: the proof from nothing, the proof and build of the tests, and the must-fail edits; where a crate has more than one file of them, the first proves the crate once more. The last column is a short sum of the crate's sources, by which a later run knows those that are as they were. The bounds are {BOUND} processor minutes for everything and {CRATE_BOUND} for a crate, each at the pace of the run of 44ade0a, with which all later runs are compared.
+Processor seconds of one `rt ci`, crate by crate, from `docs/gate.json`, both written by `tools/gate_times.py --write`: the proof from nothing, the proof and build of the tests, and the mutations in `must-fail/`; where a crate has more than one file of them, the first proves the crate once more. The last column is a short sum of the crate's sources, by which a later run knows those that are as they were. The bounds are {BOUND} processor minutes for everything and {CRATE_BOUND} for a crate, each at the pace of the run of {figures['pace']['first']}, with which all later runs are compared.
 
-{datetime.date.today()}, commit {commit}, {kit}: `{last}` after {wall / 60:.0f} minutes on {processors} processors (load {load:.1f} at the end), {total / 60:.0f} processor minutes.{stars}
+{figures['date']}, commit {figures['commit']}, {figures['kit']}: `{figures['last_line']}` after {figures['minutes']} minutes on {figures['processors']} processors (load {figures['load']} at the end), {run / 60:.0f} processor minutes.{stars}
 """
-    return head + "\n" + bounds + "\n\n" + "\n".join(lines) + "\n"
+    return head + "\n" + bounds_told(figures) + "\n\n" + "\n".join(table_of(figures)) + "\n"
+
+
+def time_gate(command, is_written):
+    """Runs the gate, prints the page on it, and writes it where that is asked for. Returns the gate's status."""
+    if psutil is None:
+        sys.exit("gate_times.py: there is no module psutil (Debian's python3-psutil)")
+    status, last, total, wall, parts = run_gate(command)
+    try:
+        figures = figures_of(json.loads(FIGURES.read_text()), last, total, wall, parts)
+    except (OSError, ValueError, KeyError, subprocess.SubprocessError) as fault:
+        # What the gate says counts also where its times can't be told.
+        print(f"gate_times.py: {fault}\n{last}")
+        return status
+    print(f"{page_of(figures)}\n{last}")
+    if is_written and status == 0 and re.fullmatch(r"\d+ passed, 0 failed", last):
+        FIGURES.write_text(json.dumps(figures, indent=1) + "\n")
+        PAGE.write_text(page_of(figures))
+    return status
 
 
 def main():
     words = argparse.ArgumentParser(description=__doc__, formatter_class=argparse.RawDescriptionHelpFormatter)
     words.add_argument("--write", action="store_true")
+    words.add_argument("--page", action="store_true")
+    words.add_argument("--check", action="store_true")
     words.add_argument("command", nargs="*", default=["rt", "ci"], help="what to time in place of rt ci")
     given = words.parse_args()
-    status, last, total, wall, parts = run_gate(given.command)
-    try:
-        before = TABLE.read_text() if TABLE.exists() else ""
-        pace = pace_of(before, parts)
-        kept = kept_of(before, parts, pace[-1] if pace else 1.0)
-        parts.update(kept)
-        whole = total + sum(kept.values())
-        text = text_of(table_of(parts, whole, kept), bounds_told(parts, whole, pace), last, total, wall, kept)
-    except (OSError, ValueError, subprocess.SubprocessError) as fault:
-        # What the gate says counts also where its times can't be told.
-        print(f"gate_times.py: {fault}\n{last}")
-        return status
-    print(f"{text}\n{last}")
-    if given.write and status == 0 and re.fullmatch(r"\d+ passed, 0 failed", last):
-        TABLE.write_text(text)
-    return status
+    if not given.page and not given.check:
+        return time_gate(given.command, given.write)
+    page = page_of(json.loads(FIGURES.read_text()))
+    if given.check:
+        is_current = PAGE.read_text() == page
+        print(f"docs/GATE.md is {'as' if is_current else 'not as'} docs/gate.json has it")
+        return int(not is_current)
+    PAGE.write_text(page)
+    return 0
 
 
 if __name__ == "__main__":

@@ -3,7 +3,7 @@
 
     tools/try_dask.py [--lines N]
 
-The packages of Debian: python3-distributed. The programs are those that were built last (tools/build_program.py).
+The packages of Debian: python3-distributed, python3-psutil. The programs are those that were built last (tools/build_program.py).
 
 A scheduler and four workers are started, which talk over TCP, each a process of its own. `bindings/python/instants/dask.py`
 puts a file of mixed lines through `instants` in some thirty parts. While parts are written, a worker is killed (`kill -9`) that
@@ -24,10 +24,11 @@ import sys
 import tempfile
 import time
 
+import psutil
+
 sys.dont_write_bytecode = True
 
-from program import ENDED_WITH_CALLER
-from program import ROOT, Program
+from program import ENDED_WITH_CALLER, ROOT, Program
 from tries import report, summary
 
 sys.path.insert(0, str(ROOT / "bench"))
@@ -100,8 +101,7 @@ class Cluster:
 
 def is_at_work(worker):
     """Returns whether a worker has a program that runs."""
-    tasks = pathlib.Path("/proc", str(worker.pid), "task")
-    return any((it / "children").read_text() for it in tasks.iterdir())
+    return bool(psutil.Process(worker.pid).children())
 
 
 def tell_same(what, ran, output, due):

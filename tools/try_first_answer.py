@@ -15,7 +15,8 @@ and their statuses have to be the same. Then, in copies of the sources:
 - ten calls of `--build` build the program once (this takes as long as a build, unless `rt ci` has kept its proofs);
 - a caller that is ended while it tries or builds, by whatever signal, leaves no process behind.
 
-The last line counts what passed; the status is 1 where anything failed. It needs Linux and some minutes.
+The last line counts what passed; the status is 1 where anything failed. It needs Linux, Debian's python3-psutil
+and some minutes.
 """
 
 import json
@@ -29,6 +30,8 @@ import sys
 import tempfile
 import time
 import uuid
+
+import psutil
 
 sys.dont_write_bytecode = True
 
@@ -61,14 +64,8 @@ def call(wrapper, words, marked=None, **how):
 
 def marked_processes(mark):
     """Returns the processes that have the mark in their environment, but for those that have ended."""
-    found = []
-    for entry in pathlib.Path("/proc").iterdir():
-        try:
-            if entry.name.isdigit() and f"{MARK}={mark}".encode() in (entry / "environ").read_bytes():
-                found.append((entry.name, (entry / "cmdline").read_bytes().replace(b"\0", b" ")[:80]))
-        except OSError:
-            continue
-    return found
+    every = psutil.process_iter(["environ", "cmdline"])
+    return [(it.pid, " ".join(it.info["cmdline"])[:80]) for it in every if (it.info["environ"] or {}).get(MARK) == mark]
 
 
 def compare_rows(files):
