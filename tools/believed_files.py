@@ -9,103 +9,22 @@ crate of crates.txt, and one for each file in a `must-fail/`.
     tools/believed_files.py --names    prints the names that are reached
 """
 
-import functools
-import pathlib
 import re
 import sys
 
 sys.dont_write_bytecode = True
 
 import program
+from program import ROOT
+from rattle_files import CRATES, definitions_in, imports_in, module_heads, words_of
 
-ROOT = pathlib.Path(__file__).resolve().parent.parent
-CRATES, PAGE = ROOT / "crates", ROOT / "docs" / "CLAIMS.md"
+PAGE = ROOT / "docs" / "CLAIMS.md"
 BEGIN, END = "<!-- tools/believed_files.py begins -->", "<!-- tools/believed_files.py ends -->"
 LAYERS = {"instants": "lines and answers", "parsing": "reading", "description": "descriptions", "datetime": "date-times", "calendar": "calendar", "base": "bytes"}
 # How many lines of definitions are read in a minute, and the sentence with how long all of them take.
 PACE = 15
 COUNTED = re.compile(r"\d+ lines of definitions in \d+ files, some \d+ hours? at \d+ lines a minute")
 PASSED = re.compile(r"`\d+ passed, 0 failed`")
-WORD = r"[^\s(){}\[\].,;=:λ→]+(?:\.[^\s(){}\[\].,;=:λ→]+)*|◌[^\s(){},;]*◌"
-
-
-def file_of(path):
-    """Returns the file of a module of specs/, or none where it is not of this repository or tells what src/ declares."""
-    parts = path.split(".")
-    if parts[0] != "Rattle" or len(parts) < 4 or parts[2] != "specs" or "declared" in parts:
-        return None
-    file = CRATES / parts[1] / "specs" / ("/".join(parts[3:]) + ".antt")
-    return file if file.exists() else None
-
-
-def imports_in(text, keyword):
-    """Returns what each name that is brought in stands for: a file, and the name there."""
-    found = {}
-    for path, names, alias in re.findall(rf"^ *{keyword} (Rattle[\w.]+?)(?:\.\{{([^}}]*)\}})?(?: as (\w+))?;?$", text, re.M):
-        file = file_of(path)
-        if file and alias:
-            found[f"{alias}."] = (file, None)
-        for name in (it.strip() for it in names.split(",")) if file and names else ():
-            there, _, here = name.partition(" as ")
-            found[here or there] = (file, there)
-    return found
-
-
-def outside_of_modules(lines):
-    """Returns lines with what stands in a module without a name as it would stand outside of it, and the head of its module
-    for the number of each such line."""
-    plain, heads, head = [], {}, None
-    for line in lines:
-        if re.match(r"module _ .*\bwhere$", line):
-            head = line
-            continue
-        head = head if not line or line.startswith("  ") else None
-        if head:
-            heads[len(plain)] = head
-        plain.append(line.removeprefix("  ") if head else line)
-    return plain, heads
-
-
-@functools.cache
-def definitions_in(file):
-    """Returns the definitions of a file by name, each with its lines. The head of a module without a name is one too, by the
-    name that it is as a whole: what stands in the module rests on it."""
-    found = {}
-    lines = [it for it in file.read_text().split("\n") if not it.strip().startswith("--") and not it.startswith("use ")]
-    lines, heads = outside_of_modules(lines)
-    found.update({it: [it] for it in heads.values()})
-    text = "\n".join(lines)
-    # (what stands in a mutual block stands as it would outside of it)
-    text = re.sub(r"^(?:abbrev |unfoldable |opaque )?mutual\b.*\n((?:(?:  .*)?\n)*)", lambda it: re.sub(r"^  ", "", it[1], flags=re.M), text, flags=re.M)
-    for block in re.split(r"\n(?=(?:abbrev |unfoldable |opaque )?pub )", text):
-        head = re.match(r"(?:abbrev |unfoldable |opaque )?pub (?:record |data )?(\S+)", block)
-        if head:
-            body = [it for it in block.split("\n") if it.strip() and not it.startswith(("infix", "prefix", "postfix"))]
-            found[head[1]] = body
-            # (the base of a data type and the fields of a record go with it)
-            for name in re.findall(r"^  (?:pub )?(\S+) :", "\n".join(body), re.M):
-                found.setdefault(name, [])
-                found[name] = found[name] or body
-    return found
-
-
-@functools.cache
-def module_heads(file):
-    """Returns the head of the module without a name in which each definition of a file stands, for those that stand in one."""
-    lines = [it for it in file.read_text().split("\n") if not it.strip().startswith("--")]
-    plain, heads = outside_of_modules(lines)
-    begun = {at: re.match(r"(?:abbrev |unfoldable |opaque )?pub (?:record |data )?(\S+)", plain[at]) for at in heads}
-    return {it[1]: heads[at] for at, it in begun.items() if it}
-
-
-def words_of(text, names):
-    """Returns the words of a text, and those operators among the names whose parts it has."""
-    found = set(re.findall(WORD, text))
-    tokens = set(re.split(r"[\s(){},;]+", text))
-    bound = {">>="} if re.search(r"\bdo$", text, re.M) else set()
-    return found | {it for it in names if "◌" in it and {part for part in it.split("◌") if part} <= tokens | bound}
-
-
 def reached_from(text, imports, own, seen):
     """Adds all definitions that a text rests on."""
     for word in words_of(text, [*imports, *(definitions_in(own) if own else ())]):

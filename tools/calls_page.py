@@ -8,15 +8,15 @@ clauses of its contract as its source has them.
 """
 
 import collections
-import pathlib
 import re
 import sys
 
 sys.dont_write_bytecode = True
 
 from page_links import slug
+from program import ROOT
+from rattle_files import calls_in, exported, name_of
 
-ROOT = pathlib.Path(__file__).resolve().parent.parent
 PAGE = ROOT / "docs" / "CALLS.md"
 FAMILIES = ("calendar", "datetime", "description", "parsing", "instants")
 # Crates whose calls no named crate gives on, but which have users of their own.
@@ -74,15 +74,10 @@ MODULES = {
     "instants_memory::laws": ("instants_memory/src/laws.rt",),
 }
 
-# How a call that is of no type begins, an export for C among them.
-FREE = r'pub (?:unsafe )?(?:extern "C" )?fn '
-
 # The heading of the index.
 INDEX = "Index of names"
 # The lines of the index are a little longer than this.
 WIDTH = 140
-# Where a value is longer than this, a constant stands without it.
-SHORT = 40
 
 HEAD = """\
 # The calls, with their contracts
@@ -102,129 +97,11 @@ How to read an entry:
 [DEFINITIONS.md](DEFINITIONS.md) explains the words of the clauses. [LIBRARIES.md](LIBRARIES.md) shows how a program uses these crates.
 """
 
-# A call: the type or trait that it is of, or none; how it is written; its clauses; the file where it stands; the first sentence of
-# its doc comment, or an empty text. A constant is one too, without clauses.
-Call = collections.namedtuple("Call", "of written clauses file doc")
-# A file: its path, and its text.
-Source = collections.namedtuple("Source", "path text")
-
-
-def doc_before(text, at):
-    """Returns the first sentence of the doc comment that ends right before a place of a text, or an empty text."""
-    lines = []
-    for line in reversed(text[:at].split("\n")[:-1]):
-        if line.strip().startswith("///"):
-            lines.insert(0, line.strip()[3:].strip())
-        elif lines or not line.strip().startswith(("#[", "//")):
-            break
-    first = " ".join(lines[: lines.index("")] if "" in lines else lines)
-    sentence = re.match(r"(?:[^.!?`]|`[^`]*`|[.!?](?!\s))*[.!?](?=\s|$)", first)
-    return sentence[0] if sentence else first
-
-
-def exported(crate):
-    """Returns the names that a crate's page gives on."""
-    text = re.sub(r"//.*", "", (ROOT / "crates" / crate / "src" / "lib.rt").read_text())
-    names = set()
-    for path in re.findall(r"pub use ([^;]+);", text):
-        inside = re.search(r"\{([^}]*)\}", path)
-        listed = inside[1].split(",") if inside else [path.split("::")[-1]]
-        names |= {it.split(" as ")[0].strip() for it in listed if it.strip()}
-    return names
-
-
 def crates_of(family):
     """Returns the family's crates that have calls of a named crate, that one last."""
     others = re.compile(r"_(tests|rows|bench|check|program)$")
     found = sorted(it.name for it in (ROOT / "crates").glob(f"{family}_*") if not others.search(it.name) and it.name not in ALONE)
     return [*found, family]
-
-
-def closing(text, at):
-    """Returns the place behind the bracket that closes the one at a place."""
-    depth = 0
-    for place in range(at, len(text)):
-        depth += (text[place] in "{(") - (text[place] in "})")
-        if depth == 0:
-            return place + 1
-    raise ValueError(f"no end of {text[at : at + 60]}")
-
-
-def clauses_in(text):
-    """Returns the clauses that a text begins with, each on a line of its own."""
-    clauses, at = [], 0
-    while found := re.compile(r"(?:\s|//[^\n]*\n)*(requires\*?|ensures\*?|ghost)\s*(\w*)\s*:?\s*\{").match(text, at):
-        at = closing(text, found.end() - 1)
-        what = re.sub(r"\s+", " ", text[found.end() : at - 1]).strip()
-        clauses.append(f"  {found[1]}{f' {found[2]}' if found[2] else ''}: {what}")
-    return clauses
-
-
-def owner(head):
-    """Returns the type or the trait of which the calls behind a line are, if they are listed there, or none."""
-    if head.startswith("pub trait "):
-        return re.match(r"pub trait (\w+)", head)[1]
-    return re.match(r"impl(?:<[^{]*?>)? (\w+)(?:<.*>)? \{$", head)[1] if " for " not in head else None
-
-
-def operator_in(block, at, source):
-    """Returns what an operator asks and gives, or what is printed, as a call of its type, if the block is of one."""
-    head = re.match(r"impl(?:<[^{]*?>)? ((?:fmt::)?\w+(?:<.*>)?) for (\w+)(?:<.*>)? \{$", block.split("\n")[0])
-    begun = re.finditer(r"^    ghost (can_\w+|\w+_gives|output|styled_output) = \{", block, re.M) if head else ()
-    members = [(it[1], re.sub(r"\s+", " ", block[it.end() : closing(block, it.end() - 1) - 1]).strip()) for it in begun]
-    clauses = [f"  {name}: {what}" for name, what in members]
-    return [Call(head[2], f"impl {head[1]} for {head[2]}", clauses, source.path, doc_before(source.text, at))] if members else []
-
-
-def call_at(block, begun, of, at, source, of_impl=""):
-    """Returns the call whose head begins at a place of a block, which begins at a place of its file."""
-    end = closing(block, block.index("(", begun.end()))
-    gives = re.compile(r"\s*->(?:\[[^\]\n]*\]|[^{;\n\[])*").match(block, end)
-    end = gives.end() if gives else end
-    written = re.sub(r"\s+", " ", block[begun.start() : end]).strip().removeprefix("pub ")
-    written = re.sub(r",? \)", ")", re.sub(r"\( ", "(", written))
-    return Call(of, of_impl + written, clauses_in(block[end:]), source.path, doc_before(source.text, at + begun.start()))
-
-
-def own_promises_in(block, at, source):
-    """Returns the calls of a trait that promise more for a type than the trait does for all, if the block is of such a type."""
-    head = re.match(r"impl(?:<[^{]*?>)? (\w+)(?:<.*>)? for (\w+)(?:<.*>)? \{$", block.split("\n")[0])
-    begun = re.finditer(r"^    fn ", block, re.M) if head else ()
-    found = [call_at(block, it, head[2], at, source, f"impl {head[1]} for {head[2]}: ") for it in begun]
-    return [it for it in found if it.clauses]
-
-
-def constants_in(block, of, at, source):
-    """Returns the public constants of a block."""
-    found = []
-    for begun in re.finditer(r"^ *pub (const (\w+): [^=]+?) = ([^;]+);", block, re.M):
-        value = re.sub(r"\s+", " ", begun[3]).replace(", }", " }")
-        written = begun[1] + (f" = {value}" if len(value) <= SHORT else "")
-        found.append(Call(of, written, [], source.path, doc_before(source.text, at + begun.start())))
-    return found
-
-
-def calls_in(file):
-    """Returns the public calls and constants of a file, in order."""
-    source = Source(file, file.read_text())
-    found, at = [], 0
-    for block in re.split(rf"^(?=impl\b|pub trait |pub const |{FREE}|fn |mod )", source.text, flags=re.M):
-        head = block.split("\n")[0]
-        of = owner(head) if head.startswith(("impl", "pub trait ")) else None
-        found += [*operator_in(block, at, source), *own_promises_in(block, at, source)]
-        if of is not None or head.startswith("pub const "):
-            found += constants_in(block, of, at, source)
-        if of is not None or re.match(FREE, head):
-            written = r"^ *(?:pub |final )?fn " if head.startswith("pub trait ") else rf"^ *{FREE}"
-            found += [call_at(block, it, of, at, source) for it in re.finditer(written, block, re.M)]
-        at += len(block)
-    return found
-
-
-def name_of(call):
-    """Returns the name of a call or of a constant, or none of an operator."""
-    name = re.search(r"(?:fn|const) (\w+)", call.written)
-    return name[1] if name else None
 
 
 def calls_of(crates, names):

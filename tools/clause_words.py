@@ -14,17 +14,16 @@ What a word of a clause stands for is known from the `ghost use` lines of the fi
 """
 
 import functools
-import pathlib
 import re
 import sys
 
 sys.dont_write_bytecode = True
 
-import believed_files
 import calls_page
+import rattle_files
+from program import ROOT
+from rattle_files import CRATES
 
-ROOT = pathlib.Path(__file__).resolve().parent.parent
-CRATES = ROOT / "crates"
 DEFINITIONS, CLAIMS = ROOT / "docs" / "DEFINITIONS.md", ROOT / "docs" / "CLAIMS.md"
 NAME = r"[A-Za-z_]\w*"
 # Sections of CALLS.md whose calls all have a row in CLAIMS.md.
@@ -53,7 +52,7 @@ def imports_of(file):
     """Returns what each word of the clauses of a file stands for."""
     # (a list of names may go over some lines)
     text = re.sub(r"ghost use [^;]*;", lambda it: re.sub(r"\s*\n\s*", "", it[0]), file.read_text())
-    return believed_files.imports_in(text, "ghost use")
+    return rattle_files.imports_in(text, "ghost use")
 
 
 def definition_of(word, imports):
@@ -62,7 +61,7 @@ def definition_of(word, imports):
     file, name = imports.get(word) or imports.get(head) or (None, None)
     if f"{head}." in imports and tail:
         file, name = imports[f"{head}."][0], tail.split(".")[0]
-    body = believed_files.definitions_in(file).get(name) if file and name else None
+    body = rattle_files.definitions_in(file).get(name) if file and name else None
     if not body:
         return None
     of = re.match(r"(?:abbrev |unfoldable |opaque )?pub (?:record|data) (\S+)", body[0])
@@ -72,7 +71,7 @@ def definition_of(word, imports):
 def definitions_of(call):
     """Returns the definitions that a call's clauses name."""
     imports = imports_of(call.file)
-    words = believed_files.words_of("\n".join(call.clauses), imports)
+    words = rattle_files.words_of("\n".join(call.clauses), imports)
     return {it for it in (definition_of(word, imports) for word in words) if it}
 
 
@@ -114,7 +113,7 @@ def names_on_page(sections):
     """Returns the names of all calls on CALLS.md, of the types, crates and modules that have some, and calls by their type."""
     names, of = {*OF_KIT}, set()
     for crate in (*calls_page.FAMILIES, *calls_page.ALONE, *calls_page.BELOW):
-        names |= calls_page.exported(crate)
+        names |= rattle_files.exported(crate)
     for head, groups in sections:
         names |= set(re.findall(NAME, head))
         for title, calls in groups:
@@ -155,9 +154,9 @@ def missing_takers():
     told = re.search(r"^## What takes memory\n(.*?)^## ", CLAIMS.read_text(), re.M | re.S)[1]
     named = set(re.findall(NAME, " ".join(re.findall(r"`([^`]+)`", told))))
     for crate in sorted(it.name for it in CRATES.iterdir() if not NO_LIBRARY.search(it.name)):
-        given_on = calls_page.exported(crate)
+        given_on = rattle_files.exported(crate)
         for file in sorted((CRATES / crate / "src").rglob("*.rt")):
-            for call in calls_page.calls_in(file):
+            for call in rattle_files.calls_in(file):
                 name = re.search(r"fn (\w+)", call.written)
                 is_public = name and (call.of in given_on or (call.of is None and (name[1] in given_on or file.name in ("laws.rt", "lib.rt"))))
                 if is_public and re.search(r"\balloc: ", call.written) and name[1] not in named:

@@ -13,7 +13,6 @@ import tempfile
 sys.dont_write_bytecode = True
 
 import build_library
-import build_program
 from page_links import LINK
 from program import ROOT, Program
 

@@ -15,7 +15,6 @@ of Debian: graphviz, gnuplot-nox.
 """
 
 import hashlib
-import pathlib
 import re
 import subprocess
 import sys

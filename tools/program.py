@@ -25,6 +25,20 @@ def uses():
     return {name: it.partition(":")[2].split() for name, it in lines_of_crates().items()}
 
 
+def crates_for(name):
+    """Returns the crate and those that it is made of, each after those that it uses."""
+    used, taken = uses(), []
+
+    def take(it):
+        if it in used and it not in taken:
+            for below in used[it]:
+                take(below)
+            taken.append(it)
+
+    take(name)
+    return taken
+
+
 class Program:
     """A program, or what else is made of a crate: by the name of the crate, the name that it goes by, and that of its file; and
     whether what it writes has each line in it."""
@@ -45,17 +59,8 @@ class Program:
         return {self.file.name: room / "crates" / self.crate / "out" / self.crate}
 
     def crates(self):
-        """Returns the crates that the program is made of, each behind those that it uses."""
-        used, taken = uses(), []
-
-        def take(name):
-            if name in used and name not in taken:
-                for it in used[name]:
-                    take(it)
-                taken.append(name)
-
-        take(self.crate)
-        return taken
+        """Returns the crates that the program is made of, each after those that it uses."""
+        return crates_for(self.crate)
 
     def is_current(self):
         """Returns whether the program is there and none of its sources is newer."""

@@ -26,21 +26,18 @@ import sys
 import tempfile
 import time
 
-ROOT = pathlib.Path(__file__).resolve().parent.parent
-PARTS = ("src", "specs", "proofs")
-TIERS = ("must-fail", "edits")
+sys.dont_write_bytecode = True
 
-FUNCTION = re.compile(r'( *)(pub(?:\(\w+\))? )?(?:const |final |unsafe )?(?:extern "C" )?fn (\w+)')
-IMPL = re.compile(r"impl\b(.*) \{$")
-COMMENT = re.compile(r"//[^\n]*|/\*.*?\*/", re.S)
+from program import PARTS, ROOT, crates_for
+from rattle_files import changes_of, edited, functions_of, turned_by
+
+TIERS = ("must-fail", "edits")
 
 # What the prover says: of a function or an impl by its path, and where in a file.
 VERDICT = re.compile(r"(fn|impl) (\w+)::(\S+): (.*)")
 NOTE = re.compile(r"note: (?:\./)?(src/\S+?):(\d+):\d+:")
 PROOF = re.compile(r"(?:\./)?proofs/(\S+?)/\w+\.antt:\d+:\d+: error: (.*)")
 LOST_NAME = re.compile(r"has no field|is not in scope|has no `|was not admitted|which was rejected|depends? on")
-
-Function = collections.namedtuple("Function", "file name trait path is_public first last")
 
 
 class Refusal:
@@ -50,113 +47,6 @@ class Refusal:
     WAITS = "not tried, since it calls what is refused"
     NAMES = "refused only for a name that the edit took away"
     REFUSED = "refused"
-
-
-def without_comments(text):
-    """Returns the text with spaces in the place of its comments, line for line."""
-    return COMMENT.sub(lambda it: re.sub(r"[^\n]", " ", it[0]), text)
-
-
-def name_of_type(text):
-    """Returns a type as the prover writes it in the name of an impl: `&'a [Item<'a>]` as `RefSliceItem`."""
-    text = re.sub(r"'\w+\b", "", text).replace("&", " Ref ").replace("[", " Slice ")
-    words = [it for it in re.findall(r"[A-Za-z_]\w*", text.replace("::", ".").replace("fmt.", "")) if it != "mut"]
-    return "".join(it[0].upper() + it[1:] for it in words)
-
-
-def name_of_impl(head):
-    """Returns what the prover calls an impl by its head, as `DateDisplay`, and its trait; or the type's name, and no trait."""
-    generic, _, head = re.match(r"\s*(<[^<>]*(?:<[^<>]*>[^<>]*)*>)?(\s*)(.*)", head).groups()
-    trait, is_of_trait, of = head.partition(" for ")
-    if not is_of_trait:
-        return re.match(r"\w+", head)[0], ""
-    bare = re.sub(r"<.*", "", of) if not of.startswith("&") else of
-    # (a parameter is not named, nor an argument that is the type itself)
-    parameters = re.findall(r"[<,]\s*(\w+)", generic or "")
-    shown = trait
-    if parameters:
-        bare, shown = (re.sub(rf"\b({'|'.join(parameters)})\b", "", it) for it in (bare, shown))
-    shown = shown.replace(f"<{of}>", "")
-    return name_of_type(bare) + name_of_type(shown), trait
-
-
-def functions_of(crate):
-    """Returns the crate's functions, each with its lines from its attributes to its end, counted from 1; none of a crate
-    of tests, and of a program, which has no callers, only those that promise something.
-
-    The first function of an impl of a trait begins at the impl, whose ghost members speak of it."""
-    found, is_program = [], (crate / "src" / "main.rt").exists()
-    for path in sorted((crate / "src").rglob("*.rt") if not crate.name.endswith("_tests") else []):
-        if any(it.endswith("tests") for it in path.relative_to(crate / "src").with_suffix("").parts):
-            continue
-        lines = path.read_text().split("\n")
-        file = str(path.relative_to(crate))
-        module = "::".join(it for it in path.relative_to(crate / "src").with_suffix("").parts if it not in ("lib", "main"))
-        within, trait, opened = "", "", None
-        for at, line in enumerate(lines):
-            implemented, named = IMPL.match(line), FUNCTION.match(line)
-            if implemented:
-                within, trait = name_of_impl(implemented[1])
-                opened = at if trait else None
-            if re.match(r"(pub )?trait (\w+)", line):
-                within = re.match(r"(?:pub )?trait (\w+)", line)[1]
-            if line == "}":
-                within, trait, opened = "", "", None
-            if not named:
-                continue
-            first = at if opened is None else opened
-            while lines[first - 1].lstrip().startswith("#["):
-                first -= 1
-            ends = [named[1] + "}", named[1] + "{}"]
-            last = next((it for it in range(at, len(lines)) if lines[it] in ends), at)
-            # (the methods of a type are named after its module, wherever their impl stands)
-            own = "" if within and not trait else module
-            place = "::".join(it for it in (own, within, named[3]) if it)
-            # (an empty body without a clause of its own says nothing that could be turned)
-            promises = not is_program or any("ensures" in it for it in lines[at:last])
-            is_public = (named[2] == "pub " or bool(trait)) and promises and not line.endswith("{}")
-            found.append(Function(file, named[3], trait, place, is_public, first + 1, last + 1))
-            opened = None
-    return found
-
-
-def changes_of(edit):
-    """Returns what an edit changes: file, old text, new text."""
-    file, old, changes = None, None, []
-    for line in edit.read_text().split("\n"):
-        word, _, text = line.partition(": ")
-        if word == "file":
-            file = text.strip()
-        elif word == "old":
-            old = text
-        elif word in ("new", "new:") and old is not None:
-            changes.append((file, old, text))
-            old = None
-    return changes
-
-
-def edited(crate, changes):
-    """Returns the files that the changes touch, each as it is and as they leave it."""
-    texts = {}
-    for file, old, new in changes:
-        was, now = texts.setdefault(file, [(crate / file).read_text()] * 2)
-        if now.count(old) != 1:
-            raise ValueError(f"stands {now.count(old)} times in {file}: {old}")
-        texts[file] = was, now.replace(old, new)
-    return texts
-
-
-def turned_by(texts, functions):
-    """Returns the innermost functions whose text changes, comments aside."""
-    turned = []
-    for file, (was, now) in texts.items():
-        lines = zip(without_comments(was).split("\n"), without_comments(now).split("\n"))
-        for at, (before, after) in enumerate(lines, 1):
-            if before.strip() == after.strip():
-                continue
-            within = [it for it in functions if it.file == file and it.first <= at <= it.last]
-            turned += [it for it in within[-1:] if it not in turned]
-    return turned
 
 
 def matches(function, path):
@@ -199,19 +89,6 @@ def answer_to(told, has_note, in_proofs):
     if in_proofs and not any(in_proofs) and not has_note and "did not prove" not in told:
         return Refusal.NAMES
     return Refusal.REFUSED
-
-
-def crates_for(name):
-    """Returns the crate and those below it."""
-    lines = (ROOT / "crates.txt").read_text().split("\n")
-    uses = {it.split(":")[0].split()[0]: it.split(":")[1].split() for it in lines if ":" in it and not it.startswith("#")}
-    found, due = set(), [name]
-    while due:
-        at = due.pop()
-        if at in uses and at not in found:
-            found.add(at)
-            due += uses[at]
-    return sorted(found)
 
 
 class Copy:
