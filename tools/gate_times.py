@@ -6,8 +6,8 @@
     tools/gate_times.py --page      writes docs/GATE.md from docs/gate.json
     tools/gate_times.py --check     says whether docs/GATE.md is as docs/gate.json has it, with status 1 where it is not
 
-What a process takes is read while it runs (Debian's python3-psutil); what is over between two looks is counted under `other`,
-as are rt itself and the programs that it runs. Machines differ, and so does one machine from day to day and within a run: all
+What a process takes is read from /proc while it runs, since the landing needs no package; what is over between two looks is
+counted under `other`, as are rt itself and the programs that it runs. Machines differ, and so does one machine from day to day and within a run: all
 that both did of the crates that have not changed since the run in docs/gate.json tells how this run's pace compares with that
 one's, and the bounds are at the pace of the run that the first of these files told of.
 
@@ -22,6 +22,7 @@ import datetime
 import hashlib
 import json
 import os
+import pathlib
 import re
 import resource
 import subprocess
@@ -29,18 +30,13 @@ import sys
 import threading
 import time
 
-try:
-    import psutil
-except ImportError:
-    # (the page needs none)
-    psutil = None
-
 sys.dont_write_bytecode = True
 
 from program import ENDED_WITH_CALLER, PARTS, ROOT, uses
 
 FIGURES, PAGE = ROOT / "docs" / "gate.json", ROOT / "docs" / "GATE.md"
 EVERY = 1
+TICKS = os.sysconf("SC_CLK_TCK")
 # What the gate does of a crate.
 WORK = ("proof", "tests", "mutations")
 # The bounds, in minutes of a processor: for everything, and for a crate with its tests and mutations.
@@ -57,28 +53,35 @@ def work_of(words, folder):
     return crate, "tests" if "--test" in words else "proof"
 
 
-def look(process, seen):
-    """Notes the processor seconds that each process below this one has taken, and what it works on."""
-    for it in process.children(recursive=True):
+def look(session, seen):
+    """Notes the processor seconds that each process of the session has taken, and what it works on."""
+    for entry in os.scandir("/proc"):
+        if not entry.name.isdigit():
+            continue
         try:
-            with it.oneshot():
-                key = it.pid, it.create_time()
-                work = seen.get(key, (None,))[0] or work_of(it.cmdline(), it.cwd())
-                times = it.cpu_times()
-                seen[key] = work, times.user + times.system
-        except psutil.Error:
+            stat = pathlib.Path(entry.path, "stat").read_text()
+            fields = stat[stat.rindex(")") + 2 :].split()
+            if int(fields[3]) != session:
+                continue
+            key = entry.name, fields[19]
+            work = seen.get(key, (None,))[0]
+            if work is None:
+                words = pathlib.Path(entry.path, "cmdline").read_text(errors="replace").split("\0")
+                work = work_of(words, os.readlink(f"{entry.path}/cwd"))
+            seen[key] = work, (int(fields[11]) + int(fields[12])) / TICKS
+        except (OSError, ValueError):
             continue
 
 
 def run_gate(command):
     """Runs the command and returns its status, its last line, its processor and wall seconds, and the seconds of each part."""
     seen, began, last, is_over = {}, time.monotonic(), "", threading.Event()
-    child = subprocess.Popen([*ENDED_WITH_CALLER, *command], cwd=ROOT, stdout=subprocess.PIPE, text=True, errors="replace")
-    process = psutil.Process(child.pid)
+    how = {"cwd": ROOT, "stdout": subprocess.PIPE, "text": True, "errors": "replace"}
+    child = subprocess.Popen([*ENDED_WITH_CALLER, *command], start_new_session=True, **how)
 
     def watch():
-        while not is_over.wait(EVERY) and process.is_running():
-            look(process, seen)
+        while not is_over.wait(EVERY):
+            look(child.pid, seen)
 
     watching = threading.Thread(target=watch)
     watching.start()
@@ -213,8 +216,6 @@ Processor seconds of one `rt ci`, crate by crate, from `docs/gate.json`, both wr
 
 def time_gate(command, is_written):
     """Runs the gate, prints the page on it, and writes it where that is asked for. Returns the gate's status."""
-    if psutil is None:
-        sys.exit("gate_times.py: there is no module psutil (Debian's python3-psutil)")
     status, last, total, wall, parts = run_gate(command)
     try:
         figures = figures_of(json.loads(FIGURES.read_text()), last, total, wall, parts)
