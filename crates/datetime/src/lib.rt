@@ -1,6 +1,7 @@
 //! Dates with times of day, at offsets from UTC.
 //!
 //! ```
+//! use datetime::WallClock;
 //! let utc = OffsetDateTime::from_unix_timestamp(1_709_251_198)?;
 //! let offset = UtcOffset::from_hms(5, 30, 0)?;
 //! let east = utc.checked_to_offset(offset).ok_or("no such day")?;
@@ -14,6 +15,8 @@
 //! - `PlainDateTime` is a date and a time of day with no offset, `UtcDateTime` one in UTC, `OffsetDateTime` one at an
 //!   offset, and `Timestamp` an instant as seconds and nanoseconds since 1970. `PlainDateTime::assume_offset` and
 //!   `OffsetDateTime::new_in_offset` make a moment of what a clock shows.
+//! - `WallClock` is the trait of all four: what they show, from `year` to `as_hms_nano`, and changes of it, from
+//!   `replace_year` to `truncate_to_day`. Its calls need `use datetime::WallClock`.
 //! - Parts that are out of range are refused with `ComponentRange` of `calendar`; so is a number of Unix time whose day
 //!   the calendar does not have, as `timestamp`.
 //! - Where the calendar does not have the day, a `checked_` call answers `None`, a `saturating_` call the nearest end,
@@ -28,5 +31,5 @@
 pub mod laws;
 
 pub use datetime_calls::{Moment, MomentCall, MomentReply, run_calls};
-pub use datetime_types::{OffsetDateTime, PlainDateTime, Timestamp, UtcDateTime};
+pub use datetime_types::{OffsetDateTime, PlainDateTime, Timestamp, UtcDateTime, WallClock};
 pub use datetime_wall::durations::{signed_from_std, std_from_signed};

@@ -6,7 +6,7 @@ use crate::rows::{
     leap_day, moved, refused, timestamp_of,
 };
 use calendar::{Month, SignedDuration, Time, UtcOffset};
-use datetime::{OffsetDateTime, PlainDateTime, Timestamp, UtcDateTime, laws};
+use datetime::{OffsetDateTime, PlainDateTime, Timestamp, UtcDateTime, WallClock, laws};
 use std::cmp::Ordering;
 use std::hash::Hash;
 use std::time::Duration;
@@ -176,29 +176,7 @@ fn ends_with_the_calendar_and_compares(rt: HostRuntime) {
 // What is shown of a value cut to each unit.
 type Cut = [(Parts, Option<UtcOffset>); 6];
 
-fn cut_plain(value: PlainDateTime) -> Cut {
-    [
-        value.truncate_to_day().shown(),
-        value.truncate_to_hour().shown(),
-        value.truncate_to_minute().shown(),
-        value.truncate_to_second().shown(),
-        value.truncate_to_millisecond().shown(),
-        value.truncate_to_microsecond().shown(),
-    ]
-}
-
-fn cut_utc(value: UtcDateTime) -> Cut {
-    [
-        value.truncate_to_day().shown(),
-        value.truncate_to_hour().shown(),
-        value.truncate_to_minute().shown(),
-        value.truncate_to_second().shown(),
-        value.truncate_to_millisecond().shown(),
-        value.truncate_to_microsecond().shown(),
-    ]
-}
-
-fn cut_shown(value: OffsetDateTime) -> Cut {
+fn cut<T: DateTime>(value: T) -> Cut {
     [
         value.truncate_to_day().shown(),
         value.truncate_to_hour().shown(),
@@ -222,11 +200,12 @@ fn are_cut(values: &Cut, offset: Option<UtcOffset>) -> bool {
 #[test]
 fn cuts_to_units(rt: HostRuntime) {
     let date = date_of(1969, Month::December, 31);
-    let (plain, utc, _, shown) = evenings();
+    let (plain, utc, timestamp, shown) = evenings();
     let are_cut = [
-        are_cut(&cut_plain(plain.replace_date(date)), None),
-        are_cut(&cut_utc(utc.replace_date(date)), None),
-        are_cut(&cut_shown(shown.replace_date(date)), Some(east())),
+        are_cut(&cut(plain.replace_date(date)), None),
+        are_cut(&cut(utc.replace_date(date)), None),
+        are_cut(&cut(timestamp.replace_date(date)), None),
+        are_cut(&cut(shown.replace_date(date)), Some(east())),
     ];
-    assert!(rt; are_cut == [true; 3]);
+    assert!(rt; are_cut == [true; 4]);
 }

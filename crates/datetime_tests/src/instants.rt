@@ -2,7 +2,7 @@
 use crate::kinds::DateTime;
 use crate::rows::{EVENING, LEAP_DAY, east, evening, leap_day, refused, timestamp_of};
 use calendar::{ComponentRange, Month, SignedDuration, UtcOffset};
-use datetime::{OffsetDateTime, PlainDateTime, Timestamp, UtcDateTime, laws};
+use datetime::{OffsetDateTime, PlainDateTime, Timestamp, UtcDateTime, WallClock, laws};
 use std::cmp::Ordering;
 
 // One instant in three types.

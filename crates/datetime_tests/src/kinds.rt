@@ -1,51 +1,28 @@
 //! What every type of date-time answers alike, so that one row serves all of them.
 use crate::rows::{DayViews, Part, Parts, Step, TimeViews};
 use calendar::{ComponentRange, Date, SignedDuration, Time, UtcOffset};
-use datetime::{OffsetDateTime, PlainDateTime, Timestamp, UtcDateTime};
+use datetime::{OffsetDateTime, PlainDateTime, Timestamp, UtcDateTime, WallClock};
 use std::time::Duration;
 
-pub trait DateTime: Copy {
-    fn parts(self) -> Parts;
-
+pub trait DateTime: WallClock {
     // The offset, where the type has one.
-    fn own_offset(self) -> Option<UtcOffset>;
-
-    // Both.
-    fn shown(self) -> (Parts, Option<UtcOffset>);
-
-    fn day_views(self) -> DayViews;
-
-    fn time_views(self) -> TimeViews;
-
-    fn replaced(self, part: Part) -> Result<Self, ComponentRange>;
-
-    fn moved(self, step: Step) -> Option<Self>;
-
-    // What the sums with both durations show, also in place, where the calendar has them.
-    fn sums(self, duration: SignedDuration, std_duration: Duration) -> Option<[Parts; 4]>;
-
-    // Likewise the differences.
-    fn differences(self, duration: SignedDuration, std_duration: Duration) -> Option<[Parts; 4]>;
-
-    fn since(self, other: Self) -> SignedDuration;
-}
-
-impl DateTime for PlainDateTime {
-    fn parts(self) -> Parts {
-        (self.to_calendar_date(), self.as_hms_nano())
-    }
-
     fn own_offset(self) -> Option<UtcOffset> {
         None
     }
 
+    // What it shows.
+    fn parts(self) -> Parts {
+        (self.to_calendar_date(), self.as_hms_nano())
+    }
+
+    // What it shows, and the offset.
     fn shown(self) -> (Parts, Option<UtcOffset>) {
         (self.parts(), self.own_offset())
     }
 
     fn day_views(self) -> DayViews {
         (
-            self.date().to_calendar_date(),
+            self.wall_clock().date().to_calendar_date(),
             self.to_ordinal_date(),
             self.to_iso_week_date(),
             self.to_julian_day(),
@@ -61,7 +38,7 @@ impl DateTime for PlainDateTime {
 
     fn time_views(self) -> TimeViews {
         (
-            self.time().as_hms_nano(),
+            self.wall_clock().time().as_hms_nano(),
             self.as_hms_micro(),
             self.as_hms_milli(),
             self.as_hms(),
@@ -70,7 +47,7 @@ impl DateTime for PlainDateTime {
         )
     }
 
-    fn replaced(self, part: Part) -> Result<PlainDateTime, ComponentRange> {
+    fn replaced(self, part: Part) -> Result<Self, ComponentRange> {
         match part {
             Part::FirstDay => Ok(self.replace_date(Date::MIN)),
             Part::Midnight => Ok(self.replace_time(Time::MIDNIGHT)),
@@ -87,6 +64,18 @@ impl DateTime for PlainDateTime {
         }
     }
 
+    fn moved(self, step: Step) -> Option<Self>;
+
+    // What the sums with both durations show, also in place, where the calendar has them.
+    fn sums(self, duration: SignedDuration, std_duration: Duration) -> Option<[Parts; 4]>;
+
+    // What the differences show, also in place.
+    fn differences(self, duration: SignedDuration, std_duration: Duration) -> Option<[Parts; 4]>;
+
+    fn since(self, other: Self) -> SignedDuration;
+}
+
+impl DateTime for PlainDateTime {
     fn moved(self, step: Step) -> Option<PlainDateTime> {
         match step {
             Step::Add(duration) => self.checked_add(duration),
@@ -136,62 +125,6 @@ impl DateTime for PlainDateTime {
 }
 
 impl DateTime for UtcDateTime {
-    fn parts(self) -> Parts {
-        (self.to_calendar_date(), self.as_hms_nano())
-    }
-
-    fn own_offset(self) -> Option<UtcOffset> {
-        None
-    }
-
-    fn shown(self) -> (Parts, Option<UtcOffset>) {
-        (self.parts(), self.own_offset())
-    }
-
-    fn day_views(self) -> DayViews {
-        (
-            self.date().to_calendar_date(),
-            self.to_ordinal_date(),
-            self.to_iso_week_date(),
-            self.to_julian_day(),
-            (self.year(), self.month(), self.day(), self.ordinal()),
-            (
-                self.iso_week(),
-                self.sunday_based_week(),
-                self.monday_based_week(),
-                self.weekday(),
-            ),
-        )
-    }
-
-    fn time_views(self) -> TimeViews {
-        (
-            self.time().as_hms_nano(),
-            self.as_hms_micro(),
-            self.as_hms_milli(),
-            self.as_hms(),
-            (self.hour(), self.minute(), self.second()),
-            (self.millisecond(), self.microsecond(), self.nanosecond()),
-        )
-    }
-
-    fn replaced(self, part: Part) -> Result<UtcDateTime, ComponentRange> {
-        match part {
-            Part::FirstDay => Ok(self.replace_date(Date::MIN)),
-            Part::Midnight => Ok(self.replace_time(Time::MIDNIGHT)),
-            Part::Year(year) => self.replace_year(year),
-            Part::Month(month) => self.replace_month(month),
-            Part::Day(day) => self.replace_day(day),
-            Part::Ordinal(ordinal) => self.replace_ordinal(ordinal),
-            Part::Hour(hour) => self.replace_hour(hour),
-            Part::Minute(minute) => self.replace_minute(minute),
-            Part::Second(second) => self.replace_second(second),
-            Part::Millisecond(millisecond) => self.replace_millisecond(millisecond),
-            Part::Microsecond(microsecond) => self.replace_microsecond(microsecond),
-            Part::Nanosecond(nanosecond) => self.replace_nanosecond(nanosecond),
-        }
-    }
-
     fn moved(self, step: Step) -> Option<UtcDateTime> {
         match step {
             Step::Add(duration) => self.checked_add(duration),
@@ -245,14 +178,6 @@ impl DateTime for Timestamp {
         (self.to_calendar_date(), self.as_hms_nano())
     }
 
-    fn own_offset(self) -> Option<UtcOffset> {
-        None
-    }
-
-    fn shown(self) -> (Parts, Option<UtcOffset>) {
-        (self.parts(), self.own_offset())
-    }
-
     fn day_views(self) -> DayViews {
         (
             self.date().to_calendar_date(),
@@ -278,23 +203,6 @@ impl DateTime for Timestamp {
             (self.hour(), self.minute(), self.second()),
             (self.millisecond(), self.microsecond(), self.nanosecond()),
         )
-    }
-
-    fn replaced(self, part: Part) -> Result<Timestamp, ComponentRange> {
-        match part {
-            Part::FirstDay => Ok(self.replace_date(Date::MIN)),
-            Part::Midnight => Ok(self.replace_time(Time::MIDNIGHT)),
-            Part::Year(year) => self.replace_year(year),
-            Part::Month(month) => self.replace_month(month),
-            Part::Day(day) => self.replace_day(day),
-            Part::Ordinal(ordinal) => self.replace_ordinal(ordinal),
-            Part::Hour(hour) => self.replace_hour(hour),
-            Part::Minute(minute) => self.replace_minute(minute),
-            Part::Second(second) => self.replace_second(second),
-            Part::Millisecond(millisecond) => self.replace_millisecond(millisecond),
-            Part::Microsecond(microsecond) => self.replace_microsecond(microsecond),
-            Part::Nanosecond(nanosecond) => self.replace_nanosecond(nanosecond),
-        }
     }
 
     fn moved(self, step: Step) -> Option<Timestamp> {
@@ -346,32 +254,12 @@ impl DateTime for Timestamp {
 }
 
 impl DateTime for OffsetDateTime {
-    fn parts(self) -> Parts {
-        (self.to_calendar_date(), self.to_hms_nano())
-    }
-
     fn own_offset(self) -> Option<UtcOffset> {
         Some(self.offset())
     }
 
-    fn shown(self) -> (Parts, Option<UtcOffset>) {
-        (self.parts(), self.own_offset())
-    }
-
-    fn day_views(self) -> DayViews {
-        (
-            self.date().to_calendar_date(),
-            self.to_ordinal_date(),
-            self.to_iso_week_date(),
-            self.to_julian_day(),
-            (self.year(), self.month(), self.day(), self.ordinal()),
-            (
-                self.iso_week(),
-                self.sunday_based_week(),
-                self.monday_based_week(),
-                self.weekday(),
-            ),
-        )
+    fn parts(self) -> Parts {
+        (self.to_calendar_date(), self.to_hms_nano())
     }
 
     fn time_views(self) -> TimeViews {
@@ -383,23 +271,6 @@ impl DateTime for OffsetDateTime {
             (self.hour(), self.minute(), self.second()),
             (self.millisecond(), self.microsecond(), self.nanosecond()),
         )
-    }
-
-    fn replaced(self, part: Part) -> Result<OffsetDateTime, ComponentRange> {
-        match part {
-            Part::FirstDay => Ok(self.replace_date(Date::MIN)),
-            Part::Midnight => Ok(self.replace_time(Time::MIDNIGHT)),
-            Part::Year(year) => self.replace_year(year),
-            Part::Month(month) => self.replace_month(month),
-            Part::Day(day) => self.replace_day(day),
-            Part::Ordinal(ordinal) => self.replace_ordinal(ordinal),
-            Part::Hour(hour) => self.replace_hour(hour),
-            Part::Minute(minute) => self.replace_minute(minute),
-            Part::Second(second) => self.replace_second(second),
-            Part::Millisecond(millisecond) => self.replace_millisecond(millisecond),
-            Part::Microsecond(microsecond) => self.replace_microsecond(microsecond),
-            Part::Nanosecond(nanosecond) => self.replace_nanosecond(nanosecond),
-        }
     }
 
     fn moved(self, step: Step) -> Option<OffsetDateTime> {

@@ -4,7 +4,7 @@ use crate::rows::{
     EVENING, FIRST, LEAP_DAY, Parts, date_of, east, evening, hash_of, leap_day, offset_of, refused,
 };
 use calendar::{Date, Month, Time, UtcOffset};
-use datetime::{OffsetDateTime, PlainDateTime, laws};
+use datetime::{OffsetDateTime, PlainDateTime, WallClock, laws};
 use std::cmp::Ordering;
 
 // The time of day, which is one.

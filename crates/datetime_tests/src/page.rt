@@ -6,6 +6,7 @@ use std::test::Fail;
 #[test]
 fn page(rt: HostRuntime) -> Result<(), Fail> {
     let alloc = rt.alloc();
+    use datetime::WallClock;
     let utc = OffsetDateTime::from_unix_timestamp(1_709_251_198)?;
     let offset = UtcOffset::from_hms(5, 30, 0)?;
     let east = utc.checked_to_offset(offset).ok_or("no such day")?;

@@ -7,6 +7,7 @@ ghost use Rattle.std.specs.Cmp.Rules.{comparing, hashing};
 ghost use Rattle.std.specs.Ordering.{int_eq, int_cmp, on, as_partial_cmp};
 ghost use Rattle.std.specs.Hash as fed;
 ghost use Rattle.calendar.specs.Range.{IsCount};
+ghost use Rattle.calendar.specs.Time.{hour_at, minute_at, second_at, millisecond_at, microsecond_at, nanosecond_at};
 ghost use Rattle.calendar.specs.UtcOffset.{IsOffset};
 ghost use Rattle.calendar.specs.ComponentRange.{out_of_range};
 ghost use Rattle.calendar_count.specs.declared.component_range.ComponentName.TheVariants as component;
@@ -14,9 +15,8 @@ ghost use Rattle.datetime_wall.specs.Wall.{second_nanos, greatest_distance, day_
 
 mod arithmetic;
 mod changes;
-mod views;
 
-use crate::{PlainDateTime, Timestamp, UtcDateTime};
+use crate::{PlainDateTime, Timestamp, UtcDateTime, WallClock};
 use calendar::{ComponentRange, Date, Time, UtcOffset};
 use calendar_count::padding;
 use datetime_wall::wall;
@@ -217,6 +217,55 @@ impl OffsetDateTime {
         self.checked_to_offset(offset).unwrap()
     }
 
+    /// The hour, the minute and the second.
+    #[inline(always)]
+    pub fn to_hms(self) -> (u8, u8, u8)
+        ensures hour { result.0 ≡ hour_at (nanosecond_of self.wall) }
+        ensures minute { result.1 ≡ minute_at (nanosecond_of self.wall) }
+        ensures second { result.2 ≡ second_at (nanosecond_of self.wall) }
+        ensures bound { (result.0 < 24) × (result.1 < 60) × (result.2 < 60) }
+    {
+        self.wall.as_hms()
+    }
+
+    /// The hour, the minute, the second and the millisecond.
+    #[inline(always)]
+    pub fn to_hms_milli(self) -> (u8, u8, u8, u16)
+        ensures hour { result.0 ≡ hour_at (nanosecond_of self.wall) }
+        ensures minute { result.1 ≡ minute_at (nanosecond_of self.wall) }
+        ensures second { result.2 ≡ second_at (nanosecond_of self.wall) }
+        ensures millisecond { result.3 ≡ millisecond_at (nanosecond_of self.wall) }
+        ensures bound { (result.0 < 24) × (result.1 < 60) × (result.2 < 60) × (result.3 < 1000) }
+    {
+        self.wall.as_hms_milli()
+    }
+
+    /// The hour, the minute, the second and the microsecond.
+    #[inline(always)]
+    pub fn to_hms_micro(self) -> (u8, u8, u8, u32)
+        ensures hour { result.0 ≡ hour_at (nanosecond_of self.wall) }
+        ensures minute { result.1 ≡ minute_at (nanosecond_of self.wall) }
+        ensures second { result.2 ≡ second_at (nanosecond_of self.wall) }
+        ensures microsecond { result.3 ≡ microsecond_at (nanosecond_of self.wall) }
+        ensures bound { (result.0 < 24) × (result.1 < 60) × (result.2 < 60)
+            × (result.3 < 1_000_000) }
+    {
+        self.wall.as_hms_micro()
+    }
+
+    /// The hour, the minute, the second and the nanosecond.
+    #[inline(always)]
+    pub fn to_hms_nano(self) -> (u8, u8, u8, u32)
+        ensures hour { result.0 ≡ hour_at (nanosecond_of self.wall) }
+        ensures minute { result.1 ≡ minute_at (nanosecond_of self.wall) }
+        ensures second { result.2 ≡ second_at (nanosecond_of self.wall) }
+        ensures nanosecond { result.3 ≡ nanosecond_at (nanosecond_of self.wall) }
+        ensures bound { (result.0 < 24) × (result.1 < 60) × (result.2 < 60)
+            × (result.3 < 1_000_000_000) }
+    {
+        self.wall.as_hms_nano()
+    }
+
     // The whole seconds since 1970 began in UTC, rounded down, and the nanoseconds after them.
     #[inline(always)]
     pub(crate) fn parts(self) -> (i64, u32)
@@ -228,6 +277,22 @@ impl OffsetDateTime {
             seconds - i64::from(self.offset.whole_seconds()),
             nanoseconds,
         )
+    }
+}
+
+impl WallClock for OffsetDateTime {
+    ghost wall_of = { λ m. m.wall };
+
+    ghost with_wall = { λ m wall. record { wall = wall; offset = m.offset } };
+
+    #[inline(always)]
+    fn wall_clock(self) -> PlainDateTime {
+        self.wall
+    }
+
+    #[inline(always)]
+    fn with_wall_clock(self, wall: PlainDateTime) -> OffsetDateTime {
+        OffsetDateTime::from_wall(wall, self.offset)
     }
 }
 

@@ -10,10 +10,8 @@ ghost use Rattle.calendar.specs.UtcOffset.{IsOffset};
 ghost use Rattle.datetime_wall.specs.Wall.{second_nanos, greatest_distance, day_nanos, wall_clock, day_of, nanosecond_of, IsWallClock};
 
 mod arithmetic;
-mod changes;
-mod views;
 
-use crate::{OffsetDateTime, UtcDateTime};
+use crate::{OffsetDateTime, UtcDateTime, WallClock};
 use calendar::{Date, Time, UtcOffset};
 use calendar_count::padding;
 use datetime_wall::wall;
@@ -154,6 +152,24 @@ impl PlainDateTime {
         ensures bound { (unsigned_abs result.0 ≤ greatest_distance) × (result.1 < second_nanos) }
     {
         (wall::unix_seconds(self.date, self.time), self.nanosecond())
+    }
+}
+
+impl WallClock for PlainDateTime {
+    ghost wall_of = { λ w. w };
+
+    ghost with_wall = { λ _ w. w };
+
+    #[inline(always)]
+    fn wall_clock(self) -> PlainDateTime {
+        // The range comes with this call.
+        let _ = self.date();
+        self
+    }
+
+    #[inline(always)]
+    fn with_wall_clock(self, wall: PlainDateTime) -> PlainDateTime {
+        wall
     }
 }
 

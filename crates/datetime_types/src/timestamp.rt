@@ -16,11 +16,10 @@ ghost use Rattle.datetime_wall.specs.Seconds.{IsUnixSecond};
 ghost use Rattle.datetime_types.specs.Unix.{unix_nanos, is_unix_second};
 
 mod arithmetic;
-mod changes;
 mod text;
 mod views;
 
-use crate::{OffsetDateTime, UtcDateTime};
+use crate::{OffsetDateTime, PlainDateTime, UtcDateTime, WallClock};
 use calendar::{ComponentRange, Date, Time, UtcOffset};
 use calendar_count::ComponentName;
 use calendar_count::range::{LAST_COUNT, UNIX_EPOCH};
@@ -289,6 +288,22 @@ impl Timestamp {
         ensures range { IsWallClock self }
     {
         (self.seconds, self.nanoseconds)
+    }
+}
+
+impl WallClock for Timestamp {
+    ghost wall_of = { λ t. t };
+
+    ghost with_wall = { λ _ w. w };
+
+    #[inline(always)]
+    fn wall_clock(self) -> PlainDateTime {
+        self.to_utc().wall()
+    }
+
+    #[inline(always)]
+    fn with_wall_clock(self, wall: PlainDateTime) -> Timestamp {
+        Timestamp::from_utc(wall.as_utc())
     }
 }
 

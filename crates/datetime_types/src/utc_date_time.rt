@@ -14,10 +14,8 @@ ghost use Rattle.datetime_wall.specs.Wall.{second_nanos, greatest_distance, day_
 ghost use Rattle.datetime_wall.specs.Seconds.{IsUnixSecond};
 
 mod arithmetic;
-mod changes;
-mod views;
 
-use crate::{OffsetDateTime, PlainDateTime, Timestamp};
+use crate::{OffsetDateTime, PlainDateTime, Timestamp, WallClock};
 use calendar::{ComponentRange, Date, Time, UtcOffset};
 use calendar_count::padding;
 use datetime_wall::wall;
@@ -183,6 +181,22 @@ impl UtcDateTime {
         ensures bound { (unsigned_abs result.0 ≤ greatest_distance) × (result.1 < second_nanos) }
     {
         self.wall.parts()
+    }
+}
+
+impl WallClock for UtcDateTime {
+    ghost wall_of = { λ w. w };
+
+    ghost with_wall = { λ _ w. w };
+
+    #[inline(always)]
+    fn wall_clock(self) -> PlainDateTime {
+        self.wall()
+    }
+
+    #[inline(always)]
+    fn with_wall_clock(self, wall: PlainDateTime) -> UtcDateTime {
+        UtcDateTime::from_wall(wall)
     }
 }
 

@@ -8,6 +8,7 @@ ghost use Rattle.instants_found.specs.Beside.{read_at};
 ghost use Rattle.instants_found.specs.Doubts as Doubts;
 
 use crate::doubt::Doubt;
+use datetime_types::WallClock;
 use instants_edges::{
     has_another_offset, has_another_year, has_clock_beside, has_clock_in_front, is_edge, may_say,
 };

@@ -6,7 +6,7 @@ ghost use Rattle.instants_fronts.specs.InRange.{year_in_range, time_in_range};
 
 use crate::given::{Given, Years};
 use calendar::UtcOffset;
-use datetime_types::OffsetDateTime;
+use datetime_types::{OffsetDateTime, WallClock};
 use parsing_record::Parsed;
 
 const MINUTES_OF_DAY: u16 = 1440;

@@ -7,7 +7,7 @@ ghost use Rattle.instants_timeline.specs.Settings.{setting_of};
 ghost use Rattle.instants_memory.specs.Numbers.{entry_of, numbers_of};
 
 use crate::numbers::fault_number;
-use datetime_types::OffsetDateTime;
+use datetime_types::{OffsetDateTime, WallClock};
 use instants_timeline::{LineFault, Timeline, TooLittleRoom};
 
 const LINE_FEED: u8 = b'\n';

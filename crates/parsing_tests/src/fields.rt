@@ -1,6 +1,7 @@
 //! The fields of date-times, what finds them in a text, and what they name.
 
 use calendar::UtcOffset;
+use datetime_types::WallClock;
 use description::{Description, DescriptionVersion, parse_borrowed, parse_strftime_borrowed};
 use parsing_combinator::digit_chunk;
 use parsing_fields::{Fields, Fraction, Year, digit_pair, minute_of_day, signed_minutes};

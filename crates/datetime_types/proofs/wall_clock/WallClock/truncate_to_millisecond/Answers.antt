@@ -1,0 +1,6 @@
+use Rattle.std.proofs.Common.{◌∙◌, refl}
+use Rattle.datetime_wall.proofs.lemmas.Cuts.{cut_millisecond}
+use Rattle.datetime_types.proofs.wall_clock.WallClock.truncate_to_millisecond.Goals as goal
+
+pub returns : goal.returns
+returns g c = c.replace_time.ensures.value ∙ rw (c.truncate_to_millisecond.ensures.value, c.time.ensures.value, c.wall_clock.ensures.value, cut_millisecond _ c.wall_clock.ensures.range) refl
