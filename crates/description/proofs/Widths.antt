@@ -38,7 +38,8 @@ use Rattle.description_tables.specs.declared.keys.Key.TheVariants as key
 use Rattle.description_tables.specs.declared.chosen.Chosen.{Chosen}
 use Rattle.description_tables.specs.Names.{name_of, name_text}
 use Rattle.description_tables.specs.Keys.{key_of, has_key}
-use Rattle.description_tables.specs.Values.{sign_of}
+use Rattle.description_tables.specs.Lookup.{lookup}
+use Rattle.description_tables.specs.Values.{signs}
 use Rattle.description_tables.specs.Chosen.{nothing, with_value, is_chosen}
 use Rattle.description_tables.specs.Made.{made}
 use Rattle.description_tables.specs.Component.{found, bad, key_in, with_modifier, with_modifiers, combined, named, component_of}
@@ -178,13 +179,13 @@ taken_first n d m e =
 timestamp_modifier : (m : Modifier) → TakenFirst name.UnixTimestamp m → 0 < length m.value.text → 8 ≤ 2 + length m.key.text + length m.value.text
 timestamp_modifier m t some = by_key t.key (key_is m.key.text t.key t.is_key) t.fits t.value t.is_value
   where
-    sign_value : (o : Option Bool) (d : Chosen) → sign_of Three m.value.text ≡ o → option_map (λ x. record nothing { sign = Some x }) o ≡ Some d → 9 ≤ length m.value.text
+    sign_value : (o : Option Bool) (d : Chosen) → lookup Three signs m.value.text ≡ o → option_map (λ x. record nothing { sign = Some x }) o ≡ Some d → 9 ≤ length m.value.text
     sign_value None d is_o e = absurd (none_not d e)
     sign_value (Some false) d is_o e = omega (arith, ap (length {A = ℕ}) (sign_is m.value.text false is_o))
     sign_value (Some true) d is_o e = omega (arith, ap (length {A = ℕ}) (sign_is m.value.text true is_o))
 
     by_key : (k : Key) → m.key.text ≡ key_text k → has_key k name.UnixTimestamp ≡ true → (d : Chosen) → with_value Three name.UnixTimestamp nothing k m.value.text ≡ Some d → 8 ≤ 2 + length m.key.text + length m.value.text
-    by_key key.Sign is_key fits d e = omega (arith, sign_value (sign_of Three m.value.text) d refl e)
+    by_key key.Sign is_key fits d e = omega (arith, sign_value (lookup Three signs m.value.text) d refl e)
     by_key key.Precision is_key fits d e = omega (arith, ap (length {A = ℕ}) is_key)
     by_key key.Padding is_key fits d e = absurd cc
     by_key key.Repr is_key fits d e = absurd cc
