@@ -6,12 +6,12 @@ ghost use Rattle.description_tables.specs.Lookup.{lookup};
 use description_lexer::{DescriptionVersion, is_named};
 
 /// The value beside the first word that this one is.
-#[tactic(auto, unfolding(crate::specs::Lookup::lookup))]
+#[tactic(auto, using(crate::proofs::Lengths::name_length), unfolding(crate::specs::Lookup::lookup))]
 pub fn lookup<T: Copy>(version: DescriptionVersion, table: &[(&str, T)], word: &str) -> Option<T>
     ensures { result ≡ lookup version (map (λ entry. (entry.0.now, entry.1)) table.now) word.now }
 {
     for (name, value) in table {
-        if is_named(version, word, name) {
+        if name.len() == word.len() && is_named(version, word, name) {
             return Some(*value);
         }
     }
