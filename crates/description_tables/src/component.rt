@@ -78,8 +78,8 @@ fn combined<'a>(
     name: Name,
     chosen: Chosen,
     all: &[Modifier<'a>],
-) -> Result<(), InvalidFormatDescription<'a>>
-    ensures { Answers (λ _. chosen) result (combined version name chosen (modifiers all.now)) }
+) -> Result<Chosen, InvalidFormatDescription<'a>>
+    ensures { Answers (λ c. c) result (combined version name chosen (modifiers all.now)) }
 {
     for one in all {
         let key = key_in(version, name, one.key)?;
@@ -91,7 +91,7 @@ fn combined<'a>(
             });
         }
     }
-    Ok(())
+    Ok(chosen)
 }
 
 #[tactic(auto, unfolding(crate::specs::Component::named))]
@@ -125,7 +125,7 @@ pub fn component_of<'a>(
 {
     let name = named(version, word)?;
     let chosen = with_modifiers(version, name, all)?;
-    combined(version, name, chosen, all)?;
+    let chosen = combined(version, name, chosen, all)?;
     match made(version, name, chosen) {
         Some(component) => Ok(component),
         None => Err(InvalidFormatDescription::MissingRequiredModifier {
