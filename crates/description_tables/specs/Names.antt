@@ -10,9 +10,9 @@ abbrev pub names : Table Name
 names =
     (codes "day", name.Day) ∷ (codes "ordinal", name.Ordinal) ∷ (codes "month", name.Month) ∷ (codes "weekday", name.Weekday) ∷
     (codes "week_number", name.WeekNumber) ∷ (codes "year", name.Year) ∷ (codes "hour", name.Hour) ∷ (codes "minute", name.Minute) ∷
-    (codes "second", name.Second) ∷ (codes "period", name.Period) ∷ (codes "subsecond", name.Subsecond) ∷ (codes "offset_hour", name.OffsetHour) ∷
-    (codes "offset_minute", name.OffsetMinute) ∷ (codes "offset_second", name.OffsetSecond) ∷ (codes "unix_timestamp", name.UnixTimestamp) ∷ (codes "ignore", name.Ignore) ∷
-    (codes "end", name.End) ∷ []
+    (codes "second", name.Second) ∷ (codes "period", name.Period) ∷ (codes "subsecond", name.Subsecond) ∷
+    (codes "offset_hour", name.OffsetHour) ∷ (codes "offset_minute", name.OffsetMinute) ∷ (codes "offset_second", name.OffsetSecond) ∷
+    (codes "unix_timestamp", name.UnixTimestamp) ∷ (codes "ignore", name.Ignore) ∷ (codes "end", name.End) ∷ []
 
 unfoldable pub name_of : DescriptionVersion → List ℕ → Option Name
 name_of v word = lookup v names word
