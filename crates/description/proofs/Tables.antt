@@ -1,19 +1,19 @@
 -- Words by the tables of version 3.
-use Rattle.std.proofs.Common.{◌≡◌, ℕ, List, Option, Some, None, Ok, Err, Bool, true, false, cond, refl, sym, ap, subst, ◌∙◌, inl, inr}
+use Rattle.std.proofs.Common.{◌≡◌, ℕ, List, [], ◌∷◌, map, Option, Some, None, Ok, Err, Bool, true, false, refl, sym, ap, subst, inl, inr}
 use Rattle.std.specs.Prelude.{codes}
 use Rattle.std.proofs.lemmas.Slice.Eq.{bytes_eq-Decides}
 use Rattle.description_lexer.specs.Fault.{Fault}
 use Rattle.description_lexer.specs.declared.version.DescriptionVersion.TheVariants.{Three}
 use Rattle.description_lexer.specs.Words.{is_named}
 use Rattle.description_lexer.proofs.Readings.{ok_is, not_ok, chosen}
+use Rattle.description_tables.specs.Lookup.{Table, lookup}
 use Rattle.description_tables.specs.declared.names.Name.{Name}
-use Rattle.description_tables.specs.declared.names.Name.TheVariants as name
 use Rattle.description_tables.specs.declared.keys.Key.{Key}
 use Rattle.description_tables.specs.declared.keys.Key.TheVariants as key
 use Rattle.description_tables.specs.declared.chosen.Chosen.{Chosen}
-use Rattle.description_tables.specs.Names.{time_name_of, name_of, name_text}
-use Rattle.description_tables.specs.Keys.{key_of, has_key}
-use Rattle.description_tables.specs.Values.{sign_of}
+use Rattle.description_tables.specs.Names.{names, name_of, name_text}
+use Rattle.description_tables.specs.Keys.{keys, key_of, has_key}
+use Rattle.description_tables.specs.Values.{signs}
 use Rattle.description_tables.specs.Component.{found, key_among}
 
 -- ---- words by their tables
@@ -24,27 +24,25 @@ some_is x y e = cc
 pub none_not : {A : Type 0} (y : A) → None ≡ Some y → ⊥
 none_not y e = cc
 
--- a word that a table has is the table's
-pub by_word : {A : Type 0} (w text : List ℕ) (x y : A) (rest : Option A) (text_of : A → List ℕ) → cond (is_named Three w text) (Some x) rest ≡ Some y → text_of x ≡ text → (rest ≡ Some y → w ≡ text_of y) → w ≡ text_of y
-by_word {A} w text x y rest text_of e same others =
-    elim (chosen (is_named Three w text) (Some x) rest (Some y) e) [
-      | inl h ↦ (bytes_eq-Decides w text).0 h.0 ∙ sym same ∙ ap text_of (some_is x y h.1)
-      | inr h ↦ others h.1
-    ]
+pub heads_are : {A : Type 0} (x y : A) (xs ys : List A) → (x ∷ xs) ≡ (y ∷ ys) → x ≡ y
+heads_are x y xs ys e = cc
 
-pub time_name_is : (w : List ℕ) (n : Name) → time_name_of Three w ≡ Some n → w ≡ name_text n
-unfolding time_name_of
-time_name_is w n e =
-    by_word w (codes "hour") name.Hour n _ name_text e refl (λ e. by_word w (codes "minute") name.Minute n _ name_text e refl (λ e. by_word w (codes "second") name.Second n _ name_text e refl (λ e.
-    by_word w (codes "period") name.Period n _ name_text e refl (λ e. by_word w (codes "subsecond") name.Subsecond n _ name_text e refl (λ e. by_word w (codes "offset_hour") name.OffsetHour n _ name_text e refl (λ e.
-    by_word w (codes "offset_minute") name.OffsetMinute n _ name_text e refl (λ e. by_word w (codes "offset_second") name.OffsetSecond n _ name_text e refl (λ e. by_word w (codes "unix_timestamp") name.UnixTimestamp n _ name_text e refl (λ e.
-    by_word w (codes "ignore") name.Ignore n _ name_text e refl (λ e. by_word w (codes "end") name.End n _ name_text e refl (λ e. absurd (none_not n e))))))))))))
+pub tails_are : {A : Type 0} (x y : A) (xs ys : List A) → (x ∷ xs) ≡ (y ∷ ys) → xs ≡ ys
+tails_are x y xs ys e = cc
+
+-- what holds of each entry of a table holds of what is found there
+pub by_entry : {A B : Type 0} (f g : List ℕ × A → B) (entries : Table A) → map f entries ≡ map g entries → (w : List ℕ) (x : A) → lookup Three entries w ≡ Some x → f (w, x) ≡ g (w, x)
+unfolding lookup
+by_entry f g [] same w x e = absurd (none_not x e)
+by_entry f g ((name, value) ∷ entries) same w x e =
+    elim (chosen (is_named Three w name) (Some value) (lookup Three entries w) (Some x) e) [
+      | inl h ↦ rw ((bytes_eq-Decides w name).0 h.0, sym (some_is value x h.1)) (heads_are _ _ _ _ same)
+      | inr h ↦ by_entry f g entries (tails_are _ _ _ _ same) w x h.1
+    ]
 
 pub name_is : (w : List ℕ) (n : Name) → name_of Three w ≡ Some n → w ≡ name_text n
 unfolding name_of
-name_is w n e =
-    by_word w (codes "day") name.Day n _ name_text e refl (λ e. by_word w (codes "ordinal") name.Ordinal n _ name_text e refl (λ e. by_word w (codes "month") name.Month n _ name_text e refl (λ e.
-    by_word w (codes "weekday") name.Weekday n _ name_text e refl (λ e. by_word w (codes "week_number") name.WeekNumber n _ name_text e refl (λ e. by_word w (codes "year") name.Year n _ name_text e refl (λ e. time_name_is w n e))))))
+name_is = by_entry (λ e. e.0) (λ e. name_text e.1) names refl
 
 abbrev pub key_text : Key → List ℕ
 key_text key.Padding = codes "padding"
@@ -62,19 +60,14 @@ key_text key.TrailingInput = codes "trailing_input"
 
 pub key_is : (w : List ℕ) (k : Key) → key_of Three w ≡ Some k → w ≡ key_text k
 unfolding key_of
-key_is w k e =
-    by_word w (codes "padding") key.Padding k _ key_text e refl (λ e. by_word w (codes "repr") key.Repr k _ key_text e refl (λ e. by_word w (codes "case_sensitive") key.CaseSensitive k _ key_text e refl (λ e.
-    by_word w (codes "one_indexed") key.OneIndexed k _ key_text e refl (λ e. by_word w (codes "base") key.Base k _ key_text e refl (λ e. by_word w (codes "sign") key.Sign k _ key_text e refl (λ e.
-    by_word w (codes "range") key.Range k _ key_text e refl (λ e. by_word w (codes "case") key.Case k _ key_text e refl (λ e. by_word w (codes "digits") key.Digits k _ key_text e refl (λ e.
-    by_word w (codes "count") key.Count k _ key_text e refl (λ e. by_word w (codes "precision") key.Precision k _ key_text e refl (λ e. by_word w (codes "trailing_input") key.TrailingInput k _ key_text e refl (λ e. absurd (none_not k e)))))))))))))
+key_is = by_entry (λ e. e.0) (λ e. key_text e.1) keys refl
 
 abbrev pub sign_text : Bool → List ℕ
 sign_text false = codes "automatic"
 sign_text true = codes "mandatory"
 
-pub sign_is : (w : List ℕ) (b : Bool) → sign_of Three w ≡ Some b → w ≡ sign_text b
-unfolding sign_of
-sign_is w b e = by_word w (codes "automatic") false b _ sign_text e refl (λ e. by_word w (codes "mandatory") true b _ sign_text e refl (λ e. absurd (none_not b e)))
+pub sign_is : (w : List ℕ) (b : Bool) → lookup Three signs w ≡ Some b → w ≡ sign_text b
+sign_is = by_entry (λ e. e.0) (λ e. sign_text e.1) signs refl
 
 pub key_found : (o : Option Key) (n : Name) (f : Fault) (k : Key) → key_among o n f ≡ Ok k → (o ≡ Some k) × (has_key k n ≡ true)
 key_found None n f k e = absurd (not_ok f k e)

@@ -115,17 +115,7 @@ by_key : (n : Name) (c d : Chosen) (k : Key) (w value : List ℕ) → w ≡ key_
 by_key n c d key.Range w value is_key e =
     let x = mapped _ _ d e in
     ap ranged (sym x.1) ∙ sym (ap (λ (t : List ℕ). bytes_eq t (codes "range") || ranged c) is_key)
-by_key n c d key.Padding w value is_key e = other_key w key.Padding c d _ _ is_key refl (λ x. refl) e
-by_key n c d key.Repr w value is_key e = other_key w key.Repr c d _ _ is_key refl (λ x. refl) e
-by_key n c d key.CaseSensitive w value is_key e = other_key w key.CaseSensitive c d _ _ is_key refl (λ x. refl) e
-by_key n c d key.OneIndexed w value is_key e = other_key w key.OneIndexed c d _ _ is_key refl (λ x. refl) e
-by_key n c d key.Base w value is_key e = other_key w key.Base c d _ _ is_key refl (λ x. refl) e
-by_key n c d key.Sign w value is_key e = other_key w key.Sign c d _ _ is_key refl (λ x. refl) e
-by_key n c d key.Case w value is_key e = other_key w key.Case c d _ _ is_key refl (λ x. refl) e
-by_key n c d key.Digits w value is_key e = other_key w key.Digits c d _ _ is_key refl (λ x. refl) e
-by_key n c d key.Count w value is_key e = other_key w key.Count c d _ _ is_key refl (λ x. refl) e
-by_key n c d key.Precision w value is_key e = other_key w key.Precision c d _ _ is_key refl (λ x. refl) e
-by_key n c d key.TrailingInput w value is_key e = other_key w key.TrailingInput c d _ _ is_key refl (λ x. refl) e
+by_key n c d k w value is_key e = other_key w k c d _ _ is_key refl (λ x. refl) e
 
 -- a range is chosen where it is among the modifiers
 range_chosen : (n : Name) (c d : Chosen) (ms : List Modifier) → with_modifiers Three n c ms ≡ Ok d → ranged d ≡ (has_range ms || ranged c)
@@ -148,19 +138,15 @@ range_chosen n c d (m ∷ ms) e =
 
 month_kept : (r : MonthRepr) (p : Padding) (s : Bool) → extended (modern_month r p s) ≡ modern_month r p s
 month_kept month.Numerical p s = refl
-month_kept month.Long p s = refl
-month_kept month.Short p s = refl
+month_kept r p s = refl
 
 weekday_kept : (r : WeekdayRepr) (i s : Bool) → extended (modern_weekday r i s) ≡ modern_weekday r i s
 weekday_kept weekday.Short i s = refl
-weekday_kept weekday.Long i s = refl
-weekday_kept weekday.Sunday i s = refl
-weekday_kept weekday.Monday i s = refl
+weekday_kept r i s = refl
 
 week_kept : (r : WeekNumberRepr) (p : Padding) → extended (modern_week_number r p) ≡ modern_week_number r p
 week_kept week.Iso p = refl
-week_kept week.Sunday p = refl
-week_kept week.Monday p = refl
+week_kept r p = refl
 
 hour_kept : (twelve : Bool) (p : Padding) → extended (modern_hour twelve p) ≡ modern_hour twelve p
 hour_kept true p = refl
@@ -168,17 +154,13 @@ hour_kept false p = refl
 
 timestamp_kept : (u : UnixTimestampPrecision) (s : Bool) → extended (modern_timestamp u s) ≡ modern_timestamp u s
 timestamp_kept unit.Second s = refl
-timestamp_kept unit.Millisecond s = refl
-timestamp_kept unit.Microsecond s = refl
-timestamp_kept unit.Nanosecond s = refl
+timestamp_kept u s = refl
 
 year_extended : (iso : Bool) (r : YearRepr) (p : Padding) (s : Bool) → extended (modern_year iso r range.Standard p s) ≡ modern_year iso r range.Extended p s
 year_extended true year.Full p s = refl
-year_extended true year.Century p s = refl
-year_extended true year.LastTwo p s = refl
+year_extended true r p s = refl
 year_extended false year.Full p s = refl
-year_extended false year.Century p s = refl
-year_extended false year.LastTwo p s = refl
+year_extended false r p s = refl
 
 abbrev some_component : Component → Option Component
 some_component c = Some c
@@ -195,21 +177,11 @@ made_kept : (b : Bool) (c x : Component) → extended c ≡ c → some_component
 made_kept b c x same e = kept b c same ∙ ap (λ (y : Component). some_component (in_two b y)) (some_is c x e)
 
 made_two : (n : Name) (d : Chosen) (c : Component) → made Three n d ≡ Some c → made Two n d ≡ Some (in_two (ranged d) c)
-made_two name.Day d c e = made_kept (ranged d) _ c refl e
-made_two name.Ordinal d c e = made_kept (ranged d) _ c refl e
-made_two name.Minute d c e = made_kept (ranged d) _ c refl e
-made_two name.Second d c e = made_kept (ranged d) _ c refl e
-made_two name.OffsetMinute d c e = made_kept (ranged d) _ c refl e
-made_two name.OffsetSecond d c e = made_kept (ranged d) _ c refl e
 made_two name.Month d c e = made_kept (ranged d) _ c (month_kept _ _ _) e
 made_two name.Weekday d c e = made_kept (ranged d) _ c (weekday_kept _ _ _) e
 made_two name.WeekNumber d c e = made_kept (ranged d) _ c (week_kept _ _) e
 made_two name.Hour d c e = made_kept (ranged d) _ c (hour_kept _ _) e
-made_two name.Period d c e = made_kept (ranged d) _ c refl e
-made_two name.OffsetHour d c e = made_kept (ranged d) _ c refl e
 made_two name.UnixTimestamp d c e = made_kept (ranged d) _ c (timestamp_kept _ _) e
-made_two name.Subsecond d c e = made_kept (ranged d) _ c refl e
-made_two name.End d c e = made_kept (ranged d) _ c refl e
 made_two name.Ignore d c e = of_ignored (option_and_then ignored d.count) e
   where
     of_ignored : (o : Option Ignore) → option_map (λ i. component.Ignore i) o ≡ Some c → option_map (λ i. component.Ignore i) o ≡ Some (in_two (ranged d) c)
@@ -223,6 +195,7 @@ made_two name.Year d c e = by_range d.range e
     by_range : (g : Option YearRange) → some_component (a_year (unwrap_or g range.Standard)) ≡ Some c → some_component (a_year (unwrap_or g range.Extended)) ≡ Some (in_two (is_some g) c)
     by_range (Some g) e = e
     by_range None e = ap some_component (sym (year_extended _ _ _ _)) ∙ ap (λ (y : Component). some_component (extended y)) (some_is _ c e)
+made_two n d c e = made_kept (ranged d) _ c refl e
 
 pub component_two : (own : List ℕ) (c : Component) (h : SpellsComponent Three own c) → SpellsComponent Two own (in_two (has_range h.modifiers) c)
 unfolding component_of named

@@ -38,7 +38,8 @@ use Rattle.description_tables.specs.declared.keys.Key.TheVariants as key
 use Rattle.description_tables.specs.declared.chosen.Chosen.{Chosen}
 use Rattle.description_tables.specs.Names.{name_of, name_text}
 use Rattle.description_tables.specs.Keys.{key_of, has_key}
-use Rattle.description_tables.specs.Values.{sign_of}
+use Rattle.description_tables.specs.Lookup.{lookup}
+use Rattle.description_tables.specs.Values.{signs}
 use Rattle.description_tables.specs.Chosen.{nothing, with_value, is_chosen}
 use Rattle.description_tables.specs.Made.{made}
 use Rattle.description_tables.specs.Component.{found, bad, key_in, with_modifier, with_modifiers, combined, named, component_of}
@@ -51,34 +52,25 @@ use Rattle.description_grammar.specs.Heads.{SpellsModifiers, SpellsComponent}
 month_width : (r : MonthRepr) (p : Padding) (s : Bool) → width_of (modern_month r p s) ≤ 9
 unfolding width_of
 month_width month.Numerical p s = omega arith
-month_width month.Long p s = omega arith
-month_width month.Short p s = omega arith
+month_width r p s = omega arith
 
 weekday_width : (r : WeekdayRepr) (i s : Bool) → width_of (modern_weekday r i s) ≤ 9
 unfolding width_of
 weekday_width weekday.Short i s = omega arith
-weekday_width weekday.Long i s = omega arith
-weekday_width weekday.Sunday i s = omega arith
-weekday_width weekday.Monday i s = omega arith
+weekday_width r i s = omega arith
 
 week_width : (r : WeekNumberRepr) (p : Padding) → width_of (modern_week_number r p) ≤ 9
 unfolding width_of
 week_width week.Iso p = omega arith
-week_width week.Sunday p = omega arith
-week_width week.Monday p = omega arith
+week_width r p = omega arith
 
 year_width : (iso : Bool) (r : YearRepr) (g : YearRange) (p : Padding) (s : Bool) → width_of (modern_year iso r g p s) ≤ 9
 unfolding width_of
 year_width true year.Full range.Extended p s = omega arith
-year_width true year.Full range.Standard p s = omega arith
 year_width true year.Century range.Extended p s = omega arith
-year_width true year.Century range.Standard p s = omega arith
-year_width true year.LastTwo g p s = omega arith
 year_width false year.Full range.Extended p s = omega arith
-year_width false year.Full range.Standard p s = omega arith
 year_width false year.Century range.Extended p s = omega arith
-year_width false year.Century range.Standard p s = omega arith
-year_width false year.LastTwo g p s = omega arith
+year_width iso r g p s = omega arith
 
 hour_width : (twelve : Bool) (p : Padding) → width_of (modern_hour twelve p) ≤ 9
 unfolding width_of
@@ -88,21 +80,11 @@ hour_width false p = omega arith
 timestamp_width : (u : UnixTimestampPrecision) (s : Bool) → width_of (modern_timestamp u s) ≤ 24
 unfolding width_of
 timestamp_width unit.Second s = omega arith
-timestamp_width unit.Millisecond s = omega arith
-timestamp_width unit.Microsecond s = omega arith
-timestamp_width unit.Nanosecond s = omega arith
+timestamp_width u s = omega arith
 
 digits_most : (d : SubsecondDigits) → digits_width d ≤ 9
 digits_most digit.One = omega arith
-digits_most digit.Two = omega arith
-digits_most digit.Three = omega arith
-digits_most digit.Four = omega arith
-digits_most digit.Five = omega arith
-digits_most digit.Six = omega arith
-digits_most digit.Seven = omega arith
-digits_most digit.Eight = omega arith
-digits_most digit.Nine = omega arith
-digits_most digit.OneOrMore = omega arith
+digits_most d = omega arith
 
 abbrev most : Name → ℕ
 most name.UnixTimestamp = 24
@@ -111,19 +93,11 @@ most n = 9
 -- whatever was chosen
 any_width : (n : Name) (d : Chosen) (c : Component) → made Three n d ≡ Some c → width_of c ≤ most n
 unfolding width_of
-any_width name.Day d c e = subst (λ (c : Component). width_of c ≤ 9) (some_is _ c e) (omega arith)
-any_width name.Ordinal d c e = subst (λ (c : Component). width_of c ≤ 9) (some_is _ c e) (omega arith)
-any_width name.Minute d c e = subst (λ (c : Component). width_of c ≤ 9) (some_is _ c e) (omega arith)
-any_width name.Second d c e = subst (λ (c : Component). width_of c ≤ 9) (some_is _ c e) (omega arith)
-any_width name.OffsetMinute d c e = subst (λ (c : Component). width_of c ≤ 9) (some_is _ c e) (omega arith)
-any_width name.OffsetSecond d c e = subst (λ (c : Component). width_of c ≤ 9) (some_is _ c e) (omega arith)
 any_width name.Month d c e = subst (λ (c : Component). width_of c ≤ 9) (some_is _ c e) (month_width _ _ _)
 any_width name.Weekday d c e = subst (λ (c : Component). width_of c ≤ 9) (some_is _ c e) (weekday_width _ _ _)
 any_width name.WeekNumber d c e = subst (λ (c : Component). width_of c ≤ 9) (some_is _ c e) (week_width _ _)
 any_width name.Year d c e = subst (λ (c : Component). width_of c ≤ 9) (some_is _ c e) (year_width _ _ _ _ _)
 any_width name.Hour d c e = subst (λ (c : Component). width_of c ≤ 9) (some_is _ c e) (hour_width _ _)
-any_width name.Period d c e = subst (λ (c : Component). width_of c ≤ 9) (some_is _ c e) (omega arith)
-any_width name.OffsetHour d c e = subst (λ (c : Component). width_of c ≤ 9) (some_is _ c e) (omega arith)
 any_width name.UnixTimestamp d c e = subst (λ (c : Component). width_of c ≤ 24) (some_is _ c e) (timestamp_width _ _)
 any_width name.Subsecond d c e = subst (λ (c : Component). width_of c ≤ 9) (some_is _ c e) (digits_most _)
 any_width name.Ignore d c e = of_ignored (option_and_then ignored d.count) e
@@ -131,28 +105,13 @@ any_width name.Ignore d c e = of_ignored (option_and_then ignored d.count) e
     of_ignored : (o : Option Ignore) → option_map (λ i. component.Ignore i) o ≡ Some c → width_of c ≤ 9
     of_ignored None e = absurd (none_not c e)
     of_ignored (Some i) e = subst (λ (c : Component). width_of c ≤ 9) (some_is _ c e) (omega arith)
-any_width name.End d c e = subst (λ (c : Component). width_of c ≤ 9) (some_is _ c e) (omega arith)
+any_width n d c e = subst (λ (c : Component). width_of c ≤ 9) (some_is _ c e) (omega arith)
 
 -- where nothing was chosen
 default_width : (n : Name) (c : Component) → made Three n nothing ≡ Some c → width_of c ≤ 2 + length (name_text n)
 unfolding width_of
-default_width name.Day c e = subst (λ (c : Component). width_of c ≤ 5) (some_is _ c e) (omega arith)
-default_width name.Ordinal c e = subst (λ (c : Component). width_of c ≤ 9) (some_is _ c e) (omega arith)
-default_width name.Minute c e = subst (λ (c : Component). width_of c ≤ 8) (some_is _ c e) (omega arith)
-default_width name.Second c e = subst (λ (c : Component). width_of c ≤ 8) (some_is _ c e) (omega arith)
-default_width name.OffsetMinute c e = subst (λ (c : Component). width_of c ≤ 15) (some_is _ c e) (omega arith)
-default_width name.OffsetSecond c e = subst (λ (c : Component). width_of c ≤ 15) (some_is _ c e) (omega arith)
-default_width name.Month c e = subst (λ (c : Component). width_of c ≤ 7) (some_is _ c e) (omega arith)
-default_width name.Weekday c e = subst (λ (c : Component). width_of c ≤ 9) (some_is _ c e) (omega arith)
-default_width name.WeekNumber c e = subst (λ (c : Component). width_of c ≤ 13) (some_is _ c e) (omega arith)
-default_width name.Year c e = subst (λ (c : Component). width_of c ≤ 6) (some_is _ c e) (omega arith)
-default_width name.Hour c e = subst (λ (c : Component). width_of c ≤ 6) (some_is _ c e) (omega arith)
-default_width name.Period c e = subst (λ (c : Component). width_of c ≤ 8) (some_is _ c e) (omega arith)
-default_width name.OffsetHour c e = subst (λ (c : Component). width_of c ≤ 13) (some_is _ c e) (omega arith)
-default_width name.UnixTimestamp c e = subst (λ (c : Component). width_of c ≤ 16) (some_is _ c e) (omega arith)
-default_width name.Subsecond c e = subst (λ (c : Component). width_of c ≤ 11) (some_is _ c e) (omega arith)
 default_width name.Ignore c e = absurd (none_not c e)
-default_width name.End c e = subst (λ (c : Component). width_of c ≤ 5) (some_is _ c e) (omega arith)
+default_width n c e = subst (λ (c : Component). width_of c ≤ 2 + length (name_text n)) (some_is _ c e) (omega arith)
 
 -- ---- what a modifier takes
 
@@ -178,24 +137,15 @@ taken_first n d m e =
 timestamp_modifier : (m : Modifier) → TakenFirst name.UnixTimestamp m → 0 < length m.value.text → 8 ≤ 2 + length m.key.text + length m.value.text
 timestamp_modifier m t some = by_key t.key (key_is m.key.text t.key t.is_key) t.fits t.value t.is_value
   where
-    sign_value : (o : Option Bool) (d : Chosen) → sign_of Three m.value.text ≡ o → option_map (λ x. record nothing { sign = Some x }) o ≡ Some d → 9 ≤ length m.value.text
+    sign_value : (o : Option Bool) (d : Chosen) → lookup Three signs m.value.text ≡ o → option_map (λ x. record nothing { sign = Some x }) o ≡ Some d → 9 ≤ length m.value.text
     sign_value None d is_o e = absurd (none_not d e)
     sign_value (Some false) d is_o e = omega (arith, ap (length {A = ℕ}) (sign_is m.value.text false is_o))
     sign_value (Some true) d is_o e = omega (arith, ap (length {A = ℕ}) (sign_is m.value.text true is_o))
 
     by_key : (k : Key) → m.key.text ≡ key_text k → has_key k name.UnixTimestamp ≡ true → (d : Chosen) → with_value Three name.UnixTimestamp nothing k m.value.text ≡ Some d → 8 ≤ 2 + length m.key.text + length m.value.text
-    by_key key.Sign is_key fits d e = omega (arith, sign_value (sign_of Three m.value.text) d refl e)
+    by_key key.Sign is_key fits d e = omega (arith, sign_value (lookup Three signs m.value.text) d refl e)
     by_key key.Precision is_key fits d e = omega (arith, ap (length {A = ℕ}) is_key)
-    by_key key.Padding is_key fits d e = absurd cc
-    by_key key.Repr is_key fits d e = absurd cc
-    by_key key.CaseSensitive is_key fits d e = absurd cc
-    by_key key.OneIndexed is_key fits d e = absurd cc
-    by_key key.Base is_key fits d e = absurd cc
-    by_key key.Range is_key fits d e = absurd cc
-    by_key key.Case is_key fits d e = absurd cc
-    by_key key.Digits is_key fits d e = absurd cc
-    by_key key.Count is_key fits d e = absurd cc
-    by_key key.TrailingInput is_key fits d e = absurd cc
+    by_key k is_key fits d e = absurd cc
 
 abbrev least : Name → ℕ
 least name.UnixTimestamp = 8
@@ -203,43 +153,13 @@ least n = 4
 
 modifier_len : (n : Name) (m : Modifier) → TakenFirst n m → 0 < length m.key.text → 0 < length m.value.text → least n ≤ 2 + length m.key.text + length m.value.text
 modifier_len name.UnixTimestamp m t some_key some = timestamp_modifier m t some
-modifier_len name.Day m t some_key some = omega arith
-modifier_len name.Ordinal m t some_key some = omega arith
-modifier_len name.Minute m t some_key some = omega arith
-modifier_len name.Second m t some_key some = omega arith
-modifier_len name.OffsetMinute m t some_key some = omega arith
-modifier_len name.OffsetSecond m t some_key some = omega arith
-modifier_len name.Month m t some_key some = omega arith
-modifier_len name.Weekday m t some_key some = omega arith
-modifier_len name.WeekNumber m t some_key some = omega arith
-modifier_len name.Year m t some_key some = omega arith
-modifier_len name.Hour m t some_key some = omega arith
-modifier_len name.Period m t some_key some = omega arith
-modifier_len name.OffsetHour m t some_key some = omega arith
-modifier_len name.Subsecond m t some_key some = omega arith
-modifier_len name.Ignore m t some_key some = omega arith
-modifier_len name.End m t some_key some = omega arith
+modifier_len n m t some_key some = omega arith
 
 -- ---- a component
 
 enough : (n : Name) → most n ≤ 2 + length (name_text n) + least n
 enough name.UnixTimestamp = omega arith
-enough name.Day = omega arith
-enough name.Ordinal = omega arith
-enough name.Minute = omega arith
-enough name.Second = omega arith
-enough name.OffsetMinute = omega arith
-enough name.OffsetSecond = omega arith
-enough name.Month = omega arith
-enough name.Weekday = omega arith
-enough name.WeekNumber = omega arith
-enough name.Year = omega arith
-enough name.Hour = omega arith
-enough name.Period = omega arith
-enough name.OffsetHour = omega arith
-enough name.Subsecond = omega arith
-enough name.Ignore = omega arith
-enough name.End = omega arith
+enough n = omega arith
 
 -- the same, by the modifiers that there are
 chosen_width : (n : Name) (at : ℕ) (own : List ℕ) (ms : List Modifier) (b d : Chosen) (c : Component) → SpellsModifiers at own ms → with_modifiers Three n nothing ms ≡ Ok b → combined Three n b ms ≡ Ok d → made Three n d ≡ Some c → width_of c ≤ 2 + length (name_text n) + length own

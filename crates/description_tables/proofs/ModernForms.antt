@@ -1,5 +1,5 @@
 -- What a text names is a modern component.
-use Rattle.std.proofs.Common.{◌≡◌, ℕ, Bool, true, false, Option, Some, None, refl}
+use Rattle.std.proofs.Common.{◌≡◌, Bool, true, false, Option, Some, None, refl}
 use Rattle.std.specs.Prelude.{IfSome}
 use Rattle.description_date_modifiers.specs.declared.choices.Padding.{Padding}
 use Rattle.description_date_modifiers.specs.declared.choices.MonthRepr.{MonthRepr}
@@ -31,31 +31,22 @@ IsModern c = modern c ≡ c
 
 month_is : (r : MonthRepr) (p : Padding) (b : Bool) → IsModern (modern_month r p b)
 month_is month.Numerical p b = refl
-month_is month.Long p b = refl
-month_is month.Short p b = refl
+month_is r p b = refl
 
 weekday_is : (r : WeekdayRepr) (i b : Bool) → IsModern (modern_weekday r i b)
 weekday_is weekday.Short i b = refl
-weekday_is weekday.Long i b = refl
-weekday_is weekday.Sunday i b = refl
-weekday_is weekday.Monday i b = refl
+weekday_is r i b = refl
 
 week_is : (r : WeekNumberRepr) (p : Padding) → IsModern (modern_week_number r p)
 week_is week.Iso p = refl
-week_is week.Sunday p = refl
-week_is week.Monday p = refl
+week_is r p = refl
 
 year_is : (iso : Bool) (r : YearRepr) (reach : YearRange) (p : Padding) (s : Bool) → IsModern (modern_year iso r reach p s)
 year_is true year.Full range.Extended p s = refl
-year_is true year.Full range.Standard p s = refl
 year_is true year.Century range.Extended p s = refl
-year_is true year.Century range.Standard p s = refl
-year_is true year.LastTwo reach p s = refl
 year_is false year.Full range.Extended p s = refl
-year_is false year.Full range.Standard p s = refl
 year_is false year.Century range.Extended p s = refl
-year_is false year.Century range.Standard p s = refl
-year_is false year.LastTwo reach p s = refl
+year_is iso r reach p s = refl
 
 hour_is : (twelve : Bool) (p : Padding) → IsModern (modern_hour twelve p)
 hour_is true p = refl
@@ -63,9 +54,7 @@ hour_is false p = refl
 
 timestamp_is : (u : UnixTimestampPrecision) (s : Bool) → IsModern (modern_timestamp u s)
 timestamp_is unit.Second s = refl
-timestamp_is unit.Millisecond s = refl
-timestamp_is unit.Microsecond s = refl
-timestamp_is unit.Nanosecond s = refl
+timestamp_is u s = refl
 
 pub made_is : (v : DescriptionVersion) (n : Name) (c : Chosen) → IfSome (made v n c) IsModern
 made_is v name.Month c = month_is _ _ _

@@ -9,29 +9,26 @@ use Rattle.description_tables.specs.declared.keys.Key.TheVariants as key
 use Rattle.description_tables.specs.declared.values.Repr.{Repr}
 use Rattle.description_tables.specs.declared.values.Repr.TheVariants as repr
 use Rattle.description_tables.specs.declared.chosen.Chosen.{Chosen}
-use Rattle.description_tables.specs.Values.{padding_of, flag_of, base_of, sign_of, range_of, case_of, digits_of, precision_of, trailing_input_of, repr_of, count_of}
+use Rattle.description_tables.specs.Lookup.{lookup}
+use Rattle.description_tables.specs.Values.{paddings, flags, bases, signs, ranges, cases, digit_counts, precisions, trailing_inputs, reprs, count_of}
 
 abbrev pub nothing : Chosen
 nothing = record { padding = None; repr = None; case_sensitive = None; one_indexed = None; base = None; sign = None; range = None; case = None; digits = None; count = None; precision = None; trailing_input = None }
 
 -- a value replaces an earlier one of its key
-abbrev pub with_other_value : DescriptionVersion → Chosen → Key → List ℕ → Option Chosen
-with_other_value v c key.Range word = option_map (λ x. record c { range = Some x }) (range_of v word)
-with_other_value v c key.Case word = option_map (λ x. record c { case = Some x }) (case_of v word)
-with_other_value v c key.Digits word = option_map (λ x. record c { digits = Some x }) (digits_of v word)
-with_other_value v c key.Count word = option_map (λ x. record c { count = Some x }) (count_of word)
-with_other_value v c key.Precision word = option_map (λ x. record c { precision = Some x }) (precision_of v word)
-with_other_value v c key.TrailingInput word = option_map (λ x. record c { trailing_input = Some x }) (trailing_input_of v word)
-with_other_value v c k word = None
-
 abbrev pub with_value : DescriptionVersion → Name → Chosen → Key → List ℕ → Option Chosen
-with_value v n c key.Padding word = option_map (λ x. record c { padding = Some x }) (padding_of v word)
-with_value v n c key.Repr word = option_map (λ x. record c { repr = Some x }) (repr_of v n word)
-with_value v n c key.CaseSensitive word = option_map (λ x. record c { case_sensitive = Some x }) (flag_of v word)
-with_value v n c key.OneIndexed word = option_map (λ x. record c { one_indexed = Some x }) (flag_of v word)
-with_value v n c key.Base word = option_map (λ x. record c { base = Some x }) (base_of v word)
-with_value v n c key.Sign word = option_map (λ x. record c { sign = Some x }) (sign_of v word)
-with_value v n c k word = with_other_value v c k word
+with_value v n c key.Padding word = option_map (λ x. record c { padding = Some x }) (lookup v paddings word)
+with_value v n c key.Repr word = option_map (λ x. record c { repr = Some x }) (lookup v (reprs n) word)
+with_value v n c key.CaseSensitive word = option_map (λ x. record c { case_sensitive = Some x }) (lookup v flags word)
+with_value v n c key.OneIndexed word = option_map (λ x. record c { one_indexed = Some x }) (lookup v flags word)
+with_value v n c key.Base word = option_map (λ x. record c { base = Some x }) (lookup v bases word)
+with_value v n c key.Sign word = option_map (λ x. record c { sign = Some x }) (lookup v signs word)
+with_value v n c key.Range word = option_map (λ x. record c { range = Some x }) (lookup v ranges word)
+with_value v n c key.Case word = option_map (λ x. record c { case = Some x }) (lookup v cases word)
+with_value v n c key.Digits word = option_map (λ x. record c { digits = Some x }) (lookup v digit_counts word)
+with_value v n c key.Count word = option_map (λ x. record c { count = Some x }) (count_of word)
+with_value v n c key.Precision word = option_map (λ x. record c { precision = Some x }) (lookup v precisions word)
+with_value v n c key.TrailingInput word = option_map (λ x. record c { trailing_input = Some x }) (lookup v trailing_inputs word)
 
 abbrev pub is_chosen : Chosen → Key → Bool
 is_chosen c key.Padding = is_some c.padding

@@ -1,27 +1,20 @@
 -- The keys of modifiers, and the components that have them.
-use Rattle.std.specs.Prelude.{ℕ, Bool, true, false, List, Option, Some, None, if◌then◌else◌, codes}
+use Rattle.std.specs.Prelude.{ℕ, Bool, true, false, List, [], ◌∷◌, Option, codes}
 use Rattle.description_lexer.specs.declared.version.DescriptionVersion.{DescriptionVersion}
-use Rattle.description_lexer.specs.Words.{is_named}
+use Rattle.description_tables.specs.Lookup.{Table, lookup}
 use Rattle.description_tables.specs.declared.names.Name.{Name}
 use Rattle.description_tables.specs.declared.names.Name.TheVariants as name
 use Rattle.description_tables.specs.declared.keys.Key.{Key}
 use Rattle.description_tables.specs.declared.keys.Key.TheVariants as key
 
+abbrev pub keys : Table Key
+keys =
+    (codes "padding", key.Padding) ∷ (codes "repr", key.Repr) ∷ (codes "case_sensitive", key.CaseSensitive) ∷ (codes "one_indexed", key.OneIndexed) ∷
+    (codes "base", key.Base) ∷ (codes "sign", key.Sign) ∷ (codes "range", key.Range) ∷ (codes "case", key.Case) ∷
+    (codes "digits", key.Digits) ∷ (codes "count", key.Count) ∷ (codes "precision", key.Precision) ∷ (codes "trailing_input", key.TrailingInput) ∷ []
+
 unfoldable pub key_of : DescriptionVersion → List ℕ → Option Key
-key_of v word =
-    if is_named v word (codes "padding") then Some key.Padding
-    else (if is_named v word (codes "repr") then Some key.Repr
-    else (if is_named v word (codes "case_sensitive") then Some key.CaseSensitive
-    else (if is_named v word (codes "one_indexed") then Some key.OneIndexed
-    else (if is_named v word (codes "base") then Some key.Base
-    else (if is_named v word (codes "sign") then Some key.Sign
-    else (if is_named v word (codes "range") then Some key.Range
-    else (if is_named v word (codes "case") then Some key.Case
-    else (if is_named v word (codes "digits") then Some key.Digits
-    else (if is_named v word (codes "count") then Some key.Count
-    else (if is_named v word (codes "precision") then Some key.Precision
-    else (if is_named v word (codes "trailing_input") then Some key.TrailingInput
-    else None)))))))))))
+key_of v word = lookup v keys word
 
 abbrev pub has_key : Key → Name → Bool
 has_key key.Padding name.Day = true

@@ -1,35 +1,21 @@
 -- The names of components.
-use Rattle.std.specs.Prelude.{ℕ, List, Option, Some, None, if◌then◌else◌, codes}
+use Rattle.std.specs.Prelude.{ℕ, List, [], ◌∷◌, Option, codes}
 use Rattle.description_lexer.specs.declared.version.DescriptionVersion.{DescriptionVersion}
-use Rattle.description_lexer.specs.Words.{is_named}
+use Rattle.description_tables.specs.Lookup.{Table, lookup}
 use Rattle.description_tables.specs.declared.names.Name.{Name}
 use Rattle.description_tables.specs.declared.names.Name.TheVariants as name
 
--- the components of times, of offsets, and of texts
-unfoldable pub time_name_of : DescriptionVersion → List ℕ → Option Name
-time_name_of v word =
-    if is_named v word (codes "hour") then Some name.Hour
-    else (if is_named v word (codes "minute") then Some name.Minute
-    else (if is_named v word (codes "second") then Some name.Second
-    else (if is_named v word (codes "period") then Some name.Period
-    else (if is_named v word (codes "subsecond") then Some name.Subsecond
-    else (if is_named v word (codes "offset_hour") then Some name.OffsetHour
-    else (if is_named v word (codes "offset_minute") then Some name.OffsetMinute
-    else (if is_named v word (codes "offset_second") then Some name.OffsetSecond
-    else (if is_named v word (codes "unix_timestamp") then Some name.UnixTimestamp
-    else (if is_named v word (codes "ignore") then Some name.Ignore
-    else (if is_named v word (codes "end") then Some name.End
-    else None))))))))))
+-- the components of dates, then those of times, of offsets, and of texts
+abbrev pub names : Table Name
+names =
+    (codes "day", name.Day) ∷ (codes "ordinal", name.Ordinal) ∷ (codes "month", name.Month) ∷ (codes "weekday", name.Weekday) ∷
+    (codes "week_number", name.WeekNumber) ∷ (codes "year", name.Year) ∷ (codes "hour", name.Hour) ∷ (codes "minute", name.Minute) ∷
+    (codes "second", name.Second) ∷ (codes "period", name.Period) ∷ (codes "subsecond", name.Subsecond) ∷
+    (codes "offset_hour", name.OffsetHour) ∷ (codes "offset_minute", name.OffsetMinute) ∷ (codes "offset_second", name.OffsetSecond) ∷
+    (codes "unix_timestamp", name.UnixTimestamp) ∷ (codes "ignore", name.Ignore) ∷ (codes "end", name.End) ∷ []
 
 unfoldable pub name_of : DescriptionVersion → List ℕ → Option Name
-name_of v word =
-    if is_named v word (codes "day") then Some name.Day
-    else (if is_named v word (codes "ordinal") then Some name.Ordinal
-    else (if is_named v word (codes "month") then Some name.Month
-    else (if is_named v word (codes "weekday") then Some name.Weekday
-    else (if is_named v word (codes "week_number") then Some name.WeekNumber
-    else (if is_named v word (codes "year") then Some name.Year
-    else time_name_of v word)))))
+name_of v word = lookup v names word
 
 abbrev pub name_text : Name → List ℕ
 name_text name.Day = codes "day"

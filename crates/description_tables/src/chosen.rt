@@ -1,13 +1,14 @@
 //! What modifiers have chosen.
 
 ghost use Rattle.std.specs.Prelude.{◌≡◌};
-ghost use Rattle.description_tables.specs.Chosen.{nothing, with_value, with_other_value, is_chosen, is_carried};
+ghost use Rattle.description_tables.specs.Chosen.{nothing, with_value, is_chosen, is_carried};
 
 use crate::keys::Key;
+use crate::lookup::lookup;
 use crate::names::Name;
 use crate::values::{
-    Repr, base_of, case_of, count_of, digits_of, flag_of, padding_of, precision_of, range_of,
-    repr_of, sign_of, trailing_input_of,
+    BASES, CASES, DIGIT_COUNTS, FLAGS, PADDINGS, PRECISIONS, RANGES, Repr, SIGNS, TRAILING_INPUTS,
+    count_of, reprs,
 };
 use description_items::modifier::{
     Padding, SubsecondDigits, TrailingInput, UnixTimestampPrecision, YearRange,
@@ -54,81 +55,35 @@ pub fn nothing() -> Chosen
     }
 }
 
-/// The same with a value, if it is one of the key's.
+/// The chosen values with one more, if the word is one of the key's.
 pub fn with_value(
     version: DescriptionVersion,
     name: Name,
-    chosen: Chosen,
+    mut chosen: Chosen,
     key: Key,
     word: &str,
 ) -> Option<Chosen>
     ensures { result ≡ with_value version name chosen key word.now }
 {
     match key {
-        Key::Padding => Some(Chosen {
-            padding: Some(padding_of(version, word)?),
-            ..chosen
-        }),
-        Key::Repr => Some(Chosen {
-            repr: Some(repr_of(version, name, word)?),
-            ..chosen
-        }),
-        Key::CaseSensitive => Some(Chosen {
-            case_sensitive: Some(flag_of(version, word)?),
-            ..chosen
-        }),
-        Key::OneIndexed => Some(Chosen {
-            one_indexed: Some(flag_of(version, word)?),
-            ..chosen
-        }),
-        Key::Base => Some(Chosen {
-            base: Some(base_of(version, word)?),
-            ..chosen
-        }),
-        Key::Sign => Some(Chosen {
-            sign: Some(sign_of(version, word)?),
-            ..chosen
-        }),
-        _ => with_other_value(version, chosen, key, word),
+        Key::Padding => chosen.padding = Some(lookup(version, &PADDINGS, word)?),
+        Key::Repr => chosen.repr = Some(lookup(version, reprs(name), word)?),
+        Key::CaseSensitive => chosen.case_sensitive = Some(lookup(version, &FLAGS, word)?),
+        Key::OneIndexed => chosen.one_indexed = Some(lookup(version, &FLAGS, word)?),
+        Key::Base => chosen.base = Some(lookup(version, &BASES, word)?),
+        Key::Sign => chosen.sign = Some(lookup(version, &SIGNS, word)?),
+        Key::Range => chosen.range = Some(lookup(version, &RANGES, word)?),
+        Key::Case => chosen.case = Some(lookup(version, &CASES, word)?),
+        Key::Digits => chosen.digits = Some(lookup(version, &DIGIT_COUNTS, word)?),
+        Key::Count => chosen.count = Some(count_of(word)?),
+        Key::Precision => chosen.precision = Some(lookup(version, &PRECISIONS, word)?),
+        Key::TrailingInput => chosen.trailing_input = Some(lookup(
+            version,
+            &TRAILING_INPUTS,
+            word,
+        )?),
     }
-}
-
-// The same for the keys that few components have.
-fn with_other_value(
-    version: DescriptionVersion,
-    chosen: Chosen,
-    key: Key,
-    word: &str,
-) -> Option<Chosen>
-    ensures { result ≡ with_other_value version chosen key word.now }
-{
-    match key {
-        Key::Range => Some(Chosen {
-            range: Some(range_of(version, word)?),
-            ..chosen
-        }),
-        Key::Case => Some(Chosen {
-            case: Some(case_of(version, word)?),
-            ..chosen
-        }),
-        Key::Digits => Some(Chosen {
-            digits: Some(digits_of(version, word)?),
-            ..chosen
-        }),
-        Key::Count => Some(Chosen {
-            count: Some(count_of(word)?),
-            ..chosen
-        }),
-        Key::Precision => Some(Chosen {
-            precision: Some(precision_of(version, word)?),
-            ..chosen
-        }),
-        Key::TrailingInput => Some(Chosen {
-            trailing_input: Some(trailing_input_of(version, word)?),
-            ..chosen
-        }),
-        _ => None,
-    }
+    Some(chosen)
 }
 
 /// Whether the key has a value already.

@@ -3,8 +3,9 @@
 ghost use Rattle.std.specs.Prelude.{◌≡◌};
 ghost use Rattle.description_tables.specs.Keys.{key_of, has_key};
 
+use crate::lookup::lookup;
 use crate::names::Name;
-use description_lexer::{DescriptionVersion, is_named};
+use description_lexer::DescriptionVersion;
 
 /// What a modifier is called.
 #[derive(Clone, Copy)]
@@ -23,38 +24,27 @@ pub enum Key {
     TrailingInput,
 }
 
+static KEYS: [(&str, Key); 12] = [
+    ("padding", Key::Padding),
+    ("repr", Key::Repr),
+    ("case_sensitive", Key::CaseSensitive),
+    ("one_indexed", Key::OneIndexed),
+    ("base", Key::Base),
+    ("sign", Key::Sign),
+    ("range", Key::Range),
+    ("case", Key::Case),
+    ("digits", Key::Digits),
+    ("count", Key::Count),
+    ("precision", Key::Precision),
+    ("trailing_input", Key::TrailingInput),
+];
+
 /// The key of this name.
 #[tactic(auto, unfolding(crate::specs::Keys::key_of))]
 pub fn key_of(version: DescriptionVersion, word: &str) -> Option<Key>
     ensures { result ≡ key_of version word.now }
 {
-    if is_named(version, word, "padding") {
-        Some(Key::Padding)
-    } else if is_named(version, word, "repr") {
-        Some(Key::Repr)
-    } else if is_named(version, word, "case_sensitive") {
-        Some(Key::CaseSensitive)
-    } else if is_named(version, word, "one_indexed") {
-        Some(Key::OneIndexed)
-    } else if is_named(version, word, "base") {
-        Some(Key::Base)
-    } else if is_named(version, word, "sign") {
-        Some(Key::Sign)
-    } else if is_named(version, word, "range") {
-        Some(Key::Range)
-    } else if is_named(version, word, "case") {
-        Some(Key::Case)
-    } else if is_named(version, word, "digits") {
-        Some(Key::Digits)
-    } else if is_named(version, word, "count") {
-        Some(Key::Count)
-    } else if is_named(version, word, "precision") {
-        Some(Key::Precision)
-    } else if is_named(version, word, "trailing_input") {
-        Some(Key::TrailingInput)
-    } else {
-        None
-    }
+    lookup(version, &KEYS, word)
 }
 
 /// Whether the component has such a modifier.

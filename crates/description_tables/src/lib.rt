@@ -4,6 +4,7 @@
 mod chosen;
 mod component;
 mod keys;
+mod lookup;
 mod made;
 mod names;
 mod values;

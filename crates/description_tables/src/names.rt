@@ -1,9 +1,10 @@
 //! The names of components.
 
 ghost use Rattle.std.specs.Prelude.{◌≡◌};
-ghost use Rattle.description_tables.specs.Names.{name_of, time_name_of, name_text};
+ghost use Rattle.description_tables.specs.Names.{name_of, name_text};
 
-use description_lexer::{DescriptionVersion, is_named};
+use crate::lookup::lookup;
+use description_lexer::DescriptionVersion;
 
 /// What a component is called.
 #[derive(Clone, Copy)]
@@ -27,58 +28,32 @@ pub enum Name {
     End,
 }
 
+static NAMES: [(&str, Name); 17] = [
+    ("day", Name::Day),
+    ("ordinal", Name::Ordinal),
+    ("month", Name::Month),
+    ("weekday", Name::Weekday),
+    ("week_number", Name::WeekNumber),
+    ("year", Name::Year),
+    ("hour", Name::Hour),
+    ("minute", Name::Minute),
+    ("second", Name::Second),
+    ("period", Name::Period),
+    ("subsecond", Name::Subsecond),
+    ("offset_hour", Name::OffsetHour),
+    ("offset_minute", Name::OffsetMinute),
+    ("offset_second", Name::OffsetSecond),
+    ("unix_timestamp", Name::UnixTimestamp),
+    ("ignore", Name::Ignore),
+    ("end", Name::End),
+];
+
 /// The component of this name.
 #[tactic(auto, unfolding(crate::specs::Names::name_of))]
 pub fn name_of(version: DescriptionVersion, word: &str) -> Option<Name>
     ensures { result ≡ name_of version word.now }
 {
-    if is_named(version, word, "day") {
-        Some(Name::Day)
-    } else if is_named(version, word, "ordinal") {
-        Some(Name::Ordinal)
-    } else if is_named(version, word, "month") {
-        Some(Name::Month)
-    } else if is_named(version, word, "weekday") {
-        Some(Name::Weekday)
-    } else if is_named(version, word, "week_number") {
-        Some(Name::WeekNumber)
-    } else if is_named(version, word, "year") {
-        Some(Name::Year)
-    } else {
-        time_name_of(version, word)
-    }
-}
-
-// The component of this name among those of times, offsets and texts.
-#[tactic(auto, unfolding(crate::specs::Names::time_name_of))]
-fn time_name_of(version: DescriptionVersion, word: &str) -> Option<Name>
-    ensures { result ≡ time_name_of version word.now }
-{
-    if is_named(version, word, "hour") {
-        Some(Name::Hour)
-    } else if is_named(version, word, "minute") {
-        Some(Name::Minute)
-    } else if is_named(version, word, "second") {
-        Some(Name::Second)
-    } else if is_named(version, word, "period") {
-        Some(Name::Period)
-    } else if is_named(version, word, "subsecond") {
-        Some(Name::Subsecond)
-    } else if is_named(version, word, "offset_hour") {
-        Some(Name::OffsetHour)
-    } else if is_named(version, word, "offset_minute") {
-        Some(Name::OffsetMinute)
-    } else if is_named(version, word, "offset_second") {
-        Some(Name::OffsetSecond)
-    } else if is_named(version, word, "unix_timestamp") {
-        Some(Name::UnixTimestamp)
-    } else if is_named(version, word, "ignore") {
-        Some(Name::Ignore)
-    } else if is_named(version, word, "end") {
-        Some(Name::End)
-    } else {
-        None
-    }
+    lookup(version, &NAMES, word)
 }
 
 /// The name in small letters.

@@ -1,15 +1,14 @@
 //! The values of modifiers.
 
-ghost use Rattle.std.specs.Prelude.{◌≡◌};
+ghost use Rattle.std.specs.Prelude.{◌≡◌, map};
 ghost use Rattle.std.specs.Char.{is_ascii_digit};
 ghost use Rattle.std.specs.List.{list_all};
-ghost use Rattle.description_tables.specs.Values.{padding_of, flag_of, base_of, sign_of, range_of, case_of, digits_of, precision_of, trailing_input_of, month_repr_of, weekday_repr_of, week_repr_of, year_repr_of, hour_repr_of, repr_of, count_of};
+ghost use Rattle.description_tables.specs.Values.{reprs, count_of};
 
 use crate::names::Name;
 use description_items::modifier::{
     Padding, SubsecondDigits, TrailingInput, UnixTimestampPrecision, YearRange,
 };
-use description_lexer::{DescriptionVersion, is_named};
 
 /// What `repr` may say, of whatever component.
 #[derive(Clone, Copy)]
@@ -27,240 +26,87 @@ pub enum Repr {
     Twelve,
 }
 
-/// How a number is filled up: `zero`, `space` or `none`.
-#[tactic(auto, unfolding(crate::specs::Values::padding_of))]
-pub fn padding_of(version: DescriptionVersion, word: &str) -> Option<Padding>
-    ensures { result ≡ padding_of version word.now }
-{
-    if is_named(version, word, "zero") {
-        Some(Padding::Zero)
-    } else if is_named(version, word, "space") {
-        Some(Padding::Space)
-    } else if is_named(version, word, "none") {
-        Some(Padding::None)
-    } else {
-        None
-    }
-}
+/// How a number is filled up.
+pub static PADDINGS: [(&str, Padding); 3] = [
+    ("zero", Padding::Zero),
+    ("space", Padding::Space),
+    ("none", Padding::None),
+];
 
-/// Yes or no: `true` or `false`.
-#[tactic(auto, unfolding(crate::specs::Values::flag_of))]
-pub fn flag_of(version: DescriptionVersion, word: &str) -> Option<bool>
-    ensures { result ≡ flag_of version word.now }
-{
-    if is_named(version, word, "true") {
-        Some(true)
-    } else if is_named(version, word, "false") {
-        Some(false)
-    } else {
-        None
-    }
-}
+/// Yes or no.
+pub static FLAGS: [(&str, bool); 2] = [("true", true), ("false", false)];
 
-/// Whether the year is that of the ISO 8601 week: `calendar` or `iso_week`.
-#[tactic(auto, unfolding(crate::specs::Values::base_of))]
-pub fn base_of(version: DescriptionVersion, word: &str) -> Option<bool>
-    ensures { result ≡ base_of version word.now }
-{
-    if is_named(version, word, "calendar") {
-        Some(false)
-    } else if is_named(version, word, "iso_week") {
-        Some(true)
-    } else {
-        None
-    }
-}
+/// Whether the year is that of the ISO 8601 week.
+pub static BASES: [(&str, bool); 2] = [("calendar", false), ("iso_week", true)];
 
-/// Whether the sign must be written: `automatic` or `mandatory`.
-#[tactic(auto, unfolding(crate::specs::Values::sign_of))]
-pub fn sign_of(version: DescriptionVersion, word: &str) -> Option<bool>
-    ensures { result ≡ sign_of version word.now }
-{
-    if is_named(version, word, "automatic") {
-        Some(false)
-    } else if is_named(version, word, "mandatory") {
-        Some(true)
-    } else {
-        None
-    }
-}
+/// Whether the sign must be written.
+pub static SIGNS: [(&str, bool); 2] = [("automatic", false), ("mandatory", true)];
 
-/// How far the years go: `standard` or `extended`.
-#[tactic(auto, unfolding(crate::specs::Values::range_of))]
-pub fn range_of(version: DescriptionVersion, word: &str) -> Option<YearRange>
-    ensures { result ≡ range_of version word.now }
-{
-    if is_named(version, word, "standard") {
-        Some(YearRange::Standard)
-    } else if is_named(version, word, "extended") {
-        Some(YearRange::Extended)
-    } else {
-        None
-    }
-}
+/// How far the years go.
+pub static RANGES: [(&str, YearRange); 2] = [
+    ("standard", YearRange::Standard),
+    ("extended", YearRange::Extended),
+];
 
-/// Whether capitals are written: `upper` or `lower`.
-#[tactic(auto, unfolding(crate::specs::Values::case_of))]
-pub fn case_of(version: DescriptionVersion, word: &str) -> Option<bool>
-    ensures { result ≡ case_of version word.now }
-{
-    if is_named(version, word, "upper") {
-        Some(true)
-    } else if is_named(version, word, "lower") {
-        Some(false)
-    } else {
-        None
-    }
-}
+/// Whether capitals are written.
+pub static CASES: [(&str, bool); 2] = [("upper", true), ("lower", false)];
 
-/// How many digits are written: `1` to `9`, or `1+`.
-#[tactic(auto, unfolding(crate::specs::Values::digits_of))]
-pub fn digits_of(version: DescriptionVersion, word: &str) -> Option<SubsecondDigits>
-    ensures { result ≡ digits_of version word.now }
-{
-    if is_named(version, word, "1+") {
-        Some(SubsecondDigits::OneOrMore)
-    } else if is_named(version, word, "1") {
-        Some(SubsecondDigits::One)
-    } else if is_named(version, word, "2") {
-        Some(SubsecondDigits::Two)
-    } else if is_named(version, word, "3") {
-        Some(SubsecondDigits::Three)
-    } else if is_named(version, word, "4") {
-        Some(SubsecondDigits::Four)
-    } else if is_named(version, word, "5") {
-        Some(SubsecondDigits::Five)
-    } else if is_named(version, word, "6") {
-        Some(SubsecondDigits::Six)
-    } else if is_named(version, word, "7") {
-        Some(SubsecondDigits::Seven)
-    } else if is_named(version, word, "8") {
-        Some(SubsecondDigits::Eight)
-    } else if is_named(version, word, "9") {
-        Some(SubsecondDigits::Nine)
-    } else {
-        None
-    }
-}
+/// How many digits are written.
+pub static DIGIT_COUNTS: [(&str, SubsecondDigits); 10] = [
+    ("1+", SubsecondDigits::OneOrMore),
+    ("1", SubsecondDigits::One),
+    ("2", SubsecondDigits::Two),
+    ("3", SubsecondDigits::Three),
+    ("4", SubsecondDigits::Four),
+    ("5", SubsecondDigits::Five),
+    ("6", SubsecondDigits::Six),
+    ("7", SubsecondDigits::Seven),
+    ("8", SubsecondDigits::Eight),
+    ("9", SubsecondDigits::Nine),
+];
 
-/// The unit of a timestamp: `second`, `millisecond`, `microsecond` or `nanosecond`.
-#[tactic(auto, unfolding(crate::specs::Values::precision_of))]
-pub fn precision_of(version: DescriptionVersion, word: &str) -> Option<UnixTimestampPrecision>
-    ensures { result ≡ precision_of version word.now }
-{
-    if is_named(version, word, "second") {
-        Some(UnixTimestampPrecision::Second)
-    } else if is_named(version, word, "millisecond") {
-        Some(UnixTimestampPrecision::Millisecond)
-    } else if is_named(version, word, "microsecond") {
-        Some(UnixTimestampPrecision::Microsecond)
-    } else if is_named(version, word, "nanosecond") {
-        Some(UnixTimestampPrecision::Nanosecond)
-    } else {
-        None
-    }
-}
+/// The unit of a timestamp.
+pub static PRECISIONS: [(&str, UnixTimestampPrecision); 4] = [
+    ("second", UnixTimestampPrecision::Second),
+    ("millisecond", UnixTimestampPrecision::Millisecond),
+    ("microsecond", UnixTimestampPrecision::Microsecond),
+    ("nanosecond", UnixTimestampPrecision::Nanosecond),
+];
 
-/// What becomes of text that follows: `prohibit` or `discard`.
-#[tactic(auto, unfolding(crate::specs::Values::trailing_input_of))]
-pub fn trailing_input_of(version: DescriptionVersion, word: &str) -> Option<TrailingInput>
-    ensures { result ≡ trailing_input_of version word.now }
-{
-    if is_named(version, word, "prohibit") {
-        Some(TrailingInput::Prohibit)
-    } else if is_named(version, word, "discard") {
-        Some(TrailingInput::Discard)
-    } else {
-        None
-    }
-}
+/// What becomes of text that follows.
+pub static TRAILING_INPUTS: [(&str, TrailingInput); 2] = [
+    ("prohibit", TrailingInput::Prohibit),
+    ("discard", TrailingInput::Discard),
+];
 
-#[tactic(auto, unfolding(crate::specs::Values::month_repr_of))]
-fn month_repr_of(version: DescriptionVersion, word: &str) -> Option<Repr>
-    ensures { result ≡ month_repr_of version word.now }
-{
-    if is_named(version, word, "numerical") {
-        Some(Repr::Numerical)
-    } else if is_named(version, word, "long") {
-        Some(Repr::Long)
-    } else if is_named(version, word, "short") {
-        Some(Repr::Short)
-    } else {
-        None
-    }
-}
-
-#[tactic(auto, unfolding(crate::specs::Values::weekday_repr_of))]
-fn weekday_repr_of(version: DescriptionVersion, word: &str) -> Option<Repr>
-    ensures { result ≡ weekday_repr_of version word.now }
-{
-    if is_named(version, word, "short") {
-        Some(Repr::Short)
-    } else if is_named(version, word, "long") {
-        Some(Repr::Long)
-    } else if is_named(version, word, "sunday") {
-        Some(Repr::Sunday)
-    } else if is_named(version, word, "monday") {
-        Some(Repr::Monday)
-    } else {
-        None
-    }
-}
-
-#[tactic(auto, unfolding(crate::specs::Values::week_repr_of))]
-fn week_repr_of(version: DescriptionVersion, word: &str) -> Option<Repr>
-    ensures { result ≡ week_repr_of version word.now }
-{
-    if is_named(version, word, "iso") {
-        Some(Repr::Iso)
-    } else if is_named(version, word, "sunday") {
-        Some(Repr::Sunday)
-    } else if is_named(version, word, "monday") {
-        Some(Repr::Monday)
-    } else {
-        None
-    }
-}
-
-#[tactic(auto, unfolding(crate::specs::Values::year_repr_of))]
-fn year_repr_of(version: DescriptionVersion, word: &str) -> Option<Repr>
-    ensures { result ≡ year_repr_of version word.now }
-{
-    if is_named(version, word, "full") {
-        Some(Repr::Full)
-    } else if is_named(version, word, "century") {
-        Some(Repr::Century)
-    } else if is_named(version, word, "last_two") {
-        Some(Repr::LastTwo)
-    } else {
-        None
-    }
-}
-
-#[tactic(auto, unfolding(crate::specs::Values::hour_repr_of))]
-fn hour_repr_of(version: DescriptionVersion, word: &str) -> Option<Repr>
-    ensures { result ≡ hour_repr_of version word.now }
-{
-    if is_named(version, word, "24") {
-        Some(Repr::TwentyFour)
-    } else if is_named(version, word, "12") {
-        Some(Repr::Twelve)
-    } else {
-        None
-    }
-}
-
-/// The representation of a component, each of which has words of its own; one without `repr` has none.
-pub fn repr_of(version: DescriptionVersion, name: Name, word: &str) -> Option<Repr>
-    ensures { result ≡ repr_of version name word.now }
+/// How a component is written: each component has words of its own.
+pub fn reprs(name: Name) -> &'static [(&'static str, Repr)]
+    ensures { map (λ entry. (entry.0.now, entry.1)) result.now ≡ reprs name }
 {
     match name {
-        Name::Month => month_repr_of(version, word),
-        Name::Weekday => weekday_repr_of(version, word),
-        Name::WeekNumber => week_repr_of(version, word),
-        Name::Year => year_repr_of(version, word),
-        Name::Hour => hour_repr_of(version, word),
-        _ => None,
+        Name::Month => &[
+            ("numerical", Repr::Numerical),
+            ("long", Repr::Long),
+            ("short", Repr::Short),
+        ],
+        Name::Weekday => &[
+            ("short", Repr::Short),
+            ("long", Repr::Long),
+            ("sunday", Repr::Sunday),
+            ("monday", Repr::Monday),
+        ],
+        Name::WeekNumber => &[
+            ("iso", Repr::Iso),
+            ("sunday", Repr::Sunday),
+            ("monday", Repr::Monday),
+        ],
+        Name::Year => &[
+            ("full", Repr::Full),
+            ("century", Repr::Century),
+            ("last_two", Repr::LastTwo),
+        ],
+        Name::Hour => &[("24", Repr::TwentyFour), ("12", Repr::Twelve)],
+        _ => &[],
     }
 }
 

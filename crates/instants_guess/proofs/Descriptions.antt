@@ -17,9 +17,10 @@ use Rattle.instants_guess.specs.Offers.{OfferSaid, offers}
 use Rattle.description_lexer.specs.Words.{modifier_in, modifier_at, modifiers_at, name_at, closed_at, escape_at}
 use Rattle.description_lexer.specs.Many.{many}
 use Rattle.description_tables.specs.Component as tables
+use Rattle.description_tables.specs.Lookup.{lookup}
 use Rattle.description_tables.specs.Keys.{key_of}
-use Rattle.description_tables.specs.Names.{time_name_of, name_of}
-use Rattle.description_tables.specs.Values as values
+use Rattle.description_tables.specs.Names.{name_of}
+use Rattle.description_tables.specs.Values.{count_of}
 use Rattle.description_strftime.specs.Letters as letter
 
 -- a description is read without a fault
@@ -58,7 +59,7 @@ each (offer ∷ others) h =
 
 -- the descriptions of all formats are read
 all_read : list_all (λ offer. is_read offer.source) offers ≡ true
-unfolding is_read offers table grammar.read_items grammar.element_at grammar.nested_at grammar.bracket_at grammar.text_at grammar.component_from grammar.opened_at grammar.optional_at grammar.first_at grammar.doubled_at modifier_in modifier_at modifiers_at name_at closed_at escape_at many tables.with_modifier tables.with_modifiers tables.combined tables.named tables.component_of key_of time_name_of name_of values.padding_of values.flag_of values.base_of values.sign_of values.range_of values.case_of values.digits_of values.precision_of values.trailing_input_of values.month_repr_of values.weekday_repr_of values.week_repr_of values.year_repr_of values.hour_repr_of values.count_of letters.read_strftime letters.strftime_step letters.conversion_at letters.letter_at letter.flag_of letter.day_number letter.year_number letter.time_number letter.unpadded letter.component_of letter.text_of letter.item_of letter.composite letter.separator letter.part_of letter.letter_items letter.refused
+unfolding is_read offers table grammar.read_items grammar.element_at grammar.nested_at grammar.bracket_at grammar.text_at grammar.component_from grammar.opened_at grammar.optional_at grammar.first_at grammar.doubled_at modifier_in modifier_at modifiers_at name_at closed_at escape_at many tables.with_modifier tables.with_modifiers tables.combined tables.named tables.component_of key_of name_of lookup count_of letters.read_strftime letters.strftime_step letters.conversion_at letters.letter_at letter.flag_of letter.day_number letter.year_number letter.time_number letter.unpadded letter.component_of letter.text_of letter.item_of letter.composite letter.separator letter.part_of letter.letter_items letter.refused
 all_read = refl
 
 pub are_descriptions : AreDescriptions offers

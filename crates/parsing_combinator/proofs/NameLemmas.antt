@@ -1,13 +1,12 @@
 -- Names, none of which begins with an earlier one: what is taken is the first that is there.
-use Rattle.std.proofs.Common.{◌≡◌, ℕ, zero, suc, ◌<◌, ◌≤◌, ◌&&◌, Bool, true, false, not, List, [], ◌∷◌, ◌++◌, map, length, take, drop, Option, Some, None, refl, sym, ap, ◌∙◌, arith}
-use Rattle.std.specs.Prelude.{bytes_eq, if◌then◌else◌}
+use Rattle.std.proofs.Common.{◌≡◌, ℕ, zero, suc, ◌<◌, ◌≤◌, ◌&&◌, Bool, true, false, not, List, [], ◌∷◌, map, length, take, drop, Some, None, refl, sym, ap, ◌∙◌, arith}
+use Rattle.std.specs.Prelude.{bytes_eq}
 use Rattle.std.specs.Char.{to_ascii_lowercase}
 use Rattle.std.proofs.lemmas.Bool.{true≢false}
 use Rattle.std.proofs.lemmas.List.{length-take-le, length-take}
 use Rattle.std.proofs.lemmas.Slice.Eq.{bytes_eq-Decides}
-use Rattle.calendar_count.specs.declared.month.Month.{Month}
-use Rattle.parsing_combinator.specs.Shape.{or_before, front, taken, nothing}
-use Rattle.parsing_combinator.specs.Names.{compared, is_name, begins, named, found, long_months, long_weekdays, long_first_quarter, long_second_quarter, long_third_quarter, long_fourth_quarter, long_first_days, long_last_days, short_months, short_weekdays, short_first_quarter, short_second_quarter, short_third_quarter, short_fourth_quarter, short_first_days, short_last_days, periods, period}
+use Rattle.parsing_combinator.specs.Shape.{front, taken, nothing}
+use Rattle.parsing_combinator.specs.Names.{compared, is_name, begins, named, found, long_months, long_weekdays, short_months, short_weekdays, periods, period}
 use Rattle.parsing_combinator.proofs.Longest.{greatest_is, taken_same, taken_nothing}
 
 -- no entry begins with an earlier one
@@ -140,70 +139,32 @@ taken_named b [] bytes e = taken_same (named b []) nothing bytes (λ j le. empty
 taken_named b (entry ∷ entries) bytes e =
     found_here b (begins b entry.0 bytes) entry entries bytes refl (both_left _ _ e) (taken_named b entries bytes (both_right _ _ e))
 
-found_both_here : {A : Type 0} → (b t : Bool) (x : List ℕ × A) (xs ys : List (List ℕ × A)) (bytes : List ℕ) → found b (xs ++ ys) bytes ≡ or_before (found b xs bytes) (found b ys bytes) → (if t then Some (x.1, drop (length x.0) bytes) else found b (xs ++ ys) bytes) ≡ or_before (if t then Some (x.1, drop (length x.0) bytes) else found b xs bytes) (found b ys bytes)
-found_both_here b true x xs ys bytes more = refl
-found_both_here b false x xs ys bytes more = more
-
--- the first entry of two tables
-found_both : {A : Type 0} → (b : Bool) (xs ys : List (List ℕ × A)) (bytes : List ℕ) → found b (xs ++ ys) bytes ≡ or_before (found b xs bytes) (found b ys bytes)
-unfolding found
-found_both b [] ys bytes = refl
-found_both b (x ∷ xs) ys bytes = found_both_here b (begins b x.0 bytes) x xs ys bytes (found_both b xs ys bytes)
-
 -- ---- the names
 
-months_apart : (b : Bool) → apart b long_months ≡ true
+-- a table of which no name begins with an earlier one, with the case of letters and without it
+taken_table : {A : Type 0} → (entries : List (List ℕ × A)) → apart true entries ≡ true → apart false entries ≡ true → (b : Bool) (bytes : List ℕ) → taken (named b entries) bytes ≡ found b entries bytes
+taken_table entries exact alike true bytes = taken_named true entries bytes exact
+taken_table entries exact alike false bytes = taken_named false entries bytes alike
+
+pub taken_long_month : (b : Bool) (bytes : List ℕ) → taken (named b long_months) bytes ≡ found b long_months bytes
 unfolding begins
-months_apart true = refl
-months_apart false = refl
+taken_long_month = taken_table long_months refl refl
 
-short_months_apart : (b : Bool) → apart b short_months ≡ true
+pub taken_short_month : (b : Bool) (bytes : List ℕ) → taken (named b short_months) bytes ≡ found b short_months bytes
 unfolding begins
-short_months_apart true = refl
-short_months_apart false = refl
+taken_short_month = taken_table short_months refl refl
 
-weekdays_apart : (b : Bool) → apart b long_weekdays ≡ true
+pub taken_long_weekday : (b : Bool) (bytes : List ℕ) → taken (named b long_weekdays) bytes ≡ found b long_weekdays bytes
 unfolding begins
-weekdays_apart true = refl
-weekdays_apart false = refl
+taken_long_weekday = taken_table long_weekdays refl refl
 
-short_weekdays_apart : (b : Bool) → apart b short_weekdays ≡ true
+pub taken_short_weekday : (b : Bool) (bytes : List ℕ) → taken (named b short_weekdays) bytes ≡ found b short_weekdays bytes
 unfolding begins
-short_weekdays_apart true = refl
-short_weekdays_apart false = refl
-
-periods_apart : (b : Bool) → apart b periods ≡ true
-unfolding begins
-periods_apart true = refl
-periods_apart false = refl
-
-abbrev pub long_month_by : Bool → List ℕ → Option (Month × List ℕ)
-long_month_by b bytes = or_before (found b long_first_quarter bytes) (or_before (found b long_second_quarter bytes) (or_before (found b long_third_quarter bytes) (found b long_fourth_quarter bytes)))
-
-pub taken_long_month : (b : Bool) (bytes : List ℕ) → taken (named b long_months) bytes ≡ long_month_by b bytes
-taken_long_month b bytes =
-    taken_named b long_months bytes (months_apart b)
-    ∙ found_both b long_first_quarter (long_second_quarter ++ long_third_quarter ++ long_fourth_quarter) bytes
-    ∙ ap (or_before (found b long_first_quarter bytes)) (found_both b long_second_quarter (long_third_quarter ++ long_fourth_quarter) bytes ∙ ap (or_before (found b long_second_quarter bytes)) (found_both b long_third_quarter long_fourth_quarter bytes))
-
-abbrev pub short_month_by : Bool → List ℕ → Option (Month × List ℕ)
-short_month_by b bytes = or_before (found b short_first_quarter bytes) (or_before (found b short_second_quarter bytes) (or_before (found b short_third_quarter bytes) (found b short_fourth_quarter bytes)))
-
-pub taken_short_month : (b : Bool) (bytes : List ℕ) → taken (named b short_months) bytes ≡ short_month_by b bytes
-taken_short_month b bytes =
-    taken_named b short_months bytes (short_months_apart b)
-    ∙ found_both b short_first_quarter (short_second_quarter ++ short_third_quarter ++ short_fourth_quarter) bytes
-    ∙ ap (or_before (found b short_first_quarter bytes)) (found_both b short_second_quarter (short_third_quarter ++ short_fourth_quarter) bytes ∙ ap (or_before (found b short_second_quarter bytes)) (found_both b short_third_quarter short_fourth_quarter bytes))
-
-pub taken_long_weekday : (b : Bool) (bytes : List ℕ) → taken (named b long_weekdays) bytes ≡ or_before (found b long_first_days bytes) (found b long_last_days bytes)
-taken_long_weekday b bytes = taken_named b long_weekdays bytes (weekdays_apart b) ∙ found_both b long_first_days long_last_days bytes
-
-pub taken_short_weekday : (b : Bool) (bytes : List ℕ) → taken (named b short_weekdays) bytes ≡ or_before (found b short_first_days bytes) (found b short_last_days bytes)
-taken_short_weekday b bytes = taken_named b short_weekdays bytes (short_weekdays_apart b) ∙ found_both b short_first_days short_last_days bytes
+taken_short_weekday = taken_table short_weekdays refl refl
 
 pub taken_period : (upper sensitive : Bool) (bytes : List ℕ) → taken (period upper sensitive) bytes ≡ found (upper && sensitive) periods bytes
-unfolding period
-taken_period upper sensitive bytes = taken_named (upper && sensitive) periods bytes (periods_apart (upper && sensitive))
+unfolding period begins
+taken_period upper sensitive = taken_table periods refl refl (upper && sensitive)
 
 -- a text shorter than a name doesn't begin with it
 pub short_text : (b : Bool) (name bytes : List ℕ) → length bytes < length name → is_name b name (take (length name) bytes) ≡ false

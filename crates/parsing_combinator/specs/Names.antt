@@ -1,5 +1,5 @@
 -- Names, and what each of them names.
-use Rattle.std.specs.Prelude.{ℕ, ◌&&◌, Bool, true, false, List, [], ◌∷◌, ◌++◌, map, length, take, drop, Option, Some, None, bytes_eq, codes, if◌then◌else◌}
+use Rattle.std.specs.Prelude.{ℕ, ◌&&◌, Bool, true, false, List, [], ◌∷◌, map, length, take, drop, Option, Some, None, bytes_eq, codes, if◌then◌else◌}
 use Rattle.std.specs.Char.{to_ascii_lowercase}
 use Rattle.calendar_count.specs.declared.month.Month.{Month}
 use Rattle.calendar_count.specs.declared.month.Month.TheVariants as month
@@ -31,53 +31,27 @@ found b (entry ∷ entries) bytes = if begins b entry.0 bytes then Some (entry.1
 
 -- ---- the names
 
-abbrev pub long_first_quarter : List (List ℕ × Month)
-long_first_quarter = (codes "January", month.January) ∷ (codes "February", month.February) ∷ (codes "March", month.March) ∷ []
-
-abbrev pub long_second_quarter : List (List ℕ × Month)
-long_second_quarter = (codes "April", month.April) ∷ (codes "May", month.May) ∷ (codes "June", month.June) ∷ []
-
-abbrev pub long_third_quarter : List (List ℕ × Month)
-long_third_quarter = (codes "July", month.July) ∷ (codes "August", month.August) ∷ (codes "September", month.September) ∷ []
-
-abbrev pub long_fourth_quarter : List (List ℕ × Month)
-long_fourth_quarter = (codes "October", month.October) ∷ (codes "November", month.November) ∷ (codes "December", month.December) ∷ []
-
 abbrev pub long_months : List (List ℕ × Month)
-long_months = long_first_quarter ++ long_second_quarter ++ long_third_quarter ++ long_fourth_quarter
-
-abbrev pub long_first_days : List (List ℕ × Weekday)
-long_first_days = (codes "Monday", weekday.Monday) ∷ (codes "Tuesday", weekday.Tuesday) ∷ (codes "Wednesday", weekday.Wednesday) ∷ (codes "Thursday", weekday.Thursday) ∷ []
-
-abbrev pub long_last_days : List (List ℕ × Weekday)
-long_last_days = (codes "Friday", weekday.Friday) ∷ (codes "Saturday", weekday.Saturday) ∷ (codes "Sunday", weekday.Sunday) ∷ []
+long_months =
+    (codes "January", month.January) ∷ (codes "February", month.February) ∷ (codes "March", month.March) ∷ (codes "April", month.April) ∷
+    (codes "May", month.May) ∷ (codes "June", month.June) ∷ (codes "July", month.July) ∷ (codes "August", month.August) ∷
+    (codes "September", month.September) ∷ (codes "October", month.October) ∷ (codes "November", month.November) ∷ (codes "December", month.December) ∷ []
 
 abbrev pub long_weekdays : List (List ℕ × Weekday)
-long_weekdays = long_first_days ++ long_last_days
-
-abbrev pub short_first_quarter : List (List ℕ × Month)
-short_first_quarter = (codes "Jan", month.January) ∷ (codes "Feb", month.February) ∷ (codes "Mar", month.March) ∷ []
-
-abbrev pub short_second_quarter : List (List ℕ × Month)
-short_second_quarter = (codes "Apr", month.April) ∷ (codes "May", month.May) ∷ (codes "Jun", month.June) ∷ []
-
-abbrev pub short_third_quarter : List (List ℕ × Month)
-short_third_quarter = (codes "Jul", month.July) ∷ (codes "Aug", month.August) ∷ (codes "Sep", month.September) ∷ []
-
-abbrev pub short_fourth_quarter : List (List ℕ × Month)
-short_fourth_quarter = (codes "Oct", month.October) ∷ (codes "Nov", month.November) ∷ (codes "Dec", month.December) ∷ []
+long_weekdays =
+    (codes "Monday", weekday.Monday) ∷ (codes "Tuesday", weekday.Tuesday) ∷ (codes "Wednesday", weekday.Wednesday) ∷ (codes "Thursday", weekday.Thursday) ∷
+    (codes "Friday", weekday.Friday) ∷ (codes "Saturday", weekday.Saturday) ∷ (codes "Sunday", weekday.Sunday) ∷ []
 
 abbrev pub short_months : List (List ℕ × Month)
-short_months = short_first_quarter ++ short_second_quarter ++ short_third_quarter ++ short_fourth_quarter
-
-abbrev pub short_first_days : List (List ℕ × Weekday)
-short_first_days = (codes "Mon", weekday.Monday) ∷ (codes "Tue", weekday.Tuesday) ∷ (codes "Wed", weekday.Wednesday) ∷ (codes "Thu", weekday.Thursday) ∷ []
-
-abbrev pub short_last_days : List (List ℕ × Weekday)
-short_last_days = (codes "Fri", weekday.Friday) ∷ (codes "Sat", weekday.Saturday) ∷ (codes "Sun", weekday.Sunday) ∷ []
+short_months =
+    (codes "Jan", month.January) ∷ (codes "Feb", month.February) ∷ (codes "Mar", month.March) ∷ (codes "Apr", month.April) ∷
+    (codes "May", month.May) ∷ (codes "Jun", month.June) ∷ (codes "Jul", month.July) ∷ (codes "Aug", month.August) ∷
+    (codes "Sep", month.September) ∷ (codes "Oct", month.October) ∷ (codes "Nov", month.November) ∷ (codes "Dec", month.December) ∷ []
 
 abbrev pub short_weekdays : List (List ℕ × Weekday)
-short_weekdays = short_first_days ++ short_last_days
+short_weekdays =
+    (codes "Mon", weekday.Monday) ∷ (codes "Tue", weekday.Tuesday) ∷ (codes "Wed", weekday.Wednesday) ∷ (codes "Thu", weekday.Thursday) ∷
+    (codes "Fri", weekday.Friday) ∷ (codes "Sat", weekday.Saturday) ∷ (codes "Sun", weekday.Sunday) ∷ []
 
 -- the halves of the day: whether it is the later one
 abbrev pub periods : List (List ℕ × Bool)

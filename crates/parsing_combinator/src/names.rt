@@ -26,72 +26,39 @@ fn after<'a>(name: &[u8], case_sensitive: bool, bytes: &'a [u8]) -> Option<&'a [
     if same { Some(rest) } else { None }
 }
 
+// The first name of a table that is at the front.
 #[inline(always)]
 #[tactic(auto, unfolding(crate::specs::Names::found))]
-fn long_first_quarter(case_sensitive: bool, bytes: &[u8]) -> Option<(Month, &[u8])>
-    ensures { cut_view result ≡ Names.found case_sensitive Names.long_first_quarter bytes.now }
+fn first_long_month(case_sensitive: bool, bytes: &[u8]) -> Option<(Month, &[u8])>
+    ensures { cut_view result ≡ Names.found case_sensitive Names.long_months bytes.now }
 {
     if let Some(rest) = after(b"January", case_sensitive, bytes) {
-        return Some((Month::January, rest));
+        Some((Month::January, rest))
+    } else if let Some(rest) = after(b"February", case_sensitive, bytes) {
+        Some((Month::February, rest))
+    } else if let Some(rest) = after(b"March", case_sensitive, bytes) {
+        Some((Month::March, rest))
+    } else if let Some(rest) = after(b"April", case_sensitive, bytes) {
+        Some((Month::April, rest))
+    } else if let Some(rest) = after(b"May", case_sensitive, bytes) {
+        Some((Month::May, rest))
+    } else if let Some(rest) = after(b"June", case_sensitive, bytes) {
+        Some((Month::June, rest))
+    } else if let Some(rest) = after(b"July", case_sensitive, bytes) {
+        Some((Month::July, rest))
+    } else if let Some(rest) = after(b"August", case_sensitive, bytes) {
+        Some((Month::August, rest))
+    } else if let Some(rest) = after(b"September", case_sensitive, bytes) {
+        Some((Month::September, rest))
+    } else if let Some(rest) = after(b"October", case_sensitive, bytes) {
+        Some((Month::October, rest))
+    } else if let Some(rest) = after(b"November", case_sensitive, bytes) {
+        Some((Month::November, rest))
+    } else if let Some(rest) = after(b"December", case_sensitive, bytes) {
+        Some((Month::December, rest))
+    } else {
+        None
     }
-    if let Some(rest) = after(b"February", case_sensitive, bytes) {
-        return Some((Month::February, rest));
-    }
-    if let Some(rest) = after(b"March", case_sensitive, bytes) {
-        return Some((Month::March, rest));
-    }
-    None
-}
-
-#[inline(always)]
-#[tactic(auto, unfolding(crate::specs::Names::found))]
-fn long_second_quarter(case_sensitive: bool, bytes: &[u8]) -> Option<(Month, &[u8])>
-    ensures { cut_view result ≡ Names.found case_sensitive Names.long_second_quarter bytes.now }
-{
-    if let Some(rest) = after(b"April", case_sensitive, bytes) {
-        return Some((Month::April, rest));
-    }
-    if let Some(rest) = after(b"May", case_sensitive, bytes) {
-        return Some((Month::May, rest));
-    }
-    if let Some(rest) = after(b"June", case_sensitive, bytes) {
-        return Some((Month::June, rest));
-    }
-    None
-}
-
-#[inline(always)]
-#[tactic(auto, unfolding(crate::specs::Names::found))]
-fn long_third_quarter(case_sensitive: bool, bytes: &[u8]) -> Option<(Month, &[u8])>
-    ensures { cut_view result ≡ Names.found case_sensitive Names.long_third_quarter bytes.now }
-{
-    if let Some(rest) = after(b"July", case_sensitive, bytes) {
-        return Some((Month::July, rest));
-    }
-    if let Some(rest) = after(b"August", case_sensitive, bytes) {
-        return Some((Month::August, rest));
-    }
-    if let Some(rest) = after(b"September", case_sensitive, bytes) {
-        return Some((Month::September, rest));
-    }
-    None
-}
-
-#[inline(always)]
-#[tactic(auto, unfolding(crate::specs::Names::found))]
-fn long_fourth_quarter(case_sensitive: bool, bytes: &[u8]) -> Option<(Month, &[u8])>
-    ensures { cut_view result ≡ Names.found case_sensitive Names.long_fourth_quarter bytes.now }
-{
-    if let Some(rest) = after(b"October", case_sensitive, bytes) {
-        return Some((Month::October, rest));
-    }
-    if let Some(rest) = after(b"November", case_sensitive, bytes) {
-        return Some((Month::November, rest));
-    }
-    if let Some(rest) = after(b"December", case_sensitive, bytes) {
-        return Some((Month::December, rest));
-    }
-    None
 }
 
 /// The English name of a month.
@@ -99,53 +66,31 @@ fn long_fourth_quarter(case_sensitive: bool, bytes: &[u8]) -> Option<(Month, &[u
 pub fn long_month(case_sensitive: bool, bytes: &[u8]) -> Option<(Month, &[u8])>
     ensures { cut_view result ≡ taken (Names.named case_sensitive Names.long_months) bytes.now }
 {
-    if let Some(found) = long_first_quarter(case_sensitive, bytes) {
-        return Some(found);
-    }
-    if let Some(found) = long_second_quarter(case_sensitive, bytes) {
-        return Some(found);
-    }
-    if let Some(found) = long_third_quarter(case_sensitive, bytes) {
-        return Some(found);
-    }
-    long_fourth_quarter(case_sensitive, bytes)
+    first_long_month(case_sensitive, bytes)
 }
 
 #[inline(always)]
 #[tactic(auto, unfolding(crate::specs::Names::found))]
-fn long_first_days(case_sensitive: bool, bytes: &[u8]) -> Option<(Weekday, &[u8])>
-    ensures { cut_view result ≡ Names.found case_sensitive Names.long_first_days bytes.now }
+fn first_long_weekday(case_sensitive: bool, bytes: &[u8]) -> Option<(Weekday, &[u8])>
+    ensures { cut_view result ≡ Names.found case_sensitive Names.long_weekdays bytes.now }
 {
     if let Some(rest) = after(b"Monday", case_sensitive, bytes) {
-        return Some((Weekday::Monday, rest));
+        Some((Weekday::Monday, rest))
+    } else if let Some(rest) = after(b"Tuesday", case_sensitive, bytes) {
+        Some((Weekday::Tuesday, rest))
+    } else if let Some(rest) = after(b"Wednesday", case_sensitive, bytes) {
+        Some((Weekday::Wednesday, rest))
+    } else if let Some(rest) = after(b"Thursday", case_sensitive, bytes) {
+        Some((Weekday::Thursday, rest))
+    } else if let Some(rest) = after(b"Friday", case_sensitive, bytes) {
+        Some((Weekday::Friday, rest))
+    } else if let Some(rest) = after(b"Saturday", case_sensitive, bytes) {
+        Some((Weekday::Saturday, rest))
+    } else if let Some(rest) = after(b"Sunday", case_sensitive, bytes) {
+        Some((Weekday::Sunday, rest))
+    } else {
+        None
     }
-    if let Some(rest) = after(b"Tuesday", case_sensitive, bytes) {
-        return Some((Weekday::Tuesday, rest));
-    }
-    if let Some(rest) = after(b"Wednesday", case_sensitive, bytes) {
-        return Some((Weekday::Wednesday, rest));
-    }
-    if let Some(rest) = after(b"Thursday", case_sensitive, bytes) {
-        return Some((Weekday::Thursday, rest));
-    }
-    None
-}
-
-#[inline(always)]
-#[tactic(auto, unfolding(crate::specs::Names::found))]
-fn long_last_days(case_sensitive: bool, bytes: &[u8]) -> Option<(Weekday, &[u8])>
-    ensures { cut_view result ≡ Names.found case_sensitive Names.long_last_days bytes.now }
-{
-    if let Some(rest) = after(b"Friday", case_sensitive, bytes) {
-        return Some((Weekday::Friday, rest));
-    }
-    if let Some(rest) = after(b"Saturday", case_sensitive, bytes) {
-        return Some((Weekday::Saturday, rest));
-    }
-    if let Some(rest) = after(b"Sunday", case_sensitive, bytes) {
-        return Some((Weekday::Sunday, rest));
-    }
-    None
 }
 
 /// The English name of a day of the week.
@@ -153,78 +98,41 @@ fn long_last_days(case_sensitive: bool, bytes: &[u8]) -> Option<(Weekday, &[u8])
 pub fn long_weekday(case_sensitive: bool, bytes: &[u8]) -> Option<(Weekday, &[u8])>
     ensures { cut_view result ≡ taken (Names.named case_sensitive Names.long_weekdays) bytes.now }
 {
-    if let Some(found) = long_first_days(case_sensitive, bytes) {
-        return Some(found);
-    }
-    long_last_days(case_sensitive, bytes)
+    first_long_weekday(case_sensitive, bytes)
 }
 
 #[inline(always)]
 #[tactic(auto, unfolding(crate::specs::Names::found))]
-fn short_first_quarter(case_sensitive: bool, bytes: &[u8]) -> Option<(Month, &[u8])>
-    ensures { cut_view result ≡ Names.found case_sensitive Names.short_first_quarter bytes.now }
+fn first_short_month(case_sensitive: bool, bytes: &[u8]) -> Option<(Month, &[u8])>
+    ensures { cut_view result ≡ Names.found case_sensitive Names.short_months bytes.now }
 {
     if let Some(rest) = after(b"Jan", case_sensitive, bytes) {
-        return Some((Month::January, rest));
+        Some((Month::January, rest))
+    } else if let Some(rest) = after(b"Feb", case_sensitive, bytes) {
+        Some((Month::February, rest))
+    } else if let Some(rest) = after(b"Mar", case_sensitive, bytes) {
+        Some((Month::March, rest))
+    } else if let Some(rest) = after(b"Apr", case_sensitive, bytes) {
+        Some((Month::April, rest))
+    } else if let Some(rest) = after(b"May", case_sensitive, bytes) {
+        Some((Month::May, rest))
+    } else if let Some(rest) = after(b"Jun", case_sensitive, bytes) {
+        Some((Month::June, rest))
+    } else if let Some(rest) = after(b"Jul", case_sensitive, bytes) {
+        Some((Month::July, rest))
+    } else if let Some(rest) = after(b"Aug", case_sensitive, bytes) {
+        Some((Month::August, rest))
+    } else if let Some(rest) = after(b"Sep", case_sensitive, bytes) {
+        Some((Month::September, rest))
+    } else if let Some(rest) = after(b"Oct", case_sensitive, bytes) {
+        Some((Month::October, rest))
+    } else if let Some(rest) = after(b"Nov", case_sensitive, bytes) {
+        Some((Month::November, rest))
+    } else if let Some(rest) = after(b"Dec", case_sensitive, bytes) {
+        Some((Month::December, rest))
+    } else {
+        None
     }
-    if let Some(rest) = after(b"Feb", case_sensitive, bytes) {
-        return Some((Month::February, rest));
-    }
-    if let Some(rest) = after(b"Mar", case_sensitive, bytes) {
-        return Some((Month::March, rest));
-    }
-    None
-}
-
-#[inline(always)]
-#[tactic(auto, unfolding(crate::specs::Names::found))]
-fn short_second_quarter(case_sensitive: bool, bytes: &[u8]) -> Option<(Month, &[u8])>
-    ensures { cut_view result ≡ Names.found case_sensitive Names.short_second_quarter bytes.now }
-{
-    if let Some(rest) = after(b"Apr", case_sensitive, bytes) {
-        return Some((Month::April, rest));
-    }
-    if let Some(rest) = after(b"May", case_sensitive, bytes) {
-        return Some((Month::May, rest));
-    }
-    if let Some(rest) = after(b"Jun", case_sensitive, bytes) {
-        return Some((Month::June, rest));
-    }
-    None
-}
-
-#[inline(always)]
-#[tactic(auto, unfolding(crate::specs::Names::found))]
-fn short_third_quarter(case_sensitive: bool, bytes: &[u8]) -> Option<(Month, &[u8])>
-    ensures { cut_view result ≡ Names.found case_sensitive Names.short_third_quarter bytes.now }
-{
-    if let Some(rest) = after(b"Jul", case_sensitive, bytes) {
-        return Some((Month::July, rest));
-    }
-    if let Some(rest) = after(b"Aug", case_sensitive, bytes) {
-        return Some((Month::August, rest));
-    }
-    if let Some(rest) = after(b"Sep", case_sensitive, bytes) {
-        return Some((Month::September, rest));
-    }
-    None
-}
-
-#[inline(always)]
-#[tactic(auto, unfolding(crate::specs::Names::found))]
-fn short_fourth_quarter(case_sensitive: bool, bytes: &[u8]) -> Option<(Month, &[u8])>
-    ensures { cut_view result ≡ Names.found case_sensitive Names.short_fourth_quarter bytes.now }
-{
-    if let Some(rest) = after(b"Oct", case_sensitive, bytes) {
-        return Some((Month::October, rest));
-    }
-    if let Some(rest) = after(b"Nov", case_sensitive, bytes) {
-        return Some((Month::November, rest));
-    }
-    if let Some(rest) = after(b"Dec", case_sensitive, bytes) {
-        return Some((Month::December, rest));
-    }
-    None
 }
 
 /// The first three letters of the English name of a month.
@@ -232,53 +140,31 @@ fn short_fourth_quarter(case_sensitive: bool, bytes: &[u8]) -> Option<(Month, &[
 pub fn short_month(case_sensitive: bool, bytes: &[u8]) -> Option<(Month, &[u8])>
     ensures { cut_view result ≡ taken (Names.named case_sensitive Names.short_months) bytes.now }
 {
-    if let Some(found) = short_first_quarter(case_sensitive, bytes) {
-        return Some(found);
-    }
-    if let Some(found) = short_second_quarter(case_sensitive, bytes) {
-        return Some(found);
-    }
-    if let Some(found) = short_third_quarter(case_sensitive, bytes) {
-        return Some(found);
-    }
-    short_fourth_quarter(case_sensitive, bytes)
+    first_short_month(case_sensitive, bytes)
 }
 
 #[inline(always)]
 #[tactic(auto, unfolding(crate::specs::Names::found))]
-fn short_first_days(case_sensitive: bool, bytes: &[u8]) -> Option<(Weekday, &[u8])>
-    ensures { cut_view result ≡ Names.found case_sensitive Names.short_first_days bytes.now }
+fn first_short_weekday(case_sensitive: bool, bytes: &[u8]) -> Option<(Weekday, &[u8])>
+    ensures { cut_view result ≡ Names.found case_sensitive Names.short_weekdays bytes.now }
 {
     if let Some(rest) = after(b"Mon", case_sensitive, bytes) {
-        return Some((Weekday::Monday, rest));
+        Some((Weekday::Monday, rest))
+    } else if let Some(rest) = after(b"Tue", case_sensitive, bytes) {
+        Some((Weekday::Tuesday, rest))
+    } else if let Some(rest) = after(b"Wed", case_sensitive, bytes) {
+        Some((Weekday::Wednesday, rest))
+    } else if let Some(rest) = after(b"Thu", case_sensitive, bytes) {
+        Some((Weekday::Thursday, rest))
+    } else if let Some(rest) = after(b"Fri", case_sensitive, bytes) {
+        Some((Weekday::Friday, rest))
+    } else if let Some(rest) = after(b"Sat", case_sensitive, bytes) {
+        Some((Weekday::Saturday, rest))
+    } else if let Some(rest) = after(b"Sun", case_sensitive, bytes) {
+        Some((Weekday::Sunday, rest))
+    } else {
+        None
     }
-    if let Some(rest) = after(b"Tue", case_sensitive, bytes) {
-        return Some((Weekday::Tuesday, rest));
-    }
-    if let Some(rest) = after(b"Wed", case_sensitive, bytes) {
-        return Some((Weekday::Wednesday, rest));
-    }
-    if let Some(rest) = after(b"Thu", case_sensitive, bytes) {
-        return Some((Weekday::Thursday, rest));
-    }
-    None
-}
-
-#[inline(always)]
-#[tactic(auto, unfolding(crate::specs::Names::found))]
-fn short_last_days(case_sensitive: bool, bytes: &[u8]) -> Option<(Weekday, &[u8])>
-    ensures { cut_view result ≡ Names.found case_sensitive Names.short_last_days bytes.now }
-{
-    if let Some(rest) = after(b"Fri", case_sensitive, bytes) {
-        return Some((Weekday::Friday, rest));
-    }
-    if let Some(rest) = after(b"Sat", case_sensitive, bytes) {
-        return Some((Weekday::Saturday, rest));
-    }
-    if let Some(rest) = after(b"Sun", case_sensitive, bytes) {
-        return Some((Weekday::Sunday, rest));
-    }
-    None
 }
 
 /// The first three letters of the English name of a day of the week.
@@ -286,10 +172,7 @@ fn short_last_days(case_sensitive: bool, bytes: &[u8]) -> Option<(Weekday, &[u8]
 pub fn short_weekday(case_sensitive: bool, bytes: &[u8]) -> Option<(Weekday, &[u8])>
     ensures { cut_view result ≡ taken (Names.named case_sensitive Names.short_weekdays) bytes.now }
 {
-    if let Some(found) = short_first_days(case_sensitive, bytes) {
-        return Some(found);
-    }
-    short_last_days(case_sensitive, bytes)
+    first_short_weekday(case_sensitive, bytes)
 }
 
 /// The half of the day, `AM` or `PM`: whether it is the later one. The case of its letters counts only where both
@@ -300,10 +183,10 @@ pub fn period(is_uppercase: bool, case_sensitive: bool, bytes: &[u8]) -> Option<
 {
     let exact = is_uppercase && case_sensitive;
     if let Some(rest) = after(b"AM", exact, bytes) {
-        return Some((false, rest));
+        Some((false, rest))
+    } else if let Some(rest) = after(b"PM", exact, bytes) {
+        Some((true, rest))
+    } else {
+        None
     }
-    if let Some(rest) = after(b"PM", exact, bytes) {
-        return Some((true, rest));
-    }
-    None
 }

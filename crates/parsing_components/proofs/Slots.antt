@@ -113,13 +113,6 @@ weekday_read fault case_sensitive line rest said exact e = rw (exact, e) refl
 -- so many digits of a fraction
 pub subsecond_read : (d : SubsecondDigits) (fault : Fault) (o : Option Slot) → o ≡ slot_of_subsecond d → IfSome o (λ s. (line : List ℕ) (said : Read) (rest : List ℕ) → slot_piece s line ≡ Some (said, rest) → piece_or fault (kept (λ n. Some (read.Subsecond n)) (taken (fraction_of d) line)) ≡ Ok (said, rest))
 unfolding slot_piece
-subsecond_read digits_of.One fault o is = rw is (λ line said rest e. rw e refl)
-subsecond_read digits_of.Two fault o is = rw is (λ line said rest e. rw e refl)
-subsecond_read digits_of.Three fault o is = rw is (λ line said rest e. rw e refl)
-subsecond_read digits_of.Four fault o is = rw is (λ line said rest e. rw e refl)
-subsecond_read digits_of.Five fault o is = rw is (λ line said rest e. rw e refl)
-subsecond_read digits_of.Six fault o is = rw is (λ line said rest e. rw e refl)
-subsecond_read digits_of.Seven fault o is = rw is (λ line said rest e. rw e refl)
-subsecond_read digits_of.Eight fault o is = rw is (λ line said rest e. rw e refl)
 subsecond_read digits_of.Nine fault o is = rw is tt
 subsecond_read digits_of.OneOrMore fault o is = rw is tt
+subsecond_read d fault o is = rw is (λ line said rest e. rw e refl)

@@ -1,5 +1,7 @@
 -- The strict reading against the one that is not: the same where all numbers are in range.
-use Rattle.std.proofs.Common.{◌≡◌, ℕ, ◌≤◌, Bool, true, false, cond, List, [], length, take, drop, Option, Some, None, Result, Ok, arith}
+use Rattle.std.proofs.Common.{◌≡◌, ℕ, ◌≤◌, Bool, true, false, cond, leb, List, [], ◌∷◌, length, take, drop, Option, Some, None, Result, Ok, refl, arith}
+use Rattle.std.specs.List.{list_all}
+use Rattle.std.proofs.lemmas.Bool.{and_parts, leb-true}
 use Rattle.std.specs.Borrow.{Bor}
 use Rattle.std.specs.Prelude.{◌↔◌, IfOk, IfSome, codes, option_map, nat_le}
 use Rattle.std.specs.Int.{IsInRange}
@@ -14,7 +16,7 @@ use Rattle.parsing_combinator.proofs.lemmas.Strict.{Narrows, Says, given, denied
 use Rattle.parsing_rfc2822.specs.Skips.{optional, past}
 use Rattle.parsing_rfc2822.specs.WhiteSpace.{comments_and_white_space}
 use Rattle.parsing_rfc2822.specs.declared.parts.Rfc2822Parts.{Rfc2822Parts}
-use Rattle.parsing_rfc2822.specs.Names.{is_name, is_military, zone_of, military_zone, short_zone, zone_name}
+use Rattle.parsing_rfc2822.specs.Names.{is_name, is_military, lookup, zones, zone_of, military_zone, short_zone, zone_name}
 use Rattle.parsing_rfc2822.specs.Range.{AreInRange}
 use Rattle.parsing_rfc2822.specs.Reading.{spaced_colon, one_or_two_digits, optional_weekday, day, month_and_year, hour_and_minute, due_second, second, clock, signed_zone, named_zone, zone, spaced_zone, rfc2822}
 
@@ -96,19 +98,15 @@ small_or false n other h k = k
 small_none : IsSmall None
 small_none = record { holds = tt }
 
+lookup_small : (entries : List (List ℕ × ℕ)) → list_all (λ e. leb e.1 8) entries ≡ true → (text : List ℕ) → IsSmall (lookup entries text)
+lookup_small [] small text = small_none
+lookup_small (entry ∷ entries) small text =
+    let s = and_parts _ _ small in
+    small_or (is_name text entry.0) entry.1 _ (leb-true _ _ s.0) (lookup_small entries s.1 text)
+
 zone_of_small : (text : List ℕ) → IsSmall (zone_of text)
 unfolding zone_of
-zone_of_small text =
-    small_or (is_name text (codes "est")) 5 _ (omega arith) (
-    small_or (is_name text (codes "edt")) 4 _ (omega arith) (
-    small_or (is_name text (codes "cst")) 6 _ (omega arith) (
-    small_or (is_name text (codes "cdt")) 5 _ (omega arith) (
-    small_or (is_name text (codes "mst")) 7 _ (omega arith) (
-    small_or (is_name text (codes "mdt")) 6 _ (omega arith) (
-    small_or (is_name text (codes "pst")) 8 _ (omega arith) (
-    small_or (is_name text (codes "pdt")) 7 _ (omega arith) (
-    small_or (is_name text (codes "gmt")) 0 _ (omega arith) (
-    small_none)))))))))
+zone_of_small = lookup_small zones refl
 
 -- the same of a number with the rest
 record IsSmallCut (o : Option (ℕ × List ℕ)) : Type 0 where

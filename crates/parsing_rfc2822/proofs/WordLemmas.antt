@@ -1,16 +1,14 @@
 -- A name is compared as one number.
-use Rattle.std.proofs.Common.{◌≡◌, ℕ, ◌+◌, ◌*◌, ◌/◌, ◌%◌, ◌<◌, ◌≤◌, ◌&&◌, Bool, true, cond, eqb, leb, List, [], ◌∷◌, length, get_or, Option, Some, None, refl, sym, ap, ◌∙◌, arith, inl, inr}
-use Rattle.std.specs.Prelude.{bytes_eq, if◌then◌else◌, ◌==◌}
+use Rattle.std.proofs.Common.{◌≡◌, ℕ, ◌+◌, ◌*◌, ◌/◌, ◌%◌, ◌<◌, ◌≤◌, ◌&&◌, Bool, true, false, cond, eqb, leb, List, [], ◌∷◌, length, get_or, Option, Some, None, refl, sym, ap, ◌∙◌, arith, inl, inr}
+use Rattle.std.specs.Prelude.{if◌then◌else◌, ◌==◌}
 use Rattle.std.specs.Int.Bits.{bit_or}
 use Rattle.std.specs.Char.{to_ascii_lowercase}
-use Rattle.std.specs.Str.{str_to_ascii_lowercase}
+use Rattle.std.specs.Str.{str_eq_ignore_ascii_case}
 use Rattle.std.proofs.lemmas.Bool.{agree_below_at, cases_lt, cases_eq, and_parts, eqb-true, leb-true, eq-eqb, ne_eqb}
 use Rattle.std.proofs.lemmas.Bool.Decides.{nat_tests}
 use Rattle.calendar_count.specs.declared.month.Month.{Month}
-use Rattle.calendar_count.specs.declared.month.Month.TheVariants.{January, February, March, April, May, June, July, August, September, October, November, December}
 use Rattle.calendar_count.specs.declared.weekday.Weekday.{Weekday}
-use Rattle.calendar_count.specs.declared.weekday.Weekday.TheVariants.{Monday, Tuesday, Wednesday, Thursday, Friday, Saturday, Sunday}
-use Rattle.parsing_rfc2822.specs.Names.{weekday_of, month_of, zone_of}
+use Rattle.parsing_rfc2822.specs.Names.{lookup, weekdays, weekday_of, months, month_of, zones, zone_of}
 use Rattle.parsing_rfc2822.specs.Words.{small, word_of}
 
 pub small_is : (c : ℕ) → c < 256 → small c ≡ c / 64 * 64 + 32 + c % 32
@@ -24,10 +22,11 @@ big_letter c low high =
     let e : to_ascii_lowercase c ≡ c + 32 = grind (arith, nat_tests) in
     e ∙ omega (arith, small_is c (omega arith))
 
+stays_small : (c : ℕ) → 97 ≤ c → c ≤ 122 → to_ascii_lowercase c ≡ c
+stays_small c low high = grind (arith, nat_tests)
+
 small_letter : (c : ℕ) → 97 ≤ c → c ≤ 122 → to_ascii_lowercase c ≡ small c
-small_letter c low high =
-    let e : to_ascii_lowercase c ≡ c = grind (arith, nat_tests) in
-    e ∙ omega (arith, small_is c (omega arith))
+small_letter c low high = stays_small c low high ∙ omega (arith, small_is c (omega arith))
 
 no_letter : (c x : ℕ) → c < 256 → 97 ≤ x → x ≤ 122 → (65 ≤ c → c ≤ 90 → ⊥) → (97 ≤ c → c ≤ 122 → ⊥) → eqb (to_ascii_lowercase c) x ≡ eqb (small c) x
 no_letter c x lt low high big little =
@@ -75,114 +74,71 @@ bounds : (x : ℕ) → (leb 97 x && leb x 122) ≡ true → (97 ≤ x) × (x ≤
 bounds x h = let p = and_parts _ _ h in (leb-true _ _ p.0, leb-true _ _ p.1)
 
 -- three bytes against a name in small letters
-pub name_as_one : (a b c x y z : ℕ) → a < 256 → b < 256 → c < 256 → are_small x y z ≡ true → bytes_eq (str_to_ascii_lowercase (a ∷ b ∷ c ∷ [])) (x ∷ y ∷ z ∷ []) ≡ eqb (small a * 65_536 + small b * 256 + small c) (x * 65_536 + y * 256 + z)
+pub name_as_one : (a b c x y z : ℕ) → a < 256 → b < 256 → c < 256 → are_small x y z ≡ true → str_eq_ignore_ascii_case (a ∷ b ∷ c ∷ []) (x ∷ y ∷ z ∷ []) ≡ eqb (small a * 65_536 + small b * 256 + small c) (x * 65_536 + y * 256 + z)
 name_as_one a b c x y z ha hb hc h =
     let p = and_parts _ _ h in
     let q = and_parts _ _ p.1 in
     let bx = bounds x p.0 in
     let by = bounds y q.0 in
     let bz = bounds z q.1 in
-    rw (same_letter a x ha bx.0 bx.1, same_letter b y hb by.0 by.1, same_letter c z hc bz.0 bz.1)
+    rw (stays_small x bx.0 bx.1, stays_small y by.0 by.1, stays_small z bz.0 bz.1, same_letter a x ha bx.0 bx.1, same_letter b y hb by.0 by.1, same_letter c z hc bz.0 bz.1)
     (three_as_one (small a) (small b) (small c) x y z (small_fits a ha) (small_fits b hb) (small_fits c hc) (omega arith) (omega arith) (omega arith))
 
 -- one more name of a chain
 next : {A : Type 0} (t u : Bool) (x r s : A) → t ≡ u → r ≡ s → cond t x r ≡ cond u x s
 next t u x r s e f = rw (e, f) refl
 
-abbrev pub weekday_at : ℕ → Option Weekday
-weekday_at w =
-    if w == 7_171_950 then Some Monday
-    else if w == 7_632_229 then Some Tuesday
-    else if w == 7_824_740 then Some Wednesday
-    else if w == 7_628_917 then Some Thursday
-    else if w == 6_713_961 then Some Friday
-    else if w == 7_561_588 then Some Saturday
-    else if w == 7_566_702 then Some Sunday
-    else None
+-- ---- tables of names
 
--- the same by the number of three letters
+-- three small letters as one number
+abbrev number_of : List ℕ → ℕ
+number_of name = get_or name 0 0 * 65_536 + get_or name 1 0 * 256 + get_or name 2 0
+
+-- the same table by its names as numbers
+abbrev pub lookup_number : {A : Type 0} → List (List ℕ × A) → ℕ → Option A
+lookup_number [] w = None
+lookup_number (entry ∷ entries) w = if w == number_of entry.0 then Some entry.1 else lookup_number entries w
+
+abbrev are_words : {A : Type 0} → List (List ℕ × A) → Bool
+are_words [] = true
+are_words ((x ∷ y ∷ z ∷ [], meaning) ∷ entries) = are_small x y z && are_words entries
+are_words (entry ∷ entries) = false
+
+by_number : {A : Type 0} (entries : List (List ℕ × A)) (a b c : ℕ) → a < 256 → b < 256 → c < 256 → are_words entries ≡ true → lookup entries (a ∷ b ∷ c ∷ []) ≡ lookup_number entries (small a * 65_536 + small b * 256 + small c)
+by_number [] a b c ha hb hc words = refl
+by_number (([], meaning) ∷ entries) a b c ha hb hc words = absurd cc
+by_number ((x ∷ [], meaning) ∷ entries) a b c ha hb hc words = absurd cc
+by_number ((x ∷ y ∷ [], meaning) ∷ entries) a b c ha hb hc words = absurd cc
+by_number ((x ∷ y ∷ z ∷ u ∷ us, meaning) ∷ entries) a b c ha hb hc words = absurd cc
+by_number ((x ∷ y ∷ z ∷ [], meaning) ∷ entries) a b c ha hb hc words =
+    let w = and_parts _ _ words in
+    next _ _ (Some meaning) _ _ (name_as_one a b c x y z ha hb hc w.0) (by_number entries a b c ha hb hc w.1)
+
+by_word : {A : Type 0} (entries : List (List ℕ × A)) → are_words entries ≡ true → (text : List ℕ) → length text ≡ 3 → ((k : ℕ) → get_or text k 0 < 256) → lookup entries text ≡ lookup_number entries (word_of text)
+unfolding word_of
+by_word entries words [] e fit = absurd (omega arith)
+by_word entries words (a ∷ []) e fit = absurd (omega arith)
+by_word entries words (a ∷ b ∷ []) e fit = absurd (omega arith)
+by_word entries words (a ∷ b ∷ c ∷ d ∷ rest) e fit = absurd (omega arith)
+by_word entries words (a ∷ b ∷ c ∷ []) e fit = by_number entries a b c (fit 0) (fit 1) (fit 2) words
+
+abbrev pub weekday_at : ℕ → Option Weekday
+weekday_at w = lookup_number weekdays w
+
 pub weekday_by_word : (text : List ℕ) → length text ≡ 3 → ((k : ℕ) → get_or text k 0 < 256) → weekday_of text ≡ weekday_at (word_of text)
-unfolding weekday_of word_of
-weekday_by_word [] e fit = absurd (omega arith)
-weekday_by_word (a ∷ []) e fit = absurd (omega arith)
-weekday_by_word (a ∷ b ∷ []) e fit = absurd (omega arith)
-weekday_by_word (a ∷ b ∷ c ∷ d ∷ rest) e fit = absurd (omega arith)
-weekday_by_word (a ∷ b ∷ c ∷ []) e fit =
-    next _ _ _ _ _ (name_as_one a b c 109 111 110 (fit 0) (fit 1) (fit 2) refl) (
-    next _ _ _ _ _ (name_as_one a b c 116 117 101 (fit 0) (fit 1) (fit 2) refl) (
-    next _ _ _ _ _ (name_as_one a b c 119 101 100 (fit 0) (fit 1) (fit 2) refl) (
-    next _ _ _ _ _ (name_as_one a b c 116 104 117 (fit 0) (fit 1) (fit 2) refl) (
-    next _ _ _ _ _ (name_as_one a b c 102 114 105 (fit 0) (fit 1) (fit 2) refl) (
-    next _ _ _ _ _ (name_as_one a b c 115 97 116 (fit 0) (fit 1) (fit 2) refl) (
-    next _ _ _ _ _ (name_as_one a b c 115 117 110 (fit 0) (fit 1) (fit 2) refl) (
-    refl)))))))
+unfolding weekday_of
+weekday_by_word = by_word weekdays refl
 
 abbrev pub month_at : ℕ → Option Month
-month_at w =
-    if w == 6_971_758 then Some January
-    else if w == 6_710_626 then Some February
-    else if w == 7_168_370 then Some March
-    else if w == 6_385_778 then Some April
-    else if w == 7_168_377 then Some May
-    else if w == 6_976_878 then Some June
-    else if w == 6_976_876 then Some July
-    else if w == 6_387_047 then Some August
-    else if w == 7_562_608 then Some September
-    else if w == 7_299_956 then Some October
-    else if w == 7_237_494 then Some November
-    else if w == 6_579_555 then Some December
-    else None
+month_at w = lookup_number months w
 
--- the same by the number of three letters
 pub month_by_word : (text : List ℕ) → length text ≡ 3 → ((k : ℕ) → get_or text k 0 < 256) → month_of text ≡ month_at (word_of text)
-unfolding month_of word_of
-month_by_word [] e fit = absurd (omega arith)
-month_by_word (a ∷ []) e fit = absurd (omega arith)
-month_by_word (a ∷ b ∷ []) e fit = absurd (omega arith)
-month_by_word (a ∷ b ∷ c ∷ d ∷ rest) e fit = absurd (omega arith)
-month_by_word (a ∷ b ∷ c ∷ []) e fit =
-    next _ _ _ _ _ (name_as_one a b c 106 97 110 (fit 0) (fit 1) (fit 2) refl) (
-    next _ _ _ _ _ (name_as_one a b c 102 101 98 (fit 0) (fit 1) (fit 2) refl) (
-    next _ _ _ _ _ (name_as_one a b c 109 97 114 (fit 0) (fit 1) (fit 2) refl) (
-    next _ _ _ _ _ (name_as_one a b c 97 112 114 (fit 0) (fit 1) (fit 2) refl) (
-    next _ _ _ _ _ (name_as_one a b c 109 97 121 (fit 0) (fit 1) (fit 2) refl) (
-    next _ _ _ _ _ (name_as_one a b c 106 117 110 (fit 0) (fit 1) (fit 2) refl) (
-    next _ _ _ _ _ (name_as_one a b c 106 117 108 (fit 0) (fit 1) (fit 2) refl) (
-    next _ _ _ _ _ (name_as_one a b c 97 117 103 (fit 0) (fit 1) (fit 2) refl) (
-    next _ _ _ _ _ (name_as_one a b c 115 101 112 (fit 0) (fit 1) (fit 2) refl) (
-    next _ _ _ _ _ (name_as_one a b c 111 99 116 (fit 0) (fit 1) (fit 2) refl) (
-    next _ _ _ _ _ (name_as_one a b c 110 111 118 (fit 0) (fit 1) (fit 2) refl) (
-    next _ _ _ _ _ (name_as_one a b c 100 101 99 (fit 0) (fit 1) (fit 2) refl) (
-    refl))))))))))))
+unfolding month_of
+month_by_word = by_word months refl
 
 abbrev pub zone_at : ℕ → Option ℕ
-zone_at w =
-    if w == 6_648_692 then Some 5
-    else if w == 6_644_852 then Some 4
-    else if w == 6_517_620 then Some 6
-    else if w == 6_513_780 then Some 5
-    else if w == 7_172_980 then Some 7
-    else if w == 7_169_140 then Some 6
-    else if w == 7_369_588 then Some 8
-    else if w == 7_365_748 then Some 7
-    else if w == 6_778_228 then Some 0
-    else None
+zone_at w = lookup_number zones w
 
--- the same by the number of three letters
 pub zone_by_word : (text : List ℕ) → length text ≡ 3 → ((k : ℕ) → get_or text k 0 < 256) → zone_of text ≡ zone_at (word_of text)
-unfolding zone_of word_of
-zone_by_word [] e fit = absurd (omega arith)
-zone_by_word (a ∷ []) e fit = absurd (omega arith)
-zone_by_word (a ∷ b ∷ []) e fit = absurd (omega arith)
-zone_by_word (a ∷ b ∷ c ∷ d ∷ rest) e fit = absurd (omega arith)
-zone_by_word (a ∷ b ∷ c ∷ []) e fit =
-    next _ _ _ _ _ (name_as_one a b c 101 115 116 (fit 0) (fit 1) (fit 2) refl) (
-    next _ _ _ _ _ (name_as_one a b c 101 100 116 (fit 0) (fit 1) (fit 2) refl) (
-    next _ _ _ _ _ (name_as_one a b c 99 115 116 (fit 0) (fit 1) (fit 2) refl) (
-    next _ _ _ _ _ (name_as_one a b c 99 100 116 (fit 0) (fit 1) (fit 2) refl) (
-    next _ _ _ _ _ (name_as_one a b c 109 115 116 (fit 0) (fit 1) (fit 2) refl) (
-    next _ _ _ _ _ (name_as_one a b c 109 100 116 (fit 0) (fit 1) (fit 2) refl) (
-    next _ _ _ _ _ (name_as_one a b c 112 115 116 (fit 0) (fit 1) (fit 2) refl) (
-    next _ _ _ _ _ (name_as_one a b c 112 100 116 (fit 0) (fit 1) (fit 2) refl) (
-    next _ _ _ _ _ (name_as_one a b c 103 109 116 (fit 0) (fit 1) (fit 2) refl) (
-    refl)))))))))
+unfolding zone_of
+zone_by_word = by_word zones refl

@@ -1,5 +1,5 @@
 -- RFC 2822, section 3.3, and section 4.3 for the zones: the names of weekdays, months and zones, in any case.
-use Rattle.std.specs.Prelude.{ℕ, ◌==◌, ◌&&◌, not, Bool, List, [], length, take, drop, Option, Some, None, option_map, nat_le, codes, if◌then◌else◌}
+use Rattle.std.specs.Prelude.{ℕ, ◌==◌, ◌&&◌, not, Bool, List, [], ◌∷◌, length, take, drop, Option, Some, None, option_map, nat_le, codes, if◌then◌else◌}
 use Rattle.std.specs.Str.{str_eq_ignore_ascii_case}
 use Rattle.std.specs.Char.{is_ascii_alphabetic, to_ascii_lowercase}
 use Rattle.calendar_count.specs.declared.month.Month.{Month}
@@ -16,52 +16,42 @@ abbrev pub named : {A : Type 0} → (List ℕ → Option A) → Piece A
 named meaning bytes =
     if nat_le 3 (length bytes) then option_map (λ x. (x, drop 3 bytes)) (meaning (take 3 bytes)) else None
 
+-- what a text names that is the first of these names
+abbrev pub lookup : {A : Type 0} → List (List ℕ × A) → List ℕ → Option A
+lookup [] text = None
+lookup (entry ∷ entries) text = if is_name text entry.0 then Some entry.1 else lookup entries text
+
+abbrev pub weekdays : List (List ℕ × Weekday)
+weekdays =
+    (codes "mon", Monday) ∷ (codes "tue", Tuesday) ∷ (codes "wed", Wednesday) ∷ (codes "thu", Thursday) ∷
+    (codes "fri", Friday) ∷ (codes "sat", Saturday) ∷ (codes "sun", Sunday) ∷ []
+
 unfoldable pub weekday_of : List ℕ → Option Weekday
-weekday_of text =
-    if is_name text (codes "mon") then Some Monday
-    else if is_name text (codes "tue") then Some Tuesday
-    else if is_name text (codes "wed") then Some Wednesday
-    else if is_name text (codes "thu") then Some Thursday
-    else if is_name text (codes "fri") then Some Friday
-    else if is_name text (codes "sat") then Some Saturday
-    else if is_name text (codes "sun") then Some Sunday
-    else None
+weekday_of text = lookup weekdays text
 
 unfoldable pub weekday : Piece Weekday
 weekday = named weekday_of
 
+abbrev pub months : List (List ℕ × Month)
+months =
+    (codes "jan", January) ∷ (codes "feb", February) ∷ (codes "mar", March) ∷ (codes "apr", April) ∷
+    (codes "may", May) ∷ (codes "jun", June) ∷ (codes "jul", July) ∷ (codes "aug", August) ∷
+    (codes "sep", September) ∷ (codes "oct", October) ∷ (codes "nov", November) ∷ (codes "dec", December) ∷ []
+
 unfoldable pub month_of : List ℕ → Option Month
-month_of text =
-    if is_name text (codes "jan") then Some January
-    else if is_name text (codes "feb") then Some February
-    else if is_name text (codes "mar") then Some March
-    else if is_name text (codes "apr") then Some April
-    else if is_name text (codes "may") then Some May
-    else if is_name text (codes "jun") then Some June
-    else if is_name text (codes "jul") then Some July
-    else if is_name text (codes "aug") then Some August
-    else if is_name text (codes "sep") then Some September
-    else if is_name text (codes "oct") then Some October
-    else if is_name text (codes "nov") then Some November
-    else if is_name text (codes "dec") then Some December
-    else None
+month_of text = lookup months text
 
 unfoldable pub month : Piece Month
 month = named month_of
 
 -- hours west of Greenwich
+abbrev pub zones : List (List ℕ × ℕ)
+zones =
+    (codes "est", 5) ∷ (codes "edt", 4) ∷ (codes "cst", 6) ∷ (codes "cdt", 5) ∷ (codes "mst", 7) ∷
+    (codes "mdt", 6) ∷ (codes "pst", 8) ∷ (codes "pdt", 7) ∷ (codes "gmt", 0) ∷ []
+
 unfoldable pub zone_of : List ℕ → Option ℕ
-zone_of text =
-    if is_name text (codes "est") then Some 5
-    else if is_name text (codes "edt") then Some 4
-    else if is_name text (codes "cst") then Some 6
-    else if is_name text (codes "cdt") then Some 5
-    else if is_name text (codes "mst") then Some 7
-    else if is_name text (codes "mdt") then Some 6
-    else if is_name text (codes "pst") then Some 8
-    else if is_name text (codes "pdt") then Some 7
-    else if is_name text (codes "gmt") then Some 0
-    else None
+zone_of text = lookup zones text
 
 -- `j`
 abbrev pub lower_j : ℕ
