@@ -1,5 +1,5 @@
 -- What is read as a component is spelled so, and what is refused there has that fault.
-use Rattle.std.proofs.Common.{◌≡◌, ℕ, zero, suc, ◌+◌, List, [], ◌∷◌, ◌++◌, length, Ok, Err, Bool, true, false, cond, eqb, refl, sym, ap, subst, ◌∙◌, append_assoc, arith, inl, inr, ◌⊎◌}
+use Rattle.std.proofs.Common.{◌≡◌, ℕ, zero, suc, ◌+◌, ◌<◌, List, [], ◌∷◌, ◌++◌, length, Ok, Bool, true, false, cond, eqb, refl, sym, ap, subst, ◌∙◌, append_assoc, arith, inl, inr, ◌⊎◌}
 use Rattle.std.specs.List.{prefix_len}
 use Rattle.std.proofs.lemmas.List.{length-append}
 use Rattle.std.proofs.lemmas.List.Folds.{length-prefix_len}
@@ -9,16 +9,17 @@ use Rattle.description_lexer.specs.Answer.{◌>>=◌}
 use Rattle.description_items.specs.declared.component.Component.{Component}
 use Rattle.description_lexer.specs.declared.version.DescriptionVersion.{DescriptionVersion}
 use Rattle.description_lexer.specs.Text.{Rest, is_space, is_word_byte, run, past, after}
-use Rattle.description_lexer.specs.Words.{Modifier, has_word, begins, name_at, modifiers_at, closed_at}
-use Rattle.description_lexer.proofs.Readings.{bind_ok, ok_is, not_ok, chosen, bind_err, made_err, err_is, not_err}
+use Rattle.description_lexer.specs.Words.{Modifier, begins, name_at, closed_at}
+use Rattle.description_lexer.proofs.Readings.{bind_ok, ok_is, made_err}
 use Rattle.description_tables.specs.Component.{component_of}
 use Rattle.description_grammar.specs.Reading.{component_from}
 use Rattle.description_grammar.specs.Heads.{Each, Stops, IsWord, SpellsModifiers, is_nesting, SpellsHead, SpellsComponent}
-use Rattle.description_grammar.specs.Faulty.{BadWord, missing_at, HasBadWord, IsUnclosed, MeansNothing}
+use Rattle.description_grammar.specs.Faulty.{BadWord, missing_at, IsSingle, LacksName, HasBadWord, IsUnclosed, MeansNothing}
 use Rattle.description_grammar.proofs.Results.{not_zero}
+use Rattle.description_grammar.proofs.ValueOrFault.{Reads, gives, refuses, either, in_turn}
 use Rattle.description_grammar.proofs.Runs.{each_run, stops_past, stops_from_none, cut_run, past_index}
-use Rattle.description_grammar.proofs.Takes.{Takes, takes_then, takes_run, begins_cons, closed_takes, closed_refused}
-use Rattle.description_grammar.proofs.Modifiers.{none_there, some_there, TakesModifiers, modifiers_take, Refuses, modifiers_refused}
+use Rattle.description_grammar.proofs.Takes.{Takes, takes_then, takes_run, begins_cons, closed_reads}
+use Rattle.description_grammar.proofs.Modifiers.{none_there, some_there, TakesModifiers, Refuses, modifiers_read}
 use Rattle.description_grammar.proofs.Meaning.{component_spelled}
 
 -- ---- the name
@@ -31,42 +32,38 @@ pub record TakesName (s : Rest) (name : Rest) (rest : Rest) : Type 0 where
   pub name_at : name.index ≡ s.index + length first
   pub no_word : Stops is_word_byte rest.text
 
-pub name_takes : (bracket : ℕ) (s : Rest) (x : Rest × Rest) → name_at bracket s ≡ Ok x → TakesName s x.0 x.1
+pub name_reads : (v : DescriptionVersion) (s : Rest) → begins left_bracket s.text ≡ true → IsSingle v (after 1 s).text → Reads (λ (x : Rest × Rest). TakesName (after 1 s) x.0 x.1) (LacksName v s.index s.text) (name_at s.index (after 1 s))
 unfolding name_at
-name_takes bracket s x e =
-    elim (chosen (has_word start) (Ok (run is_word_byte start, past is_word_byte start)) (Err (MissingComponentName (cond (eqb (prefix_len is_space s.text) 0) bracket s.index))) (Ok x) e) [
-      | inl h ↦ subst (λ (y : Rest × Rest). TakesName s y.0 y.1) (ok_is (run is_word_byte start, past is_word_byte start) x h.1) (record {
-        first = (run is_space s).text;
-        takes = takes_then s (run is_space s).text start (run is_word_byte start).text (past is_word_byte start) (takes_run is_space s) (takes_run is_word_byte start);
-        is_first = each_run is_space s.text;
-        is_name = (omega (arith, some_there start h.0, length-prefix_len is_word_byte start.text), each_run is_word_byte start.text);
-        name_at = past_index is_space s;
-        no_word = stops_past is_word_byte start.text;
-      })
-      | inr h ↦ absurd (not_ok _ x h.1)
-    ]
+name_reads v s opens single = either _ _ _ (
+    λ h. gives _ (record {
+      first = (run is_space (after 1 s)).text;
+      takes = takes_then (after 1 s) (run is_space (after 1 s)).text start (run is_word_byte start).text (past is_word_byte start) (takes_run is_space (after 1 s)) (takes_run is_word_byte start);
+      is_first = each_run is_space (after 1 s).text;
+      is_name = (omega (arith, some_there start h, length-prefix_len is_word_byte start.text), each_run is_word_byte start.text);
+      name_at = past_index is_space (after 1 s);
+      no_word = stops_past is_word_byte start.text;
+    })
+    ) (
+    λ h. refuses _ (record {
+      blank = (run is_space (after 1 s)).text;
+      rest = start.text;
+      parts = begins_cons left_bracket s.text opens ∙ ap (λ (t : List ℕ). left_bracket ∷ t) (cut_run is_space (after 1 s));
+      single = subst (IsSingle v) (cut_run is_space (after 1 s)) single;
+      spaces = each_run is_space (after 1 s).text;
+      no_space = stops_past is_space (after 1 s).text;
+      no_word = stops_from_none is_word_byte start.text (none_there start h);
+      fault_is = ap (λ (i : ℕ). MissingComponentName i) (place (prefix_len is_space (after 1 s).text) (run is_space (after 1 s)).text (length-prefix_len is_space (after 1 s).text));
+    })
+    )
   where
     start : Rest
-    start = past is_space s
+    start = past is_space (after 1 s)
 
-pub name_refused : (bracket : ℕ) (s : Rest) (e : Fault) → s.index ≡ bracket + 1 → name_at bracket s ≡ Err e
-    → (s.text ≡ (run is_space s).text ++ (past is_space s).text) × Stops is_word_byte (past is_space s).text × (e ≡ MissingComponentName (missing_at bracket (run is_space s).text))
-unfolding name_at
-name_refused bracket s e at h =
-    elim (chosen (has_word (past is_space s)) (Ok (run is_word_byte (past is_space s), past is_word_byte (past is_space s))) (Err (MissingComponentName (cond (eqb (prefix_len is_space s.text) 0) bracket s.index))) (Err e) h) [
-      | inl g ↦ absurd (not_err (run is_word_byte (past is_space s), past is_word_byte (past is_space s)) e g.1)
-      | inr g ↦ (
-        cut_run is_space s,
-        stops_from_none is_word_byte (past is_space s).text (none_there (past is_space s) g.0),
-        sym (err_is {A = Rest × Rest} _ e g.1) ∙ ap (λ (i : ℕ). MissingComponentName i) (place (prefix_len is_space s.text) (run is_space s).text (length-prefix_len is_space s.text)),
-      )
-    ]
-  where
-    place : (n : ℕ) (blank : List ℕ) → length blank ≡ n → cond (eqb n 0) bracket s.index ≡ missing_at bracket blank
+    place : (n : ℕ) (blank : List ℕ) → length blank ≡ n → cond (eqb n 0) s.index (s.index + 1) ≡ missing_at s.index blank
     place zero [] l = refl
     place zero (b ∷ bs) l = absurd (omega arith)
     place (suc n) [] l = absurd (omega arith)
-    place (suc n) (b ∷ bs) l = ap (λ (t : Bool). cond t bracket s.index) (not_zero (suc n) (omega arith)) ∙ at
+    place (suc n) (b ∷ bs) l = ap (λ (t : Bool). cond t s.index (s.index + 1)) (not_zero (suc n) (omega arith))
 
 -- ---- the head
 
@@ -107,72 +104,69 @@ head_of v s name next own last ms opens n no_nesting spells is_last = record {
 
 -- ---- the component
 
-pub component_takes : (v : DescriptionVersion) (s name next : Rest) (x : Component × Rest) → begins left_bracket s.text ≡ true → TakesName (after 1 s) name next → is_nesting v name.text ≡ false → component_from v s.index name next ≡ Ok x
-    → (own : List ℕ) × Takes s own x.1 × SpellsComponent v own x.0
-unfolding component_from
-component_takes v s name next x opens n no_nesting e =
-    let b = bind_ok (modifiers_at next) (λ modifiers. closed_at s.index modifiers.1 >>= λ rest. component_of v name modifiers.0 >>= λ component. Ok (component, rest)) x e in
-    let modifiers = b.0 in
-    let c = bind_ok (closed_at s.index modifiers.1) (λ rest. component_of v name modifiers.0 >>= λ component. Ok (component, rest)) x b.2 in
-    let d = bind_ok (component_of v name modifiers.0) (λ component. Ok (component, c.0)) x c.2 in
-    let ms : TakesModifiers next modifiers.0 modifiers.1 = modifiers_take next modifiers n.no_word b.1 in
-    let close : Takes modifiers.1 (right_bracket ∷ []) c.0 = closed_takes s.index modifiers.1 c.0 c.1 in
-    let h : MakesHead v s name next ms.own ms.last modifiers.0 = head_of v s name next ms.own ms.last modifiers.0 opens n no_nesting ms.spells ms.is_last in
-    let split : next.text ≡ ms.own ++ (ms.last ++ modifiers.1.text) = ms.takes.parts ∙ append_assoc ms.own ms.last modifiers.1.text in
-    let whole : Takes s h.head modifiers.1 = record { parts = h.parts modifiers.1.text split; index = omega (arith, h.place, ms.takes.index, length-append ms.own ms.last) } in
-    let spelled : SpellsComponent v (h.head ++ right_bracket ∷ []) d.0 = component_spelled v s.index h.head d.0 (record { name = name; modifiers = modifiers.0; is_head = h.is_head; means = d.1 }) in
-    subst (λ (y : Component × Rest). (own : List ℕ) × Takes s own y.1 × SpellsComponent v own y.0) (ok_is (d.0, c.0) x d.2) (h.head ++ right_bracket ∷ [], takes_then s h.head modifiers.1 (right_bracket ∷ []) c.0 whole close, spelled)
+pub record TakesComponent (v : DescriptionVersion) (s : Rest) (c : Component) (rest : Rest) : Type 0 where
+  pub own : List ℕ
+  pub takes : Takes s own rest
+  pub some : 0 < length own
+  pub spells : SpellsComponent v own c
 
-pub component_refused : (v : DescriptionVersion) (s name next : Rest) (e : Fault) → begins left_bracket s.text ≡ true → TakesName (after 1 s) name next → is_nesting v name.text ≡ false → component_from v s.index name next ≡ Err e
-    → HasBadWord v s.index s.text e ⊎ IsUnclosed v s.index s.text e ⊎ MeansNothing v s.index s.text e
+abbrev pub BadComponent : DescriptionVersion → ℕ → List ℕ → Fault → Type 0
+BadComponent v at text e = HasBadWord v at text e ⊎ IsUnclosed v at text e ⊎ MeansNothing v at text e
+
+pub component_reads : (v : DescriptionVersion) (s name next : Rest) → begins left_bracket s.text ≡ true → TakesName (after 1 s) name next → is_nesting v name.text ≡ false
+    → Reads (λ (x : Component × Rest). TakesComponent v s x.0 x.1) (BadComponent v s.index s.text) (component_from v s.index name next)
 unfolding component_from
-component_refused v s name next e opens n no_nesting h =
-    elim (bind_err (modifiers_at next) (λ modifiers. closed_at s.index modifiers.1 >>= λ rest. component_of v name modifiers.0 >>= λ component. Ok (component, rest)) e h) [
-      | inl b ↦
-          let r : Refuses next e = modifiers_refused next e n.no_word b in
-          let g : MakesHead v s name next r.own r.last r.ms = head_of v s name next r.own r.last r.ms opens n no_nesting r.spells r.is_last in
-          inl (record {
+component_reads v s name next opens n no_nesting = in_turn _ _ (modifiers_read next n.no_word) bad_word behind
+  where
+    bad_word : (e : Fault) → Refuses next e → BadComponent v s.index s.text e
+    bad_word e r =
+        let g : MakesHead v s name next r.own r.last r.ms = head_of v s name next r.own r.last r.ms opens n no_nesting r.spells r.is_last in
+        inl (record {
+          head = g.head;
+          name = name;
+          modifiers = r.ms;
+          word = r.word;
+          rest = r.rest;
+          parts = g.parts (r.word ++ r.rest) r.parts;
+          is_head = g.is_head;
+          apart = rw g.last_is r.apart;
+          is_word = r.is_word;
+          no_word = r.no_word;
+          bad = subst (λ (i : ℕ). BadWord i r.word e) (sym g.place) r.bad;
+        })
+
+    behind : (m : List Modifier × Rest) → TakesModifiers next m.0 m.1 → Reads (λ (x : Component × Rest). TakesComponent v s x.0 x.1) (BadComponent v s.index s.text) (closed_at s.index m.1 >>= λ rest. component_of v name m.0 >>= λ component. Ok (component, rest))
+    behind m ms =
+        let g : MakesHead v s name next ms.own ms.last m.0 = head_of v s name next ms.own ms.last m.0 opens n no_nesting ms.spells ms.is_last in
+        let split : next.text ≡ ms.own ++ (ms.last ++ m.1.text) = ms.takes.parts ∙ append_assoc ms.own ms.last m.1.text in
+        let whole : Takes s g.head m.1 = record { parts = g.parts m.1.text split; index = omega (arith, g.place, ms.takes.index, length-append ms.own ms.last) } in
+        in_turn _ _ (closed_reads s.index m.1) (λ e k. inr (inl (record {
+          head = g.head;
+          name = name;
+          modifiers = m.0;
+          rest = m.1.text;
+          parts = whole.parts;
+          is_head = g.is_head;
+          no_space = ms.no_space;
+          no_word = ms.no_word;
+          open_still = k.0;
+          fault_is = k.1;
+        }))) (λ rest close. record {
+          ok = λ x e.
+              let d = bind_ok (component_of v name m.0) (λ component. Ok (component, rest)) x e in
+              subst (λ (y : Component × Rest). TakesComponent v s y.0 y.1) (ok_is (d.0, rest) x d.2) (record {
+                own = g.head ++ right_bracket ∷ [];
+                takes = takes_then s g.head m.1 (right_bracket ∷ []) rest whole close;
+                some = omega (arith, length-append g.head (right_bracket ∷ []));
+                spells = component_spelled v s.index g.head d.0 (record { name = name; modifiers = m.0; is_head = g.is_head; means = d.1 });
+              });
+          err = λ e h. inr (inr (record {
             head = g.head;
             name = name;
-            modifiers = r.ms;
-            word = r.word;
-            rest = r.rest;
-            parts = g.parts (r.word ++ r.rest) r.parts;
+            modifiers = m.0;
+            rest = rest.text;
+            parts = whole.parts ∙ ap (λ (x : List ℕ). g.head ++ x) close.parts;
             is_head = g.is_head;
-            apart = rw g.last_is r.apart;
-            is_word = r.is_word;
-            no_word = r.no_word;
-            bad = subst (λ (i : ℕ). BadWord i r.word e) (sym g.place) r.bad;
-          })
-      | inr b ↦
-          let ms : TakesModifiers next b.0.0 b.0.1 = modifiers_take next b.0 n.no_word b.1 in
-          let g : MakesHead v s name next ms.own ms.last b.0.0 = head_of v s name next ms.own ms.last b.0.0 opens n no_nesting ms.spells ms.is_last in
-          let split : next.text ≡ ms.own ++ (ms.last ++ b.0.1.text) = ms.takes.parts ∙ append_assoc ms.own ms.last b.0.1.text in
-          elim (bind_err (closed_at s.index b.0.1) (λ rest. component_of v name b.0.0 >>= λ component. Ok (component, rest)) e b.2) [
-            | inl c ↦
-                let k = closed_refused s.index b.0.1 e c in
-                inr (inl (record {
-                  head = g.head;
-                  name = name;
-                  modifiers = b.0.0;
-                  rest = b.0.1.text;
-                  parts = g.parts b.0.1.text split;
-                  is_head = g.is_head;
-                  no_space = ms.no_space;
-                  no_word = ms.no_word;
-                  open_still = k.0;
-                  fault_is = k.1;
-                }))
-            | inr c ↦
-                let t = closed_takes s.index b.0.1 c.0 c.1 in
-                inr (inr (record {
-                  head = g.head;
-                  name = name;
-                  modifiers = b.0.0;
-                  rest = c.0.text;
-                  parts = g.parts (right_bracket ∷ c.0.text) (split ∙ ap (λ (x : List ℕ). ms.own ++ (ms.last ++ x)) t.parts);
-                  is_head = g.is_head;
-                  means = made_err (component_of v name b.0.0) (λ component. (component, c.0)) e c.2;
-                }))
-          ]
-    ]
+            means = made_err (component_of v name m.0) (λ component. (component, rest)) e h;
+          }));
+        })

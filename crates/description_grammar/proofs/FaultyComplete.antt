@@ -26,7 +26,7 @@ use Rattle.description_grammar.proofs.TextsSound.{RefusesText, bad_escape_again}
 use Rattle.description_grammar.proofs.ComponentsComplete.{no_name_again, begins_head, bad_word_refused, unclosed_refused, nothing_refused}
 use Rattle.description_grammar.proofs.Nesting.{Reader, nesting_at}
 use Rattle.description_grammar.proofs.NestingComplete.{BeginsNesting, begins_nesting, begins_opening, opening_len, nesting_again, fault_inside_again, unclosed_again, lacks_space_again, lacks_bracket_again, ok_tree}
-use Rattle.description_grammar.proofs.Items.{alternatives_shorten, items_shorten, first_of_list, read_some, named_item}
+use Rattle.description_grammar.proofs.Items.{alternatives_shorten, items_shorten, nested_reads, first_of_list, read_some, named_item}
 use Rattle.description_grammar.proofs.ItemsComplete.{unlisted, open_goes, no_double, element_opens, names_part, names_optional, names_first, nested_opens, alternatives_steps, some_opens, some_again, items_steps, nested_again}
 
 -- a text whose first construct is refused
@@ -212,7 +212,7 @@ some_reads v levels deeper = record {
     some_fail : (i : ℕ) (before rest : List ℕ) (e : Fault) (ts : Trees) → SpellsAlternatives v levels before ts → FaultyNested v levels (i + length before) rest e → read_some v levels (at_index i (before ++ rest)) ≡ Err e
     some_fail i before rest e ts h bad =
         let opens = deeper.opens (i + length before) rest e bad in
-        steps_failing no_bracket (nested_at v levels) (alternatives_shorten v levels) (suc (length (before ++ rest))) (at_index i (before ++ rest)) (unlisted ts) (at_index (i + length before) rest) e (omega arith) (alternatives_steps v levels (nested_again v levels) ts i before rest h (stops_91 rest opens)) (ap not opens) (deeper.fails (i + length before) rest e bad)
+        steps_failing no_bracket (nested_at v levels) (alternatives_shorten v levels (nested_reads v levels)) (suc (length (before ++ rest))) (at_index i (before ++ rest)) (unlisted ts) (at_index (i + length before) rest) e (omega arith) (alternatives_steps v levels (nested_again v levels) ts i before rest h (stops_91 rest opens)) (ap not opens) (deeper.fails (i + length before) rest e bad)
 
 optional_refuses : (v : DescriptionVersion) (levels : ℕ) → NestedFails v levels → (i : ℕ) (text : List ℕ) (e : Fault) → BadOptional v levels (FaultyNested v levels) i text e → RefusesItem v levels i text e
 unfolding optional_at
@@ -256,7 +256,7 @@ items_fail v inner levels deeper i text e h =
     let step = element_at v (nested_at v levels) in
     let r : RefusesItem v levels (i + length h.front) h.bad e = item_refuses v levels deeper (i + length h.front) h.bad e h.is_bad in
     let steps = items_steps v inner levels (nested_again v levels) h.items i h.front h.bad h.is_front r.stops in
-    let fails = steps_failing (is_end inner) step (items_shorten v inner levels) (suc (length (h.front ++ h.bad))) (at_index i (h.front ++ h.bad)) (unlisted h.items) (at_index (i + length h.front) h.bad) e (omega arith) steps (r.goes inner) r.refuses in
+    let fails = steps_failing (is_end inner) step (items_shorten v inner levels (nested_reads v levels)) (suc (length (h.front ++ h.bad))) (at_index i (h.front ++ h.bad)) (unlisted h.items) (at_index (i + length h.front) h.bad) e (omega arith) steps (r.goes inner) r.refuses in
     ap (λ (t : List ℕ). many (is_end inner) step (suc (length t)) (at_index i t)) h.parts ∙ fails
 
 -- the text ends in it
@@ -265,7 +265,7 @@ ends_inside v levels i text items h =
     let step = element_at v (nested_at v levels) in
     let steps = items_steps v true levels (nested_again v levels) items (i + 1) text [] h tt in
     ap (λ (t : List ℕ). many (is_end true) step (suc (length t)) (at_index (i + 1) t)) (sym (append-nil text))
-    ∙ steps_many (is_end true) step (items_shorten v true levels) (suc (length (text ++ []))) (at_index (i + 1) (text ++ [])) (unlisted items) (at_index (i + 1 + length text) []) (omega arith) steps refl
+    ∙ steps_many (is_end true) step (items_shorten v true levels (nested_reads v levels)) (suc (length (text ++ []))) (at_index (i + 1) (text ++ [])) (unlisted items) (at_index (i + 1 + length text) []) (omega arith) steps refl
 
 pub nested_fails : (v : DescriptionVersion) (levels : ℕ) → NestedFails v levels
 unfolding nested_at FaultyNested closed_at

@@ -24,7 +24,7 @@ use Rattle.description_grammar.proofs.TextsSound.{SpellsText, text_more, text_so
 use Rattle.description_grammar.proofs.Meaning.{MeansAt, component_at}
 use Rattle.description_grammar.proofs.ComponentsComplete.{begins_head, component_again}
 use Rattle.description_grammar.proofs.NestingComplete.{not_optional, begins_opening, opening_len, nesting_again, ok_tree}
-use Rattle.description_grammar.proofs.Items.{alternatives_shorten, items_shorten, first_of_list, read_some, part_from, named_item}
+use Rattle.description_grammar.proofs.Items.{alternatives_shorten, items_shorten, nested_reads, first_of_list, read_some, part_from, named_item}
 
 -- ---- lists of trees
 
@@ -113,7 +113,7 @@ some_opens v levels (also t ts) own rest some (nested, others, parts, one, more)
 
 pub some_again : (v : DescriptionVersion) (levels : ℕ) → NestedAgain v levels → (ts : Trees) (i : ℕ) (own rest : List ℕ) → SpellsAlternatives v levels own ts → Stops is_space rest → begins left_bracket rest ≡ false → read_some v levels (at_index i (own ++ rest)) ≡ Ok (unlisted ts, at_index (i + length own) rest)
 some_again v levels again ts i own rest h stops none_left =
-    steps_many no_bracket (nested_at v levels) (alternatives_shorten v levels) (suc (length (own ++ rest))) (at_index i (own ++ rest)) (unlisted ts) (at_index (i + length own) rest) (omega arith) (alternatives_steps v levels again ts i own rest h stops) (ap not none_left)
+    steps_many no_bracket (nested_at v levels) (alternatives_shorten v levels (nested_reads v levels)) (suc (length (own ++ rest))) (at_index i (own ++ rest)) (unlisted ts) (at_index (i + length own) rest) (omega arith) (alternatives_steps v levels again ts i own rest h stops) (ap not none_left)
 
 -- ---- one item
 
@@ -250,7 +250,7 @@ nested_again v (suc levels) i own rest (Compound ts) (fewer, text, blank, e, par
     let step = element_at v (nested_at v levels) in
     let whole_text : own ++ rest ≡ left_bracket ∷ (text ++ tail) = rw parts (simp append_assoc) in
     let steps = items_steps v true levels (nested_again v levels) ts (i + 1) text tail (subst (λ (n : ℕ). SpellsItems v true n text ts) same items) (bracket_stops v) in
-    let all = steps_many (is_end true) step (items_shorten v true levels) (suc (length (text ++ tail))) s (unlisted ts) end (omega arith) steps (or_true (eqb (length tail) 0) true refl) in
+    let all = steps_many (is_end true) step (items_shorten v true levels (nested_reads v levels)) (suc (length (text ++ tail))) s (unlisted ts) end (omega arith) steps (or_true (eqb (length tail) 0) true refl) in
     let space_past = past_is is_space (i + 1 + length text + 1) blank rest spaces stops in
     let len : i + 1 + length text + 1 + length blank ≡ i + length own = omega (arith, ap (length {A = ℕ}) parts, length-append text (right_bracket ∷ blank)) in
     ap (λ (t : List ℕ). nested_at v (suc levels) (at_index i t)) whole_text
@@ -267,7 +267,7 @@ spelled_is_read v text ts h =
     let step = element_at v (nested_at v 127) in
     let end : Rest = at_index (0 + length text) [] in
     let steps = items_steps v false 127 (nested_again v 127) (listed ts) 0 text [] h tt in
-    let all = steps_many (is_end false) step (items_shorten v false 127) (suc (length (text ++ []))) (at_index 0 (text ++ [])) (unlisted (listed ts)) end (omega arith) steps refl in
+    let all = steps_many (is_end false) step (items_shorten v false 127 (nested_reads v 127)) (suc (length (text ++ []))) (at_index 0 (text ++ [])) (unlisted (listed ts)) end (omega arith) steps refl in
     ap (λ (t : List ℕ). read_items v t) (sym (append-nil text))
     ∙ ap (λ (r : Result (List Tree × Rest) Fault). r >>= λ items. ok_trees items.0) all
     ∙ ap (λ (ts : List Tree). ok_trees ts) (unlisted_again ts)

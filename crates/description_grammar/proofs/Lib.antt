@@ -1,5 +1,5 @@
+pub mod ValueOrFault
 pub mod Refusals
-pub mod Shorter
 pub mod Results
 pub mod Runs
 pub mod Takes
@@ -11,7 +11,6 @@ pub mod ComponentsComplete
 pub mod TextsSound
 pub mod Nesting
 pub mod Items
-pub mod ItemsRefused
 pub mod NestingComplete
 pub mod ItemsComplete
 pub mod FaultyComplete

@@ -1,5 +1,5 @@
 -- What is read as modifiers is spelled so.
-use Rattle.std.proofs.Common.{◌≡◌, ℕ, zero, suc, ◌+◌, ◌≤◌, ◌<◌, List, [], ◌∷◌, ◌++◌, length, take, drop, Result, Ok, Err, true, false, eqb, refl, sym, ap, subst, ◌∙◌, append_assoc, arith, inl, inr}
+use Rattle.std.proofs.Common.{◌≡◌, ℕ, zero, suc, ◌+◌, ◌<◌, List, [], ◌∷◌, ◌++◌, length, take, drop, Result, Ok, Err, true, false, cond, eqb, refl, sym, ap, subst, ◌∙◌, append_assoc, arith, inl, inr}
 use Rattle.std.specs.List.{prefix_len}
 use Rattle.std.proofs.lemmas.List.{take-append-drop, length-drop, nil_from_length}
 use Rattle.std.proofs.lemmas.List.Folds.{length-prefix_len}
@@ -9,16 +9,16 @@ use Rattle.std.proofs.lemmas.Bool.Decides.{nat_tests}
 use Rattle.base.specs.Bytes.{colon}
 use Rattle.description_lexer.specs.Fault.{Fault, InvalidModifier}
 use Rattle.description_lexer.specs.Text.{Rest, is_space, is_word_byte, is_no_colon, run, past, after}
-use Rattle.description_lexer.specs.Many.{many}
 use Rattle.description_lexer.specs.Words.{Modifier, has_word, modifier_in, modifier_at, no_modifier, modifiers_at}
 use Rattle.description_lexer.proofs.Readings.{bind_ok, ok_is, made_err}
 use Rattle.description_lexer.proofs.Shorter.{modifier_lt}
 use Rattle.description_grammar.specs.Heads.{Each, Stops, IsWord, SpellsModifier, SpellsModifiers}
 use Rattle.description_grammar.specs.Faulty.{BadWord}
-use Rattle.description_grammar.proofs.Results.{three_ok, three_err, lt_of, above, flip_false, flip_true}
+use Rattle.description_grammar.proofs.Results.{lt_of, above, flip_false, flip_true}
+use Rattle.description_grammar.proofs.ValueOrFault.{Reads, gives, refuses, either, in_turn, many_read}
 use Rattle.description_grammar.proofs.Runs.{each_run, each_of_take, each_of_drop, each_whole, stops_past, stops_from_none, none_from_stops, past_index}
 use Rattle.description_grammar.proofs.Takes.{Takes, takes_then, takes_run}
-use Rattle.description_lexer.proofs.Steps.{Steps, many_steps, many_failing, Failing}
+use Rattle.description_lexer.proofs.Steps.{Steps, Read, Failing}
 
 -- ---- one modifier
 
@@ -45,53 +45,38 @@ record IsModifierWord (s : Rest) (m : Modifier) : Type 0 where
   key_at : m.key.index ≡ s.index
   value_at : m.value.index ≡ s.index + length m.key.text + 1
 
-modifier_takes : (s : Rest) (m : Modifier) → Each is_word_byte s.text → modifier_in s ≡ Ok m → IsModifierWord s m
+word_reads : (s : Rest) → Each is_word_byte s.text → Reads (IsModifierWord s) (BadWord s.index s.text) (modifier_in s)
 unfolding modifier_in
-modifier_takes s m each e =
-    let k : ℕ = prefix_len is_no_colon s.text in
-    let g = three_ok (eqb k (length s.text)) (eqb k 0) (eqb (k + 1) (length s.text)) (InvalidModifier s.text s.index) (InvalidModifier [] s.index) (InvalidModifier [] (s.index + length s.text)) (record { key = run is_no_colon s; value = after (k + 1) s }) m e in
-    let lt : k < length s.text = lt_of k (length s.text) (prefix_len-le-length is_no_colon s.text) g.0 in
-    let some : 0 < k = above k g.1 in
-    let more : k + 1 < length s.text = lt_of (k + 1) (length s.text) (omega arith) g.2 in
-    let len : length (take k s.text) ≡ k = length-prefix_len is_no_colon s.text in
-    let parts : s.text ≡ take k s.text ++ colon ∷ drop (k + 1) s.text = sym (take-append-drop k s.text) ∙ ap (λ (t : List ℕ). take k s.text ++ t) (colon_there s.text lt) in
-    let word : IsModifierWord s (record { key = run is_no_colon s; value = after (k + 1) s }) = record {
-      parts = parts;
-      is_key = (omega (arith, len), each_of_take is_word_byte k s.text each);
-      no_colon = each_run is_no_colon s.text;
-      is_value = (omega (arith, length-drop (k + 1) s.text), each_of_drop is_word_byte (k + 1) s.text each);
-      key_at = refl;
-      value_at = omega (arith, len);
-    } in
-    subst (IsModifierWord s) g.3 word
+word_reads s each = either _ _ _ (λ a. refuses _ (inl (each_whole is_no_colon s.text (eqb-true _ _ a), refl))) (λ a. cut a)
+  where
+    k : ℕ
+    k = prefix_len is_no_colon s.text
 
-word_refused : (s : Rest) (e : Fault) → modifier_in s ≡ Err e → BadWord s.index s.text e
-unfolding modifier_in
-word_refused s e h =
-    let k : ℕ = prefix_len is_no_colon s.text in
-    let le : k ≤ length s.text = prefix_len-le-length is_no_colon s.text in
-    elim (three_err (eqb k (length s.text)) (eqb k 0) (eqb (k + 1) (length s.text)) (InvalidModifier s.text s.index) (InvalidModifier [] s.index) (InvalidModifier [] (s.index + length s.text)) e (record { key = run is_no_colon s; value = after (k + 1) s }) h) [
-      | inl g ↦ inl (each_whole is_no_colon s.text (eqb-true _ _ g.0), sym g.1)
-      | inr g ↦ elim g [
-        | inl g ↦
-            let zero_is : k ≡ 0 = eqb-true _ _ g.1 in
-            let lt : k < length s.text = lt_of k (length s.text) le g.0 in
-            let cut : drop k s.text ≡ colon ∷ drop (k + 1) s.text = colon_there s.text lt in
-            inr (inl (drop (k + 1) s.text, ap (λ (n : ℕ). drop n s.text) (sym zero_is) ∙ cut, sym g.2))
-        | inr g ↦
-            let lt : k < length s.text = lt_of k (length s.text) le g.0 in
-            let last : k + 1 ≡ length s.text = eqb-true _ _ g.2 in
-            let cut : drop k s.text ≡ colon ∷ drop (k + 1) s.text = colon_there s.text lt in
-            let ends : drop (k + 1) s.text ≡ [] = nil_from_length _ (omega (arith, length-drop (k + 1) s.text)) in
-            inr (inr (
-              take k s.text,
-              omega (arith, length-prefix_len is_no_colon s.text, above k g.1),
-              each_run is_no_colon s.text,
-              sym (take-append-drop k s.text) ∙ ap (λ (t : List ℕ). take k s.text ++ t) (cut ∙ ap (λ (t : List ℕ). colon ∷ t) ends),
-              sym g.3,
-            ))
-      ]
-    ]
+    len : length (take k s.text) ≡ k
+    len = length-prefix_len is_no_colon s.text
+
+    cut : eqb k (length s.text) ≡ false → Reads (IsModifierWord s) (BadWord s.index s.text) (cond (eqb k 0) (Err (InvalidModifier [] s.index)) (cond (eqb (k + 1) (length s.text)) (Err (InvalidModifier [] (s.index + length s.text))) (Ok (record { key = run is_no_colon s; value = after (k + 1) s }))))
+    cut a =
+        let lt : k < length s.text = lt_of k (length s.text) (prefix_len-le-length is_no_colon s.text) a in
+        let at_colon : drop k s.text ≡ colon ∷ drop (k + 1) s.text = colon_there s.text lt in
+        let parts : s.text ≡ take k s.text ++ colon ∷ drop (k + 1) s.text = sym (take-append-drop k s.text) ∙ ap (λ (t : List ℕ). take k s.text ++ t) at_colon in
+        either _ _ _ (λ b. refuses _ (inr (inl (drop (k + 1) s.text, subst (λ (n : ℕ). drop n s.text ≡ colon ∷ drop (k + 1) s.text) (eqb-true _ _ b) at_colon, refl)))) (λ (b : eqb k 0 ≡ false). either _ _ _ (
+        λ c.
+        let last : k + 1 ≡ length s.text = eqb-true _ _ c in
+        let ends : drop (k + 1) s.text ≡ [] = nil_from_length _ (omega (arith, length-drop (k + 1) s.text)) in
+        refuses _ (inr (inr (take k s.text, omega (arith, len, above k b), each_run is_no_colon s.text, rw ends at parts, refl)))
+        ) (
+        λ c.
+        let more : k + 1 < length s.text = lt_of (k + 1) (length s.text) (omega arith) c in
+        gives _ (record {
+          parts = parts;
+          is_key = (omega (arith, len, above k b), each_of_take is_word_byte k s.text each);
+          no_colon = each_run is_no_colon s.text;
+          is_value = (omega (arith, length-drop (k + 1) s.text), each_of_drop is_word_byte (k + 1) s.text each);
+          key_at = refl;
+          value_at = omega (arith, len);
+        })
+        ))
 
 -- ---- words behind white space
 
@@ -144,7 +129,7 @@ one_more s m ms rest stops there is_m others = record {
     first = blank ++ word.text
 
     word_is : IsModifierWord word m
-    word_is = modifier_takes word m (each_run is_word_byte (past is_space s).text) is_m
+    word_is = (word_reads word (each_run is_word_byte (past is_space s).text)).ok m is_m
 
     modifier : SpellsModifier s.index first m
     modifier = record {
@@ -184,24 +169,6 @@ pub record TakesModifiers (s : Rest) (ms : List Modifier) (rest : Rest) : Type 0
   pub no_space : Stops is_space rest.text
   pub no_word : Stops is_word_byte rest.text
 
-pub modifiers_take : (s : Rest) (x : List Modifier × Rest) → Stops is_word_byte s.text → modifiers_at s ≡ Ok x → TakesModifiers s x.0 x.1
-unfolding modifiers_at
-modifiers_take s x stops e =
-    let a = bind_ok (many no_modifier modifier_at (suc (length s.text)) s) (λ all. Ok (all.0, past is_space all.1)) x e in
-    let read = many_steps no_modifier modifier_at modifier_lt (suc (length s.text)) s a.0 (omega arith) a.1 in
-    let words : TakesWords s a.0.0 a.0.1 = steps_take s a.0.0 a.0.1 stops read.0 in
-    let last : List ℕ = (run is_space a.0.1).text in
-    let none : has_word (past is_space a.0.1) ≡ false = flip_true _ read.1 in
-    subst (λ (y : List Modifier × Rest). TakesModifiers s y.0 y.1) (ok_is (a.0.0, past is_space a.0.1) x a.2) (record {
-      own = words.own;
-      last = last;
-      takes = takes_then s words.own a.0.1 last (past is_space a.0.1) words.takes (takes_run is_space a.0.1);
-      spells = words.spells;
-      is_last = each_run is_space a.0.1.text;
-      no_space = stops_past is_space a.0.1.text;
-      no_word = stops_from_none is_word_byte (past is_space a.0.1).text (none_there (past is_space a.0.1) none);
-    })
-
 -- what stands before a word that is no modifier
 pub record Refuses (s : Rest) (e : Fault) : Type 0 where
   pub ms : List Modifier
@@ -217,26 +184,42 @@ pub record Refuses (s : Rest) (e : Fault) : Type 0 where
   pub no_word : Stops is_word_byte rest
   pub bad : BadWord (s.index + length own + length last) word e
 
-pub modifiers_refused : (s : Rest) (e : Fault) → Stops is_word_byte s.text → modifiers_at s ≡ Err e → Refuses s e
+pub modifiers_read : (s : Rest) → Stops is_word_byte s.text → Reads (λ (x : List Modifier × Rest). TakesModifiers s x.0 x.1) (Refuses s) (modifiers_at s)
 unfolding modifiers_at modifier_at
-modifiers_refused s e stops h =
-    let f : Failing no_modifier modifier_at s e = many_failing no_modifier modifier_at modifier_lt (suc (length s.text)) s e (omega arith) (made_err (many no_modifier modifier_at (suc (length s.text)) s) (λ all. (all.0, past is_space all.1)) e h) in
-    let words : TakesWords s f.front f.bad = steps_take s f.front f.bad stops f.steps in
-    let start : Rest = past is_space f.bad in
-    let word : Rest = run is_word_byte start in
-    let there : has_word start ≡ true = flip_false _ f.goes_on in
-    let is_bad : modifier_in word ≡ Err e = made_err (modifier_in word) (λ m. (m, past is_word_byte start)) e f.fails in
-    record {
-      ms = f.front;
-      own = words.own;
-      last = (run is_space f.bad).text;
-      word = word.text;
-      rest = (past is_word_byte start).text;
-      parts = words.takes.parts ∙ ap (λ (t : List ℕ). words.own ++ t) ((word_takes f.bad).parts ∙ append_assoc (run is_space f.bad).text word.text (past is_word_byte start).text);
-      spells = words.spells;
-      is_last = each_run is_space f.bad.text;
-      apart = space_before f.bad words.no_word there;
-      is_word = (omega (arith, some_there start there, length-prefix_len is_word_byte start.text), each_run is_word_byte start.text);
-      no_word = stops_past is_word_byte start.text;
-      bad = subst (λ (i : ℕ). BadWord i word.text e) (omega (arith, words.takes.index, past_index is_space f.bad)) (word_refused word e is_bad);
-    }
+modifiers_read s stops = in_turn _ _ (many_read no_modifier modifier_at modifier_lt s) refused taken
+  where
+    taken : (all : List Modifier × Rest) → Read no_modifier modifier_at s all → Reads (λ (x : List Modifier × Rest). TakesModifiers s x.0 x.1) (Refuses s) (Ok (all.0, past is_space all.1))
+    taken all read =
+        let words : TakesWords s all.0 all.1 = steps_take s all.0 all.1 stops read.0 in
+        let last : List ℕ = (run is_space all.1).text in
+        gives _ (record {
+          own = words.own;
+          last = last;
+          takes = takes_then s words.own all.1 last (past is_space all.1) words.takes (takes_run is_space all.1);
+          spells = words.spells;
+          is_last = each_run is_space all.1.text;
+          no_space = stops_past is_space all.1.text;
+          no_word = stops_from_none is_word_byte (past is_space all.1).text (none_there (past is_space all.1) (flip_true _ read.1));
+        })
+
+    refused : (e : Fault) → Failing no_modifier modifier_at s e → Refuses s e
+    refused e f =
+        let words : TakesWords s f.front f.bad = steps_take s f.front f.bad stops f.steps in
+        let start : Rest = past is_space f.bad in
+        let word : Rest = run is_word_byte start in
+        let there : has_word start ≡ true = flip_false _ f.goes_on in
+        let is_bad : modifier_in word ≡ Err e = made_err (modifier_in word) (λ m. (m, past is_word_byte start)) e f.fails in
+        record {
+          ms = f.front;
+          own = words.own;
+          last = (run is_space f.bad).text;
+          word = word.text;
+          rest = (past is_word_byte start).text;
+          parts = words.takes.parts ∙ ap (λ (t : List ℕ). words.own ++ t) ((word_takes f.bad).parts ∙ append_assoc (run is_space f.bad).text word.text (past is_word_byte start).text);
+          spells = words.spells;
+          is_last = each_run is_space f.bad.text;
+          apart = space_before f.bad words.no_word there;
+          is_word = (omega (arith, some_there start there, length-prefix_len is_word_byte start.text), each_run is_word_byte start.text);
+          no_word = stops_past is_word_byte start.text;
+          bad = subst (λ (i : ℕ). BadWord i word.text e) (omega (arith, words.takes.index, past_index is_space f.bad)) ((word_reads word (each_run is_word_byte start.text)).err e is_bad);
+        }

@@ -1,22 +1,7 @@
 -- Choices, and tests.
-use Rattle.std.proofs.Common.{◌≡◌, ℕ, ◌≤◌, ◌<◌, Ok, Err, Bool, true, false, not, cond, eqb, refl, arith, inl, inr, ◌⊎◌}
+use Rattle.std.proofs.Common.{◌≡◌, ℕ, ◌≤◌, ◌<◌, Bool, true, false, not, cond, eqb, refl, arith, inl, inr, ◌⊎◌}
 use Rattle.std.specs.Prelude.{◌||◌, ◌&&◌}
 use Rattle.std.proofs.lemmas.Bool.Decides.{nat_tests}
-use Rattle.description_lexer.specs.Fault.{Fault}
-use Rattle.description_lexer.proofs.Readings.{err_is, not_err}
-
-pub three_ok : {A : Type 0} (a b c : Bool) (d e f : Fault) (x y : A) → cond a (Err d) (cond b (Err e) (cond c (Err f) (Ok x))) ≡ Ok y → (a ≡ false) × (b ≡ false) × (c ≡ false) × (x ≡ y)
-three_ok true b c d e f x y h = absurd cc
-three_ok false true c d e f x y h = absurd cc
-three_ok false false true d e f x y h = absurd cc
-three_ok false false false d e f x y h = (refl, refl, refl, cc)
-
-pub three_err : {A : Type 0} (a b c : Bool) (d e f g : Fault) (x : A) → cond a (Err d) (cond b (Err e) (cond c (Err f) (Ok x))) ≡ Err g
-    → ((a ≡ true) × (d ≡ g)) ⊎ ((a ≡ false) × (b ≡ true) × (e ≡ g)) ⊎ ((a ≡ false) × (b ≡ false) × (c ≡ true) × (f ≡ g))
-three_err {A} true b c d e f g x h = inl (refl, err_is {A = A} d g h)
-three_err {A} false true c d e f g x h = inr (inl (refl, refl, err_is {A = A} e g h))
-three_err {A} false false true d e f g x h = inr (inr (refl, refl, refl, err_is {A = A} f g h))
-three_err {A} false false false d e f g x h = absurd (not_err x g h)
 
 pub cond_true : {A : Type 0} (b : Bool) (x y : A) → b ≡ true → cond b x y ≡ x
 cond_true true x y e = refl

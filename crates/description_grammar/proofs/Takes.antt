@@ -1,14 +1,14 @@
 -- A text is a front and what follows it.
-use Rattle.std.proofs.Common.{◌≡◌, ℕ, ◌+◌, List, [], ◌∷◌, ◌++◌, length, drop, Ok, Err, Bool, true, false, refl, sym, ap, subst, ◌∙◌, append_assoc, arith, inl, inr}
+use Rattle.std.proofs.Common.{◌≡◌, ℕ, ◌+◌, List, [], ◌∷◌, ◌++◌, length, drop, Ok, Bool, true, false, refl, sym, ap, ◌∙◌, append_assoc, arith}
 use Rattle.std.proofs.lemmas.List.{length-append}
 use Rattle.std.proofs.lemmas.Bool.{eqb-true}
 use Rattle.std.proofs.lemmas.Bool.Decides.{nat_tests}
 use Rattle.base.specs.Bytes.{left_bracket, right_bracket}
-use Rattle.description_lexer.specs.Fault.{Fault, UnclosedOpeningBracket}
+use Rattle.description_lexer.specs.Fault.{UnclosedOpeningBracket}
 use Rattle.description_lexer.specs.Text.{Rest, is_space, run, past, after}
 use Rattle.description_lexer.specs.Words.{begins, closed_at}
-use Rattle.description_lexer.proofs.Readings.{ok_is, not_ok, chosen, err_is, not_err}
 use Rattle.description_grammar.specs.Heads.{Stops}
+use Rattle.description_grammar.proofs.ValueOrFault.{Reads, gives, refuses, either}
 use Rattle.description_grammar.proofs.Runs.{cut_run, past_index, at_index}
 
 pub record Takes (s : Rest) (own : List ℕ) (rest : Rest) : Type 0 where
@@ -36,21 +36,9 @@ stops_91 (b ∷ bs) h = let e : b ≡ left_bracket = eqb-true b left_bracket h i
 pub takes_byte : (b : ℕ) (s : Rest) → begins b s.text ≡ true → Takes s (b ∷ []) (after 1 s)
 takes_byte b s h = record { parts = begins_cons b s.text h; index = refl }
 
-pub closed_takes : (bracket : ℕ) (s : Rest) (rest : Rest) → closed_at bracket s ≡ Ok rest → Takes s (right_bracket ∷ []) rest
+pub closed_reads : (bracket : ℕ) (s : Rest) → Reads (λ rest. Takes s (right_bracket ∷ []) rest) (λ e. (begins right_bracket s.text ≡ false) × (e ≡ UnclosedOpeningBracket bracket)) (closed_at bracket s)
 unfolding closed_at
-closed_takes bracket s rest e =
-    elim (chosen (begins right_bracket s.text) (Ok (after 1 s)) (Err (UnclosedOpeningBracket bracket)) (Ok rest) e) [
-      | inl h ↦ subst (λ (y : Rest). Takes s (right_bracket ∷ []) y) (ok_is (after 1 s) rest h.1) (takes_byte right_bracket s h.0)
-      | inr h ↦ absurd (not_ok _ rest h.1)
-    ]
-
-pub closed_refused : (bracket : ℕ) (s : Rest) (e : Fault) → closed_at bracket s ≡ Err e → (begins right_bracket s.text ≡ false) × (e ≡ UnclosedOpeningBracket bracket)
-unfolding closed_at
-closed_refused bracket s e h =
-    elim (chosen (begins right_bracket s.text) (Ok (after 1 s)) (Err (UnclosedOpeningBracket bracket)) (Err e) h) [
-      | inl g ↦ absurd (not_err (after 1 s) e g.1)
-      | inr g ↦ (g.0, sym (err_is {A = Rest} _ e g.1))
-    ]
+closed_reads bracket s = either _ _ _ (λ h. gives _ (takes_byte right_bracket s h)) (λ h. refuses _ (h, refl))
 
 pub closed_again : (bracket at : ℕ) (rest : List ℕ) → closed_at bracket (at_index at (right_bracket ∷ rest)) ≡ Ok (at_index (at + 1) rest)
 unfolding closed_at

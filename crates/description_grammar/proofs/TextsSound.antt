@@ -12,11 +12,12 @@ use Rattle.description_lexer.specs.declared.version.DescriptionVersion.TheVarian
 use Rattle.description_lexer.specs.Version.{is_one}
 use Rattle.description_lexer.specs.Text.{Rest, is_plain, after}
 use Rattle.description_lexer.specs.Words.{begins, is_escape, escape_at, literal_len}
-use Rattle.description_lexer.proofs.Readings.{ok_is, not_ok, chosen, err_is, not_err}
+use Rattle.description_lexer.proofs.Readings.{chosen}
 use Rattle.description_grammar.specs.Reading.{doubled_at, text_at}
 use Rattle.description_grammar.specs.Heads.{Stops, MayBegin, SpellsLiteral, IsEscapable, SpellsEscape}
 use Rattle.description_grammar.specs.Faulty.{BadEscape}
 use Rattle.description_grammar.proofs.Results.{both, not_first, or_is}
+use Rattle.description_grammar.proofs.ValueOrFault.{Reads, gives, refuses, either}
 use Rattle.description_grammar.proofs.Runs.{at_index, same_index, each_run, stops_past, stops_front, stops_append, run_again}
 use Rattle.description_grammar.proofs.Takes.{Takes, takes_then, takes_byte, begins_cons}
 
@@ -63,16 +64,19 @@ escaped v inner s b h is_b back next =
     spelled Two h = (b, is_b, refl, refl)
     spelled Three h = (b, is_b, refl, refl)
 
-escape_takes : (v : DescriptionVersion) (inner : Bool) (s : Rest) (x : List ℕ × Rest) → is_one v ≡ false → begins backslash s.text ≡ true → escape_at s ≡ Ok x → TakesText v inner s x.0 x.1
+escape_reads : (v : DescriptionVersion) (inner : Bool) (s : Rest) → is_one v ≡ false → begins backslash s.text ≡ true → Reads (λ (x : List ℕ × Rest). TakesText v inner s x.0 x.1) (BadEscape v s.index s.text) (escape_at s)
 unfolding escape_at
-escape_takes v inner s x h back e =
-    elim (chosen (is_escape (after 1 s).text) (Ok (take 1 (after 1 s).text, after 1 (after 1 s))) (Err (Expected (codes "valid escape sequence") s.index)) (Ok x) e) [
-      | inl g ↦ subst (λ (y : List ℕ × Rest). TakesText v inner s y.0 y.1) (ok_is (take 1 (after 1 s).text, after 1 (after 1 s)) x g.1) (elim (or_is (begins left_bracket (after 1 s).text) (begins backslash (after 1 s).text) (begins right_bracket (after 1 s).text) g.0) [
-        | inl k ↦ escaped v inner s left_bracket h (inl refl) back k
-        | inr k ↦ elim k [ inl k ↦ escaped v inner s backslash h (inr (inl refl)) back k | inr k ↦ escaped v inner s right_bracket h (inr (inr refl)) back k ]
-      ])
-      | inr g ↦ absurd (not_ok _ x g.1)
-    ]
+escape_reads v inner s h back = either _ _ _ (
+    λ g. gives _ (elim (or_is (begins left_bracket (after 1 s).text) (begins backslash (after 1 s).text) (begins right_bracket (after 1 s).text) g) [
+      | inl k ↦ escaped v inner s left_bracket h (inl refl) back k
+      | inr k ↦ elim k [ inl k ↦ escaped v inner s backslash h (inr (inl refl)) back k | inr k ↦ escaped v inner s right_bracket h (inr (inr refl)) back k ]
+    ])
+    ) (λ g. refuses _ (bad v h g))
+  where
+    bad : (v : DescriptionVersion) → is_one v ≡ false → is_escape (after 1 s).text ≡ false → BadEscape v s.index s.text (Expected (codes "valid escape sequence") s.index)
+    bad One h g = absurd cc
+    bad Two h g = (drop 1 s.text, begins_cons backslash s.text back, g, refl)
+    bad Three h g = (drop 1 s.text, begins_cons backslash s.text back, g, refl)
 
 not_begins : (a b : ℕ) (bs : List ℕ) → begins a (b ∷ bs) ≡ false → b ≡ a → ⊥
 not_begins a b bs h e = absurd (grind (arith, nat_tests))
@@ -104,14 +108,9 @@ literal_takes v inner s some h i k = go s.text refl some h i k
         let whole : TakesText v inner (record { index = s.index; text = b ∷ bs }) (take (literal_len v (b ∷ bs)) (b ∷ bs)) (after (literal_len v (b ∷ bs)) (record { index = s.index; text = b ∷ bs })) = rw one item in
         subst (λ (t : List ℕ). TakesText v inner (record { index = s.index; text = t }) (take (literal_len v t) t) (after (literal_len v t) (record { index = s.index; text = t }))) e whole
 
-pub text_takes : (v : DescriptionVersion) (inner : Bool) (s : Rest) (x : List ℕ × Rest) → 0 < length s.text → begins left_bracket s.text ≡ false → (inner && begins right_bracket s.text) ≡ false → text_at v s ≡ Ok x → TakesText v inner s x.0 x.1
+pub text_reads : (v : DescriptionVersion) (inner : Bool) (s : Rest) → 0 < length s.text → begins left_bracket s.text ≡ false → (inner && begins right_bracket s.text) ≡ false → Reads (λ (x : List ℕ × Rest). TakesText v inner s x.0 x.1) (BadEscape v s.index s.text) (text_at v s)
 unfolding text_at
-text_takes v inner s x some h i e =
-    let n : ℕ = literal_len v s.text in
-    elim (chosen (not (is_one v) && begins backslash s.text) (escape_at s) (Ok (take n s.text, after n s)) (Ok x) e) [
-      | inl g ↦ let p = not_first (is_one v) (begins backslash s.text) g.0 in escape_takes v inner s x p.0 p.1 g.1
-      | inr g ↦ subst (λ (y : List ℕ × Rest). TakesText v inner s y.0 y.1) (ok_is (take n s.text, after n s) x g.1) (literal_takes v inner s some h i g.0)
-    ]
+text_reads v inner s some h i = either _ _ _ (λ g. let p = not_first (is_one v) (begins backslash s.text) g in escape_reads v inner s p.0 p.1) (λ g. gives _ (literal_takes v inner s some h i g))
 
 pub doubled_takes : (v : DescriptionVersion) (inner : Bool) (s : Rest) (x : List ℕ × Rest) → doubled_at v s ≡ Some x → TakesText v inner s x.0 x.1
 unfolding doubled_at
@@ -136,23 +135,6 @@ doubled_takes v inner s x e =
     spelled One h = (refl, refl)
     spelled Two h = absurd cc
     spelled Three h = absurd cc
-
-pub text_refused : (v : DescriptionVersion) (s : Rest) (e : Fault) → text_at v s ≡ Err e → BadEscape v s.index s.text e
-unfolding text_at escape_at
-text_refused v s e h =
-    let n : ℕ = literal_len v s.text in
-    elim (chosen (not (is_one v) && begins backslash s.text) (escape_at s) (Ok (take n s.text, after n s)) (Err e) h) [
-      | inl k ↦ elim (chosen (is_escape (after 1 s).text) (Ok (take 1 (after 1 s).text, after 1 (after 1 s))) (Err (Expected (codes "valid escape sequence") s.index)) (Err e) k.1) [
-        | inl c ↦ absurd (not_err (take 1 (after 1 s).text, after 1 (after 1 s)) e c.1)
-        | inr c ↦ bad v k.0 c.0 (sym (err_is {A = List ℕ × Rest} _ e c.1))
-      ]
-      | inr k ↦ absurd (not_err (take n s.text, after n s) e k.1)
-    ]
-  where
-    bad : (v : DescriptionVersion) → (not (is_one v) && begins backslash s.text) ≡ true → is_escape (after 1 s).text ≡ false → e ≡ Expected (codes "valid escape sequence") s.index → BadEscape v s.index s.text e
-    bad One k c f = absurd cc
-    bad Two k c f = (drop 1 s.text, begins_cons backslash s.text k, c, f)
-    bad Three k c f = (drop 1 s.text, begins_cons backslash s.text k, c, f)
 
 -- ---- what is spelled so is read
 
