@@ -8,5 +8,4 @@ pub mod Tables
 pub mod TwoTables
 pub mod TwoVersions
 pub mod Widths
-pub mod Moved
 pub mod Behind

@@ -1,10 +1,11 @@
 -- A component that is spelled so is read, and what is faulty there is refused.
-use Rattle.std.proofs.Common.{◌≡◌, ℕ, ◌+◌, List, [], ◌∷◌, ◌++◌, length, Result, Ok, Err, true, false, cond, eqb, refl, sym, ap, subst, ◌∙◌, append_assoc, arith}
+use Rattle.std.proofs.Common.{◌≡◌, ℕ, ◌+◌, List, [], ◌∷◌, ◌++◌, ◌<◌, length, Result, Ok, Err, true, false, cond, eqb, refl, sym, ap, ◌∙◌, append_assoc, arith}
 use Rattle.std.specs.List.{prefix_len}
 use Rattle.std.proofs.lemmas.List.{length-append}
 use Rattle.std.proofs.lemmas.Bool.Decides.{nat_tests}
 use Rattle.base.specs.Bytes.{left_bracket, right_bracket}
-use Rattle.description_lexer.specs.Fault.{Fault, MissingComponentName}
+use Rattle.description_lexer.specs.Fault.{Fault, UnclosedOpeningBracket, MissingComponentName}
+use Rattle.description_lexer.specs.Further.{further}
 use Rattle.description_lexer.specs.Answer.{◌>>=◌}
 use Rattle.description_items.specs.declared.component.Component.{Component}
 use Rattle.description_lexer.specs.declared.version.DescriptionVersion.{DescriptionVersion}
@@ -13,7 +14,8 @@ use Rattle.description_lexer.specs.Words.{Modifier, has_word, begins, name_at, c
 use Rattle.description_tables.specs.Component.{component_of}
 use Rattle.description_grammar.specs.Reading.{component_from}
 use Rattle.description_grammar.specs.Heads.{Each, Stops, IsWord, SpellsHead}
-use Rattle.description_grammar.specs.Faulty.{BadWord, missing_at, HasBadWord, IsUnclosed, MeansNothing}
+use Rattle.description_grammar.specs.Faulty.{BadWord, missing_at}
+use Rattle.description_lexer.proofs.Readings.{failed}
 use Rattle.description_grammar.proofs.Results.{not_zero, cond_true, cond_false}
 use Rattle.description_grammar.proofs.Runs.{at_index, same_index, run_again, past_is}
 use Rattle.description_grammar.proofs.Takes.{closed_again}
@@ -35,7 +37,7 @@ name_again bracket at first name rest is_first is_name placed stops =
     pair : {a b c d : Rest} → a ≡ c → b ≡ d → ok_pair a b ≡ ok_pair c d
     pair {a} {b} {c} {d} e f = ap (λ (a : Rest). ok_pair a b) e ∙ ap (λ (b : Rest). ok_pair c b) f
 
-pub no_name_again : (at : ℕ) (blank rest : List ℕ) → Each is_space blank → Stops is_space rest → Stops is_word_byte rest → name_at at (at_index (at + 1) (blank ++ rest)) ≡ Err (MissingComponentName (missing_at at blank))
+pub no_name_again : (at : ℕ) (blank rest : List ℕ) → Each is_space blank → Stops is_space rest → Stops is_word_byte rest → name_at at (at_index (at + 1) (blank ++ rest)) ≡ Err (MissingComponentName (at + missing_at blank))
 unfolding name_at
 no_name_again at blank rest spaces no_space no_word =
     let start = past_is is_space (at + 1) blank rest spaces no_space in
@@ -43,8 +45,8 @@ no_name_again at blank rest spaces no_space no_word =
     let n = run_again is_space blank rest spaces no_space in
     rw (none, n, place blank) refl
   where
-    place : (blank : List ℕ) → cond (eqb (length blank) 0) at (at + 1) ≡ missing_at at blank
-    place [] = refl
+    place : (blank : List ℕ) → cond (eqb (length blank) 0) at (at + 1) ≡ at + missing_at blank
+    place [] = omega arith
     place (b ∷ bs) = cond_false (eqb (length (b ∷ bs)) 0) at (at + 1) (not_zero (length (b ∷ bs)) (omega arith))
 
 -- a name's first byte opens nothing
@@ -103,21 +105,19 @@ component_again v at head rest name ms c h means =
     ok_component : Component → Rest → Result (Component × Rest) Fault
     ok_component c p = Ok (c, p)
 
-pub bad_word_refused : (v : DescriptionVersion) (at : ℕ) (text : List ℕ) (e : Fault) (h : HasBadWord v at text e)
-    → component_from v at h.name (at_index (at + 1 + length h.is_head.first + length h.name.text) (h.is_head.middle ++ (h.is_head.last ++ (h.word ++ h.rest)))) ≡ Err e
+-- what is wrong with a component, where it stands
+pub bad_word_refused : (v : DescriptionVersion) (at : ℕ) (head word rest : List ℕ) (name : Rest) (ms : List Modifier) (e : Fault) (h : SpellsHead v at head name ms) → 0 < length h.last → IsWord word → Stops is_word_byte rest → BadWord word e
+    → component_from v at name (at_index (at + 1 + length h.first + length name.text) (h.middle ++ (h.last ++ (word ++ rest)))) ≡ Err (further (at + length head) e)
 unfolding component_from
-bad_word_refused v at text e h =
-    let g = h.is_head in
-    let len = head_len v at h.head h.name h.modifiers g in
-    let bad = subst (λ (i : ℕ). BadWord i h.word e) (sym len) h.bad in
-    ap (from_modifiers v at h.name) (bad_modifiers_again h.modifiers (at + 1 + length g.first + length h.name.text) g.middle g.last h.word h.rest e g.modifiers g.is_last h.apart h.is_word h.no_word bad)
+bad_word_refused v at head word rest name ms e h apart is_word no_word bad =
+    ap (from_modifiers v at name) (bad_modifiers_again ms (at + 1 + length h.first + length name.text) h.middle h.last word rest e h.modifiers h.is_last apart is_word no_word bad ∙ ap (λ (i : ℕ). failed (further i e)) (head_len v at head name ms h))
 
-pub unclosed_refused : (v : DescriptionVersion) (at : ℕ) (text : List ℕ) (e : Fault) (h : IsUnclosed v at text e)
-    → component_from v at h.name (at_index (at + 1 + length h.is_head.first + length h.name.text) (h.is_head.middle ++ (h.is_head.last ++ h.rest))) ≡ Err e
+pub unclosed_refused : (v : DescriptionVersion) (at : ℕ) (head rest : List ℕ) (name : Rest) (ms : List Modifier) (h : SpellsHead v at head name ms) → Stops is_space rest → Stops is_word_byte rest → begins right_bracket rest ≡ false
+    → component_from v at name (at_index (at + 1 + length h.first + length name.text) (h.middle ++ (h.last ++ rest))) ≡ Err (UnclosedOpeningBracket at)
 unfolding closed_at
-unclosed_refused v at text e h = whole_head v at h.head h.rest h.name h.modifiers h.is_head h.no_space h.no_word ∙ rw (h.open_still, h.fault_is) refl
+unclosed_refused v at head rest name ms h no_space no_word open_still = whole_head v at head rest name ms h no_space no_word ∙ rw open_still refl
 
-pub nothing_refused : (v : DescriptionVersion) (at : ℕ) (text : List ℕ) (e : Fault) (h : MeansNothing v at text e)
-    → component_from v at h.name (at_index (at + 1 + length h.is_head.first + length h.name.text) (h.is_head.middle ++ (h.is_head.last ++ right_bracket ∷ h.rest))) ≡ Err e
+pub nothing_refused : (v : DescriptionVersion) (at : ℕ) (head rest : List ℕ) (name : Rest) (ms : List Modifier) (e : Fault) (h : SpellsHead v at head name ms) → component_of v name ms ≡ Err e
+    → component_from v at name (at_index (at + 1 + length h.first + length name.text) (h.middle ++ (h.last ++ right_bracket ∷ rest))) ≡ Err e
 unfolding closed_at
-nothing_refused v at text e h = whole_head v at h.head (right_bracket ∷ h.rest) h.name h.modifiers h.is_head refl refl ∙ rw h.means refl
+nothing_refused v at head rest name ms e h means = whole_head v at head (right_bracket ∷ rest) name ms h refl refl ∙ rw means refl

@@ -4,7 +4,7 @@ use Rattle.std.specs.List.{prefix_len}
 use Rattle.std.proofs.lemmas.List.{length-append}
 use Rattle.std.proofs.lemmas.List.Folds.{length-prefix_len}
 use Rattle.base.specs.Bytes.{left_bracket, right_bracket}
-use Rattle.description_lexer.specs.Fault.{Fault, MissingComponentName}
+use Rattle.description_lexer.specs.Fault.{Fault, UnclosedOpeningBracket, MissingComponentName}
 use Rattle.description_lexer.specs.Answer.{◌>>=◌}
 use Rattle.description_items.specs.declared.component.Component.{Component}
 use Rattle.description_lexer.specs.declared.version.DescriptionVersion.{DescriptionVersion}
@@ -14,13 +14,14 @@ use Rattle.description_lexer.proofs.Readings.{bind_ok, ok_is, made_err}
 use Rattle.description_tables.specs.Component.{component_of}
 use Rattle.description_grammar.specs.Reading.{component_from}
 use Rattle.description_grammar.specs.Heads.{Each, Stops, IsWord, SpellsModifiers, is_nesting, SpellsHead, SpellsComponent}
-use Rattle.description_grammar.specs.Faulty.{BadWord, missing_at, IsSingle, LacksName, HasBadWord, IsUnclosed, MeansNothing}
+use Rattle.description_grammar.specs.Faulty.{Behind, BadWord, missing_at, IsSingle, LacksName, HasBadWord, IsUnclosed, MeansNothing}
 use Rattle.description_grammar.proofs.Results.{not_zero}
 use Rattle.description_grammar.proofs.ValueOrFault.{Reads, gives, refuses, either, in_turn}
 use Rattle.description_grammar.proofs.Runs.{each_run, stops_past, stops_from_none, cut_run, past_index}
 use Rattle.description_grammar.proofs.Takes.{Takes, takes_then, takes_run, begins_cons, closed_reads}
 use Rattle.description_grammar.proofs.Modifiers.{none_there, some_there, TakesModifiers, Refuses, modifiers_read}
-use Rattle.description_grammar.proofs.Meaning.{component_spelled}
+use Rattle.description_grammar.proofs.Meaning.{head_elsewhere}
+use Rattle.description_grammar.proofs.Places.{at_first, behind_both, further_back}
 
 -- ---- the name
 
@@ -32,7 +33,7 @@ pub record TakesName (s : Rest) (name : Rest) (rest : Rest) : Type 0 where
   pub name_at : name.index ≡ s.index + length first
   pub no_word : Stops is_word_byte rest.text
 
-pub name_reads : (v : DescriptionVersion) (s : Rest) → begins left_bracket s.text ≡ true → IsSingle v (after 1 s).text → Reads (λ (x : Rest × Rest). TakesName (after 1 s) x.0 x.1) (LacksName v s.index s.text) (name_at s.index (after 1 s))
+pub name_reads : (v : DescriptionVersion) (s : Rest) → begins left_bracket s.text ≡ true → IsSingle v (after 1 s).text → Reads (λ (x : Rest × Rest). TakesName (after 1 s) x.0 x.1) (Behind s.index (LacksName v s.text)) (name_at s.index (after 1 s))
 unfolding name_at
 name_reads v s opens single = either _ _ _ (
     λ h. gives _ (record {
@@ -44,23 +45,27 @@ name_reads v s opens single = either _ _ _ (
       no_word = stops_past is_word_byte start.text;
     })
     ) (
-    λ h. refuses _ (record {
-      blank = (run is_space (after 1 s)).text;
-      rest = start.text;
-      parts = begins_cons left_bracket s.text opens ∙ ap (λ (t : List ℕ). left_bracket ∷ t) (cut_run is_space (after 1 s));
-      single = subst (IsSingle v) (cut_run is_space (after 1 s)) single;
-      spaces = each_run is_space (after 1 s).text;
-      no_space = stops_past is_space (after 1 s).text;
-      no_word = stops_from_none is_word_byte start.text (none_there start h);
-      fault_is = ap (λ (i : ℕ). MissingComponentName i) (place (prefix_len is_space (after 1 s).text) (run is_space (after 1 s)).text (length-prefix_len is_space (after 1 s).text));
-    })
+    λ h. refuses _ (
+      MissingComponentName (missing_at (run is_space (after 1 s)).text),
+      record {
+        blank = (run is_space (after 1 s)).text;
+        rest = start.text;
+        parts = begins_cons left_bracket s.text opens ∙ ap (λ (t : List ℕ). left_bracket ∷ t) (cut_run is_space (after 1 s));
+        single = subst (IsSingle v) (cut_run is_space (after 1 s)) single;
+        spaces = each_run is_space (after 1 s).text;
+        no_space = stops_past is_space (after 1 s).text;
+        no_word = stops_from_none is_word_byte start.text (none_there start h);
+        fault_is = refl;
+      },
+      ap (λ (i : ℕ). MissingComponentName i) (place (prefix_len is_space (after 1 s).text) (run is_space (after 1 s)).text (length-prefix_len is_space (after 1 s).text)),
+    )
     )
   where
     start : Rest
     start = past is_space (after 1 s)
 
-    place : (n : ℕ) (blank : List ℕ) → length blank ≡ n → cond (eqb n 0) s.index (s.index + 1) ≡ missing_at s.index blank
-    place zero [] l = refl
+    place : (n : ℕ) (blank : List ℕ) → length blank ≡ n → cond (eqb n 0) s.index (s.index + 1) ≡ s.index + missing_at blank
+    place zero [] l = omega arith
     place zero (b ∷ bs) l = absurd (omega arith)
     place (suc n) [] l = absurd (omega arith)
     place (suc n) (b ∷ bs) l = ap (λ (t : Bool). cond t s.index (s.index + 1)) (not_zero (suc n) (omega arith))
@@ -110,63 +115,68 @@ pub record TakesComponent (v : DescriptionVersion) (s : Rest) (c : Component) (r
   pub some : 0 < length own
   pub spells : SpellsComponent v own c
 
-abbrev pub BadComponent : DescriptionVersion → ℕ → List ℕ → Fault → Type 0
-BadComponent v at text e = HasBadWord v at text e ⊎ IsUnclosed v at text e ⊎ MeansNothing v at text e
+abbrev pub BadComponent : DescriptionVersion → List ℕ → Fault → Type 0
+BadComponent v text e = HasBadWord v text e ⊎ IsUnclosed v text e ⊎ MeansNothing v text e
 
 pub component_reads : (v : DescriptionVersion) (s name next : Rest) → begins left_bracket s.text ≡ true → TakesName (after 1 s) name next → is_nesting v name.text ≡ false
-    → Reads (λ (x : Component × Rest). TakesComponent v s x.0 x.1) (BadComponent v s.index s.text) (component_from v s.index name next)
+    → Reads (λ (x : Component × Rest). TakesComponent v s x.0 x.1) (Behind s.index (BadComponent v s.text)) (component_from v s.index name next)
 unfolding component_from
 component_reads v s name next opens n no_nesting = in_turn _ _ (modifiers_read next n.no_word) bad_word behind
   where
-    bad_word : (e : Fault) → Refuses next e → BadComponent v s.index s.text e
+    bad_word : (e : Fault) → Refuses next e → Behind s.index (BadComponent v s.text) e
     bad_word e r =
         let g : MakesHead v s name next r.own r.last r.ms = head_of v s name next r.own r.last r.ms opens n no_nesting r.spells r.is_last in
-        inl (record {
-          head = g.head;
-          name = name;
-          modifiers = r.ms;
-          word = r.word;
-          rest = r.rest;
-          parts = g.parts (r.word ++ r.rest) r.parts;
-          is_head = g.is_head;
-          apart = rw g.last_is r.apart;
-          is_word = r.is_word;
-          no_word = r.no_word;
-          bad = subst (λ (i : ℕ). BadWord i r.word e) (sym g.place) r.bad;
-        })
+        let h = head_elsewhere v s.index 0 g.head name r.ms g.is_head in
+        let b = behind_both s.index (length g.head) (next.index + length r.own + length r.last) (BadWord r.word) e (sym g.place) r.bad in (
+          b.0,
+          inl (record {
+            head = g.head;
+            name = h.name_there;
+            modifiers = h.modifiers;
+            word = r.word;
+            rest = r.rest;
+            parts = g.parts (r.word ++ r.rest) r.parts;
+            is_head = h.is_head;
+            apart = rw (h.last_is, g.last_is) r.apart;
+            is_word = r.is_word;
+            no_word = r.no_word;
+            bad = b.1;
+          }),
+          b.2,
+        )
 
-    behind : (m : List Modifier × Rest) → TakesModifiers next m.0 m.1 → Reads (λ (x : Component × Rest). TakesComponent v s x.0 x.1) (BadComponent v s.index s.text) (closed_at s.index m.1 >>= λ rest. component_of v name m.0 >>= λ component. Ok (component, rest))
+    behind : (m : List Modifier × Rest) → TakesModifiers next m.0 m.1 → Reads (λ (x : Component × Rest). TakesComponent v s x.0 x.1) (Behind s.index (BadComponent v s.text)) (closed_at s.index m.1 >>= λ rest. component_of v name m.0 >>= λ component. Ok (component, rest))
     behind m ms =
         let g : MakesHead v s name next ms.own ms.last m.0 = head_of v s name next ms.own ms.last m.0 opens n no_nesting ms.spells ms.is_last in
         let split : next.text ≡ ms.own ++ (ms.last ++ m.1.text) = ms.takes.parts ∙ append_assoc ms.own ms.last m.1.text in
         let whole : Takes s g.head m.1 = record { parts = g.parts m.1.text split; index = omega (arith, g.place, ms.takes.index, length-append ms.own ms.last) } in
-        in_turn _ _ (closed_reads s.index m.1) (λ e k. inr (inl (record {
-          head = g.head;
-          name = name;
-          modifiers = m.0;
-          rest = m.1.text;
-          parts = whole.parts;
-          is_head = g.is_head;
-          no_space = ms.no_space;
-          no_word = ms.no_word;
-          open_still = k.0;
-          fault_is = k.1;
-        }))) (λ rest close. record {
+        let h = head_elsewhere v s.index 0 g.head name m.0 g.is_head in
+        in_turn _ _ (closed_reads s.index m.1) (λ e k. (
+          UnclosedOpeningBracket 0,
+          inr (inl (record {
+            head = g.head;
+            name = h.name_there;
+            modifiers = h.modifiers;
+            rest = m.1.text;
+            parts = whole.parts;
+            is_head = h.is_head;
+            no_space = ms.no_space;
+            no_word = ms.no_word;
+            open_still = k.0;
+            fault_is = refl;
+          })),
+          k.1 ∙ at_first (λ i. UnclosedOpeningBracket i) s.index,
+        )) (λ rest close. record {
           ok = λ x e.
               let d = bind_ok (component_of v name m.0) (λ component. Ok (component, rest)) x e in
               subst (λ (y : Component × Rest). TakesComponent v s y.0 y.1) (ok_is (d.0, rest) x d.2) (record {
                 own = g.head ++ right_bracket ∷ [];
                 takes = takes_then s g.head m.1 (right_bracket ∷ []) rest whole close;
                 some = omega (arith, length-append g.head (right_bracket ∷ []));
-                spells = component_spelled v s.index g.head d.0 (record { name = name; modifiers = m.0; is_head = g.is_head; means = d.1 });
+                spells = record { head = g.head; name = h.name_there; modifiers = h.modifiers; parts = refl; is_head = h.is_head; means = h.agrees.ok d.0 d.1 };
               });
-          err = λ e h. inr (inr (record {
-            head = g.head;
-            name = name;
-            modifiers = m.0;
-            rest = rest.text;
-            parts = whole.parts ∙ ap (λ (x : List ℕ). g.head ++ x) close.parts;
-            is_head = g.is_head;
-            means = made_err (component_of v name m.0) (λ component. (component, rest)) e h;
-          }));
+          err = λ e fails.
+              let d = h.agrees.err e (made_err (component_of v name m.0) (λ component. (component, rest)) e fails) in
+              let parts : s.text ≡ g.head ++ right_bracket ∷ rest.text = whole.parts ∙ ap (λ (x : List ℕ). g.head ++ x) close.parts in
+              (d.0, inr (inr (record { head = g.head; name = h.name_there; modifiers = h.modifiers; rest = rest.text; parts = parts; is_head = h.is_head; means = d.1 })), further_back s.index e d.0 d.2);
         })

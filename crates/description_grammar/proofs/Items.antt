@@ -1,10 +1,10 @@
 -- What is read as items is spelled so, and what is refused has that fault.
-use Rattle.std.proofs.Common.{◌≡◌, ℕ, zero, suc, ◌<◌, List, [], ◌∷◌, ◌++◌, length, take, drop, Option, Some, None, Result, Ok, Bool, true, false, cond, eqb, refl, sym, ap, subst, ◌∙◌, arith, inl, inr}
+use Rattle.std.proofs.Common.{◌≡◌, ℕ, zero, suc, ◌+◌, ◌<◌, List, [], ◌∷◌, ◌++◌, length, take, drop, Option, Some, None, Result, Ok, Bool, true, false, cond, eqb, refl, sym, ap, subst, ◌∙◌, arith, inl, inr}
 use Rattle.std.specs.Prelude.{codes, ◌&&◌, ◌||◌}
 use Rattle.std.proofs.lemmas.List.{append-nil, nil_from_length}
 use Rattle.std.proofs.lemmas.Bool.Decides.{nat_tests}
 use Rattle.base.specs.Bytes.{left_bracket, right_bracket}
-use Rattle.description_lexer.specs.Fault.{Fault}
+use Rattle.description_lexer.specs.Fault.{Fault, UnclosedOpeningBracket, NotSupported}
 use Rattle.description_lexer.specs.Answer.{◌>>=◌}
 use Rattle.description_items.specs.Tree.{Tree, Literal, Part, Compound, Optional, First, listed}
 use Rattle.description_lexer.specs.declared.version.DescriptionVersion.{DescriptionVersion}
@@ -17,9 +17,10 @@ use Rattle.description_lexer.proofs.Steps.{Steps, Shortens, Read}
 use Rattle.description_grammar.specs.Reading.{doubled_at, text_at, component_from, Nester, optional_at, no_bracket, first_at, bracket_at, literal_or, element_at, is_end, nested_at, read_items}
 use Rattle.description_grammar.specs.Heads.{Stops}
 use Rattle.description_grammar.specs.Spelling.{SpellsItems, SpellsItem, SpellsNested, SpellsAlternatives, Spells}
-use Rattle.description_grammar.specs.Faulty.{IsSingle, IsOne, AreSome, IsNothing, AreBefore, BadItem, FaultyItems, FaultyNested, Faulty}
+use Rattle.description_grammar.specs.Faulty.{Behind, IsSingle, IsOne, AreSome, IsNothing, AreBefore, BadItem, FaultyItems, FaultyNested, Faulty}
 use Rattle.description_grammar.proofs.Results.{neither, either_not, above, flip_false, flip_true}
 use Rattle.description_grammar.proofs.ValueOrFault.{Reads, gives, refuses, either, in_turn, reads_as, many_read}
+use Rattle.description_grammar.proofs.Places.{further_none, at_first, behind_both}
 use Rattle.description_grammar.proofs.Runs.{each_run, stops_past}
 use Rattle.description_grammar.proofs.Takes.{Takes, takes_then, takes_run, takes_length, takes_byte, begins_cons, stops_91, closed_reads}
 use Rattle.description_grammar.proofs.TextsSound.{text_front, text_some, TakesText, text_reads, doubled_takes}
@@ -37,7 +38,7 @@ pub record TakesNested (v : DescriptionVersion) (levels : ℕ) (s : Rest) (x : T
 
 -- how nested descriptions are read where so many levels may be opened
 abbrev pub NestedReads : DescriptionVersion → ℕ → Type 0
-NestedReads v levels = (s : Rest) → begins left_bracket s.text ≡ true → Reads (TakesNested v levels s) (FaultyNested v levels s.index s.text) (nested_at v levels s)
+NestedReads v levels = (s : Rest) → begins left_bracket s.text ≡ true → Reads (TakesNested v levels s) (Behind s.index (FaultyNested v levels s.text)) (nested_at v levels s)
 
 one_reads : (v : DescriptionVersion) (levels : ℕ) → NestedReads v levels → (start : Rest) → begins left_bracket start.text ≡ true → Reads (TakesInside (SpellsNested v levels) (IsOne v levels) start) (RefusesInside IsNothing (FaultyNested v levels) start) (nested_at v levels start)
 one_reads v levels nested start opens = reads_as _ (nested start opens) (
@@ -120,30 +121,30 @@ named_item v inside bracket name =
     cond (is_named v name.0.text (codes "optional")) (optional_at v inside bracket name.1) (cond (is_named v name.0.text (codes "first")) (first_at v inside bracket name.1) (part_from v bracket name))
 
 bracket_reads : (v : DescriptionVersion) (inner : Bool) (levels : ℕ) → NestedReads v levels → (s : Rest) → begins left_bracket s.text ≡ true → IsSingle v (after 1 s).text
-    → Reads (λ (x : Tree × Rest). TakesItem v inner levels s x.0 x.1) (BadItem v levels (FaultyNested v levels) s.index s.text) (bracket_at v (nested_at v levels) s)
+    → Reads (λ (x : Tree × Rest). TakesItem v inner levels s x.0 x.1) (Behind s.index (BadItem v levels (FaultyNested v levels) s.text)) (bracket_at v (nested_at v levels) s)
 unfolding bracket_at optional_at first_at
 bracket_reads v inner levels nested s opens single =
-    in_turn _ _ (name_reads v s opens single) (λ e h. inr (inl h)) (λ name n. either _ _ _ (λ is_name. as_optional name n is_name) (λ no_optional. either _ _ _ (λ is_name. as_first name n is_name) (λ no_first. as_part name n no_optional no_first)))
+    in_turn _ _ (name_reads v s opens single) (λ e h. (h.0, inr (inl h.1), h.2)) (λ name n. either _ _ _ (λ is_name. as_optional name n is_name) (λ no_optional. either _ _ _ (λ is_name. as_first name n is_name) (λ no_first. as_part name n no_optional no_first)))
   where
     Item : Result (Tree × Rest) Fault → Type 0
-    Item r = Reads (λ (x : Tree × Rest). TakesItem v inner levels s x.0 x.1) (BadItem v levels (FaultyNested v levels) s.index s.text) r
+    Item r = Reads (λ (x : Tree × Rest). TakesItem v inner levels s x.0 x.1) (Behind s.index (BadItem v levels (FaultyNested v levels) s.text)) r
 
     as_optional : (name : Rest × Rest) → TakesName (after 1 s) name.0 name.1 → is_named v name.0.text (codes "optional") ≡ true → Item (optional_at v (nested_at v levels) s.index name.1)
     as_optional name n is_name =
         reads_as _ (nesting_reads v (codes "optional") (codes "whitespace after `optional`") (nested_at v levels) (Optional true) (SpellsNested v levels) (IsOne v levels) IsNothing (FaultyNested v levels) (one_reads v levels nested) s name.0 name.1 opens n is_name)
         (λ x t. record { own = t.own; takes = t.takes; some = t.some; spells = subst (λ (y : Tree). SpellsItem v inner levels t.own x.1.text y) t.made (t.three, refl, t.spells) })
-        (λ e bad. inr (inr (inr (inr (inr (inl bad))))))
+        (λ e bad. (bad.0, inr (inr (inr (inr (inr (inl bad.1))))), bad.2))
 
     as_first : (name : Rest × Rest) → TakesName (after 1 s) name.0 name.1 → is_named v name.0.text (codes "first") ≡ true → Item (first_at v (nested_at v levels) s.index name.1)
     as_first name n is_name =
         reads_as _ (nesting_reads v (codes "first") (codes "whitespace after `first`") (read_some v levels) first_of_list (MeansSome v levels) (AreSome v levels) (AreBefore v levels) (FaultyNested v levels) (some_reads v levels nested) s name.0 name.1 opens n is_name)
         (λ x t. record { own = t.own; takes = t.takes; some = t.some; spells = subst (λ (y : Tree). SpellsItem v inner levels t.own x.1.text y) t.made (t.three, t.spells) })
-        (λ e bad. inr (inr (inr (inr (inr (inr bad))))))
+        (λ e bad. (bad.0, inr (inr (inr (inr (inr (inr bad.1))))), bad.2))
 
-    bad_part : (e : Fault) → BadComponent v s.index s.text e → BadItem v levels (FaultyNested v levels) s.index s.text e
-    bad_part e (inl h) = inr (inr (inl h))
-    bad_part e (inr (inl h)) = inr (inr (inr (inl h)))
-    bad_part e (inr (inr h)) = inr (inr (inr (inr (inl h))))
+    bad_part : (e : Fault) → Behind s.index (BadComponent v s.text) e → Behind s.index (BadItem v levels (FaultyNested v levels) s.text) e
+    bad_part e (d, inl h, is) = (d, inr (inr (inl h)), is)
+    bad_part e (d, inr (inl h), is) = (d, inr (inr (inr (inl h))), is)
+    bad_part e (d, inr (inr h), is) = (d, inr (inr (inr (inr (inl h)))), is)
 
     as_part : (name : Rest × Rest) → TakesName (after 1 s) name.0 name.1 → is_named v name.0.text (codes "optional") ≡ false → is_named v name.0.text (codes "first") ≡ false → Item (part_from v s.index name)
     as_part name n no_optional no_first =
@@ -168,7 +169,7 @@ single_of Two s opens e = tt
 single_of Three s opens e = tt
 
 element_reads : (v : DescriptionVersion) (inner : Bool) (levels : ℕ) → NestedReads v levels → (s : Rest) → is_end inner s ≡ false
-    → Reads (λ (x : Tree × Rest). TakesItem v inner levels s x.0 x.1) (BadItem v levels (FaultyNested v levels) s.index s.text) (element_at v (nested_at v levels) s)
+    → Reads (λ (x : Tree × Rest). TakesItem v inner levels s x.0 x.1) (Behind s.index (BadItem v levels (FaultyNested v levels) s.text)) (element_at v (nested_at v levels) s)
 unfolding element_at
 element_reads v inner levels nested s goes = by_doubled (doubled_at v s) refl
   where
@@ -176,10 +177,10 @@ element_reads v inner levels nested s goes = by_doubled (doubled_at v s) refl
     open_text = neither _ _ goes
 
     by_doubled : (d : Option (List ℕ × Rest)) → doubled_at v s ≡ d
-        → Reads (λ (x : Tree × Rest). TakesItem v inner levels s x.0 x.1) (BadItem v levels (FaultyNested v levels) s.index s.text) (literal_or d (cond (begins left_bracket s.text) (bracket_at v (nested_at v levels) s) (text_at v s >>= λ x. Ok (Literal x.0, x.1))))
+        → Reads (λ (x : Tree × Rest). TakesItem v inner levels s x.0 x.1) (Behind s.index (BadItem v levels (FaultyNested v levels) s.text)) (literal_or d (cond (begins left_bracket s.text) (bracket_at v (nested_at v levels) s) (text_at v s >>= λ x. Ok (Literal x.0, x.1))))
     by_doubled (Some y) is_d = gives _ (of_text v inner levels s y.0 y.1 (doubled_takes v inner s y is_d))
     by_doubled None is_d = either _ _ _ (λ g. bracket_reads v inner levels nested s g (single_of v s g is_d)) (
-        λ g. in_turn _ _ (text_reads v inner s (above _ open_text.0) g open_text.1) (λ e bad. inl bad) (λ x t. gives _ (of_text v inner levels s x.0 x.1 t))
+        λ g. in_turn _ _ (text_reads v inner s (above _ open_text.0) g open_text.1) (λ e bad. (bad.0, inl bad.1, bad.2)) (λ x t. gives _ (of_text v inner levels s x.0 x.1 t))
         )
 
 -- only the byte behind it matters to an item
@@ -217,12 +218,13 @@ record TakesAll (v : DescriptionVersion) (inner : Bool) (levels : ℕ) (s : Rest
   items : TakesItems v inner levels s x.0 x.1
   ends : is_end inner x.1 ≡ true
 
-items_read : (v : DescriptionVersion) (inner : Bool) (levels : ℕ) → NestedReads v levels → (s : Rest) → Reads (TakesAll v inner levels s) (FaultyItems v inner levels (FaultyNested v levels) s.index s.text) (many (is_end inner) (element_at v (nested_at v levels)) (suc (length s.text)) s)
+items_read : (v : DescriptionVersion) (inner : Bool) (levels : ℕ) → NestedReads v levels → (s : Rest) → Reads (TakesAll v inner levels s) (Behind s.index (FaultyItems v inner levels (FaultyNested v levels) s.text)) (many (is_end inner) (element_at v (nested_at v levels)) (suc (length s.text)) s)
 items_read v inner levels nested s = reads_as _ (many_read (is_end inner) (element_at v (nested_at v levels)) (items_shorten v inner levels nested) s) (λ x read. record { items = items_take v inner levels nested x.0 s x.1 read.0; ends = read.1 }) (
     λ e f.
     let i : TakesItems v inner levels s f.front f.bad = items_take v inner levels nested f.front s f.bad f.steps in
     let bad = (element_reads v inner levels nested f.bad f.goes_on).err e f.fails in
-    record { items = listed f.front; front = i.own; bad = f.bad.text; parts = i.takes.parts; is_front = i.spells; is_bad = subst (λ (n : ℕ). BadItem v levels (FaultyNested v levels) n f.bad.text e) i.takes.index bad }
+    let b = behind_both s.index (length i.own) f.bad.index (BadItem v levels (FaultyNested v levels) f.bad.text) e i.takes.index bad in
+    (b.0, record { items = listed f.front; front = i.own; bad = f.bad.text; parts = i.takes.parts; is_front = i.spells; is_bad = b.1 }, b.2)
     )
 
 -- where nothing is left, the items are the whole text
@@ -236,9 +238,9 @@ all_spelled v inner levels s x all open_still =
 
 pub nested_reads : (v : DescriptionVersion) (levels : ℕ) → NestedReads v levels
 unfolding nested_at FaultyNested
-nested_reads v zero s opens = refuses _ (drop 1 s.text, begins_cons left_bracket s.text opens, refl)
-nested_reads v (suc levels) s opens = in_turn _ _ (items_read v true levels (nested_reads v levels) (after 1 s)) (λ e bad. (drop 1 s.text, begins_cons left_bracket s.text opens, inl bad)) (
-    λ x all. in_turn _ _ (closed_reads s.index x.1) (λ e k. (drop 1 s.text, begins_cons left_bracket s.text opens, inr (listed x.0, all_spelled v true levels (after 1 s) x all k.0, k.1))) (
+nested_reads v zero s opens = refuses _ (NotSupported (codes "nesting past 127 levels") (codes "format descriptions") 0, (drop 1 s.text, begins_cons left_bracket s.text opens, refl), at_first (λ i. NotSupported (codes "nesting past 127 levels") (codes "format descriptions") i) s.index)
+nested_reads v (suc levels) s opens = in_turn _ _ (items_read v true levels (nested_reads v levels) (after 1 s)) (λ e bad. let b = behind_both s.index 1 (s.index + 1) (FaultyItems v true levels (FaultyNested v levels) (after 1 s).text) e refl bad in (b.0, (drop 1 s.text, begins_cons left_bracket s.text opens, inl b.1), b.2)) (
+    λ x all. in_turn _ _ (closed_reads s.index x.1) (λ e k. (UnclosedOpeningBracket 0, (drop 1 s.text, begins_cons left_bracket s.text opens, inr (listed x.0, all_spelled v true levels (after 1 s) x all k.0, refl)), k.1 ∙ at_first (λ i. UnclosedOpeningBracket i) s.index)) (
     λ rest close.
     let blank : List ℕ = (run is_space rest).text in
     let ends : Takes x.1 (right_bracket ∷ blank) (past is_space rest) = takes_then x.1 (right_bracket ∷ []) rest blank (past is_space rest) close (takes_run is_space rest) in
@@ -257,4 +259,7 @@ nested_reads v (suc levels) s opens = in_turn _ _ (items_read v true levels (nes
 
 pub text_read : (v : DescriptionVersion) (text : List ℕ) → Reads (Spells v text) (Faulty v text) (read_items v text)
 unfolding read_items
-text_read v text = in_turn _ _ (items_read v false 127 (nested_reads v 127) (whole text)) (λ e bad. bad) (λ x all. gives _ (all_spelled v false 127 (whole text) x all refl))
+text_read v text = in_turn _ _ (items_read v false 127 (nested_reads v 127) (whole text)) begun (λ x all. gives _ (all_spelled v false 127 (whole text) x all refl))
+  where
+    begun : (e : Fault) → Behind 0 (FaultyItems v false 127 (FaultyNested v 127) text) e → Faulty v text e
+    begun e (own, h, is_own) = subst (Faulty v text) (sym (is_own ∙ further_none (length h.front) _ own h.is_bad)) h

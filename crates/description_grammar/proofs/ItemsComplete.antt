@@ -11,19 +11,20 @@ use Rattle.description_items.specs.Tree.{Tree, Literal, Part, Compound, Optional
 use Rattle.description_lexer.specs.declared.version.DescriptionVersion.{DescriptionVersion}
 use Rattle.description_lexer.specs.declared.version.DescriptionVersion.TheVariants.{One, Two, Three}
 use Rattle.description_lexer.specs.Version.{is_one, is_three}
-use Rattle.description_lexer.specs.Text.{Rest, is_space, is_plain, past, after}
-use Rattle.description_lexer.specs.Words.{is_named, begins, name_at, closed_at}
+use Rattle.description_lexer.specs.Text.{Rest, is_space, is_word_byte, is_plain, past, after}
+use Rattle.description_lexer.specs.Words.{Modifier, is_named, begins, name_at, closed_at}
 use Rattle.description_grammar.specs.Reading.{doubled_at, unsupported_at, supported, optional_at, no_bracket, first_at, bracket_at, element_at, is_end, nested_at, read_items}
-use Rattle.description_grammar.specs.Heads.{Stops, SpellsComponent, SpellsNesting}
+use Rattle.description_grammar.specs.Heads.{Each, Stops, IsWord, SpellsHead, SpellsComponent, SpellsOpening, SpellsNesting}
 use Rattle.description_grammar.specs.Spelling.{SpellsItems, SpellsItem, SpellsNested, SpellsAlternatives, Spells}
 use Rattle.description_grammar.proofs.Results.{cond_true, cond_false, and_false, neither, either_not, not_zero}
-use Rattle.description_grammar.proofs.Runs.{at_index, same_index, past_is, word_stops}
+use Rattle.description_grammar.proofs.Runs.{at_index, same_index, past_is, word_stops, space_first}
 use Rattle.description_grammar.proofs.Takes.{stops_91, closed_again}
 use Rattle.description_lexer.proofs.Steps.{Steps, steps_many}
 use Rattle.description_grammar.proofs.TextsSound.{SpellsText, text_more, text_some, BeginsText, text_again}
-use Rattle.description_grammar.proofs.Meaning.{MeansAt, component_at}
-use Rattle.description_grammar.proofs.ComponentsComplete.{begins_head, component_again}
-use Rattle.description_grammar.proofs.NestingComplete.{not_optional, begins_opening, opening_len, nesting_again, ok_tree}
+use Rattle.description_grammar.proofs.Meaning.{head_elsewhere}
+use Rattle.description_grammar.proofs.ComponentsComplete.{name_again, no_bracket_first, begins_head, component_again}
+use Rattle.description_grammar.proofs.NestingComplete.{not_optional, opening_len, from_start, from_opening, closed_here, ok_tree}
+use Rattle.description_grammar.proofs.Nesting.{Reader, nesting_at}
 use Rattle.description_grammar.proofs.Items.{alternatives_shorten, items_shorten, nested_reads, first_of_list, read_some, part_from, named_item}
 
 -- ---- lists of trees
@@ -74,6 +75,15 @@ pub names_first : (v : DescriptionVersion) (levels bracket : ℕ) (name next : R
 names_first v levels bracket name next h =
     cond_false (is_named v name.text (codes "optional")) (optional_at v (nested_at v levels) bracket next) (cond (is_named v name.text (codes "first")) (first_at v (nested_at v levels) bracket next) (part_from v bracket (name, next))) (not_optional v name.text h)
     ∙ cond_true (is_named v name.text (codes "first")) (first_at v (nested_at v levels) bracket next) (part_from v bracket (name, next)) h
+
+-- a head, and what is read behind it
+pub head_opens : (v : DescriptionVersion) (levels i : ℕ) (text head tail : List ℕ) (name : Rest) (ms : List Modifier) (h : SpellsHead v i head name ms) → text ≡ head ++ tail → Stops is_word_byte (h.last ++ tail)
+    → (begins left_bracket text ≡ true) × (element_at v (nested_at v levels) (at_index i text) ≡ part_from v i (name, at_index (i + 1 + length h.first + length name.text) (h.middle ++ (h.last ++ tail))))
+head_opens v levels i text head tail name ms h parts stops =
+    let b = begins_head v i text head tail name ms h parts stops in
+    let not_nesting = neither _ _ h.no_nesting in
+    let next : Rest = at_index (i + 1 + length h.first + length name.text) (h.middle ++ (h.last ++ tail)) in
+    (b.opens, element_opens v levels (at_index i text) name next b.opens (no_double v (at_index i text) b.once) b.reads_name ∙ names_part v levels i name next not_nesting.0 not_nesting.1)
 
 -- ---- nested descriptions
 
@@ -136,68 +146,74 @@ text_reads v inner levels i own rest bytes h =
 
 part_reads : (v : DescriptionVersion) (inner : Bool) (levels i : ℕ) (own rest : List ℕ) (c : Component) → SpellsComponent v own c → ReadsItem v inner levels i own rest (Part c)
 part_reads v inner levels i own rest c h =
-    let m : MeansAt v i h.head c = component_at v i own c h in
+    let g = head_elsewhere v 0 i h.head h.name h.modifiers h.is_head in
     let parts : own ++ rest ≡ h.head ++ right_bracket ∷ rest = rw h.parts (simp append_assoc) in
-    let b = begins_head v i (own ++ rest) h.head (right_bracket ∷ rest) m.name m.modifiers m.is_head parts (word_stops m.is_head.last (right_bracket ∷ rest) m.is_head.is_last refl) in
-    let not_nesting = neither _ _ m.is_head.no_nesting in
-    let next : Rest = at_index (i + 1 + length m.is_head.first + length m.name.text) (m.is_head.middle ++ (m.is_head.last ++ right_bracket ∷ rest)) in
+    let b = head_opens v levels i (own ++ rest) h.head (right_bracket ∷ rest) g.name_there g.modifiers g.is_head parts (word_stops g.is_head.last (right_bracket ∷ rest) g.is_head.is_last refl) in
     let len : i + length h.head + 1 ≡ i + length own = omega (arith, ap (length {A = ℕ}) h.parts, length-append h.head (right_bracket ∷ [])) in
     record {
-      goes = open_goes inner i (own ++ rest) b.opens;
+      goes = open_goes inner i (own ++ rest) b.0;
       reads =
-          element_opens v levels (at_index i (own ++ rest)) m.name next b.opens (no_double v (at_index i (own ++ rest)) b.once) b.reads_name
-          ∙ names_part v levels i m.name next not_nesting.0 not_nesting.1
-          ∙ ap (λ (r : Result (Component × Rest) Fault). r >>= λ c. ok_tree (Part c.0) c.1) (component_again v i h.head rest m.name m.modifiers c m.is_head m.means)
+          b.1
+          ∙ ap (λ (r : Result (Component × Rest) Fault). r >>= λ c. ok_tree (Part c.0) c.1) (component_again v i h.head rest g.name_there g.modifiers c g.is_head (g.agrees.ok c h.means))
           ∙ ap (ok_tree (Part c)) (same_index _ _ rest len);
     }
+
+-- ---- nested items
+
+-- a nesting name hands on to what reads behind it
+abbrev pub IsNesting : {A : Type 0} → DescriptionVersion → ℕ → List ℕ → List ℕ → Reader A → (A → Tree) → Type 0
+IsNesting v levels nesting what read make = (bracket : ℕ) (name next : Rest) → is_named v name.text nesting ≡ true → named_item v (nested_at v levels) bracket (name, next) ≡ nesting_at v what read make bracket next
+
+pub name_opens : {A : Type 0} (v : DescriptionVersion) (levels : ℕ) (nesting what : List ℕ) (read : Reader A) (make : A → Tree) → IsNesting v levels nesting what read make
+    → (i : ℕ) (text first word more : List ℕ) → text ≡ left_bracket ∷ (first ++ (word ++ more)) → Each is_space first → IsWord word → is_named v word nesting ≡ true → Stops is_word_byte more
+    → (begins left_bracket text ≡ true) × (element_at v (nested_at v levels) (at_index i text) ≡ nesting_at v what read make i (at_index (i + 1 + length first + length word) more))
+name_opens v levels nesting what read make nests i text first word more parts is_first is_word is_name stops =
+    let name : Rest = at_index (i + 1 + length first) word in
+    let next : Rest = at_index (i + 1 + length first + length word) more in
+    let opens : begins left_bracket text ≡ true = ap (begins left_bracket) parts in
+    let once = ap (λ (t : List ℕ). begins left_bracket (after 1 (at_index i t)).text) parts ∙ no_bracket_first first word more is_first is_word in
+    let named = ap (λ (t : List ℕ). name_at i (after 1 (at_index i t))) parts ∙ name_again i (i + 1) first name more is_first is_word refl stops in
+    (opens, element_opens v levels (at_index i text) name next opens (no_double v (at_index i text) once) named ∙ nests i name next is_name)
+
+pub opening_opens : {A : Type 0} (v : DescriptionVersion) (levels : ℕ) (nesting what : List ℕ) (read : Reader A) (make : A → Tree) → IsNesting v levels nesting what read make
+    → (i : ℕ) (text opening tail : List ℕ) → SpellsOpening v nesting opening → text ≡ opening ++ tail → begins left_bracket tail ≡ true
+    → (begins left_bracket text ≡ true) × (element_at v (nested_at v levels) (at_index i text) ≡ from_start v make i (read (at_index (i + length opening) tail)))
+opening_opens v levels nesting what read make nests i text opening tail o parts opens =
+    let c = name_opens v levels nesting what read make nests i text o.first o.word (o.blank ++ tail) (parts ∙ rw o.parts (simp append_assoc)) o.is_first o.is_word o.is_name (space_first o.blank tail o.some_space o.spaces) in
+    (c.0, c.1 ∙ from_opening v what read make i (i + 1 + length o.first + length o.word) o.blank tail o.spaces o.some_space opens ∙ ap (λ (j : ℕ). from_start v make i (read (at_index j tail))) (opening_len v nesting opening i o))
+
+-- where what is nested is read, and closed
+pub nesting_again : {A : Type 0} (v : DescriptionVersion) (levels : ℕ) (nesting what : List ℕ) (read : Reader A) (make : A → Tree) → IsNesting v levels nesting what read make
+    → (i : ℕ) (own rest : List ℕ) (Inside : List ℕ → Type 0) (h : SpellsNesting v nesting own Inside) (a : A) → begins left_bracket (h.inside ++ right_bracket ∷ rest) ≡ true
+    → read (at_index (i + length h.opening) (h.inside ++ right_bracket ∷ rest)) ≡ Ok (a, at_index (i + length h.opening + length h.inside) (right_bracket ∷ rest))
+    → (begins left_bracket (own ++ rest) ≡ true) × (element_at v (nested_at v levels) (at_index i (own ++ rest)) ≡ supported v i (make a) (at_index (i + length own) rest))
+nesting_again v levels nesting what read make nests i own rest Inside h a opens reads =
+    let c = opening_opens v levels nesting what read make nests i (own ++ rest) h.opening (h.inside ++ right_bracket ∷ rest) h.is_opening (rw h.parts (simp append_assoc)) opens in
+    let len : i + length h.opening + length h.inside + 1 ≡ i + length own = omega (arith, ap (length {A = ℕ}) h.parts, length-append h.opening (h.inside ++ right_bracket ∷ []), length-append h.inside (right_bracket ∷ [])) in
+    (c.0, c.1 ∙ ap (from_start v make i) reads ∙ closed_here v make i (i + length h.opening + length h.inside) rest a ∙ ap (supported v i (make a)) (same_index _ _ rest len))
 
 pub is_supported : (v : DescriptionVersion) (bracket : ℕ) (t : Tree) (rest : Rest) → is_three v ≡ true → supported v bracket t rest ≡ ok_tree t rest
 is_supported v bracket t rest three = cond_true (is_three v) (ok_tree t rest) (Err (unsupported_at bracket)) three
 
--- a nesting's text, and how long it is
-nesting_len : (v : DescriptionVersion) (nesting own : List ℕ) (Inside : List ℕ → Type 0) (i : ℕ) (h : SpellsNesting v nesting own Inside) → i + 1 + length h.is_opening.first + length h.is_opening.word + length h.is_opening.blank + length h.inside + 1 ≡ i + length own
-nesting_len v nesting own Inside i h = omega (arith, ap (length {A = ℕ}) h.parts, length-append h.opening (h.inside ++ right_bracket ∷ []), length-append h.inside (right_bracket ∷ []), opening_len v nesting h.opening h.is_opening)
+pub optional_nests : (v : DescriptionVersion) (levels : ℕ) → IsNesting v levels (codes "optional") (codes "whitespace after `optional`") (nested_at v levels) (Optional true)
+unfolding optional_at
+optional_nests v levels bracket name next h = names_optional v levels bracket name next h
 
-nesting_text : (v : DescriptionVersion) (nesting own rest : List ℕ) (Inside : List ℕ → Type 0) (h : SpellsNesting v nesting own Inside) → own ++ rest ≡ h.opening ++ (h.inside ++ right_bracket ∷ rest)
-nesting_text v nesting own rest Inside h = rw h.parts (simp append_assoc)
+pub first_nests : (v : DescriptionVersion) (levels : ℕ) → IsNesting v levels (codes "first") (codes "whitespace after `first`") (read_some v levels) first_of_list
+unfolding first_at
+first_nests v levels bracket name next h = names_first v levels bracket name next h
 
 optional_reads : (v : DescriptionVersion) (inner : Bool) (levels : ℕ) → NestedAgain v levels → (i : ℕ) (own rest : List ℕ) (t : Tree) → is_three v ≡ true → SpellsNesting v (codes "optional") own (λ inside. SpellsNested v levels inside t) → ReadsItem v inner levels i own rest (Optional true t)
-unfolding optional_at
 optional_reads v inner levels again i own rest t three h =
-    let o = h.is_opening in
-    let tail : List ℕ = h.inside ++ right_bracket ∷ rest in
-    let b = begins_opening v (codes "optional") i (own ++ rest) h.opening tail o (nesting_text v (codes "optional") own rest _ h) in
-    let name : Rest = at_index (i + 1 + length o.first) o.word in
-    let from : ℕ = i + 1 + length o.first + length o.word in
-    let next : Rest = at_index from (o.blank ++ tail) in
-    record {
-      goes = open_goes inner i (own ++ rest) b.opens;
-      reads =
-          element_opens v levels (at_index i (own ++ rest)) name next b.opens (no_double v (at_index i (own ++ rest)) b.once) b.reads_name
-          ∙ names_optional v levels i name next o.is_name
-          ∙ nesting_again v (codes "whitespace after `optional`") (nested_at v levels) (Optional true) i from o.blank h.inside rest t o.spaces o.some_space (nested_opens v levels h.inside (right_bracket ∷ rest) t h.is_inside) (again (from + length o.blank) h.inside (right_bracket ∷ rest) t h.is_inside refl)
-          ∙ is_supported v i (Optional true t) (at_index (from + length o.blank + length h.inside + 1) rest) three
-          ∙ ap (ok_tree (Optional true t)) (same_index _ _ rest (nesting_len v (codes "optional") own _ i h));
-    }
+    let r = nesting_again v levels (codes "optional") (codes "whitespace after `optional`") (nested_at v levels) (Optional true) (optional_nests v levels) i own rest _ h t (nested_opens v levels h.inside (right_bracket ∷ rest) t h.is_inside) (again (i + length h.opening) h.inside (right_bracket ∷ rest) t h.is_inside refl) in
+    record { goes = open_goes inner i (own ++ rest) r.0; reads = r.1 ∙ is_supported v i (Optional true t) (at_index (i + length own) rest) three }
 
 first_reads : (v : DescriptionVersion) (inner : Bool) (levels : ℕ) → NestedAgain v levels → (i : ℕ) (own rest : List ℕ) (ts : Trees) → is_three v ≡ true → SpellsNesting v (codes "first") own (λ inside. (0 < length inside) × SpellsAlternatives v levels inside ts) → ReadsItem v inner levels i own rest (First ts)
-unfolding first_at
 first_reads v inner levels again i own rest ts three h =
-    let o = h.is_opening in
-    let tail : List ℕ = h.inside ++ right_bracket ∷ rest in
-    let b = begins_opening v (codes "first") i (own ++ rest) h.opening tail o (nesting_text v (codes "first") own rest _ h) in
-    let name : Rest = at_index (i + 1 + length o.first) o.word in
-    let from : ℕ = i + 1 + length o.first + length o.word in
-    let next : Rest = at_index from (o.blank ++ tail) in
+    let r = nesting_again v levels (codes "first") (codes "whitespace after `first`") (read_some v levels) first_of_list (first_nests v levels) i own rest _ h (unlisted ts) (some_opens v levels ts h.inside (right_bracket ∷ rest) h.is_inside.0 h.is_inside.1) (some_again v levels again ts (i + length h.opening) h.inside (right_bracket ∷ rest) h.is_inside.1 refl refl) in
     record {
-      goes = open_goes inner i (own ++ rest) b.opens;
-      reads =
-          element_opens v levels (at_index i (own ++ rest)) name next b.opens (no_double v (at_index i (own ++ rest)) b.once) b.reads_name
-          ∙ names_first v levels i name next o.is_name
-          ∙ nesting_again v (codes "whitespace after `first`") (read_some v levels) first_of_list i from o.blank h.inside rest (unlisted ts) o.spaces o.some_space (some_opens v levels ts h.inside (right_bracket ∷ rest) h.is_inside.0 h.is_inside.1) (some_again v levels again ts (from + length o.blank) h.inside (right_bracket ∷ rest) h.is_inside.1 refl refl)
-          ∙ is_supported v i (first_of_list (unlisted ts)) (at_index (from + length o.blank + length h.inside + 1) rest) three
-          ∙ ap (ok_tree (first_of_list (unlisted ts))) (same_index _ _ rest (nesting_len v (codes "first") own _ i h))
-          ∙ ap (λ (ts : Trees). ok_tree (First ts) (at_index (i + length own) rest)) (listed_again ts);
+      goes = open_goes inner i (own ++ rest) r.0;
+      reads = r.1 ∙ is_supported v i (first_of_list (unlisted ts)) (at_index (i + length own) rest) three ∙ ap (λ (ts : Trees). ok_tree (First ts) (at_index (i + length own) rest)) (listed_again ts);
     }
 
 pub item_reads : (v : DescriptionVersion) (inner : Bool) (levels : ℕ) → NestedAgain v levels → (i : ℕ) (own rest : List ℕ) (t : Tree) → SpellsItem v inner levels own rest t → ReadsItem v inner levels i own rest t

@@ -6,6 +6,7 @@ pub mod Takes
 pub mod Modifiers
 pub mod ModifiersComplete
 pub mod Meaning
+pub mod Places
 pub mod ComponentsSound
 pub mod ComponentsComplete
 pub mod TextsSound

@@ -13,7 +13,8 @@ use Rattle.description_lexer.specs.Words.{Modifier, has_word, modifier_in, modif
 use Rattle.description_lexer.proofs.Readings.{bind_ok, ok_is, made_err}
 use Rattle.description_lexer.proofs.Shorter.{modifier_lt}
 use Rattle.description_grammar.specs.Heads.{Each, Stops, IsWord, SpellsModifier, SpellsModifiers}
-use Rattle.description_grammar.specs.Faulty.{BadWord}
+use Rattle.description_grammar.specs.Faulty.{Behind, BadWord}
+use Rattle.description_grammar.proofs.Places.{at_first}
 use Rattle.description_grammar.proofs.Results.{lt_of, above, flip_false, flip_true}
 use Rattle.description_grammar.proofs.ValueOrFault.{Reads, gives, refuses, either, in_turn, many_read}
 use Rattle.description_grammar.proofs.Runs.{each_run, each_of_take, each_of_drop, each_whole, stops_past, stops_from_none, none_from_stops, past_index}
@@ -45,9 +46,9 @@ record IsModifierWord (s : Rest) (m : Modifier) : Type 0 where
   key_at : m.key.index ≡ s.index
   value_at : m.value.index ≡ s.index + length m.key.text + 1
 
-word_reads : (s : Rest) → Each is_word_byte s.text → Reads (IsModifierWord s) (BadWord s.index s.text) (modifier_in s)
+word_reads : (s : Rest) → Each is_word_byte s.text → Reads (IsModifierWord s) (Behind s.index (BadWord s.text)) (modifier_in s)
 unfolding modifier_in
-word_reads s each = either _ _ _ (λ a. refuses _ (inl (each_whole is_no_colon s.text (eqb-true _ _ a), refl))) (λ a. cut a)
+word_reads s each = either _ _ _ (λ a. refuses _ (InvalidModifier s.text 0, inl (each_whole is_no_colon s.text (eqb-true _ _ a), refl), at_first (λ i. InvalidModifier s.text i) s.index)) (λ a. cut a)
   where
     k : ℕ
     k = prefix_len is_no_colon s.text
@@ -55,16 +56,16 @@ word_reads s each = either _ _ _ (λ a. refuses _ (inl (each_whole is_no_colon s
     len : length (take k s.text) ≡ k
     len = length-prefix_len is_no_colon s.text
 
-    cut : eqb k (length s.text) ≡ false → Reads (IsModifierWord s) (BadWord s.index s.text) (cond (eqb k 0) (Err (InvalidModifier [] s.index)) (cond (eqb (k + 1) (length s.text)) (Err (InvalidModifier [] (s.index + length s.text))) (Ok (record { key = run is_no_colon s; value = after (k + 1) s }))))
+    cut : eqb k (length s.text) ≡ false → Reads (IsModifierWord s) (Behind s.index (BadWord s.text)) (cond (eqb k 0) (Err (InvalidModifier [] s.index)) (cond (eqb (k + 1) (length s.text)) (Err (InvalidModifier [] (s.index + length s.text))) (Ok (record { key = run is_no_colon s; value = after (k + 1) s }))))
     cut a =
         let lt : k < length s.text = lt_of k (length s.text) (prefix_len-le-length is_no_colon s.text) a in
         let at_colon : drop k s.text ≡ colon ∷ drop (k + 1) s.text = colon_there s.text lt in
         let parts : s.text ≡ take k s.text ++ colon ∷ drop (k + 1) s.text = sym (take-append-drop k s.text) ∙ ap (λ (t : List ℕ). take k s.text ++ t) at_colon in
-        either _ _ _ (λ b. refuses _ (inr (inl (drop (k + 1) s.text, subst (λ (n : ℕ). drop n s.text ≡ colon ∷ drop (k + 1) s.text) (eqb-true _ _ b) at_colon, refl)))) (λ (b : eqb k 0 ≡ false). either _ _ _ (
+        either _ _ _ (λ b. refuses _ (InvalidModifier [] 0, inr (inl (drop (k + 1) s.text, subst (λ (n : ℕ). drop n s.text ≡ colon ∷ drop (k + 1) s.text) (eqb-true _ _ b) at_colon, refl)), at_first (λ i. InvalidModifier [] i) s.index)) (λ (b : eqb k 0 ≡ false). either _ _ _ (
         λ c.
         let last : k + 1 ≡ length s.text = eqb-true _ _ c in
         let ends : drop (k + 1) s.text ≡ [] = nil_from_length _ (omega (arith, length-drop (k + 1) s.text)) in
-        refuses _ (inr (inr (take k s.text, omega (arith, len, above k b), each_run is_no_colon s.text, rw ends at parts, refl)))
+        refuses _ (InvalidModifier [] (length s.text), inr (inr (take k s.text, omega (arith, len, above k b), each_run is_no_colon s.text, rw ends at parts, refl)), refl)
         ) (
         λ c.
         let more : k + 1 < length s.text = lt_of (k + 1) (length s.text) (omega arith) c in
@@ -182,7 +183,7 @@ pub record Refuses (s : Rest) (e : Fault) : Type 0 where
   pub apart : 0 < length last
   pub is_word : IsWord word
   pub no_word : Stops is_word_byte rest
-  pub bad : BadWord (s.index + length own + length last) word e
+  pub bad : Behind (s.index + length own + length last) (BadWord word) e
 
 pub modifiers_read : (s : Rest) → Stops is_word_byte s.text → Reads (λ (x : List Modifier × Rest). TakesModifiers s x.0 x.1) (Refuses s) (modifiers_at s)
 unfolding modifiers_at modifier_at
@@ -221,5 +222,5 @@ modifiers_read s stops = in_turn _ _ (many_read no_modifier modifier_at modifier
           apart = space_before f.bad words.no_word there;
           is_word = (omega (arith, some_there start there, length-prefix_len is_word_byte start.text), each_run is_word_byte start.text);
           no_word = stops_past is_word_byte start.text;
-          bad = subst (λ (i : ℕ). BadWord i word.text e) (omega (arith, words.takes.index, past_index is_space f.bad)) ((word_reads word (each_run is_word_byte start.text)).err e is_bad);
+          bad = subst (λ (i : ℕ). Behind i (BadWord word.text) e) (omega (arith, words.takes.index, past_index is_space f.bad)) ((word_reads word (each_run is_word_byte start.text)).err e is_bad);
         }

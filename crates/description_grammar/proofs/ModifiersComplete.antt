@@ -4,6 +4,7 @@ use Rattle.std.specs.List.{prefix_len}
 use Rattle.std.proofs.lemmas.List.{length-append, append-nil, take_at}
 use Rattle.base.specs.Bytes.{colon}
 use Rattle.description_lexer.specs.Fault.{Fault, InvalidModifier}
+use Rattle.description_lexer.specs.Further.{further}
 use Rattle.description_lexer.specs.Answer.{◌>>=◌}
 use Rattle.description_lexer.specs.Text.{Rest, is_space, is_word_byte, is_no_colon, run, past}
 use Rattle.description_lexer.specs.Words.{Modifier, has_word, modifier_in, modifier_at, no_modifier, modifiers_at}
@@ -11,6 +12,7 @@ use Rattle.description_lexer.proofs.Shorter.{modifier_lt}
 use Rattle.description_grammar.specs.Heads.{Each, Stops, IsWord, SpellsModifiers}
 use Rattle.description_grammar.specs.Faulty.{BadWord}
 use Rattle.description_grammar.proofs.Results.{differs, not_zero, eqb_same}
+use Rattle.description_grammar.proofs.Places.{at_once}
 use Rattle.description_grammar.proofs.Runs.{at_index, same_index, each_append, run_again, run_is, past_is, space_stops, word_stops, space_first}
 use Rattle.description_lexer.proofs.Steps.{Steps, steps_many, steps_failing}
 
@@ -37,23 +39,21 @@ modifier_again at m is_key no_colon is_value key_at value_at =
     made : {i j : ℕ} → i ≡ m.key.index → j ≡ m.value.index → done (record { key = at_index i m.key.text; value = at_index j m.value.text }) ≡ done m
     made {i} {j} e f = ap (λ (i : ℕ). done (record { key = at_index i m.key.text; value = at_index j m.value.text })) e ∙ ap (λ (j : ℕ). done (record { key = m.key; value = at_index j m.value.text })) f
 
-bad_word_again : (at : ℕ) (word : List ℕ) (e : Fault) → 0 < length word → BadWord at word e → modifier_in (at_index at word) ≡ Err e
+bad_word_again : (at : ℕ) (word : List ℕ) (e : Fault) → 0 < length word → BadWord word e → modifier_in (at_index at word) ≡ Err (further at e)
 unfolding modifier_in
 bad_word_again at word e some (inl (each, f)) =
     let n : prefix_len is_no_colon word ≡ length word = ap (prefix_len is_no_colon) (sym (append-nil word)) ∙ run_again is_no_colon word [] each tt in
-    rw (n, eqb_same (length word) (length word) refl, f) refl
+    rw (n, eqb_same (length word) (length word) refl) (at_once (λ i. InvalidModifier word i) at e refl f)
 bad_word_again at word e some (inr (inl (value, parts, f))) =
-    let P : List ℕ → Type 0 = λ w. modifier_in (at_index at w) ≡ Err e in
     let a : eqb 0 (length (colon ∷ value)) ≡ false = differs 0 (length (colon ∷ value)) (omega arith) in
-    subst P (sym parts) (rw (a, f) refl)
+    rw (parts, a) (at_once (λ i. InvalidModifier [] i) at e refl f)
 bad_word_again at word e some (inr (inr (key, some_key, each, parts, f))) =
-    let P : List ℕ → Type 0 = λ w. modifier_in (at_index at w) ≡ Err (InvalidModifier [] (at + length w)) in
     let n = run_again is_no_colon key (colon ∷ []) each refl in
     let len = length-append key (colon ∷ []) in
     let a : eqb (length key) (length (key ++ colon ∷ [])) ≡ false = differs _ _ (omega (arith, len)) in
     let b : eqb (length key) 0 ≡ false = not_zero _ some_key in
     let c : eqb (length key + 1) (length (key ++ colon ∷ [])) ≡ true = eqb_same _ _ (omega (arith, len)) in
-    rw f (subst P (sym parts) (rw (n, a, b, c) refl))
+    rw (f, parts, n, a, b, c) refl
 
 -- ---- a word behind white space
 
@@ -150,11 +150,11 @@ modifiers_again ms at own last rest spelled is_last no_s no_w =
     ap (λ (r : Result (List Modifier × Rest) Fault). r >>= λ all. Ok (all.0, past is_space all.1)) all ∙ ap (λ (p : Rest). done (ms, p)) start
 
 pub bad_modifiers_again : (ms : List Modifier) (at : ℕ) (own last word rest : List ℕ) (e : Fault) → SpellsModifiers at own ms → Each is_space last → 0 < length last → IsWord word → Stops is_word_byte rest
-    → BadWord (at + length own + length last) word e → modifiers_at (at_index at (own ++ (last ++ (word ++ rest)))) ≡ Err e
+    → BadWord word e → modifiers_at (at_index at (own ++ (last ++ (word ++ rest)))) ≡ Err (further (at + length own + length last) e)
 unfolding modifiers_at
 bad_modifiers_again ms at own last word rest e spelled is_last apart is_w stops bad =
     let tail : List ℕ = last ++ (word ++ rest) in
     let steps = steps_again ms at own tail spelled (space_first last (word ++ rest) apart is_last) in
-    let refused = bad_step (at + length own) last word rest e is_last is_w stops (bad_word_again (at + length own + length last) word e is_w.0 bad) in
-    let all = steps_failing no_modifier modifier_at modifier_lt (suc (length (own ++ tail))) (at_index at (own ++ tail)) ms (at_index (at + length own) tail) e (omega arith) steps (going_on (at + length own) last word rest is_last is_w stops) refused in
+    let refused = bad_step (at + length own) last word rest (further (at + length own + length last) e) is_last is_w stops (bad_word_again (at + length own + length last) word e is_w.0 bad) in
+    let all = steps_failing no_modifier modifier_at modifier_lt (suc (length (own ++ tail))) (at_index at (own ++ tail)) ms (at_index (at + length own) tail) (further (at + length own + length last) e) (omega arith) steps (going_on (at + length own) last word rest is_last is_w stops) refused in
     ap (λ (r : Result (List Modifier × Rest) Fault). r >>= λ all. Ok (all.0, past is_space all.1)) all

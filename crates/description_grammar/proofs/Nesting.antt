@@ -5,7 +5,7 @@ use Rattle.std.proofs.lemmas.List.{length-append}
 use Rattle.std.proofs.lemmas.List.Folds.{length-prefix_len}
 use Rattle.std.proofs.lemmas.Bool.{eqb-true}
 use Rattle.base.specs.Bytes.{left_bracket, right_bracket}
-use Rattle.description_lexer.specs.Fault.{Fault, Expected}
+use Rattle.description_lexer.specs.Fault.{Fault, UnclosedOpeningBracket, Expected, NotSupported}
 use Rattle.description_lexer.specs.Answer.{◌>>=◌}
 use Rattle.description_items.specs.Tree.{Tree}
 use Rattle.description_lexer.specs.declared.version.DescriptionVersion.{DescriptionVersion}
@@ -14,9 +14,10 @@ use Rattle.description_lexer.specs.Text.{Rest, is_space, run, past, after}
 use Rattle.description_lexer.specs.Words.{is_named, begins, closed_at}
 use Rattle.description_grammar.specs.Reading.{is_same, opened_at, supported}
 use Rattle.description_grammar.specs.Heads.{Each, Stops, SpellsOpening, SpellsNesting}
-use Rattle.description_grammar.specs.Faulty.{Wrong, LacksSpace, LacksBracket, BadNesting}
+use Rattle.description_grammar.specs.Faulty.{Behind, Wrong, LacksSpace, LacksBracket, BadNesting}
 use Rattle.description_grammar.proofs.Results.{lt_of}
 use Rattle.description_grammar.proofs.ValueOrFault.{Reads, gives, refuses, either, in_turn}
+use Rattle.description_grammar.proofs.Places.{at_first, behind_both}
 use Rattle.description_grammar.proofs.Runs.{each_run, stops_past, stops_from_none}
 use Rattle.description_grammar.proofs.Takes.{Takes, takes_then, takes_run, takes_length, takes_byte, closed_reads}
 use Rattle.description_grammar.proofs.ComponentsSound.{TakesName}
@@ -91,7 +92,7 @@ pub record RefusesInside (Before : List ℕ → Type 0) (Deeper : Wrong) (start 
   pub bad : Rest
   pub takes : Takes start before bad
   pub is_before : Before before
-  pub is_bad : Deeper bad.index bad.text e
+  pub is_bad : Behind bad.index (Deeper bad.text) e
 
 abbrev pub Reader : Type 0 → Type 0
 Reader A = Rest → Result (A × Rest) Fault
@@ -111,43 +112,51 @@ pub record TakesNesting {A : Type 0} (v : DescriptionVersion) (nesting : List �
 
 -- where an opening is not read, it has one of the first two faults
 opening_refused : (v : DescriptionVersion) (nesting what : List ℕ) (s name next : Rest) (e : Fault) → begins left_bracket s.text ≡ true → TakesName (after 1 s) name next → is_named v name.text nesting ≡ true → Unopened what next e
-    → LacksSpace v nesting what s.index s.text e ⊎ LacksBracket v nesting s.index s.text e
+    → Behind s.index (LacksSpace v nesting what s.text) e ⊎ Behind s.index (LacksBracket v nesting s.text) e
 opening_refused v nesting what s name next e opens n is_name (inl g) =
     let first : Takes s (left_bracket ∷ (n.first ++ name.text)) next = takes_then s (left_bracket ∷ []) (after 1 s) (n.first ++ name.text) next (takes_byte left_bracket s opens) n.takes in
-    let i : next.index ≡ s.index + 1 + length n.first + length name.text = omega (arith, first.index, length-append n.first name.text) in
-    inl (record {
-      first = n.first;
-      word = name.text;
-      rest = next.text;
-      parts = first.parts ∙ ap (λ (t : List ℕ). left_bracket ∷ t) (append_assoc n.first name.text next.text);
-      is_first = n.is_first;
-      is_word = n.is_name;
-      is_name = is_name;
-      no_space = g.0;
-      no_word = n.no_word;
-      fault_is = g.1 ∙ ap (λ (i : ℕ). Expected what i) i;
-    })
+    let i : next.index ≡ s.index + (1 + length n.first + length name.text) = omega (arith, first.index, length-append n.first name.text) in
+    inl (
+      Expected what (1 + length n.first + length name.text),
+      record {
+        first = n.first;
+        word = name.text;
+        rest = next.text;
+        parts = first.parts ∙ ap (λ (t : List ℕ). left_bracket ∷ t) (append_assoc n.first name.text next.text);
+        is_first = n.is_first;
+        is_word = n.is_name;
+        is_name = is_name;
+        no_space = g.0;
+        no_word = n.no_word;
+        fault_is = refl;
+      },
+      g.1 ∙ ap (λ (i : ℕ). Expected what i) i,
+    )
 opening_refused v nesting what s name next e opens n is_name (inr g) =
     let o : MakesOpening v nesting s (past is_space next) = opening_of v nesting s name next (past is_space next) opens n is_name g.0 in
-    inr (record {
-      opening = o.opening;
-      rest = (past is_space next).text;
-      parts = o.takes.parts;
-      is_opening = o.is_opening;
-      no_space = g.0.no_space;
-      no_bracket = g.1;
-      fault_is = g.2 ∙ ap (λ (i : ℕ). Expected (codes "opening bracket") i) o.takes.index;
-    })
+    inr (
+      Expected (codes "opening bracket") (length o.opening),
+      record {
+        opening = o.opening;
+        rest = (past is_space next).text;
+        parts = o.takes.parts;
+        is_opening = o.is_opening;
+        no_space = g.0.no_space;
+        no_bracket = g.1;
+        fault_is = refl;
+      },
+      g.2 ∙ ap (λ (i : ℕ). Expected (codes "opening bracket") i) o.takes.index,
+    )
 
 pub nesting_reads : {A : Type 0} (v : DescriptionVersion) (nesting what : List ℕ) (read : Reader A) (make : A → Tree) (Means : List ℕ → A → Type 0) (Inside : List ℕ → List ℕ → Type 0) (Before : List ℕ → Type 0) (Deeper : Wrong)
     → ((start : Rest) → begins left_bracket start.text ≡ true → Reads (TakesInside Means Inside start) (RefusesInside Before Deeper start) (read start))
     → (s name next : Rest) → begins left_bracket s.text ≡ true → TakesName (after 1 s) name next → is_named v name.text nesting ≡ true
-    → Reads (TakesNesting v nesting Means make s) (BadNesting v nesting what Before Inside Deeper s.index s.text) (nesting_at v what read make s.index next)
+    → Reads (TakesNesting v nesting Means make s) (Behind s.index (BadNesting v nesting what Before Inside Deeper s.text)) (nesting_at v what read make s.index next)
 nesting_reads {A} v nesting what read make Means Inside Before Deeper reads s name next opens n is_name =
-    in_turn _ _ (opened_reads what next) (λ e h. elim (opening_refused v nesting what s name next e opens n is_name h) [ inl g ↦ inl g | inr g ↦ inr (inl g) ]) (λ start blank. begun start blank.1 (opening_of v nesting s name next start opens n is_name blank.0))
+    in_turn _ _ (opened_reads what next) (λ e h. elim (opening_refused v nesting what s name next e opens n is_name h) [ inl g ↦ (g.0, inl g.1, g.2) | inr g ↦ (g.0, inr (inl g.1), g.2) ]) (λ start blank. begun start blank.1 (opening_of v nesting s name next start opens n is_name blank.0))
   where
     Whole : Result (Tree × Rest) Fault → Type 0
-    Whole r = Reads (TakesNesting v nesting Means make s) (BadNesting v nesting what Before Inside Deeper s.index s.text) r
+    Whole r = Reads (TakesNesting v nesting Means make s) (Behind s.index (BadNesting v nesting what Before Inside Deeper s.text)) r
 
     ended : (start : Rest) (o : MakesOpening v nesting s start) (x : A × Rest) (i : TakesInside Means Inside start x) (rest : Rest) → Takes x.1 (right_bracket ∷ []) rest → Whole (supported v s.index (make x.0) rest)
     ended start o x i rest close =
@@ -155,33 +164,45 @@ nesting_reads {A} v nesting what read make Means Inside Before Deeper reads s na
         let own : List ℕ = o.opening ++ (i.own ++ right_bracket ∷ []) in
         let whole : Takes s own rest = takes_then s o.opening start (i.own ++ right_bracket ∷ []) rest o.takes inner in
         either _ _ _ (λ three. gives _ (record { own = own; takes = whole; some = omega (arith, length-append o.opening (i.own ++ right_bracket ∷ []), length-append i.own (right_bracket ∷ [])); three = three; value = x.0; made = refl; spells = record { opening = o.opening; inside = i.own; parts = refl; is_opening = o.is_opening; is_inside = i.means } })) (
-        λ older. refuses _ (inr (inr (inr (inr (record {
-          own = own;
-          rest = rest.text;
-          parts = whole.parts;
-          not_three = older;
-          is_own = record { opening = o.opening; inside = i.own; parts = refl; is_opening = o.is_opening; is_inside = subst (λ (t : List ℕ). Inside i.own t) close.parts i.inside };
-          fault_is = refl;
-        })))))
+        λ older. refuses _ (
+          NotSupported (codes "nested item") (codes "versions 1 and 2") 0,
+          inr (inr (inr (inr (record {
+            own = own;
+            rest = rest.text;
+            parts = whole.parts;
+            not_three = older;
+            is_own = record { opening = o.opening; inside = i.own; parts = refl; is_opening = o.is_opening; is_inside = subst (λ (t : List ℕ). Inside i.own t) close.parts i.inside };
+            fault_is = refl;
+          })))),
+          at_first (λ i. NotSupported (codes "nested item") (codes "versions 1 and 2") i) s.index,
+        )
         )
 
     begun : (start : Rest) → begins left_bracket start.text ≡ true → MakesOpening v nesting s start → Whole (read start >>= λ x. closed_at s.index x.1 >>= λ rest. supported v s.index (make x.0) rest)
-    begun start at_bracket o = in_turn _ _ (reads start at_bracket) (λ e r. inr (inr (inl (record {
-      opening = o.opening;
-      before = r.before;
-      rest = r.bad.text;
-      parts = o.takes.parts ∙ ap (λ (t : List ℕ). o.opening ++ t) r.takes.parts;
-      is_opening = o.is_opening;
-      is_before = r.is_before;
-      is_bad = subst (λ (i : ℕ). Deeper i r.bad.text e) (omega (arith, r.takes.index, o.takes.index)) r.is_bad;
-    })))) (λ x i. in_turn _ _ (closed_reads s.index x.1) (λ e k. inr (inr (inr (inl (record {
-      opening = o.opening;
-      inside = i.own;
-      rest = x.1.text;
-      parts = o.takes.parts ∙ ap (λ (t : List ℕ). o.opening ++ t) i.takes.parts;
-      is_opening = o.is_opening;
-      is_inside = i.inside;
-      no_space = i.no_space;
-      open_still = k.0;
-      fault_is = k.1;
-    }))))) (λ rest close. ended start o x i rest close))
+    begun start at_bracket o = in_turn _ _ (reads start at_bracket) (λ e r. let b = behind_both s.index (length o.opening + length r.before) r.bad.index (Deeper r.bad.text) e (omega (arith, r.takes.index, o.takes.index)) r.is_bad in (
+      b.0,
+      inr (inr (inl (record {
+        opening = o.opening;
+        before = r.before;
+        rest = r.bad.text;
+        parts = o.takes.parts ∙ ap (λ (t : List ℕ). o.opening ++ t) r.takes.parts;
+        is_opening = o.is_opening;
+        is_before = r.is_before;
+        is_bad = b.1;
+      }))),
+      b.2,
+    )) (λ x i. in_turn _ _ (closed_reads s.index x.1) (λ e k. (
+      UnclosedOpeningBracket 0,
+      inr (inr (inr (inl (record {
+        opening = o.opening;
+        inside = i.own;
+        rest = x.1.text;
+        parts = o.takes.parts ∙ ap (λ (t : List ℕ). o.opening ++ t) i.takes.parts;
+        is_opening = o.is_opening;
+        is_inside = i.inside;
+        no_space = i.no_space;
+        open_still = k.0;
+        fault_is = refl;
+      })))),
+      k.1 ∙ at_first (λ i. UnclosedOpeningBracket i) s.index,
+    )) (λ rest close. ended start o x i rest close))

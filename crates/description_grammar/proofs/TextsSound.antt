@@ -13,9 +13,11 @@ use Rattle.description_lexer.specs.Version.{is_one}
 use Rattle.description_lexer.specs.Text.{Rest, is_plain, after}
 use Rattle.description_lexer.specs.Words.{begins, is_escape, escape_at, literal_len}
 use Rattle.description_lexer.proofs.Readings.{chosen}
+use Rattle.description_lexer.specs.Further.{further}
 use Rattle.description_grammar.specs.Reading.{doubled_at, text_at}
 use Rattle.description_grammar.specs.Heads.{Stops, MayBegin, SpellsLiteral, IsEscapable, SpellsEscape}
-use Rattle.description_grammar.specs.Faulty.{BadEscape}
+use Rattle.description_grammar.specs.Faulty.{Behind, BadEscape}
+use Rattle.description_grammar.proofs.Places.{at_first, at_once}
 use Rattle.description_grammar.proofs.Results.{both, not_first, or_is}
 use Rattle.description_grammar.proofs.ValueOrFault.{Reads, gives, refuses, either}
 use Rattle.description_grammar.proofs.Runs.{at_index, same_index, each_run, stops_past, stops_front, stops_append, run_again}
@@ -64,16 +66,16 @@ escaped v inner s b h is_b back next =
     spelled Two h = (b, is_b, refl, refl)
     spelled Three h = (b, is_b, refl, refl)
 
-escape_reads : (v : DescriptionVersion) (inner : Bool) (s : Rest) → is_one v ≡ false → begins backslash s.text ≡ true → Reads (λ (x : List ℕ × Rest). TakesText v inner s x.0 x.1) (BadEscape v s.index s.text) (escape_at s)
+escape_reads : (v : DescriptionVersion) (inner : Bool) (s : Rest) → is_one v ≡ false → begins backslash s.text ≡ true → Reads (λ (x : List ℕ × Rest). TakesText v inner s x.0 x.1) (Behind s.index (BadEscape v s.text)) (escape_at s)
 unfolding escape_at
 escape_reads v inner s h back = either _ _ _ (
     λ g. gives _ (elim (or_is (begins left_bracket (after 1 s).text) (begins backslash (after 1 s).text) (begins right_bracket (after 1 s).text) g) [
       | inl k ↦ escaped v inner s left_bracket h (inl refl) back k
       | inr k ↦ elim k [ inl k ↦ escaped v inner s backslash h (inr (inl refl)) back k | inr k ↦ escaped v inner s right_bracket h (inr (inr refl)) back k ]
     ])
-    ) (λ g. refuses _ (bad v h g))
+    ) (λ g. refuses _ (Expected (codes "valid escape sequence") 0, bad v h g, at_first (λ i. Expected (codes "valid escape sequence") i) s.index))
   where
-    bad : (v : DescriptionVersion) → is_one v ≡ false → is_escape (after 1 s).text ≡ false → BadEscape v s.index s.text (Expected (codes "valid escape sequence") s.index)
+    bad : (v : DescriptionVersion) → is_one v ≡ false → is_escape (after 1 s).text ≡ false → BadEscape v s.text (Expected (codes "valid escape sequence") 0)
     bad One h g = absurd cc
     bad Two h g = (drop 1 s.text, begins_cons backslash s.text back, g, refl)
     bad Three h g = (drop 1 s.text, begins_cons backslash s.text back, g, refl)
@@ -108,7 +110,7 @@ literal_takes v inner s some h i k = go s.text refl some h i k
         let whole : TakesText v inner (record { index = s.index; text = b ∷ bs }) (take (literal_len v (b ∷ bs)) (b ∷ bs)) (after (literal_len v (b ∷ bs)) (record { index = s.index; text = b ∷ bs })) = rw one item in
         subst (λ (t : List ℕ). TakesText v inner (record { index = s.index; text = t }) (take (literal_len v t) t) (after (literal_len v t) (record { index = s.index; text = t }))) e whole
 
-pub text_reads : (v : DescriptionVersion) (inner : Bool) (s : Rest) → 0 < length s.text → begins left_bracket s.text ≡ false → (inner && begins right_bracket s.text) ≡ false → Reads (λ (x : List ℕ × Rest). TakesText v inner s x.0 x.1) (BadEscape v s.index s.text) (text_at v s)
+pub text_reads : (v : DescriptionVersion) (inner : Bool) (s : Rest) → 0 < length s.text → begins left_bracket s.text ≡ false → (inner && begins right_bracket s.text) ≡ false → Reads (λ (x : List ℕ × Rest). TakesText v inner s x.0 x.1) (Behind s.index (BadEscape v s.text)) (text_at v s)
 unfolding text_at
 text_reads v inner s some h i = either _ _ _ (λ g. let p = not_first (is_one v) (begins backslash s.text) g in escape_reads v inner s p.0 p.1) (λ g. gives _ (literal_takes v inner s some h i g))
 
@@ -220,13 +222,13 @@ pub record RefusesText (v : DescriptionVersion) (at : ℕ) (text : List ℕ) (e 
   pub no_end : begins right_bracket text ≡ false
   pub single : doubled_at v (at_index at text) ≡ None
   pub no_bracket : begins left_bracket text ≡ false
-  pub refuses : text_at v (at_index at text) ≡ Err e
+  pub refuses : text_at v (at_index at text) ≡ Err (further at e)
 
-escape_refused : (v : DescriptionVersion) (at : ℕ) (rest : List ℕ) (e : Fault) → is_one v ≡ false → is_escape rest ≡ false → e ≡ Expected (codes "valid escape sequence") at → RefusesText v at (backslash ∷ rest) e
+escape_refused : (v : DescriptionVersion) (at : ℕ) (rest : List ℕ) (e : Fault) → is_one v ≡ false → is_escape rest ≡ false → e ≡ Expected (codes "valid escape sequence") 0 → RefusesText v at (backslash ∷ rest) e
 unfolding text_at escape_at
-escape_refused v at rest e h none f = record { some = omega arith; no_end = refl; single = no_doubled v (at_index at (backslash ∷ rest)) refl; no_bracket = refl; refuses = rw (h, none, f) refl }
+escape_refused v at rest e h none f = record { some = omega arith; no_end = refl; single = no_doubled v (at_index at (backslash ∷ rest)) refl; no_bracket = refl; refuses = rw (h, none) (at_once (λ i. Expected (codes "valid escape sequence") i) at e refl f) }
 
-pub bad_escape_again : (v : DescriptionVersion) (at : ℕ) (text : List ℕ) (e : Fault) → BadEscape v at text e → RefusesText v at text e
+pub bad_escape_again : (v : DescriptionVersion) (at : ℕ) (text : List ℕ) (e : Fault) → BadEscape v text e → RefusesText v at text e
 bad_escape_again One at text e h = absurd h
 bad_escape_again Two at text e (rest, parts, none, f) = subst (λ (t : List ℕ). RefusesText Two at t e) (sym parts) (escape_refused Two at rest e refl none f)
 bad_escape_again Three at text e (rest, parts, none, f) = subst (λ (t : List ℕ). RefusesText Three at t e) (sym parts) (escape_refused Three at rest e refl none f)
