@@ -23,13 +23,11 @@ use Rattle.description_grammar.specs.Spelling.{SpellsItems, SpellsAlternatives}
 use Rattle.description_grammar.specs.Faulty.{Behind, Wrong, IsSingle, LacksName, HasBadWord, IsUnclosed, MeansNothing, BadEscape, BadNesting, IsOne, AreSome, IsNothing, AreBefore, BadItem, FaultyItems, FaultyNested, Faulty}
 use Rattle.description_grammar.proofs.Results.{cond_false, and_false, either_not, not_zero}
 use Rattle.description_grammar.proofs.Places.{at_once, behind_further, further_none, further_on}
-use Rattle.description_grammar.proofs.Runs.{at_index, word_stops, space_first}
-use Rattle.description_grammar.proofs.Takes.{stops_91}
+use Rattle.description_grammar.proofs.Runs.{at_index, word_stops, space_first, stops_91}
 use Rattle.description_grammar.proofs.Meaning.{head_elsewhere}
 use Rattle.description_grammar.proofs.TextsSound.{RefusesText, bad_escape_again}
-use Rattle.description_grammar.proofs.ComponentsComplete.{no_name_again, bad_word_refused, unclosed_refused, nothing_refused}
-use Rattle.description_grammar.proofs.Nesting.{Reader}
-use Rattle.description_grammar.proofs.NestingComplete.{opening_len, from_start, unclosed_here, lacks_space_again, lacks_bracket_again, ok_tree}
+use Rattle.description_grammar.proofs.ComponentText.{no_name_again, bad_word_refused, unclosed_refused, nothing_refused}
+use Rattle.description_grammar.proofs.Nesting.{Reader, opening_len, from_start, unclosed_here, lacks_space_again, lacks_bracket_again, ok_tree}
 use Rattle.description_grammar.proofs.Items.{alternatives_shorten, items_shorten, nested_reads, first_of_list, read_some, named_item}
 use Rattle.description_grammar.proofs.ItemsComplete.{unlisted, open_goes, no_double, head_opens, IsNesting, name_opens, opening_opens, nesting_again, optional_nests, first_nests, nested_opens, alternatives_steps, some_opens, some_again, items_steps, nested_again}
 

@@ -21,10 +21,9 @@ use Rattle.description_grammar.specs.Faulty.{Behind, IsSingle, IsOne, AreSome, I
 use Rattle.description_grammar.proofs.Results.{neither, either_not, above, flip_false, flip_true}
 use Rattle.description_grammar.proofs.ValueOrFault.{Reads, gives, refuses, either, in_turn, reads_as, many_read}
 use Rattle.description_grammar.proofs.Places.{further_none, at_first, behind_both}
-use Rattle.description_grammar.proofs.Runs.{each_run, stops_past}
-use Rattle.description_grammar.proofs.Takes.{Takes, takes_then, takes_run, takes_length, takes_byte, begins_cons, stops_91, closed_reads}
+use Rattle.description_grammar.proofs.Runs.{each_run, stops_past, Takes, takes_then, takes_run, takes_length, takes_byte, begins_cons, stops_91, closed_reads}
 use Rattle.description_grammar.proofs.TextsSound.{text_front, text_some, TakesText, text_reads, doubled_takes}
-use Rattle.description_grammar.proofs.ComponentsSound.{TakesName, name_reads, BadComponent, component_reads}
+use Rattle.description_grammar.proofs.ComponentText.{TakesName, name_reads, BadComponent, component_reads}
 use Rattle.description_grammar.proofs.Nesting.{TakesInside, RefusesInside, nesting_reads}
 
 -- ---- nested descriptions

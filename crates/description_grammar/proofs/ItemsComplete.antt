@@ -17,14 +17,12 @@ use Rattle.description_grammar.specs.Reading.{doubled_at, unsupported_at, suppor
 use Rattle.description_grammar.specs.Heads.{Each, Stops, IsWord, SpellsHead, SpellsComponent, SpellsOpening, SpellsNesting}
 use Rattle.description_grammar.specs.Spelling.{SpellsItems, SpellsItem, SpellsNested, SpellsAlternatives, Spells}
 use Rattle.description_grammar.proofs.Results.{cond_true, cond_false, and_false, neither, either_not, not_zero}
-use Rattle.description_grammar.proofs.Runs.{at_index, same_index, past_is, word_stops, space_first}
-use Rattle.description_grammar.proofs.Takes.{stops_91, closed_again}
+use Rattle.description_grammar.proofs.Runs.{at_index, same_index, past_is, word_stops, space_first, stops_91, closed_again}
 use Rattle.description_lexer.proofs.Steps.{Steps, steps_many}
 use Rattle.description_grammar.proofs.TextsSound.{SpellsText, text_more, text_some, BeginsText, text_again}
 use Rattle.description_grammar.proofs.Meaning.{head_elsewhere}
-use Rattle.description_grammar.proofs.ComponentsComplete.{name_again, no_bracket_first, begins_head, component_again}
-use Rattle.description_grammar.proofs.NestingComplete.{not_optional, opening_len, from_start, from_opening, closed_here, ok_tree}
-use Rattle.description_grammar.proofs.Nesting.{Reader, nesting_at}
+use Rattle.description_grammar.proofs.ComponentText.{name_again, no_bracket_first, begins_head, component_again}
+use Rattle.description_grammar.proofs.Nesting.{not_optional, opening_len, from_start, from_opening, closed_here, ok_tree, Reader, nesting_at}
 use Rattle.description_grammar.proofs.Items.{alternatives_shorten, items_shorten, nested_reads, first_of_list, read_some, part_from, named_item}
 
 -- ---- lists of trees

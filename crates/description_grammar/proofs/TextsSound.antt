@@ -20,8 +20,7 @@ use Rattle.description_grammar.specs.Faulty.{Behind, BadEscape}
 use Rattle.description_grammar.proofs.Places.{at_first, at_once}
 use Rattle.description_grammar.proofs.Results.{both, not_first, or_is}
 use Rattle.description_grammar.proofs.ValueOrFault.{Reads, gives, refuses, either}
-use Rattle.description_grammar.proofs.Runs.{at_index, same_index, each_run, stops_past, stops_front, stops_append, run_again}
-use Rattle.description_grammar.proofs.Takes.{Takes, takes_then, takes_byte, begins_cons}
+use Rattle.description_grammar.proofs.Runs.{at_index, same_index, each_run, stops_past, stops_front, stops_append, run_again, Takes, takes_then, takes_byte, begins_cons}
 
 abbrev pub SpellsText : DescriptionVersion → Bool → List ℕ → List ℕ → List ℕ → Type 0
 SpellsText v inner own more bytes = ((own ≡ bytes) × SpellsLiteral v inner bytes more) ⊎ SpellsEscape v own bytes
