@@ -4,13 +4,12 @@ use Rattle.std.specs.Prelude.{◌&&◌}
 use Rattle.std.specs.Char.{to_ascii_lowercase, is_ascii_digit}
 use Rattle.std.specs.List.{list_all}
 use Rattle.std.specs.Str.{str_to_ascii_lowercase, str_eq_ignore_ascii_case}
-use Rattle.std.proofs.lemmas.Bool.{cases_lt}
+use Rattle.std.proofs.lemmas.Bool.{cases_lt, and_parts}
 use Rattle.std.proofs.lemmas.Bool.Decides.{nat_tests}
 use Rattle.std.proofs.lemmas.Slice.Eq.{bytes_eq-Decides}
 use Rattle.std.proofs.lemmas.Str.Ascii.{lowercase_is}
 use Rattle.description_lexer.specs.Text.{is_space, is_word_byte, is_no_colon}
 use Rattle.description_grammar.specs.Heads.{Each, IsWord}
-use Rattle.description_grammar.proofs.Results.{both}
 
 -- ---- bytes
 
@@ -60,7 +59,7 @@ Agrees p = (b c : ℕ) → to_ascii_lowercase b ≡ to_ascii_lowercase c → p b
 agrees : (p : ℕ → Bool) (answer : Bool) → ((b : ℕ) → IsLetter b → p b ≡ answer) → Agrees p
 agrees p answer of_letter b c e = elim (same_or_letters b c e) [
   | inl same ↦ ap p same
-  | inr both ↦ of_letter b both.0 ∙ sym (of_letter c both.1)
+  | inr and_parts ↦ of_letter b and_parts.0 ∙ sym (of_letter c and_parts.1)
 ]
 
 pub space_agrees : Agrees is_space
@@ -139,7 +138,7 @@ pub alike_byte : (b : ℕ) (bs zs : List ℕ) → (IsLetter b → ⊥) → Alike
 alike_byte b bs [] not_letter h = absurd h
 alike_byte b bs (c ∷ cs) not_letter h = elim (same_or_letters b c h.0) [
   | inl same ↦ (cs, ap (λ (n : ℕ). n ∷ cs) (sym same), h.1)
-  | inr both ↦ absurd (not_letter both.0)
+  | inr and_parts ↦ absurd (not_letter and_parts.0)
 ]
 
 pub alike_nothing : (zs : List ℕ) → Alike [] zs → zs ≡ []
@@ -172,5 +171,5 @@ digits_same [] [] h all = refl
 digits_same [] (c ∷ cs) h all = absurd h
 digits_same (b ∷ bs) [] h all = absurd h
 digits_same (b ∷ bs) (c ∷ cs) h all =
-    let d = both (is_ascii_digit b) (list_all is_ascii_digit bs) all in
+    let d = and_parts (is_ascii_digit b) (list_all is_ascii_digit bs) all in
     ap (λ (n : ℕ). n ∷ bs) (digit_stays b c h.0 d.0) ∙ ap (λ (t : List ℕ). c ∷ t) (digits_same bs cs h.1 d.1)

@@ -15,13 +15,14 @@ use Rattle.description_tables.specs.Component.{component_of}
 use Rattle.description_grammar.specs.Reading.{component_from}
 use Rattle.description_grammar.specs.Heads.{Each, Stops, IsWord, SpellsModifiers, is_nesting, SpellsHead, SpellsComponent}
 use Rattle.description_grammar.specs.Faulty.{Behind, BadWord, missing_at, IsSingle, LacksName, HasBadWord, IsUnclosed, MeansNothing}
-use Rattle.description_grammar.proofs.Results.{not_zero, cond_true, cond_false}
+use Rattle.description_grammar.proofs.Results.{not_zero}
 use Rattle.description_grammar.proofs.ValueOrFault.{Reads, gives, refuses, either, in_turn}
 use Rattle.description_grammar.proofs.Runs.{each_run, stops_past, stops_from_none, cut_run, past_index, Takes, takes_then, takes_run, begins_cons, closed_reads, at_index, same_index, run_again, past_is, closed_again}
 use Rattle.description_grammar.proofs.Modifiers.{none_there, some_there, TakesModifiers, Refuses, modifiers_read, behind_space, no_word_there, modifiers_stop, modifiers_again, bad_modifiers_again}
 use Rattle.description_grammar.proofs.Meaning.{head_elsewhere}
 use Rattle.description_grammar.proofs.Places.{at_first, behind_both, further_back}
 use Rattle.std.proofs.lemmas.Bool.Decides.{nat_tests}
+use Rattle.std.proofs.lemmas.Bool.{cond-true, cond-false}
 use Rattle.description_lexer.specs.Further.{further}
 
 -- ---- the name
@@ -193,7 +194,7 @@ unfolding name_at
 name_again bracket at first name rest is_first is_name placed stops =
     let b = behind_space at first name.text rest is_first is_name stops in
     let s : Rest = at_index at (first ++ (name.text ++ rest)) in
-    cond_true (has_word (past is_space s)) (ok_pair (run is_word_byte (past is_space s)) (past is_word_byte (past is_space s))) (Err (MissingComponentName (cond (eqb (prefix_len is_space s.text) 0) bracket at))) b.there ∙ pair (b.the_word ∙ same_index _ _ name.text (sym placed)) b.behind
+    cond-true (has_word (past is_space s)) (ok_pair (run is_word_byte (past is_space s)) (past is_word_byte (past is_space s))) (Err (MissingComponentName (cond (eqb (prefix_len is_space s.text) 0) bracket at))) b.there ∙ pair (b.the_word ∙ same_index _ _ name.text (sym placed)) b.behind
   where
     pair : {a b c d : Rest} → a ≡ c → b ≡ d → ok_pair a b ≡ ok_pair c d
     pair {a} {b} {c} {d} e f = ap (λ (a : Rest). ok_pair a b) e ∙ ap (λ (b : Rest). ok_pair c b) f
@@ -208,7 +209,7 @@ no_name_again at blank rest spaces no_space no_word =
   where
     place : (blank : List ℕ) → cond (eqb (length blank) 0) at (at + 1) ≡ at + missing_at blank
     place [] = omega arith
-    place (b ∷ bs) = cond_false (eqb (length (b ∷ bs)) 0) at (at + 1) (not_zero (length (b ∷ bs)) (omega arith))
+    place (b ∷ bs) = cond-false (eqb (length (b ∷ bs)) 0) at (at + 1) (not_zero (length (b ∷ bs)) (omega arith))
 
 -- a name's first byte opens nothing
 pub no_bracket_first : (first w more : List ℕ) → Each is_space first → IsWord w → begins left_bracket (first ++ (w ++ more)) ≡ false

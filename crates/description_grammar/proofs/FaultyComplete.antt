@@ -2,7 +2,7 @@
 use Rattle.std.proofs.Common.{◌≡◌, ℕ, zero, suc, ◌+◌, ◌<◌, List, [], ◌∷◌, ◌++◌, length, drop, None, Result, Ok, Err, Bool, true, false, not, eqb, refl, sym, ap, ◌∙◌, append_assoc, arith, inl, inr, ◌⊎◌}
 use Rattle.std.specs.Prelude.{codes, ◌&&◌}
 use Rattle.std.proofs.lemmas.List.{append-nil}
-use Rattle.std.proofs.lemmas.Bool.{eqb-true}
+use Rattle.std.proofs.lemmas.Bool.{eqb-true, cond-false, and_right, or_from}
 use Rattle.base.specs.Bytes.{left_bracket, right_bracket}
 use Rattle.description_lexer.specs.Fault.{Fault, UnclosedOpeningBracket, NotSupported}
 use Rattle.description_lexer.specs.Answer.{◌>>=◌}
@@ -21,7 +21,7 @@ use Rattle.description_grammar.specs.Reading.{doubled_at, component_from, unsupp
 use Rattle.description_grammar.specs.Heads.{Stops, SpellsHead}
 use Rattle.description_grammar.specs.Spelling.{SpellsItems, SpellsAlternatives}
 use Rattle.description_grammar.specs.Faulty.{Behind, Wrong, IsSingle, LacksName, HasBadWord, IsUnclosed, MeansNothing, BadEscape, BadNesting, IsOne, AreSome, IsNothing, AreBefore, BadItem, FaultyItems, FaultyNested, Faulty}
-use Rattle.description_grammar.proofs.Results.{cond_false, and_false, either_not, not_zero}
+use Rattle.description_grammar.proofs.Results.{not_zero}
 use Rattle.description_grammar.proofs.Places.{at_once, behind_further, further_none, further_on}
 use Rattle.description_grammar.proofs.Runs.{at_index, word_stops, space_first, stops_91}
 use Rattle.description_grammar.proofs.Meaning.{head_elsewhere}
@@ -56,7 +56,7 @@ unfolding element_at
 escape_refuses v levels i text e h =
     let r : RefusesText v i text e = bad_escape_again v i text e h in
     record {
-      goes = λ inner. either_not (eqb (length text) 0) (inner && begins right_bracket text) (not_zero (length text) r.some) (and_false inner (begins right_bracket text) r.no_end);
+      goes = λ inner. or_from (eqb (length text) 0) (inner && begins right_bracket text) (not_zero (length text) r.some) (and_right inner (begins right_bracket text) r.no_end);
       stops = back_stops v text e h;
       refuses = rw (r.single, r.no_bracket, r.refuses) refl;
     }
@@ -149,7 +149,7 @@ nesting_refuses v levels nesting what read make Before Inside Deeper nests again
     opened_refuses v levels i text e (ap (begins left_bracket) h.parts ∙ c.0) (
     ap (λ (t : List ℕ). element_at v (nested_at v levels) (at_index i t)) h.parts
     ∙ c.1
-    ∙ cond_false (is_three v) (ok_tree (make r.0) (at_index (i + length h.own) h.rest)) (Err (unsupported_at i)) h.not_three
+    ∙ cond-false (is_three v) (ok_tree (make r.0) (at_index (i + length h.own) h.rest)) (Err (unsupported_at i)) h.not_three
     ∙ at_once (λ n. NotSupported (codes "nested item") (codes "versions 1 and 2") n) i e refl h.fault_is
     )
 

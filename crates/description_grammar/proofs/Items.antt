@@ -3,6 +3,7 @@ use Rattle.std.proofs.Common.{◌≡◌, ℕ, zero, suc, ◌+◌, ◌<◌, List,
 use Rattle.std.specs.Prelude.{codes, ◌&&◌, ◌||◌}
 use Rattle.std.proofs.lemmas.List.{append-nil, nil_from_length}
 use Rattle.std.proofs.lemmas.Bool.Decides.{nat_tests}
+use Rattle.std.proofs.lemmas.Bool.{both_ways, or_parts, or_from, not-false, not-true}
 use Rattle.base.specs.Bytes.{left_bracket, right_bracket}
 use Rattle.description_lexer.specs.Fault.{Fault, UnclosedOpeningBracket, NotSupported}
 use Rattle.description_lexer.specs.Answer.{◌>>=◌}
@@ -18,7 +19,7 @@ use Rattle.description_grammar.specs.Reading.{doubled_at, text_at, component_fro
 use Rattle.description_grammar.specs.Heads.{Stops}
 use Rattle.description_grammar.specs.Spelling.{SpellsItems, SpellsItem, SpellsNested, SpellsAlternatives, Spells}
 use Rattle.description_grammar.specs.Faulty.{Behind, IsSingle, IsOne, AreSome, IsNothing, AreBefore, BadItem, FaultyItems, FaultyNested, Faulty}
-use Rattle.description_grammar.proofs.Results.{neither, either_not, above, flip_false, flip_true}
+use Rattle.description_grammar.proofs.Results.{above}
 use Rattle.description_grammar.proofs.ValueOrFault.{Reads, gives, refuses, either, in_turn, reads_as, many_read}
 use Rattle.description_grammar.proofs.Places.{further_none, at_first, behind_both}
 use Rattle.description_grammar.proofs.Runs.{each_run, stops_past, Takes, takes_then, takes_run, takes_length, takes_byte, begins_cons, stops_91, closed_reads}
@@ -56,7 +57,7 @@ record TakesAlternatives (v : DescriptionVersion) (levels : ℕ) (s : Rest) (ts 
 alternatives_take : (v : DescriptionVersion) (levels : ℕ) → NestedReads v levels → (ts : List Tree) (s rest : Rest) → Stops is_space s.text → Steps no_bracket (nested_at v levels) s ts rest → TakesAlternatives v levels s ts rest
 alternatives_take v levels nested [] s rest stops e = subst (λ (r : Rest). TakesAlternatives v levels s [] r) e (record { own = []; takes = record { parts = refl; index = omega arith }; spells = refl; no_space = stops })
 alternatives_take v levels nested (t ∷ ts) s rest stops (next, goes, is_t, more) =
-    let one : TakesNested v levels s (t, next) = (nested s (flip_false (begins left_bracket s.text) goes)).ok (t, next) is_t in
+    let one : TakesNested v levels s (t, next) = (nested s (not-false (begins left_bracket s.text) goes)).ok (t, next) is_t in
     let others : TakesAlternatives v levels next ts rest = alternatives_take v levels nested ts next rest one.no_space more in
     record {
       own = one.own ++ others.own;
@@ -67,7 +68,7 @@ alternatives_take v levels nested (t ∷ ts) s rest stops (next, goes, is_t, mor
 
 pub alternatives_shorten : (v : DescriptionVersion) (levels : ℕ) → NestedReads v levels → Shortens no_bracket (nested_at v levels)
 alternatives_shorten v levels nested s x goes e =
-    let t : TakesNested v levels s x = (nested s (flip_false (begins left_bracket s.text) goes)).ok x e in
+    let t : TakesNested v levels s x = (nested s (not-false (begins left_bracket s.text) goes)).ok x e in
     omega (arith, t.some, takes_length s t.own x.1 t.takes)
 
 abbrev pub read_some : DescriptionVersion → ℕ → Rest → Result (List Tree × Rest) Fault
@@ -77,23 +78,18 @@ some_reads : (v : DescriptionVersion) (levels : ℕ) → NestedReads v levels �
 some_reads v levels nested start opens = reads_as _ (many_read no_bracket (nested_at v levels) (alternatives_shorten v levels nested) start) taken (
     λ e f.
     let a : TakesAlternatives v levels start f.front f.bad = alternatives_take v levels nested f.front start f.bad (stops_91 start.text opens) f.steps in
-    let fails = nested f.bad (flip_false (begins left_bracket f.bad.text) f.goes_on) in
+    let fails = nested f.bad (not-false (begins left_bracket f.bad.text) f.goes_on) in
     record { before = a.own; bad = f.bad; takes = a.takes; is_before = (listed f.front, a.spells); is_bad = fails.err e f.fails }
     )
   where
     some_own : (own more : List ℕ) → start.text ≡ own ++ more → begins left_bracket more ≡ false → 0 < length own
-    some_own [] more parts none = absurd (apart (begins left_bracket start.text) (begins left_bracket more) (ap (begins left_bracket) parts) opens none)
-      where
-        apart : (a b : Bool) → a ≡ b → a ≡ true → b ≡ false → ⊥
-        apart true true e h k = absurd cc
-        apart true false e h k = absurd cc
-        apart false b e h k = absurd cc
+    some_own [] more parts none = absurd (both_ways (begins left_bracket more) none (ap (begins left_bracket) (sym parts) ∙ opens))
     some_own (b ∷ bs) more parts none = omega arith
 
     taken : (x : List Tree × Rest) → Read no_bracket (nested_at v levels) start x → TakesInside (MeansSome v levels) (AreSome v levels) start x
     taken x read =
         let a : TakesAlternatives v levels start x.0 x.1 = alternatives_take v levels nested x.0 start x.1 (stops_91 start.text opens) read.0 in
-        let none : begins left_bracket x.1.text ≡ false = flip_true (begins left_bracket x.1.text) read.1 in
+        let none : begins left_bracket x.1.text ≡ false = not-true (begins left_bracket x.1.text) read.1 in
         let some : 0 < length a.own = some_own a.own x.1.text a.takes.parts none in
         record { own = a.own; takes = a.takes; means = (some, a.spells); inside = (listed x.0, some, a.spells, none); no_space = a.no_space }
 
@@ -147,7 +143,7 @@ bracket_reads v inner levels nested s opens single =
 
     as_part : (name : Rest × Rest) → TakesName (after 1 s) name.0 name.1 → is_named v name.0.text (codes "optional") ≡ false → is_named v name.0.text (codes "first") ≡ false → Item (part_from v s.index name)
     as_part name n no_optional no_first =
-        in_turn _ _ (component_reads v s name.0 name.1 opens n (either_not _ _ no_optional no_first)) bad_part (λ c t. gives _ (record { own = t.own; takes = t.takes; some = t.some; spells = t.spells }))
+        in_turn _ _ (component_reads v s name.0 name.1 opens n (or_from _ _ no_optional no_first)) bad_part (λ c t. gives _ (record { own = t.own; takes = t.takes; some = t.some; spells = t.spells }))
 
 single_of : (v : DescriptionVersion) (s : Rest) → begins left_bracket s.text ≡ true → doubled_at v s ≡ None → IsSingle v (after 1 s).text
 unfolding doubled_at
@@ -173,7 +169,7 @@ unfolding element_at
 element_reads v inner levels nested s goes = by_doubled (doubled_at v s) refl
   where
     open_text : (eqb (length s.text) 0 ≡ false) × ((inner && begins right_bracket s.text) ≡ false)
-    open_text = neither _ _ goes
+    open_text = or_parts _ _ goes
 
     by_doubled : (d : Option (List ℕ × Rest)) → doubled_at v s ≡ d
         → Reads (λ (x : Tree × Rest). TakesItem v inner levels s x.0 x.1) (Behind s.index (BadItem v levels (FaultyNested v levels) s.text)) (literal_or d (cond (begins left_bracket s.text) (bracket_at v (nested_at v levels) s) (text_at v s >>= λ x. Ok (Literal x.0, x.1))))

@@ -1,8 +1,8 @@
 -- Items that are spelled so are read.
 use Rattle.std.proofs.Common.{◌≡◌, ℕ, zero, suc, ◌+◌, ◌<◌, List, [], ◌∷◌, ◌++◌, length, None, Result, Ok, Err, Bool, true, false, not, cond, eqb, refl, sym, ap, subst, ◌∙◌, append_assoc, arith, inl, inr}
-use Rattle.std.specs.Prelude.{codes, ◌&&◌, ◌||◌}
+use Rattle.std.specs.Prelude.{codes, ◌&&◌}
 use Rattle.std.proofs.lemmas.List.{length-append, append-nil}
-use Rattle.std.proofs.lemmas.Bool.{eqb-true}
+use Rattle.std.proofs.lemmas.Bool.{or_right, eqb-true, cond-true, cond-false, and_right, or_parts, or_from}
 use Rattle.base.specs.Bytes.{left_bracket, right_bracket}
 use Rattle.description_lexer.specs.Fault.{Fault}
 use Rattle.description_lexer.specs.Answer.{◌>>=◌}
@@ -16,7 +16,7 @@ use Rattle.description_lexer.specs.Words.{Modifier, is_named, begins, name_at, c
 use Rattle.description_grammar.specs.Reading.{doubled_at, unsupported_at, supported, optional_at, no_bracket, first_at, bracket_at, element_at, is_end, nested_at, read_items}
 use Rattle.description_grammar.specs.Heads.{Each, Stops, IsWord, SpellsHead, SpellsComponent, SpellsOpening, SpellsNesting}
 use Rattle.description_grammar.specs.Spelling.{SpellsItems, SpellsItem, SpellsNested, SpellsAlternatives, Spells}
-use Rattle.description_grammar.proofs.Results.{cond_true, cond_false, and_false, neither, either_not, not_zero}
+use Rattle.description_grammar.proofs.Results.{not_zero}
 use Rattle.description_grammar.proofs.Runs.{at_index, same_index, past_is, word_stops, space_first, stops_91, closed_again}
 use Rattle.description_lexer.proofs.Steps.{Steps, steps_many}
 use Rattle.description_grammar.proofs.TextsSound.{SpellsText, text_more, text_some, BeginsText, text_again}
@@ -50,11 +50,11 @@ opens_some [] h = absurd cc
 opens_some (b ∷ bs) h = omega arith
 
 pub open_goes : (inner : Bool) (i : ℕ) (text : List ℕ) → begins left_bracket text ≡ true → is_end inner (at_index i text) ≡ false
-open_goes inner i text h = either_not (eqb (length text) 0) (inner && begins right_bracket text) (not_zero (length text) (opens_some text h)) (and_false inner (begins right_bracket text) (no_close text h))
+open_goes inner i text h = or_from (eqb (length text) 0) (inner && begins right_bracket text) (not_zero (length text) (opens_some text h)) (and_right inner (begins right_bracket text) (no_close text h))
 
 pub no_double : (v : DescriptionVersion) (s : Rest) → begins left_bracket (after 1 s).text ≡ false → doubled_at v s ≡ None
 unfolding doubled_at
-no_double v s h = cond_false (is_one v && (begins left_bracket s.text && begins left_bracket (after 1 s).text)) _ None (and_false (is_one v) _ (and_false (begins left_bracket s.text) _ h))
+no_double v s h = cond-false (is_one v && (begins left_bracket s.text && begins left_bracket (after 1 s).text)) _ None (and_right (is_one v) _ (and_right (begins left_bracket s.text) _ h))
 
 -- a bracket and a name, and what they open
 pub element_opens : (v : DescriptionVersion) (levels : ℕ) (s name next : Rest) → begins left_bracket s.text ≡ true → doubled_at v s ≡ None → name_at s.index (after 1 s) ≡ Ok (name, next) → element_at v (nested_at v levels) s ≡ named_item v (nested_at v levels) s.index (name, next)
@@ -63,23 +63,23 @@ element_opens v levels s name next opens single is_name = rw (single, opens) (ap
 
 pub names_part : (v : DescriptionVersion) (levels bracket : ℕ) (name next : Rest) → is_named v name.text (codes "optional") ≡ false → is_named v name.text (codes "first") ≡ false → named_item v (nested_at v levels) bracket (name, next) ≡ part_from v bracket (name, next)
 names_part v levels bracket name next no_optional no_first =
-    cond_false (is_named v name.text (codes "optional")) (optional_at v (nested_at v levels) bracket next) (cond (is_named v name.text (codes "first")) (first_at v (nested_at v levels) bracket next) (part_from v bracket (name, next))) no_optional
-    ∙ cond_false (is_named v name.text (codes "first")) (first_at v (nested_at v levels) bracket next) (part_from v bracket (name, next)) no_first
+    cond-false (is_named v name.text (codes "optional")) (optional_at v (nested_at v levels) bracket next) (cond (is_named v name.text (codes "first")) (first_at v (nested_at v levels) bracket next) (part_from v bracket (name, next))) no_optional
+    ∙ cond-false (is_named v name.text (codes "first")) (first_at v (nested_at v levels) bracket next) (part_from v bracket (name, next)) no_first
 
 pub names_optional : (v : DescriptionVersion) (levels bracket : ℕ) (name next : Rest) → is_named v name.text (codes "optional") ≡ true → named_item v (nested_at v levels) bracket (name, next) ≡ optional_at v (nested_at v levels) bracket next
-names_optional v levels bracket name next h = cond_true (is_named v name.text (codes "optional")) (optional_at v (nested_at v levels) bracket next) (cond (is_named v name.text (codes "first")) (first_at v (nested_at v levels) bracket next) (part_from v bracket (name, next))) h
+names_optional v levels bracket name next h = cond-true (is_named v name.text (codes "optional")) (optional_at v (nested_at v levels) bracket next) (cond (is_named v name.text (codes "first")) (first_at v (nested_at v levels) bracket next) (part_from v bracket (name, next))) h
 
 pub names_first : (v : DescriptionVersion) (levels bracket : ℕ) (name next : Rest) → is_named v name.text (codes "first") ≡ true → named_item v (nested_at v levels) bracket (name, next) ≡ first_at v (nested_at v levels) bracket next
 names_first v levels bracket name next h =
-    cond_false (is_named v name.text (codes "optional")) (optional_at v (nested_at v levels) bracket next) (cond (is_named v name.text (codes "first")) (first_at v (nested_at v levels) bracket next) (part_from v bracket (name, next))) (not_optional v name.text h)
-    ∙ cond_true (is_named v name.text (codes "first")) (first_at v (nested_at v levels) bracket next) (part_from v bracket (name, next)) h
+    cond-false (is_named v name.text (codes "optional")) (optional_at v (nested_at v levels) bracket next) (cond (is_named v name.text (codes "first")) (first_at v (nested_at v levels) bracket next) (part_from v bracket (name, next))) (not_optional v name.text h)
+    ∙ cond-true (is_named v name.text (codes "first")) (first_at v (nested_at v levels) bracket next) (part_from v bracket (name, next)) h
 
 -- a head, and what is read behind it
 pub head_opens : (v : DescriptionVersion) (levels i : ℕ) (text head tail : List ℕ) (name : Rest) (ms : List Modifier) (h : SpellsHead v i head name ms) → text ≡ head ++ tail → Stops is_word_byte (h.last ++ tail)
     → (begins left_bracket text ≡ true) × (element_at v (nested_at v levels) (at_index i text) ≡ part_from v i (name, at_index (i + 1 + length h.first + length name.text) (h.middle ++ (h.last ++ tail))))
 head_opens v levels i text head tail name ms h parts stops =
     let b = begins_head v i text head tail name ms h parts stops in
-    let not_nesting = neither _ _ h.no_nesting in
+    let not_nesting = or_parts _ _ h.no_nesting in
     let next : Rest = at_index (i + 1 + length h.first + length name.text) (h.middle ++ (h.last ++ tail)) in
     (b.opens, element_opens v levels (at_index i text) name next b.opens (no_double v (at_index i text) b.once) b.reads_name ∙ names_part v levels i name next not_nesting.0 not_nesting.1)
 
@@ -135,7 +135,7 @@ text_reads v inner levels i own rest bytes h =
     let b : BeginsText v inner i own rest bytes = text_again v inner i own bytes rest h in
     let some : 0 < length (own ++ rest) = omega (arith, length-append own rest, text_some v inner own rest bytes h) in
     record {
-      goes = either_not (eqb (length (own ++ rest)) 0) (inner && begins right_bracket (own ++ rest)) (not_zero (length (own ++ rest)) some) b.no_end;
+      goes = or_from (eqb (length (own ++ rest)) 0) (inner && begins right_bracket (own ++ rest)) (not_zero (length (own ++ rest)) some) b.no_end;
       reads = elim b.reads [
         | inl g ↦ rw (g.0, g.1, g.2) refl
         | inr g ↦ rw g refl
@@ -191,7 +191,7 @@ nesting_again v levels nesting what read make nests i own rest Inside h a opens 
     (c.0, c.1 ∙ ap (from_start v make i) reads ∙ closed_here v make i (i + length h.opening + length h.inside) rest a ∙ ap (supported v i (make a)) (same_index _ _ rest len))
 
 pub is_supported : (v : DescriptionVersion) (bracket : ℕ) (t : Tree) (rest : Rest) → is_three v ≡ true → supported v bracket t rest ≡ ok_tree t rest
-is_supported v bracket t rest three = cond_true (is_three v) (ok_tree t rest) (Err (unsupported_at bracket)) three
+is_supported v bracket t rest three = cond-true (is_three v) (ok_tree t rest) (Err (unsupported_at bracket)) three
 
 pub optional_nests : (v : DescriptionVersion) (levels : ℕ) → IsNesting v levels (codes "optional") (codes "whitespace after `optional`") (nested_at v levels) (Optional true)
 unfolding optional_at
@@ -245,10 +245,6 @@ bracket_stops One = refl
 bracket_stops Two = refl
 bracket_stops Three = refl
 
-or_true : (a b : Bool) → b ≡ true → (a || b) ≡ true
-or_true true b h = refl
-or_true false b h = h
-
 pub nested_again : (v : DescriptionVersion) (levels : ℕ) → NestedAgain v levels
 unfolding nested_at
 nested_again v levels i own rest (Literal bytes) h stops = absurd h
@@ -264,7 +260,7 @@ nested_again v (suc levels) i own rest (Compound ts) (fewer, text, blank, e, par
     let step = element_at v (nested_at v levels) in
     let whole_text : own ++ rest ≡ left_bracket ∷ (text ++ tail) = rw parts (simp append_assoc) in
     let steps = items_steps v true levels (nested_again v levels) ts (i + 1) text tail (subst (λ (n : ℕ). SpellsItems v true n text ts) same items) (bracket_stops v) in
-    let all = steps_many (is_end true) step (items_shorten v true levels (nested_reads v levels)) (suc (length (text ++ tail))) s (unlisted ts) end (omega arith) steps (or_true (eqb (length tail) 0) true refl) in
+    let all = steps_many (is_end true) step (items_shorten v true levels (nested_reads v levels)) (suc (length (text ++ tail))) s (unlisted ts) end (omega arith) steps (or_right (eqb (length tail) 0) true refl) in
     let space_past = past_is is_space (i + 1 + length text + 1) blank rest spaces stops in
     let len : i + 1 + length text + 1 + length blank ≡ i + length own = omega (arith, ap (length {A = ℕ}) parts, length-append text (right_bracket ∷ blank)) in
     ap (λ (t : List ℕ). nested_at v (suc levels) (at_index i t)) whole_text

@@ -4,7 +4,7 @@ use Rattle.std.specs.List.{prefix_len}
 use Rattle.std.proofs.lemmas.List.{take-append-drop, length-drop, nil_from_length, length-append, append-nil, take_at}
 use Rattle.std.proofs.lemmas.List.Folds.{length-prefix_len}
 use Rattle.std.proofs.lemmas.List.Sums.{prefix_len-le-length}
-use Rattle.std.proofs.lemmas.Bool.{eqb-true}
+use Rattle.std.proofs.lemmas.Bool.{eqb-true, not-false, not-true, eq-eqb}
 use Rattle.std.proofs.lemmas.Bool.Decides.{nat_tests}
 use Rattle.base.specs.Bytes.{colon}
 use Rattle.description_lexer.specs.Fault.{Fault, InvalidModifier}
@@ -15,7 +15,7 @@ use Rattle.description_lexer.proofs.Shorter.{modifier_lt}
 use Rattle.description_grammar.specs.Heads.{Each, Stops, IsWord, SpellsModifier, SpellsModifiers}
 use Rattle.description_grammar.specs.Faulty.{Behind, BadWord}
 use Rattle.description_grammar.proofs.Places.{at_first, at_once}
-use Rattle.description_grammar.proofs.Results.{lt_of, above, flip_false, flip_true, differs, not_zero, eqb_same}
+use Rattle.description_grammar.proofs.Results.{lt_of, above, differs, not_zero}
 use Rattle.description_grammar.proofs.ValueOrFault.{Reads, gives, refuses, either, in_turn, many_read}
 use Rattle.description_grammar.proofs.Runs.{each_run, each_of_take, each_of_drop, each_whole, stops_past, stops_from_none, none_from_stops, past_index, Takes, takes_then, takes_run, at_index, same_index, each_append, run_again, run_is, past_is, space_stops, word_stops, space_first}
 use Rattle.description_lexer.proofs.Steps.{Steps, Read, Failing, steps_many, steps_failing}
@@ -156,7 +156,7 @@ steps_take s (m ∷ ms) rest stops (next, goes, is_m, more) =
     let same_m : a.0 ≡ m = ap (λ (x : Modifier × Rest). x.0) same in
     let same_next : next ≡ after_word = sym (ap (λ (x : Modifier × Rest). x.1) same) in
     let others : TakesWords after_word ms rest = steps_take after_word ms rest (stops_past is_word_byte (past is_space s).text) (subst (λ (p : Rest). Steps no_modifier modifier_at p ms rest) same_next more) in
-    one_more s m ms rest stops (flip_false _ goes) (a.1 ∙ ap (λ (m : Modifier). ok_modifier m) same_m) others
+    one_more s m ms rest stops (not-false _ goes) (a.1 ∙ ap (λ (m : Modifier). ok_modifier m) same_m) others
   where
     ok_modifier : Modifier → Result Modifier Fault
     ok_modifier m = Ok m
@@ -201,7 +201,7 @@ modifiers_read s stops = in_turn _ _ (many_read no_modifier modifier_at modifier
           spells = words.spells;
           is_last = each_run is_space all.1.text;
           no_space = stops_past is_space all.1.text;
-          no_word = stops_from_none is_word_byte (past is_space all.1).text (none_there (past is_space all.1) (flip_true _ read.1));
+          no_word = stops_from_none is_word_byte (past is_space all.1).text (none_there (past is_space all.1) (not-true _ read.1));
         })
 
     refused : (e : Fault) → Failing no_modifier modifier_at s e → Refuses s e
@@ -209,7 +209,7 @@ modifiers_read s stops = in_turn _ _ (many_read no_modifier modifier_at modifier
         let words : TakesWords s f.front f.bad = steps_take s f.front f.bad stops f.steps in
         let start : Rest = past is_space f.bad in
         let word : Rest = run is_word_byte start in
-        let there : has_word start ≡ true = flip_false _ f.goes_on in
+        let there : has_word start ≡ true = not-false _ f.goes_on in
         let is_bad : modifier_in word ≡ Err e = made_err (modifier_in word) (λ m. (m, past is_word_byte start)) e f.fails in
         record {
           ms = f.front;
@@ -253,7 +253,7 @@ bad_word_again : (at : ℕ) (word : List ℕ) (e : Fault) → 0 < length word �
 unfolding modifier_in
 bad_word_again at word e some (inl (each, f)) =
     let n : prefix_len is_no_colon word ≡ length word = ap (prefix_len is_no_colon) (sym (append-nil word)) ∙ run_again is_no_colon word [] each tt in
-    rw (n, eqb_same (length word) (length word) refl) (at_once (λ i. InvalidModifier word i) at e refl f)
+    rw (n, eq-eqb (length word) (length word) refl) (at_once (λ i. InvalidModifier word i) at e refl f)
 bad_word_again at word e some (inr (inl (value, parts, f))) =
     let a : eqb 0 (length (colon ∷ value)) ≡ false = differs 0 (length (colon ∷ value)) (omega arith) in
     rw (parts, a) (at_once (λ i. InvalidModifier [] i) at e refl f)
@@ -262,7 +262,7 @@ bad_word_again at word e some (inr (inr (key, some_key, each, parts, f))) =
     let len = length-append key (colon ∷ []) in
     let a : eqb (length key) (length (key ++ colon ∷ [])) ≡ false = differs _ _ (omega (arith, len)) in
     let b : eqb (length key) 0 ≡ false = not_zero _ some_key in
-    let c : eqb (length key + 1) (length (key ++ colon ∷ [])) ≡ true = eqb_same _ _ (omega (arith, len)) in
+    let c : eqb (length key + 1) (length (key ++ colon ∷ [])) ≡ true = eq-eqb _ _ (omega (arith, len)) in
     rw (f, parts, n, a, b, c) refl
 
 -- ---- a word behind white space

@@ -3,7 +3,7 @@ use Rattle.std.proofs.Common.{◌≡◌, ℕ, ◌+◌, ◌<◌, List, [], ◌∷
 use Rattle.std.specs.Prelude.{codes}
 use Rattle.std.proofs.lemmas.List.{length-append, drop_at}
 use Rattle.std.proofs.lemmas.List.Folds.{length-prefix_len}
-use Rattle.std.proofs.lemmas.Bool.{eqb-true}
+use Rattle.std.proofs.lemmas.Bool.{eqb-true, eq-eqb}
 use Rattle.base.specs.Bytes.{left_bracket, right_bracket}
 use Rattle.description_lexer.specs.Fault.{Fault, UnclosedOpeningBracket, Expected, NotSupported}
 use Rattle.description_lexer.specs.Answer.{◌>>=◌}
@@ -15,7 +15,7 @@ use Rattle.description_lexer.specs.Words.{is_named, begins, closed_at}
 use Rattle.description_grammar.specs.Reading.{is_same, opened_at, supported}
 use Rattle.description_grammar.specs.Heads.{Each, Stops, SpellsOpening, SpellsNesting}
 use Rattle.description_grammar.specs.Faulty.{Behind, Wrong, LacksSpace, LacksBracket, BadNesting}
-use Rattle.description_grammar.proofs.Results.{lt_of, differs, eqb_same}
+use Rattle.description_grammar.proofs.Results.{lt_of, differs}
 use Rattle.description_grammar.proofs.ValueOrFault.{Reads, gives, refuses, either, in_turn}
 use Rattle.description_grammar.proofs.Places.{at_first, behind_both}
 use Rattle.description_grammar.proofs.Runs.{each_run, stops_past, stops_from_none, Takes, takes_then, takes_run, takes_length, takes_byte, closed_reads, at_index, run_again, stops_91, closed_again}
@@ -233,7 +233,7 @@ unopened_again what i blank tail spaces some stops none = rw (run_again is_space
 
 unspaced_again : (what : List ℕ) (i : ℕ) (rest : List ℕ) → Stops is_space rest → opened_at what (at_index i rest) ≡ Err (Expected what i)
 unfolding opened_at
-unspaced_again what i rest stops = rw (run_again is_space [] rest tt stops, eqb_same (length rest) (length rest) refl) refl
+unspaced_again what i rest stops = rw (run_again is_space [] rest tt stops, eq-eqb (length rest) (length rest) refl) refl
 
 pub opening_len : (v : DescriptionVersion) (nesting opening : List ℕ) (i : ℕ) (o : SpellsOpening v nesting opening) → i + 1 + length o.first + length o.word + length o.blank ≡ i + length opening
 opening_len v nesting opening i o = omega (arith, ap (length {A = ℕ}) o.parts, length-append o.first (o.word ++ o.blank), length-append o.word o.blank)

@@ -1,6 +1,7 @@
 -- Versions 1 and 2 answer no nested item.
-use Rattle.std.proofs.Common.{◌≡◌, ℕ, List, suc, length, subst, Result, Ok, Bool, true, false, refl}
+use Rattle.std.proofs.Common.{◌≡◌, ℕ, List, suc, length, subst, Result, Ok, true, false, refl}
 use Rattle.std.specs.Prelude.{codes}
+use Rattle.std.proofs.lemmas.Bool.{both_ways}
 use Rattle.description_lexer.specs.Fault.{Fault}
 use Rattle.description_lexer.specs.declared.description_fault.DescriptionFault.{DescriptionFault}
 use Rattle.description_lexer.specs.declared.description_fault.DescriptionFault.TheVariants as errors
@@ -21,11 +22,7 @@ some_answer r = record { ok = λ x e. tt; err = λ e h. tt }
 
 none_before_three : {A : Type 0} (v : DescriptionVersion) (what : List ℕ) (read : Reader A) (make : A → Tree) (bracket : ℕ) (s : Rest) → is_three v ≡ false → Reads (λ x. ⊥) (λ e. Unit {0}) (nesting_at v what read make bracket s)
 none_before_three v what read make bracket s older =
-    in_turn _ _ (some_answer (opened_at what s)) (λ e h. tt) (λ start h. in_turn _ _ (some_answer (read start)) (λ e h. tt) (λ x h. in_turn _ _ (some_answer (closed_at bracket x.1)) (λ e h. tt) (λ rest h. either _ _ _ (λ three. absurd (differ (is_three v) three older)) (λ h. refuses _ tt))))
-  where
-    differ : (b : Bool) → b ≡ true → b ≡ false → ⊥
-    differ true h k = absurd cc
-    differ false h k = absurd cc
+    in_turn _ _ (some_answer (opened_at what s)) (λ e h. tt) (λ start h. in_turn _ _ (some_answer (read start)) (λ e h. tt) (λ x h. in_turn _ _ (some_answer (closed_at bracket x.1)) (λ e h. tt) (λ rest h. either _ _ _ (λ three. absurd (both_ways (is_three v) older three)) (λ h. refuses _ tt))))
 
 pub no_optional : (v : DescriptionVersion) (inside : Nester) (bracket : ℕ) (s : Rest) (x : Tree × Rest) → is_three v ≡ false → optional_at v inside bracket s ≡ Ok x → ⊥
 unfolding optional_at

@@ -5,6 +5,7 @@ use Rattle.std.specs.List.{prefix_len}
 use Rattle.std.proofs.lemmas.List.{take-append-drop, take_at, drop_at}
 use Rattle.std.proofs.lemmas.List.Folds.{length-prefix_len}
 use Rattle.std.proofs.lemmas.Bool.Decides.{nat_tests}
+use Rattle.std.proofs.lemmas.Bool.{and_right, and_parts}
 use Rattle.base.specs.Bytes.{left_bracket, backslash, right_bracket}
 use Rattle.description_lexer.specs.Fault.{Fault, Expected}
 use Rattle.description_lexer.specs.declared.version.DescriptionVersion.{DescriptionVersion}
@@ -18,7 +19,7 @@ use Rattle.description_grammar.specs.Reading.{doubled_at, text_at}
 use Rattle.description_grammar.specs.Heads.{Stops, MayBegin, SpellsLiteral, IsEscapable, SpellsEscape}
 use Rattle.description_grammar.specs.Faulty.{Behind, BadEscape}
 use Rattle.description_grammar.proofs.Places.{at_first, at_once}
-use Rattle.description_grammar.proofs.Results.{both, not_first, or_is}
+use Rattle.description_grammar.proofs.Results.{not_first, or_is}
 use Rattle.description_grammar.proofs.ValueOrFault.{Reads, gives, refuses, either}
 use Rattle.description_grammar.proofs.Runs.{at_index, same_index, each_run, stops_past, stops_front, stops_append, run_again, Takes, takes_then, takes_byte, begins_cons}
 
@@ -91,27 +92,21 @@ may_begin One inner b bs h i k = (not_begins left_bracket b bs h, not_inside inn
 may_begin Two inner b bs h i k = (not_begins left_bracket b bs h, not_inside inner b bs i, not_begins backslash b bs k)
 may_begin Three inner b bs h i k = (not_begins left_bracket b bs h, not_inside inner b bs i, not_begins backslash b bs k)
 
-literal_takes : (v : DescriptionVersion) (inner : Bool) (s : Rest) → 0 < length s.text → begins left_bracket s.text ≡ false → (inner && begins right_bracket s.text) ≡ false → (not (is_one v) && begins backslash s.text) ≡ false → TakesText v inner s (take (literal_len v s.text) s.text) (after (literal_len v s.text) s)
-literal_takes v inner s some h i k = go s.text refl some h i k
-  where
-    go : (text : List ℕ) → text ≡ s.text → 0 < length text → begins left_bracket text ≡ false → (inner && begins right_bracket text) ≡ false → (not (is_one v) && begins backslash text) ≡ false → TakesText v inner s (take (literal_len v s.text) s.text) (after (literal_len v s.text) s)
-    go [] e some h i k = absurd (omega arith)
-    go (b ∷ bs) e some h i k =
-        let n : ℕ = prefix_len (is_plain v) bs in
-        let one : 1 + n ≡ suc n = omega arith in
-        let own : List ℕ = b ∷ take n bs in
-        let spelled : SpellsLiteral v inner own (drop n bs) = (may_begin v inner b bs h i k, each_run (is_plain v) bs, stops_past (is_plain v) bs) in
-        let item : TakesText v inner (record { index = s.index; text = b ∷ bs }) own (record { index = s.index + suc n; text = drop n bs }) = record {
-          own = own;
-          takes = record { parts = ap (λ (t : List ℕ). b ∷ t) (sym (take-append-drop n bs)); index = omega (arith, length-prefix_len (is_plain v) bs) };
-          spells = inl (refl, spelled);
-        } in
-        let whole : TakesText v inner (record { index = s.index; text = b ∷ bs }) (take (literal_len v (b ∷ bs)) (b ∷ bs)) (after (literal_len v (b ∷ bs)) (record { index = s.index; text = b ∷ bs })) = rw one item in
-        subst (λ (t : List ℕ). TakesText v inner (record { index = s.index; text = t }) (take (literal_len v t) t) (after (literal_len v t) (record { index = s.index; text = t }))) e whole
+literal_takes : (v : DescriptionVersion) (inner : Bool) (i : ℕ) (text : List ℕ) → 0 < length text → begins left_bracket text ≡ false → (inner && begins right_bracket text) ≡ false → (not (is_one v) && begins backslash text) ≡ false
+    → TakesText v inner (at_index i text) (take (literal_len v text) text) (after (literal_len v text) (at_index i text))
+literal_takes v inner i [] some h k l = absurd (omega arith)
+literal_takes v inner i (b ∷ bs) some h k l =
+    let n : ℕ = prefix_len (is_plain v) bs in
+    let one : 1 + n ≡ suc n = omega arith in
+    rw one (record {
+      own = b ∷ take n bs;
+      takes = record { parts = ap (λ (t : List ℕ). b ∷ t) (sym (take-append-drop n bs)); index = omega (arith, length-prefix_len (is_plain v) bs) };
+      spells = inl (refl, (may_begin v inner b bs h k l, each_run (is_plain v) bs, stops_past (is_plain v) bs));
+    })
 
 pub text_reads : (v : DescriptionVersion) (inner : Bool) (s : Rest) → 0 < length s.text → begins left_bracket s.text ≡ false → (inner && begins right_bracket s.text) ≡ false → Reads (λ (x : List ℕ × Rest). TakesText v inner s x.0 x.1) (Behind s.index (BadEscape v s.text)) (text_at v s)
 unfolding text_at
-text_reads v inner s some h i = either _ _ _ (λ g. let p = not_first (is_one v) (begins backslash s.text) g in escape_reads v inner s p.0 p.1) (λ g. gives _ (literal_takes v inner s some h i g))
+text_reads v inner s some h i = either _ _ _ (λ g. let p = not_first (is_one v) (begins backslash s.text) g in escape_reads v inner s p.0 p.1) (λ g. gives _ (literal_takes v inner s.index s.text some h i g))
 
 pub doubled_takes : (v : DescriptionVersion) (inner : Bool) (s : Rest) (x : List ℕ × Rest) → doubled_at v s ≡ Some x → TakesText v inner s x.0 x.1
 unfolding doubled_at
@@ -119,8 +114,8 @@ doubled_takes v inner s x e =
     let it : List ℕ × Rest = (take 1 (after 1 s).text, after 1 (after 1 s)) in
     elim (chosen (is_one v && (begins left_bracket s.text && begins left_bracket (after 1 s).text)) (Some it) None (Some x) e) [
       | inl h ↦
-          let a = both (is_one v) (begins left_bracket s.text && begins left_bracket (after 1 s).text) h.0 in
-          let b = both (begins left_bracket s.text) (begins left_bracket (after 1 s).text) a.1 in
+          let a = and_parts (is_one v) (begins left_bracket s.text && begins left_bracket (after 1 s).text) h.0 in
+          let b = and_parts (begins left_bracket s.text) (begins left_bracket (after 1 s).text) a.1 in
           let two = two_bytes left_bracket left_bracket s b.0 b.1 in
           subst (λ (y : List ℕ × Rest). TakesText v inner s y.0 y.1) (some_is it x h.1) (record { own = left_bracket ∷ left_bracket ∷ []; takes = two.0; spells = rw two.1 (inr (spelled v a.0)) })
       | inr h ↦ absurd (none_not x h.1)
@@ -194,20 +189,16 @@ escaped_again at b rest (inl e) = rw e refl
 escaped_again at b rest (inr (inl e)) = rw e refl
 escaped_again at b rest (inr (inr e)) = rw e refl
 
-no_close : (inner : Bool) → (inner && false) ≡ false
-no_close true = refl
-no_close false = refl
-
 back_again : (v : DescriptionVersion) (inner : Bool) (at b : ℕ) (rest : List ℕ) → is_one v ≡ false → IsEscapable b → BeginsText v inner at (backslash ∷ b ∷ []) rest (b ∷ [])
 unfolding text_at
 back_again v inner at b rest h is_b = record {
-  no_end = no_close inner;
+  no_end = and_right inner false refl;
   reads = inl (no_doubled v (at_index at (backslash ∷ b ∷ rest)) refl, refl, rw h (escaped_again at b rest is_b ∙ ap (ok_text (b ∷ [])) (two_on at rest)));
 }
 
 escape_again : (v : DescriptionVersion) (inner : Bool) (at : ℕ) (own bytes rest : List ℕ) → SpellsEscape v own bytes → BeginsText v inner at own rest bytes
 unfolding doubled_at
-escape_again One inner at own bytes rest (e, f) = rw (e, f) (record { no_end = no_close inner; reads = inr (ap (λ (p : Rest). Some (left_bracket ∷ [], p)) (two_on at rest)) })
+escape_again One inner at own bytes rest (e, f) = rw (e, f) (record { no_end = and_right inner false refl; reads = inr (ap (λ (p : Rest). Some (left_bracket ∷ [], p)) (two_on at rest)) })
 escape_again Two inner at own bytes rest (b, is_b, e, f) = rw (e, f) (back_again Two inner at b rest refl is_b)
 escape_again Three inner at own bytes rest (b, is_b, e, f) = rw (e, f) (back_again Three inner at b rest refl is_b)
 
