@@ -4,7 +4,7 @@ use Rattle.std.specs.Prelude.{◌&&◌}
 use Rattle.std.specs.Char.{to_ascii_lowercase, is_ascii_digit}
 use Rattle.std.specs.List.{list_all}
 use Rattle.std.specs.Str.{str_to_ascii_lowercase, str_eq_ignore_ascii_case}
-use Rattle.std.proofs.lemmas.Bool.{cases_lt, and_parts}
+use Rattle.std.proofs.lemmas.Bool.{both_ways, cases_lt, and_parts}
 use Rattle.std.proofs.lemmas.Bool.Decides.{nat_tests}
 use Rattle.std.proofs.lemmas.Slice.Eq.{bytes_eq-Decides}
 use Rattle.std.proofs.lemmas.Str.Ascii.{lowercase_is}
@@ -59,7 +59,7 @@ Agrees p = (b c : ℕ) → to_ascii_lowercase b ≡ to_ascii_lowercase c → p b
 agrees : (p : ℕ → Bool) (answer : Bool) → ((b : ℕ) → IsLetter b → p b ≡ answer) → Agrees p
 agrees p answer of_letter b c e = elim (same_or_letters b c e) [
   | inl same ↦ ap p same
-  | inr and_parts ↦ of_letter b and_parts.0 ∙ sym (of_letter c and_parts.1)
+  | inr both ↦ of_letter b both.0 ∙ sym (of_letter c both.1)
 ]
 
 pub space_agrees : Agrees is_space
@@ -138,7 +138,7 @@ pub alike_byte : (b : ℕ) (bs zs : List ℕ) → (IsLetter b → ⊥) → Alike
 alike_byte b bs [] not_letter h = absurd h
 alike_byte b bs (c ∷ cs) not_letter h = elim (same_or_letters b c h.0) [
   | inl same ↦ (cs, ap (λ (n : ℕ). n ∷ cs) (sym same), h.1)
-  | inr and_parts ↦ absurd (not_letter and_parts.0)
+  | inr both ↦ absurd (not_letter both.0)
 ]
 
 pub alike_nothing : (zs : List ℕ) → Alike [] zs → zs ≡ []
@@ -159,12 +159,8 @@ digits_alike (b ∷ bs) (c ∷ cs) h = two (digit_agrees b c h.0) (digits_alike 
 digit_stays : (b c : ℕ) → to_ascii_lowercase b ≡ to_ascii_lowercase c → is_ascii_digit b ≡ true → b ≡ c
 digit_stays b c e is_digit = elim (same_or_letters b c e) [
   | inl same ↦ same
-  | inr letters ↦ absurd (clash (is_ascii_digit b) is_digit (letter_digit b letters.0))
+  | inr letters ↦ absurd (both_ways (is_ascii_digit b) (letter_digit b letters.0) is_digit)
 ]
-  where
-    clash : (x : Bool) → x ≡ true → x ≡ false → ⊥
-    clash true e f = absurd cc
-    clash false e f = absurd cc
 
 pub digits_same : (xs ys : List ℕ) → Alike xs ys → list_all is_ascii_digit xs ≡ true → xs ≡ ys
 digits_same [] [] h all = refl
