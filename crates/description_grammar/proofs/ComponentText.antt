@@ -18,11 +18,11 @@ use Rattle.description_grammar.specs.Faulty.{Behind, BadWord, missing_at, IsSing
 use Rattle.description_grammar.proofs.Results.{not_zero}
 use Rattle.description_grammar.proofs.ValueOrFault.{Reads, gives, refuses, either, in_turn}
 use Rattle.description_grammar.proofs.Runs.{each_run, stops_past, stops_from_none, cut_run, past_index, Takes, takes_then, takes_run, begins_cons, closed_reads, at_index, same_index, run_again, past_is, closed_again}
-use Rattle.description_grammar.proofs.Modifiers.{none_there, some_there, TakesModifiers, Refuses, modifiers_read, behind_space, no_word_there, modifiers_stop, modifiers_again, bad_modifiers_again}
+use Rattle.description_grammar.proofs.Modifiers.{none_there, some_there, TakesModifiers, Refuses, modifiers_read, behind_space, no_word_there, modifiers_again, bad_modifiers_again}
 use Rattle.description_grammar.proofs.Meaning.{head_elsewhere}
 use Rattle.description_grammar.proofs.Places.{at_first, behind_both, further_back}
 use Rattle.std.proofs.lemmas.Bool.Decides.{nat_tests}
-use Rattle.std.proofs.lemmas.Bool.{cond-true, cond-false}
+use Rattle.std.proofs.lemmas.Bool.{cond-false}
 use Rattle.description_lexer.specs.Further.{further}
 
 -- ---- the name
@@ -193,8 +193,7 @@ pub name_again : (bracket at : ℕ) (first : List ℕ) (name : Rest) (rest : Lis
 unfolding name_at
 name_again bracket at first name rest is_first is_name placed stops =
     let b = behind_space at first name.text rest is_first is_name stops in
-    let s : Rest = at_index at (first ++ (name.text ++ rest)) in
-    cond-true (has_word (past is_space s)) (ok_pair (run is_word_byte (past is_space s)) (past is_word_byte (past is_space s))) (Err (MissingComponentName (cond (eqb (prefix_len is_space s.text) 0) bracket at))) b.there ∙ pair (b.the_word ∙ same_index _ _ name.text (sym placed)) b.behind
+    rw b.there (pair (b.the_word ∙ same_index _ _ name.text (sym placed)) b.behind)
   where
     pair : {a b c d : Rest} → a ≡ c → b ≡ d → ok_pair a b ≡ ok_pair c d
     pair {a} {b} {c} {d} e f = ap (λ (a : Rest). ok_pair a b) e ∙ ap (λ (b : Rest). ok_pair c b) f
@@ -224,22 +223,6 @@ no_bracket_first (b ∷ bs) w more is_f is_w = space_is_none b is_f.0
     space_is_none b e = grind (arith, nat_tests)
 
 -- ---- the head
-
--- how a head begins: a name is read, and then the modifiers
-pub record BeginsHead (v : DescriptionVersion) (at : ℕ) (text head tail : List ℕ) (name : Rest) (ms : List Modifier) (h : SpellsHead v at head name ms) : Type 0 where
-  pub opens : begins left_bracket text ≡ true
-  pub once : begins left_bracket (after 1 (at_index at text)).text ≡ false
-  pub reads_name : name_at at (after 1 (at_index at text)) ≡ Ok (name, at_index (at + 1 + length h.first + length name.text) (h.middle ++ (h.last ++ tail)))
-
-pub begins_head : (v : DescriptionVersion) (at : ℕ) (text head tail : List ℕ) (name : Rest) (ms : List Modifier) (h : SpellsHead v at head name ms) → text ≡ head ++ tail → Stops is_word_byte (h.last ++ tail) → BeginsHead v at text head tail name ms h
-begins_head v at text head tail name ms h parts stops =
-    let more : List ℕ = h.middle ++ (h.last ++ tail) in
-    let all : text ≡ left_bracket ∷ (h.first ++ (name.text ++ more)) = parts ∙ rw h.parts (simp append_assoc) in
-    record {
-      opens = ap (begins left_bracket) all;
-      once = ap (λ (t : List ℕ). begins left_bracket (after 1 (at_index at t)).text) all ∙ no_bracket_first h.first name.text more h.is_first h.is_name;
-      reads_name = ap (λ (t : List ℕ). name_at at (after 1 (at_index at t))) all ∙ name_again at (at + 1) h.first name more h.is_first h.is_name h.name_at (modifiers_stop (at + 1 + length h.first + length name.text) h.middle ms (h.last ++ tail) h.modifiers stops);
-    }
 
 head_len : (v : DescriptionVersion) (at : ℕ) (head : List ℕ) (name : Rest) (ms : List Modifier) (h : SpellsHead v at head name ms) → at + 1 + length h.first + length name.text + length h.middle + length h.last ≡ at + length head
 head_len v at head name ms h = omega (arith, ap (length {A = ℕ}) h.parts, length-append h.first (name.text ++ (h.middle ++ h.last)), length-append name.text (h.middle ++ h.last), length-append h.middle h.last)

@@ -1,9 +1,9 @@
 -- What is read as items is spelled so, and what is refused has that fault.
-use Rattle.std.proofs.Common.{◌≡◌, ℕ, zero, suc, ◌+◌, ◌<◌, List, [], ◌∷◌, ◌++◌, length, take, drop, Option, Some, None, Result, Ok, Bool, true, false, cond, eqb, refl, sym, ap, subst, ◌∙◌, arith, inl, inr}
+use Rattle.std.proofs.Common.{◌≡◌, ℕ, zero, suc, ◌+◌, ◌<◌, List, [], ◌∷◌, ◌++◌, length, drop, Option, Some, None, Result, Ok, Bool, true, false, cond, eqb, refl, sym, ap, subst, ◌∙◌, arith, inl, inr}
 use Rattle.std.specs.Prelude.{codes, ◌&&◌, ◌||◌}
 use Rattle.std.proofs.lemmas.List.{append-nil, nil_from_length}
 use Rattle.std.proofs.lemmas.Bool.Decides.{nat_tests}
-use Rattle.std.proofs.lemmas.Bool.{both_ways, or_parts, or_from, not-false, not-true}
+use Rattle.std.proofs.lemmas.Bool.{both_ways, false_from_ne_true, or_parts, or_from, not-false, not-true}
 use Rattle.base.specs.Bytes.{left_bracket, right_bracket}
 use Rattle.description_lexer.specs.Fault.{Fault, UnclosedOpeningBracket, NotSupported}
 use Rattle.description_lexer.specs.Answer.{◌>>=◌}
@@ -13,7 +13,6 @@ use Rattle.description_lexer.specs.declared.version.DescriptionVersion.TheVarian
 use Rattle.description_lexer.specs.Text.{Rest, is_space, run, past, after, whole}
 use Rattle.description_lexer.specs.Many.{many}
 use Rattle.description_lexer.specs.Words.{is_named, begins}
-use Rattle.description_lexer.proofs.Readings.{chosen}
 use Rattle.description_lexer.proofs.Steps.{Steps, Shortens, Read}
 use Rattle.description_grammar.specs.Reading.{doubled_at, text_at, component_from, Nester, optional_at, no_bracket, first_at, bracket_at, literal_or, element_at, is_end, nested_at, read_items}
 use Rattle.description_grammar.specs.Heads.{Stops}
@@ -147,19 +146,10 @@ bracket_reads v inner levels nested s opens single =
 
 single_of : (v : DescriptionVersion) (s : Rest) → begins left_bracket s.text ≡ true → doubled_at v s ≡ None → IsSingle v (after 1 s).text
 unfolding doubled_at
-single_of One s opens e =
-    let it : List ℕ × Rest = (take 1 (after 1 s).text, after 1 (after 1 s)) in
-    elim (chosen (begins left_bracket s.text && begins left_bracket (after 1 s).text) (Some it) None None e) [
-      | inl h ↦ absurd (some_not it h.1)
-      | inr h ↦ second (begins left_bracket s.text) (begins left_bracket (after 1 s).text) opens h.0
-    ]
+single_of One s opens e = false_from_ne_true (begins left_bracket (after 1 s).text) (λ next. absurd (some_not _ (rw (opens, next) at e)))
   where
     some_not : (a : List ℕ × Rest) → Some a ≡ None → ⊥
     some_not a e = cc
-
-    second : (a b : Bool) → a ≡ true → (a && b) ≡ false → b ≡ false
-    second true b h k = k
-    second false b h k = absurd cc
 single_of Two s opens e = tt
 single_of Three s opens e = tt
 

@@ -1,8 +1,8 @@
 -- Items that are spelled so are read.
-use Rattle.std.proofs.Common.{◌≡◌, ℕ, zero, suc, ◌+◌, ◌<◌, List, [], ◌∷◌, ◌++◌, length, None, Result, Ok, Err, Bool, true, false, not, cond, eqb, refl, sym, ap, subst, ◌∙◌, append_assoc, arith, inl, inr}
+use Rattle.std.proofs.Common.{◌≡◌, ℕ, zero, suc, ◌+◌, ◌<◌, List, [], ◌∷◌, ◌++◌, length, None, Result, Ok, Bool, true, false, not, eqb, refl, sym, ap, subst, ◌∙◌, append_assoc, arith, inl, inr}
 use Rattle.std.specs.Prelude.{codes, ◌&&◌}
 use Rattle.std.proofs.lemmas.List.{length-append, append-nil}
-use Rattle.std.proofs.lemmas.Bool.{or_right, eqb-true, cond-true, cond-false, and_right, or_parts, or_from}
+use Rattle.std.proofs.lemmas.Bool.{or_right, eqb-true, cond-false, and_right, or_parts, or_from}
 use Rattle.base.specs.Bytes.{left_bracket, right_bracket}
 use Rattle.description_lexer.specs.Fault.{Fault}
 use Rattle.description_lexer.specs.Answer.{◌>>=◌}
@@ -13,7 +13,7 @@ use Rattle.description_lexer.specs.declared.version.DescriptionVersion.TheVarian
 use Rattle.description_lexer.specs.Version.{is_one, is_three}
 use Rattle.description_lexer.specs.Text.{Rest, is_space, is_word_byte, is_plain, past, after}
 use Rattle.description_lexer.specs.Words.{Modifier, is_named, begins, name_at, closed_at}
-use Rattle.description_grammar.specs.Reading.{doubled_at, unsupported_at, supported, optional_at, no_bracket, first_at, bracket_at, element_at, is_end, nested_at, read_items}
+use Rattle.description_grammar.specs.Reading.{doubled_at, supported, optional_at, no_bracket, first_at, bracket_at, element_at, is_end, nested_at, read_items}
 use Rattle.description_grammar.specs.Heads.{Each, Stops, IsWord, SpellsHead, SpellsComponent, SpellsOpening, SpellsNesting}
 use Rattle.description_grammar.specs.Spelling.{SpellsItems, SpellsItem, SpellsNested, SpellsAlternatives, Spells}
 use Rattle.description_grammar.proofs.Results.{not_zero}
@@ -21,7 +21,8 @@ use Rattle.description_grammar.proofs.Runs.{at_index, same_index, past_is, word_
 use Rattle.description_lexer.proofs.Steps.{Steps, steps_many}
 use Rattle.description_grammar.proofs.TextsSound.{SpellsText, text_more, text_some, BeginsText, text_again}
 use Rattle.description_grammar.proofs.Meaning.{head_elsewhere}
-use Rattle.description_grammar.proofs.ComponentText.{name_again, no_bracket_first, begins_head, component_again}
+use Rattle.description_grammar.proofs.Modifiers.{modifiers_stop}
+use Rattle.description_grammar.proofs.ComponentText.{name_again, no_bracket_first, component_again}
 use Rattle.description_grammar.proofs.Nesting.{not_optional, opening_len, from_start, from_opening, closed_here, ok_tree, Reader, nesting_at}
 use Rattle.description_grammar.proofs.Items.{alternatives_shorten, items_shorten, nested_reads, first_of_list, read_some, part_from, named_item}
 
@@ -57,31 +58,26 @@ unfolding doubled_at
 no_double v s h = cond-false (is_one v && (begins left_bracket s.text && begins left_bracket (after 1 s).text)) _ None (and_right (is_one v) _ (and_right (begins left_bracket s.text) _ h))
 
 -- a bracket and a name, and what they open
-pub element_opens : (v : DescriptionVersion) (levels : ℕ) (s name next : Rest) → begins left_bracket s.text ≡ true → doubled_at v s ≡ None → name_at s.index (after 1 s) ≡ Ok (name, next) → element_at v (nested_at v levels) s ≡ named_item v (nested_at v levels) s.index (name, next)
+name_begins : (v : DescriptionVersion) (levels i : ℕ) (text first more : List ℕ) (name : Rest) → text ≡ left_bracket ∷ (first ++ (name.text ++ more)) → Each is_space first → IsWord name.text → name.index ≡ i + 1 + length first → Stops is_word_byte more
+    → (begins left_bracket text ≡ true) × (element_at v (nested_at v levels) (at_index i text) ≡ named_item v (nested_at v levels) i (name, at_index (i + 1 + length first + length name.text) more))
 unfolding element_at bracket_at
-element_opens v levels s name next opens single is_name = rw (single, opens) (ap (λ (r : Result (Rest × Rest) Fault). r >>= named_item v (nested_at v levels) s.index) is_name)
+name_begins v levels i text first more name parts is_first is_name placed stops =
+    let opens : begins left_bracket text ≡ true = ap (begins left_bracket) parts in
+    let once = ap (λ (t : List ℕ). begins left_bracket (after 1 (at_index i t)).text) parts ∙ no_bracket_first first name.text more is_first is_name in
+    let named = ap (λ (t : List ℕ). name_at i (after 1 (at_index i t))) parts ∙ name_again i (i + 1) first name more is_first is_name placed stops in
+    (opens, rw (no_double v (at_index i text) once, opens) (ap (λ (r : Result (Rest × Rest) Fault). r >>= named_item v (nested_at v levels) i) named))
 
-pub names_part : (v : DescriptionVersion) (levels bracket : ℕ) (name next : Rest) → is_named v name.text (codes "optional") ≡ false → is_named v name.text (codes "first") ≡ false → named_item v (nested_at v levels) bracket (name, next) ≡ part_from v bracket (name, next)
-names_part v levels bracket name next no_optional no_first =
-    cond-false (is_named v name.text (codes "optional")) (optional_at v (nested_at v levels) bracket next) (cond (is_named v name.text (codes "first")) (first_at v (nested_at v levels) bracket next) (part_from v bracket (name, next))) no_optional
-    ∙ cond-false (is_named v name.text (codes "first")) (first_at v (nested_at v levels) bracket next) (part_from v bracket (name, next)) no_first
-
-pub names_optional : (v : DescriptionVersion) (levels bracket : ℕ) (name next : Rest) → is_named v name.text (codes "optional") ≡ true → named_item v (nested_at v levels) bracket (name, next) ≡ optional_at v (nested_at v levels) bracket next
-names_optional v levels bracket name next h = cond-true (is_named v name.text (codes "optional")) (optional_at v (nested_at v levels) bracket next) (cond (is_named v name.text (codes "first")) (first_at v (nested_at v levels) bracket next) (part_from v bracket (name, next))) h
-
-pub names_first : (v : DescriptionVersion) (levels bracket : ℕ) (name next : Rest) → is_named v name.text (codes "first") ≡ true → named_item v (nested_at v levels) bracket (name, next) ≡ first_at v (nested_at v levels) bracket next
-names_first v levels bracket name next h =
-    cond-false (is_named v name.text (codes "optional")) (optional_at v (nested_at v levels) bracket next) (cond (is_named v name.text (codes "first")) (first_at v (nested_at v levels) bracket next) (part_from v bracket (name, next))) (not_optional v name.text h)
-    ∙ cond-true (is_named v name.text (codes "first")) (first_at v (nested_at v levels) bracket next) (part_from v bracket (name, next)) h
+names_part : (v : DescriptionVersion) (levels bracket : ℕ) (name next : Rest) → is_named v name.text (codes "optional") ≡ false → is_named v name.text (codes "first") ≡ false → named_item v (nested_at v levels) bracket (name, next) ≡ part_from v bracket (name, next)
+names_part v levels bracket name next no_optional no_first = rw (no_optional, no_first) refl
 
 -- a head, and what is read behind it
 pub head_opens : (v : DescriptionVersion) (levels i : ℕ) (text head tail : List ℕ) (name : Rest) (ms : List Modifier) (h : SpellsHead v i head name ms) → text ≡ head ++ tail → Stops is_word_byte (h.last ++ tail)
     → (begins left_bracket text ≡ true) × (element_at v (nested_at v levels) (at_index i text) ≡ part_from v i (name, at_index (i + 1 + length h.first + length name.text) (h.middle ++ (h.last ++ tail))))
 head_opens v levels i text head tail name ms h parts stops =
-    let b = begins_head v i text head tail name ms h parts stops in
+    let more : List ℕ = h.middle ++ (h.last ++ tail) in
     let not_nesting = or_parts _ _ h.no_nesting in
-    let next : Rest = at_index (i + 1 + length h.first + length name.text) (h.middle ++ (h.last ++ tail)) in
-    (b.opens, element_opens v levels (at_index i text) name next b.opens (no_double v (at_index i text) b.once) b.reads_name ∙ names_part v levels i name next not_nesting.0 not_nesting.1)
+    let c = name_begins v levels i text h.first more name (parts ∙ rw h.parts (simp append_assoc)) h.is_first h.is_name h.name_at (modifiers_stop (i + 1 + length h.first + length name.text) h.middle ms (h.last ++ tail) h.modifiers stops) in
+    (c.0, c.1 ∙ names_part v levels i name (at_index (i + 1 + length h.first + length name.text) more) not_nesting.0 not_nesting.1)
 
 -- ---- nested descriptions
 
@@ -167,11 +163,8 @@ pub name_opens : {A : Type 0} (v : DescriptionVersion) (levels : ℕ) (nesting w
     → (begins left_bracket text ≡ true) × (element_at v (nested_at v levels) (at_index i text) ≡ nesting_at v what read make i (at_index (i + 1 + length first + length word) more))
 name_opens v levels nesting what read make nests i text first word more parts is_first is_word is_name stops =
     let name : Rest = at_index (i + 1 + length first) word in
-    let next : Rest = at_index (i + 1 + length first + length word) more in
-    let opens : begins left_bracket text ≡ true = ap (begins left_bracket) parts in
-    let once = ap (λ (t : List ℕ). begins left_bracket (after 1 (at_index i t)).text) parts ∙ no_bracket_first first word more is_first is_word in
-    let named = ap (λ (t : List ℕ). name_at i (after 1 (at_index i t))) parts ∙ name_again i (i + 1) first name more is_first is_word refl stops in
-    (opens, element_opens v levels (at_index i text) name next opens (no_double v (at_index i text) once) named ∙ nests i name next is_name)
+    let c = name_begins v levels i text first more name parts is_first is_word refl stops in
+    (c.0, c.1 ∙ nests i name (at_index (i + 1 + length first + length word) more) is_name)
 
 pub opening_opens : {A : Type 0} (v : DescriptionVersion) (levels : ℕ) (nesting what : List ℕ) (read : Reader A) (make : A → Tree) → IsNesting v levels nesting what read make
     → (i : ℕ) (text opening tail : List ℕ) → SpellsOpening v nesting opening → text ≡ opening ++ tail → begins left_bracket tail ≡ true
@@ -191,15 +184,15 @@ nesting_again v levels nesting what read make nests i own rest Inside h a opens 
     (c.0, c.1 ∙ ap (from_start v make i) reads ∙ closed_here v make i (i + length h.opening + length h.inside) rest a ∙ ap (supported v i (make a)) (same_index _ _ rest len))
 
 pub is_supported : (v : DescriptionVersion) (bracket : ℕ) (t : Tree) (rest : Rest) → is_three v ≡ true → supported v bracket t rest ≡ ok_tree t rest
-is_supported v bracket t rest three = cond-true (is_three v) (ok_tree t rest) (Err (unsupported_at bracket)) three
+is_supported v bracket t rest three = rw three refl
 
 pub optional_nests : (v : DescriptionVersion) (levels : ℕ) → IsNesting v levels (codes "optional") (codes "whitespace after `optional`") (nested_at v levels) (Optional true)
 unfolding optional_at
-optional_nests v levels bracket name next h = names_optional v levels bracket name next h
+optional_nests v levels bracket name next h = rw h refl
 
 pub first_nests : (v : DescriptionVersion) (levels : ℕ) → IsNesting v levels (codes "first") (codes "whitespace after `first`") (read_some v levels) first_of_list
 unfolding first_at
-first_nests v levels bracket name next h = names_first v levels bracket name next h
+first_nests v levels bracket name next h = rw (not_optional v name.text h, h) refl
 
 optional_reads : (v : DescriptionVersion) (inner : Bool) (levels : ℕ) → NestedAgain v levels → (i : ℕ) (own rest : List ℕ) (t : Tree) → is_three v ≡ true → SpellsNesting v (codes "optional") own (λ inside. SpellsNested v levels inside t) → ReadsItem v inner levels i own rest (Optional true t)
 optional_reads v inner levels again i own rest t three h =

@@ -6,6 +6,7 @@ use Rattle.std.proofs.lemmas.List.{take-append-drop, take_at, drop_at}
 use Rattle.std.proofs.lemmas.List.Folds.{length-prefix_len}
 use Rattle.std.proofs.lemmas.Bool.Decides.{nat_tests}
 use Rattle.std.proofs.lemmas.Bool.{and_right, and_parts}
+use Rattle.std.proofs.lemmas.Option.{cond_some}
 use Rattle.base.specs.Bytes.{left_bracket, backslash, right_bracket}
 use Rattle.description_lexer.specs.Fault.{Fault, Expected}
 use Rattle.description_lexer.specs.declared.version.DescriptionVersion.{DescriptionVersion}
@@ -13,7 +14,6 @@ use Rattle.description_lexer.specs.declared.version.DescriptionVersion.TheVarian
 use Rattle.description_lexer.specs.Version.{is_one}
 use Rattle.description_lexer.specs.Text.{Rest, is_plain, after}
 use Rattle.description_lexer.specs.Words.{begins, is_escape, escape_at, literal_len}
-use Rattle.description_lexer.proofs.Readings.{chosen}
 use Rattle.description_lexer.specs.Further.{further}
 use Rattle.description_grammar.specs.Reading.{doubled_at, text_at}
 use Rattle.description_grammar.specs.Heads.{Stops, MayBegin, SpellsLiteral, IsEscapable, SpellsEscape}
@@ -112,21 +112,12 @@ pub doubled_takes : (v : DescriptionVersion) (inner : Bool) (s : Rest) (x : List
 unfolding doubled_at
 doubled_takes v inner s x e =
     let it : List ℕ × Rest = (take 1 (after 1 s).text, after 1 (after 1 s)) in
-    elim (chosen (is_one v && (begins left_bracket s.text && begins left_bracket (after 1 s).text)) (Some it) None (Some x) e) [
-      | inl h ↦
-          let a = and_parts (is_one v) (begins left_bracket s.text && begins left_bracket (after 1 s).text) h.0 in
-          let b = and_parts (begins left_bracket s.text) (begins left_bracket (after 1 s).text) a.1 in
-          let two = two_bytes left_bracket left_bracket s b.0 b.1 in
-          subst (λ (y : List ℕ × Rest). TakesText v inner s y.0 y.1) (some_is it x h.1) (record { own = left_bracket ∷ left_bracket ∷ []; takes = two.0; spells = rw two.1 (inr (spelled v a.0)) })
-      | inr h ↦ absurd (none_not x h.1)
-    ]
+    let c = cond_some (is_one v && (begins left_bracket s.text && begins left_bracket (after 1 s).text)) it x e in
+    let a = and_parts (is_one v) (begins left_bracket s.text && begins left_bracket (after 1 s).text) c.0 in
+    let b = and_parts (begins left_bracket s.text) (begins left_bracket (after 1 s).text) a.1 in
+    let two = two_bytes left_bracket left_bracket s b.0 b.1 in
+    subst (λ (y : List ℕ × Rest). TakesText v inner s y.0 y.1) c.1 (record { own = left_bracket ∷ left_bracket ∷ []; takes = two.0; spells = rw two.1 (inr (spelled v a.0)) })
   where
-    some_is : (a b : List ℕ × Rest) → Some a ≡ Some b → a ≡ b
-    some_is a b e = cc
-
-    none_not : (a : List ℕ × Rest) → None ≡ Some a → ⊥
-    none_not a e = cc
-
     spelled : (v : DescriptionVersion) → is_one v ≡ true → SpellsEscape v (left_bracket ∷ left_bracket ∷ []) (left_bracket ∷ [])
     spelled One h = (refl, refl)
     spelled Two h = absurd cc
