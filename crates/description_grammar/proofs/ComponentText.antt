@@ -183,7 +183,7 @@ component_reads v s name next opens n no_nesting = in_turn _ _ (modifiers_read n
               (d.0, inr (inr (record { head = g.head; name = h.name_there; modifiers = h.modifiers; rest = rest.text; parts = parts; is_head = h.is_head; means = d.1 })), further_back s.index e d.0 d.2);
         })
 
--- ---- the name
+-- ---- a name that is spelled so is read
 
 abbrev ok_pair : Rest → Rest → Result (Rest × Rest) Fault
 ok_pair a b = Ok (a, b)
@@ -222,7 +222,7 @@ no_bracket_first (b ∷ bs) w more is_f is_w = space_is_none b is_f.0
     space_is_none : (b : ℕ) → is_space b ≡ true → eqb b left_bracket ≡ false
     space_is_none b e = grind (arith, nat_tests)
 
--- ---- the head
+-- ---- so is a head
 
 head_len : (v : DescriptionVersion) (at : ℕ) (head : List ℕ) (name : Rest) (ms : List Modifier) (h : SpellsHead v at head name ms) → at + 1 + length h.first + length name.text + length h.middle + length h.last ≡ at + length head
 head_len v at head name ms h = omega (arith, ap (length {A = ℕ}) h.parts, length-append h.first (name.text ++ (h.middle ++ h.last)), length-append name.text (h.middle ++ h.last), length-append h.middle h.last)
@@ -238,7 +238,7 @@ whole_head v at head tail name ms h no_s no_w =
     let mods = modifiers_again ms (at + 1 + length h.first + length name.text) h.middle h.last tail h.modifiers h.is_last no_s no_w in
     ap (from_modifiers v at name) mods ∙ ap (λ (p : Rest). from_modifiers v at name (Ok (ms, p))) (same_index _ _ tail (head_len v at head name ms h))
 
--- ---- the component
+-- ---- so is a component, and what is wrong there is refused
 
 pub component_again : (v : DescriptionVersion) (at : ℕ) (head rest : List ℕ) (name : Rest) (ms : List Modifier) (c : Component) (h : SpellsHead v at head name ms) → component_of v name ms ≡ Ok c
     → component_from v at name (at_index (at + 1 + length h.first + length name.text) (h.middle ++ (h.last ++ right_bracket ∷ rest))) ≡ Ok (c, at_index (at + length head + 1) rest)

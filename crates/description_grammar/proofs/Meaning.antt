@@ -1,5 +1,5 @@
 -- What a component means, or what is wrong with it, by other words that the tables take alike; and where it stands elsewhere.
-use Rattle.std.proofs.Common.{◌≡◌, ℕ, ◌+◌, List, [], ◌∷◌, length, Option, Some, None, Result, Ok, Err, Bool, true, false, not, cond, refl, subst, arith}
+use Rattle.std.proofs.Common.{◌≡◌, ℕ, ◌+◌, List, [], ◌∷◌, length, Option, Some, None, Result, Ok, Err, Bool, true, false, not, cond, refl, sym, ap, subst, ◌∙◌, arith}
 use Rattle.std.specs.Prelude.{◌&&◌, codes}
 use Rattle.description_lexer.specs.Fault.{Fault, InvalidComponentName, InvalidModifier, MissingRequiredModifier, DuplicateModifier, InvalidModifierCombination}
 use Rattle.description_lexer.specs.Answer.{◌>>=◌}
@@ -105,8 +105,8 @@ component_agrees v p q ls ms same unknown lacking all =
 abbrev pub SamePlace : ℕ → ℕ → Fault → Fault → Type 0
 SamePlace at to e f = (d : Fault) × (e ≡ further at d) × (f ≡ further to d)
 
-placed : (at to i j n : ℕ) (make : ℕ → Fault) → further at (make n) ≡ make (at + n) → further to (make n) ≡ make (to + n) → i ≡ at + n → j ≡ to + n → SamePlace at to (make i) (make j)
-placed at to i j n make e f is_i is_j = (make n, rw (e, is_i) refl, rw (f, is_j) refl)
+placed : (at to i n : ℕ) (make : ℕ → Fault) → further at (make n) ≡ make (at + n) → further to (make n) ≡ make (to + n) → i ≡ at + n → SamePlace at to (make i) (make (to + n))
+placed at to i n make e f is = (make n, ap make is ∙ sym e, sym f)
 
 record WordsElsewhere (v : DescriptionVersion) (at to n : ℕ) (own : List ℕ) (ms : List Modifier) : Type 0 where
   others : List Modifier
@@ -131,10 +131,10 @@ words_elsewhere v (m ∷ ms) at to n own (first, rest, parts, one, more) =
         record {
           key = refl;
           value = λ x c k. refl;
-          bad_key = placed at to m.key.index (to + key_n) key_n (λ i. InvalidModifier m.key.text i) refl refl key_is refl;
-          bad_value = placed at to m.value.index (to + value_n) value_n (λ i. InvalidModifier m.value.text i) refl refl value_is refl;
-          twice = placed at to m.key.index (to + key_n) key_n (λ i. DuplicateModifier m.key.text i) refl refl key_is refl;
-          idle = λ x. placed at to m.key.index (to + key_n) key_n (λ i. InvalidModifierCombination m.key.text (name_text x) i) refl refl key_is refl;
+          bad_key = placed at to m.key.index key_n (λ i. InvalidModifier m.key.text i) refl refl key_is;
+          bad_value = placed at to m.value.index value_n (λ i. InvalidModifier m.value.text i) refl refl value_is;
+          twice = placed at to m.key.index key_n (λ i. DuplicateModifier m.key.text i) refl refl key_is;
+          idle = λ x. placed at to m.key.index key_n (λ i. InvalidModifierCombination m.key.text (name_text x) i) refl refl key_is;
         },
         others.same,
       );
@@ -145,7 +145,6 @@ pub record HeadElsewhere (v : DescriptionVersion) (at to : ℕ) (head : List ℕ
   pub name_there : Rest
   pub modifiers : List Modifier
   pub is_head : SpellsHead v to head name_there modifiers
-  pub first_is : is_head.first ≡ h.first
   pub last_is : is_head.last ≡ h.last
   pub agrees : Agrees (SamePlace at to) (component_of v name ms) (component_of v name_there modifiers)
 
@@ -160,7 +159,6 @@ head_elsewhere v at to head name ms h =
       name_there = there;
       modifiers = words.others;
       is_head = record { first = h.first; middle = h.middle; last = h.last; parts = h.parts; is_first = h.is_first; is_name = h.is_name; no_nesting = h.no_nesting; name_at = omega arith; modifiers = subst (λ (i : ℕ). SpellsModifiers i h.middle words.others) (omega arith) words.spells; is_last = h.is_last };
-      first_is = refl;
       last_is = refl;
-      agrees = component_agrees v name there ms words.others refl (placed at to name.index (to + n) n (λ i. InvalidComponentName name.text i) refl refl name_is refl) (placed at to name.index (to + n) n (λ i. MissingRequiredModifier (codes "count") i) refl refl name_is refl) words.same;
+      agrees = component_agrees v name there ms words.others refl (placed at to name.index n (λ i. InvalidComponentName name.text i) refl refl name_is) (placed at to name.index n (λ i. MissingRequiredModifier (codes "count") i) refl refl name_is) words.same;
     }

@@ -226,7 +226,7 @@ modifiers_read s stops = in_turn _ _ (many_read no_modifier modifier_at modifier
           bad = subst (λ (i : ℕ). Behind i (BadWord word.text) e) (omega (arith, words.takes.index, past_index is_space f.bad)) ((word_reads word (each_run is_word_byte start.text)).err e is_bad);
         }
 
--- ---- one word
+-- ---- a word that is spelled so is read
 
 drop_past : (xs ys : List ℕ) (b : ℕ) → drop (length xs + 1) (xs ++ b ∷ ys) ≡ ys
 drop_past [] ys b = refl
@@ -265,7 +265,7 @@ bad_word_again at word e some (inr (inr (key, some_key, each, parts, f))) =
     let c : eqb (length key + 1) (length (key ++ colon ∷ [])) ≡ true = eq-eqb _ _ (omega (arith, len)) in
     rw (f, parts, n, a, b, c) refl
 
--- ---- a word behind white space
+-- ---- so is one behind white space
 
 pub word_there : (w : List ℕ) (rest : List ℕ) (i : ℕ) → IsWord w → Stops is_word_byte rest → has_word (at_index i (w ++ rest)) ≡ true
 word_there w rest i is_w stops = let n = run_again is_word_byte w rest is_w.1 stops in let z = not_zero (length w) is_w.0 in rw (n, z) refl
@@ -314,7 +314,7 @@ bad_step at blank word next e is_s is_w stops is_e =
 going_on : (at : ℕ) (blank word next : List ℕ) → Each is_space blank → IsWord word → Stops is_word_byte next → no_modifier (at_index at (blank ++ (word ++ next))) ≡ false
 going_on at blank word next is_s is_w stops = rw ((behind_space at blank word next is_s is_w stops).there) refl
 
--- ---- modifiers
+-- ---- so are modifiers, and a word that is none is refused
 
 -- modifiers begin with white space
 pub modifiers_stop : (at : ℕ) (own : List ℕ) (ms : List Modifier) (rest : List ℕ) → SpellsModifiers at own ms → Stops is_word_byte rest → Stops is_word_byte (own ++ rest)

@@ -215,7 +215,7 @@ not_optional One word h = nat_list_eq_equiv.congr (str_to_ascii_lowercase word) 
 not_optional Two word h = nat_list_eq_equiv.congr (str_to_ascii_lowercase word) (str_to_ascii_lowercase (codes "first")) (str_to_ascii_lowercase (codes "optional")) h
 not_optional Three word h = nat_list_eq_equiv.congr word (codes "first") (codes "optional") h
 
--- ---- the white space and the bracket
+-- ---- white space and a bracket that are spelled so are read
 
 abbrev unequal : List ℕ → List ℕ → Type 0
 unequal blank tail = eqb (length tail) (length (blank ++ tail)) ≡ false
@@ -238,7 +238,7 @@ unspaced_again what i rest stops = rw (run_again is_space [] rest tt stops, eq-e
 pub opening_len : (v : DescriptionVersion) (nesting opening : List ℕ) (i : ℕ) (o : SpellsOpening v nesting opening) → i + 1 + length o.first + length o.word + length o.blank ≡ i + length opening
 opening_len v nesting opening i o = omega (arith, ap (length {A = ℕ}) o.parts, length-append o.first (o.word ++ o.blank), length-append o.word o.blank)
 
--- ---- what is nested
+-- ---- so is what is nested, and what is wrong there is refused
 
 abbrev pub from_start : {A : Type 0} → DescriptionVersion → (A → Tree) → ℕ → Result (A × Rest) Fault → Result (Tree × Rest) Fault
 from_start v make bracket r = r >>= λ x. closed_at bracket x.1 >>= λ rest. supported v bracket (make x.0) rest

@@ -1,4 +1,4 @@
--- The first fault of a text that is no description. A fault's index counts from the first byte of its construct, and from there to the text's.
+-- The first fault of a text that is no description. A fault's index counts from the first byte of its own construct; behind a front it is further on.
 use Rattle.std.specs.Prelude.{◌≡◌, ℕ, zero, suc, ◌+◌, ◌<◌, Bool, true, false, List, [], ◌∷◌, ◌++◌, length, Err, codes, ◌⊎◌}
 use Rattle.base.specs.Bytes.{colon, left_bracket, backslash, right_bracket}
 use Rattle.description_lexer.specs.Fault.{Fault, UnclosedOpeningBracket, InvalidModifier, MissingComponentName, Expected, NotSupported}
