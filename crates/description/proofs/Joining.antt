@@ -1,19 +1,24 @@
--- One description behind another.
-use Rattle.std.proofs.Common.{◌≡◌, ℕ, ◌<◌, List, [], ◌∷◌, ◌++◌, length, true, false, refl, sym, ap, subst, ◌∙◌, append_assoc, arith, inl, inr, ◌⊎◌}
+-- One description behind another, and a fault behind a description.
+use Rattle.std.proofs.Common.{◌≡◌, ℕ, ◌<◌, List, [], ◌∷◌, ◌++◌, length, true, false, refl, sym, ap, subst, ◌∙◌, append_assoc, arith, inl, inr, ◌⊎◌, ◌+◌}
 use Rattle.std.specs.Prelude.{◌==◌, ◌||◌, not}
 use Rattle.std.proofs.lemmas.List.{length-append, append-nil}
 use Rattle.std.proofs.lemmas.Bool.Decides.{nat_tests}
 use Rattle.base.specs.Bytes.{left_bracket, backslash, right_bracket}
-use Rattle.description_items.specs.Tree.{Tree, Literal, Part, Compound, Optional, First}
+use Rattle.description_items.specs.Tree.{Tree, Literal, Part, Compound, Optional, First, Trees, listed}
 use Rattle.description_lexer.specs.declared.version.DescriptionVersion.{DescriptionVersion}
 use Rattle.description_lexer.specs.declared.version.DescriptionVersion.TheVariants.{One, Two, Three}
 use Rattle.description_lexer.specs.Text.{is_bracket, is_plain}
-use Rattle.description_grammar.specs.Heads.{Stops, SpellsLiteral, SpellsEscape, SpellsNesting}
-use Rattle.description_grammar.specs.Spelling.{SpellsItem, Spells}
+use Rattle.description_grammar.specs.Heads.{SpellsLiteral, SpellsEscape, SpellsNesting}
+use Rattle.description_grammar.specs.Spelling.{SpellsItem, Spells, SpellsItems}
 use Rattle.description.specs.Laws.{EndsIn, IsFirm, AreApart, Joins}
 use Rattle.description_grammar.proofs.Runs.{which, each_append}
 use Rattle.description_grammar.proofs.TextsSound.{text_some}
 use Rattle.description_grammar.proofs.Items.{item_front}
+use Rattle.description_grammar.proofs.ItemsComplete.{item_more, unlisted, listed_again}
+use Rattle.description_lexer.specs.Fault.{Fault}
+use Rattle.description_lexer.specs.Further.{further}
+use Rattle.description_grammar.specs.Faulty.{Faulty}
+use Rattle.description_grammar.proofs.Places.{further_twice}
 
 -- ---- what stands behind an item
 
@@ -34,16 +39,6 @@ item_longer v own (b ∷ bs) tail (Part c) some h = h
 item_longer v own (b ∷ bs) tail (Optional f t) some h = h
 item_longer v own (b ∷ bs) tail (First ts) some h = h
 item_longer v own (b ∷ bs) tail (Compound ts) some h = absurd h
-
--- where nothing goes on behind an item
-item_before : (v : DescriptionVersion) (own tail : List ℕ) (t : Tree) → Stops (is_plain v) tail → SpellsItem v false 127 own [] t → SpellsItem v false 127 own tail t
-item_before v own tail (Literal []) stops (inl h) = absurd h.1
-item_before v own tail (Literal (c ∷ cs)) stops (inl h) = inl (h.0, (h.1.0, h.1.1, stops))
-item_before v own tail (Literal bytes) stops (inr h) = inr h
-item_before v own tail (Part c) stops h = h
-item_before v own tail (Optional f t) stops h = h
-item_before v own tail (First ts) stops h = h
-item_before v own tail (Compound ts) stops h = absurd h
 
 -- an item is firm, or a literal as it stands
 firm_or_literal : (v : DescriptionVersion) (own : List ℕ) (t : Tree) → SpellsItem v false 127 own [] t → IsFirm v own t ⊎ ((bytes : List ℕ) × (t ≡ Literal bytes) × (own ≡ bytes) × SpellsLiteral v false bytes [])
@@ -130,7 +125,7 @@ last_item v s t own more x ts parts ended one others = by_kind (firm_or_literal 
     goes_on bytes (b ∷ bs) is_x is_bytes literal all h = by_plain (which (is_plain v b))
       where
         by_plain : ((is_plain v b ≡ true) ⊎ (is_plain v b ≡ false)) → Joins v s (b ∷ bs) (x ∷ []) ts
-        by_plain (inr stops) = inl (inl stops, (own, b ∷ bs, all, item_before v own (b ∷ bs) x stops alone, h))
+        by_plain (inr stops) = inl (inl stops, (own, b ∷ bs, all, item_more v false 127 own [] (b ∷ bs) x stops alone, h))
         by_plain (inl plain) =
             let n : BeginsLiteral v (b ∷ bs) ts = begins_literal v b bs ts plain h in
             let same : Literal bytes ≡ x = sym is_x in
@@ -195,3 +190,22 @@ joined_texts v s t (x ∷ (y ∷ ys)) ts (own, more, parts, one, others) h = one
   where
     next_some : Spells v more (y ∷ ys) → 0 < length more
     next_some (own2, more2, parts2, one2, others2) = omega (arith, ap (length {A = ℕ}) parts2, length-append own2 more2, item_some v own2 more2 y one2)
+
+joins_spelled : (v : DescriptionVersion) (s t : List ℕ) (ss ts : List Tree) → Joins v s t ss ts → (us : List Tree) × Spells v (s ++ t) us
+joins_spelled v s t ss ts (inl h) = (ss ++ ts, h.1)
+joins_spelled v s t ss ts (inr g) = (_, g.joined)
+
+pub fault_behind : (v : DescriptionVersion) (s t : List ℕ) (ss : List Tree) (e : Fault) → Spells v s ss → Faulty v t e → Faulty v (s ++ t) (further (length s) e)
+fault_behind v s t ss e h f =
+    let front : Spells v f.front (unlisted f.items) = subst (λ (ts : Trees). SpellsItems v false 127 f.front ts) (sym (listed_again f.items)) f.is_front in
+    let all = joins_spelled v s f.front ss (unlisted f.items) (joined_texts v s f.front ss (unlisted f.items) h front) in
+    let own : Fault = f.is_bad.0 in
+    let place : length s + length f.front ≡ length (s ++ f.front) = omega (arith, length-append s f.front) in
+    record {
+      items = listed all.0;
+      front = s ++ f.front;
+      bad = f.bad;
+      parts = ap (λ (x : List ℕ). s ++ x) f.parts ∙ sym (append_assoc s f.front f.bad);
+      is_front = all.1;
+      is_bad = (own, f.is_bad.1, ap (further (length s)) f.is_bad.2 ∙ further_twice (length s) (length f.front) own ∙ ap (λ (n : ℕ). further n own) place);
+    }

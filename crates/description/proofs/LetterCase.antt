@@ -4,6 +4,7 @@ use Rattle.std.specs.Str.{str_eq_ignore_ascii_case}
 use Rattle.base.specs.Bytes.{colon, left_bracket, right_bracket}
 use Rattle.description_items.specs.declared.component.Component.{Component}
 use Rattle.description_items.specs.Tree.{Tree, Part}
+use Rattle.description_lexer.specs.Fault.{Fault}
 use Rattle.description_lexer.specs.declared.version.DescriptionVersion.{DescriptionVersion}
 use Rattle.description_lexer.specs.declared.version.DescriptionVersion.TheVariants.{One, Two, Three}
 use Rattle.description_lexer.specs.Version.{is_three}
@@ -12,7 +13,7 @@ use Rattle.description_lexer.specs.Words.{Modifier}
 use Rattle.description_grammar.specs.Heads.{Stops, SpellsModifier, SpellsModifiers, SpellsComponent}
 use Rattle.description_grammar.specs.Spelling.{Spells}
 use Rattle.description_grammar.proofs.Runs.{at_index}
-use Rattle.description_grammar.proofs.Meaning.{AreAlike, AllAlike, component_moved}
+use Rattle.description_grammar.proofs.Meaning.{AreAlike, AllAlike, component_agrees}
 use Rattle.description.proofs.Letters.{IsLetter, space_agrees, colon_agrees, Alike, alike_from, lower_same, alike_length, alike_each, alike_word, CutAlike, cut_alike, alike_byte, alike_nothing}
 use Rattle.description.proofs.CasedTables.{name_cased, key_cased, nesting_cased, value_cased}
 use Rattle.description_grammar.proofs.ItemsComplete.{item_more}
@@ -31,10 +32,14 @@ no_colon_letter (lo, hi, h) = omega arith
 
 -- ---- modifiers
 
+-- what is wrong with words in another case is not compared
+abbrev any_faults : Fault → Fault → Type 0
+any_faults e f = Unit {0}
+
 record ModifierAlike (v : DescriptionVersion) (at : ℕ) (own : List ℕ) (m : Modifier) : Type 0 where
   other : Modifier
   spells : SpellsModifier at own other
-  alike : AreAlike v m other
+  alike : AreAlike v any_faults m other
 
 modifier_alike : (v : DescriptionVersion) (at to : ℕ) (own other : List ℕ) (m : Modifier) → is_three v ≡ false → SpellsModifier at own m → Alike own other → ModifierAlike v to other m
 modifier_alike v at to own other m h s a =
@@ -55,13 +60,13 @@ modifier_alike v at to own other m h s a =
         key_at = refl;
         value_at = refl;
       };
-      alike = record { key = key_cased v m.key.text k.front h (lower_same m.key.text k.front k.is_front); value = value_cased v m.value.text value.0 h value.2 };
+      alike = record { key = key_cased v m.key.text k.front h (lower_same m.key.text k.front k.is_front); value = value_cased v m.value.text value.0 h value.2; bad_key = tt; bad_value = tt; twice = tt; idle = λ x. tt };
     }
 
 record ModifiersAlike (v : DescriptionVersion) (at : ℕ) (own : List ℕ) (ms : List Modifier) : Type 0 where
   others : List Modifier
   spells : SpellsModifiers at own others
-  alike : AllAlike v ms others
+  alike : AllAlike v any_faults ms others
 
 modifiers_alike : (v : DescriptionVersion) (ms : List Modifier) (at to : ℕ) (own other : List ℕ) → is_three v ≡ false → SpellsModifiers at own ms → Alike own other → ModifiersAlike v to other ms
 modifiers_alike v [] at to own other h e a = record { others = []; spells = alike_nothing other (subst (λ (t : List ℕ). Alike t other) e a); alike = tt }
@@ -103,7 +108,7 @@ component_alike v own other c h a s =
         modifiers = words.spells;
         is_last = alike_each is_space space_agrees g.last middle.back middle.is_back g.is_last;
       };
-      means = component_moved v s.name there s.modifiers words.others c (name_cased v s.name.text name.front h same) words.alike s.means;
+      means = (component_agrees v s.name there s.modifiers words.others (name_cased v s.name.text name.front h same) tt tt words.alike).ok c s.means;
     }
 
 pub component_cased : (v : DescriptionVersion) (own other : List ℕ) (c : Component) → is_three v ≡ false → str_eq_ignore_ascii_case own other ≡ true → SpellsComponent v own c → SpellsComponent v other c

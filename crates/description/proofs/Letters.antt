@@ -4,13 +4,12 @@ use Rattle.std.specs.Prelude.{◌&&◌}
 use Rattle.std.specs.Char.{to_ascii_lowercase, is_ascii_digit}
 use Rattle.std.specs.List.{list_all}
 use Rattle.std.specs.Str.{str_to_ascii_lowercase, str_eq_ignore_ascii_case}
-use Rattle.std.proofs.lemmas.Bool.{cases_lt}
+use Rattle.std.proofs.lemmas.Bool.{both_ways, cases_lt, and_parts}
 use Rattle.std.proofs.lemmas.Bool.Decides.{nat_tests}
 use Rattle.std.proofs.lemmas.Slice.Eq.{bytes_eq-Decides}
 use Rattle.std.proofs.lemmas.Str.Ascii.{lowercase_is}
 use Rattle.description_lexer.specs.Text.{is_space, is_word_byte, is_no_colon}
 use Rattle.description_grammar.specs.Heads.{Each, IsWord}
-use Rattle.description_grammar.proofs.Results.{both}
 
 -- ---- bytes
 
@@ -160,17 +159,13 @@ digits_alike (b ∷ bs) (c ∷ cs) h = two (digit_agrees b c h.0) (digits_alike 
 digit_stays : (b c : ℕ) → to_ascii_lowercase b ≡ to_ascii_lowercase c → is_ascii_digit b ≡ true → b ≡ c
 digit_stays b c e is_digit = elim (same_or_letters b c e) [
   | inl same ↦ same
-  | inr letters ↦ absurd (clash (is_ascii_digit b) is_digit (letter_digit b letters.0))
+  | inr letters ↦ absurd (both_ways (is_ascii_digit b) (letter_digit b letters.0) is_digit)
 ]
-  where
-    clash : (x : Bool) → x ≡ true → x ≡ false → ⊥
-    clash true e f = absurd cc
-    clash false e f = absurd cc
 
 pub digits_same : (xs ys : List ℕ) → Alike xs ys → list_all is_ascii_digit xs ≡ true → xs ≡ ys
 digits_same [] [] h all = refl
 digits_same [] (c ∷ cs) h all = absurd h
 digits_same (b ∷ bs) [] h all = absurd h
 digits_same (b ∷ bs) (c ∷ cs) h all =
-    let d = both (is_ascii_digit b) (list_all is_ascii_digit bs) all in
+    let d = and_parts (is_ascii_digit b) (list_all is_ascii_digit bs) all in
     ap (λ (n : ℕ). n ∷ bs) (digit_stays b c h.0 d.0) ∙ ap (λ (t : List ℕ). c ∷ t) (digits_same bs cs h.1 d.1)

@@ -1,12 +1,9 @@
 pub mod CasedTables
-pub mod Joining
 pub mod LetterCase
 pub mod Letters
 pub mod Nodes
-pub mod Room
 pub mod Tables
 pub mod TwoTables
 pub mod TwoVersions
 pub mod Widths
-pub mod Moved
-pub mod Behind
+pub mod Joining

@@ -5,6 +5,7 @@ use Rattle.std.specs.Option.{option_map, option_and_then, unwrap_or, is_some}
 use Rattle.description_time_modifiers.specs.Ignored.{ignored}
 use Rattle.description_time_modifiers.specs.declared.ignore.Ignore.{Ignore}
 use Rattle.std.specs.Str.{bytes_eq}
+use Rattle.std.proofs.lemmas.Bool.{cond-true}
 use Rattle.description_date_modifiers.specs.declared.choices.Padding.{Padding}
 use Rattle.description_date_modifiers.specs.declared.choices.Padding.TheVariants as padding
 use Rattle.description_date_modifiers.specs.declared.choices.MonthRepr.{MonthRepr}
@@ -43,7 +44,6 @@ use Rattle.description_tables.specs.Component.{found, bad, key_among, key_in, wi
 use Rattle.description_grammar.specs.Heads.{SpellsComponent}
 use Rattle.description_grammar.specs.Spelling.{Spells}
 use Rattle.description.specs.Versions.{extended, has_range, IsFlat, InTwo, SaysRange, SpellsRanged}
-use Rattle.description_grammar.proofs.Results.{cond_true}
 use Rattle.description.proofs.Tables.{none_not, some_is, key_text, key_is, key_found, value_found, found_is}
 use Rattle.description.proofs.TwoTables.{name_two, no_nesting_two, key_two, value_two}
 
@@ -52,7 +52,7 @@ use Rattle.description.proofs.TwoTables.{name_two, no_nesting_two, key_two, valu
 key_in_two : (n : Name) (p : Rest) (k : Key) → key_in Three n p ≡ Ok k → key_in Two n p ≡ Ok k
 key_in_two n p k e =
     let f = key_found (key_of Three p.text) n (bad p) k e in
-    ap (λ (o : Option Key). key_among o n (bad p)) (key_two p.text k f.0) ∙ cond_true (has_key k n) (Ok k) (Err (bad p)) f.1
+    ap (λ (o : Option Key). key_among o n (bad p)) (key_two p.text k f.0) ∙ cond-true (has_key k n) (Ok k) (Err (bad p)) f.1
 
 -- the key of a modifier, and what its value makes
 record TakesValue (n : Name) (c d : Chosen) (m : Modifier) : Type 0 where

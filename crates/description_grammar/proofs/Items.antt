@@ -1,64 +1,63 @@
--- What is read as items is spelled so.
-use Rattle.std.proofs.Common.{◌≡◌, ℕ, zero, suc, ◌<◌, List, [], ◌∷◌, ◌++◌, length, Option, Some, None, Result, Ok, Bool, true, false, cond, eqb, refl, sym, ap, subst, ◌∙◌, arith, inl, inr}
+-- What is read as items is spelled so, and what is refused has that fault.
+use Rattle.std.proofs.Common.{◌≡◌, ℕ, zero, suc, ◌+◌, ◌<◌, List, [], ◌∷◌, ◌++◌, length, drop, Option, Some, None, Result, Ok, Bool, true, false, cond, eqb, refl, sym, ap, subst, ◌∙◌, arith, inl, inr}
 use Rattle.std.specs.Prelude.{codes, ◌&&◌, ◌||◌}
 use Rattle.std.proofs.lemmas.List.{append-nil, nil_from_length}
-use Rattle.std.proofs.lemmas.Bool.{eqb-true}
+use Rattle.std.proofs.lemmas.Bool.Decides.{nat_tests}
+use Rattle.std.proofs.lemmas.Bool.{both_ways, false_from_ne_true, or_parts, or_from, not-false, not-true}
 use Rattle.base.specs.Bytes.{left_bracket, right_bracket}
-use Rattle.description_lexer.specs.Fault.{Fault}
+use Rattle.description_lexer.specs.Fault.{Fault, UnclosedOpeningBracket, NotSupported}
 use Rattle.description_lexer.specs.Answer.{◌>>=◌}
 use Rattle.description_items.specs.Tree.{Tree, Literal, Part, Compound, Optional, First, listed}
 use Rattle.description_lexer.specs.declared.version.DescriptionVersion.{DescriptionVersion}
+use Rattle.description_lexer.specs.declared.version.DescriptionVersion.TheVariants.{One, Two, Three}
 use Rattle.description_lexer.specs.Text.{Rest, is_space, run, past, after, whole}
 use Rattle.description_lexer.specs.Many.{many}
-use Rattle.description_lexer.specs.Words.{is_named, begins, name_at, closed_at}
-use Rattle.description_lexer.proofs.Readings.{bind_ok, ok_is, not_ok, chosen}
+use Rattle.description_lexer.specs.Words.{is_named, begins}
+use Rattle.description_lexer.proofs.Steps.{Steps, Shortens, Read}
 use Rattle.description_grammar.specs.Reading.{doubled_at, text_at, component_from, Nester, optional_at, no_bracket, first_at, bracket_at, literal_or, element_at, is_end, nested_at, read_items}
-use Rattle.description_grammar.proofs.Shorter.{nested_lt, item_lt}
 use Rattle.description_grammar.specs.Heads.{Stops}
 use Rattle.description_grammar.specs.Spelling.{SpellsItems, SpellsItem, SpellsNested, SpellsAlternatives, Spells}
-use Rattle.description_grammar.specs.Faulty.{IsOne, AreSome}
-use Rattle.description_grammar.proofs.Results.{neither, either_not, above, flip_false, flip_true}
-use Rattle.description_grammar.proofs.Runs.{each_run, stops_past}
-use Rattle.description_grammar.proofs.Takes.{Takes, takes_then, takes_run, takes_byte, stops_91, closed_takes}
-use Rattle.description_lexer.proofs.Steps.{Steps, Shortens, many_steps}
-use Rattle.description_grammar.proofs.TextsSound.{text_front, TakesText, text_takes, doubled_takes}
-use Rattle.description_grammar.proofs.ComponentsSound.{TakesName, name_takes, component_takes}
-use Rattle.description_grammar.proofs.Nesting.{TakesInside, TakesNesting, nesting_takes}
+use Rattle.description_grammar.specs.Faulty.{Behind, IsSingle, IsOne, AreSome, IsNothing, AreBefore, BadItem, FaultyItems, FaultyNested, Faulty}
+use Rattle.description_grammar.proofs.Results.{above}
+use Rattle.description_grammar.proofs.ValueOrFault.{Reads, gives, refuses, either, in_turn, reads_as, many_read}
+use Rattle.description_grammar.proofs.Places.{further_none, at_first, behind_both}
+use Rattle.description_grammar.proofs.Runs.{each_run, stops_past, Takes, takes_then, takes_run, takes_length, takes_byte, begins_cons, stops_91, closed_reads}
+use Rattle.description_grammar.proofs.TextsSound.{text_front, text_some, TakesText, text_reads, doubled_takes}
+use Rattle.description_grammar.proofs.ComponentText.{TakesName, name_reads, BadComponent, component_reads}
+use Rattle.description_grammar.proofs.Nesting.{TakesInside, RefusesInside, nesting_reads}
 
 -- ---- nested descriptions
 
 pub record TakesNested (v : DescriptionVersion) (levels : ℕ) (s : Rest) (x : Tree × Rest) : Type 0 where
   pub own : List ℕ
   pub takes : Takes s own x.1
+  pub some : 0 < length own
   pub spells : SpellsNested v levels own x.0
   pub no_space : Stops is_space x.1.text
 
--- what is read where so many levels may be opened is spelled so
-abbrev pub NestedTakes : DescriptionVersion → ℕ → Type 0
-NestedTakes v levels = (s : Rest) (x : Tree × Rest) → begins left_bracket s.text ≡ true → nested_at v levels s ≡ Ok x → TakesNested v levels s x
+-- how nested descriptions are read where so many levels may be opened
+abbrev pub NestedReads : DescriptionVersion → ℕ → Type 0
+NestedReads v levels = (s : Rest) → begins left_bracket s.text ≡ true → Reads (TakesNested v levels s) (Behind s.index (FaultyNested v levels s.text)) (nested_at v levels s)
 
-abbrev pub MeansOne : DescriptionVersion → ℕ → List ℕ → Tree → Type 0
-MeansOne v levels own t = SpellsNested v levels own t
+one_reads : (v : DescriptionVersion) (levels : ℕ) → NestedReads v levels → (start : Rest) → begins left_bracket start.text ≡ true → Reads (TakesInside (SpellsNested v levels) (IsOne v levels) start) (RefusesInside IsNothing (FaultyNested v levels) start) (nested_at v levels start)
+one_reads v levels nested start opens = reads_as _ (nested start opens) (
+    λ x n. record { own = n.own; takes = n.takes; means = n.spells; inside = (x.0, n.spells); no_space = n.no_space }
+    ) (λ e bad. record { before = []; bad = start; takes = record { parts = refl; index = omega arith }; is_before = refl; is_bad = bad })
 
-abbrev pub MeansSome : DescriptionVersion → ℕ → List ℕ → List Tree → Type 0
+abbrev MeansSome : DescriptionVersion → ℕ → List ℕ → List Tree → Type 0
 MeansSome v levels own ts = (0 < length own) × SpellsAlternatives v levels own (listed ts)
 
-pub one_takes : (v : DescriptionVersion) (levels : ℕ) → NestedTakes v levels → (start : Rest) (x : Tree × Rest) → begins left_bracket start.text ≡ true → nested_at v levels start ≡ Ok x → TakesInside (MeansOne v levels) (IsOne v levels) start x
-one_takes v levels takes start x opens e =
-    let n : TakesNested v levels start x = takes start x opens e in
-    record { own = n.own; takes = n.takes; means = n.spells; inside = (x.0, n.spells); no_space = n.no_space }
+record TakesAlternatives (v : DescriptionVersion) (levels : ℕ) (s : Rest) (ts : List Tree) (rest : Rest) : Type 0 where
+  own : List ℕ
+  takes : Takes s own rest
+  spells : SpellsAlternatives v levels own (listed ts)
+  no_space : Stops is_space rest.text
 
-pub record TakesAlternatives (v : DescriptionVersion) (levels : ℕ) (s : Rest) (ts : List Tree) (rest : Rest) : Type 0 where
-  pub own : List ℕ
-  pub takes : Takes s own rest
-  pub spells : SpellsAlternatives v levels own (listed ts)
-  pub no_space : Stops is_space rest.text
-
-pub alternatives_take : (v : DescriptionVersion) (levels : ℕ) → NestedTakes v levels → (ts : List Tree) (s rest : Rest) → Stops is_space s.text → Steps no_bracket (nested_at v levels) s ts rest → TakesAlternatives v levels s ts rest
-alternatives_take v levels takes [] s rest stops e = subst (λ (r : Rest). TakesAlternatives v levels s [] r) e (record { own = []; takes = record { parts = refl; index = omega arith }; spells = refl; no_space = stops })
-alternatives_take v levels takes (t ∷ ts) s rest stops (next, goes, is_t, more) =
-    let one : TakesNested v levels s (t, next) = takes s (t, next) (flip_false (begins left_bracket s.text) goes) is_t in
-    let others : TakesAlternatives v levels next ts rest = alternatives_take v levels takes ts next rest one.no_space more in
+alternatives_take : (v : DescriptionVersion) (levels : ℕ) → NestedReads v levels → (ts : List Tree) (s rest : Rest) → Stops is_space s.text → Steps no_bracket (nested_at v levels) s ts rest → TakesAlternatives v levels s ts rest
+alternatives_take v levels nested [] s rest stops e = subst (λ (r : Rest). TakesAlternatives v levels s [] r) e (record { own = []; takes = record { parts = refl; index = omega arith }; spells = refl; no_space = stops })
+alternatives_take v levels nested (t ∷ ts) s rest stops (next, goes, is_t, more) =
+    let one : TakesNested v levels s (t, next) = (nested s (not-false (begins left_bracket s.text) goes)).ok (t, next) is_t in
+    let others : TakesAlternatives v levels next ts rest = alternatives_take v levels nested ts next rest one.no_space more in
     record {
       own = one.own ++ others.own;
       takes = takes_then s one.own next others.own rest one.takes others.takes;
@@ -66,60 +65,46 @@ alternatives_take v levels takes (t ∷ ts) s rest stops (next, goes, is_t, more
       no_space = others.no_space;
     }
 
-pub alternatives_shorten : (v : DescriptionVersion) (levels : ℕ) → Shortens no_bracket (nested_at v levels)
-alternatives_shorten v levels s x goes e = nested_lt v levels s x e
-
-pub some_take : (v : DescriptionVersion) (levels : ℕ) → NestedTakes v levels → (start : Rest) (x : List Tree × Rest) → begins left_bracket start.text ≡ true → many no_bracket (nested_at v levels) (suc (length start.text)) start ≡ Ok x → TakesInside (MeansSome v levels) (AreSome v levels) start x
-some_take v levels takes start x opens e =
-    let read = many_steps no_bracket (nested_at v levels) (alternatives_shorten v levels) (suc (length start.text)) start x (omega arith) e in
-    let a : TakesAlternatives v levels start x.0 x.1 = alternatives_take v levels takes x.0 start x.1 (stops_91 start.text opens) read.0 in
-    let none : begins left_bracket x.1.text ≡ false = flip_true (begins left_bracket x.1.text) read.1 in
-    let some : 0 < length a.own = some_own a.own a.takes.parts none in
-    record { own = a.own; takes = a.takes; means = (some, a.spells); inside = (listed x.0, some, a.spells, none); no_space = a.no_space }
-  where
-    some_own : (own : List ℕ) → start.text ≡ own ++ x.1.text → begins left_bracket x.1.text ≡ false → 0 < length own
-    some_own [] parts none = absurd (apart (begins left_bracket start.text) (begins left_bracket x.1.text) (ap (begins left_bracket) parts) opens none)
-      where
-        apart : (a b : Bool) → a ≡ b → a ≡ true → b ≡ false → ⊥
-        apart true true e h k = absurd cc
-        apart true false e h k = absurd cc
-        apart false b e h k = absurd cc
-    some_own (b ∷ bs) parts none = omega arith
-
--- ---- items
-
-pub record TakesItem (v : DescriptionVersion) (inner : Bool) (levels : ℕ) (s : Rest) (t : Tree) (rest : Rest) : Type 0 where
-  pub own : List ℕ
-  pub takes : Takes s own rest
-  pub spells : SpellsItem v inner levels own rest.text t
-
-of_text : (v : DescriptionVersion) (inner : Bool) (levels : ℕ) (s : Rest) (bytes : List ℕ) (rest : Rest) → TakesText v inner s bytes rest → TakesItem v inner levels s (Literal bytes) rest
-of_text v inner levels s bytes rest t = record { own = t.own; takes = t.takes; spells = t.spells }
-
-optional_takes : (v : DescriptionVersion) (inner : Bool) (levels : ℕ) → NestedTakes v levels → (s name next : Rest) (x : Tree × Rest) → begins left_bracket s.text ≡ true → TakesName (after 1 s) name next → is_named v name.text (codes "optional") ≡ true → optional_at v (nested_at v levels) s.index next ≡ Ok x → TakesItem v inner levels s x.0 x.1
-unfolding optional_at
-optional_takes v inner levels takes s name next x opens n is_name e =
-    let t : TakesNesting v (codes "optional") (MeansOne v levels) (Optional true) s x = nesting_takes v (codes "optional") (codes "whitespace after `optional`") (nested_at v levels) (Optional true) (MeansOne v levels) (IsOne v levels) (one_takes v levels takes) s name next x opens n is_name e in
-    record { own = t.own; takes = t.takes; spells = subst (λ (y : Tree). SpellsItem v inner levels t.own x.1.text y) t.made (t.three, refl, t.spells) }
-
-abbrev pub first_of_list : List Tree → Tree
-first_of_list ts = First (listed ts)
+pub alternatives_shorten : (v : DescriptionVersion) (levels : ℕ) → NestedReads v levels → Shortens no_bracket (nested_at v levels)
+alternatives_shorten v levels nested s x goes e =
+    let t : TakesNested v levels s x = (nested s (not-false (begins left_bracket s.text) goes)).ok x e in
+    omega (arith, t.some, takes_length s t.own x.1 t.takes)
 
 abbrev pub read_some : DescriptionVersion → ℕ → Rest → Result (List Tree × Rest) Fault
 read_some v levels start = many no_bracket (nested_at v levels) (suc (length start.text)) start
 
-first_takes : (v : DescriptionVersion) (inner : Bool) (levels : ℕ) → NestedTakes v levels → (s name next : Rest) (x : Tree × Rest) → begins left_bracket s.text ≡ true → TakesName (after 1 s) name next → is_named v name.text (codes "first") ≡ true → first_at v (nested_at v levels) s.index next ≡ Ok x → TakesItem v inner levels s x.0 x.1
-unfolding first_at
-first_takes v inner levels takes s name next x opens n is_name e =
-    let t : TakesNesting v (codes "first") (MeansSome v levels) first_of_list s x = nesting_takes v (codes "first") (codes "whitespace after `first`") (read_some v levels) first_of_list (MeansSome v levels) (AreSome v levels) (some_take v levels takes) s name next x opens n is_name e in
-    record { own = t.own; takes = t.takes; spells = subst (λ (y : Tree). SpellsItem v inner levels t.own x.1.text y) t.made (t.three, t.spells) }
+some_reads : (v : DescriptionVersion) (levels : ℕ) → NestedReads v levels → (start : Rest) → begins left_bracket start.text ≡ true → Reads (TakesInside (MeansSome v levels) (AreSome v levels) start) (RefusesInside (AreBefore v levels) (FaultyNested v levels) start) (read_some v levels start)
+some_reads v levels nested start opens = reads_as _ (many_read no_bracket (nested_at v levels) (alternatives_shorten v levels nested) start) taken (
+    λ e f.
+    let a : TakesAlternatives v levels start f.front f.bad = alternatives_take v levels nested f.front start f.bad (stops_91 start.text opens) f.steps in
+    let fails = nested f.bad (not-false (begins left_bracket f.bad.text) f.goes_on) in
+    record { before = a.own; bad = f.bad; takes = a.takes; is_before = (listed f.front, a.spells); is_bad = fails.err e f.fails }
+    )
+  where
+    some_own : (own more : List ℕ) → start.text ≡ own ++ more → begins left_bracket more ≡ false → 0 < length own
+    some_own [] more parts none = absurd (both_ways (begins left_bracket more) none (ap (begins left_bracket) (sym parts) ∙ opens))
+    some_own (b ∷ bs) more parts none = omega arith
 
-part_takes : (v : DescriptionVersion) (inner : Bool) (levels : ℕ) (s name next : Rest) (x : Tree × Rest) → begins left_bracket s.text ≡ true → TakesName (after 1 s) name next → is_named v name.text (codes "optional") ≡ false → is_named v name.text (codes "first") ≡ false
-    → (component_from v s.index name next >>= λ c. Ok (Part c.0, c.1)) ≡ Ok x → TakesItem v inner levels s x.0 x.1
-part_takes v inner levels s name next x opens n no_optional no_first e =
-    let a = bind_ok (component_from v s.index name next) (λ c. Ok (Part c.0, c.1)) x e in
-    let c = component_takes v s name next a.0 opens n (either_not _ _ no_optional no_first) a.1 in
-    subst (λ (y : Tree × Rest). TakesItem v inner levels s y.0 y.1) (ok_is (Part a.0.0, a.0.1) x a.2) (record { own = c.0; takes = c.1; spells = c.2 })
+    taken : (x : List Tree × Rest) → Read no_bracket (nested_at v levels) start x → TakesInside (MeansSome v levels) (AreSome v levels) start x
+    taken x read =
+        let a : TakesAlternatives v levels start x.0 x.1 = alternatives_take v levels nested x.0 start x.1 (stops_91 start.text opens) read.0 in
+        let none : begins left_bracket x.1.text ≡ false = not-true (begins left_bracket x.1.text) read.1 in
+        let some : 0 < length a.own = some_own a.own x.1.text a.takes.parts none in
+        record { own = a.own; takes = a.takes; means = (some, a.spells); inside = (listed x.0, some, a.spells, none); no_space = a.no_space }
+
+-- ---- one item
+
+pub record TakesItem (v : DescriptionVersion) (inner : Bool) (levels : ℕ) (s : Rest) (t : Tree) (rest : Rest) : Type 0 where
+  pub own : List ℕ
+  pub takes : Takes s own rest
+  pub some : 0 < length own
+  pub spells : SpellsItem v inner levels own rest.text t
+
+of_text : (v : DescriptionVersion) (inner : Bool) (levels : ℕ) (s : Rest) (bytes : List ℕ) (rest : Rest) → TakesText v inner s bytes rest → TakesItem v inner levels s (Literal bytes) rest
+of_text v inner levels s bytes rest t = record { own = t.own; takes = t.takes; some = text_some v inner t.own rest.text bytes t.spells; spells = t.spells }
+
+abbrev pub first_of_list : List Tree → Tree
+first_of_list ts = First (listed ts)
 
 -- the three things that a name may open
 abbrev pub part_from : DescriptionVersion → ℕ → Rest × Rest → Result (Tree × Rest) Fault
@@ -129,35 +114,59 @@ abbrev pub named_item : DescriptionVersion → Nester → ℕ → Rest × Rest �
 named_item v inside bracket name =
     cond (is_named v name.0.text (codes "optional")) (optional_at v inside bracket name.1) (cond (is_named v name.0.text (codes "first")) (first_at v inside bracket name.1) (part_from v bracket name))
 
-bracket_takes : (v : DescriptionVersion) (inner : Bool) (levels : ℕ) → NestedTakes v levels → (s : Rest) (x : Tree × Rest) → begins left_bracket s.text ≡ true → bracket_at v (nested_at v levels) s ≡ Ok x → TakesItem v inner levels s x.0 x.1
-unfolding bracket_at
-bracket_takes v inner levels takes s x opens e =
-    let a = bind_ok (name_at s.index (after 1 s)) (named_item v (nested_at v levels) s.index) x e in
-    let n : TakesName (after 1 s) a.0.0 a.0.1 = name_takes s.index (after 1 s) a.0 a.1 in
-    elim (chosen (is_named v a.0.0.text (codes "optional")) (optional_at v (nested_at v levels) s.index a.0.1) (cond (is_named v a.0.0.text (codes "first")) (first_at v (nested_at v levels) s.index a.0.1) (part_from v s.index a.0)) (Ok x) a.2) [
-      | inl h ↦ optional_takes v inner levels takes s a.0.0 a.0.1 x opens n h.0 h.1
-      | inr h ↦ elim (chosen (is_named v a.0.0.text (codes "first")) (first_at v (nested_at v levels) s.index a.0.1) (part_from v s.index a.0) (Ok x) h.1) [
-        | inl g ↦ first_takes v inner levels takes s a.0.0 a.0.1 x opens n g.0 g.1
-        | inr g ↦ part_takes v inner levels s a.0.0 a.0.1 x opens n h.0 g.0 g.1
-      ]
-    ]
+bracket_reads : (v : DescriptionVersion) (inner : Bool) (levels : ℕ) → NestedReads v levels → (s : Rest) → begins left_bracket s.text ≡ true → IsSingle v (after 1 s).text
+    → Reads (λ (x : Tree × Rest). TakesItem v inner levels s x.0 x.1) (Behind s.index (BadItem v levels (FaultyNested v levels) s.text)) (bracket_at v (nested_at v levels) s)
+unfolding bracket_at optional_at first_at
+bracket_reads v inner levels nested s opens single =
+    in_turn _ _ (name_reads v s opens single) (λ e h. (h.0, inr (inl h.1), h.2)) (λ name n. either _ _ _ (λ is_name. as_optional name n is_name) (λ no_optional. either _ _ _ (λ is_name. as_first name n is_name) (λ no_first. as_part name n no_optional no_first)))
+  where
+    Item : Result (Tree × Rest) Fault → Type 0
+    Item r = Reads (λ (x : Tree × Rest). TakesItem v inner levels s x.0 x.1) (Behind s.index (BadItem v levels (FaultyNested v levels) s.text)) r
 
-element_takes : (v : DescriptionVersion) (inner : Bool) (levels : ℕ) → NestedTakes v levels → (s : Rest) (x : Tree × Rest) → is_end inner s ≡ false → element_at v (nested_at v levels) s ≡ Ok x → TakesItem v inner levels s x.0 x.1
+    as_optional : (name : Rest × Rest) → TakesName (after 1 s) name.0 name.1 → is_named v name.0.text (codes "optional") ≡ true → Item (optional_at v (nested_at v levels) s.index name.1)
+    as_optional name n is_name =
+        reads_as _ (nesting_reads v (codes "optional") (codes "whitespace after `optional`") (nested_at v levels) (Optional true) (SpellsNested v levels) (IsOne v levels) IsNothing (FaultyNested v levels) (one_reads v levels nested) s name.0 name.1 opens n is_name)
+        (λ x t. record { own = t.own; takes = t.takes; some = t.some; spells = subst (λ (y : Tree). SpellsItem v inner levels t.own x.1.text y) t.made (t.three, refl, t.spells) })
+        (λ e bad. (bad.0, inr (inr (inr (inr (inr (inl bad.1))))), bad.2))
+
+    as_first : (name : Rest × Rest) → TakesName (after 1 s) name.0 name.1 → is_named v name.0.text (codes "first") ≡ true → Item (first_at v (nested_at v levels) s.index name.1)
+    as_first name n is_name =
+        reads_as _ (nesting_reads v (codes "first") (codes "whitespace after `first`") (read_some v levels) first_of_list (MeansSome v levels) (AreSome v levels) (AreBefore v levels) (FaultyNested v levels) (some_reads v levels nested) s name.0 name.1 opens n is_name)
+        (λ x t. record { own = t.own; takes = t.takes; some = t.some; spells = subst (λ (y : Tree). SpellsItem v inner levels t.own x.1.text y) t.made (t.three, t.spells) })
+        (λ e bad. (bad.0, inr (inr (inr (inr (inr (inr bad.1))))), bad.2))
+
+    bad_part : (e : Fault) → Behind s.index (BadComponent v s.text) e → Behind s.index (BadItem v levels (FaultyNested v levels) s.text) e
+    bad_part e (d, inl h, is) = (d, inr (inr (inl h)), is)
+    bad_part e (d, inr (inl h), is) = (d, inr (inr (inr (inl h))), is)
+    bad_part e (d, inr (inr h), is) = (d, inr (inr (inr (inr (inl h)))), is)
+
+    as_part : (name : Rest × Rest) → TakesName (after 1 s) name.0 name.1 → is_named v name.0.text (codes "optional") ≡ false → is_named v name.0.text (codes "first") ≡ false → Item (part_from v s.index name)
+    as_part name n no_optional no_first =
+        in_turn _ _ (component_reads v s name.0 name.1 opens n (or_from _ _ no_optional no_first)) bad_part (λ c t. gives _ (record { own = t.own; takes = t.takes; some = t.some; spells = t.spells }))
+
+single_of : (v : DescriptionVersion) (s : Rest) → begins left_bracket s.text ≡ true → doubled_at v s ≡ None → IsSingle v (after 1 s).text
+unfolding doubled_at
+single_of One s opens e = false_from_ne_true (begins left_bracket (after 1 s).text) (λ next. absurd (some_not _ (rw (opens, next) at e)))
+  where
+    some_not : (a : List ℕ × Rest) → Some a ≡ None → ⊥
+    some_not a e = cc
+single_of Two s opens e = tt
+single_of Three s opens e = tt
+
+element_reads : (v : DescriptionVersion) (inner : Bool) (levels : ℕ) → NestedReads v levels → (s : Rest) → is_end inner s ≡ false
+    → Reads (λ (x : Tree × Rest). TakesItem v inner levels s x.0 x.1) (Behind s.index (BadItem v levels (FaultyNested v levels) s.text)) (element_at v (nested_at v levels) s)
 unfolding element_at
-element_takes v inner levels takes s x goes e = by_doubled (doubled_at v s) refl e
+element_reads v inner levels nested s goes = by_doubled (doubled_at v s) refl
   where
     open_text : (eqb (length s.text) 0 ≡ false) × ((inner && begins right_bracket s.text) ≡ false)
-    open_text = neither _ _ goes
+    open_text = or_parts _ _ goes
 
-    by_doubled : (d : Option (List ℕ × Rest)) → doubled_at v s ≡ d → literal_or d (cond (begins left_bracket s.text) (bracket_at v (nested_at v levels) s) (text_at v s >>= λ x. Ok (Literal x.0, x.1))) ≡ Ok x → TakesItem v inner levels s x.0 x.1
-    by_doubled (Some y) is_d h = subst (λ (z : Tree × Rest). TakesItem v inner levels s z.0 z.1) (ok_is (Literal y.0, y.1) x h) (of_text v inner levels s y.0 y.1 (doubled_takes v inner s y is_d))
-    by_doubled None is_d h =
-        elim (chosen (begins left_bracket s.text) (bracket_at v (nested_at v levels) s) (text_at v s >>= λ x. Ok (Literal x.0, x.1)) (Ok x) h) [
-          | inl g ↦ bracket_takes v inner levels takes s x g.0 g.1
-          | inr g ↦
-              let a = bind_ok (text_at v s) (λ x. Ok (Literal x.0, x.1)) x g.1 in
-              subst (λ (z : Tree × Rest). TakesItem v inner levels s z.0 z.1) (ok_is (Literal a.0.0, a.0.1) x a.2) (of_text v inner levels s a.0.0 a.0.1 (text_takes v inner s a.0 (above _ open_text.0) g.0 open_text.1 a.1))
-        ]
+    by_doubled : (d : Option (List ℕ × Rest)) → doubled_at v s ≡ d
+        → Reads (λ (x : Tree × Rest). TakesItem v inner levels s x.0 x.1) (Behind s.index (BadItem v levels (FaultyNested v levels) s.text)) (literal_or d (cond (begins left_bracket s.text) (bracket_at v (nested_at v levels) s) (text_at v s >>= λ x. Ok (Literal x.0, x.1))))
+    by_doubled (Some y) is_d = gives _ (of_text v inner levels s y.0 y.1 (doubled_takes v inner s y is_d))
+    by_doubled None is_d = either _ _ _ (λ g. bracket_reads v inner levels nested s g (single_of v s g is_d)) (
+        λ g. in_turn _ _ (text_reads v inner s (above _ open_text.0) g open_text.1) (λ e bad. (bad.0, inl bad.1, bad.2)) (λ x t. gives _ (of_text v inner levels s x.0 x.1 t))
+        )
 
 -- only the byte behind it matters to an item
 pub item_front : (v : DescriptionVersion) (inner : Bool) (levels : ℕ) (own more tail : List ℕ) (t : Tree) → SpellsItem v inner levels own (more ++ tail) t → SpellsItem v inner levels own more t
@@ -172,11 +181,16 @@ pub record TakesItems (v : DescriptionVersion) (inner : Bool) (levels : ℕ) (s 
   pub takes : Takes s own rest
   pub spells : SpellsItems v inner levels own (listed ts)
 
-pub items_take : (v : DescriptionVersion) (inner : Bool) (levels : ℕ) → NestedTakes v levels → (ts : List Tree) (s rest : Rest) → Steps (is_end inner) (element_at v (nested_at v levels)) s ts rest → TakesItems v inner levels s ts rest
-items_take v inner levels takes [] s rest e = subst (λ (r : Rest). TakesItems v inner levels s [] r) e (record { own = []; takes = record { parts = refl; index = omega arith }; spells = refl })
-items_take v inner levels takes (t ∷ ts) s rest (next, goes, is_t, more) =
-    let one : TakesItem v inner levels s t next = element_takes v inner levels takes s (t, next) goes is_t in
-    let others : TakesItems v inner levels next ts rest = items_take v inner levels takes ts next rest more in
+pub items_shorten : (v : DescriptionVersion) (inner : Bool) (levels : ℕ) → NestedReads v levels → Shortens (is_end inner) (element_at v (nested_at v levels))
+items_shorten v inner levels nested s x goes e =
+    let t : TakesItem v inner levels s x.0 x.1 = (element_reads v inner levels nested s goes).ok x e in
+    omega (arith, t.some, takes_length s t.own x.1 t.takes)
+
+items_take : (v : DescriptionVersion) (inner : Bool) (levels : ℕ) → NestedReads v levels → (ts : List Tree) (s rest : Rest) → Steps (is_end inner) (element_at v (nested_at v levels)) s ts rest → TakesItems v inner levels s ts rest
+items_take v inner levels nested [] s rest e = subst (λ (r : Rest). TakesItems v inner levels s [] r) e (record { own = []; takes = record { parts = refl; index = omega arith }; spells = refl })
+items_take v inner levels nested (t ∷ ts) s rest (next, goes, is_t, more) =
+    let one : TakesItem v inner levels s t next = (element_reads v inner levels nested s goes).ok (t, next) is_t in
+    let others : TakesItems v inner levels next ts rest = items_take v inner levels nested ts next rest more in
     let spelled : SpellsItem v inner levels one.own (others.own ++ rest.text) t = subst (λ (m : List ℕ). SpellsItem v inner levels one.own m t) others.takes.parts one.spells in
     record {
       own = one.own ++ others.own;
@@ -184,43 +198,53 @@ items_take v inner levels takes (t ∷ ts) s rest (next, goes, is_t, more) =
       spells = (one.own, others.own, refl, item_front v inner levels one.own others.own rest.text t spelled, others.spells);
     }
 
-pub items_shorten : (v : DescriptionVersion) (inner : Bool) (levels : ℕ) → Shortens (is_end inner) (element_at v (nested_at v levels))
-items_shorten v inner levels = item_lt v inner (nested_at v levels) (nested_lt v levels)
+-- all items up to the end
+record TakesAll (v : DescriptionVersion) (inner : Bool) (levels : ℕ) (s : Rest) (x : List Tree × Rest) : Type 0 where
+  items : TakesItems v inner levels s x.0 x.1
+  ends : is_end inner x.1 ≡ true
 
-pub nested_takes : (v : DescriptionVersion) (levels : ℕ) → NestedTakes v levels
-unfolding nested_at
-nested_takes v zero s x opens e = absurd (not_ok _ x e)
-nested_takes v (suc levels) s x opens e =
-    let step = element_at v (nested_at v levels) in
-    let a = bind_ok (many (is_end true) step (suc (length (after 1 s).text)) (after 1 s)) (λ items. closed_at s.index items.1 >>= λ rest. Ok (Compound (listed items.0), past is_space rest)) x e in
-    let b = bind_ok (closed_at s.index a.0.1) (λ rest. Ok (Compound (listed a.0.0), past is_space rest)) x a.2 in
-    let read = many_steps (is_end true) step (items_shorten v true levels) (suc (length (after 1 s).text)) (after 1 s) a.0 (omega arith) a.1 in
-    let items : TakesItems v true levels (after 1 s) a.0.0 a.0.1 = items_take v true levels (nested_takes v levels) a.0.0 (after 1 s) a.0.1 read.0 in
-    let blank : List ℕ = (run is_space b.0).text in
-    let close : Takes a.0.1 (right_bracket ∷ blank) (past is_space b.0) = takes_then a.0.1 (right_bracket ∷ []) b.0 blank (past is_space b.0) (closed_takes s.index a.0.1 b.0 b.1) (takes_run is_space b.0) in
-    let inside : Takes (after 1 s) (items.own ++ right_bracket ∷ blank) (past is_space b.0) = takes_then (after 1 s) items.own a.0.1 (right_bracket ∷ blank) (past is_space b.0) items.takes close in
-    let own : List ℕ = left_bracket ∷ (items.own ++ right_bracket ∷ blank) in
-    let all : TakesNested v (suc levels) s (Compound (listed a.0.0), past is_space b.0) = record {
-      own = own;
-      takes = takes_then s (left_bracket ∷ []) (after 1 s) (items.own ++ right_bracket ∷ blank) (past is_space b.0) (takes_byte left_bracket s opens) inside;
-      spells = (levels, items.own, blank, refl, refl, each_run is_space b.0.text, items.spells);
-      no_space = stops_past is_space b.0.text;
-    } in
-    subst (λ (y : Tree × Rest). TakesNested v (suc levels) s y) (ok_is (Compound (listed a.0.0), past is_space b.0) x b.2) all
+items_read : (v : DescriptionVersion) (inner : Bool) (levels : ℕ) → NestedReads v levels → (s : Rest) → Reads (TakesAll v inner levels s) (Behind s.index (FaultyItems v inner levels (FaultyNested v levels) s.text)) (many (is_end inner) (element_at v (nested_at v levels)) (suc (length s.text)) s)
+items_read v inner levels nested s = reads_as _ (many_read (is_end inner) (element_at v (nested_at v levels)) (items_shorten v inner levels nested) s) (λ x read. record { items = items_take v inner levels nested x.0 s x.1 read.0; ends = read.1 }) (
+    λ e f.
+    let i : TakesItems v inner levels s f.front f.bad = items_take v inner levels nested f.front s f.bad f.steps in
+    let bad = (element_reads v inner levels nested f.bad f.goes_on).err e f.fails in
+    let b = behind_both s.index (length i.own) f.bad.index (BadItem v levels (FaultyNested v levels) f.bad.text) e i.takes.index bad in
+    (b.0, record { items = listed f.front; front = i.own; bad = f.bad.text; parts = i.takes.parts; is_front = i.spells; is_bad = b.1 }, b.2)
+    )
+
+-- where nothing is left, the items are the whole text
+all_spelled : (v : DescriptionVersion) (inner : Bool) (levels : ℕ) (s : Rest) (x : List Tree × Rest) → TakesAll v inner levels s x → (inner && begins right_bracket x.1.text) ≡ false → SpellsItems v inner levels s.text (listed x.0)
+all_spelled v inner levels s x all open_still =
+    let ended : x.1.text ≡ [] = nil_from_length x.1.text (at_the_end (length x.1.text) (inner && begins right_bracket x.1.text) all.ends open_still) in
+    subst (λ (t : List ℕ). SpellsItems v inner levels t (listed x.0)) (sym (append-nil all.items.own) ∙ ap (λ (t : List ℕ). all.items.own ++ t) (sym ended) ∙ sym all.items.takes.parts) all.items.spells
+  where
+    at_the_end : (n : ℕ) (b : Bool) → (eqb n 0 || b) ≡ true → b ≡ false → n ≡ 0
+    at_the_end n b h k = grind (arith, nat_tests)
+
+pub nested_reads : (v : DescriptionVersion) (levels : ℕ) → NestedReads v levels
+unfolding nested_at FaultyNested
+nested_reads v zero s opens = refuses _ (NotSupported (codes "nesting past 127 levels") (codes "format descriptions") 0, (drop 1 s.text, begins_cons left_bracket s.text opens, refl), at_first (λ i. NotSupported (codes "nesting past 127 levels") (codes "format descriptions") i) s.index)
+nested_reads v (suc levels) s opens = in_turn _ _ (items_read v true levels (nested_reads v levels) (after 1 s)) (λ e bad. let b = behind_both s.index 1 (s.index + 1) (FaultyItems v true levels (FaultyNested v levels) (after 1 s).text) e refl bad in (b.0, (drop 1 s.text, begins_cons left_bracket s.text opens, inl b.1), b.2)) (
+    λ x all. in_turn _ _ (closed_reads s.index x.1) (λ e k. (UnclosedOpeningBracket 0, (drop 1 s.text, begins_cons left_bracket s.text opens, inr (listed x.0, all_spelled v true levels (after 1 s) x all k.0, refl)), k.1 ∙ at_first (λ i. UnclosedOpeningBracket i) s.index)) (
+    λ rest close.
+    let blank : List ℕ = (run is_space rest).text in
+    let ends : Takes x.1 (right_bracket ∷ blank) (past is_space rest) = takes_then x.1 (right_bracket ∷ []) rest blank (past is_space rest) close (takes_run is_space rest) in
+    let inside : Takes (after 1 s) (all.items.own ++ right_bracket ∷ blank) (past is_space rest) = takes_then (after 1 s) all.items.own x.1 (right_bracket ∷ blank) (past is_space rest) all.items.takes ends in
+    gives _ (record {
+      own = left_bracket ∷ (all.items.own ++ right_bracket ∷ blank);
+      takes = takes_then s (left_bracket ∷ []) (after 1 s) (all.items.own ++ right_bracket ∷ blank) (past is_space rest) (takes_byte left_bracket s opens) inside;
+      some = omega arith;
+      spells = (levels, all.items.own, blank, refl, refl, each_run is_space rest.text, all.items.spells);
+      no_space = stops_past is_space rest.text;
+    })
+    )
+    )
 
 -- ---- the whole text
 
-pub read_is_spelled : (v : DescriptionVersion) (text : List ℕ) (ts : List Tree) → read_items v text ≡ Ok ts → Spells v text ts
+pub text_read : (v : DescriptionVersion) (text : List ℕ) → Reads (Spells v text) (Faulty v text) (read_items v text)
 unfolding read_items
-read_is_spelled v text ts e =
-    let step = element_at v (nested_at v 127) in
-    let a = bind_ok (many (is_end false) step (suc (length text)) (whole text)) (λ items. Ok items.0) ts e in
-    let read = many_steps (is_end false) step (items_shorten v false 127) (suc (length text)) (whole text) a.0 (omega arith) a.1 in
-    let items : TakesItems v false 127 (whole text) a.0.0 a.0.1 = items_take v false 127 (nested_takes v 127) a.0.0 (whole text) a.0.1 read.0 in
-    let ended : a.0.1.text ≡ [] = nil_from_length a.0.1.text (eqb-true _ _ (outer_end (eqb (length a.0.1.text) 0) (begins right_bracket a.0.1.text) read.1)) in
-    let all : items.own ≡ text = sym (append-nil items.own) ∙ ap (λ (t : List ℕ). items.own ++ t) (sym ended) ∙ sym items.takes.parts in
-    subst (λ (t : List ℕ). Spells v t ts) all (subst (λ (ts : List Tree). SpellsItems v false 127 items.own (listed ts)) (ok_is a.0.0 ts a.2) items.spells)
+text_read v text = in_turn _ _ (items_read v false 127 (nested_reads v 127) (whole text)) begun (λ x all. gives _ (all_spelled v false 127 (whole text) x all refl))
   where
-    outer_end : (a b : Bool) → (a || (false && b)) ≡ true → a ≡ true
-    outer_end true b h = refl
-    outer_end false b h = absurd cc
+    begun : (e : Fault) → Behind 0 (FaultyItems v false 127 (FaultyNested v 127) text) e → Faulty v text e
+    begun e (own, h, is_own) = subst (Faulty v text) (sym (is_own ∙ further_none (length h.front) _ own h.is_bad)) h

@@ -1,8 +1,8 @@
 -- Items that are spelled so are read.
-use Rattle.std.proofs.Common.{◌≡◌, ℕ, zero, suc, ◌+◌, ◌<◌, List, [], ◌∷◌, ◌++◌, length, None, Result, Ok, Err, Bool, true, false, not, cond, eqb, refl, sym, ap, subst, ◌∙◌, append_assoc, arith, inl, inr}
-use Rattle.std.specs.Prelude.{codes, ◌&&◌, ◌||◌}
+use Rattle.std.proofs.Common.{◌≡◌, ℕ, zero, suc, ◌+◌, ◌<◌, List, [], ◌∷◌, ◌++◌, length, None, Result, Ok, Bool, true, false, not, eqb, refl, sym, ap, subst, ◌∙◌, append_assoc, arith, inl, inr}
+use Rattle.std.specs.Prelude.{codes, ◌&&◌}
 use Rattle.std.proofs.lemmas.List.{length-append, append-nil}
-use Rattle.std.proofs.lemmas.Bool.{eqb-true}
+use Rattle.std.proofs.lemmas.Bool.{or_right, eqb-true, cond-false, and_right, or_parts, or_from}
 use Rattle.base.specs.Bytes.{left_bracket, right_bracket}
 use Rattle.description_lexer.specs.Fault.{Fault}
 use Rattle.description_lexer.specs.Answer.{◌>>=◌}
@@ -11,20 +11,20 @@ use Rattle.description_items.specs.Tree.{Tree, Literal, Part, Compound, Optional
 use Rattle.description_lexer.specs.declared.version.DescriptionVersion.{DescriptionVersion}
 use Rattle.description_lexer.specs.declared.version.DescriptionVersion.TheVariants.{One, Two, Three}
 use Rattle.description_lexer.specs.Version.{is_one, is_three}
-use Rattle.description_lexer.specs.Text.{Rest, is_space, is_plain, past, after}
-use Rattle.description_lexer.specs.Words.{is_named, begins, name_at, closed_at}
-use Rattle.description_grammar.specs.Reading.{doubled_at, unsupported_at, supported, optional_at, no_bracket, first_at, bracket_at, element_at, is_end, nested_at, read_items}
-use Rattle.description_grammar.specs.Heads.{Stops, SpellsComponent, SpellsNesting}
+use Rattle.description_lexer.specs.Text.{Rest, is_space, is_word_byte, is_plain, past, after}
+use Rattle.description_lexer.specs.Words.{Modifier, is_named, begins, name_at, closed_at}
+use Rattle.description_grammar.specs.Reading.{doubled_at, supported, optional_at, no_bracket, first_at, bracket_at, element_at, is_end, nested_at, read_items}
+use Rattle.description_grammar.specs.Heads.{Each, Stops, IsWord, SpellsHead, SpellsComponent, SpellsOpening, SpellsNesting}
 use Rattle.description_grammar.specs.Spelling.{SpellsItems, SpellsItem, SpellsNested, SpellsAlternatives, Spells}
-use Rattle.description_grammar.proofs.Results.{cond_true, cond_false, and_false, neither, either_not, not_zero}
-use Rattle.description_grammar.proofs.Runs.{at_index, same_index, past_is, word_stops}
-use Rattle.description_grammar.proofs.Takes.{stops_91, closed_again}
+use Rattle.description_grammar.proofs.Results.{not_zero}
+use Rattle.description_grammar.proofs.Runs.{at_index, same_index, past_is, word_stops, space_first, stops_91, closed_again}
 use Rattle.description_lexer.proofs.Steps.{Steps, steps_many}
 use Rattle.description_grammar.proofs.TextsSound.{SpellsText, text_more, text_some, BeginsText, text_again}
-use Rattle.description_grammar.proofs.Meaning.{MeansAt, component_at}
-use Rattle.description_grammar.proofs.ComponentsComplete.{begins_head, component_again}
-use Rattle.description_grammar.proofs.NestingComplete.{not_optional, begins_opening, opening_len, nesting_again, ok_tree}
-use Rattle.description_grammar.proofs.Items.{alternatives_shorten, items_shorten, first_of_list, read_some, part_from, named_item}
+use Rattle.description_grammar.proofs.Meaning.{head_elsewhere}
+use Rattle.description_grammar.proofs.Modifiers.{modifiers_stop}
+use Rattle.description_grammar.proofs.ComponentText.{name_again, no_bracket_first, component_again}
+use Rattle.description_grammar.proofs.Nesting.{not_optional, opening_len, from_start, from_opening, closed_here, ok_tree, Reader, nesting_at}
+use Rattle.description_grammar.proofs.Items.{alternatives_shorten, items_shorten, nested_reads, first_of_list, read_some, part_from, named_item}
 
 -- ---- lists of trees
 
@@ -51,29 +51,33 @@ opens_some [] h = absurd cc
 opens_some (b ∷ bs) h = omega arith
 
 pub open_goes : (inner : Bool) (i : ℕ) (text : List ℕ) → begins left_bracket text ≡ true → is_end inner (at_index i text) ≡ false
-open_goes inner i text h = either_not (eqb (length text) 0) (inner && begins right_bracket text) (not_zero (length text) (opens_some text h)) (and_false inner (begins right_bracket text) (no_close text h))
+open_goes inner i text h = or_from (eqb (length text) 0) (inner && begins right_bracket text) (not_zero (length text) (opens_some text h)) (and_right inner (begins right_bracket text) (no_close text h))
 
 pub no_double : (v : DescriptionVersion) (s : Rest) → begins left_bracket (after 1 s).text ≡ false → doubled_at v s ≡ None
 unfolding doubled_at
-no_double v s h = cond_false (is_one v && (begins left_bracket s.text && begins left_bracket (after 1 s).text)) _ None (and_false (is_one v) _ (and_false (begins left_bracket s.text) _ h))
+no_double v s h = cond-false (is_one v && (begins left_bracket s.text && begins left_bracket (after 1 s).text)) _ None (and_right (is_one v) _ (and_right (begins left_bracket s.text) _ h))
 
 -- a bracket and a name, and what they open
-pub element_opens : (v : DescriptionVersion) (levels : ℕ) (s name next : Rest) → begins left_bracket s.text ≡ true → doubled_at v s ≡ None → name_at s.index (after 1 s) ≡ Ok (name, next) → element_at v (nested_at v levels) s ≡ named_item v (nested_at v levels) s.index (name, next)
+name_begins : (v : DescriptionVersion) (levels i : ℕ) (text first more : List ℕ) (name : Rest) → text ≡ left_bracket ∷ (first ++ (name.text ++ more)) → Each is_space first → IsWord name.text → name.index ≡ i + 1 + length first → Stops is_word_byte more
+    → (begins left_bracket text ≡ true) × (element_at v (nested_at v levels) (at_index i text) ≡ named_item v (nested_at v levels) i (name, at_index (i + 1 + length first + length name.text) more))
 unfolding element_at bracket_at
-element_opens v levels s name next opens single is_name = rw (single, opens) (ap (λ (r : Result (Rest × Rest) Fault). r >>= named_item v (nested_at v levels) s.index) is_name)
+name_begins v levels i text first more name parts is_first is_name placed stops =
+    let opens : begins left_bracket text ≡ true = ap (begins left_bracket) parts in
+    let once = ap (λ (t : List ℕ). begins left_bracket (after 1 (at_index i t)).text) parts ∙ no_bracket_first first name.text more is_first is_name in
+    let named = ap (λ (t : List ℕ). name_at i (after 1 (at_index i t))) parts ∙ name_again i (i + 1) first name more is_first is_name placed stops in
+    (opens, rw (no_double v (at_index i text) once, opens) (ap (λ (r : Result (Rest × Rest) Fault). r >>= named_item v (nested_at v levels) i) named))
 
-pub names_part : (v : DescriptionVersion) (levels bracket : ℕ) (name next : Rest) → is_named v name.text (codes "optional") ≡ false → is_named v name.text (codes "first") ≡ false → named_item v (nested_at v levels) bracket (name, next) ≡ part_from v bracket (name, next)
-names_part v levels bracket name next no_optional no_first =
-    cond_false (is_named v name.text (codes "optional")) (optional_at v (nested_at v levels) bracket next) (cond (is_named v name.text (codes "first")) (first_at v (nested_at v levels) bracket next) (part_from v bracket (name, next))) no_optional
-    ∙ cond_false (is_named v name.text (codes "first")) (first_at v (nested_at v levels) bracket next) (part_from v bracket (name, next)) no_first
+names_part : (v : DescriptionVersion) (levels bracket : ℕ) (name next : Rest) → is_named v name.text (codes "optional") ≡ false → is_named v name.text (codes "first") ≡ false → named_item v (nested_at v levels) bracket (name, next) ≡ part_from v bracket (name, next)
+names_part v levels bracket name next no_optional no_first = rw (no_optional, no_first) refl
 
-pub names_optional : (v : DescriptionVersion) (levels bracket : ℕ) (name next : Rest) → is_named v name.text (codes "optional") ≡ true → named_item v (nested_at v levels) bracket (name, next) ≡ optional_at v (nested_at v levels) bracket next
-names_optional v levels bracket name next h = cond_true (is_named v name.text (codes "optional")) (optional_at v (nested_at v levels) bracket next) (cond (is_named v name.text (codes "first")) (first_at v (nested_at v levels) bracket next) (part_from v bracket (name, next))) h
-
-pub names_first : (v : DescriptionVersion) (levels bracket : ℕ) (name next : Rest) → is_named v name.text (codes "first") ≡ true → named_item v (nested_at v levels) bracket (name, next) ≡ first_at v (nested_at v levels) bracket next
-names_first v levels bracket name next h =
-    cond_false (is_named v name.text (codes "optional")) (optional_at v (nested_at v levels) bracket next) (cond (is_named v name.text (codes "first")) (first_at v (nested_at v levels) bracket next) (part_from v bracket (name, next))) (not_optional v name.text h)
-    ∙ cond_true (is_named v name.text (codes "first")) (first_at v (nested_at v levels) bracket next) (part_from v bracket (name, next)) h
+-- a head, and what is read behind it
+pub head_opens : (v : DescriptionVersion) (levels i : ℕ) (text head tail : List ℕ) (name : Rest) (ms : List Modifier) (h : SpellsHead v i head name ms) → text ≡ head ++ tail → Stops is_word_byte (h.last ++ tail)
+    → (begins left_bracket text ≡ true) × (element_at v (nested_at v levels) (at_index i text) ≡ part_from v i (name, at_index (i + 1 + length h.first + length name.text) (h.middle ++ (h.last ++ tail))))
+head_opens v levels i text head tail name ms h parts stops =
+    let more : List ℕ = h.middle ++ (h.last ++ tail) in
+    let not_nesting = or_parts _ _ h.no_nesting in
+    let c = name_begins v levels i text h.first more name (parts ∙ rw h.parts (simp append_assoc)) h.is_first h.is_name h.name_at (modifiers_stop (i + 1 + length h.first + length name.text) h.middle ms (h.last ++ tail) h.modifiers stops) in
+    (c.0, c.1 ∙ names_part v levels i name (at_index (i + 1 + length h.first + length name.text) more) not_nesting.0 not_nesting.1)
 
 -- ---- nested descriptions
 
@@ -113,7 +117,7 @@ some_opens v levels (also t ts) own rest some (nested, others, parts, one, more)
 
 pub some_again : (v : DescriptionVersion) (levels : ℕ) → NestedAgain v levels → (ts : Trees) (i : ℕ) (own rest : List ℕ) → SpellsAlternatives v levels own ts → Stops is_space rest → begins left_bracket rest ≡ false → read_some v levels (at_index i (own ++ rest)) ≡ Ok (unlisted ts, at_index (i + length own) rest)
 some_again v levels again ts i own rest h stops none_left =
-    steps_many no_bracket (nested_at v levels) (alternatives_shorten v levels) (suc (length (own ++ rest))) (at_index i (own ++ rest)) (unlisted ts) (at_index (i + length own) rest) (omega arith) (alternatives_steps v levels again ts i own rest h stops) (ap not none_left)
+    steps_many no_bracket (nested_at v levels) (alternatives_shorten v levels (nested_reads v levels)) (suc (length (own ++ rest))) (at_index i (own ++ rest)) (unlisted ts) (at_index (i + length own) rest) (omega arith) (alternatives_steps v levels again ts i own rest h stops) (ap not none_left)
 
 -- ---- one item
 
@@ -127,7 +131,7 @@ text_reads v inner levels i own rest bytes h =
     let b : BeginsText v inner i own rest bytes = text_again v inner i own bytes rest h in
     let some : 0 < length (own ++ rest) = omega (arith, length-append own rest, text_some v inner own rest bytes h) in
     record {
-      goes = either_not (eqb (length (own ++ rest)) 0) (inner && begins right_bracket (own ++ rest)) (not_zero (length (own ++ rest)) some) b.no_end;
+      goes = or_from (eqb (length (own ++ rest)) 0) (inner && begins right_bracket (own ++ rest)) (not_zero (length (own ++ rest)) some) b.no_end;
       reads = elim b.reads [
         | inl g ↦ rw (g.0, g.1, g.2) refl
         | inr g ↦ rw g refl
@@ -136,68 +140,71 @@ text_reads v inner levels i own rest bytes h =
 
 part_reads : (v : DescriptionVersion) (inner : Bool) (levels i : ℕ) (own rest : List ℕ) (c : Component) → SpellsComponent v own c → ReadsItem v inner levels i own rest (Part c)
 part_reads v inner levels i own rest c h =
-    let m : MeansAt v i h.head c = component_at v i own c h in
+    let g = head_elsewhere v 0 i h.head h.name h.modifiers h.is_head in
     let parts : own ++ rest ≡ h.head ++ right_bracket ∷ rest = rw h.parts (simp append_assoc) in
-    let b = begins_head v i (own ++ rest) h.head (right_bracket ∷ rest) m.name m.modifiers m.is_head parts (word_stops m.is_head.last (right_bracket ∷ rest) m.is_head.is_last refl) in
-    let not_nesting = neither _ _ m.is_head.no_nesting in
-    let next : Rest = at_index (i + 1 + length m.is_head.first + length m.name.text) (m.is_head.middle ++ (m.is_head.last ++ right_bracket ∷ rest)) in
+    let b = head_opens v levels i (own ++ rest) h.head (right_bracket ∷ rest) g.name_there g.modifiers g.is_head parts (word_stops g.is_head.last (right_bracket ∷ rest) g.is_head.is_last refl) in
     let len : i + length h.head + 1 ≡ i + length own = omega (arith, ap (length {A = ℕ}) h.parts, length-append h.head (right_bracket ∷ [])) in
     record {
-      goes = open_goes inner i (own ++ rest) b.opens;
+      goes = open_goes inner i (own ++ rest) b.0;
       reads =
-          element_opens v levels (at_index i (own ++ rest)) m.name next b.opens (no_double v (at_index i (own ++ rest)) b.once) b.reads_name
-          ∙ names_part v levels i m.name next not_nesting.0 not_nesting.1
-          ∙ ap (λ (r : Result (Component × Rest) Fault). r >>= λ c. ok_tree (Part c.0) c.1) (component_again v i h.head rest m.name m.modifiers c m.is_head m.means)
+          b.1
+          ∙ ap (λ (r : Result (Component × Rest) Fault). r >>= λ c. ok_tree (Part c.0) c.1) (component_again v i h.head rest g.name_there g.modifiers c g.is_head (g.agrees.ok c h.means))
           ∙ ap (ok_tree (Part c)) (same_index _ _ rest len);
     }
 
+-- ---- nested items
+
+-- a nesting name hands on to what reads behind it
+abbrev pub IsNesting : {A : Type 0} → DescriptionVersion → ℕ → List ℕ → List ℕ → Reader A → (A → Tree) → Type 0
+IsNesting v levels nesting what read make = (bracket : ℕ) (name next : Rest) → is_named v name.text nesting ≡ true → named_item v (nested_at v levels) bracket (name, next) ≡ nesting_at v what read make bracket next
+
+pub name_opens : {A : Type 0} (v : DescriptionVersion) (levels : ℕ) (nesting what : List ℕ) (read : Reader A) (make : A → Tree) → IsNesting v levels nesting what read make
+    → (i : ℕ) (text first word more : List ℕ) → text ≡ left_bracket ∷ (first ++ (word ++ more)) → Each is_space first → IsWord word → is_named v word nesting ≡ true → Stops is_word_byte more
+    → (begins left_bracket text ≡ true) × (element_at v (nested_at v levels) (at_index i text) ≡ nesting_at v what read make i (at_index (i + 1 + length first + length word) more))
+name_opens v levels nesting what read make nests i text first word more parts is_first is_word is_name stops =
+    let name : Rest = at_index (i + 1 + length first) word in
+    let c = name_begins v levels i text first more name parts is_first is_word refl stops in
+    (c.0, c.1 ∙ nests i name (at_index (i + 1 + length first + length word) more) is_name)
+
+pub opening_opens : {A : Type 0} (v : DescriptionVersion) (levels : ℕ) (nesting what : List ℕ) (read : Reader A) (make : A → Tree) → IsNesting v levels nesting what read make
+    → (i : ℕ) (text opening tail : List ℕ) → SpellsOpening v nesting opening → text ≡ opening ++ tail → begins left_bracket tail ≡ true
+    → (begins left_bracket text ≡ true) × (element_at v (nested_at v levels) (at_index i text) ≡ from_start v make i (read (at_index (i + length opening) tail)))
+opening_opens v levels nesting what read make nests i text opening tail o parts opens =
+    let c = name_opens v levels nesting what read make nests i text o.first o.word (o.blank ++ tail) (parts ∙ rw o.parts (simp append_assoc)) o.is_first o.is_word o.is_name (space_first o.blank tail o.some_space o.spaces) in
+    (c.0, c.1 ∙ from_opening v what read make i (i + 1 + length o.first + length o.word) o.blank tail o.spaces o.some_space opens ∙ ap (λ (j : ℕ). from_start v make i (read (at_index j tail))) (opening_len v nesting opening i o))
+
+-- where what is nested is read, and closed
+pub nesting_again : {A : Type 0} (v : DescriptionVersion) (levels : ℕ) (nesting what : List ℕ) (read : Reader A) (make : A → Tree) → IsNesting v levels nesting what read make
+    → (i : ℕ) (own rest : List ℕ) (Inside : List ℕ → Type 0) (h : SpellsNesting v nesting own Inside) (a : A) → begins left_bracket (h.inside ++ right_bracket ∷ rest) ≡ true
+    → read (at_index (i + length h.opening) (h.inside ++ right_bracket ∷ rest)) ≡ Ok (a, at_index (i + length h.opening + length h.inside) (right_bracket ∷ rest))
+    → (begins left_bracket (own ++ rest) ≡ true) × (element_at v (nested_at v levels) (at_index i (own ++ rest)) ≡ supported v i (make a) (at_index (i + length own) rest))
+nesting_again v levels nesting what read make nests i own rest Inside h a opens reads =
+    let c = opening_opens v levels nesting what read make nests i (own ++ rest) h.opening (h.inside ++ right_bracket ∷ rest) h.is_opening (rw h.parts (simp append_assoc)) opens in
+    let len : i + length h.opening + length h.inside + 1 ≡ i + length own = omega (arith, ap (length {A = ℕ}) h.parts, length-append h.opening (h.inside ++ right_bracket ∷ []), length-append h.inside (right_bracket ∷ [])) in
+    (c.0, c.1 ∙ ap (from_start v make i) reads ∙ closed_here v make i (i + length h.opening + length h.inside) rest a ∙ ap (supported v i (make a)) (same_index _ _ rest len))
+
 pub is_supported : (v : DescriptionVersion) (bracket : ℕ) (t : Tree) (rest : Rest) → is_three v ≡ true → supported v bracket t rest ≡ ok_tree t rest
-is_supported v bracket t rest three = cond_true (is_three v) (ok_tree t rest) (Err (unsupported_at bracket)) three
+is_supported v bracket t rest three = rw three refl
 
--- a nesting's text, and how long it is
-nesting_len : (v : DescriptionVersion) (nesting own : List ℕ) (Inside : List ℕ → Type 0) (i : ℕ) (h : SpellsNesting v nesting own Inside) → i + 1 + length h.is_opening.first + length h.is_opening.word + length h.is_opening.blank + length h.inside + 1 ≡ i + length own
-nesting_len v nesting own Inside i h = omega (arith, ap (length {A = ℕ}) h.parts, length-append h.opening (h.inside ++ right_bracket ∷ []), length-append h.inside (right_bracket ∷ []), opening_len v nesting h.opening h.is_opening)
+pub optional_nests : (v : DescriptionVersion) (levels : ℕ) → IsNesting v levels (codes "optional") (codes "whitespace after `optional`") (nested_at v levels) (Optional true)
+unfolding optional_at
+optional_nests v levels bracket name next h = rw h refl
 
-nesting_text : (v : DescriptionVersion) (nesting own rest : List ℕ) (Inside : List ℕ → Type 0) (h : SpellsNesting v nesting own Inside) → own ++ rest ≡ h.opening ++ (h.inside ++ right_bracket ∷ rest)
-nesting_text v nesting own rest Inside h = rw h.parts (simp append_assoc)
+pub first_nests : (v : DescriptionVersion) (levels : ℕ) → IsNesting v levels (codes "first") (codes "whitespace after `first`") (read_some v levels) first_of_list
+unfolding first_at
+first_nests v levels bracket name next h = rw (not_optional v name.text h, h) refl
 
 optional_reads : (v : DescriptionVersion) (inner : Bool) (levels : ℕ) → NestedAgain v levels → (i : ℕ) (own rest : List ℕ) (t : Tree) → is_three v ≡ true → SpellsNesting v (codes "optional") own (λ inside. SpellsNested v levels inside t) → ReadsItem v inner levels i own rest (Optional true t)
-unfolding optional_at
 optional_reads v inner levels again i own rest t three h =
-    let o = h.is_opening in
-    let tail : List ℕ = h.inside ++ right_bracket ∷ rest in
-    let b = begins_opening v (codes "optional") i (own ++ rest) h.opening tail o (nesting_text v (codes "optional") own rest _ h) in
-    let name : Rest = at_index (i + 1 + length o.first) o.word in
-    let from : ℕ = i + 1 + length o.first + length o.word in
-    let next : Rest = at_index from (o.blank ++ tail) in
-    record {
-      goes = open_goes inner i (own ++ rest) b.opens;
-      reads =
-          element_opens v levels (at_index i (own ++ rest)) name next b.opens (no_double v (at_index i (own ++ rest)) b.once) b.reads_name
-          ∙ names_optional v levels i name next o.is_name
-          ∙ nesting_again v (codes "whitespace after `optional`") (nested_at v levels) (Optional true) i from o.blank h.inside rest t o.spaces o.some_space (nested_opens v levels h.inside (right_bracket ∷ rest) t h.is_inside) (again (from + length o.blank) h.inside (right_bracket ∷ rest) t h.is_inside refl)
-          ∙ is_supported v i (Optional true t) (at_index (from + length o.blank + length h.inside + 1) rest) three
-          ∙ ap (ok_tree (Optional true t)) (same_index _ _ rest (nesting_len v (codes "optional") own _ i h));
-    }
+    let r = nesting_again v levels (codes "optional") (codes "whitespace after `optional`") (nested_at v levels) (Optional true) (optional_nests v levels) i own rest _ h t (nested_opens v levels h.inside (right_bracket ∷ rest) t h.is_inside) (again (i + length h.opening) h.inside (right_bracket ∷ rest) t h.is_inside refl) in
+    record { goes = open_goes inner i (own ++ rest) r.0; reads = r.1 ∙ is_supported v i (Optional true t) (at_index (i + length own) rest) three }
 
 first_reads : (v : DescriptionVersion) (inner : Bool) (levels : ℕ) → NestedAgain v levels → (i : ℕ) (own rest : List ℕ) (ts : Trees) → is_three v ≡ true → SpellsNesting v (codes "first") own (λ inside. (0 < length inside) × SpellsAlternatives v levels inside ts) → ReadsItem v inner levels i own rest (First ts)
-unfolding first_at
 first_reads v inner levels again i own rest ts three h =
-    let o = h.is_opening in
-    let tail : List ℕ = h.inside ++ right_bracket ∷ rest in
-    let b = begins_opening v (codes "first") i (own ++ rest) h.opening tail o (nesting_text v (codes "first") own rest _ h) in
-    let name : Rest = at_index (i + 1 + length o.first) o.word in
-    let from : ℕ = i + 1 + length o.first + length o.word in
-    let next : Rest = at_index from (o.blank ++ tail) in
+    let r = nesting_again v levels (codes "first") (codes "whitespace after `first`") (read_some v levels) first_of_list (first_nests v levels) i own rest _ h (unlisted ts) (some_opens v levels ts h.inside (right_bracket ∷ rest) h.is_inside.0 h.is_inside.1) (some_again v levels again ts (i + length h.opening) h.inside (right_bracket ∷ rest) h.is_inside.1 refl refl) in
     record {
-      goes = open_goes inner i (own ++ rest) b.opens;
-      reads =
-          element_opens v levels (at_index i (own ++ rest)) name next b.opens (no_double v (at_index i (own ++ rest)) b.once) b.reads_name
-          ∙ names_first v levels i name next o.is_name
-          ∙ nesting_again v (codes "whitespace after `first`") (read_some v levels) first_of_list i from o.blank h.inside rest (unlisted ts) o.spaces o.some_space (some_opens v levels ts h.inside (right_bracket ∷ rest) h.is_inside.0 h.is_inside.1) (some_again v levels again ts (from + length o.blank) h.inside (right_bracket ∷ rest) h.is_inside.1 refl refl)
-          ∙ is_supported v i (first_of_list (unlisted ts)) (at_index (from + length o.blank + length h.inside + 1) rest) three
-          ∙ ap (ok_tree (first_of_list (unlisted ts))) (same_index _ _ rest (nesting_len v (codes "first") own _ i h))
-          ∙ ap (λ (ts : Trees). ok_tree (First ts) (at_index (i + length own) rest)) (listed_again ts);
+      goes = open_goes inner i (own ++ rest) r.0;
+      reads = r.1 ∙ is_supported v i (first_of_list (unlisted ts)) (at_index (i + length own) rest) three ∙ ap (λ (ts : Trees). ok_tree (First ts) (at_index (i + length own) rest)) (listed_again ts);
     }
 
 pub item_reads : (v : DescriptionVersion) (inner : Bool) (levels : ℕ) → NestedAgain v levels → (i : ℕ) (own rest : List ℕ) (t : Tree) → SpellsItem v inner levels own rest t → ReadsItem v inner levels i own rest t
@@ -231,10 +238,6 @@ bracket_stops One = refl
 bracket_stops Two = refl
 bracket_stops Three = refl
 
-or_true : (a b : Bool) → b ≡ true → (a || b) ≡ true
-or_true true b h = refl
-or_true false b h = h
-
 pub nested_again : (v : DescriptionVersion) (levels : ℕ) → NestedAgain v levels
 unfolding nested_at
 nested_again v levels i own rest (Literal bytes) h stops = absurd h
@@ -250,7 +253,7 @@ nested_again v (suc levels) i own rest (Compound ts) (fewer, text, blank, e, par
     let step = element_at v (nested_at v levels) in
     let whole_text : own ++ rest ≡ left_bracket ∷ (text ++ tail) = rw parts (simp append_assoc) in
     let steps = items_steps v true levels (nested_again v levels) ts (i + 1) text tail (subst (λ (n : ℕ). SpellsItems v true n text ts) same items) (bracket_stops v) in
-    let all = steps_many (is_end true) step (items_shorten v true levels) (suc (length (text ++ tail))) s (unlisted ts) end (omega arith) steps (or_true (eqb (length tail) 0) true refl) in
+    let all = steps_many (is_end true) step (items_shorten v true levels (nested_reads v levels)) (suc (length (text ++ tail))) s (unlisted ts) end (omega arith) steps (or_right (eqb (length tail) 0) true refl) in
     let space_past = past_is is_space (i + 1 + length text + 1) blank rest spaces stops in
     let len : i + 1 + length text + 1 + length blank ≡ i + length own = omega (arith, ap (length {A = ℕ}) parts, length-append text (right_bracket ∷ blank)) in
     ap (λ (t : List ℕ). nested_at v (suc levels) (at_index i t)) whole_text
@@ -267,7 +270,7 @@ spelled_is_read v text ts h =
     let step = element_at v (nested_at v 127) in
     let end : Rest = at_index (0 + length text) [] in
     let steps = items_steps v false 127 (nested_again v 127) (listed ts) 0 text [] h tt in
-    let all = steps_many (is_end false) step (items_shorten v false 127) (suc (length (text ++ []))) (at_index 0 (text ++ [])) (unlisted (listed ts)) end (omega arith) steps refl in
+    let all = steps_many (is_end false) step (items_shorten v false 127 (nested_reads v 127)) (suc (length (text ++ []))) (at_index 0 (text ++ [])) (unlisted (listed ts)) end (omega arith) steps refl in
     ap (λ (t : List ℕ). read_items v t) (sym (append-nil text))
     ∙ ap (λ (r : Result (List Tree × Rest) Fault). r >>= λ items. ok_trees items.0) all
     ∙ ap (λ (ts : List Tree). ok_trees ts) (unlisted_again ts)

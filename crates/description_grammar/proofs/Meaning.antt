@@ -1,15 +1,14 @@
--- Where a component stands does not change what it means.
-use Rattle.std.proofs.Common.{◌≡◌, ℕ, ◌+◌, List, [], ◌∷◌, ◌++◌, length, Option, Some, None, Result, Ok, Err, not, cond, refl, subst, ◌∙◌, inl, inr}
+-- What a component means, or what is wrong with it, by other words that the tables take alike; and where it stands elsewhere.
+use Rattle.std.proofs.Common.{◌≡◌, ℕ, ◌+◌, List, [], ◌∷◌, length, Option, Some, None, Result, Ok, Err, Bool, true, false, not, cond, refl, sym, ap, subst, ◌∙◌, arith}
 use Rattle.std.specs.Prelude.{◌&&◌, codes}
-use Rattle.base.specs.Bytes.{right_bracket}
-use Rattle.description_lexer.specs.Fault.{Fault, InvalidComponentName, MissingRequiredModifier, DuplicateModifier, InvalidModifierCombination}
+use Rattle.description_lexer.specs.Fault.{Fault, InvalidComponentName, InvalidModifier, MissingRequiredModifier, DuplicateModifier, InvalidModifierCombination}
 use Rattle.description_lexer.specs.Answer.{◌>>=◌}
-use Rattle.description_items.specs.declared.component.Component.{Component}
+use Rattle.description_lexer.specs.Further.{further}
 use Rattle.description_lexer.specs.declared.version.DescriptionVersion.{DescriptionVersion}
 use Rattle.description_lexer.specs.Version.{is_three}
 use Rattle.description_lexer.specs.Text.{Rest}
 use Rattle.description_lexer.specs.Words.{Modifier}
-use Rattle.description_lexer.proofs.Readings.{bind_ok, not_ok, chosen, and_then_ok}
+use Rattle.description_lexer.proofs.Readings.{not_ok, err_is, not_err}
 use Rattle.description_tables.specs.declared.names.Name.{Name}
 use Rattle.description_tables.specs.declared.keys.Key.{Key}
 use Rattle.description_tables.specs.declared.chosen.Chosen.{Chosen}
@@ -18,130 +17,148 @@ use Rattle.description_tables.specs.Keys.{key_of, has_key}
 use Rattle.description_tables.specs.Chosen.{nothing, with_value, is_chosen, is_carried}
 use Rattle.description_tables.specs.Made.{made}
 use Rattle.description_tables.specs.Component.{found, bad, key_among, key_in, with_modifier, with_modifiers, combined, named, component_of}
-use Rattle.description_grammar.specs.Heads.{SpellsModifier, SpellsModifiers, SpellsHead, SpellsComponent}
-use Rattle.description_grammar.proofs.Results.{cond_false}
+use Rattle.description_grammar.specs.Heads.{SpellsModifier, SpellsModifiers, SpellsHead}
 use Rattle.description_grammar.proofs.Runs.{at_index}
 
--- words that the tables take alike
-pub record AreAlike (v : DescriptionVersion) (m n : Modifier) : Type 0 where
+-- ---- the same value, or faults that belong together
+
+pub record Agrees {A : Type 0} (Same : Fault → Fault → Type 0) (r s : Result A Fault) : Type 0 where
+  pub ok : (x : A) → r ≡ Ok x → s ≡ Ok x
+  pub err : (e : Fault) → r ≡ Err e → (f : Fault) × (s ≡ Err f) × Same e f
+
+value_agrees : {A : Type 0} {Same : Fault → Fault → Type 0} (x : A) → Agrees Same (Ok x) (Ok x)
+value_agrees x = record { ok = λ y e. e; err = λ f e. absurd (not_err x f e) }
+
+fault_agrees : {A : Type 0} {Same : Fault → Fault → Type 0} (e f : Fault) → Same e f → Agrees {A = A} Same (Err e) (Err f)
+fault_agrees {A} {Same} e f h = record { ok = λ y k. absurd (not_ok e y k); err = λ d k. (f, refl, subst (λ (d : Fault). Same d f) (err_is {A = A} e d k) h) }
+
+choice_agrees : {A : Type 0} {Same : Fault → Fault → Type 0} (b : Bool) (e f : Fault) (r s : Result A Fault) → Same e f → Agrees Same r s → Agrees Same (cond b (Err e) r) (cond b (Err f) s)
+choice_agrees true e f r s h k = fault_agrees e f h
+choice_agrees false e f r s h k = k
+
+then_agrees : {A B : Type 0} {Same : Fault → Fault → Type 0} (r s : Result A Fault) (f g : A → Result B Fault) → Agrees Same r s → ((x : A) → Agrees Same (f x) (g x)) → Agrees Same (r >>= f) (s >>= g)
+then_agrees (Ok x) s f g h next = rw (h.ok x refl) (next x)
+then_agrees (Err e) s f g h next = let d = h.err e refl in rw d.1 (fault_agrees e d.0 d.2)
+
+found_agrees : {A : Type 0} {Same : Fault → Fault → Type 0} (o : Option A) (e f : Fault) → Same e f → Agrees Same (found o e) (found o f)
+found_agrees None e f h = fault_agrees e f h
+found_agrees (Some x) e f h = value_agrees x
+
+among_agrees : {Same : Fault → Fault → Type 0} (o : Option Key) (n : Name) (e f : Fault) → Same e f → Agrees Same (key_among o n e) (key_among o n f)
+among_agrees None n e f h = fault_agrees e f h
+among_agrees {Same} (Some k) n e f h = by_test (has_key k n)
+  where
+    by_test : (b : Bool) → Agrees Same (cond b (Ok k) (Err e)) (cond b (Ok k) (Err f))
+    by_test true = value_agrees k
+    by_test false = fault_agrees e f h
+
+-- ---- other words
+
+-- modifiers that the tables take alike, and whose faults belong together
+pub record AreAlike (v : DescriptionVersion) (Same : Fault → Fault → Type 0) (m n : Modifier) : Type 0 where
   pub key : key_of v m.key.text ≡ key_of v n.key.text
   pub value : (x : Name) (c : Chosen) (k : Key) → with_value v x c k m.value.text ≡ with_value v x c k n.value.text
+  pub bad_key : Same (bad m.key) (bad n.key)
+  pub bad_value : Same (bad m.value) (bad n.value)
+  pub twice : Same (DuplicateModifier m.key.text m.key.index) (DuplicateModifier n.key.text n.key.index)
+  pub idle : (x : Name) → Same (InvalidModifierCombination m.key.text (name_text x) m.key.index) (InvalidModifierCombination n.key.text (name_text x) n.key.index)
 
-abbrev pub AllAlike : DescriptionVersion → List Modifier → List Modifier → Type 0
-AllAlike v [] [] = Unit {0}
-AllAlike v [] (n ∷ ns) = ⊥
-AllAlike v (m ∷ ms) [] = ⊥
-AllAlike v (m ∷ ms) (n ∷ ns) = AreAlike v m n × AllAlike v ms ns
+abbrev pub AllAlike : DescriptionVersion → (Fault → Fault → Type 0) → List Modifier → List Modifier → Type 0
+AllAlike v Same [] [] = Unit {0}
+AllAlike v Same [] (n ∷ ns) = ⊥
+AllAlike v Same (m ∷ ms) [] = ⊥
+AllAlike v Same (m ∷ ms) (n ∷ ns) = AreAlike v Same m n × AllAlike v Same ms ns
 
-found_moved : {A : Type 0} (o : Option A) (f g : Fault) (x : A) → found o f ≡ Ok x → found o g ≡ Ok x
-found_moved None f g x e = absurd (not_ok f x e)
-found_moved (Some y) f g x e = e
+key_agrees : {Same : Fault → Fault → Type 0} (v : DescriptionVersion) (n : Name) (l m : Modifier) → AreAlike v Same l m → Agrees Same (key_in v n l.key) (key_in v n m.key)
+key_agrees v n l m same = rw (← same.key) (among_agrees (key_of v l.key.text) n (bad l.key) (bad m.key) same.bad_key)
 
-among_moved : (o : Option Key) (n : Name) (f g : Fault) (k : Key) → key_among o n f ≡ Ok k → key_among o n g ≡ Ok k
-among_moved None n f g k e = absurd (not_ok f k e)
-among_moved (Some j) n f g k e =
-    elim (chosen (has_key j n) (Ok j) (Err f) (Ok k) e) [
-      | inl h ↦ rw h.0 h.1
-      | inr h ↦ absurd (not_ok f k h.1)
-    ]
-
-key_moved : (v : DescriptionVersion) (n : Name) (p q : Rest) (k : Key) → key_of v p.text ≡ key_of v q.text → key_in v n p ≡ Ok k → key_in v n q ≡ Ok k
-key_moved v n p q k same e = subst (λ (o : Option Key). key_among o n (bad q) ≡ Ok k) same (among_moved (key_of v p.text) n (bad p) (bad q) k e)
-
-modifier_moved : (v : DescriptionVersion) (n : Name) (c d : Chosen) (l m : Modifier) → AreAlike v l m → with_modifier v n c l ≡ Ok d → with_modifier v n c m ≡ Ok d
+modifier_agrees : {Same : Fault → Fault → Type 0} (v : DescriptionVersion) (n : Name) (c : Chosen) (l m : Modifier) → AreAlike v Same l m → Agrees Same (with_modifier v n c l) (with_modifier v n c m)
 unfolding with_modifier
-modifier_moved v n c d l m same e =
-    let a = bind_ok (key_in v n l.key) (λ k. cond (is_three v && is_chosen c k) (Err (DuplicateModifier l.key.text l.key.index)) (found (with_value v n c k l.value.text) (bad l.value))) d e in
-    let k : Key = a.0 in
-    elim (chosen (is_three v && is_chosen c k) (Err (DuplicateModifier l.key.text l.key.index)) (found (with_value v n c k l.value.text) (bad l.value)) (Ok d) a.2) [
-      | inl h ↦ absurd (not_ok _ d h.1)
-      | inr h ↦
-          let value : found (with_value v n c k m.value.text) (bad m.value) ≡ Ok d = subst (λ (o : Option Chosen). found o (bad m.value) ≡ Ok d) (same.value n c k) (found_moved (with_value v n c k l.value.text) (bad l.value) (bad m.value) d h.1) in
-          and_then_ok (key_in v n m.key) k (λ k. cond (is_three v && is_chosen c k) (Err (DuplicateModifier m.key.text m.key.index)) (found (with_value v n c k m.value.text) (bad m.value))) (key_moved v n l.key m.key k same.key a.1)
-          ∙ cond_false (is_three v && is_chosen c k) (Err (DuplicateModifier m.key.text m.key.index)) (found (with_value v n c k m.value.text) (bad m.value)) h.0
-          ∙ value
-    ]
+modifier_agrees v n c l m same = then_agrees _ _ _ _ (key_agrees v n l m same) (λ k. choice_agrees (is_three v && is_chosen c k) _ _ _ _ same.twice (rw (← same.value n c k) (found_agrees (with_value v n c k l.value.text) (bad l.value) (bad m.value) same.bad_value)))
 
-modifiers_moved : (v : DescriptionVersion) (n : Name) (c d : Chosen) (ls ms : List Modifier) → AllAlike v ls ms → with_modifiers v n c ls ≡ Ok d → with_modifiers v n c ms ≡ Ok d
+modifiers_agree : {Same : Fault → Fault → Type 0} (v : DescriptionVersion) (n : Name) (c : Chosen) (ls ms : List Modifier) → AllAlike v Same ls ms → Agrees Same (with_modifiers v n c ls) (with_modifiers v n c ms)
 unfolding with_modifiers
-modifiers_moved v n c d [] [] same e = e
-modifiers_moved v n c d [] (m ∷ ms) same e = absurd same
-modifiers_moved v n c d (l ∷ ls) [] same e = absurd same
-modifiers_moved v n c d (l ∷ ls) (m ∷ ms) same e =
-    let a = bind_ok (with_modifier v n c l) (λ x. with_modifiers v n x ls) d e in
-    and_then_ok (with_modifier v n c m) a.0 (λ x. with_modifiers v n x ms) (modifier_moved v n c a.0 l m same.0 a.1) ∙ modifiers_moved v n a.0 d ls ms same.1 a.2
+modifiers_agree v n c [] [] same = value_agrees c
+modifiers_agree v n c [] (m ∷ ms) same = absurd same
+modifiers_agree v n c (l ∷ ls) [] same = absurd same
+modifiers_agree v n c (l ∷ ls) (m ∷ ms) same = then_agrees _ _ _ _ (modifier_agrees v n c l m same.0) (λ d. modifiers_agree v n d ls ms same.1)
 
-combined_moved : (v : DescriptionVersion) (n : Name) (c d : Chosen) (ls ms : List Modifier) → AllAlike v ls ms → combined v n c ls ≡ Ok d → combined v n c ms ≡ Ok d
+combined_agree : {Same : Fault → Fault → Type 0} (v : DescriptionVersion) (n : Name) (c : Chosen) (ls ms : List Modifier) → AllAlike v Same ls ms → Agrees Same (combined v n c ls) (combined v n c ms)
 unfolding combined
-combined_moved v n c d [] [] same e = e
-combined_moved v n c d [] (m ∷ ms) same e = absurd same
-combined_moved v n c d (l ∷ ls) [] same e = absurd same
-combined_moved v n c d (l ∷ ls) (m ∷ ms) same e =
-    let idle : Modifier → Result Chosen Fault = λ m. Err (InvalidModifierCombination m.key.text (name_text n) m.key.index) in
-    let a = bind_ok (key_in v n l.key) (λ k. cond (is_three v && not (is_carried n c.repr k)) (idle l) (combined v n c ls)) d e in
-    elim (chosen (is_three v && not (is_carried n c.repr a.0)) (idle l) (combined v n c ls) (Ok d) a.2) [
-      | inl h ↦ absurd (not_ok _ d h.1)
-      | inr h ↦
-          and_then_ok (key_in v n m.key) a.0 (λ k. cond (is_three v && not (is_carried n c.repr k)) (idle m) (combined v n c ms)) (key_moved v n l.key m.key a.0 same.0.key a.1)
-          ∙ cond_false (is_three v && not (is_carried n c.repr a.0)) (idle m) (combined v n c ms) h.0
-          ∙ combined_moved v n c d ls ms same.1 h.1
-    ]
+combined_agree v n c [] [] same = value_agrees c
+combined_agree v n c [] (m ∷ ms) same = absurd same
+combined_agree v n c (l ∷ ls) [] same = absurd same
+combined_agree v n c (l ∷ ls) (m ∷ ms) same =
+    then_agrees _ _ _ _ (key_agrees v n l m same.0) (λ k. choice_agrees (is_three v && not (is_carried n c.repr k)) _ _ _ _ (same.0.idle n) (combined_agree v n c ls ms same.1))
 
-named_moved : (v : DescriptionVersion) (p q : Rest) (n : Name) → name_of v p.text ≡ name_of v q.text → named v p ≡ Ok n → named v q ≡ Ok n
-unfolding named
-named_moved v p q n same e = subst (λ (o : Option Name). found o (InvalidComponentName q.text q.index) ≡ Ok n) same (found_moved (name_of v p.text) (InvalidComponentName p.text p.index) (InvalidComponentName q.text q.index) n e)
+pub component_agrees : {Same : Fault → Fault → Type 0} (v : DescriptionVersion) (p q : Rest) (ls ms : List Modifier) → name_of v p.text ≡ name_of v q.text → Same (InvalidComponentName p.text p.index) (InvalidComponentName q.text q.index)
+    → Same (MissingRequiredModifier (codes "count") p.index) (MissingRequiredModifier (codes "count") q.index) → AllAlike v Same ls ms → Agrees Same (component_of v p ls) (component_of v q ms)
+unfolding component_of named
+component_agrees v p q ls ms same unknown lacking all =
+    then_agrees _ _ _ _ (rw (← same) (found_agrees (name_of v p.text) (InvalidComponentName p.text p.index) (InvalidComponentName q.text q.index) unknown)) (
+    λ n. then_agrees _ _ _ _ (modifiers_agree v n nothing ls ms all) (λ c. then_agrees _ _ _ _ (combined_agree v n c ls ms all) (λ d. found_agrees (made v n d) (MissingRequiredModifier (codes "count") p.index) (MissingRequiredModifier (codes "count") q.index) lacking))
+    )
 
-pub component_moved : (v : DescriptionVersion) (p q : Rest) (ls ms : List Modifier) (c : Component) → name_of v p.text ≡ name_of v q.text → AllAlike v ls ms → component_of v p ls ≡ Ok c → component_of v q ms ≡ Ok c
-unfolding component_of
-component_moved v p q ls ms c same all e =
-    let lacking : Rest → Fault = λ word. MissingRequiredModifier (codes "count") word.index in
-    let a = bind_ok (named v p) (λ n. with_modifiers v n nothing ls >>= λ c. combined v n c ls >>= λ d. found (made v n d) (lacking p)) c e in
-    let b = bind_ok (with_modifiers v a.0 nothing ls) (λ c. combined v a.0 c ls >>= λ d. found (made v a.0 d) (lacking p)) c a.2 in
-    let d = bind_ok (combined v a.0 b.0 ls) (λ d. found (made v a.0 d) (lacking p)) c b.2 in
-    and_then_ok (named v q) a.0 (λ n. with_modifiers v n nothing ms >>= λ c. combined v n c ms >>= λ d. found (made v n d) (lacking q)) (named_moved v p q a.0 same a.1)
-    ∙ and_then_ok (with_modifiers v a.0 nothing ms) b.0 (λ c. combined v a.0 c ms >>= λ d. found (made v a.0 d) (lacking q)) (modifiers_moved v a.0 nothing b.0 ls ms all b.1)
-    ∙ and_then_ok (combined v a.0 b.0 ms) d.0 (λ d. found (made v a.0 d) (lacking q)) (combined_moved v a.0 b.0 d.0 ls ms all d.1)
-    ∙ found_moved (made v a.0 d.0) (lacking p) (lacking q) c d.2
+-- ---- the same words elsewhere
 
--- ---- the words of a head, elsewhere
+-- faults of the same words, one where they stand at an index, the other where they stand at another one
+abbrev pub SamePlace : ℕ → ℕ → Fault → Fault → Type 0
+SamePlace at to e f = (d : Fault) × (e ≡ further at d) × (f ≡ further to d)
 
-record WordsElsewhere (v : DescriptionVersion) (at : ℕ) (own : List ℕ) (ms : List Modifier) : Type 0 where
+placed : (at to i n : ℕ) (make : ℕ → Fault) → further at (make n) ≡ make (at + n) → further to (make n) ≡ make (to + n) → i ≡ at + n → SamePlace at to (make i) (make (to + n))
+placed at to i n make e f is = (make n, ap make is ∙ sym e, sym f)
+
+record WordsElsewhere (v : DescriptionVersion) (at to n : ℕ) (own : List ℕ) (ms : List Modifier) : Type 0 where
   others : List Modifier
-  spells : SpellsModifiers at own others
-  same : AllAlike v ms others
+  spells : SpellsModifiers (to + n) own others
+  same : AllAlike v (SamePlace at to) ms others
 
-words_elsewhere : (v : DescriptionVersion) (ms : List Modifier) (at to : ℕ) (own : List ℕ) → SpellsModifiers at own ms → WordsElsewhere v to own ms
-words_elsewhere v [] at to own e = record { others = []; spells = e; same = tt }
-words_elsewhere v (m ∷ ms) at to own (first, rest, parts, one, more) =
-    let others : WordsElsewhere v (to + length first) rest ms = words_elsewhere v ms (at + length first) (to + length first) rest more in
-    let here : Modifier = record { key = at_index (to + length one.blank) m.key.text; value = at_index (to + length one.blank + length m.key.text + 1) m.value.text } in
-    let spelled : SpellsModifier to first here = record { blank = one.blank; parts = one.parts; is_space = one.is_space; some_space = one.some_space; is_key = one.is_key; no_colon = one.no_colon; is_value = one.is_value; key_at = refl; value_at = refl } in
-    record { others = here ∷ others.others; spells = (first, rest, parts, spelled, others.spells); same = (record { key = refl; value = λ x c k. refl }, others.same) }
-
--- a head with the component that it means, elsewhere
-pub record MeansAt (v : DescriptionVersion) (at : ℕ) (head : List ℕ) (c : Component) : Type 0 where
-  pub name : Rest
-  pub modifiers : List Modifier
-  pub is_head : SpellsHead v at head name modifiers
-  pub means : component_of v name modifiers ≡ Ok c
-
-pub means_elsewhere : (v : DescriptionVersion) (at to : ℕ) (head : List ℕ) (c : Component) → MeansAt v at head c → MeansAt v to head c
-means_elsewhere v at to head c h =
-    let g = h.is_head in
-    let words : WordsElsewhere v (to + 1 + length g.first + length h.name.text) g.middle h.modifiers = words_elsewhere v h.modifiers (at + 1 + length g.first + length h.name.text) (to + 1 + length g.first + length h.name.text) g.middle g.modifiers in
-    let name : Rest = at_index (to + 1 + length g.first) h.name.text in
+words_elsewhere : (v : DescriptionVersion) (ms : List Modifier) (at to n : ℕ) (own : List ℕ) → SpellsModifiers (at + n) own ms → WordsElsewhere v at to n own ms
+words_elsewhere v [] at to n own e = record { others = []; spells = e; same = tt }
+words_elsewhere v (m ∷ ms) at to n own (first, rest, parts, one, more) =
+    let next : SpellsModifiers (at + (n + length first)) rest ms = subst (λ (i : ℕ). SpellsModifiers i rest ms) (omega arith) more in
+    let others : WordsElsewhere v at to (n + length first) rest ms = words_elsewhere v ms at to (n + length first) rest next in
+    let key_n : ℕ = n + length one.blank in
+    let value_n : ℕ = n + length one.blank + length m.key.text + 1 in
+    let there : Modifier = record { key = at_index (to + key_n) m.key.text; value = at_index (to + value_n) m.value.text } in
+    let key_is : m.key.index ≡ at + key_n = omega (arith, one.key_at) in
+    let value_is : m.value.index ≡ at + value_n = omega (arith, one.value_at) in
+    let spelled : SpellsModifier (to + n) first there = record { blank = one.blank; parts = one.parts; is_space = one.is_space; some_space = one.some_space; is_key = one.is_key; no_colon = one.no_colon; is_value = one.is_value; key_at = omega arith; value_at = omega arith } in
     record {
-      name = name;
-      modifiers = words.others;
-      is_head = record { first = g.first; middle = g.middle; last = g.last; parts = g.parts; is_first = g.is_first; is_name = g.is_name; no_nesting = g.no_nesting; name_at = refl; modifiers = words.spells; is_last = g.is_last };
-      means = component_moved v h.name name h.modifiers words.others c refl words.same h.means;
+      others = there ∷ others.others;
+      spells = (first, rest, parts, spelled, subst (λ (i : ℕ). SpellsModifiers i rest others.others) (omega arith) others.spells);
+      same = (
+        record {
+          key = refl;
+          value = λ x c k. refl;
+          bad_key = placed at to m.key.index key_n (λ i. InvalidModifier m.key.text i) refl refl key_is;
+          bad_value = placed at to m.value.index value_n (λ i. InvalidModifier m.value.text i) refl refl value_is;
+          twice = placed at to m.key.index key_n (λ i. DuplicateModifier m.key.text i) refl refl key_is;
+          idle = λ x. placed at to m.key.index key_n (λ i. InvalidModifierCombination m.key.text (name_text x) i) refl refl key_is;
+        },
+        others.same,
+      );
     }
 
--- a component that is spelled is so wherever it stands
-pub component_at : (v : DescriptionVersion) (at : ℕ) (own : List ℕ) (c : Component) (h : SpellsComponent v own c) → MeansAt v at h.head c
-component_at v at own c h = means_elsewhere v 0 at h.head c (record { name = h.name; modifiers = h.modifiers; is_head = h.is_head; means = h.means })
+-- a head at another index, with what it means
+pub record HeadElsewhere (v : DescriptionVersion) (at to : ℕ) (head : List ℕ) (name : Rest) (ms : List Modifier) (h : SpellsHead v at head name ms) : Type 0 where
+  pub name_there : Rest
+  pub modifiers : List Modifier
+  pub is_head : SpellsHead v to head name_there modifiers
+  pub last_is : is_head.last ≡ h.last
+  pub agrees : Agrees (SamePlace at to) (component_of v name ms) (component_of v name_there modifiers)
 
-pub component_spelled : (v : DescriptionVersion) (at : ℕ) (head : List ℕ) (c : Component) → MeansAt v at head c → SpellsComponent v (head ++ right_bracket ∷ []) c
-component_spelled v at head c h =
-    let g : MeansAt v 0 head c = means_elsewhere v at 0 head c h in
-    record { head = head; name = g.name; modifiers = g.modifiers; parts = refl; is_head = g.is_head; means = g.means }
+pub head_elsewhere : (v : DescriptionVersion) (at to : ℕ) (head : List ℕ) (name : Rest) (ms : List Modifier) (h : SpellsHead v at head name ms) → HeadElsewhere v at to head name ms h
+head_elsewhere v at to head name ms h =
+    let n : ℕ = 1 + length h.first in
+    let behind : ℕ = 1 + length h.first + length name.text in
+    let words : WordsElsewhere v at to behind h.middle ms = words_elsewhere v ms at to behind h.middle (subst (λ (i : ℕ). SpellsModifiers i h.middle ms) (omega arith) h.modifiers) in
+    let there : Rest = at_index (to + n) name.text in
+    let name_is : name.index ≡ at + n = omega (arith, h.name_at) in
+    record {
+      name_there = there;
+      modifiers = words.others;
+      is_head = record { first = h.first; middle = h.middle; last = h.last; parts = h.parts; is_first = h.is_first; is_name = h.is_name; no_nesting = h.no_nesting; name_at = omega arith; modifiers = subst (λ (i : ℕ). SpellsModifiers i h.middle words.others) (omega arith) words.spells; is_last = h.is_last };
+      last_is = refl;
+      agrees = component_agrees v name there ms words.others refl (placed at to name.index n (λ i. InvalidComponentName name.text i) refl refl name_is) (placed at to name.index n (λ i. MissingRequiredModifier (codes "count") i) refl refl name_is) words.same;
+    }

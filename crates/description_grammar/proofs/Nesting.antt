@@ -1,25 +1,28 @@
--- What is read behind a nesting name is spelled so, and what is refused there has that fault.
-use Rattle.std.proofs.Common.{◌≡◌, ℕ, ◌+◌, ◌<◌, List, [], ◌∷◌, ◌++◌, length, Result, Ok, Err, true, false, cond, refl, sym, ap, subst, ◌∙◌, append_assoc, arith, inl, inr, ◌⊎◌}
+-- What is nested behind its name: what is read is spelled so, what is refused is faulty so, and the other way round.
+use Rattle.std.proofs.Common.{◌≡◌, ℕ, ◌+◌, ◌<◌, List, [], ◌∷◌, ◌++◌, length, Result, true, false, refl, ap, subst, ◌∙◌, append_assoc, arith, inl, inr, ◌⊎◌, Ok, Err, eqb}
 use Rattle.std.specs.Prelude.{codes}
-use Rattle.std.proofs.lemmas.List.{length-append}
+use Rattle.std.proofs.lemmas.List.{length-append, drop_at}
 use Rattle.std.proofs.lemmas.List.Folds.{length-prefix_len}
-use Rattle.std.proofs.lemmas.Bool.{eqb-true}
+use Rattle.std.proofs.lemmas.Bool.{eqb-true, eq-eqb}
 use Rattle.base.specs.Bytes.{left_bracket, right_bracket}
-use Rattle.description_lexer.specs.Fault.{Fault, Expected}
+use Rattle.description_lexer.specs.Fault.{Fault, UnclosedOpeningBracket, Expected, NotSupported}
 use Rattle.description_lexer.specs.Answer.{◌>>=◌}
 use Rattle.description_items.specs.Tree.{Tree}
 use Rattle.description_lexer.specs.declared.version.DescriptionVersion.{DescriptionVersion}
 use Rattle.description_lexer.specs.Version.{is_three}
 use Rattle.description_lexer.specs.Text.{Rest, is_space, run, past, after}
 use Rattle.description_lexer.specs.Words.{is_named, begins, closed_at}
-use Rattle.description_lexer.proofs.Readings.{bind_ok, ok_is, not_ok, chosen, bind_err, err_is, not_err}
-use Rattle.description_grammar.specs.Reading.{is_same, opened_at, unsupported_at, supported}
+use Rattle.description_grammar.specs.Reading.{is_same, opened_at, supported}
 use Rattle.description_grammar.specs.Heads.{Each, Stops, SpellsOpening, SpellsNesting}
-use Rattle.description_grammar.specs.Faulty.{Wrong, LacksSpace, LacksBracket, BadNesting}
-use Rattle.description_grammar.proofs.Results.{lt_of}
-use Rattle.description_grammar.proofs.Runs.{each_run, stops_past, stops_from_none}
-use Rattle.description_grammar.proofs.Takes.{Takes, takes_then, takes_run, takes_length, takes_byte, closed_takes, closed_refused}
-use Rattle.description_grammar.proofs.ComponentsSound.{TakesName}
+use Rattle.description_grammar.specs.Faulty.{Behind, Wrong, LacksSpace, LacksBracket, BadNesting}
+use Rattle.description_grammar.proofs.Results.{lt_of, differs}
+use Rattle.description_grammar.proofs.ValueOrFault.{Reads, gives, refuses, either, in_turn}
+use Rattle.description_grammar.proofs.Places.{at_first, behind_both}
+use Rattle.description_grammar.proofs.Runs.{each_run, stops_past, stops_from_none, Takes, takes_then, takes_run, takes_length, takes_byte, closed_reads, at_index, run_again, stops_91, closed_again}
+use Rattle.description_grammar.proofs.ComponentText.{TakesName}
+use Rattle.std.specs.Str.{str_to_ascii_lowercase}
+use Rattle.std.proofs.lemmas.Cmp.{nat_list_eq_equiv}
+use Rattle.description_lexer.specs.declared.version.DescriptionVersion.TheVariants.{One, Two, Three}
 
 -- ---- the white space and the bracket
 
@@ -42,28 +45,13 @@ no_space_there s h =
     let same : length (past is_space s).text ≡ length s.text = eqb-true _ _ h in
     stops_from_none is_space s.text (omega (arith, len, length-prefix_len is_space s.text))
 
-opened_takes : (what : List ℕ) (s start : Rest) → opened_at what s ≡ Ok start → TakesSpace s start × (begins left_bracket start.text ≡ true)
-unfolding opened_at
-opened_takes what s start e =
-    elim (chosen (is_same (past is_space s) s) (Err (Expected what s.index)) (cond (begins left_bracket (past is_space s).text) (Ok (past is_space s)) (Err (Expected (codes "opening bracket") (past is_space s).index))) (Ok start) e) [
-      | inl h ↦ absurd (not_ok _ start h.1)
-      | inr h ↦ elim (chosen (begins left_bracket (past is_space s).text) (Ok (past is_space s)) (Err (Expected (codes "opening bracket") (past is_space s).index)) (Ok start) h.1) [
-        | inl g ↦ subst (λ (p : Rest). TakesSpace s p × (begins left_bracket p.text ≡ true)) (ok_is (past is_space s) start g.1) (space_taken s h.0, g.0)
-        | inr g ↦ absurd (not_ok _ start g.1)
-      ]
-    ]
+-- what is wrong where no opening ends
+abbrev Unopened : List ℕ → Rest → Fault → Type 0
+Unopened what s e = (Stops is_space s.text × (e ≡ Expected what s.index)) ⊎ (TakesSpace s (past is_space s) × (begins left_bracket (past is_space s).text ≡ false) × (e ≡ Expected (codes "opening bracket") (past is_space s).index))
 
-opened_refused : (what : List ℕ) (s : Rest) (e : Fault) → opened_at what s ≡ Err e
-    → (Stops is_space s.text × (e ≡ Expected what s.index)) ⊎ (TakesSpace s (past is_space s) × (begins left_bracket (past is_space s).text ≡ false) × (e ≡ Expected (codes "opening bracket") (past is_space s).index))
+opened_reads : (what : List ℕ) (s : Rest) → Reads (λ (start : Rest). TakesSpace s start × (begins left_bracket start.text ≡ true)) (Unopened what s) (opened_at what s)
 unfolding opened_at
-opened_refused what s e h =
-    elim (chosen (is_same (past is_space s) s) (Err (Expected what s.index)) (cond (begins left_bracket (past is_space s).text) (Ok (past is_space s)) (Err (Expected (codes "opening bracket") (past is_space s).index))) (Err e) h) [
-      | inl g ↦ inl (no_space_there s g.0, sym (err_is {A = Rest} _ e g.1))
-      | inr g ↦ elim (chosen (begins left_bracket (past is_space s).text) (Ok (past is_space s)) (Err (Expected (codes "opening bracket") (past is_space s).index)) (Err e) g.1) [
-        | inl k ↦ absurd (not_err (past is_space s) e k.1)
-        | inr k ↦ inr (space_taken s g.0, k.0, sym (err_is {A = Rest} _ e k.1))
-      ]
-    ]
+opened_reads what s = either _ _ _ (λ h. refuses _ (inl (no_space_there s h, refl))) (λ h. either _ _ _ (λ g. gives _ (space_taken s h, g)) (λ g. refuses _ (inr (space_taken s h, g, refl))))
 
 -- ---- the opening
 
@@ -106,7 +94,7 @@ pub record RefusesInside (Before : List ℕ → Type 0) (Deeper : Wrong) (start 
   pub bad : Rest
   pub takes : Takes start before bad
   pub is_before : Before before
-  pub is_bad : Deeper bad.index bad.text e
+  pub is_bad : Behind bad.index (Deeper bad.text) e
 
 abbrev pub Reader : Type 0 → Type 0
 Reader A = Rest → Result (A × Rest) Fault
@@ -118,115 +106,165 @@ nesting_at v what read make bracket s = opened_at what s >>= λ start. read star
 pub record TakesNesting {A : Type 0} (v : DescriptionVersion) (nesting : List ℕ) (Means : List ℕ → A → Type 0) (make : A → Tree) (s : Rest) (x : Tree × Rest) : Type 0 where
   pub own : List ℕ
   pub takes : Takes s own x.1
+  pub some : 0 < length own
   pub three : is_three v ≡ true
   pub value : A
   pub made : make value ≡ x.0
   pub spells : SpellsNesting v nesting own (λ inside. Means inside value)
 
-pub nesting_takes : {A : Type 0} (v : DescriptionVersion) (nesting what : List ℕ) (read : Reader A) (make : A → Tree) (Means : List ℕ → A → Type 0) (Inside : List ℕ → List ℕ → Type 0)
-    → ((start : Rest) (x : A × Rest) → begins left_bracket start.text ≡ true → read start ≡ Ok x → TakesInside Means Inside start x)
-    → (s name next : Rest) (x : Tree × Rest) → begins left_bracket s.text ≡ true → TakesName (after 1 s) name next → is_named v name.text nesting ≡ true → nesting_at v what read make s.index next ≡ Ok x → TakesNesting v nesting Means make s x
-nesting_takes {A} v nesting what read make Means Inside reads s name next x opens n is_name e =
-    let a = bind_ok (opened_at what next) (λ start. read start >>= λ x. closed_at s.index x.1 >>= λ rest. supported v s.index (make x.0) rest) x e in
-    let b = bind_ok (read a.0) (λ x. closed_at s.index x.1 >>= λ rest. supported v s.index (make x.0) rest) x a.2 in
-    let c = bind_ok (closed_at s.index b.0.1) (λ rest. supported v s.index (make b.0.0) rest) x b.2 in
-    let blank = opened_takes what next a.0 a.1 in
-    let o : MakesOpening v nesting s a.0 = opening_of v nesting s name next a.0 opens n is_name blank.0 in
-    let i : TakesInside Means Inside a.0 b.0 = reads a.0 b.0 blank.1 b.1 in
-    let close : Takes b.0.1 (right_bracket ∷ []) c.0 = closed_takes s.index b.0.1 c.0 c.1 in
-    let inner : Takes a.0 (i.own ++ right_bracket ∷ []) c.0 = takes_then a.0 i.own b.0.1 (right_bracket ∷ []) c.0 i.takes close in
-    let own : List ℕ = o.opening ++ (i.own ++ right_bracket ∷ []) in
-    let whole : Takes s own c.0 = takes_then s o.opening a.0 (i.own ++ right_bracket ∷ []) c.0 o.takes inner in
-    elim (chosen (is_three v) (Ok (make b.0.0, c.0)) (Err (unsupported_at s.index)) (Ok x) c.2) [
-      | inl h ↦
-          let spelled : SpellsNesting v nesting own (λ inside. Means inside b.0.0) = record { opening = o.opening; inside = i.own; parts = refl; is_opening = o.is_opening; is_inside = i.means } in
-          let same = ok_is (make b.0.0, c.0) x h.1 in
-          record { own = own; takes = subst (λ (y : Tree × Rest). Takes s own y.1) same whole; three = h.0; value = b.0.0; made = ap (λ (y : Tree × Rest). y.0) same; spells = spelled }
-      | inr h ↦ absurd (not_ok _ x h.1)
-    ]
-
 -- where an opening is not read, it has one of the first two faults
-opening_refused : (v : DescriptionVersion) (nesting what : List ℕ) (s name next : Rest) (e : Fault) → begins left_bracket s.text ≡ true → TakesName (after 1 s) name next → is_named v name.text nesting ≡ true → opened_at what next ≡ Err e
-    → LacksSpace v nesting what s.index s.text e ⊎ LacksBracket v nesting s.index s.text e
-opening_refused v nesting what s name next e opens n is_name h =
-    elim (opened_refused what next e h) [
-      | inl g ↦
-          let first : Takes s (left_bracket ∷ (n.first ++ name.text)) next = takes_then s (left_bracket ∷ []) (after 1 s) (n.first ++ name.text) next (takes_byte left_bracket s opens) n.takes in
-          let i : next.index ≡ s.index + 1 + length n.first + length name.text = omega (arith, first.index, length-append n.first name.text) in
-          inl (record {
-            first = n.first;
-            word = name.text;
-            rest = next.text;
-            parts = first.parts ∙ ap (λ (t : List ℕ). left_bracket ∷ t) (append_assoc n.first name.text next.text);
-            is_first = n.is_first;
-            is_word = n.is_name;
-            is_name = is_name;
-            no_space = g.0;
-            no_word = n.no_word;
-            fault_is = g.1 ∙ ap (λ (i : ℕ). Expected what i) i;
-          })
-      | inr g ↦
-          let start : Rest = past is_space next in
-          let o : MakesOpening v nesting s start = opening_of v nesting s name next start opens n is_name g.0 in
-          inr (record {
-            opening = o.opening;
-            rest = start.text;
-            parts = o.takes.parts;
-            is_opening = o.is_opening;
-            no_space = g.0.no_space;
-            no_bracket = g.1;
-            fault_is = g.2 ∙ ap (λ (i : ℕ). Expected (codes "opening bracket") i) o.takes.index;
-          })
-    ]
+opening_refused : (v : DescriptionVersion) (nesting what : List ℕ) (s name next : Rest) (e : Fault) → begins left_bracket s.text ≡ true → TakesName (after 1 s) name next → is_named v name.text nesting ≡ true → Unopened what next e
+    → Behind s.index (LacksSpace v nesting what s.text) e ⊎ Behind s.index (LacksBracket v nesting s.text) e
+opening_refused v nesting what s name next e opens n is_name (inl g) =
+    let first : Takes s (left_bracket ∷ (n.first ++ name.text)) next = takes_then s (left_bracket ∷ []) (after 1 s) (n.first ++ name.text) next (takes_byte left_bracket s opens) n.takes in
+    let i : next.index ≡ s.index + (1 + length n.first + length name.text) = omega (arith, first.index, length-append n.first name.text) in
+    inl (
+      Expected what (1 + length n.first + length name.text),
+      record {
+        first = n.first;
+        word = name.text;
+        rest = next.text;
+        parts = first.parts ∙ ap (λ (t : List ℕ). left_bracket ∷ t) (append_assoc n.first name.text next.text);
+        is_first = n.is_first;
+        is_word = n.is_name;
+        is_name = is_name;
+        no_space = g.0;
+        no_word = n.no_word;
+        fault_is = refl;
+      },
+      g.1 ∙ ap (λ (i : ℕ). Expected what i) i,
+    )
+opening_refused v nesting what s name next e opens n is_name (inr g) =
+    let o : MakesOpening v nesting s (past is_space next) = opening_of v nesting s name next (past is_space next) opens n is_name g.0 in
+    inr (
+      Expected (codes "opening bracket") (length o.opening),
+      record {
+        opening = o.opening;
+        rest = (past is_space next).text;
+        parts = o.takes.parts;
+        is_opening = o.is_opening;
+        no_space = g.0.no_space;
+        no_bracket = g.1;
+        fault_is = refl;
+      },
+      g.2 ∙ ap (λ (i : ℕ). Expected (codes "opening bracket") i) o.takes.index,
+    )
 
-pub nesting_refused : {A : Type 0} (v : DescriptionVersion) (nesting what : List ℕ) (read : Reader A) (make : A → Tree) (Means : List ℕ → A → Type 0) (Inside : List ℕ → List ℕ → Type 0) (Before : List ℕ → Type 0) (Deeper : Wrong)
-    → ((start : Rest) (x : A × Rest) → begins left_bracket start.text ≡ true → read start ≡ Ok x → TakesInside Means Inside start x)
-    → ((start : Rest) (e : Fault) → begins left_bracket start.text ≡ true → read start ≡ Err e → RefusesInside Before Deeper start e)
-    → (s name next : Rest) (e : Fault) → begins left_bracket s.text ≡ true → TakesName (after 1 s) name next → is_named v name.text nesting ≡ true → nesting_at v what read make s.index next ≡ Err e → BadNesting v nesting what Before Inside Deeper s.index s.text e
-nesting_refused {A} v nesting what read make Means Inside Before Deeper reads refuses s name next e opens n is_name h =
-    elim (bind_err (opened_at what next) (λ start. read start >>= λ x. closed_at s.index x.1 >>= λ rest. supported v s.index (make x.0) rest) e h) [
-      | inl a ↦ elim (opening_refused v nesting what s name next e opens n is_name a) [ inl g ↦ inl g | inr g ↦ inr (inl g) ]
-      | inr a ↦
-          let blank = opened_takes what next a.0 a.1 in
-          let o : MakesOpening v nesting s a.0 = opening_of v nesting s name next a.0 opens n is_name blank.0 in
-          elim (bind_err (read a.0) (λ x. closed_at s.index x.1 >>= λ rest. supported v s.index (make x.0) rest) e a.2) [
-            | inl b ↦
-                let r : RefusesInside Before Deeper a.0 e = refuses a.0 e blank.1 b in
-                let i : r.bad.index ≡ s.index + length o.opening + length r.before = omega (arith, r.takes.index, o.takes.index) in
-                inr (inr (inl (record {
-                  opening = o.opening;
-                  before = r.before;
-                  rest = r.bad.text;
-                  parts = o.takes.parts ∙ ap (λ (t : List ℕ). o.opening ++ t) r.takes.parts;
-                  is_opening = o.is_opening;
-                  is_before = r.is_before;
-                  is_bad = subst (λ (i : ℕ). Deeper i r.bad.text e) i r.is_bad;
-                })))
-            | inr b ↦
-                let i : TakesInside Means Inside a.0 b.0 = reads a.0 b.0 blank.1 b.1 in
-                let parts : s.text ≡ o.opening ++ (i.own ++ b.0.1.text) = o.takes.parts ∙ ap (λ (t : List ℕ). o.opening ++ t) i.takes.parts in
-                elim (bind_err (closed_at s.index b.0.1) (λ rest. supported v s.index (make b.0.0) rest) e b.2) [
-                  | inl c ↦
-                      let k = closed_refused s.index b.0.1 e c in
-                      inr (inr (inr (inl (record { opening = o.opening; inside = i.own; rest = b.0.1.text; parts = parts; is_opening = o.is_opening; is_inside = i.inside; no_space = i.no_space; open_still = k.0; fault_is = k.1 }))))
-                  | inr c ↦
-                      let close : Takes b.0.1 (right_bracket ∷ []) c.0 = closed_takes s.index b.0.1 c.0 c.1 in
-                      elim (chosen (is_three v) (Ok (make b.0.0, c.0)) (Err (unsupported_at s.index)) (Err e) c.2) [
-                        | inl d ↦ absurd (not_err (make b.0.0, c.0) e d.1)
-                        | inr d ↦
-                            let inside : Inside i.own (right_bracket ∷ c.0.text) = subst (λ (t : List ℕ). Inside i.own t) close.parts i.inside in
-                            inr (inr (inr (inr (record {
-                              own = o.opening ++ (i.own ++ right_bracket ∷ []);
-                              rest = c.0.text;
-                              parts = parts ∙ ap (λ (t : List ℕ). o.opening ++ (i.own ++ t)) close.parts ∙ regroup o.opening i.own c.0.text;
-                              not_three = d.0;
-                              is_own = record { opening = o.opening; inside = i.own; parts = refl; is_opening = o.is_opening; is_inside = inside };
-                              fault_is = sym (err_is {A = Tree × Rest} _ e d.1);
-                            }))))
-                      ]
-                ]
-          ]
-    ]
+pub nesting_reads : {A : Type 0} (v : DescriptionVersion) (nesting what : List ℕ) (read : Reader A) (make : A → Tree) (Means : List ℕ → A → Type 0) (Inside : List ℕ → List ℕ → Type 0) (Before : List ℕ → Type 0) (Deeper : Wrong)
+    → ((start : Rest) → begins left_bracket start.text ≡ true → Reads (TakesInside Means Inside start) (RefusesInside Before Deeper start) (read start))
+    → (s name next : Rest) → begins left_bracket s.text ≡ true → TakesName (after 1 s) name next → is_named v name.text nesting ≡ true
+    → Reads (TakesNesting v nesting Means make s) (Behind s.index (BadNesting v nesting what Before Inside Deeper s.text)) (nesting_at v what read make s.index next)
+nesting_reads {A} v nesting what read make Means Inside Before Deeper reads s name next opens n is_name =
+    in_turn _ _ (opened_reads what next) (λ e h. elim (opening_refused v nesting what s name next e opens n is_name h) [ inl g ↦ (g.0, inl g.1, g.2) | inr g ↦ (g.0, inr (inl g.1), g.2) ]) (λ start blank. begun start blank.1 (opening_of v nesting s name next start opens n is_name blank.0))
   where
-    regroup : (a b t : List ℕ) → a ++ (b ++ right_bracket ∷ t) ≡ (a ++ (b ++ right_bracket ∷ [])) ++ t
-    regroup a b t = simp append_assoc
+    Whole : Result (Tree × Rest) Fault → Type 0
+    Whole r = Reads (TakesNesting v nesting Means make s) (Behind s.index (BadNesting v nesting what Before Inside Deeper s.text)) r
+
+    ended : (start : Rest) (o : MakesOpening v nesting s start) (x : A × Rest) (i : TakesInside Means Inside start x) (rest : Rest) → Takes x.1 (right_bracket ∷ []) rest → Whole (supported v s.index (make x.0) rest)
+    ended start o x i rest close =
+        let inner : Takes start (i.own ++ right_bracket ∷ []) rest = takes_then start i.own x.1 (right_bracket ∷ []) rest i.takes close in
+        let own : List ℕ = o.opening ++ (i.own ++ right_bracket ∷ []) in
+        let whole : Takes s own rest = takes_then s o.opening start (i.own ++ right_bracket ∷ []) rest o.takes inner in
+        either _ _ _ (λ three. gives _ (record { own = own; takes = whole; some = omega (arith, length-append o.opening (i.own ++ right_bracket ∷ []), length-append i.own (right_bracket ∷ [])); three = three; value = x.0; made = refl; spells = record { opening = o.opening; inside = i.own; parts = refl; is_opening = o.is_opening; is_inside = i.means } })) (
+        λ older. refuses _ (
+          NotSupported (codes "nested item") (codes "versions 1 and 2") 0,
+          inr (inr (inr (inr (record {
+            own = own;
+            rest = rest.text;
+            parts = whole.parts;
+            not_three = older;
+            is_own = record { opening = o.opening; inside = i.own; parts = refl; is_opening = o.is_opening; is_inside = subst (λ (t : List ℕ). Inside i.own t) close.parts i.inside };
+            fault_is = refl;
+          })))),
+          at_first (λ i. NotSupported (codes "nested item") (codes "versions 1 and 2") i) s.index,
+        )
+        )
+
+    begun : (start : Rest) → begins left_bracket start.text ≡ true → MakesOpening v nesting s start → Whole (read start >>= λ x. closed_at s.index x.1 >>= λ rest. supported v s.index (make x.0) rest)
+    begun start at_bracket o = in_turn _ _ (reads start at_bracket) (λ e r. let b = behind_both s.index (length o.opening + length r.before) r.bad.index (Deeper r.bad.text) e (omega (arith, r.takes.index, o.takes.index)) r.is_bad in (
+      b.0,
+      inr (inr (inl (record {
+        opening = o.opening;
+        before = r.before;
+        rest = r.bad.text;
+        parts = o.takes.parts ∙ ap (λ (t : List ℕ). o.opening ++ t) r.takes.parts;
+        is_opening = o.is_opening;
+        is_before = r.is_before;
+        is_bad = b.1;
+      }))),
+      b.2,
+    )) (λ x i. in_turn _ _ (closed_reads s.index x.1) (λ e k. (
+      UnclosedOpeningBracket 0,
+      inr (inr (inr (inl (record {
+        opening = o.opening;
+        inside = i.own;
+        rest = x.1.text;
+        parts = o.takes.parts ∙ ap (λ (t : List ℕ). o.opening ++ t) i.takes.parts;
+        is_opening = o.is_opening;
+        is_inside = i.inside;
+        no_space = i.no_space;
+        open_still = k.0;
+        fault_is = refl;
+      })))),
+      k.1 ∙ at_first (λ i. UnclosedOpeningBracket i) s.index,
+    )) (λ rest close. ended start o x i rest close))
+
+-- the two nesting names differ, whatever the case of their letters
+pub not_optional : (v : DescriptionVersion) (word : List ℕ) → is_named v word (codes "first") ≡ true → is_named v word (codes "optional") ≡ false
+not_optional One word h = nat_list_eq_equiv.congr (str_to_ascii_lowercase word) (str_to_ascii_lowercase (codes "first")) (str_to_ascii_lowercase (codes "optional")) h
+not_optional Two word h = nat_list_eq_equiv.congr (str_to_ascii_lowercase word) (str_to_ascii_lowercase (codes "first")) (str_to_ascii_lowercase (codes "optional")) h
+not_optional Three word h = nat_list_eq_equiv.congr word (codes "first") (codes "optional") h
+
+-- ---- white space and a bracket that are spelled so are read
+
+abbrev unequal : List ℕ → List ℕ → Type 0
+unequal blank tail = eqb (length tail) (length (blank ++ tail)) ≡ false
+
+apart : (blank tail : List ℕ) → 0 < length blank → unequal blank tail
+apart blank tail some = differs (length tail) (length (blank ++ tail)) (omega (arith, length-append blank tail))
+
+opened_again : (what : List ℕ) (i : ℕ) (blank tail : List ℕ) → Each is_space blank → 0 < length blank → begins left_bracket tail ≡ true → opened_at what (at_index i (blank ++ tail)) ≡ Ok (at_index (i + length blank) tail)
+unfolding opened_at
+opened_again what i blank tail spaces some opens = rw (run_again is_space blank tail spaces (stops_91 tail opens), drop_at blank tail (length blank) refl, apart blank tail some, opens) refl
+
+unopened_again : (what : List ℕ) (i : ℕ) (blank tail : List ℕ) → Each is_space blank → 0 < length blank → Stops is_space tail → begins left_bracket tail ≡ false → opened_at what (at_index i (blank ++ tail)) ≡ Err (Expected (codes "opening bracket") (i + length blank))
+unfolding opened_at
+unopened_again what i blank tail spaces some stops none = rw (run_again is_space blank tail spaces stops, drop_at blank tail (length blank) refl, apart blank tail some, none) refl
+
+unspaced_again : (what : List ℕ) (i : ℕ) (rest : List ℕ) → Stops is_space rest → opened_at what (at_index i rest) ≡ Err (Expected what i)
+unfolding opened_at
+unspaced_again what i rest stops = rw (run_again is_space [] rest tt stops, eq-eqb (length rest) (length rest) refl) refl
+
+pub opening_len : (v : DescriptionVersion) (nesting opening : List ℕ) (i : ℕ) (o : SpellsOpening v nesting opening) → i + 1 + length o.first + length o.word + length o.blank ≡ i + length opening
+opening_len v nesting opening i o = omega (arith, ap (length {A = ℕ}) o.parts, length-append o.first (o.word ++ o.blank), length-append o.word o.blank)
+
+-- ---- so is what is nested, and what is wrong there is refused
+
+abbrev pub from_start : {A : Type 0} → DescriptionVersion → (A → Tree) → ℕ → Result (A × Rest) Fault → Result (Tree × Rest) Fault
+from_start v make bracket r = r >>= λ x. closed_at bracket x.1 >>= λ rest. supported v bracket (make x.0) rest
+
+abbrev pub ok_tree : Tree → Rest → Result (Tree × Rest) Fault
+ok_tree t p = Ok (t, p)
+
+abbrev pub ok_value : {A : Type 0} → A → Rest → Result (A × Rest) Fault
+ok_value x p = Ok (x, p)
+
+-- behind an opening, the nested descriptions are read
+pub from_opening : {A : Type 0} (v : DescriptionVersion) (what : List ℕ) (read : Reader A) (make : A → Tree) (bracket i : ℕ) (blank tail : List ℕ) → Each is_space blank → 0 < length blank → begins left_bracket tail ≡ true
+    → nesting_at v what read make bracket (at_index i (blank ++ tail)) ≡ from_start v make bracket (read (at_index (i + length blank) tail))
+from_opening v what read make bracket i blank tail spaces some opens =
+    ap (λ (r : Result Rest Fault). r >>= λ start. from_start v make bracket (read start)) (opened_again what i blank tail spaces some opens)
+
+pub closed_here : {A : Type 0} (v : DescriptionVersion) (make : A → Tree) (bracket j : ℕ) (rest : List ℕ) (a : A) → from_start v make bracket (ok_value a (at_index j (right_bracket ∷ rest))) ≡ supported v bracket (make a) (at_index (j + 1) rest)
+closed_here v make bracket j rest a = ap (λ (r : Result Rest Fault). r >>= λ rest. supported v bracket (make a) rest) (closed_again bracket j rest)
+
+pub unclosed_here : {A : Type 0} (v : DescriptionVersion) (make : A → Tree) (bracket j : ℕ) (rest : List ℕ) (a : A) → begins right_bracket rest ≡ false → from_start v make bracket (ok_value a (at_index j rest)) ≡ Err (UnclosedOpeningBracket bracket)
+unfolding closed_at
+unclosed_here v make bracket j rest a open_still = rw open_still refl
+
+pub lacks_space_again : {A : Type 0} (v : DescriptionVersion) (what : List ℕ) (read : Reader A) (make : A → Tree) (bracket i : ℕ) (rest : List ℕ) → Stops is_space rest → nesting_at v what read make bracket (at_index i rest) ≡ Err (Expected what i)
+lacks_space_again v what read make bracket i rest stops = ap (λ (r : Result Rest Fault). r >>= λ start. from_start v make bracket (read start)) (unspaced_again what i rest stops)
+
+pub lacks_bracket_again : {A : Type 0} (v : DescriptionVersion) (what : List ℕ) (read : Reader A) (make : A → Tree) (bracket i : ℕ) (blank rest : List ℕ) → Each is_space blank → 0 < length blank → Stops is_space rest → begins left_bracket rest ≡ false
+    → nesting_at v what read make bracket (at_index i (blank ++ rest)) ≡ Err (Expected (codes "opening bracket") (i + length blank))
+lacks_bracket_again v what read make bracket i blank rest spaces some stops none = ap (λ (r : Result Rest Fault). r >>= λ start. from_start v make bracket (read start)) (unopened_again what i blank rest spaces some stops none)

@@ -12,9 +12,8 @@ use Rattle.description_grammar.specs.Reading.{read_items, read_tree}
 use Rattle.description_grammar.specs.Spelling.{SpellsItems, Spells, SpellsTree}
 use Rattle.description_grammar.specs.Faulty.{Faulty}
 use Rattle.description_grammar.specs.Outcomes.{OneOutcome, Outcome, joined}
-use Rattle.description_grammar.proofs.Items.{read_is_spelled}
+use Rattle.description_grammar.proofs.Items.{text_read}
 use Rattle.description_grammar.proofs.ItemsComplete.{unlisted, listed_again, spelled_is_read}
-use Rattle.description_grammar.proofs.ItemsRefused.{refused_is_faulty}
 use Rattle.description_grammar.proofs.FaultyComplete.{faulty_is_refused}
 
 pub one_outcome_holds : (v : DescriptionVersion) (text : List ℕ) → OneOutcome v text
@@ -26,8 +25,8 @@ one_outcome_holds v text = record {
 }
   where
     of_read : (r : Result (List Tree) Fault) → read_items v text ≡ r → ((ts : List Tree) × Spells v text ts) ⊎ ((e : Fault) × Faulty v text e)
-    of_read (Ok ts) h = inl (ts, read_is_spelled v text ts h)
-    of_read (Err e) h = inr (e, refused_is_faulty v text e h)
+    of_read (Ok ts) h = inl (ts, (text_read v text).ok ts h)
+    of_read (Err e) h = inr (e, (text_read v text).err e h)
 
 -- ---- answers
 
@@ -55,9 +54,9 @@ ok_tree t = Ok t
 pub has_outcome : {X : Type 0} (view : X → Tree) (v : DescriptionVersion) (text : List ℕ) (r : Result X DescriptionFault) → Gives view r (tree_of_read (read_items v text)) → Outcome view v text r
 has_outcome view v text (Ok x) h =
     let a = bind_ok (read_items v text) (λ ts. ok_tree (joined ts)) (view x) h in
-    subst (SpellsTree v text) (ok_is (joined a.0) (view x) a.2) (read_is_spelled v text a.0 a.1)
+    subst (SpellsTree v text) (ok_is (joined a.0) (view x) a.2) ((text_read v text).ok a.0 a.1)
 has_outcome view v text (Err errors.Memory) h = tt
-has_outcome view v text (Err (errors.Description e)) h = refused_is_faulty v text (fault_of e) (made_err (read_items v text) (λ ts. joined ts) (fault_of e) h)
+has_outcome view v text (Err (errors.Description e)) h = (text_read v text).err (fault_of e) (made_err (read_items v text) (λ ts. joined ts) (fault_of e) h)
 
 pub gives_tree : {X : Type 0} (view : X → Tree) (v : DescriptionVersion) (text : List ℕ) (r : Result X DescriptionFault) → Gives view r (tree_of_read (read_items v text)) → (t : Tree) → SpellsTree v text t → Gives view r (Ok t)
 gives_tree view v text r h t spelled =
@@ -71,4 +70,4 @@ pub tree_is_spelled : (text : List ℕ) (t : Tree) → read_tree text ≡ Ok t �
 unfolding read_tree
 tree_is_spelled text t e =
     let a = bind_ok (read_items Three text) (λ ts. ok_tree (joined ts)) t e in
-    subst (SpellsTree Three text) (ok_is (joined a.0) t a.2) (read_is_spelled Three text a.0 a.1)
+    subst (SpellsTree Three text) (ok_is (joined a.0) t a.2) ((text_read Three text).ok a.0 a.1)

@@ -1,6 +1,7 @@
 -- Versions 1 and 2 answer no nested item.
 use Rattle.std.proofs.Common.{◌≡◌, ℕ, List, suc, length, subst, Result, Ok, true, false, refl}
 use Rattle.std.specs.Prelude.{codes}
+use Rattle.std.proofs.lemmas.Bool.{both_ways}
 use Rattle.description_lexer.specs.Fault.{Fault}
 use Rattle.description_lexer.specs.declared.description_fault.DescriptionFault.{DescriptionFault}
 use Rattle.description_lexer.specs.declared.description_fault.DescriptionFault.TheVariants as errors
@@ -12,27 +13,25 @@ use Rattle.description_lexer.specs.Version.{is_three}
 use Rattle.description_lexer.specs.Text.{Rest, whole}
 use Rattle.description_lexer.specs.Many.{many}
 use Rattle.description_lexer.specs.Words.{closed_at}
-use Rattle.description_lexer.proofs.Readings.{bind_ok, not_ok}
-use Rattle.description_grammar.specs.Reading.{Nester, opened_at, unsupported_at, supported, optional_at, no_bracket, first_at, is_end, element_at, nested_at, read_items, read_tree}
+use Rattle.description_grammar.proofs.Nesting.{Reader, nesting_at}
+use Rattle.description_grammar.proofs.ValueOrFault.{Reads, refuses, either, in_turn}
+use Rattle.description_grammar.specs.Reading.{Nester, opened_at, optional_at, no_bracket, first_at, is_end, element_at, nested_at, read_items, read_tree}
 
-unsupported : (v : DescriptionVersion) (bracket : ℕ) (t : Tree) (rest : Rest) (x : Tree × Rest) → is_three v ≡ false → supported v bracket t rest ≡ Ok x → ⊥
-unsupported v bracket t rest x e h = not_ok (unsupported_at bracket) x (rw e at h)
+some_answer : {A : Type 0} (r : Result A Fault) → Reads (λ x. Unit {0}) (λ e. Unit {0}) r
+some_answer r = record { ok = λ x e. tt; err = λ e h. tt }
+
+none_before_three : {A : Type 0} (v : DescriptionVersion) (what : List ℕ) (read : Reader A) (make : A → Tree) (bracket : ℕ) (s : Rest) → is_three v ≡ false → Reads (λ x. ⊥) (λ e. Unit {0}) (nesting_at v what read make bracket s)
+none_before_three v what read make bracket s older =
+    in_turn _ _ (some_answer (opened_at what s)) (λ e h. tt) (λ start h. in_turn _ _ (some_answer (read start)) (λ e h. tt) (λ x h. in_turn _ _ (some_answer (closed_at bracket x.1)) (λ e h. tt) (λ rest h. either _ _ _ (λ three. absurd (both_ways (is_three v) older three)) (λ h. refuses _ tt))))
 
 pub no_optional : (v : DescriptionVersion) (inside : Nester) (bracket : ℕ) (s : Rest) (x : Tree × Rest) → is_three v ≡ false → optional_at v inside bracket s ≡ Ok x → ⊥
 unfolding optional_at
-no_optional v inside bracket s x e h =
-    let a = bind_ok (opened_at (codes "whitespace after `optional`") s) (λ start. inside start >>= λ item. closed_at bracket item.1 >>= λ rest. supported v bracket (Optional true item.0) rest) x h in
-    let b = bind_ok (inside a.0) (λ item. closed_at bracket item.1 >>= λ rest. supported v bracket (Optional true item.0) rest) x a.2 in
-    let c = bind_ok (closed_at bracket b.0.1) (λ rest. supported v bracket (Optional true b.0.0) rest) x b.2 in
-    unsupported v bracket (Optional true b.0.0) c.0 x e c.2
+no_optional v inside bracket s x older h = (none_before_three v (codes "whitespace after `optional`") inside (Optional true) bracket s older).ok x h
 
 pub no_first : (v : DescriptionVersion) (inside : Nester) (bracket : ℕ) (s : Rest) (x : Tree × Rest) → is_three v ≡ false → first_at v inside bracket s ≡ Ok x → ⊥
 unfolding first_at
-no_first v inside bracket s x e h =
-    let a = bind_ok (opened_at (codes "whitespace after `first`") s) (λ start. many no_bracket inside (suc (length start.text)) start >>= λ all. closed_at bracket all.1 >>= λ rest. supported v bracket (First (listed all.0)) rest) x h in
-    let b = bind_ok (many no_bracket inside (suc (length a.0.text)) a.0) (λ all. closed_at bracket all.1 >>= λ rest. supported v bracket (First (listed all.0)) rest) x a.2 in
-    let c = bind_ok (closed_at bracket b.0.1) (λ rest. supported v bracket (First (listed b.0.0)) rest) x b.2 in
-    unsupported v bracket (First (listed b.0.0)) c.0 x e c.2
+no_first v inside bracket s x older h =
+    (none_before_three v (codes "whitespace after `first`") (λ start. many no_bracket inside (suc (length start.text)) start) (λ ts. First (listed ts)) bracket s older).ok x h
 
 -- a reading that fails at once fails with all that would follow
 pub fails_then : {A B : Type 0} (d : DescriptionFault) (r : Result A Fault) (f : A → Result B Fault) → Fails d r → Fails d (r >>= f)

@@ -5,6 +5,8 @@ use Rattle.std.specs.List.{prefix_len}
 use Rattle.std.proofs.lemmas.List.{take-append-drop, take_at, drop_at}
 use Rattle.std.proofs.lemmas.List.Folds.{length-prefix_len}
 use Rattle.std.proofs.lemmas.Bool.Decides.{nat_tests}
+use Rattle.std.proofs.lemmas.Bool.{and_right, and_parts}
+use Rattle.std.proofs.lemmas.Option.{cond_some}
 use Rattle.base.specs.Bytes.{left_bracket, backslash, right_bracket}
 use Rattle.description_lexer.specs.Fault.{Fault, Expected}
 use Rattle.description_lexer.specs.declared.version.DescriptionVersion.{DescriptionVersion}
@@ -12,13 +14,14 @@ use Rattle.description_lexer.specs.declared.version.DescriptionVersion.TheVarian
 use Rattle.description_lexer.specs.Version.{is_one}
 use Rattle.description_lexer.specs.Text.{Rest, is_plain, after}
 use Rattle.description_lexer.specs.Words.{begins, is_escape, escape_at, literal_len}
-use Rattle.description_lexer.proofs.Readings.{ok_is, not_ok, chosen, err_is, not_err}
+use Rattle.description_lexer.specs.Further.{further}
 use Rattle.description_grammar.specs.Reading.{doubled_at, text_at}
 use Rattle.description_grammar.specs.Heads.{Stops, MayBegin, SpellsLiteral, IsEscapable, SpellsEscape}
-use Rattle.description_grammar.specs.Faulty.{BadEscape}
-use Rattle.description_grammar.proofs.Results.{both, not_first, or_is}
-use Rattle.description_grammar.proofs.Runs.{at_index, same_index, each_run, stops_past, stops_front, stops_append, run_again}
-use Rattle.description_grammar.proofs.Takes.{Takes, takes_then, takes_byte, begins_cons}
+use Rattle.description_grammar.specs.Faulty.{Behind, BadEscape}
+use Rattle.description_grammar.proofs.Places.{at_first, at_once}
+use Rattle.description_grammar.proofs.Results.{not_first, or_is}
+use Rattle.description_grammar.proofs.ValueOrFault.{Reads, gives, refuses, either}
+use Rattle.description_grammar.proofs.Runs.{at_index, same_index, each_run, stops_past, stops_front, stops_append, run_again, Takes, takes_then, takes_byte, begins_cons}
 
 abbrev pub SpellsText : DescriptionVersion → Bool → List ℕ → List ℕ → List ℕ → Type 0
 SpellsText v inner own more bytes = ((own ≡ bytes) × SpellsLiteral v inner bytes more) ⊎ SpellsEscape v own bytes
@@ -63,16 +66,19 @@ escaped v inner s b h is_b back next =
     spelled Two h = (b, is_b, refl, refl)
     spelled Three h = (b, is_b, refl, refl)
 
-escape_takes : (v : DescriptionVersion) (inner : Bool) (s : Rest) (x : List ℕ × Rest) → is_one v ≡ false → begins backslash s.text ≡ true → escape_at s ≡ Ok x → TakesText v inner s x.0 x.1
+escape_reads : (v : DescriptionVersion) (inner : Bool) (s : Rest) → is_one v ≡ false → begins backslash s.text ≡ true → Reads (λ (x : List ℕ × Rest). TakesText v inner s x.0 x.1) (Behind s.index (BadEscape v s.text)) (escape_at s)
 unfolding escape_at
-escape_takes v inner s x h back e =
-    elim (chosen (is_escape (after 1 s).text) (Ok (take 1 (after 1 s).text, after 1 (after 1 s))) (Err (Expected (codes "valid escape sequence") s.index)) (Ok x) e) [
-      | inl g ↦ subst (λ (y : List ℕ × Rest). TakesText v inner s y.0 y.1) (ok_is (take 1 (after 1 s).text, after 1 (after 1 s)) x g.1) (elim (or_is (begins left_bracket (after 1 s).text) (begins backslash (after 1 s).text) (begins right_bracket (after 1 s).text) g.0) [
-        | inl k ↦ escaped v inner s left_bracket h (inl refl) back k
-        | inr k ↦ elim k [ inl k ↦ escaped v inner s backslash h (inr (inl refl)) back k | inr k ↦ escaped v inner s right_bracket h (inr (inr refl)) back k ]
-      ])
-      | inr g ↦ absurd (not_ok _ x g.1)
-    ]
+escape_reads v inner s h back = either _ _ _ (
+    λ g. gives _ (elim (or_is (begins left_bracket (after 1 s).text) (begins backslash (after 1 s).text) (begins right_bracket (after 1 s).text) g) [
+      | inl k ↦ escaped v inner s left_bracket h (inl refl) back k
+      | inr k ↦ elim k [ inl k ↦ escaped v inner s backslash h (inr (inl refl)) back k | inr k ↦ escaped v inner s right_bracket h (inr (inr refl)) back k ]
+    ])
+    ) (λ g. refuses _ (Expected (codes "valid escape sequence") 0, bad v h g, at_first (λ i. Expected (codes "valid escape sequence") i) s.index))
+  where
+    bad : (v : DescriptionVersion) → is_one v ≡ false → is_escape (after 1 s).text ≡ false → BadEscape v s.text (Expected (codes "valid escape sequence") 0)
+    bad One h g = absurd cc
+    bad Two h g = (drop 1 s.text, begins_cons backslash s.text back, g, refl)
+    bad Three h g = (drop 1 s.text, begins_cons backslash s.text back, g, refl)
 
 not_begins : (a b : ℕ) (bs : List ℕ) → begins a (b ∷ bs) ≡ false → b ≡ a → ⊥
 not_begins a b bs h e = absurd (grind (arith, nat_tests))
@@ -86,73 +92,36 @@ may_begin One inner b bs h i k = (not_begins left_bracket b bs h, not_inside inn
 may_begin Two inner b bs h i k = (not_begins left_bracket b bs h, not_inside inner b bs i, not_begins backslash b bs k)
 may_begin Three inner b bs h i k = (not_begins left_bracket b bs h, not_inside inner b bs i, not_begins backslash b bs k)
 
-literal_takes : (v : DescriptionVersion) (inner : Bool) (s : Rest) → 0 < length s.text → begins left_bracket s.text ≡ false → (inner && begins right_bracket s.text) ≡ false → (not (is_one v) && begins backslash s.text) ≡ false → TakesText v inner s (take (literal_len v s.text) s.text) (after (literal_len v s.text) s)
-literal_takes v inner s some h i k = go s.text refl some h i k
-  where
-    go : (text : List ℕ) → text ≡ s.text → 0 < length text → begins left_bracket text ≡ false → (inner && begins right_bracket text) ≡ false → (not (is_one v) && begins backslash text) ≡ false → TakesText v inner s (take (literal_len v s.text) s.text) (after (literal_len v s.text) s)
-    go [] e some h i k = absurd (omega arith)
-    go (b ∷ bs) e some h i k =
-        let n : ℕ = prefix_len (is_plain v) bs in
-        let one : 1 + n ≡ suc n = omega arith in
-        let own : List ℕ = b ∷ take n bs in
-        let spelled : SpellsLiteral v inner own (drop n bs) = (may_begin v inner b bs h i k, each_run (is_plain v) bs, stops_past (is_plain v) bs) in
-        let item : TakesText v inner (record { index = s.index; text = b ∷ bs }) own (record { index = s.index + suc n; text = drop n bs }) = record {
-          own = own;
-          takes = record { parts = ap (λ (t : List ℕ). b ∷ t) (sym (take-append-drop n bs)); index = omega (arith, length-prefix_len (is_plain v) bs) };
-          spells = inl (refl, spelled);
-        } in
-        let whole : TakesText v inner (record { index = s.index; text = b ∷ bs }) (take (literal_len v (b ∷ bs)) (b ∷ bs)) (after (literal_len v (b ∷ bs)) (record { index = s.index; text = b ∷ bs })) = rw one item in
-        subst (λ (t : List ℕ). TakesText v inner (record { index = s.index; text = t }) (take (literal_len v t) t) (after (literal_len v t) (record { index = s.index; text = t }))) e whole
+literal_takes : (v : DescriptionVersion) (inner : Bool) (i : ℕ) (text : List ℕ) → 0 < length text → begins left_bracket text ≡ false → (inner && begins right_bracket text) ≡ false → (not (is_one v) && begins backslash text) ≡ false
+    → TakesText v inner (at_index i text) (take (literal_len v text) text) (after (literal_len v text) (at_index i text))
+literal_takes v inner i [] some h k l = absurd (omega arith)
+literal_takes v inner i (b ∷ bs) some h k l =
+    let n : ℕ = prefix_len (is_plain v) bs in
+    let one : 1 + n ≡ suc n = omega arith in
+    rw one (record {
+      own = b ∷ take n bs;
+      takes = record { parts = ap (λ (t : List ℕ). b ∷ t) (sym (take-append-drop n bs)); index = omega (arith, length-prefix_len (is_plain v) bs) };
+      spells = inl (refl, (may_begin v inner b bs h k l, each_run (is_plain v) bs, stops_past (is_plain v) bs));
+    })
 
-pub text_takes : (v : DescriptionVersion) (inner : Bool) (s : Rest) (x : List ℕ × Rest) → 0 < length s.text → begins left_bracket s.text ≡ false → (inner && begins right_bracket s.text) ≡ false → text_at v s ≡ Ok x → TakesText v inner s x.0 x.1
+pub text_reads : (v : DescriptionVersion) (inner : Bool) (s : Rest) → 0 < length s.text → begins left_bracket s.text ≡ false → (inner && begins right_bracket s.text) ≡ false → Reads (λ (x : List ℕ × Rest). TakesText v inner s x.0 x.1) (Behind s.index (BadEscape v s.text)) (text_at v s)
 unfolding text_at
-text_takes v inner s x some h i e =
-    let n : ℕ = literal_len v s.text in
-    elim (chosen (not (is_one v) && begins backslash s.text) (escape_at s) (Ok (take n s.text, after n s)) (Ok x) e) [
-      | inl g ↦ let p = not_first (is_one v) (begins backslash s.text) g.0 in escape_takes v inner s x p.0 p.1 g.1
-      | inr g ↦ subst (λ (y : List ℕ × Rest). TakesText v inner s y.0 y.1) (ok_is (take n s.text, after n s) x g.1) (literal_takes v inner s some h i g.0)
-    ]
+text_reads v inner s some h i = either _ _ _ (λ g. let p = not_first (is_one v) (begins backslash s.text) g in escape_reads v inner s p.0 p.1) (λ g. gives _ (literal_takes v inner s.index s.text some h i g))
 
 pub doubled_takes : (v : DescriptionVersion) (inner : Bool) (s : Rest) (x : List ℕ × Rest) → doubled_at v s ≡ Some x → TakesText v inner s x.0 x.1
 unfolding doubled_at
 doubled_takes v inner s x e =
     let it : List ℕ × Rest = (take 1 (after 1 s).text, after 1 (after 1 s)) in
-    elim (chosen (is_one v && (begins left_bracket s.text && begins left_bracket (after 1 s).text)) (Some it) None (Some x) e) [
-      | inl h ↦
-          let a = both (is_one v) (begins left_bracket s.text && begins left_bracket (after 1 s).text) h.0 in
-          let b = both (begins left_bracket s.text) (begins left_bracket (after 1 s).text) a.1 in
-          let two = two_bytes left_bracket left_bracket s b.0 b.1 in
-          subst (λ (y : List ℕ × Rest). TakesText v inner s y.0 y.1) (some_is it x h.1) (record { own = left_bracket ∷ left_bracket ∷ []; takes = two.0; spells = rw two.1 (inr (spelled v a.0)) })
-      | inr h ↦ absurd (none_not x h.1)
-    ]
+    let c = cond_some (is_one v && (begins left_bracket s.text && begins left_bracket (after 1 s).text)) it x e in
+    let a = and_parts (is_one v) (begins left_bracket s.text && begins left_bracket (after 1 s).text) c.0 in
+    let b = and_parts (begins left_bracket s.text) (begins left_bracket (after 1 s).text) a.1 in
+    let two = two_bytes left_bracket left_bracket s b.0 b.1 in
+    subst (λ (y : List ℕ × Rest). TakesText v inner s y.0 y.1) c.1 (record { own = left_bracket ∷ left_bracket ∷ []; takes = two.0; spells = rw two.1 (inr (spelled v a.0)) })
   where
-    some_is : (a b : List ℕ × Rest) → Some a ≡ Some b → a ≡ b
-    some_is a b e = cc
-
-    none_not : (a : List ℕ × Rest) → None ≡ Some a → ⊥
-    none_not a e = cc
-
     spelled : (v : DescriptionVersion) → is_one v ≡ true → SpellsEscape v (left_bracket ∷ left_bracket ∷ []) (left_bracket ∷ [])
     spelled One h = (refl, refl)
     spelled Two h = absurd cc
     spelled Three h = absurd cc
-
-pub text_refused : (v : DescriptionVersion) (s : Rest) (e : Fault) → text_at v s ≡ Err e → BadEscape v s.index s.text e
-unfolding text_at escape_at
-text_refused v s e h =
-    let n : ℕ = literal_len v s.text in
-    elim (chosen (not (is_one v) && begins backslash s.text) (escape_at s) (Ok (take n s.text, after n s)) (Err e) h) [
-      | inl k ↦ elim (chosen (is_escape (after 1 s).text) (Ok (take 1 (after 1 s).text, after 1 (after 1 s))) (Err (Expected (codes "valid escape sequence") s.index)) (Err e) k.1) [
-        | inl c ↦ absurd (not_err (take 1 (after 1 s).text, after 1 (after 1 s)) e c.1)
-        | inr c ↦ bad v k.0 c.0 (sym (err_is {A = List ℕ × Rest} _ e c.1))
-      ]
-      | inr k ↦ absurd (not_err (take n s.text, after n s) e k.1)
-    ]
-  where
-    bad : (v : DescriptionVersion) → (not (is_one v) && begins backslash s.text) ≡ true → is_escape (after 1 s).text ≡ false → e ≡ Expected (codes "valid escape sequence") s.index → BadEscape v s.index s.text e
-    bad One k c f = absurd cc
-    bad Two k c f = (drop 1 s.text, begins_cons backslash s.text k, c, f)
-    bad Three k c f = (drop 1 s.text, begins_cons backslash s.text k, c, f)
 
 -- ---- what is spelled so is read
 
@@ -211,20 +180,16 @@ escaped_again at b rest (inl e) = rw e refl
 escaped_again at b rest (inr (inl e)) = rw e refl
 escaped_again at b rest (inr (inr e)) = rw e refl
 
-no_close : (inner : Bool) → (inner && false) ≡ false
-no_close true = refl
-no_close false = refl
-
 back_again : (v : DescriptionVersion) (inner : Bool) (at b : ℕ) (rest : List ℕ) → is_one v ≡ false → IsEscapable b → BeginsText v inner at (backslash ∷ b ∷ []) rest (b ∷ [])
 unfolding text_at
 back_again v inner at b rest h is_b = record {
-  no_end = no_close inner;
+  no_end = and_right inner false refl;
   reads = inl (no_doubled v (at_index at (backslash ∷ b ∷ rest)) refl, refl, rw h (escaped_again at b rest is_b ∙ ap (ok_text (b ∷ [])) (two_on at rest)));
 }
 
 escape_again : (v : DescriptionVersion) (inner : Bool) (at : ℕ) (own bytes rest : List ℕ) → SpellsEscape v own bytes → BeginsText v inner at own rest bytes
 unfolding doubled_at
-escape_again One inner at own bytes rest (e, f) = rw (e, f) (record { no_end = no_close inner; reads = inr (ap (λ (p : Rest). Some (left_bracket ∷ [], p)) (two_on at rest)) })
+escape_again One inner at own bytes rest (e, f) = rw (e, f) (record { no_end = and_right inner false refl; reads = inr (ap (λ (p : Rest). Some (left_bracket ∷ [], p)) (two_on at rest)) })
 escape_again Two inner at own bytes rest (b, is_b, e, f) = rw (e, f) (back_again Two inner at b rest refl is_b)
 escape_again Three inner at own bytes rest (b, is_b, e, f) = rw (e, f) (back_again Three inner at b rest refl is_b)
 
@@ -238,13 +203,13 @@ pub record RefusesText (v : DescriptionVersion) (at : ℕ) (text : List ℕ) (e 
   pub no_end : begins right_bracket text ≡ false
   pub single : doubled_at v (at_index at text) ≡ None
   pub no_bracket : begins left_bracket text ≡ false
-  pub refuses : text_at v (at_index at text) ≡ Err e
+  pub refuses : text_at v (at_index at text) ≡ Err (further at e)
 
-escape_refused : (v : DescriptionVersion) (at : ℕ) (rest : List ℕ) (e : Fault) → is_one v ≡ false → is_escape rest ≡ false → e ≡ Expected (codes "valid escape sequence") at → RefusesText v at (backslash ∷ rest) e
+escape_refused : (v : DescriptionVersion) (at : ℕ) (rest : List ℕ) (e : Fault) → is_one v ≡ false → is_escape rest ≡ false → e ≡ Expected (codes "valid escape sequence") 0 → RefusesText v at (backslash ∷ rest) e
 unfolding text_at escape_at
-escape_refused v at rest e h none f = record { some = omega arith; no_end = refl; single = no_doubled v (at_index at (backslash ∷ rest)) refl; no_bracket = refl; refuses = rw (h, none, f) refl }
+escape_refused v at rest e h none f = record { some = omega arith; no_end = refl; single = no_doubled v (at_index at (backslash ∷ rest)) refl; no_bracket = refl; refuses = rw (h, none) (at_once (λ i. Expected (codes "valid escape sequence") i) at e refl f) }
 
-pub bad_escape_again : (v : DescriptionVersion) (at : ℕ) (text : List ℕ) (e : Fault) → BadEscape v at text e → RefusesText v at text e
+pub bad_escape_again : (v : DescriptionVersion) (at : ℕ) (text : List ℕ) (e : Fault) → BadEscape v text e → RefusesText v at text e
 bad_escape_again One at text e h = absurd h
 bad_escape_again Two at text e (rest, parts, none, f) = subst (λ (t : List ℕ). RefusesText Two at t e) (sym parts) (escape_refused Two at rest e refl none f)
 bad_escape_again Three at text e (rest, parts, none, f) = subst (λ (t : List ℕ). RefusesText Three at t e) (sym parts) (escape_refused Three at rest e refl none f)

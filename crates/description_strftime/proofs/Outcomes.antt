@@ -7,24 +7,12 @@ use Rattle.description_lexer.specs.declared.description_fault.DescriptionFault.{
 use Rattle.description_lexer.specs.declared.description_fault.DescriptionFault.TheVariants.{Description, Memory}
 use Rattle.description_items.specs.declared.item.BorrowedFormatItem.{BorrowedFormatItem}
 use Rattle.description_items.specs.Tree.{Tree, trees}
-use Rattle.description_lexer.proofs.Readings.{ok_is}
+use Rattle.description_lexer.proofs.Readings.{ok_is, err_is, not_err}
 use Rattle.description_strftime.specs.Reading.{read_strftime}
 use Rattle.description_strftime.specs.Spelled.{SpellsStrftime}
 use Rattle.description_strftime.specs.Faulty.{FaultyStrftime}
 use Rattle.description_strftime.specs.Outcomes.{IsOutcome, OneOutcome}
 use Rattle.description_strftime.proofs.Relations.{read_is_spelled, spelled_is_read, refused_is_faulty, faulty_is_refused}
-
-abbrev read_as : List Tree → Result (List Tree) Fault
-read_as items = Ok items
-
-abbrev failed : Fault → Result (List Tree) Fault
-failed fault = Err fault
-
-apart : (items : List Tree) (fault : Fault) → read_as items ≡ failed fault → ⊥
-apart items fault e = cc
-
-fault_is : (d e : Fault) → failed d ≡ failed e → d ≡ e
-fault_is d e h = cc
 
 some_outcome : (text : List ℕ) (read : Result (List Tree) Fault) → read_strftime text ≡ read → ((items : List Tree) × SpellsStrftime text items) ⊎ ((fault : Fault) × FaultyStrftime text fault)
 some_outcome text (Ok items) e = inl (items, read_is_spelled text items e)
@@ -34,8 +22,8 @@ pub one_outcome_holds : (text : List ℕ) → OneOutcome text
 one_outcome_holds text = record {
   one = some_outcome text (read_strftime text) refl;
   one_list = λ a b h k. ok_is a b (sym (spelled_is_read text a h) ∙ spelled_is_read text b k);
-  one_fault = λ e f h k. fault_is e f (sym (faulty_is_refused text e h) ∙ faulty_is_refused text f k);
-  not_both = λ a e h k. apart a e (sym (spelled_is_read text a h) ∙ faulty_is_refused text e k);
+  one_fault = λ e f h k. err_is {A = List Tree} e f (sym (faulty_is_refused text e h) ∙ faulty_is_refused text f k);
+  not_both = λ a e h k. not_err a e (sym (spelled_is_read text a h) ∙ faulty_is_refused text e k);
 }
 
 pub has_outcome : (text : List ℕ) (r : Result (Vec BorrowedFormatItem) DescriptionFault) → Gives (λ v. trees v.items) r (read_strftime text) → IsOutcome text r

@@ -4,7 +4,7 @@ use Rattle.std.specs.Prelude.{codes}
 use Rattle.std.specs.Option.{ok_or}
 use Rattle.std.specs.List.{prefix_len}
 use Rattle.std.proofs.lemmas.List.{append-nil, take-append-drop}
-use Rattle.std.proofs.lemmas.Bool.Decides.{nat_tests}
+use Rattle.std.proofs.lemmas.Bool.{eqb-true}
 use Rattle.base.specs.Bytes.{percent}
 use Rattle.description_date_modifiers.specs.declared.choices.Padding.{Padding}
 use Rattle.description_lexer.specs.Fault.{Fault, InvalidComponentName, Expected}
@@ -17,17 +17,12 @@ use Rattle.description_strftime.specs.Reading.{flag_at, past_flag, refusal, lett
 use Rattle.description_strftime.specs.Spelled.{flag_text}
 use Rattle.description_strftime.specs.Faulty.{head, IsNoFlag, BadConversion}
 use Rattle.description_strftime.proofs.Flags.{at_index, flag_takes, flag_index}
+use Rattle.description_lexer.proofs.Readings.{err_is, not_err}
 use Rattle.description_lexer.proofs.Fronts.{each_run, stops_past}
 use Rattle.description_strftime.proofs.Again.{Step}
 
 abbrev pub failed : Fault → Step
 failed fault = Err fault
-
-pub err_is : (d e : Fault) → failed d ≡ failed e → d ≡ e
-err_is d e h = cc
-
-not_err : (x : List Tree × Rest) (e : Fault) → Ok x ≡ failed e → ⊥
-not_err x e h = cc
 
 -- a letter that was refused
 record RefusesLetter (flag : Option Padding) (s : Rest) (b : ℕ) (fault : Fault) : Type 0 where
@@ -36,7 +31,7 @@ record RefusesLetter (flag : Option Padding) (s : Rest) (b : ℕ) (fault : Fault
 
 found_err : (o : Option (List Tree)) (d e : Fault) (s : Rest) → (ok_or o d >>= λ items. Ok (items, s)) ≡ failed e → (o ≡ None) × (e ≡ d)
 found_err (Some x) d e s h = absurd (not_err (x, s) e h)
-found_err None d e s h = (refl, sym (err_is d e h))
+found_err None d e s h = (refl, sym (err_is {A = List Tree × Rest} d e h))
 
 letter_refused : (start : ℕ) (flag : Option Padding) (i b : ℕ) (bs : List ℕ) (fault : Fault) → letter_at start flag (at_index i (b ∷ bs)) ≡ Err fault → RefusesLetter flag (at_index i (b ∷ bs)) b fault
 unfolding letter_at
@@ -47,7 +42,7 @@ letter_refused start flag i b bs fault e =
 
 letter_lacking : (start : ℕ) (flag : Option Padding) (i : ℕ) (fault : Fault) → letter_at start flag (at_index i []) ≡ Err fault → fault ≡ Expected (codes "component letter") start
 unfolding letter_at
-letter_lacking start flag i fault e = sym (err_is (Expected (codes "component letter") start) fault e)
+letter_lacking start flag i fault e = sym (err_is {A = List Tree × Rest} (Expected (codes "component letter") start) fault e)
 
 pub one_more : (n : ℕ) (b : ℕ) (bs : List ℕ) → take (1 + n) (b ∷ bs) ≡ b ∷ take n bs
 one_more n b bs = let one : 1 + n ≡ suc n = omega arith in rw one refl
@@ -118,9 +113,6 @@ conversion_refused at text fault e = go (past_flag flag (at_index (at + 1) text)
         let bad : BadConversion at (head flag ++ b ∷ bs) fault = refusal_is at flag b bs fault (none_behind (at + 1) text b bs flag refl is_t) (letter_refused at flag (at + length (head flag)) b bs fault here) in
         subst (λ (l : List ℕ). BadConversion at (percent ∷ l) fault) (sym (whole ∙ ap (λ (l : List ℕ). flag_text flag ++ l) is_t)) bad
 
-percent_is : (b : ℕ) → (b == percent) ≡ true → percent ≡ b
-percent_is b e = grind (arith, nat_tests)
-
 step_refused : (at : ℕ) (text : List ℕ) (fault : Fault) → strftime_step (at_index at text) ≡ Err fault → BadConversion at text fault
 unfolding strftime_step
 step_refused at [] fault e = absurd (not_err _ fault e)
@@ -130,7 +122,7 @@ step_refused at (b ∷ bs) fault e = go (b == percent) refl e
     n = plain_len (b ∷ bs)
 
     go : (t : _) → (b == percent) ≡ t → cond t (conversion_at at (at_index (at + 1) bs)) (Ok (Literal (take n (b ∷ bs)) ∷ [], after n (at_index at (b ∷ bs)))) ≡ Err fault → BadConversion at (b ∷ bs) fault
-    go true is_t h = subst (λ (c : ℕ). BadConversion at (c ∷ bs) fault) (percent_is b is_t) (conversion_refused at bs fault h)
+    go true is_t h = subst (λ (c : ℕ). BadConversion at (c ∷ bs) fault) (sym (eqb-true b percent is_t)) (conversion_refused at bs fault h)
     go false is_t h = absurd (not_err _ fault h)
 
 pub part_refused : (s : Rest) (fault : Fault) → strftime_step s ≡ Err fault → BadConversion s.index s.text fault

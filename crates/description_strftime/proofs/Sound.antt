@@ -3,6 +3,7 @@ use Rattle.std.proofs.Common.{◌≡◌, ℕ, ◌+◌, ◌<◌, ◌==◌, true, 
 use Rattle.std.specs.Option.{ok_or}
 use Rattle.std.proofs.lemmas.List.{length-append, take-append-drop}
 use Rattle.std.proofs.lemmas.List.Folds.{length-prefix_len}
+use Rattle.std.proofs.lemmas.Bool.{eqb-true}
 use Rattle.std.proofs.lemmas.Bool.Decides.{nat_tests}
 use Rattle.base.specs.Bytes.{percent}
 use Rattle.description_date_modifiers.specs.declared.choices.Padding.{Padding}
@@ -73,9 +74,6 @@ text_takes s some = record {
     n : ℕ
     n = plain_len s.text
 
-percent_is : (b : ℕ) → (b == percent) ≡ true → b ≡ percent
-percent_is b e = grind (arith, nat_tests)
-
 not_percent : (b : ℕ) → (b == percent) ≡ false → is_plain b ≡ true
 not_percent b e = grind (arith, nat_tests)
 
@@ -89,7 +87,7 @@ step_takes i (b ∷ bs) x some e =
     let s : Rest = at_index i (b ∷ bs) in
     let n : ℕ = plain_len s.text in
     elim (chosen (b == percent) (conversion_at i (after 1 s)) (Ok (Literal (take n s.text) ∷ [], after n s)) (Ok x) e) [
-      | inl h ↦ conversion_takes i b bs x (percent_is b h.0) h.1
+      | inl h ↦ conversion_takes i b bs x (eqb-true b percent h.0) h.1
       | inr h ↦ subst (λ (y : List Tree × Rest). TakesPart s y.0 y.1) (ok_is (Literal (take n s.text) ∷ [], after n s) x h.1) (text_takes s (some_run is_plain b bs (not_percent b h.0)))
     ]
 

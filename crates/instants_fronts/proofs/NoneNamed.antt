@@ -189,8 +189,5 @@ part_none text none given = none_front given Iso8601 (reads_iso8601 empty text) 
 pub nothing_rfc2822 : (given : Given) → front_named given Rfc2822 [] ≡ None
 nothing_rfc2822 given = day_none [] refl given
 
-pub nothing_rfc3339 : (given : Given) → front_named given Rfc3339 [] ≡ None
-nothing_rfc3339 given = hyphen_none [] refl given
-
 pub nothing_iso8601 : (given : Given) → front_named given Iso8601 [] ≡ None
 nothing_iso8601 given = part_none [] refl given

@@ -1,25 +1,16 @@
 -- The empty text names nothing.
-use Rattle.std.proofs.Common.{◌≡◌, ℕ, zero, suc, ℤ, length, take, drop, Bool, true, false, List, [], ◌∷◌, Option, Some, None, Result, Ok, Err, refl, sym, ap, ◌∙◌, subst}
+use Rattle.std.proofs.Common.{◌≡◌, ℕ, zero, suc, length, take, drop, Bool, true, false, List, [], ◌∷◌, Option, Some, None, Result, Ok, Err, refl, sym, ap, subst}
 use Rattle.std.specs.Prelude.{bytes_eq, if◌then◌else◌}
 use Rattle.description_items.specs.declared.component.Component.{Component}
-use Rattle.description_items.specs.Tree.{Tree, Trees, Literal, Part, Compound, Optional, First, none, also, listed}
-use Rattle.parsing_combinator.specs.Fault.{Fault, literal, insufficient}
+use Rattle.description_items.specs.Tree.{Tree, Trees, Literal, Part, Compound, Optional, First, none, also}
+use Rattle.parsing_combinator.specs.Fault.{Fault, literal}
 use Rattle.parsing_combinator.specs.Readings.{then_read, give}
-use Rattle.parsing_components.specs.Component.{reads_component, reads_component_v3}
 use Rattle.parsing_components.specs.Put.{put}
 use Rattle.parsing_components.specs.Read.{Read}
 use Rattle.parsing_record.specs.Meaning.{Answer, Meaning, Counted, meaning, literally, then_counted, all_of, or_unchanged, optionally, or_next, first_success, found_or, or_found, first_of}
-use Rattle.parsing_record.specs.Parts.{date_parts}
-use Rattle.parsing_record.specs.Record.{Record, empty}
-use Rattle.parsing_record.specs.Reads.{Language, reads, each_reads, reading, reading_of_all}
-use Rattle.parsing_values.specs.NamedDate.{named_date, by_ordinal, by_day, by_iso_week, by_sunday_week, by_monday_week, year_of, split_year}
-use Rattle.instants_sources.specs.Grammar.{Grammar, Items, V3, Rfc2822, Rfc3339, Iso8601}
-use Rattle.instants_fronts.specs.Given.{Given, moment_of, moment_in, with_year}
-use Rattle.instants_fronts.specs.Reading.{front_named, front_of, if_likely}
-use Rattle.instants_fronts.proofs.NamedAlone.{no_year}
-use Rattle.instants_fronts.proofs.OutOfRange.{without_year}
-use Rattle.instants_fronts.proofs.NothingSaid.{ReadsNothing, component_nothing, component_nothing_v3}
-use Rattle.instants_fronts.proofs.NoneNamed.{nothing_rfc2822, nothing_rfc3339, nothing_iso8601}
+use Rattle.parsing_record.specs.Record.{Record}
+use Rattle.parsing_record.specs.Reads.{Language, reads, each_reads}
+use Rattle.instants_fronts.proofs.NothingSaid.{ReadsNothing}
 
 -- the record stays as it was, and nothing is left
 abbrev Still : Record → Answer → Type 0
@@ -102,25 +93,3 @@ mutual
   trees_still language h (also t ts) = (tree_still language h t, trees_still language h ts)
 
 -- ---- a record without any field
-
-dateless : (year : Option ℤ) → named_date (date_parts (with_year year empty)) ≡ Err insufficient
-unfolding named_date by_ordinal by_day by_iso_week by_sunday_week by_monday_week year_of split_year
-dateless None = refl
-dateless (Some year) = refl
-
-empty_names : (given : Given) (year : Option ℤ) → moment_in given year empty ≡ None
-empty_names given year = without_year given.offset year given.time empty refl (insufficient, dateless year)
-
-still_names : (given : Given) (grammar : Grammar) (a : Answer) → Still empty a → front_of given grammar a ≡ None
-still_names given grammar (Ok x) h =
-    ap (λ r. if_likely grammar (moment_of given given.years r) x.1) h.0 ∙ ap (λ o. if_likely grammar o x.1) (no_year given given.years empty (empty_names given))
-still_names given grammar (Err f) h = refl
-
--- the empty text names nothing, whatever is given
-pub nothing_named : (given : Given) (grammar : Grammar) → front_named given grammar [] ≡ None
-unfolding front_named
-nothing_named given (Items items) = still_names given (Items items) (reading_of_all reads_component (listed items) empty []) (all_still (each_reads reads_component (listed items)) (trees_still reads_component component_nothing (listed items)) empty)
-nothing_named given (V3 tree) = still_names given (V3 tree) (reading reads_component_v3 tree empty []) (tree_still reads_component_v3 component_nothing_v3 tree empty)
-nothing_named given Rfc2822 = nothing_rfc2822 given
-nothing_named given Rfc3339 = nothing_rfc3339 given
-nothing_named given Iso8601 = nothing_iso8601 given

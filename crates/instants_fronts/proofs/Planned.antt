@@ -1,12 +1,11 @@
 -- The front of a description's items that a plan finds.
-use Rattle.std.proofs.Common.{◌≡◌, ◌≤◌, ℕ, ℤ, false, List, length, take, Option, Some, None, refl, sym, ap, ◌∙◌, subst, arith}
+use Rattle.std.proofs.Common.{◌≡◌, ◌≤◌, ℕ, ℤ, false, List, length, take, Option, Some, None, refl, sym, ap, ◌∙◌, arith}
 use Rattle.std.specs.Prelude.{if◌then◌else◌}
 use Rattle.std.proofs.lemmas.List.{length-take}
 use Rattle.datetime_wall.specs.Wall.{Shown}
 use Rattle.description_items.specs.Tree.{Tree, listed}
 use Rattle.parsing_components.specs.Component.{reads_component}
 use Rattle.parsing_plan.specs.Plan.{NamesFront}
-use Rattle.parsing_record.specs.Record.{empty}
 use Rattle.parsing_record.specs.Reads.{reading_of_all}
 use Rattle.instants_sources.specs.Grammar.{Items}
 use Rattle.instants_sources.specs.Tried.{beginning}
@@ -17,9 +16,8 @@ use Rattle.instants_fronts.specs.Ends.{LeavesAfter}
 use Rattle.instants_fronts.specs.Front.{front_at, with_lengths}
 use Rattle.instants_fronts.specs.Given.{Given}
 use Rattle.instants_fronts.specs.Lengths.{lengths, lengths_by}
-use Rattle.instants_fronts.specs.Named.{kept_if}
 use Rattle.instants_fronts.specs.Reading.{front_named, text_for}
-use Rattle.instants_fronts.proofs.FrontsAt.{front_at_is, named_leaves, within_bytes, front_within, text_within}
+use Rattle.instants_fronts.proofs.FrontsAt.{front_at_is, named_leaves, within_bytes, front_within}
 use Rattle.instants_fronts.proofs.ReadFronts.{items_read_as, items_front, planned_front}
 
 module _ (given : Given) (items : List Tree) (bytes text : List ℕ) (near : text ≡ take 256 bytes) where

@@ -1,26 +1,12 @@
 -- The bytes that a source is given, and that nothing else counts.
-use Rattle.std.proofs.Common.{◌≡◌, ◌⊎◌, inl, inr, ◌≤◌, ℕ, zero, suc, Bool, true, false, List, [], ◌∷◌, ◌++◌, length, take, get_or, Option, Some, None, refl, sym, ap, ◌∙◌, subst, arith}
+use Rattle.std.proofs.Common.{◌≡◌, ◌⊎◌, inl, inr, ◌≤◌, ℕ, zero, suc, Bool, true, false, List, [], ◌∷◌, ◌++◌, length, take, get_or, refl, sym, ap, ◌∙◌}
 use Rattle.std.specs.Prelude.{if◌then◌else◌, ◌==◌}
-use Rattle.std.proofs.lemmas.List.{take-append-le, length-take}
+use Rattle.std.proofs.lemmas.List.{take-append-le}
 use Rattle.base.specs.Bytes.{lower_z}
 use Rattle.instants_edges.specs.Text.{iso_text, mail_text, is_stop, is_ut, is_letter_alone, is_letter}
 use Rattle.instants_sources.specs.Grammar.{Grammar, Items, V3, Rfc2822, Rfc3339, Iso8601}
-use Rattle.instants_fronts.specs.DateSource.{IsWithin}
-use Rattle.instants_fronts.specs.Front.{front_at, front_in, with_lengths}
-use Rattle.instants_fronts.specs.Given.{Given}
-use Rattle.instants_fronts.specs.Lengths.{lengths}
-use Rattle.instants_fronts.specs.NoFront.{HasNoFront}
-use Rattle.instants_fronts.specs.Reading.{text_for, front_named}
-use Rattle.instants_fronts.specs.declared.front.Front.{Front}
-use Rattle.datetime_wall.specs.Wall.{Shown}
-use Rattle.description_items.specs.Tree.{Tree}
+use Rattle.instants_fronts.specs.Reading.{text_for}
 use Rattle.std.proofs.Math.Seq.{take-length}
-use Rattle.instants_fronts.proofs.FrontsAt.{text_within, front_within}
-
--- bytes at which nothing is named have no front
-pub no_front : (grammar : Grammar) (bytes : List ℕ) → HasNoFront bytes grammar → (given : Given) → front_at given grammar bytes ≡ None
-unfolding front_at
-no_front grammar bytes none given = rw (none given) refl
 
 -- ---- a text is a front of the bytes
 
@@ -102,19 +88,6 @@ first_of_text grammar bytes =
       ]
     ]
 
--- for descriptions and RFC 3339 it is all within the window
-pub items_text : (items : List Tree) (bytes : List ℕ) → text_for (Items items) bytes ≡ take 256 bytes
-unfolding text_for
-items_text items bytes = refl
-
-pub tree_text : (tree : Tree) (bytes : List ℕ) → text_for (V3 tree) bytes ≡ take 256 bytes
-unfolding text_for
-tree_text tree bytes = refl
-
-pub rfc3339_text : (bytes : List ℕ) → text_for Rfc3339 bytes ≡ take 256 bytes
-unfolding text_for
-rfc3339_text bytes = refl
-
 -- ---- what comes after the window is no matter
 
 by_window : (grammar : Grammar) (one other : List ℕ) → take 256 one ≡ take 256 other → text_for grammar one ≡ text_for grammar other
@@ -128,30 +101,4 @@ by_window Iso8601 one other e = ap iso_text e
 pub near_text : (grammar : Grammar) (front rest : List ℕ) → 256 ≤ length front → text_for grammar (front ++ rest) ≡ text_for grammar front
 near_text grammar front rest le = by_window grammar (front ++ rest) front (take-append-le 256 front rest le)
 
-pub near_front : (given : Given) (grammar : Grammar) (front rest : List ℕ) → 256 ≤ length front → front_at given grammar (front ++ rest) ≡ front_at given grammar front
-unfolding front_at
-near_front given grammar front rest le = ap (λ text. front_in grammar text (front_named given grammar text)) (near_text grammar front rest le)
-
 -- ---- where a front lies
-
-in_text : (grammar : Grammar) (text : List ℕ) (o : Option (Shown × List ℕ)) (front : Front) → front_in grammar text o ≡ Some front → IsWithin text front
-in_text grammar text None front e = absurd cc
-in_text grammar text (Some x) front e =
-    let same : with_lengths text x.0 x.1 (lengths grammar text x.1) ≡ front = cc in
-    let P : Front → Type 0 = λ f. IsWithin text f in
-    subst P same (front_within grammar text x.0 x.1)
-
--- a front lies within the first 256 bytes
-pub within_window : (given : Given) (grammar : Grammar) (bytes : List ℕ) (front : Front) → front_at given grammar bytes ≡ Some front → IsWithin bytes front × (front.begins ≤ 256) × (front.ends ≤ 256) × (front.zone ≤ 256) × (front.all ≤ 256)
-unfolding front_at
-within_window given grammar bytes front e =
-    let text = text_for grammar bytes in
-    let here = in_text grammar text (front_named given grammar text) front e in
-    let long = text_within grammar bytes in
-    let window = length-take 256 bytes in (
-      record { begins = omega (arith, here.begins, long, window); ends = omega (arith, here.ends, long, window); zone = omega (arith, here.zone, long, window); all = omega (arith, here.all, long, window) },
-      omega (arith, here.begins, long, window),
-      omega (arith, here.ends, long, window),
-      omega (arith, here.zone, long, window),
-      omega (arith, here.all, long, window),
-    )

@@ -1,7 +1,7 @@
 use Rattle.std.proofs.Common.{refl, arith}
 use Rattle.description_tree.specs.Inner.{inner_tree}
 use Rattle.description_grammar.proofs.Outcomes.{tree_is_spelled}
-use Rattle.description.proofs.Room.{tree_room}
+use Rattle.description.proofs.Nodes.{tree_room}
 use Rattle.description.proofs.calls.read_three.Goals as goal
 
 -- a tree reserves no more than its text has, and that fits

@@ -1,4 +1,4 @@
-use Rattle.description.proofs.Behind.{fault_behind}
+use Rattle.description.proofs.Joining.{fault_behind}
 use Rattle.description.proofs.laws.faults_behind.Goals as goal
 
 pub returns : goal.returns

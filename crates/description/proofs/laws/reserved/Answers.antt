@@ -1,6 +1,5 @@
 use Rattle.description_tree.proofs.Longest.{reserved_is_longest}
-use Rattle.description.proofs.Nodes.{tree_nodes}
-use Rattle.description.proofs.Room.{tree_room}
+use Rattle.description.proofs.Nodes.{tree_nodes, tree_room}
 use Rattle.description.proofs.laws.reserved.Goals as goal
 
 pub returns-clause-longest : goal.returns-clause-longest

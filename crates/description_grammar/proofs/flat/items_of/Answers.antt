@@ -9,7 +9,7 @@ use Rattle.description_lexer.proofs.Many.{many_goes_on, many_fails, many_ends}
 use Rattle.description_lexer.proofs.Readings.{and_then_ok}
 use Rattle.description_grammar.specs.Reading.{is_end, element_at, nested_at, read_items}
 use Rattle.description_grammar.proofs.Refusals.{fails_then}
-use Rattle.description_grammar.proofs.Shorter.{nested_lt, item_lt}
+use Rattle.description_grammar.proofs.Items.{items_shorten, nested_reads}
 use Rattle.description_grammar.proofs.flat.items_of.Goals as goal
 
 pub returns-in_err-item : goal.returns-in_err-item
@@ -22,12 +22,12 @@ returns-in_err-item c =
 pub loop-rest-smaller : goal.loop-rest-smaller
 loop-rest-smaller c =
     let more : is_end false (rest_of c.loop-rest.rest) ≡ false = search rules in
-    item_lt c.args.version false (nested_at c.args.version 127) (nested_lt c.args.version 127) (rest_of c.loop-rest.rest) (tree_of c.in_ok-item.item, rest_of c.in_ok-item.after) more c.in_ok-item.ensures.value
+    items_shorten c.args.version false 127 (nested_reads c.args.version 127) (rest_of c.loop-rest.rest) (tree_of c.in_ok-item.item, rest_of c.in_ok-item.after) more c.in_ok-item.ensures.value
 
 pub loop-rest-preserved : goal.loop-rest-preserved
 loop-rest-preserved c =
     let more : is_end false (rest_of c.loop-rest.rest) ≡ false = search rules in
-    let less = item_lt c.args.version false (nested_at c.args.version 127) (nested_lt c.args.version 127) (rest_of c.loop-rest.rest) (tree_of c.in_ok-item.item, rest_of c.in_ok-item.after) more c.in_ok-item.ensures.value in
+    let less = items_shorten c.args.version false 127 (nested_reads c.args.version 127) (rest_of c.loop-rest.rest) (tree_of c.in_ok-item.item, rest_of c.in_ok-item.after) more c.in_ok-item.ensures.value in
     let e : trees c.push.new.self.items ≡ trees c.loop-rest.all.items ++ tree_of c.in_ok-item.item ∷ [] = rw c.in_ok-push.ensures.items (map_push _ c.loop-rest.all.items c.in_ok-item.item) in
     record {
       read = rw e (many_goes_on (is_end false) (element_at c.args.version (nested_at c.args.version 127)) _ (trees c.loop-rest.all.items) (rest_of c.loop-rest.rest) (tree_of c.in_ok-item.item) (rest_of c.in_ok-item.after) c.loop-rest.invariant.read more less c.in_ok-item.ensures.value);

@@ -12,7 +12,7 @@ use Rattle.description_lexer.specs.Views.{rest_of}
 use Rattle.description_lexer.proofs.Many.{many_goes_on, many_fails, many_ends}
 use Rattle.description_lexer.proofs.Readings.{not_true, not_false}
 use Rattle.description_grammar.specs.Reading.{no_bracket, is_end, element_at, nested_at, first_at, optional_at}
-use Rattle.description_grammar.proofs.Shorter.{nested_lt, item_lt}
+use Rattle.description_grammar.proofs.Items.{alternatives_shorten, items_shorten, nested_reads}
 use Rattle.description_grammar.proofs.nested.+nested.Goals as goal
 
 pub alternatives-returns-in_err-items : goal.alternatives-returns-in_err-items
@@ -21,11 +21,11 @@ alternatives-returns-in_err-items t c =
     rw (p.1, p.2) (record { value = many_fails no_bracket (nested_at c.args.version c.args.levels) _ (inner_trees c.others.all.items) (rest_of c.others.rest) c.in_err-items.field-0.0 c.others.invariant.read (not_true _ c.begins.result c.begins.ensures.value c.others-test.true) c.in_err-items.ensures.value; form = tt })
 
 pub alternatives-others-smaller : goal.alternatives-others-smaller
-alternatives-others-smaller t c = nested_lt c.args.version c.args.levels (rest_of c.others.rest) (Compound (listed (inner_trees c.in_ok-items.items.items)), rest_of c.in_ok-items.after) c.in_ok-items.ensures.value
+alternatives-others-smaller t c = alternatives_shorten c.args.version c.args.levels (nested_reads c.args.version c.args.levels) (rest_of c.others.rest) (Compound (listed (inner_trees c.in_ok-items.items.items)), rest_of c.in_ok-items.after) (not_true _ c.begins.result c.begins.ensures.value c.others-test.true) c.in_ok-items.ensures.value
 
 pub alternatives-others-preserved : goal.alternatives-others-preserved
 alternatives-others-preserved t c =
-    let less = nested_lt c.args.version c.args.levels (rest_of c.others.rest) (Compound (listed (inner_trees c.in_ok-items.items.items)), rest_of c.in_ok-items.after) c.in_ok-items.ensures.value in
+    let less = alternatives_shorten c.args.version c.args.levels (nested_reads c.args.version c.args.levels) (rest_of c.others.rest) (Compound (listed (inner_trees c.in_ok-items.items.items)), rest_of c.in_ok-items.after) (not_true _ c.begins.result c.begins.ensures.value c.others-test.true) c.in_ok-items.ensures.value in
     let e : inner_trees c.push.new.self.items ≡ inner_trees c.others.all.items ++ Compound (listed (inner_trees c.in_ok-items.items.items)) ∷ [] = rw (c.in_ok-push.ensures.items, sym (tree-OwnedCompound c.in_ok-items.items)) (map_push _ c.others.all.items (OwnedCompound c.in_ok-items.items)) in
     record {
       read = rw e (many_goes_on no_bracket (nested_at c.args.version c.args.levels) _ (inner_trees c.others.all.items) (rest_of c.others.rest) (Compound (listed (inner_trees c.in_ok-items.items.items))) (rest_of c.in_ok-items.after) c.others.invariant.read (not_true _ c.begins.result c.begins.ensures.value c.others-test.true) less c.in_ok-items.ensures.value);
@@ -47,12 +47,12 @@ items-returns-in_err-item t c =
 pub items-items-smaller : goal.items-items-smaller
 items-items-smaller t c =
     let more : is_end c.args.inner (rest_of c.items.rest) ≡ false = search rules in
-    item_lt c.args.version c.args.inner (nested_at c.args.version c.args.levels) (nested_lt c.args.version c.args.levels) (rest_of c.items.rest) (inner_tree c.in_ok-item.item, rest_of c.in_ok-item.after) more c.in_ok-item.ensures.value
+    items_shorten c.args.version c.args.inner c.args.levels (nested_reads c.args.version c.args.levels) (rest_of c.items.rest) (inner_tree c.in_ok-item.item, rest_of c.in_ok-item.after) more c.in_ok-item.ensures.value
 
 pub items-items-preserved : goal.items-items-preserved
 items-items-preserved t c =
     let more : is_end c.args.inner (rest_of c.items.rest) ≡ false = search rules in
-    let less = item_lt c.args.version c.args.inner (nested_at c.args.version c.args.levels) (nested_lt c.args.version c.args.levels) (rest_of c.items.rest) (inner_tree c.in_ok-item.item, rest_of c.in_ok-item.after) more c.in_ok-item.ensures.value in
+    let less = items_shorten c.args.version c.args.inner c.args.levels (nested_reads c.args.version c.args.levels) (rest_of c.items.rest) (inner_tree c.in_ok-item.item, rest_of c.in_ok-item.after) more c.in_ok-item.ensures.value in
     let e : inner_trees c.push.new.self.items ≡ inner_trees c.items.all.items ++ inner_tree c.in_ok-item.item ∷ [] = rw c.in_ok-push.ensures.items (map_push _ c.items.all.items c.in_ok-item.item) in
     record {
       read = rw e (many_goes_on (is_end c.args.inner) (element_at c.args.version (nested_at c.args.version c.args.levels)) _ (inner_trees c.items.all.items) (rest_of c.items.rest) (inner_tree c.in_ok-item.item) (rest_of c.in_ok-item.after) c.items.invariant.read more less c.in_ok-item.ensures.value);

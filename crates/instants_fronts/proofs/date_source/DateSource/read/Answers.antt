@@ -1,4 +1,4 @@
-use Rattle.std.proofs.Common.{◌≡◌, List, Option, Some, None, sym, ap, subst, map, ◌∙◌}
+use Rattle.std.proofs.Common.{◌≡◌, List, Option, Some, None, sym, ap, subst, ◌∙◌}
 use Rattle.description_items.specs.declared.item.BorrowedFormatItem.{BorrowedFormatItem}
 use Rattle.description_items.specs.Tree.{listed, trees}
 use Rattle.parsing_components.specs.Component.{reads_component}
