@@ -75,9 +75,9 @@ def owner(head):
 
 
 def operator_in(block, at, source):
-    """Returns what an operator asks and gives, or what is printed, as a call of its type, if the block is of one."""
+    """Returns what an operator asks and gives, what is printed, or what a wall clock is, as a call of its type, if the block is of one."""
     head = re.match(r"impl(?:<[^{]*?>)? ((?:fmt::)?\w+(?:<.*>)?) for (\w+)(?:<.*>)? \{$", block.split("\n")[0])
-    begun = re.finditer(r"^    ghost (can_\w+|\w+_gives|output|styled_output) = \{", block, re.M) if head else ()
+    begun = re.finditer(r"^    ghost (can_\w+|\w+_gives|output|styled_output|wall_of|with_wall) = \{", block, re.M) if head else ()
     members = [(it[1], re.sub(r"\s+", " ", block[it.end() : closing(block, it.end() - 1) - 1]).strip()) for it in begun]
     clauses = [f"  {name}: {what}" for name, what in members]
     return [Call(head[2], f"impl {head[1]} for {head[2]}", clauses, source.path, doc_before(source.text, at))] if members else []
