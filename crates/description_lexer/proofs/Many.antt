@@ -65,16 +65,3 @@ many_ends {A} ends step total front s so_far e = go so_far.fuel so_far.enough so
     go : (f : ℕ) → length s.text < f → total ≡ with_front front (many ends step f s) → total ≡ Ok (front, s)
     go zero lt same = absurd (omega arith)
     go (suc k) lt same = same ∙ ap (with_front front) (at_end ends step k s e) ∙ ap (λ (ms : List A). Ok (ms, s)) (append-nil front)
-
--- where each step takes something, there is no more after many than before
-pub many_le : {A : Type 0} (ends : Rest → Bool) (step : Step A) → ((s : Rest) (x : A × Rest) → ends s ≡ false → step s ≡ Ok x → length x.1.text < length s.text) → (fuel : ℕ) (s : Rest) (x : List A × Rest) → many ends step fuel s ≡ Ok x → length x.1.text ≤ length s.text
-unfolding many
-many_le {A} ends step less zero s x e = let h = ok_is ([], s) x e in omega (arith, ap (λ (y : List A × Rest). length y.1.text) h)
-many_le {A} ends step less (suc k) s x e =
-    elim (chosen (ends s) (Ok ([], s)) (step s >>= λ y. many ends step k y.1 >>= λ others. Ok (y.0 ∷ others.0, others.1)) (Ok x) e) [
-      | inl h ↦ omega (arith, ap (λ (y : List A × Rest). length y.1.text) (ok_is ([], s) x h.1))
-      | inr h ↦
-          let a = bind_ok (step s) (λ y. many ends step k y.1 >>= λ others. Ok (y.0 ∷ others.0, others.1)) x h.1 in
-          let b = bind_ok (many ends step k a.0.1) (λ others. Ok (a.0.0 ∷ others.0, others.1)) x a.2 in
-          omega (arith, less s a.0 h.0 a.1, many_le ends step less k a.0.1 b.0 b.1, ap (λ (y : List A × Rest). length y.1.text) (ok_is (a.0.0 ∷ b.0.0, b.0.1) x b.2))
-    ]

@@ -21,10 +21,6 @@ no_mark byte word = (grind (arith, nat_tests), grind (arith, nat_tests))
 no_word : (byte : ℕ) → is_ascii_alphanumeric byte ≡ false → is_ascii_digit byte ≡ false
 no_word byte e = grind (arith, nat_tests)
 
-not_not : (b : Bool) → not (not b) ≡ b
-not_not true = refl
-not_not false = refl
-
 or_false : (b : Bool) → (b || false) ≡ b
 or_false true = refl
 or_false false = refl

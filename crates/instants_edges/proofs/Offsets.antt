@@ -20,9 +20,6 @@ either_none : (b : Bool) (said : Option ℤ) → said ≡ None → (if b then sa
 either_none true said e = e
 either_none false said e = refl
 
-not_chosen : (b : Bool) (said : Option ℤ) → b ≡ false → (if b then said else None) ≡ None
-not_chosen b said e = rw e refl
-
 chosen : (b : Bool) (said : Option ℤ) → b ≡ true → (if b then said else None) ≡ said
 chosen b said e = rw e refl
 
@@ -238,17 +235,6 @@ no_fraction (a ∷ bytes) e = rw e refl
 pub fraction_there : (bytes : List ℕ) → get_or bytes 0 0 ≡ comma → is_ascii_digit (get_or bytes 1 0) ≡ true → fraction_length bytes ≡ 1 + prefix_len is_ascii_digit (drop 1 bytes)
 fraction_there [] c d = absurd (omega arith)
 fraction_there (a ∷ bytes) c d = rw (c, d) refl
-
-pub no_sequence : (bytes : List ℕ) → (get_or bytes 0 0 == escape && get_or bytes 1 0 == left_bracket) ≡ false → sequence_length bytes ≡ 0
-no_sequence [] e = refl
-no_sequence (a ∷ []) e = refl
-no_sequence (a ∷ b ∷ bytes) e = rw e refl
-
-pub sequence_there : (bytes : List ℕ) → get_or bytes 0 0 ≡ escape → get_or bytes 1 0 ≡ left_bracket
-    → sequence_length bytes ≡ (if is_ascii_alphabetic (get_or (drop 2 bytes) (prefix_len is_parameter (drop 2 bytes)) 0) then prefix_len is_parameter (drop 2 bytes) + 3 else 0)
-sequence_there [] e b = absurd (omega arith)
-sequence_there (a ∷ []) e b = absurd (omega arith)
-sequence_there (a ∷ c ∷ bytes) e b = rw (e, b) refl
 
 some_first : (first second : Option ℤ) → is_some first ≡ true → option_or first second ≡ first
 some_first None second e = absurd cc

@@ -35,15 +35,3 @@ mail_is_front before (byte ∷ after) =
     (either_is (is_letter_alone before byte after) _ _ (byte ∷ after)
     (either_is (is_letter lower_z byte) (byte ∷ []) [] (byte ∷ after) (one_more byte [] after (none_is after)) (none_is (byte ∷ after)))
     (either_is (byte == 40) [] (byte ∷ mail_text byte after) (byte ∷ after) (none_is (byte ∷ after)) (one_more byte (mail_text byte after) after (mail_is_front byte after))))
-
--- the first byte of a front that has one is the first of the bytes
-pub first_of_front : (text bytes : List ℕ) → IsFront text bytes → 0 < length text → get_or text 0 0 ≡ get_or bytes 0 0
-first_of_front text bytes (zero, within, is) some = absurd (omega (arith, some, ap length is))
-first_of_front text [] (suc n, within, is) some = absurd (omega (arith, within))
-first_of_front text (byte ∷ bytes) (suc n, within, is) some = ap (λ (xs : List ℕ). get_or xs 0 0) is
-
-pub iso_first : (bytes : List ℕ) → 0 < length (iso_text bytes) → get_or (iso_text bytes) 0 0 ≡ get_or bytes 0 0
-iso_first bytes some = first_of_front (iso_text bytes) bytes (iso_is_front bytes) some
-
-pub mail_first : (before : ℕ) (bytes : List ℕ) → 0 < length (mail_text before bytes) → get_or (mail_text before bytes) 0 0 ≡ get_or bytes 0 0
-mail_first before bytes some = first_of_front (mail_text before bytes) bytes (mail_is_front before bytes) some

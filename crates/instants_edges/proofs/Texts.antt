@@ -12,9 +12,6 @@ use Rattle.instants_edges.specs.Text.{is_stop, iso_text, mail_text, is_letter, i
 pub is_front : (bytes : List ℕ) (place : ℕ) → place ≤ length bytes → take place bytes ≡ take (length (take place bytes)) bytes
 is_front bytes place within = ap (λ (n : ℕ). take n bytes) (sym (length-take-le place bytes within))
 
-pub whole_front : (bytes : List ℕ) → bytes ≡ take (length bytes) bytes
-whole_front bytes = sym (take_all (length bytes) bytes (omega arith))
-
 -- ---- ISO 8601
 
 -- what comes before a place is no mark
@@ -58,22 +55,6 @@ MailSoFar bytes place = mail_text 0 bytes ≡ take place bytes ++ mail_text (byt
 
 pub mail_begins : (bytes : List ℕ) → MailSoFar bytes 0
 mail_begins bytes = refl
-
-byte_before_more : (bytes : List ℕ) (place : ℕ) → byte_before bytes (place + 1) 1 ≡ get_or bytes place 0
-byte_before_more bytes place = grind (arith, nat_tests)
-
-pub mail_more : (bytes : List ℕ) (place : ℕ) → place < length bytes → MailSoFar bytes place
-    → mail_text (byte_before bytes place 1) (drop place bytes) ≡ get_or bytes place 0 ∷ mail_text (get_or bytes place 0) (drop (place + 1) bytes)
-    → MailSoFar bytes (place + 1)
-mail_more bytes place within so_far e =
-    rw (byte_before_more bytes place, take_more bytes place 0 within, append_assoc (take place bytes) (get_or bytes place 0 ∷ []) (mail_text (get_or bytes place 0) (drop (place + 1) bytes)))
-    (so_far ∙ ap (λ (rest : List ℕ). take place bytes ++ rest) e)
-
-pub mail_stops : (bytes : List ℕ) (place end : ℕ) → place ≤ end → MailSoFar bytes place
-    → mail_text (byte_before bytes place 1) (drop place bytes) ≡ take (end - place) (drop place bytes) → take end bytes ≡ mail_text 0 bytes
-mail_stops bytes place end order so_far e =
-    let there : place + (end - place) ≡ end = omega arith in
-    sym (so_far ∙ ap (λ (rest : List ℕ). take place bytes ++ rest) e ∙ sym (take-add place (end - place) bytes) ∙ ap (λ (n : ℕ). take n bytes) there)
 
 pub mail_all : (bytes : List ℕ) (place : ℕ) → length bytes ≤ place → MailSoFar bytes place → bytes ≡ mail_text 0 bytes
 unfolding mail_text

@@ -16,10 +16,6 @@ joined one other = record { dated = one.dated + other.dated; doubtful = one.doub
 same_tally : (a b c d e f : ℕ) → a ≡ b → c ≡ d → e ≡ f → (let one : Tally = record { dated = a; doubtful = c; limit = e } in let other : Tally = record { dated = b; doubtful = d; limit = f } in one ≡ other)
 same_tally a b c d e f p q r = rw (p, q, r) refl
 
--- of none
-pub joined_first : (others : Tally) → (let none : Tally = record { dated = 0; doubtful = 0; limit = 0 } in others ≡ joined none others)
-joined_first others = same_tally _ _ _ _ _ _ (omega arith) (omega arith) (omega arith)
-
 pub joined_last : (tally : Tally) (found : List (Option Finding)) → found ≡ [] → tally ≡ joined tally (tally_of found)
 unfolding tally_of
 joined_last tally found none = rw none (same_tally _ _ _ _ _ _ (omega arith) (omega arith) (omega arith))
@@ -62,9 +58,3 @@ findings_more trial line others = refl
 pub findings_none : (trial : Trial) → findings trial [] ≡ []
 unfolding findings
 findings_none trial = refl
-
--- a date that lies within a line begins near
-pub starts_near : (finding : Option Finding) (line sources bytes : ℕ) → line ≤ bytes → IfSome finding (IsWithin line sources) → IfSome finding (StartsWithin bytes)
-starts_near None line sources bytes h within = within
-starts_near (Some Doubtful) line sources bytes h within = within
-starts_near (Some (There date)) line sources bytes h within = omega (arith, within.start, h)

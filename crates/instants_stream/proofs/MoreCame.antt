@@ -125,13 +125,3 @@ module _ (State : Type 0) (steps : Steps State) (state : State) (bytes : List �
   -- what is written begins with what is handed on
   pub begins_with : (limit : ℕ) → (len < length bytes → get_or bytes len 0 ≡ 10) → (rest : List ℕ) × (came_said steps limit true state (whole_lines bytes) (last_part bytes) ≡ piece ++ rest)
   begins_with limit line_feed = by_test limit (nat_lt len (length bytes)) refl line_feed
-
--- a line that is not begun is not gone on with
-pub new_line : (State : Type 0) (steps : Steps State) (state : State) (bytes : List ℕ) → GoesOn steps state false bytes [] bytes false
-new_line State steps state bytes = record {
-  said = λ limit. refl;
-  stands = λ limit. refl;
-  begun = λ limit. refl;
-  last = λ e. refl;
-  none = λ e. absurd cc;
-}

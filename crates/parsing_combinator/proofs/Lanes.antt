@@ -32,10 +32,6 @@ half_lane b byte here =
     let low : b / 16 * 16 ≡ 48 = sym (and_high_mask 8 4 (lit< tt) b byte) ∙ here in
     (omega arith, omega arith)
 
--- one byte
-pub exact_lane : (b p : ℕ) → b < 256 → bit_and b 255 ≡ p → b ≡ p
-exact_lane b p byte here = omega (arith, and_mask b 8)
-
 pub record Pairs (d rest : ℕ) : Type 0 where
   pub low : paired (rest * 256 + d) % 256 ≡ d * 10 + rest % 256
   pub high : paired (rest * 256 + d) / 256 ≡ paired rest

@@ -85,14 +85,6 @@ with_last first last eight is all eight_long digit fits =
     let count : digit_count (eight ++ last ∷ []) ≡ 9 = prefix_len-append is_ascii_digit eight (last ∷ []) ∙ rw same (omega (arith, one)) in
     record { are = (fits, rw nine count); value = rw nine (value_append 0 eight (last ∷ [])) }
 
--- nine digits, of which the first eight are read by themselves
-pub nine_cut : (run : List ℕ) (first last : ℕ) → IsDigitChunk run first 8 → length run ≡ 8 → ((k : ℕ) → get_or run k 0 < 256) → is_ascii_digit last ≡ true → AreNineDigits first last × (nine_digits first last ≡ run ++ last ∷ [])
-nine_cut run first last c eight_long fit digit =
-    let front : padded 8 run ≡ run = append-nil (take 8 run) ∙ take_all 8 run (omega arith) in
-    let is : to_le_bytes w64 first ≡ run = chunk_bytes run first 8 c fit ∙ front in
-    let all : digit_count run ≡ 8 = ap digit_count (sym front) ∙ counted run first 8 c fit in
-    ((with_last first last run is all eight_long digit (below run first 8 c fit)).are, nine_is first last run is)
-
 -- at most eight digits
 pub short_read : (bytes : List ℕ) (first count : ℕ) → IsDigitChunk bytes first count → ((k : ℕ) → get_or bytes k 0 < 256) → digits 1 (drop count bytes) ≡ None → Nine first 48 bytes (drop count bytes)
 short_read bytes first count c fit none =
