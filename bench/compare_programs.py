@@ -88,7 +88,7 @@ SOURCES_OF_INSTANTS = SOURCES | {
 ASSUMED = {file: "+00:00" for file in ("postgres", "python", "syslog", "asctime")}
 
 # What `dateconv` reads. The form with a fraction comes first, as the other one takes such a line too, and drops what is
-# behind the second. There are none for ISO 8601: forms for all of its dates take some month and day for a day of the
+# after the second. There are none for ISO 8601: forms for all of its dates take some month and day for a day of the
 # year, or the other way round.
 TOOL_OUTPUT = "%Y-%m-%dT%H:%M:%S.%NZ"
 FORMS_OF_RFC3339 = ["%FT%T.%N%Z", "%FT%T%Z"]
@@ -311,7 +311,7 @@ def machine():
 
 
 def cells(title, counted, measured):
-    """Returns the two cells of a program and a file; a speed below one has two digits behind the point."""
+    """Returns the two cells of a program and a file; a speed below one has two digits after the point."""
     speed = measured.get(title)
     digits = 1 if speed is None or round(speed, 1) >= 1 else 2
     return [

@@ -116,7 +116,7 @@ def python(rng):
 
 
 def syslog(rng):
-    """Returns a time as a system's log has it, with its year in front."""
+    """Returns a time as a system's log has it, with its year before."""
     day, time = clock(rng)
     return f"{day.year} {MONTHS[day.month - 1]} {day.day:2} {time}"
 

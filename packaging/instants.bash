@@ -15,7 +15,7 @@ _instants()
     esac
     local sources='rfc3339 rfc2822 iso8601 v1 v2 v3 strftime' open=
     if [[ ${COMP_WORDS[0]##*/} == instants-lines ]]; then
-        # (behind a source all words are sources)
+        # (after a source all words are sources)
         case $before in
             rfc3339 | rfc2822 | iso8601 | v1 | v2 | v3 | strftime | year | time) place=9 ;;
             *) open=" year time $sources" ;;

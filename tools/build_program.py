@@ -56,7 +56,7 @@ def build(*programs):
 
 
 def crates_of(programs):
-    """Returns the crates of these programs that `rt ci` proves, each behind those that it uses."""
+    """Returns the crates of these programs that `rt ci` proves, each after those that it uses."""
     return list(dict.fromkeys(crate for program in programs for crate in program.proved_first()))
 
 

@@ -22,7 +22,7 @@ FAMILIES = ("calendar", "datetime", "description", "parsing", "instants")
 # Crates whose calls no named crate gives on, but which have users of their own.
 ALONE = (
     "instants_edges",
-    "instants_fronts",
+    "instants_prefixes",
     "instants_found",
     "instants_formats",
     "instants_lines_words",
@@ -207,7 +207,7 @@ def filled(pieces, between):
 
 
 def name_link(name, having):
-    """Returns the links of a name: itself where one group has it, and otherwise those of the groups behind it."""
+    """Returns the links of a name: itself where one group has it, and otherwise those of the groups after it."""
     if len(having) == 1:
         return f"[{name}](#{having[0][1]})"
     return f"{name} ({', '.join(f'[{title}](#{place})' for title, place in having)})"

@@ -5,7 +5,7 @@
 
 - Each definition that a clause on docs/CALLS.md names, and that stands in the specs/ of a crate here, is told in
   docs/DEFINITIONS.md, in a section whose heading names that crate.
-- Each call that has a row in docs/CLAIMS.md stands on docs/CALLS.md. A row may name a type or a module there, or the front of
+- Each call that has a row in docs/CLAIMS.md stands on docs/CALLS.md. A row may name a type or a module there, or the prefix of
   the names of some calls, as `replace_`.
 - Each call on docs/CALLS.md of the programs' crates, and of the crates below of which it has some, has a row in docs/CLAIMS.md.
 - Each public call that is handed an allocator is named in the section of docs/CLAIMS.md on what takes memory.
@@ -43,7 +43,7 @@ def told_words():
 
 
 def is_told(crate, name, sections):
-    """Returns whether a section of a crate tells a name; a heading may name the front of several crates' names."""
+    """Returns whether a section of a crate tells a name; a heading may name the prefix of several crates' names."""
     return any(name in words for crates, words in sections if any(crate == it or (it.endswith("_") and crate.startswith(it)) for it in crates))
 
 

@@ -42,7 +42,7 @@ def quoted(text):
     text = escaped(text).replace('"', r"\(dq")
     # (a word as %A is a macro's name)
     text = rf"\&{text}" if text.startswith("%") else text
-    # (a mark at the end would be taken for one behind the argument)
+    # (a mark at the end would be taken for one after the argument)
     return f'"{text}{chr(92)}&"' if text[-1:] in ".,:;)]?!" else f'"{text}"'
 
 

@@ -183,7 +183,7 @@ def script_of_speeds():
 
 
 def marked(made, given):
-    """Returns a picture without what depends on the release that made it, behind a line with the checksum of what was given."""
+    """Returns a picture without what depends on the release that made it, after a line with the checksum of what was given."""
     made = re.sub(r"<!--.*?-->\s*|<desc>.*?</desc>\s*|<title>Gnuplot</title>\s*", "", made, flags=re.S)
     head, rest = made.split("<svg", 1)
     return f"{head.strip()}\n<!-- made by tools/pictures.py of {hashlib.sha256(given.encode()).hexdigest()[:16]} -->\n<svg{rest}"

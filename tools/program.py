@@ -51,7 +51,7 @@ class Program:
         print(f"{self.name}: {text}", file=sys.stderr, flush=True)
 
     def proved_first(self):
-        """Returns the crates that `rt ci` proves for it, each behind those that it uses."""
+        """Returns the crates that `rt ci` proves for it, each after those that it uses."""
         return self.crates()
 
     def made_in(self, room):

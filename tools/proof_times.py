@@ -27,7 +27,7 @@ PARTS = "Statement Tie Goals Answers Proof Met Code Symbol TheLink Given Lts Kin
 
 
 def below(crate, used):
-    """Returns the crates below one, each behind those that it uses."""
+    """Returns the crates below one, each after those that it uses."""
     found = []
     for it in used[crate]:
         found += [one for one in [*below(it, used), it] if one not in found]

@@ -48,7 +48,7 @@ def exported(crate):
 
 
 def closing(text, at):
-    """Returns the place behind the bracket that closes the one at a place."""
+    """Returns the place after the bracket that closes the one at a place."""
     depth = 0
     for place in range(at, len(text)):
         depth += (text[place] in "{(") - (text[place] in "})")
@@ -68,7 +68,7 @@ def clauses_in(text):
 
 
 def owner(head):
-    """Returns the type or the trait of which the calls behind a line are, if they are listed there, or none."""
+    """Returns the type or the trait of which the calls after a line are, if they are listed there, or none."""
     if head.startswith("pub trait "):
         return re.match(r"pub trait (\w+)", head)[1]
     return re.match(r"impl(?:<[^{]*?>)? (\w+)(?:<.*>)? \{$", head)[1] if " for " not in head else None

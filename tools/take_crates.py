@@ -19,7 +19,7 @@ from program import PARTS, ROOT, Program, uses
 
 
 def take(top, crates):
-    """Copies the crates, each behind those that it uses, and returns how many they are."""
+    """Copies the crates, each after those that it uses, and returns how many they are."""
     used = uses()
     wanted = list(dict.fromkeys(it for crate in crates for it in Program(crate, crate).crates()))
     listed = top / "crates.txt"

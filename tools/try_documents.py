@@ -5,8 +5,8 @@
     tools/try_documents.py FILE..     those of these files
 
 An example is what can be copied whole into a shell, and what it prints: a fence of Markdown that begins with ```sh, and one
-with ```text right behind it; or two displays of the manual page, `.Bd -literal -offset indent` and one at `indent-two`. A
-command with nothing behind it prints nothing. Standard output and standard error are compared together, byte by byte.
+with ```text right after it; or two displays of the manual page, `.Bd -literal -offset indent` and one at `indent-two`. A
+command with nothing after it prints nothing. Standard output and standard error are compared together, byte by byte.
 
 Each section, from a heading to the next one of whatever level, has a folder of its own, in which its examples run in
 order, each in a shell `sh` of its own: files pass from one example to the next, and nothing else. At first the folder
@@ -19,7 +19,7 @@ out. A section with such a fence has a copy of the crates' sources and of crates
 
 A table of Markdown whose head has the columns `line` and `answer` is of examples too: a row's line is piped into the program
 with the row's `arguments`, or with `+00:00 +00:00 100` and the row's `example`, and what it prints is the row's answer. Where the
-head has `key` for `answer`, the program is `instants-lines` in that mode, and the line stands behind its key. Rows without a
+head has `key` for `answer`, the program is `instants-lines` in that mode, and the line stands after its key. Rows without a
 line are passed over.
 
 A fence that begins with ```sh with NAME is run where that program is installed, and passed over elsewhere, with what it prints.
@@ -28,7 +28,7 @@ A fence that begins with ```sh builds is not run: its commands build, which take
 error, so that none is left out by a slip, and so is a fence of another kind but those of code that the list below names.
 
 The page of each family's crate, the `//!` lines at the head of its `src/lib.rt`, has one fence, whose lines stand one
-behind the other in the file `src/page.rt` of the family's tests, which the gate proves and runs.
+after the other in the file `src/page.rt` of the family's tests, which the gate proves and runs.
 
 With no FILE it also asks the tools that write pages from the sources, or compare one with them, whether each is current.
 
@@ -91,7 +91,7 @@ LINKED = ("crates", "bindings", "include", "tools")
 # What stands in the source of a manual page for a byte.
 ESCAPES = {r"\e": "\\", r"\-": "-", r"\&": "", r"\(aq": "'", r"\(dq": '"', r"\(ha": "^", r"\(ti": "~"}
 
-# A piece of a document: the kind that its first line names, the number of the line behind that, its lines, its section.
+# A piece of a document: the kind that its first line names, the number of the line after that, its lines, its section.
 Piece = collections.namedtuple("Piece", "kind line lines section")
 Example = collections.namedtuple("Example", "line command due section")
 
@@ -118,7 +118,7 @@ def written(file, lines):
 
 
 def passed_over(pieces):
-    """Yields the pieces without those that need a program which is not installed, each with the printed text behind it."""
+    """Yields the pieces without those that need a program which is not installed, each with the printed text after it."""
     is_passed = False
     for piece in pieces:
         needed = WITH.fullmatch(piece.kind)

@@ -13,7 +13,7 @@ and their statuses have to be the same. Then, in copies of the sources:
 - a terminal and an input that is too long are refused, with the command that builds the proved program;
 - a pipe that is silent for five seconds loses nothing;
 - ten calls of `--build` build the program once (this takes as long as a build, unless `rt ci` has kept its proofs);
-- a caller that is ended while it tries or builds, by whatever signal, leaves no process behind.
+- a caller that is ended while it tries or builds, by whatever signal, leaves no process after.
 
 The last line counts what passed; the status is 1 where anything failed. It needs Linux, Debian's python3-psutil
 and some minutes.

@@ -60,7 +60,7 @@ def said_by_program(program, words, stream):
 
 
 def lines_alike(one, other):
-    """Returns how many lines at the front of two outputs are the same."""
+    """Returns how many lines at the start of two outputs are the same."""
     pairs = enumerate(zip(one, other))
     return next((at for at, (left, right) in pairs if left != right), min(len(one), len(other)))
 

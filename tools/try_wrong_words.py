@@ -26,7 +26,7 @@ from tries import report, summary
 ROOT = pathlib.Path(__file__).resolve().parent.parent
 PROGRAM = ROOT / "crates" / "instants_lines_program" / "out" / "instants_lines_program"
 SOURCES = "rfc3339, rfc2822, iso8601, v1, v2, v3, strftime, and the names of --help"
-# Arguments, and the sentence behind the program's name.
+# Arguments, and the sentence after the program's name.
 ROWS = (
     ("", "usage: instants-lines MODE [TARGET [ASSUMED [LIMIT]]] [year N] [time HH:MM] [label TEXT] SOURCE..."),
     ("keys rfc3339", '"keys": no such mode; there are key, carry, replace, explain, locate'),

@@ -48,7 +48,7 @@ static bool join(struct text *text, char **words)
     return true;
 }
 
-/* How many bytes the whole lines at the front of a text have. */
+/* How many bytes the whole lines at the start of a text have. */
 static size_t whole_lines(const struct text *text)
 {
     size_t len = text->len;

@@ -42,7 +42,7 @@ static void tell(const char *what, bool is_well)
     has_failed = true;
 }
 
-/* Whether an input is answered so in room for so many bytes, and nothing behind them is written. */
+/* Whether an input is answered so in room for so many bytes, and nothing after them is written. */
 static bool is_answered(const void *at, const char *input, size_t room, uint8_t status, const char *answers)
 {
     uint8_t output[100];

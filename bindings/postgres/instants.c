@@ -52,7 +52,7 @@ refuse_word(const char *why)
 	ereport(ERROR, (errcode(ERRCODE_INVALID_PARAMETER_VALUE), errmsg("instants: %s", why)));
 }
 
-/* Puts a word behind the others, with a line feed before it. */
+/* Puts a word after the others, with a line feed before it. */
 static void
 put_word(StringInfo words, const text *word)
 {
@@ -187,7 +187,7 @@ reader_of(FunctionCallInfo fcinfo)
 	return reader;
 }
 
-/* Puts the answers to lines behind others; there is room for them. */
+/* Puts the answers to lines after others; there is room for them. */
 static void
 put_answers(struct answers *answers, const void *at, const char *lines, size_t len, size_t room)
 {
@@ -197,7 +197,7 @@ put_answers(struct answers *answers, const void *at, const char *lines, size_t l
 	answers->len += written;
 }
 
-/* Answers the lines of a text; behind its last line feed, and where it is empty, there is an empty one. */
+/* Answers the lines of a text; after its last line feed, and where it is empty, there is an empty one. */
 static struct answers
 answer(FunctionCallInfo fcinfo)
 {

@@ -10,7 +10,7 @@
  *     SELECT instant_fault('+00:00', 'rfc3339', 'yesterday');
  *     component year
  *
- * Targets and sources are the program's words. An offset behind the target is assumed for a text without one; where a source
+ * Targets and sources are the program's words. An offset after the target is assumed for a text without one; where a source
  * stands there none is. A text of up to INSTANTS_GREATEST_LIMIT bytes is not too long.
  * Answers of one target compare as texts as their moments do, so the function serves as a key, also of an index. It is NULL
  * where one of its arguments is. Of a text with line feeds it is the answers to its lines, with a line feed between them, and
@@ -47,7 +47,7 @@ struct text {
 
 /*
  * An open handle, and what has to stay while it is open: the words. The arguments of which they are made are kept beside them,
- * each with a line feed behind it.
+ * each with a line feed after it.
  */
 struct reader {
     struct instants_handle handle;
@@ -115,7 +115,7 @@ static void put_words(struct block *words, int count, sqlite3_value **values)
     }
 }
 
-/* Puts the arguments, with a line feed behind each. Whether none of them has one of its own. */
+/* Puts the arguments, with a line feed after each. Whether none of them has one of its own. */
 static bool put_arguments(struct block *arguments, int count, sqlite3_value **values)
 {
     bool is_well = true;
@@ -202,7 +202,7 @@ static void give_fault(sqlite3_context *context, const struct block *answers)
         sqlite3_result_text(context, at + 2, (int)((const char *)memchr(at, '\n', (size_t)(end - at)) - at) - 2, SQLITE_TRANSIENT);
 }
 
-/* Puts the answers to lines behind others; there is room for them. */
+/* Puts the answers to lines after others; there is room for them. */
 static void put_answers(struct block *answers, const void *at, const void *lines, size_t len, size_t room)
 {
     size_t written;
@@ -210,7 +210,7 @@ static void put_answers(struct block *answers, const void *at, const void *lines
     answers->len += written;
 }
 
-/* Answers the lines of a text; behind its last line feed, and where it is empty, there is an empty one. */
+/* Answers the lines of a text; after its last line feed, and where it is empty, there is an empty one. */
 static void answer(sqlite3_context *context, const void *at, const struct text *text, struct block *answers, size_t room)
 {
     put_answers(answers, at, text->bytes, text->len, room);

@@ -27,7 +27,7 @@ class Component(NamedTuple):
     discards: bool = False  # the end, with all that is left
 
 
-# ---- the shapes: each gives what the longest front that has the shape says, and the place after it, or None
+# ---- the shapes: each gives what the longest prefix that has the shape says, and the place after it, or None
 
 
 def digit_count(text, at, most):

@@ -53,7 +53,7 @@ def may_say(line, place):
     return at(line, place) not in SIGN or place == 0 or at(line, place - 1) in BEFORE_SIGN
 
 
-# ---- clocks beside a date and in front of it
+# ---- clocks beside a date and before it
 
 
 def is_clock(line, place):
@@ -82,7 +82,7 @@ def ends_seconds(line, place):
 
 
 def has_clock_in_front(line, place):
-    """Whether a clock with seconds is in front of a place and of all quotation marks."""
+    """Whether a clock with seconds is before a place and of all quotation marks."""
     quote = line.find(b'"')
     return any(ends_seconds(line, it) for it in range(place if quote < 0 else min(place, quote)))
 
@@ -91,7 +91,7 @@ def has_clock_in_front(line, place):
 
 
 def offset_here(text):
-    """Returns the offset at the front of a text, where a word ends after it, or None."""
+    """Returns the offset at the start of a text, where a word ends after it, or None."""
     word = text[:6]
     if is_edge(text, 6) and within_fifteen_hours(offset_said(word)) is not None:
         return offset_said(word)
@@ -169,7 +169,7 @@ def trimmed_length(text):
 
 
 def zone_length(text):
-    """The word of letters at the front, over one space at most."""
+    """The word of letters at the start, over one space at most."""
     found = re.match(rb" ?[A-Za-z]+", text)
     return found.end() if found else 0
 

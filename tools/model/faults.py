@@ -2,7 +2,7 @@
 
 
 class Refused(Exception):
-    """A text names no moment. `why` is what an answer says behind `! `."""
+    """A text names no moment. `why` is what an answer says after `! `."""
 
     def __init__(self, why):
         super().__init__(why)

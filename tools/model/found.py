@@ -45,7 +45,7 @@ class Doubtful(NamedTuple):
     read: tuple
 
 
-# ---- the moment of a front
+# ---- the moment of a prefix
 
 
 def moment_in(given, year, read):
@@ -73,7 +73,7 @@ def moment_of(given, read):
 
 
 def front_named(given, source, text):
-    """Returns the moment that a front of a text names, and the place after it, or None."""
+    """Returns the moment that a prefix of a text names, and the place after it, or None."""
     front = source.front(text)
     moment = front and moment_of(given, front[0])
     if not moment:

@@ -170,7 +170,7 @@ def clock(hour, minute, second, nanoseconds):
 
 
 def into_record(record, text):
-    """Returns a record with what the front of a text says, and the place after it."""
+    """Returns a record with what the prefix of a text says, and the place after it."""
     reader, fault = IsoReader(text), None
     try:
         date = reader.date()

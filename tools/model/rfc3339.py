@@ -10,7 +10,7 @@ from .reader import Reader
 
 
 def read(text, is_strict):
-    """Returns the parts of a date-time at the front of a text, and the place after it."""
+    """Returns the parts of a date-time at the start of a text, and the place after it."""
     reader = Reader(text)
 
     def number(name, low, high):
@@ -47,7 +47,7 @@ def read(text, is_strict):
 
 
 def into_record(record, text):
-    """Returns a record with what the front of a text says, and the place after it."""
+    """Returns a record with what the prefix of a text says, and the place after it."""
     parts, at = read(text, is_strict=True)
     return {**record, **parts, "leap_second_is_permitted": True}, at
 

@@ -14,7 +14,7 @@ WEEKDAYS, HOURS = ("weekday_short", "weekday_long", "weekday_sunday", "weekday_m
 
 
 class Lengths(NamedTuple):
-    """Where in a front its date begins and ends, where the word of its zone ends, and whether text before it chose the place."""
+    """Where in a prefix its date begins and ends, where the word of its zone ends, and whether text before it chose the place."""
 
     begins: int
     ends: int
@@ -48,7 +48,7 @@ class Source:
     # ---- reading
 
     def into_record(self, start, text):
-        """Returns a record with what the front of a text says, and the place after it."""
+        """Returns a record with what the prefix of a text says, and the place after it."""
         if self.kind in FORMATS:
             return FORMATS[self.kind].into_record(start, text)
         return read_all(self.items, start, text, 0, self.is_three)
@@ -71,7 +71,7 @@ class Source:
         return edges.mail_text(text) if self.kind == "rfc2822" else text
 
     def front(self, text):
-        """Returns the record of the front of a text, from no record, and the place after it; or None."""
+        """Returns the record of the prefix of a text, from no record, and the place after it; or None."""
         # (a mail's date begins with its weekday or its day, and not with white space or a comment)
         if self.kind == "rfc2822" and not text[:1].isalnum():
             return None

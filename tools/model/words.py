@@ -11,7 +11,7 @@ from .sources import Source
 
 ROOT = pathlib.Path(__file__).resolve().parent.parent.parent
 MODES = (b"key", b"carry", b"replace", b"explain", b"locate")
-# The modes in which a label stands behind the key.
+# The modes in which a label stands after the key.
 LABELLED = (b"key", b"carry")
 FORMATS = (b"rfc3339", b"rfc2822", b"iso8601")
 LANGUAGES = {
@@ -20,7 +20,7 @@ LANGUAGES = {
     b"v3": lambda text: descriptions.items_of(3, text),
     b"strftime": strftime.items_of,
 }
-# What may stand before the sources, in this order, each behind its name.
+# What may stand before the sources, in this order, each after its name.
 NAMED = (b"year", b"time", b"label")
 SOURCES = b", ".join((*FORMATS, *LANGUAGES)) + b", and the names of --help"
 USAGE = b"usage: instants-lines MODE [TARGET [ASSUMED [LIMIT]]] [year N] [time HH:MM] [label TEXT] SOURCE..."
@@ -79,7 +79,7 @@ def as_offset(word):
 
 
 def front_settings(words):
-    """Returns the target, the assumed offset and the limit, as far as they are there, and the words behind them."""
+    """Returns the target, the assumed offset and the limit, as far as they are there, and the words after them."""
     count = 0
     while count < min(3, len(words)) and is_setting(words[count]):
         count += 1
@@ -87,7 +87,7 @@ def front_settings(words):
 
 
 def named_word(name, words):
-    """Returns the word behind a name, or None, and the words behind both."""
+    """Returns the word after a name, or None, and the words after both."""
     if words[:1] != [name]:
         return None, words
     return (words[1] if words[1:] else None), words[2:]

@@ -10,7 +10,7 @@ MICROSECONDS = 26
 
 
 class Answer(NamedTuple):
-    """The answer to a line: a date-time, or a fault behind `! `; and the fault, as `component year`, or None."""
+    """The answer to a line: a date-time, or a fault after `! `; and the fault, as `component year`, or None."""
 
     text: str
     fault: str | None

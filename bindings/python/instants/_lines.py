@@ -20,7 +20,7 @@ def stream_of(lines: Lines) -> bytes:
 
 
 def _stream_of_list(lines: list[Any]) -> bytes:
-    """Returns the bytes of a list of lines, each with a line feed behind it."""
+    """Returns the bytes of a list of lines, each with a line feed after it."""
     stream = b""
     try:
         # (as most lists are: all texts or all bytes, and no line feed in any)

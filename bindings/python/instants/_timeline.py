@@ -94,7 +94,7 @@ class Timeline:
     def to_datetime64(self, lines: Lines, *, raising: bool = False) -> Moments:
         """Returns the moments of lines, in UTC, as an array of `datetime64[ns]`, with NaT for each line that has none.
 
-        That type reaches from 1677-09-21T00:12:43.145224193 to 2262-04-11T23:47:16.854775807; a moment before or behind is NaT.
+        That type reaches from 1677-09-21T00:12:43.145224193 to 2262-04-11T23:47:16.854775807; a moment before or after is NaT.
         """
         stream, handle = stream_of(lines), self._open()
         moments = moments_of(handle.moments(stream))
@@ -150,6 +150,6 @@ def to_datetime64(
 
 
 def answer_bytes(stream: bytes | bytearray | memoryview, words: Iterable[str]) -> bytes:
-    """Returns the answers to the lines of bytes, each with a line feed behind it, by the program's words, which stay read."""
+    """Returns the answers to the lines of bytes, each with a line feed after it, by the program's words, which stay read."""
     handle = _kept_handle(tuple(listed(words, "the words")))
     return handle.answer(stream if isinstance(stream, bytes) else memoryview(stream).tobytes())

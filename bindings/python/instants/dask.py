@@ -30,7 +30,7 @@ class Part:
 
 
 def parts_of(file: str, size: int = PART_SIZE, begins: bytes | None = None) -> list[Part]:
-    """Cuts a file behind line feeds into parts of some size. With `begins`, the pattern of a line, no part but the first begins
+    """Cuts a file after line feeds into parts of some size. With `begins`, the pattern of a line, no part but the first begins
     with another line, as mode `carry` of `instants-lines` asks."""
     end, places = os.path.getsize(file), [0]
     with open(file, "rb") as lines:

@@ -76,7 +76,7 @@ pub fn answers(words: &[&str], input: &[u8]) -> Result<Vec<u8>, Fault> {
     Ok(output)
 }
 
-/// The same into the front of the output. How many bytes the answers have.
+/// The same into the start of the output. How many bytes the answers have.
 ///
 /// ```
 /// let mut output = [0; instants::LINE_ROOM];

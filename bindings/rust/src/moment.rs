@@ -18,7 +18,7 @@ pub struct Moment {
     pub nanoseconds: u32,
 }
 
-/// Why a line has no moment, by the number that `instants.h` gives it; its text is that behind `! ` in an answer.
+/// Why a line has no moment, by the number that `instants.h` gives it; its text is that after `! ` in an answer.
 ///
 /// ```
 /// let timeline = instants::Timeline::new(&["+00:00", "-", "100", "rfc3339"])?;

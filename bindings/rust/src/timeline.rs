@@ -64,20 +64,20 @@ impl Timeline {
         output
     }
 
-    /// The same behind what the output has.
+    /// The same after what the output has.
     pub fn append_to(&self, input: &[u8], output: &mut Vec<u8>) {
         let room = room(input);
         output.reserve(room);
         let start = output.len();
         let spare = &mut output.spare_capacity_mut()[..room];
-        // As many bytes as `written` says are written behind the start, and no more than there is room for.
+        // As many bytes as `written` says are written after the start, and no more than there is room for.
         unsafe {
             let (_, written) = self.answer(input, spare.as_mut_ptr().cast(), spare.len());
             output.set_len(start + written);
         }
     }
 
-    /// The same into the front of the output. How many bytes the answers have, or `Fault::NoRoom`.
+    /// The same into the start of the output. How many bytes the answers have, or `Fault::NoRoom`.
     ///
     /// ```
     /// let timeline = instants::Timeline::new(&["+00:00", "-", "100", "rfc3339"])?;

@@ -30,14 +30,14 @@ views_undone day h = record {
   julian_day_only = λ other e. omega (arith, signed, e);
 }
 
-pub takes_all : (calls : List Bool) (days front left back : List ℕ) → Takes calls days front left back → days ≡ front ++ (left ++ reverse back)
+pub takes_all : (calls : List Bool) (days prefix left back : List ℕ) → Takes calls days prefix left back → days ≡ prefix ++ (left ++ reverse back)
 unfolding Takes
-takes_all [] days front left back h = rw (h.0, h.1, h.2) (sym (append-nil days))
-takes_all (true ∷ calls) days front left back h =
+takes_all [] days prefix left back h = rw (h.0, h.1, h.2) (sym (append-nil days))
+takes_all (true ∷ calls) days prefix left back h =
     rw (h.3, h.4) (ap (λ xs. h.0 ∷ xs) (takes_all calls h.1 h.2 left back h.5))
-takes_all (false ∷ calls) days front left back h =
+takes_all (false ∷ calls) days prefix left back h =
     let turned : reverse (h.0 ∷ h.2) ≡ reverse h.2 ++ h.0 ∷ [] = reverse-append (h.0 ∷ []) h.2 in
-    rw (h.3, h.4, turned, takes_all calls h.1 front left h.2 h.5) (simp append_assoc)
+    rw (h.3, h.4, turned, takes_all calls h.1 prefix left h.2 h.5) (simp append_assoc)
 
 -- ---- answers of the constructors
 

@@ -16,10 +16,10 @@ pub record ViewsUndone (day : ℕ) : Type 0 where
   pub julian_day : IsJulianDay (pos day -ℤ pos julian_zero)
   pub julian_day_only : (other : ℕ) → pos other ≡ (pos day -ℤ pos julian_zero) +ℤ pos julian_zero → other ≡ day
 
--- calls at the front, where true, and at the back of a list of days, each of which gave a day: what they took from the front, what they left, and what they took from the back
+-- calls at the start, where true, and at the back of a list of days, each of which gave a day: what they took from the start, what they left, and what they took from the back
 unfoldable pub Takes : List Bool → List ℕ → List ℕ → List ℕ → List ℕ → Type 0
-Takes [] days front left back = (front ≡ []) × (left ≡ days) × (back ≡ [])
-Takes (true ∷ calls) days front left back =
-    (day : ℕ) × (rest : List ℕ) × (others : List ℕ) × YieldsFirst (λ s. s) days (Some day) rest × (front ≡ day ∷ others) × Takes calls rest others left back
-Takes (false ∷ calls) days front left back =
-    (day : ℕ) × (rest : List ℕ) × (others : List ℕ) × YieldsLast (λ s. s) days (Some day) rest × (back ≡ day ∷ others) × Takes calls rest front left others
+Takes [] days prefix left back = (prefix ≡ []) × (left ≡ days) × (back ≡ [])
+Takes (true ∷ calls) days prefix left back =
+    (day : ℕ) × (rest : List ℕ) × (others : List ℕ) × YieldsFirst (λ s. s) days (Some day) rest × (prefix ≡ day ∷ others) × Takes calls rest others left back
+Takes (false ∷ calls) days prefix left back =
+    (day : ℕ) × (rest : List ℕ) × (others : List ℕ) × YieldsLast (λ s. s) days (Some day) rest × (back ≡ day ∷ others) × Takes calls rest prefix left others

@@ -27,11 +27,11 @@ pub fn order_of_days()
     ensures { (one other : ℕ) → (one < other) ↔ ComesBefore (day_at one) (day_at other) }
 {}
 
-/// The days taken from the front of a walk, those that are left, and those taken from the back, the
+/// The days taken from the start of a walk, those that are left, and those taken from the back, the
 /// last taken first, are the days of the walk.
 pub fn both_ends()
-    ensures { (calls : List Bool) (days front left back : List ℕ)
-        → Takes calls days front left back → days ≡ front ++ (left ++ reverse back) }
+    ensures { (calls : List Bool) (days prefix left back : List ℕ)
+        → Takes calls days prefix left back → days ≡ prefix ++ (left ++ reverse back) }
 {}
 
 /// A day is that of its year, month and day of the month.

@@ -23,7 +23,7 @@ fn write_three<W: fmt::Write>(f: &mut fmt::Formatter<W>, n: u16) -> fmt::Result
     write!(f, "{hundreds}{tens}{ones}")
 }
 
-// The same, without the zeros at its end but for the first digit.
+// Writes three digits, without the zeros at their end but for the first digit.
 fn write_last<W: fmt::Write>(f: &mut fmt::Formatter<W>, n: u16) -> fmt::Result
     requires { n < 1000 }
     ensures { DisplaysOnOk W.write_str_gives f.old result

@@ -187,7 +187,7 @@ fn later(day: Date, duration: SignedDuration) -> Option<[Date; 4]> {
     Some([later, day.saturating_add(duration), moved, day + duration])
 }
 
-// Likewise earlier.
+// The day moved back by a duration, by each of the calls.
 fn earlier(day: Date, duration: SignedDuration) -> Option<[Date; 4]> {
     let earlier = day.checked_sub(duration)?;
     let mut moved = day;

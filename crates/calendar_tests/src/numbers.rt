@@ -10,7 +10,7 @@ fn products() -> ([SignedDuration; 3], [SignedDuration; 3]) {
     )
 }
 
-// The same of numbers with a duration.
+// The products of numbers with a duration.
 fn turned_products() -> ([SignedDuration; 3], [SignedDuration; 3]) {
     let half = SignedDuration::milliseconds(1500);
     (

@@ -41,7 +41,7 @@ fn parts(offset: UtcOffset) -> ((i8, i8, i8), i8, i16, i8, i8) {
     )
 }
 
-// Whether it is ahead of UTC, behind it, or UTC itself.
+// Whether it is ahead of UTC, after it, or UTC itself.
 fn side(offset: UtcOffset) -> (bool, bool, bool) {
     (offset.is_positive(), offset.is_negative(), offset.is_utc())
 }

@@ -14,12 +14,12 @@ fn is_text(answer: Result<String, AllocError>, text: &str) -> bool {
     }
 }
 
-// Whether a value has this text, and behind a space the same one for debugging.
+// Whether a value has this text, and after a space the same one for debugging.
 fn prints<T: fmt::Display + fmt::Debug + Drop>(alloc: Global, value: T, text: &str) -> bool {
     is_text(format!(in alloc; "{value} {value:?}"), text)
 }
 
-// The same of a day.
+// Whether a day has this text, displayed and for debugging.
 fn prints_day(alloc: Global, year: i32, month: Month, day: u8, text: &str) -> bool {
     prints(alloc, dates::date_of(year, month, day), text)
 }

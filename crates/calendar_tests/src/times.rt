@@ -83,7 +83,7 @@ fn place(time: Time) -> (u32, u32) {
     (time.second_of_day(), time.nanosecond())
 }
 
-// The same of an answer: that of no time for a refusal.
+// The second of the day and the nanosecond past it of an answer: those of no time for a refusal.
 fn answered(answer: Result<Time, ComponentRange>) -> (u32, u32) {
     match answer {
         Ok(time) => place(time),

@@ -27,7 +27,7 @@ unfolding Digits
 decimal_digits n h =
     decimal_by_steps (λ n ds. Digits ds) (λ n small. (omega arith, tt)) (λ n ds large rest. Digits-append ds ((48 + n % 10) ∷ []) rest (omega arith, tt)) n h
 
--- what stands behind digits: nothing, or a point and more
+-- what stands after digits: nothing, or a point and more
 unfoldable Fraction : List ℕ → Type 0
 Fraction [] = Unit {0}
 Fraction (x ∷ xs) = x ≡ 46
@@ -53,7 +53,7 @@ fraction_is n = elim (zero_or n) [
   | inr h ↦ rw (fraction_some n h) refl
 ]
 
--- so the digits and what stands behind them are told apart
+-- so the digits and what stands after them are told apart
 cut_first : (ds es xs ys : List ℕ) → Digits ds → Digits es → Fraction xs → Fraction ys → ds ++ xs ≡ es ++ ys → ds ≡ es
 unfolding Digits Fraction
 cut_first [] [] xs ys h k f g e = refl
@@ -231,10 +231,10 @@ unfolding Digits Pointless
 digits_pointless [] h = tt
 digits_pointless (d ∷ ds) h = (λ e. omega (arith, e, h.0), digits_pointless ds h.1)
 
-point_found : (front back : List ℕ) → Pointless (front ++ 46 ∷ back) → ⊥
+point_found : (prefix back : List ℕ) → Pointless (prefix ++ 46 ∷ back) → ⊥
 unfolding Pointless
 point_found [] back h = h.0 refl
-point_found (x ∷ front) back h = point_found front back h.1
+point_found (x ∷ prefix) back h = point_found prefix back h.1
 
 pointless_text : (i : ℤ) → IsWallClock i → unsigned_abs i % second_nanos ≡ 0 → Pointless (seconds_text i)
 unfolding Pointless
@@ -247,16 +247,16 @@ pointless_text i h none =
       | inr a ↦ rw (text_above i a, plain) digits
     ]
 
-pub no_zero_at_end : (i : ℤ) → IsWallClock i → (front back : List ℕ) → seconds_text i ≡ front ++ 46 ∷ (back ++ 48 ∷ []) → ⊥
+pub no_zero_at_end : (i : ℤ) → IsWallClock i → (prefix back : List ℕ) → seconds_text i ≡ prefix ++ 46 ∷ (back ++ 48 ∷ []) → ⊥
 unfolding last_of
-no_zero_at_end i h front back e = elim (zero_or (unsigned_abs i % second_nanos)) [
-  | inl none ↦ point_found front (back ++ 48 ∷ []) (rw e at (pointless_text i h none))
+no_zero_at_end i h prefix back e = elim (zero_or (unsigned_abs i % second_nanos)) [
+  | inl none ↦ point_found prefix (back ++ 48 ∷ []) (rw e at (pointless_text i h none))
   | inr some ↦
       let digits = without_zeros (nine_digits (unsigned_abs i % second_nanos)) in
       let sign : List ℕ = if int_lt i (pos 0) then codes "-" else [] in
       let text : seconds_text i ≡ (sign ++ decimal (unsigned_abs i / second_nanos)) ++ 46 ∷ digits = rw (fraction_some _ some) refl in
       let ends : last_of 0 (seconds_text i) ≡ last_of 46 digits = rw text (last_of-append 0 (sign ++ decimal (unsigned_abs i / second_nanos)) (46 ∷ digits)) in
-      let zero : last_of 0 (seconds_text i) ≡ 48 = rw e (last_of-append 0 front (46 ∷ (back ++ 48 ∷ [])) ∙ last_of-append 46 back (48 ∷ [])) in
+      let zero : last_of 0 (seconds_text i) ≡ 48 = rw e (last_of-append 0 prefix (46 ∷ (back ++ 48 ∷ [])) ∙ last_of-append 46 back (48 ∷ [])) in
       last_digit 46 (nine_digits (unsigned_abs i % second_nanos)) (not_zeros _ some (omega arith)) (sym ends ∙ zero)
 ]
 

@@ -37,5 +37,5 @@ pub record ShowsDay (day time : ℕ) : Type 0 where
 
 -- a text with no zero at the end of a fraction, and no negative zero
 pub record IsTidy (text : List ℕ) : Type 0 where
-  pub no_zero_at_end : (front back : List ℕ) → ¬ (text ≡ front ++ dot ∷ (back ++ digit_zero ∷ []))
+  pub no_zero_at_end : (prefix back : List ℕ) → ¬ (text ≡ prefix ++ dot ∷ (back ++ digit_zero ∷ []))
   pub no_negative_zero : ¬ (text ≡ codes "-0")

@@ -124,7 +124,7 @@ fn are_one(utc: OffsetDateTime, same: OffsetDateTime) -> [bool; 5] {
     ]
 }
 
-// Half past midnight of a new year in UTC, an hour behind.
+// Half past midnight of a new year in UTC, an hour after.
 fn new_year() -> [bool; 5] {
     let new_year = date_of(2021, Month::January, 1);
     let eve = date_of(2020, Month::December, 31);

@@ -1,4 +1,4 @@
--- One description behind another, and a fault behind a description.
+-- One description after another, and a fault after a description.
 use Rattle.std.proofs.Common.{◌≡◌, ℕ, ◌<◌, List, [], ◌∷◌, ◌++◌, length, true, false, refl, sym, ap, subst, ◌∙◌, append_assoc, arith, inl, inr, ◌⊎◌, ◌+◌}
 use Rattle.std.specs.Prelude.{◌==◌, ◌||◌, not}
 use Rattle.std.proofs.lemmas.List.{length-append, append-nil}
@@ -13,14 +13,14 @@ use Rattle.description_grammar.specs.Spelling.{SpellsItem, Spells, SpellsItems}
 use Rattle.description.specs.Laws.{EndsIn, IsFirm, AreApart, Joins}
 use Rattle.description_grammar.proofs.Runs.{which, each_append}
 use Rattle.description_grammar.proofs.TextsSound.{text_some}
-use Rattle.description_grammar.proofs.Items.{item_front}
+use Rattle.description_grammar.proofs.Items.{item_prefix}
 use Rattle.description_grammar.proofs.ItemsComplete.{item_more, unlisted, listed_again}
 use Rattle.description_lexer.specs.Fault.{Fault}
 use Rattle.description_lexer.specs.Further.{further}
 use Rattle.description_grammar.specs.Faulty.{Faulty}
 use Rattle.description_grammar.proofs.Places.{further_twice}
 
--- ---- what stands behind an item
+-- ---- what stands after an item
 
 item_some : (v : DescriptionVersion) (own more : List ℕ) (t : Tree) → SpellsItem v false 127 own more t → 0 < length own
 item_some v own more (Literal bytes) h = text_some v false own more bytes h
@@ -29,7 +29,7 @@ item_some v own more (Optional f t) (three, written, h) = omega (arith, ap (leng
 item_some v own more (First ts) (three, h) = omega (arith, ap (length {A = ℕ}) h.parts, length-append h.opening (h.inside ++ right_bracket ∷ []), length-append h.inside (right_bracket ∷ []))
 item_some v own more (Compound ts) h = absurd h
 
--- a byte behind an item stays there, whatever follows it
+-- a byte after an item stays there, whatever follows it
 item_longer : (v : DescriptionVersion) (own more tail : List ℕ) (t : Tree) → 0 < length more → SpellsItem v false 127 own more t → SpellsItem v false 127 own (more ++ tail) t
 item_longer v own [] tail t some h = absurd (omega arith)
 item_longer v own (b ∷ bs) tail (Literal []) some (inl h) = absurd h.1
@@ -118,7 +118,7 @@ last_item v s t own more x ts parts ended one others = by_kind (firm_or_literal 
     alone = subst (λ (m : List ℕ). SpellsItem v false 127 own m x) ended one
 
     ends : EndsIn v s (x ∷ []) own x
-    ends = record { front = []; items = []; parts = is_own; trees = refl; is_front = refl }
+    ends = record { prefix = []; items = []; parts = is_own; trees = refl; is_prefix = refl }
 
     goes_on : (bytes : List ℕ) (t : List ℕ) → x ≡ Literal bytes → own ≡ bytes → SpellsLiteral v false bytes [] → s ++ t ≡ own ++ t → Spells v t ts → Joins v s t (x ∷ []) ts
     goes_on bytes [] is_x is_bytes literal all h = inl (inl tt, (own, [], all, alone, h))
@@ -129,7 +129,7 @@ last_item v s t own more x ts parts ended one others = by_kind (firm_or_literal 
         by_plain (inl plain) =
             let n : BeginsLiteral v (b ∷ bs) ts = begins_literal v b bs ts plain h in
             let same : Literal bytes ≡ x = sym is_x in
-            let end_literal : EndsIn v s (x ∷ []) bytes (Literal bytes) = record { front = []; items = []; parts = is_own ∙ is_bytes; trees = ap (λ (y : Tree). y ∷ []) is_x; is_front = refl } in
+            let end_literal : EndsIn v s (x ∷ []) bytes (Literal bytes) = record { prefix = []; items = []; parts = is_own ∙ is_bytes; trees = ap (λ (y : Tree). y ∷ []) is_x; is_prefix = refl } in
             let text : s ++ b ∷ bs ≡ (bytes ++ n.bytes) ++ n.more = all ∙ ap (λ (o : List ℕ). o ++ b ∷ bs) is_bytes ∙ ap (λ (r : List ℕ). bytes ++ r) n.parts ∙ sym (append_assoc bytes n.bytes n.more) in
             inr (record {
               bytes = bytes;
@@ -152,11 +152,11 @@ last_item v s t own more x ts parts ended one others = by_kind (firm_or_literal 
 -- an item before the last one changes nothing
 ends_later : (v : DescriptionVersion) (s own more last : List ℕ) (x : Tree) (xs : List Tree) (y : Tree) → s ≡ own ++ more → SpellsItem v false 127 own more x → EndsIn v more xs last y → EndsIn v s (x ∷ xs) last y
 ends_later v s own more last x xs y parts one e = record {
-  front = own ++ e.front;
+  prefix = own ++ e.prefix;
   items = x ∷ e.items;
-  parts = parts ∙ ap (λ (m : List ℕ). own ++ m) e.parts ∙ sym (append_assoc own e.front last);
+  parts = parts ∙ ap (λ (m : List ℕ). own ++ m) e.parts ∙ sym (append_assoc own e.prefix last);
   trees = ap (λ (ts : List Tree). x ∷ ts) e.trees;
-  is_front = (own, e.front, refl, item_front v false 127 own e.front last x (subst (λ (m : List ℕ). SpellsItem v false 127 own m x) e.parts one), e.is_front);
+  is_prefix = (own, e.prefix, refl, item_prefix v false 127 own e.prefix last x (subst (λ (m : List ℕ). SpellsItem v false 127 own m x) e.parts one), e.is_prefix);
 }
 
 one_before : (v : DescriptionVersion) (s t own more : List ℕ) (x : Tree) (xs ts : List Tree) → s ≡ own ++ more → 0 < length more → SpellsItem v false 127 own more x → Joins v more t xs ts → Joins v s t (x ∷ xs) ts
@@ -195,17 +195,17 @@ joins_spelled : (v : DescriptionVersion) (s t : List ℕ) (ss ts : List Tree) �
 joins_spelled v s t ss ts (inl h) = (ss ++ ts, h.1)
 joins_spelled v s t ss ts (inr g) = (_, g.joined)
 
-pub fault_behind : (v : DescriptionVersion) (s t : List ℕ) (ss : List Tree) (e : Fault) → Spells v s ss → Faulty v t e → Faulty v (s ++ t) (further (length s) e)
-fault_behind v s t ss e h f =
-    let front : Spells v f.front (unlisted f.items) = subst (λ (ts : Trees). SpellsItems v false 127 f.front ts) (sym (listed_again f.items)) f.is_front in
-    let all = joins_spelled v s f.front ss (unlisted f.items) (joined_texts v s f.front ss (unlisted f.items) h front) in
+pub fault_after : (v : DescriptionVersion) (s t : List ℕ) (ss : List Tree) (e : Fault) → Spells v s ss → Faulty v t e → Faulty v (s ++ t) (further (length s) e)
+fault_after v s t ss e h f =
+    let prefix : Spells v f.prefix (unlisted f.items) = subst (λ (ts : Trees). SpellsItems v false 127 f.prefix ts) (sym (listed_again f.items)) f.is_prefix in
+    let all = joins_spelled v s f.prefix ss (unlisted f.items) (joined_texts v s f.prefix ss (unlisted f.items) h prefix) in
     let own : Fault = f.is_bad.0 in
-    let place : length s + length f.front ≡ length (s ++ f.front) = omega (arith, length-append s f.front) in
+    let place : length s + length f.prefix ≡ length (s ++ f.prefix) = omega (arith, length-append s f.prefix) in
     record {
       items = listed all.0;
-      front = s ++ f.front;
+      prefix = s ++ f.prefix;
       bad = f.bad;
-      parts = ap (λ (x : List ℕ). s ++ x) f.parts ∙ sym (append_assoc s f.front f.bad);
-      is_front = all.1;
-      is_bad = (own, f.is_bad.1, ap (further (length s)) f.is_bad.2 ∙ further_twice (length s) (length f.front) own ∙ ap (λ (n : ℕ). further n own) place);
+      parts = ap (λ (x : List ℕ). s ++ x) f.parts ∙ sym (append_assoc s f.prefix f.bad);
+      is_prefix = all.1;
+      is_bad = (own, f.is_bad.1, ap (further (length s)) f.is_bad.2 ∙ further_twice (length s) (length f.prefix) own ∙ ap (λ (n : ℕ). further n own) place);
     }

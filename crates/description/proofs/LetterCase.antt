@@ -46,21 +46,21 @@ modifier_alike v at to own other m h s a =
     let c : CutAlike s.blank (m.key.text ++ colon ∷ m.value.text) other = cut_alike s.blank (m.key.text ++ colon ∷ m.value.text) other (subst (λ (t : List ℕ). Alike t other) s.parts a) in
     let k : CutAlike m.key.text (colon ∷ m.value.text) c.back = cut_alike m.key.text (colon ∷ m.value.text) c.back c.is_back in
     let value = alike_byte colon m.value.text k.back no_colon_letter k.is_back in
-    let there : Modifier = record { key = at_index (to + length c.front) k.front; value = at_index (to + length c.front + length k.front + 1) value.0 } in
+    let there : Modifier = record { key = at_index (to + length c.prefix) k.prefix; value = at_index (to + length c.prefix + length k.prefix + 1) value.0 } in
     record {
       other = there;
       spells = record {
-        blank = c.front;
-        parts = c.parts ∙ ap (λ (t : List ℕ). c.front ++ t) (k.parts ∙ ap (λ (t : List ℕ). k.front ++ t) value.1);
-        is_space = alike_each is_space space_agrees s.blank c.front c.is_front s.is_space;
-        some_space = omega (arith, alike_length s.blank c.front c.is_front, s.some_space);
-        is_key = alike_word m.key.text k.front k.is_front s.is_key;
-        no_colon = alike_each is_no_colon colon_agrees m.key.text k.front k.is_front s.no_colon;
+        blank = c.prefix;
+        parts = c.parts ∙ ap (λ (t : List ℕ). c.prefix ++ t) (k.parts ∙ ap (λ (t : List ℕ). k.prefix ++ t) value.1);
+        is_space = alike_each is_space space_agrees s.blank c.prefix c.is_prefix s.is_space;
+        some_space = omega (arith, alike_length s.blank c.prefix c.is_prefix, s.some_space);
+        is_key = alike_word m.key.text k.prefix k.is_prefix s.is_key;
+        no_colon = alike_each is_no_colon colon_agrees m.key.text k.prefix k.is_prefix s.no_colon;
         is_value = alike_word m.value.text value.0 value.2 s.is_value;
         key_at = refl;
         value_at = refl;
       };
-      alike = record { key = key_cased v m.key.text k.front h (lower_same m.key.text k.front k.is_front); value = value_cased v m.value.text value.0 h value.2; bad_key = tt; bad_value = tt; twice = tt; idle = λ x. tt };
+      alike = record { key = key_cased v m.key.text k.prefix h (lower_same m.key.text k.prefix k.is_prefix); value = value_cased v m.value.text value.0 h value.2; bad_key = tt; bad_value = tt; twice = tt; idle = λ x. tt };
     }
 
 record ModifiersAlike (v : DescriptionVersion) (at : ℕ) (own : List ℕ) (ms : List Modifier) : Type 0 where
@@ -72,9 +72,9 @@ modifiers_alike : (v : DescriptionVersion) (ms : List Modifier) (at to : ℕ) (o
 modifiers_alike v [] at to own other h e a = record { others = []; spells = alike_nothing other (subst (λ (t : List ℕ). Alike t other) e a); alike = tt }
 modifiers_alike v (m ∷ ms) at to own other h (first, rest, parts, one, more) a =
     let c : CutAlike first rest other = cut_alike first rest other (subst (λ (t : List ℕ). Alike t other) parts a) in
-    let here : ModifierAlike v to c.front m = modifier_alike v at to first c.front m h one c.is_front in
-    let later : ModifiersAlike v (to + length c.front) c.back ms = modifiers_alike v ms (at + length first) (to + length c.front) rest c.back h more c.is_back in
-    record { others = here.other ∷ later.others; spells = (c.front, c.back, c.parts, here.spells, later.spells); alike = (here.alike, later.alike) }
+    let here : ModifierAlike v to c.prefix m = modifier_alike v at to first c.prefix m h one c.is_prefix in
+    let later : ModifiersAlike v (to + length c.prefix) c.back ms = modifiers_alike v ms (at + length first) (to + length c.prefix) rest c.back h more c.is_back in
+    record { others = here.other ∷ later.others; spells = (c.prefix, c.back, c.parts, here.spells, later.spells); alike = (here.alike, later.alike) }
 
 -- ---- the component
 
@@ -84,31 +84,31 @@ component_alike v own other c h a s =
     let whole : CutAlike s.head (right_bracket ∷ []) other = cut_alike s.head (right_bracket ∷ []) other (subst (λ (t : List ℕ). Alike t other) s.parts a) in
     let close = alike_byte right_bracket [] whole.back no_close whole.is_back in
     let back_is : whole.back ≡ right_bracket ∷ [] = close.1 ∙ ap (λ (t : List ℕ). right_bracket ∷ t) (alike_nothing close.0 close.2) in
-    let inside = alike_byte left_bracket (g.first ++ (s.name.text ++ (g.middle ++ g.last))) whole.front no_open (subst (λ (t : List ℕ). Alike t whole.front) g.parts whole.is_front) in
+    let inside = alike_byte left_bracket (g.first ++ (s.name.text ++ (g.middle ++ g.last))) whole.prefix no_open (subst (λ (t : List ℕ). Alike t whole.prefix) g.parts whole.is_prefix) in
     let first : CutAlike g.first (s.name.text ++ (g.middle ++ g.last)) inside.0 = cut_alike g.first (s.name.text ++ (g.middle ++ g.last)) inside.0 inside.2 in
     let name : CutAlike s.name.text (g.middle ++ g.last) first.back = cut_alike s.name.text (g.middle ++ g.last) first.back first.is_back in
     let middle : CutAlike g.middle g.last name.back = cut_alike g.middle g.last name.back name.is_back in
-    let same = lower_same s.name.text name.front name.is_front in
-    let words : ModifiersAlike v (0 + 1 + length first.front + length name.front) middle.front s.modifiers = modifiers_alike v s.modifiers (0 + 1 + length g.first + length s.name.text) (0 + 1 + length first.front + length name.front) g.middle middle.front h g.modifiers middle.is_front in
-    let there : Rest = at_index (0 + 1 + length first.front) name.front in
+    let same = lower_same s.name.text name.prefix name.is_prefix in
+    let words : ModifiersAlike v (0 + 1 + length first.prefix + length name.prefix) middle.prefix s.modifiers = modifiers_alike v s.modifiers (0 + 1 + length g.first + length s.name.text) (0 + 1 + length first.prefix + length name.prefix) g.middle middle.prefix h g.modifiers middle.is_prefix in
+    let there : Rest = at_index (0 + 1 + length first.prefix) name.prefix in
     record {
-      head = whole.front;
+      head = whole.prefix;
       name = there;
       modifiers = words.others;
-      parts = whole.parts ∙ ap (λ (t : List ℕ). whole.front ++ t) back_is;
+      parts = whole.parts ∙ ap (λ (t : List ℕ). whole.prefix ++ t) back_is;
       is_head = record {
-        first = first.front;
-        middle = middle.front;
+        first = first.prefix;
+        middle = middle.prefix;
         last = middle.back;
-        parts = inside.1 ∙ ap (λ (t : List ℕ). left_bracket ∷ t) (first.parts ∙ ap (λ (t : List ℕ). first.front ++ t) (name.parts ∙ ap (λ (t : List ℕ). name.front ++ t) middle.parts));
-        is_first = alike_each is_space space_agrees g.first first.front first.is_front g.is_first;
-        is_name = alike_word s.name.text name.front name.is_front g.is_name;
-        no_nesting = sym (nesting_cased v s.name.text name.front h same) ∙ g.no_nesting;
+        parts = inside.1 ∙ ap (λ (t : List ℕ). left_bracket ∷ t) (first.parts ∙ ap (λ (t : List ℕ). first.prefix ++ t) (name.parts ∙ ap (λ (t : List ℕ). name.prefix ++ t) middle.parts));
+        is_first = alike_each is_space space_agrees g.first first.prefix first.is_prefix g.is_first;
+        is_name = alike_word s.name.text name.prefix name.is_prefix g.is_name;
+        no_nesting = sym (nesting_cased v s.name.text name.prefix h same) ∙ g.no_nesting;
         name_at = refl;
         modifiers = words.spells;
         is_last = alike_each is_space space_agrees g.last middle.back middle.is_back g.is_last;
       };
-      means = (component_agrees v s.name there s.modifiers words.others (name_cased v s.name.text name.front h same) tt tt words.alike).ok c s.means;
+      means = (component_agrees v s.name there s.modifiers words.others (name_cased v s.name.text name.prefix h same) tt tt words.alike).ok c s.means;
     }
 
 pub component_cased : (v : DescriptionVersion) (own other : List ℕ) (c : Component) → is_three v ≡ false → str_eq_ignore_ascii_case own other ≡ true → SpellsComponent v own c → SpellsComponent v other c
@@ -116,9 +116,9 @@ component_cased v own other c h e s = component_alike v own other c h (alike_fro
 
 -- ---- the text round it
 
-append_spelled : (v : DescriptionVersion) (front tail : List ℕ) (as_items ts : List Tree) → Stops (is_plain v) tail → Spells v front as_items → Spells v tail ts → Spells v (front ++ tail) (as_items ++ ts)
-append_spelled v front tail [] ts stops e h = subst (λ (t : List ℕ). Spells v (t ++ tail) ts) (sym e) h
-append_spelled v front tail (t ∷ items) ts stops (own, more, parts, one, others) h =
+append_spelled : (v : DescriptionVersion) (prefix tail : List ℕ) (as_items ts : List Tree) → Stops (is_plain v) tail → Spells v prefix as_items → Spells v tail ts → Spells v (prefix ++ tail) (as_items ++ ts)
+append_spelled v prefix tail [] ts stops e h = subst (λ (t : List ℕ). Spells v (t ++ tail) ts) (sym e) h
+append_spelled v prefix tail (t ∷ items) ts stops (own, more, parts, one, others) h =
     (own, more ++ tail, ap (λ (x : List ℕ). x ++ tail) parts ∙ append_assoc own more tail, item_more v false 127 own more tail t stops one, append_spelled v more tail items ts stops others h)
 
 -- a component's bracket ends a literal
@@ -130,9 +130,9 @@ bracket_first v own back c h = subst (λ (t : List ℕ). Stops (is_plain v) (t +
     plain Two = refl
     plain Three = refl
 
-pub text_cased : (v : DescriptionVersion) (front own other back : List ℕ) (before behind : List Tree) (c : Component) → is_three v ≡ false → str_eq_ignore_ascii_case own other ≡ true → Spells v front before → SpellsComponent v own c → Spells v back behind
-    → Spells v (front ++ (own ++ back)) (before ++ Part c ∷ behind) × Spells v (front ++ (other ++ back)) (before ++ Part c ∷ behind)
-text_cased v front own other back before behind c h e f s b = (around own s, around other (component_cased v own other c h e s))
+pub text_cased : (v : DescriptionVersion) (prefix own other back : List ℕ) (before after : List Tree) (c : Component) → is_three v ≡ false → str_eq_ignore_ascii_case own other ≡ true → Spells v prefix before → SpellsComponent v own c → Spells v back after
+    → Spells v (prefix ++ (own ++ back)) (before ++ Part c ∷ after) × Spells v (prefix ++ (other ++ back)) (before ++ Part c ∷ after)
+text_cased v prefix own other back before after c h e f s b = (around own s, around other (component_cased v own other c h e s))
   where
-    around : (text : List ℕ) → SpellsComponent v text c → Spells v (front ++ (text ++ back)) (before ++ Part c ∷ behind)
-    around text one = append_spelled v front (text ++ back) before (Part c ∷ behind) (bracket_first v text back c one) f (text, back, refl, one, b)
+    around : (text : List ℕ) → SpellsComponent v text c → Spells v (prefix ++ (text ++ back)) (before ++ Part c ∷ after)
+    around text one = append_spelled v prefix (text ++ back) before (Part c ∷ after) (bracket_first v text back c one) f (text, back, refl, one, b)

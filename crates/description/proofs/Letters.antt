@@ -120,18 +120,18 @@ alike_word xs ys h word = (omega (arith, alike_length xs ys h, word.0), alike_ea
 
 -- cut where the other text is cut
 pub record CutAlike (xs ys zs : List ℕ) : Type 0 where
-  pub front : List ℕ
+  pub prefix : List ℕ
   pub back : List ℕ
-  pub parts : zs ≡ front ++ back
-  pub is_front : Alike xs front
+  pub parts : zs ≡ prefix ++ back
+  pub is_prefix : Alike xs prefix
   pub is_back : Alike ys back
 
 pub cut_alike : (xs ys zs : List ℕ) → Alike (xs ++ ys) zs → CutAlike xs ys zs
-cut_alike [] ys zs h = record { front = []; back = zs; parts = refl; is_front = tt; is_back = h }
+cut_alike [] ys zs h = record { prefix = []; back = zs; parts = refl; is_prefix = tt; is_back = h }
 cut_alike (x ∷ xs) ys [] h = absurd h
 cut_alike (x ∷ xs) ys (z ∷ zs) h =
     let c : CutAlike xs ys zs = cut_alike xs ys zs h.1 in
-    record { front = z ∷ c.front; back = c.back; parts = ap (λ (t : List ℕ). z ∷ t) c.parts; is_front = (h.0, c.is_front); is_back = c.is_back }
+    record { prefix = z ∷ c.prefix; back = c.back; parts = ap (λ (t : List ℕ). z ∷ t) c.parts; is_prefix = (h.0, c.is_prefix); is_back = c.is_back }
 
 -- a byte that is no letter stays
 pub alike_byte : (b : ℕ) (bs zs : List ℕ) → (IsLetter b → ⊥) → Alike (b ∷ bs) zs → (cs : List ℕ) × (zs ≡ b ∷ cs) × Alike bs cs

@@ -8,13 +8,13 @@ use Rattle.description_grammar.specs.Spelling.{SpellsItem, Spells}
 
 -- the last item of a text, and the items before it
 pub record EndsIn (v : DescriptionVersion) (text : List ℕ) (ts : List Tree) (last : List ℕ) (t : Tree) : Type 0 where
-  pub front : List ℕ
+  pub prefix : List ℕ
   pub items : List Tree
-  pub parts : text ≡ front ++ last
+  pub parts : text ≡ prefix ++ last
   pub trees : ts ≡ items ++ t ∷ []
-  pub is_front : Spells v front items
+  pub is_prefix : Spells v prefix items
 
--- an item that ends where it does, whatever stands behind it
+-- an item that ends where it does, whatever stands after it
 abbrev pub IsFirm : DescriptionVersion → List ℕ → Tree → Type 0
 IsFirm v own t = (more : List ℕ) → SpellsItem v false 127 own more t
 
@@ -36,7 +36,7 @@ pub record GoesOn (v : DescriptionVersion) (s t : List ℕ) (ss ts : List Tree) 
   pub trees : ts ≡ Literal more ∷ back
   pub joined : Spells v (s ++ t) (ends.items ++ Literal (bytes ++ more) ∷ back)
 
--- one text behind another has the items of both, save that a literal may go on
+-- one text after another has the items of both, save that a literal may go on
 abbrev pub Joins : DescriptionVersion → List ℕ → List ℕ → List Tree → List Tree → Type 0
 Joins v s t ss ts = (AreApart v s t ss × Spells v (s ++ t) (ss ++ ts)) ⊎ GoesOn v s t ss ts
 

@@ -20,7 +20,7 @@ use std::alloc::Global;
 
 /// The items of a description of version 1.
 ///
-/// A component stands in brackets, with its modifiers behind its name, as in
+/// A component stands in brackets, with its modifiers after its name, as in
 /// `[year repr:last_two]`; two opening brackets are one bracket, and all else stands for itself.
 /// The error says what is wrong with the text, and at which byte of it, or that memory ran out.
 pub fn parse<'a>(
@@ -61,7 +61,7 @@ pub fn parse_borrowed<'a>(
     read(alloc, version, s)
 }
 
-// The same, as what is read.
+// What is read of a text, with the bytes that it reserves.
 fn read<'a>(
     alloc: Global,
     version: DescriptionVersion,

@@ -31,16 +31,16 @@ pub fn same_trees()
     ensures exactly { (one other : Tree) → (same_tree one other ≡ true) ↔ (one ≡ other) }
 {}
 
-/// A description behind another one is a description. It has the items of both, save that a literal
+/// A description after another one is a description. It has the items of both, save that a literal
 /// that ends the first and one that begins the second are one literal.
 pub fn joined()
     ensures { (version : DescriptionVersion) (s t : List ℕ) (ss ts : List Tree)
         → Spells version s ss → Spells version t ts → Joins version s t ss ts }
 {}
 
-/// A text with a fault behind one that spells items has that fault, as many bytes further on as the
+/// A text with a fault after one that spells items has that fault, as many bytes further on as the
 /// first text is long.
-pub fn faults_behind()
+pub fn faults_after()
     ensures { (version : DescriptionVersion) (s t : List ℕ) (items : List Tree) (fault : Fault)
         → Spells version s items → Faulty version t fault → Faulty version (s ++ t)
         (further (length s) fault) }
@@ -74,10 +74,10 @@ pub fn letter_case()
     ensures component { (version : DescriptionVersion)
         (own other : List ℕ) (c : Component) → is_three version ≡ false → str_eq_ignore_ascii_case
         own other ≡ true → SpellsComponent version own c → SpellsComponent version other c }
-    ensures text { (version : DescriptionVersion) (front own other back : List ℕ)
-        (before behind : List Tree) (c : Component)
+    ensures text { (version : DescriptionVersion) (prefix own other back : List ℕ)
+        (before after : List Tree) (c : Component)
         → is_three version ≡ false → str_eq_ignore_ascii_case own other ≡ true
-        → Spells version front before → SpellsComponent version own c → Spells version back behind
-        → Spells version (front ++ (own ++ back)) (before ++ Part c ∷ behind)
-        × Spells version (front ++ (other ++ back)) (before ++ Part c ∷ behind) }
+        → Spells version prefix before → SpellsComponent version own c → Spells version back after
+        → Spells version (prefix ++ (own ++ back)) (before ++ Part c ∷ after)
+        × Spells version (prefix ++ (other ++ back)) (before ++ Part c ∷ after) }
 {}

@@ -15,7 +15,7 @@
 //!   `parse_strftime_borrowed` the letters of strftime. What they give borrows the text.
 //! - `BorrowedFormatItem` is one item: a text, or a `Component` with its values of `modifier`. Version 3 gives a
 //!   tree, `FormatDescriptionV3`, in which items may be missing or be alternatives.
-//! - What is refused is refused as `DescriptionFault`: the text's first fault, or want of memory. The fault is an
+//! - What is refused is refused as `DescriptionFault`: the text's first fault, or lack of memory. The fault is an
 //!   `InvalidFormatDescription`, with the index of its byte; its `Display` is a sentence.
 //! - `Rfc2822`, `Rfc3339` and `Iso8601` name formats that need no description.
 //! - `laws` and `strftime_laws` have what follows from the contracts. A call of a law hands it to a proof.

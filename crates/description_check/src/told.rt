@@ -77,17 +77,17 @@ pub fn show_fault(
     fault: InvalidFormatDescription<'_>,
 ) -> io::Result<()> {
     // An index from outside may be past the end, or within a character: `split_at_checked` tests it.
-    let Some((front, back)) = text.split_at_checked(index(fault)) else {
+    let Some((prefix, back)) = text.split_at_checked(index(fault)) else {
         return println!(rt; "{fault}");
     };
-    let before = front.rsplit('\n').next().unwrap_or(front);
+    let before = prefix.rsplit('\n').next().unwrap_or(prefix);
     let after = back.split('\n').next().unwrap_or(back);
     println!(rt; "{before}{after}")?;
     show_caret(rt, before)?;
     println!(rt; "{fault}")
 }
 
-// Writes a caret behind as much space as a text takes.
+// Writes a caret after as much space as a text takes.
 fn show_caret(rt: &impl Print, before: &str) -> io::Result<()> {
     for letter in before.chars() {
         print!(rt; "{}", if letter == '\t' { '\t' } else { ' ' })?;

@@ -110,7 +110,7 @@ impl Default for YearRepr {
 pub enum YearRange {
     /// Years of four digits, within ±9999, and centuries within ±99.
     Standard,
-    /// Years of up to six digits behind a sign, within ±999999, and centuries within ±9999.
+    /// Years of up to six digits after a sign, within ±999999, and centuries within ±9999.
     Extended,
 }
 

@@ -14,13 +14,13 @@ use Rattle.description_lexer.proofs.Readings.{bind_ok, ok_is, made_err, failed}
 use Rattle.description_tables.specs.Component.{component_of}
 use Rattle.description_grammar.specs.Reading.{component_from}
 use Rattle.description_grammar.specs.Heads.{Each, Stops, IsWord, SpellsModifiers, is_nesting, SpellsHead, SpellsComponent}
-use Rattle.description_grammar.specs.Faulty.{Behind, BadWord, missing_at, IsSingle, LacksName, HasBadWord, IsUnclosed, MeansNothing}
+use Rattle.description_grammar.specs.Faulty.{After, BadWord, missing_at, IsSingle, LacksName, HasBadWord, IsUnclosed, MeansNothing}
 use Rattle.description_grammar.proofs.Results.{not_zero}
 use Rattle.description_grammar.proofs.ValueOrFault.{Reads, gives, refuses, either, in_turn}
 use Rattle.description_grammar.proofs.Runs.{each_run, stops_past, stops_from_none, cut_run, past_index, Takes, takes_then, takes_run, begins_cons, closed_reads, at_index, same_index, run_again, past_is, closed_again}
-use Rattle.description_grammar.proofs.Modifiers.{none_there, some_there, TakesModifiers, Refuses, modifiers_read, behind_space, no_word_there, modifiers_again, bad_modifiers_again}
+use Rattle.description_grammar.proofs.Modifiers.{none_there, some_there, TakesModifiers, Refuses, modifiers_read, after_space, no_word_there, modifiers_again, bad_modifiers_again}
 use Rattle.description_grammar.proofs.Meaning.{head_elsewhere}
-use Rattle.description_grammar.proofs.Places.{at_first, behind_both, further_back}
+use Rattle.description_grammar.proofs.Places.{at_first, after_both, further_back}
 use Rattle.std.proofs.lemmas.Bool.Decides.{nat_tests}
 use Rattle.std.proofs.lemmas.Bool.{cond-false}
 use Rattle.description_lexer.specs.Further.{further}
@@ -35,7 +35,7 @@ pub record TakesName (s : Rest) (name : Rest) (rest : Rest) : Type 0 where
   pub name_at : name.index ≡ s.index + length first
   pub no_word : Stops is_word_byte rest.text
 
-pub name_reads : (v : DescriptionVersion) (s : Rest) → begins left_bracket s.text ≡ true → IsSingle v (after 1 s).text → Reads (λ (x : Rest × Rest). TakesName (after 1 s) x.0 x.1) (Behind s.index (LacksName v s.text)) (name_at s.index (after 1 s))
+pub name_reads : (v : DescriptionVersion) (s : Rest) → begins left_bracket s.text ≡ true → IsSingle v (after 1 s).text → Reads (λ (x : Rest × Rest). TakesName (after 1 s) x.0 x.1) (After s.index (LacksName v s.text)) (name_at s.index (after 1 s))
 unfolding name_at
 name_reads v s opens single = either _ _ _ (
     λ h. gives _ (record {
@@ -121,15 +121,15 @@ abbrev pub BadComponent : DescriptionVersion → List ℕ → Fault → Type 0
 BadComponent v text e = HasBadWord v text e ⊎ IsUnclosed v text e ⊎ MeansNothing v text e
 
 pub component_reads : (v : DescriptionVersion) (s name next : Rest) → begins left_bracket s.text ≡ true → TakesName (after 1 s) name next → is_nesting v name.text ≡ false
-    → Reads (λ (x : Component × Rest). TakesComponent v s x.0 x.1) (Behind s.index (BadComponent v s.text)) (component_from v s.index name next)
+    → Reads (λ (x : Component × Rest). TakesComponent v s x.0 x.1) (After s.index (BadComponent v s.text)) (component_from v s.index name next)
 unfolding component_from
-component_reads v s name next opens n no_nesting = in_turn _ _ (modifiers_read next n.no_word) bad_word behind
+component_reads v s name next opens n no_nesting = in_turn _ _ (modifiers_read next n.no_word) bad_word after
   where
-    bad_word : (e : Fault) → Refuses next e → Behind s.index (BadComponent v s.text) e
+    bad_word : (e : Fault) → Refuses next e → After s.index (BadComponent v s.text) e
     bad_word e r =
         let g : MakesHead v s name next r.own r.last r.ms = head_of v s name next r.own r.last r.ms opens n no_nesting r.spells r.is_last in
         let h = head_elsewhere v s.index 0 g.head name r.ms g.is_head in
-        let b = behind_both s.index (length g.head) (next.index + length r.own + length r.last) (BadWord r.word) e (sym g.place) r.bad in (
+        let b = after_both s.index (length g.head) (next.index + length r.own + length r.last) (BadWord r.word) e (sym g.place) r.bad in (
           b.0,
           inl (record {
             head = g.head;
@@ -147,8 +147,8 @@ component_reads v s name next opens n no_nesting = in_turn _ _ (modifiers_read n
           b.2,
         )
 
-    behind : (m : List Modifier × Rest) → TakesModifiers next m.0 m.1 → Reads (λ (x : Component × Rest). TakesComponent v s x.0 x.1) (Behind s.index (BadComponent v s.text)) (closed_at s.index m.1 >>= λ rest. component_of v name m.0 >>= λ component. Ok (component, rest))
-    behind m ms =
+    after : (m : List Modifier × Rest) → TakesModifiers next m.0 m.1 → Reads (λ (x : Component × Rest). TakesComponent v s x.0 x.1) (After s.index (BadComponent v s.text)) (closed_at s.index m.1 >>= λ rest. component_of v name m.0 >>= λ component. Ok (component, rest))
+    after m ms =
         let g : MakesHead v s name next ms.own ms.last m.0 = head_of v s name next ms.own ms.last m.0 opens n no_nesting ms.spells ms.is_last in
         let split : next.text ≡ ms.own ++ (ms.last ++ m.1.text) = ms.takes.parts ∙ append_assoc ms.own ms.last m.1.text in
         let whole : Takes s g.head m.1 = record { parts = g.parts m.1.text split; index = omega (arith, g.place, ms.takes.index, length-append ms.own ms.last) } in
@@ -192,8 +192,8 @@ pub name_again : (bracket at : ℕ) (first : List ℕ) (name : Rest) (rest : Lis
     → name_at bracket (at_index at (first ++ (name.text ++ rest))) ≡ Ok (name, at_index (at + length first + length name.text) rest)
 unfolding name_at
 name_again bracket at first name rest is_first is_name placed stops =
-    let b = behind_space at first name.text rest is_first is_name stops in
-    rw b.there (pair (b.the_word ∙ same_index _ _ name.text (sym placed)) b.behind)
+    let b = after_space at first name.text rest is_first is_name stops in
+    rw b.there (pair (b.the_word ∙ same_index _ _ name.text (sym placed)) b.after)
   where
     pair : {a b c d : Rest} → a ≡ c → b ≡ d → ok_pair a b ≡ ok_pair c d
     pair {a} {b} {c} {d} e f = ap (λ (a : Rest). ok_pair a b) e ∙ ap (λ (b : Rest). ok_pair c b) f

@@ -20,9 +20,9 @@ use Rattle.description_lexer.proofs.Steps.{steps_many, steps_failing}
 use Rattle.description_grammar.specs.Reading.{doubled_at, component_from, unsupported_at, no_bracket, bracket_at, element_at, is_end, nested_at, read_items}
 use Rattle.description_grammar.specs.Heads.{Stops, SpellsHead}
 use Rattle.description_grammar.specs.Spelling.{SpellsItems, SpellsAlternatives}
-use Rattle.description_grammar.specs.Faulty.{Behind, Wrong, IsSingle, LacksName, HasBadWord, IsUnclosed, MeansNothing, BadEscape, BadNesting, IsOne, AreSome, IsNothing, AreBefore, BadItem, FaultyItems, FaultyNested, Faulty}
+use Rattle.description_grammar.specs.Faulty.{After, Wrong, IsSingle, LacksName, HasBadWord, IsUnclosed, MeansNothing, BadEscape, BadNesting, IsOne, AreSome, IsNothing, AreBefore, BadItem, FaultyItems, FaultyNested, Faulty}
 use Rattle.description_grammar.proofs.Results.{not_zero}
-use Rattle.description_grammar.proofs.Places.{at_once, behind_further, further_none, further_on}
+use Rattle.description_grammar.proofs.Places.{at_once, after_further, further_none, further_on}
 use Rattle.description_grammar.proofs.Runs.{at_index, word_stops, space_first, stops_91}
 use Rattle.description_grammar.proofs.Meaning.{head_elsewhere}
 use Rattle.description_grammar.proofs.TextsSound.{RefusesText, bad_escape_again}
@@ -79,7 +79,7 @@ lacks_name_refuses v levels i text e h =
     let name = ap (λ (t : List ℕ). name_at i (after 1 (at_index i t))) h.parts ∙ no_name_again i h.blank h.rest h.spaces h.no_space h.no_word in
     opened_refuses v levels i text e opens (rw (lacking_single v i text (h.blank ++ h.rest) h.parts h.single, opens) (ap (λ (r : Result (Rest × Rest) Fault). r >>= named_item v (nested_at v levels) i) name ∙ rw h.fault_is refl))
 
--- a head, and what is refused behind it
+-- a head, and what is refused after it
 head_refuses : (v : DescriptionVersion) (levels i : ℕ) (text head tail : List ℕ) (name : Rest) (ms : List Modifier) (e : Fault) (h : SpellsHead v i head name ms) → text ≡ head ++ tail → Stops is_word_byte (h.last ++ tail)
     → component_from v i name (at_index (i + 1 + length h.first + length name.text) (h.middle ++ (h.last ++ tail))) ≡ Err (further i e) → RefusesItem v levels i text e
 head_refuses v levels i text head tail name ms e h parts stops refused =
@@ -92,7 +92,7 @@ bad_word_refuses v levels i text e h =
     let apart : 0 < length g.is_head.last = rw g.last_is h.apart in
     head_refuses v levels i text h.head (h.word ++ h.rest) g.name_there g.modifiers e g.is_head h.parts (space_first g.is_head.last (h.word ++ h.rest) apart g.is_head.is_last) (
     bad_word_refused v i h.head h.word h.rest g.name_there g.modifiers h.bad.0 g.is_head apart h.is_word h.no_word h.bad.1
-    ∙ ap (λ (e : Fault). failed {A = Component × Rest} e) (behind_further i (length h.head) _ e h.bad)
+    ∙ ap (λ (e : Fault). failed {A = Component × Rest} e) (after_further i (length h.head) _ e h.bad)
     )
 
 unclosed_refuses : (v : DescriptionVersion) (levels i : ℕ) (text : List ℕ) (e : Fault) → IsUnclosed v text e → RefusesItem v levels i text e
@@ -130,13 +130,13 @@ nesting_refuses v levels nesting what read make Before Inside Deeper nests again
     let c = name_opens v levels nesting what read make nests i text o.first o.word (o.blank ++ h.rest) (h.parts ∙ rw o.parts (simp append_assoc)) o.is_first o.is_word o.is_name (space_first o.blank h.rest o.some_space o.spaces) in
     opened_refuses v levels i text e c.0 (c.1 ∙ lacks_bracket_again v what read make i (i + 1 + length o.first + length o.word) o.blank h.rest o.spaces o.some_space h.no_space h.no_bracket ∙ rw (h.fault_is, opening_len v nesting h.opening i o) refl)
 nesting_refuses v levels nesting what read make Before Inside Deeper nests again i text e (inr (inr (inl h))) =
-    let front : ℕ = length h.opening + length h.before in
+    let prefix : ℕ = length h.opening + length h.before in
     let c = opening_opens v levels nesting what read make nests i text h.opening (h.before ++ h.rest) h.is_opening h.parts (again.opens_before h.before h.rest h.is_bad.0 h.is_before h.is_bad.1) in
-    let place : i + length h.opening + length h.before ≡ i + front = omega arith in
+    let place : i + length h.opening + length h.before ≡ i + prefix = omega arith in
     opened_refuses v levels i text e c.0 (
     c.1
     ∙ ap (from_start v make i) (again.fails (i + length h.opening) h.before h.rest h.is_bad.0 h.is_before h.is_bad.1)
-    ∙ ap (λ (e : Fault). failed {A = Tree × Rest} e) (ap (λ (n : ℕ). further n h.is_bad.0) place ∙ behind_further i front _ e h.is_bad)
+    ∙ ap (λ (e : Fault). failed {A = Tree × Rest} e) (ap (λ (n : ℕ). further n h.is_bad.0) place ∙ after_further i prefix _ e h.is_bad)
     )
 nesting_refuses v levels nesting what read make Before Inside Deeper nests again i text e (inr (inr (inr (inl h)))) =
     let c = opening_opens v levels nesting what read make nests i text h.opening (h.inside ++ h.rest) h.is_opening h.parts (again.opens_inside h.inside h.rest h.rest h.is_inside) in
@@ -207,10 +207,10 @@ item_refuses v levels deeper i text e (inr (inr (inr (inr (inr (inr h)))))) =
 items_fail : (v : DescriptionVersion) (inner : Bool) (levels : ℕ) → NestedFails v levels → (i : ℕ) (text : List ℕ) (e : Fault) → FaultyItems v inner levels (FaultyNested v levels) text e → many (is_end inner) (element_at v (nested_at v levels)) (suc (length text)) (at_index i text) ≡ Err (further i e)
 items_fail v inner levels deeper i text e h =
     let step = element_at v (nested_at v levels) in
-    let r : RefusesItem v levels (i + length h.front) h.bad h.is_bad.0 = item_refuses v levels deeper (i + length h.front) h.bad h.is_bad.0 h.is_bad.1 in
-    let steps = items_steps v inner levels (nested_again v levels) h.items i h.front h.bad h.is_front r.stops in
-    let fails = steps_failing (is_end inner) step (items_shorten v inner levels (nested_reads v levels)) (suc (length (h.front ++ h.bad))) (at_index i (h.front ++ h.bad)) (unlisted h.items) (at_index (i + length h.front) h.bad) (further (i + length h.front) h.is_bad.0) (omega arith) steps (r.goes inner) r.refuses in
-    ap (λ (t : List ℕ). many (is_end inner) step (suc (length t)) (at_index i t)) h.parts ∙ fails ∙ ap (λ (e : Fault). failed {A = List Tree × Rest} e) (behind_further i (length h.front) _ e h.is_bad)
+    let r : RefusesItem v levels (i + length h.prefix) h.bad h.is_bad.0 = item_refuses v levels deeper (i + length h.prefix) h.bad h.is_bad.0 h.is_bad.1 in
+    let steps = items_steps v inner levels (nested_again v levels) h.items i h.prefix h.bad h.is_prefix r.stops in
+    let fails = steps_failing (is_end inner) step (items_shorten v inner levels (nested_reads v levels)) (suc (length (h.prefix ++ h.bad))) (at_index i (h.prefix ++ h.bad)) (unlisted h.items) (at_index (i + length h.prefix) h.bad) (further (i + length h.prefix) h.is_bad.0) (omega arith) steps (r.goes inner) r.refuses in
+    ap (λ (t : List ℕ). many (is_end inner) step (suc (length t)) (at_index i t)) h.parts ∙ fails ∙ ap (λ (e : Fault). failed {A = List Tree × Rest} e) (after_further i (length h.prefix) _ e h.is_bad)
 
 -- the text ends in it
 ends_inside : (v : DescriptionVersion) (levels i : ℕ) (text : List ℕ) (items : Trees) → SpellsItems v true levels text items → many (is_end true) (element_at v (nested_at v levels)) (suc (length text)) (at_index (i + 1) text) ≡ Ok (unlisted items, at_index (i + 1 + length text) [])
@@ -234,9 +234,9 @@ nested_fails v (suc levels) = record {
     Inside : ℕ → List ℕ → Fault → Type 0
     Inside i rest e = nested_at v (suc levels) (at_index i (left_bracket ∷ rest)) ≡ Err (further i e)
 
-    inside : NestedFails v levels → (i : ℕ) (rest : List ℕ) (e : Fault) → Behind 1 (FaultyItems v true levels (FaultyNested v levels) rest) e ⊎ ((items : Trees) × SpellsItems v true levels rest items × (e ≡ UnclosedOpeningBracket 0)) → Inside i rest e
+    inside : NestedFails v levels → (i : ℕ) (rest : List ℕ) (e : Fault) → After 1 (FaultyItems v true levels (FaultyNested v levels) rest) e ⊎ ((items : Trees) × SpellsItems v true levels rest items × (e ≡ UnclosedOpeningBracket 0)) → Inside i rest e
     inside deeper i rest e (inl h) =
-        ap (λ (r : Result (List Tree × Rest) Fault). r >>= λ items. closed_at i items.1 >>= λ rest. ok_tree (Compound (listed items.0)) (past is_space rest)) (items_fail v true levels deeper (i + 1) rest h.0 h.1) ∙ ap (λ (e : Fault). failed {A = Tree × Rest} e) (behind_further i 1 _ e h)
+        ap (λ (r : Result (List Tree × Rest) Fault). r >>= λ items. closed_at i items.1 >>= λ rest. ok_tree (Compound (listed items.0)) (past is_space rest)) (items_fail v true levels deeper (i + 1) rest h.0 h.1) ∙ ap (λ (e : Fault). failed {A = Tree × Rest} e) (after_further i 1 _ e h)
     inside deeper i rest e (inr (items, h, f)) =
         ap (λ (r : Result (List Tree × Rest) Fault). r >>= λ items. closed_at i items.1 >>= λ rest. ok_tree (Compound (listed items.0)) (past is_space rest)) (ends_inside v levels i rest items h) ∙ at_once (λ n. UnclosedOpeningBracket n) i e refl f
 
@@ -245,7 +245,7 @@ nested_fails v (suc levels) = record {
 pub faulty_is_refused : (v : DescriptionVersion) (text : List ℕ) (e : Fault) → Faulty v text e → read_items v text ≡ Err e
 unfolding read_items
 faulty_is_refused v text e h =
-    ap (λ (r : Result (List Tree × Rest) Fault). r >>= λ items. ok_trees items.0) (items_fail v false 127 (nested_fails v 127) 0 text e h) ∙ ap (λ (e : Fault). failed {A = List Tree} e) (further_none (length h.front) _ e h.is_bad)
+    ap (λ (r : Result (List Tree × Rest) Fault). r >>= λ items. ok_trees items.0) (items_fail v false 127 (nested_fails v 127) 0 text e h) ∙ ap (λ (e : Fault). failed {A = List Tree} e) (further_none (length h.prefix) _ e h.is_bad)
   where
     ok_trees : List Tree → Result (List Tree) Fault
     ok_trees ts = Ok ts

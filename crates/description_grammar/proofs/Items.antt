@@ -17,12 +17,12 @@ use Rattle.description_lexer.proofs.Steps.{Steps, Shortens, Read}
 use Rattle.description_grammar.specs.Reading.{doubled_at, text_at, component_from, Nester, optional_at, no_bracket, first_at, bracket_at, literal_or, element_at, is_end, nested_at, read_items}
 use Rattle.description_grammar.specs.Heads.{Stops}
 use Rattle.description_grammar.specs.Spelling.{SpellsItems, SpellsItem, SpellsNested, SpellsAlternatives, Spells}
-use Rattle.description_grammar.specs.Faulty.{Behind, IsSingle, IsOne, AreSome, IsNothing, AreBefore, BadItem, FaultyItems, FaultyNested, Faulty}
+use Rattle.description_grammar.specs.Faulty.{After, IsSingle, IsOne, AreSome, IsNothing, AreBefore, BadItem, FaultyItems, FaultyNested, Faulty}
 use Rattle.description_grammar.proofs.Results.{above}
 use Rattle.description_grammar.proofs.ValueOrFault.{Reads, gives, refuses, either, in_turn, reads_as, many_read}
-use Rattle.description_grammar.proofs.Places.{further_none, at_first, behind_both}
+use Rattle.description_grammar.proofs.Places.{further_none, at_first, after_both}
 use Rattle.description_grammar.proofs.Runs.{each_run, stops_past, Takes, takes_then, takes_run, takes_length, takes_byte, begins_cons, stops_91, closed_reads}
-use Rattle.description_grammar.proofs.TextsSound.{text_front, text_some, TakesText, text_reads, doubled_takes}
+use Rattle.description_grammar.proofs.TextsSound.{text_prefix, text_some, TakesText, text_reads, doubled_takes}
 use Rattle.description_grammar.proofs.ComponentText.{TakesName, name_reads, BadComponent, component_reads}
 use Rattle.description_grammar.proofs.Nesting.{TakesInside, RefusesInside, nesting_reads}
 
@@ -37,7 +37,7 @@ pub record TakesNested (v : DescriptionVersion) (levels : ℕ) (s : Rest) (x : T
 
 -- how nested descriptions are read where so many levels may be opened
 abbrev pub NestedReads : DescriptionVersion → ℕ → Type 0
-NestedReads v levels = (s : Rest) → begins left_bracket s.text ≡ true → Reads (TakesNested v levels s) (Behind s.index (FaultyNested v levels s.text)) (nested_at v levels s)
+NestedReads v levels = (s : Rest) → begins left_bracket s.text ≡ true → Reads (TakesNested v levels s) (After s.index (FaultyNested v levels s.text)) (nested_at v levels s)
 
 one_reads : (v : DescriptionVersion) (levels : ℕ) → NestedReads v levels → (start : Rest) → begins left_bracket start.text ≡ true → Reads (TakesInside (SpellsNested v levels) (IsOne v levels) start) (RefusesInside IsNothing (FaultyNested v levels) start) (nested_at v levels start)
 one_reads v levels nested start opens = reads_as _ (nested start opens) (
@@ -76,9 +76,9 @@ read_some v levels start = many no_bracket (nested_at v levels) (suc (length sta
 some_reads : (v : DescriptionVersion) (levels : ℕ) → NestedReads v levels → (start : Rest) → begins left_bracket start.text ≡ true → Reads (TakesInside (MeansSome v levels) (AreSome v levels) start) (RefusesInside (AreBefore v levels) (FaultyNested v levels) start) (read_some v levels start)
 some_reads v levels nested start opens = reads_as _ (many_read no_bracket (nested_at v levels) (alternatives_shorten v levels nested) start) taken (
     λ e f.
-    let a : TakesAlternatives v levels start f.front f.bad = alternatives_take v levels nested f.front start f.bad (stops_91 start.text opens) f.steps in
+    let a : TakesAlternatives v levels start f.prefix f.bad = alternatives_take v levels nested f.prefix start f.bad (stops_91 start.text opens) f.steps in
     let fails = nested f.bad (not-false (begins left_bracket f.bad.text) f.goes_on) in
-    record { before = a.own; bad = f.bad; takes = a.takes; is_before = (listed f.front, a.spells); is_bad = fails.err e f.fails }
+    record { before = a.own; bad = f.bad; takes = a.takes; is_before = (listed f.prefix, a.spells); is_bad = fails.err e f.fails }
     )
   where
     some_own : (own more : List ℕ) → start.text ≡ own ++ more → begins left_bracket more ≡ false → 0 < length own
@@ -115,13 +115,13 @@ named_item v inside bracket name =
     cond (is_named v name.0.text (codes "optional")) (optional_at v inside bracket name.1) (cond (is_named v name.0.text (codes "first")) (first_at v inside bracket name.1) (part_from v bracket name))
 
 bracket_reads : (v : DescriptionVersion) (inner : Bool) (levels : ℕ) → NestedReads v levels → (s : Rest) → begins left_bracket s.text ≡ true → IsSingle v (after 1 s).text
-    → Reads (λ (x : Tree × Rest). TakesItem v inner levels s x.0 x.1) (Behind s.index (BadItem v levels (FaultyNested v levels) s.text)) (bracket_at v (nested_at v levels) s)
+    → Reads (λ (x : Tree × Rest). TakesItem v inner levels s x.0 x.1) (After s.index (BadItem v levels (FaultyNested v levels) s.text)) (bracket_at v (nested_at v levels) s)
 unfolding bracket_at optional_at first_at
 bracket_reads v inner levels nested s opens single =
     in_turn _ _ (name_reads v s opens single) (λ e h. (h.0, inr (inl h.1), h.2)) (λ name n. either _ _ _ (λ is_name. as_optional name n is_name) (λ no_optional. either _ _ _ (λ is_name. as_first name n is_name) (λ no_first. as_part name n no_optional no_first)))
   where
     Item : Result (Tree × Rest) Fault → Type 0
-    Item r = Reads (λ (x : Tree × Rest). TakesItem v inner levels s x.0 x.1) (Behind s.index (BadItem v levels (FaultyNested v levels) s.text)) r
+    Item r = Reads (λ (x : Tree × Rest). TakesItem v inner levels s x.0 x.1) (After s.index (BadItem v levels (FaultyNested v levels) s.text)) r
 
     as_optional : (name : Rest × Rest) → TakesName (after 1 s) name.0 name.1 → is_named v name.0.text (codes "optional") ≡ true → Item (optional_at v (nested_at v levels) s.index name.1)
     as_optional name n is_name =
@@ -135,7 +135,7 @@ bracket_reads v inner levels nested s opens single =
         (λ x t. record { own = t.own; takes = t.takes; some = t.some; spells = subst (λ (y : Tree). SpellsItem v inner levels t.own x.1.text y) t.made (t.three, t.spells) })
         (λ e bad. (bad.0, inr (inr (inr (inr (inr (inr bad.1))))), bad.2))
 
-    bad_part : (e : Fault) → Behind s.index (BadComponent v s.text) e → Behind s.index (BadItem v levels (FaultyNested v levels) s.text) e
+    bad_part : (e : Fault) → After s.index (BadComponent v s.text) e → After s.index (BadItem v levels (FaultyNested v levels) s.text) e
     bad_part e (d, inl h, is) = (d, inr (inr (inl h)), is)
     bad_part e (d, inr (inl h), is) = (d, inr (inr (inr (inl h))), is)
     bad_part e (d, inr (inr h), is) = (d, inr (inr (inr (inr (inl h)))), is)
@@ -154,7 +154,7 @@ single_of Two s opens e = tt
 single_of Three s opens e = tt
 
 element_reads : (v : DescriptionVersion) (inner : Bool) (levels : ℕ) → NestedReads v levels → (s : Rest) → is_end inner s ≡ false
-    → Reads (λ (x : Tree × Rest). TakesItem v inner levels s x.0 x.1) (Behind s.index (BadItem v levels (FaultyNested v levels) s.text)) (element_at v (nested_at v levels) s)
+    → Reads (λ (x : Tree × Rest). TakesItem v inner levels s x.0 x.1) (After s.index (BadItem v levels (FaultyNested v levels) s.text)) (element_at v (nested_at v levels) s)
 unfolding element_at
 element_reads v inner levels nested s goes = by_doubled (doubled_at v s) refl
   where
@@ -162,19 +162,19 @@ element_reads v inner levels nested s goes = by_doubled (doubled_at v s) refl
     open_text = or_parts _ _ goes
 
     by_doubled : (d : Option (List ℕ × Rest)) → doubled_at v s ≡ d
-        → Reads (λ (x : Tree × Rest). TakesItem v inner levels s x.0 x.1) (Behind s.index (BadItem v levels (FaultyNested v levels) s.text)) (literal_or d (cond (begins left_bracket s.text) (bracket_at v (nested_at v levels) s) (text_at v s >>= λ x. Ok (Literal x.0, x.1))))
+        → Reads (λ (x : Tree × Rest). TakesItem v inner levels s x.0 x.1) (After s.index (BadItem v levels (FaultyNested v levels) s.text)) (literal_or d (cond (begins left_bracket s.text) (bracket_at v (nested_at v levels) s) (text_at v s >>= λ x. Ok (Literal x.0, x.1))))
     by_doubled (Some y) is_d = gives _ (of_text v inner levels s y.0 y.1 (doubled_takes v inner s y is_d))
     by_doubled None is_d = either _ _ _ (λ g. bracket_reads v inner levels nested s g (single_of v s g is_d)) (
         λ g. in_turn _ _ (text_reads v inner s (above _ open_text.0) g open_text.1) (λ e bad. (bad.0, inl bad.1, bad.2)) (λ x t. gives _ (of_text v inner levels s x.0 x.1 t))
         )
 
--- only the byte behind it matters to an item
-pub item_front : (v : DescriptionVersion) (inner : Bool) (levels : ℕ) (own more tail : List ℕ) (t : Tree) → SpellsItem v inner levels own (more ++ tail) t → SpellsItem v inner levels own more t
-item_front v inner levels own more tail (Literal bytes) h = text_front v inner own more tail bytes h
-item_front v inner levels own more tail (Part c) h = h
-item_front v inner levels own more tail (Optional f t) h = h
-item_front v inner levels own more tail (First ts) h = h
-item_front v inner levels own more tail (Compound ts) h = h
+-- only the byte after it matters to an item
+pub item_prefix : (v : DescriptionVersion) (inner : Bool) (levels : ℕ) (own more tail : List ℕ) (t : Tree) → SpellsItem v inner levels own (more ++ tail) t → SpellsItem v inner levels own more t
+item_prefix v inner levels own more tail (Literal bytes) h = text_prefix v inner own more tail bytes h
+item_prefix v inner levels own more tail (Part c) h = h
+item_prefix v inner levels own more tail (Optional f t) h = h
+item_prefix v inner levels own more tail (First ts) h = h
+item_prefix v inner levels own more tail (Compound ts) h = h
 
 pub record TakesItems (v : DescriptionVersion) (inner : Bool) (levels : ℕ) (s : Rest) (ts : List Tree) (rest : Rest) : Type 0 where
   pub own : List ℕ
@@ -195,7 +195,7 @@ items_take v inner levels nested (t ∷ ts) s rest (next, goes, is_t, more) =
     record {
       own = one.own ++ others.own;
       takes = takes_then s one.own next others.own rest one.takes others.takes;
-      spells = (one.own, others.own, refl, item_front v inner levels one.own others.own rest.text t spelled, others.spells);
+      spells = (one.own, others.own, refl, item_prefix v inner levels one.own others.own rest.text t spelled, others.spells);
     }
 
 -- all items up to the end
@@ -203,13 +203,13 @@ record TakesAll (v : DescriptionVersion) (inner : Bool) (levels : ℕ) (s : Rest
   items : TakesItems v inner levels s x.0 x.1
   ends : is_end inner x.1 ≡ true
 
-items_read : (v : DescriptionVersion) (inner : Bool) (levels : ℕ) → NestedReads v levels → (s : Rest) → Reads (TakesAll v inner levels s) (Behind s.index (FaultyItems v inner levels (FaultyNested v levels) s.text)) (many (is_end inner) (element_at v (nested_at v levels)) (suc (length s.text)) s)
+items_read : (v : DescriptionVersion) (inner : Bool) (levels : ℕ) → NestedReads v levels → (s : Rest) → Reads (TakesAll v inner levels s) (After s.index (FaultyItems v inner levels (FaultyNested v levels) s.text)) (many (is_end inner) (element_at v (nested_at v levels)) (suc (length s.text)) s)
 items_read v inner levels nested s = reads_as _ (many_read (is_end inner) (element_at v (nested_at v levels)) (items_shorten v inner levels nested) s) (λ x read. record { items = items_take v inner levels nested x.0 s x.1 read.0; ends = read.1 }) (
     λ e f.
-    let i : TakesItems v inner levels s f.front f.bad = items_take v inner levels nested f.front s f.bad f.steps in
+    let i : TakesItems v inner levels s f.prefix f.bad = items_take v inner levels nested f.prefix s f.bad f.steps in
     let bad = (element_reads v inner levels nested f.bad f.goes_on).err e f.fails in
-    let b = behind_both s.index (length i.own) f.bad.index (BadItem v levels (FaultyNested v levels) f.bad.text) e i.takes.index bad in
-    (b.0, record { items = listed f.front; front = i.own; bad = f.bad.text; parts = i.takes.parts; is_front = i.spells; is_bad = b.1 }, b.2)
+    let b = after_both s.index (length i.own) f.bad.index (BadItem v levels (FaultyNested v levels) f.bad.text) e i.takes.index bad in
+    (b.0, record { items = listed f.prefix; prefix = i.own; bad = f.bad.text; parts = i.takes.parts; is_prefix = i.spells; is_bad = b.1 }, b.2)
     )
 
 -- where nothing is left, the items are the whole text
@@ -224,7 +224,7 @@ all_spelled v inner levels s x all open_still =
 pub nested_reads : (v : DescriptionVersion) (levels : ℕ) → NestedReads v levels
 unfolding nested_at FaultyNested
 nested_reads v zero s opens = refuses _ (NotSupported (codes "nesting past 127 levels") (codes "format descriptions") 0, (drop 1 s.text, begins_cons left_bracket s.text opens, refl), at_first (λ i. NotSupported (codes "nesting past 127 levels") (codes "format descriptions") i) s.index)
-nested_reads v (suc levels) s opens = in_turn _ _ (items_read v true levels (nested_reads v levels) (after 1 s)) (λ e bad. let b = behind_both s.index 1 (s.index + 1) (FaultyItems v true levels (FaultyNested v levels) (after 1 s).text) e refl bad in (b.0, (drop 1 s.text, begins_cons left_bracket s.text opens, inl b.1), b.2)) (
+nested_reads v (suc levels) s opens = in_turn _ _ (items_read v true levels (nested_reads v levels) (after 1 s)) (λ e bad. let b = after_both s.index 1 (s.index + 1) (FaultyItems v true levels (FaultyNested v levels) (after 1 s).text) e refl bad in (b.0, (drop 1 s.text, begins_cons left_bracket s.text opens, inl b.1), b.2)) (
     λ x all. in_turn _ _ (closed_reads s.index x.1) (λ e k. (UnclosedOpeningBracket 0, (drop 1 s.text, begins_cons left_bracket s.text opens, inr (listed x.0, all_spelled v true levels (after 1 s) x all k.0, refl)), k.1 ∙ at_first (λ i. UnclosedOpeningBracket i) s.index)) (
     λ rest close.
     let blank : List ℕ = (run is_space rest).text in
@@ -246,5 +246,5 @@ pub text_read : (v : DescriptionVersion) (text : List ℕ) → Reads (Spells v t
 unfolding read_items
 text_read v text = in_turn _ _ (items_read v false 127 (nested_reads v 127) (whole text)) begun (λ x all. gives _ (all_spelled v false 127 (whole text) x all refl))
   where
-    begun : (e : Fault) → Behind 0 (FaultyItems v false 127 (FaultyNested v 127) text) e → Faulty v text e
-    begun e (own, h, is_own) = subst (Faulty v text) (sym (is_own ∙ further_none (length h.front) _ own h.is_bad)) h
+    begun : (e : Fault) → After 0 (FaultyItems v false 127 (FaultyNested v 127) text) e → Faulty v text e
+    begun e (own, h, is_own) = subst (Faulty v text) (sym (is_own ∙ further_none (length h.prefix) _ own h.is_bad)) h

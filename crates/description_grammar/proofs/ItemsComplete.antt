@@ -70,7 +70,7 @@ name_begins v levels i text first more name parts is_first is_name placed stops 
 names_part : (v : DescriptionVersion) (levels bracket : ℕ) (name next : Rest) → is_named v name.text (codes "optional") ≡ false → is_named v name.text (codes "first") ≡ false → named_item v (nested_at v levels) bracket (name, next) ≡ part_from v bracket (name, next)
 names_part v levels bracket name next no_optional no_first = rw (no_optional, no_first) refl
 
--- a head, and what is read behind it
+-- a head, and what is read after it
 pub head_opens : (v : DescriptionVersion) (levels i : ℕ) (text head tail : List ℕ) (name : Rest) (ms : List Modifier) (h : SpellsHead v i head name ms) → text ≡ head ++ tail → Stops is_word_byte (h.last ++ tail)
     → (begins left_bracket text ≡ true) × (element_at v (nested_at v levels) (at_index i text) ≡ part_from v i (name, at_index (i + 1 + length h.first + length name.text) (h.middle ++ (h.last ++ tail))))
 head_opens v levels i text head tail name ms h parts stops =
@@ -154,7 +154,7 @@ part_reads v inner levels i own rest c h =
 
 -- ---- nested items
 
--- a nesting name hands on to what reads behind it
+-- a nesting name hands on to what reads after it
 abbrev pub IsNesting : {A : Type 0} → DescriptionVersion → ℕ → List ℕ → List ℕ → Reader A → (A → Tree) → Type 0
 IsNesting v levels nesting what read make = (bracket : ℕ) (name next : Rest) → is_named v name.text nesting ≡ true → named_item v (nested_at v levels) bracket (name, next) ≡ nesting_at v what read make bracket next
 

@@ -151,8 +151,8 @@ pub record HeadElsewhere (v : DescriptionVersion) (at to : ℕ) (head : List ℕ
 pub head_elsewhere : (v : DescriptionVersion) (at to : ℕ) (head : List ℕ) (name : Rest) (ms : List Modifier) (h : SpellsHead v at head name ms) → HeadElsewhere v at to head name ms h
 head_elsewhere v at to head name ms h =
     let n : ℕ = 1 + length h.first in
-    let behind : ℕ = 1 + length h.first + length name.text in
-    let words : WordsElsewhere v at to behind h.middle ms = words_elsewhere v ms at to behind h.middle (subst (λ (i : ℕ). SpellsModifiers i h.middle ms) (omega arith) h.modifiers) in
+    let after : ℕ = 1 + length h.first + length name.text in
+    let words : WordsElsewhere v at to after h.middle ms = words_elsewhere v ms at to after h.middle (subst (λ (i : ℕ). SpellsModifiers i h.middle ms) (omega arith) h.modifiers) in
     let there : Rest = at_index (to + n) name.text in
     let name_is : name.index ≡ at + n = omega (arith, h.name_at) in
     record {

@@ -13,7 +13,7 @@ use Rattle.description_lexer.specs.Words.{Modifier, has_word, modifier_in, modif
 use Rattle.description_lexer.proofs.Readings.{bind_ok, ok_is, made_err}
 use Rattle.description_lexer.proofs.Shorter.{modifier_lt}
 use Rattle.description_grammar.specs.Heads.{Each, Stops, IsWord, SpellsModifier, SpellsModifiers}
-use Rattle.description_grammar.specs.Faulty.{Behind, BadWord}
+use Rattle.description_grammar.specs.Faulty.{After, BadWord}
 use Rattle.description_grammar.proofs.Places.{at_first, at_once}
 use Rattle.description_grammar.proofs.Results.{lt_of, above, differs, not_zero}
 use Rattle.description_grammar.proofs.ValueOrFault.{Reads, gives, refuses, either, in_turn, many_read}
@@ -47,7 +47,7 @@ record IsModifierWord (s : Rest) (m : Modifier) : Type 0 where
   key_at : m.key.index ≡ s.index
   value_at : m.value.index ≡ s.index + length m.key.text + 1
 
-word_reads : (s : Rest) → Each is_word_byte s.text → Reads (IsModifierWord s) (Behind s.index (BadWord s.text)) (modifier_in s)
+word_reads : (s : Rest) → Each is_word_byte s.text → Reads (IsModifierWord s) (After s.index (BadWord s.text)) (modifier_in s)
 unfolding modifier_in
 word_reads s each = either _ _ _ (λ a. refuses _ (InvalidModifier s.text 0, inl (each_whole is_no_colon s.text (eqb-true _ _ a), refl), at_first (λ i. InvalidModifier s.text i) s.index)) (λ a. cut a)
   where
@@ -57,7 +57,7 @@ word_reads s each = either _ _ _ (λ a. refuses _ (InvalidModifier s.text 0, inl
     len : length (take k s.text) ≡ k
     len = length-prefix_len is_no_colon s.text
 
-    cut : eqb k (length s.text) ≡ false → Reads (IsModifierWord s) (Behind s.index (BadWord s.text)) (cond (eqb k 0) (Err (InvalidModifier [] s.index)) (cond (eqb (k + 1) (length s.text)) (Err (InvalidModifier [] (s.index + length s.text))) (Ok (record { key = run is_no_colon s; value = after (k + 1) s }))))
+    cut : eqb k (length s.text) ≡ false → Reads (IsModifierWord s) (After s.index (BadWord s.text)) (cond (eqb k 0) (Err (InvalidModifier [] s.index)) (cond (eqb (k + 1) (length s.text)) (Err (InvalidModifier [] (s.index + length s.text))) (Ok (record { key = run is_no_colon s; value = after (k + 1) s }))))
     cut a =
         let lt : k < length s.text = lt_of k (length s.text) (prefix_len-le-length is_no_colon s.text) a in
         let at_colon : drop k s.text ≡ colon ∷ drop (k + 1) s.text = colon_there s.text lt in
@@ -80,7 +80,7 @@ word_reads s each = either _ _ _ (λ a. refuses _ (InvalidModifier s.text 0, inl
         })
         ))
 
--- ---- words behind white space
+-- ---- words after white space
 
 pub none_there : (s : Rest) → has_word s ≡ false → prefix_len is_word_byte s.text ≡ 0
 none_there s h = grind (arith, nat_tests)
@@ -99,7 +99,7 @@ space_before s stops h = none_or_some (prefix_len is_space s.text) refl
         absurd (omega (arith, none_from_stops is_word_byte s.text stops))
     none_or_some (suc n) e = omega (arith, length-prefix_len is_space s.text)
 
--- a word behind white space, with what follows it
+-- a word after white space, with what follows it
 word_takes : (s : Rest) → Takes s ((run is_space s).text ++ (run is_word_byte (past is_space s)).text) (past is_word_byte (past is_space s))
 word_takes s = takes_then s (run is_space s).text (past is_space s) (run is_word_byte (past is_space s)).text (past is_word_byte (past is_space s)) (takes_run is_space s) (takes_run is_word_byte (past is_space s))
 
@@ -184,7 +184,7 @@ pub record Refuses (s : Rest) (e : Fault) : Type 0 where
   pub apart : 0 < length last
   pub is_word : IsWord word
   pub no_word : Stops is_word_byte rest
-  pub bad : Behind (s.index + length own + length last) (BadWord word) e
+  pub bad : After (s.index + length own + length last) (BadWord word) e
 
 pub modifiers_read : (s : Rest) → Stops is_word_byte s.text → Reads (λ (x : List Modifier × Rest). TakesModifiers s x.0 x.1) (Refuses s) (modifiers_at s)
 unfolding modifiers_at modifier_at
@@ -206,13 +206,13 @@ modifiers_read s stops = in_turn _ _ (many_read no_modifier modifier_at modifier
 
     refused : (e : Fault) → Failing no_modifier modifier_at s e → Refuses s e
     refused e f =
-        let words : TakesWords s f.front f.bad = steps_take s f.front f.bad stops f.steps in
+        let words : TakesWords s f.prefix f.bad = steps_take s f.prefix f.bad stops f.steps in
         let start : Rest = past is_space f.bad in
         let word : Rest = run is_word_byte start in
         let there : has_word start ≡ true = not-false _ f.goes_on in
         let is_bad : modifier_in word ≡ Err e = made_err (modifier_in word) (λ m. (m, past is_word_byte start)) e f.fails in
         record {
-          ms = f.front;
+          ms = f.prefix;
           own = words.own;
           last = (run is_space f.bad).text;
           word = word.text;
@@ -223,7 +223,7 @@ modifiers_read s stops = in_turn _ _ (many_read no_modifier modifier_at modifier
           apart = space_before f.bad words.no_word there;
           is_word = (omega (arith, some_there start there, length-prefix_len is_word_byte start.text), each_run is_word_byte start.text);
           no_word = stops_past is_word_byte start.text;
-          bad = subst (λ (i : ℕ). Behind i (BadWord word.text) e) (omega (arith, words.takes.index, past_index is_space f.bad)) ((word_reads word (each_run is_word_byte start.text)).err e is_bad);
+          bad = subst (λ (i : ℕ). After i (BadWord word.text) e) (omega (arith, words.takes.index, past_index is_space f.bad)) ((word_reads word (each_run is_word_byte start.text)).err e is_bad);
         }
 
 -- ---- a word that is spelled so is read
@@ -265,7 +265,7 @@ bad_word_again at word e some (inr (inr (key, some_key, each, parts, f))) =
     let c : eqb (length key + 1) (length (key ++ colon ∷ [])) ≡ true = eq-eqb _ _ (omega (arith, len)) in
     rw (f, parts, n, a, b, c) refl
 
--- ---- so is one behind white space
+-- ---- so is one after white space
 
 pub word_there : (w : List ℕ) (rest : List ℕ) (i : ℕ) → IsWord w → Stops is_word_byte rest → has_word (at_index i (w ++ rest)) ≡ true
 word_there w rest i is_w stops = let n = run_again is_word_byte w rest is_w.1 stops in let z = not_zero (length w) is_w.0 in rw (n, z) refl
@@ -274,20 +274,20 @@ pub no_word_there : (rest : List ℕ) (i : ℕ) → Stops is_word_byte rest → 
 no_word_there rest i stops = let n = run_again is_word_byte [] rest tt stops in rw n refl
 
 -- white space, a word, and what follows
-pub record BehindSpace (at : ℕ) (blank word next : List ℕ) : Type 0 where
+pub record AfterSpace (at : ℕ) (blank word next : List ℕ) : Type 0 where
   pub start : past is_space (at_index at (blank ++ (word ++ next))) ≡ at_index (at + length blank) (word ++ next)
   pub there : has_word (past is_space (at_index at (blank ++ (word ++ next)))) ≡ true
   pub the_word : run is_word_byte (past is_space (at_index at (blank ++ (word ++ next)))) ≡ at_index (at + length blank) word
-  pub behind : past is_word_byte (past is_space (at_index at (blank ++ (word ++ next)))) ≡ at_index (at + length blank + length word) next
+  pub after : past is_word_byte (past is_space (at_index at (blank ++ (word ++ next)))) ≡ at_index (at + length blank + length word) next
 
-pub behind_space : (at : ℕ) (blank word next : List ℕ) → Each is_space blank → IsWord word → Stops is_word_byte next → BehindSpace at blank word next
-behind_space at blank word next is_s is_w stops =
+pub after_space : (at : ℕ) (blank word next : List ℕ) → Each is_space blank → IsWord word → Stops is_word_byte next → AfterSpace at blank word next
+after_space at blank word next is_s is_w stops =
     let start : past is_space (at_index at (blank ++ (word ++ next))) ≡ at_index (at + length blank) (word ++ next) = past_is is_space at blank (word ++ next) is_s (space_stops word next is_w.0 is_w.1) in
     record {
       start = start;
       there = ap has_word start ∙ word_there word next (at + length blank) is_w stops;
       the_word = ap (run is_word_byte) start ∙ run_is is_word_byte (at + length blank) word next is_w.1 stops;
-      behind = ap (past is_word_byte) start ∙ past_is is_word_byte (at + length blank) word next is_w.1 stops;
+      after = ap (past is_word_byte) start ∙ past_is is_word_byte (at + length blank) word next is_w.1 stops;
     }
 
 abbrev one_at : Rest → Rest → Result (Modifier × Rest) Fault
@@ -297,8 +297,8 @@ step_again : (at : ℕ) (blank word next : List ℕ) (m : Modifier) → Each is_
     → modifier_at (at_index at (blank ++ (word ++ next))) ≡ Ok (m, at_index (at + length blank + length word) next)
 unfolding modifier_at
 step_again at blank word next m is_s is_w stops is_m =
-    let b = behind_space at blank word next is_s is_w stops in
-    two b.the_word b.behind
+    let b = after_space at blank word next is_s is_w stops in
+    two b.the_word b.after
   where
     two : {x y : Rest} → x ≡ at_index (at + length blank) word → y ≡ at_index (at + length blank + length word) next → one_at x y ≡ Ok (m, at_index (at + length blank + length word) next)
     two {x} {y} e f = ap (λ (x : Rest). one_at x y) e ∙ ap (λ (y : Rest). one_at (at_index (at + length blank) word) y) f ∙ ap (λ (r : Result Modifier Fault). r >>= λ m. Ok (m, at_index (at + length blank + length word) next)) is_m
@@ -307,12 +307,12 @@ bad_step : (at : ℕ) (blank word next : List ℕ) (e : Fault) → Each is_space
     → modifier_at (at_index at (blank ++ (word ++ next))) ≡ Err e
 unfolding modifier_at
 bad_step at blank word next e is_s is_w stops is_e =
-    let b = behind_space at blank word next is_s is_w stops in
+    let b = after_space at blank word next is_s is_w stops in
     ap (λ (x : Rest). one_at x (past is_word_byte (past is_space (at_index at (blank ++ (word ++ next)))))) b.the_word
     ∙ ap (λ (r : Result Modifier Fault). r >>= λ m. Ok (m, past is_word_byte (past is_space (at_index at (blank ++ (word ++ next)))))) is_e
 
 going_on : (at : ℕ) (blank word next : List ℕ) → Each is_space blank → IsWord word → Stops is_word_byte next → no_modifier (at_index at (blank ++ (word ++ next))) ≡ false
-going_on at blank word next is_s is_w stops = rw ((behind_space at blank word next is_s is_w stops).there) refl
+going_on at blank word next is_s is_w stops = rw ((after_space at blank word next is_s is_w stops).there) refl
 
 -- ---- so are modifiers, and a word that is none is refused
 

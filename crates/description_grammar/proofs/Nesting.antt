@@ -1,4 +1,4 @@
--- What is nested behind its name: what is read is spelled so, what is refused is faulty so, and the other way round.
+-- What is nested after its name: what is read is spelled so, what is refused is faulty so, and the other way round.
 use Rattle.std.proofs.Common.{◌≡◌, ℕ, ◌+◌, ◌<◌, List, [], ◌∷◌, ◌++◌, length, Result, true, false, refl, ap, subst, ◌∙◌, append_assoc, arith, inl, inr, ◌⊎◌, Ok, Err, eqb}
 use Rattle.std.specs.Prelude.{codes}
 use Rattle.std.proofs.lemmas.List.{length-append, drop_at}
@@ -14,10 +14,10 @@ use Rattle.description_lexer.specs.Text.{Rest, is_space, run, past, after}
 use Rattle.description_lexer.specs.Words.{is_named, begins, closed_at}
 use Rattle.description_grammar.specs.Reading.{is_same, opened_at, supported}
 use Rattle.description_grammar.specs.Heads.{Each, Stops, SpellsOpening, SpellsNesting}
-use Rattle.description_grammar.specs.Faulty.{Behind, Wrong, LacksSpace, LacksBracket, BadNesting}
+use Rattle.description_grammar.specs.Faulty.{After, Wrong, LacksSpace, LacksBracket, BadNesting}
 use Rattle.description_grammar.proofs.Results.{lt_of, differs}
 use Rattle.description_grammar.proofs.ValueOrFault.{Reads, gives, refuses, either, in_turn}
-use Rattle.description_grammar.proofs.Places.{at_first, behind_both}
+use Rattle.description_grammar.proofs.Places.{at_first, after_both}
 use Rattle.description_grammar.proofs.Runs.{each_run, stops_past, stops_from_none, Takes, takes_then, takes_run, takes_length, takes_byte, closed_reads, at_index, run_again, stops_91, closed_again}
 use Rattle.description_grammar.proofs.ComponentText.{TakesName}
 use Rattle.std.specs.Str.{str_to_ascii_lowercase}
@@ -94,12 +94,12 @@ pub record RefusesInside (Before : List ℕ → Type 0) (Deeper : Wrong) (start 
   pub bad : Rest
   pub takes : Takes start before bad
   pub is_before : Before before
-  pub is_bad : Behind bad.index (Deeper bad.text) e
+  pub is_bad : After bad.index (Deeper bad.text) e
 
 abbrev pub Reader : Type 0 → Type 0
 Reader A = Rest → Result (A × Rest) Fault
 
--- a nested item behind its name
+-- a nested item after its name
 abbrev pub nesting_at : {A : Type 0} → DescriptionVersion → List ℕ → Reader A → (A → Tree) → ℕ → Rest → Result (Tree × Rest) Fault
 nesting_at v what read make bracket s = opened_at what s >>= λ start. read start >>= λ x. closed_at bracket x.1 >>= λ rest. supported v bracket (make x.0) rest
 
@@ -114,7 +114,7 @@ pub record TakesNesting {A : Type 0} (v : DescriptionVersion) (nesting : List �
 
 -- where an opening is not read, it has one of the first two faults
 opening_refused : (v : DescriptionVersion) (nesting what : List ℕ) (s name next : Rest) (e : Fault) → begins left_bracket s.text ≡ true → TakesName (after 1 s) name next → is_named v name.text nesting ≡ true → Unopened what next e
-    → Behind s.index (LacksSpace v nesting what s.text) e ⊎ Behind s.index (LacksBracket v nesting s.text) e
+    → After s.index (LacksSpace v nesting what s.text) e ⊎ After s.index (LacksBracket v nesting s.text) e
 opening_refused v nesting what s name next e opens n is_name (inl g) =
     let first : Takes s (left_bracket ∷ (n.first ++ name.text)) next = takes_then s (left_bracket ∷ []) (after 1 s) (n.first ++ name.text) next (takes_byte left_bracket s opens) n.takes in
     let i : next.index ≡ s.index + (1 + length n.first + length name.text) = omega (arith, first.index, length-append n.first name.text) in
@@ -153,12 +153,12 @@ opening_refused v nesting what s name next e opens n is_name (inr g) =
 pub nesting_reads : {A : Type 0} (v : DescriptionVersion) (nesting what : List ℕ) (read : Reader A) (make : A → Tree) (Means : List ℕ → A → Type 0) (Inside : List ℕ → List ℕ → Type 0) (Before : List ℕ → Type 0) (Deeper : Wrong)
     → ((start : Rest) → begins left_bracket start.text ≡ true → Reads (TakesInside Means Inside start) (RefusesInside Before Deeper start) (read start))
     → (s name next : Rest) → begins left_bracket s.text ≡ true → TakesName (after 1 s) name next → is_named v name.text nesting ≡ true
-    → Reads (TakesNesting v nesting Means make s) (Behind s.index (BadNesting v nesting what Before Inside Deeper s.text)) (nesting_at v what read make s.index next)
+    → Reads (TakesNesting v nesting Means make s) (After s.index (BadNesting v nesting what Before Inside Deeper s.text)) (nesting_at v what read make s.index next)
 nesting_reads {A} v nesting what read make Means Inside Before Deeper reads s name next opens n is_name =
     in_turn _ _ (opened_reads what next) (λ e h. elim (opening_refused v nesting what s name next e opens n is_name h) [ inl g ↦ (g.0, inl g.1, g.2) | inr g ↦ (g.0, inr (inl g.1), g.2) ]) (λ start blank. begun start blank.1 (opening_of v nesting s name next start opens n is_name blank.0))
   where
     Whole : Result (Tree × Rest) Fault → Type 0
-    Whole r = Reads (TakesNesting v nesting Means make s) (Behind s.index (BadNesting v nesting what Before Inside Deeper s.text)) r
+    Whole r = Reads (TakesNesting v nesting Means make s) (After s.index (BadNesting v nesting what Before Inside Deeper s.text)) r
 
     ended : (start : Rest) (o : MakesOpening v nesting s start) (x : A × Rest) (i : TakesInside Means Inside start x) (rest : Rest) → Takes x.1 (right_bracket ∷ []) rest → Whole (supported v s.index (make x.0) rest)
     ended start o x i rest close =
@@ -181,7 +181,7 @@ nesting_reads {A} v nesting what read make Means Inside Before Deeper reads s na
         )
 
     begun : (start : Rest) → begins left_bracket start.text ≡ true → MakesOpening v nesting s start → Whole (read start >>= λ x. closed_at s.index x.1 >>= λ rest. supported v s.index (make x.0) rest)
-    begun start at_bracket o = in_turn _ _ (reads start at_bracket) (λ e r. let b = behind_both s.index (length o.opening + length r.before) r.bad.index (Deeper r.bad.text) e (omega (arith, r.takes.index, o.takes.index)) r.is_bad in (
+    begun start at_bracket o = in_turn _ _ (reads start at_bracket) (λ e r. let b = after_both s.index (length o.opening + length r.before) r.bad.index (Deeper r.bad.text) e (omega (arith, r.takes.index, o.takes.index)) r.is_bad in (
       b.0,
       inr (inr (inl (record {
         opening = o.opening;
@@ -249,7 +249,7 @@ ok_tree t p = Ok (t, p)
 abbrev pub ok_value : {A : Type 0} → A → Rest → Result (A × Rest) Fault
 ok_value x p = Ok (x, p)
 
--- behind an opening, the nested descriptions are read
+-- after an opening, the nested descriptions are read
 pub from_opening : {A : Type 0} (v : DescriptionVersion) (what : List ℕ) (read : Reader A) (make : A → Tree) (bracket i : ℕ) (blank tail : List ℕ) → Each is_space blank → 0 < length blank → begins left_bracket tail ≡ true
     → nesting_at v what read make bracket (at_index i (blank ++ tail)) ≡ from_start v make bracket (read (at_index (i + length blank) tail))
 from_opening v what read make bracket i blank tail spaces some opens =

@@ -3,7 +3,7 @@ use Rattle.std.proofs.Common.{◌≡◌, ℕ, ◌+◌, Err, refl, sym, ap, ◌�
 use Rattle.description_lexer.specs.Fault.{Fault, UnclosedOpeningBracket, InvalidComponentName, InvalidModifier, MissingComponentName, MissingRequiredModifier, Expected, NotSupported, DuplicateModifier, InvalidModifierCombination}
 use Rattle.description_lexer.specs.Further.{further}
 use Rattle.description_lexer.proofs.Readings.{failed}
-use Rattle.description_grammar.specs.Faulty.{Behind}
+use Rattle.description_grammar.specs.Faulty.{After}
 use Rattle.description_grammar.proofs.Meaning.{SamePlace}
 
 pub further_twice : (a b : ℕ) (e : Fault) → further a (further b e) ≡ further (a + b) e
@@ -24,16 +24,16 @@ at_first make n = ap make (omega arith)
 pub at_once : {A : Type 0} (make : ℕ → Fault) (n : ℕ) (e : Fault) → further n (make 0) ≡ make (n + 0) → e ≡ make 0 → failed {A = A} (make n) ≡ Err (further n e)
 at_once {A} make n e far is_e = ap (λ (e : Fault). failed {A = A} e) (at_first make n ∙ sym far ∙ ap (further n) (sym is_e))
 
--- a fault behind a front, further on
-pub behind_further : (i n : ℕ) (Bad : Fault → Type 0) (e : Fault) (b : Behind n Bad e) → further (i + n) b.0 ≡ further i e
-behind_further i n Bad e b = sym (further_twice i n b.0) ∙ ap (further i) (sym b.2)
+-- a fault after a prefix, further on
+pub after_further : (i n : ℕ) (Bad : Fault → Type 0) (e : Fault) (b : After n Bad e) → further (i + n) b.0 ≡ further i e
+after_further i n Bad e b = sym (further_twice i n b.0) ∙ ap (further i) (sym b.2)
 
-pub further_none : (n : ℕ) (Bad : Fault → Type 0) (e : Fault) (b : Behind n Bad e) → further 0 e ≡ e
-further_none n Bad e b = sym (behind_further 0 n Bad e b) ∙ ap (λ (n : ℕ). further n b.0) (omega arith) ∙ sym b.2
+pub further_none : (n : ℕ) (Bad : Fault → Type 0) (e : Fault) (b : After n Bad e) → further 0 e ≡ e
+further_none n Bad e b = sym (after_further 0 n Bad e b) ∙ ap (λ (n : ℕ). further n b.0) (omega arith) ∙ sym b.2
 
--- behind two fronts, one after the other
-pub behind_both : (a b n : ℕ) (Bad : Fault → Type 0) (e : Fault) → n ≡ a + b → Behind n Bad e → Behind a (Behind b Bad) e
-behind_both a b n Bad e place (own, bad, is_own) = (further b own, (own, bad, refl), is_own ∙ ap (λ (n : ℕ). further n own) place ∙ sym (further_twice a b own))
+-- after two prefixes, one after the other
+pub after_both : (a b n : ℕ) (Bad : Fault → Type 0) (e : Fault) → n ≡ a + b → After n Bad e → After a (After b Bad) e
+after_both a b n Bad e place (own, bad, is_own) = (further b own, (own, bad, refl), is_own ∙ ap (λ (n : ℕ). further n own) place ∙ sym (further_twice a b own))
 
 -- words at a text's beginning, and further on
 pub further_on : (n : ℕ) (e f : Fault) → SamePlace 0 n e f → f ≡ further n e

@@ -1,4 +1,4 @@
--- Runs of bytes, and what a text is left with behind its front.
+-- Runs of bytes, and what a text is left with after its prefix.
 use Rattle.std.proofs.Common.{◌≡◌, ℕ, zero, suc, ◌+◌, ◌<◌, List, [], ◌∷◌, ◌++◌, length, take, drop, Bool, true, false, refl, sym, ap, subst, arith, inl, inr, Ok, ◌∙◌, append_assoc}
 use Rattle.std.specs.List.{prefix_len}
 use Rattle.std.proofs.lemmas.List.{take-append-drop, take_at, drop_at, length-append}
@@ -6,7 +6,7 @@ use Rattle.std.proofs.lemmas.List.Folds.{length-prefix_len}
 use Rattle.std.proofs.lemmas.Bool.Decides.{nat_tests}
 use Rattle.description_lexer.specs.Text.{Rest, is_space, is_word_byte, run, past, after}
 use Rattle.description_grammar.specs.Heads.{Each, Stops}
-pub use Rattle.description_lexer.proofs.Fronts.{which, each_run, stops_past, run_again}
+pub use Rattle.description_lexer.proofs.Prefixes.{which, each_run, stops_past, run_again}
 use Rattle.std.proofs.lemmas.Bool.{eqb-true}
 use Rattle.base.specs.Bytes.{left_bracket, right_bracket}
 use Rattle.description_lexer.specs.Fault.{UnclosedOpeningBracket}
@@ -75,9 +75,9 @@ each_whole p s e = subst (Each p) (rw e (take_all s)) (each_run p s)
 
 -- ---- where a run stops
 
-pub stops_front : (p : ℕ → Bool) (xs ys : List ℕ) → Stops p (xs ++ ys) → Stops p xs
-stops_front p [] ys h = tt
-stops_front p (x ∷ xs) ys h = h
+pub stops_prefix : (p : ℕ → Bool) (xs ys : List ℕ) → Stops p (xs ++ ys) → Stops p xs
+stops_prefix p [] ys h = tt
+stops_prefix p (x ∷ xs) ys h = h
 
 pub stops_append : (p : ℕ → Bool) (xs ys : List ℕ) → Stops p xs → Stops p ys → Stops p (xs ++ ys)
 stops_append p [] ys h k = k

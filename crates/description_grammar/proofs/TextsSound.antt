@@ -17,20 +17,20 @@ use Rattle.description_lexer.specs.Words.{begins, is_escape, escape_at, literal_
 use Rattle.description_lexer.specs.Further.{further}
 use Rattle.description_grammar.specs.Reading.{doubled_at, text_at}
 use Rattle.description_grammar.specs.Heads.{Stops, MayBegin, SpellsLiteral, IsEscapable, SpellsEscape}
-use Rattle.description_grammar.specs.Faulty.{Behind, BadEscape}
+use Rattle.description_grammar.specs.Faulty.{After, BadEscape}
 use Rattle.description_grammar.proofs.Places.{at_first, at_once}
 use Rattle.description_grammar.proofs.Results.{not_first, or_is}
 use Rattle.description_grammar.proofs.ValueOrFault.{Reads, gives, refuses, either}
-use Rattle.description_grammar.proofs.Runs.{at_index, same_index, each_run, stops_past, stops_front, stops_append, run_again, Takes, takes_then, takes_byte, begins_cons}
+use Rattle.description_grammar.proofs.Runs.{at_index, same_index, each_run, stops_past, stops_prefix, stops_append, run_again, Takes, takes_then, takes_byte, begins_cons}
 
 abbrev pub SpellsText : DescriptionVersion → Bool → List ℕ → List ℕ → List ℕ → Type 0
 SpellsText v inner own more bytes = ((own ≡ bytes) × SpellsLiteral v inner bytes more) ⊎ SpellsEscape v own bytes
 
--- only the byte behind it matters to a literal
-pub text_front : (v : DescriptionVersion) (inner : Bool) (own more tail bytes : List ℕ) → SpellsText v inner own (more ++ tail) bytes → SpellsText v inner own more bytes
-text_front v inner own more tail [] (inl h) = absurd h.1
-text_front v inner own more tail (b ∷ bs) (inl h) = inl (h.0, (h.1.0, h.1.1, stops_front (is_plain v) more tail h.1.2))
-text_front v inner own more tail bytes (inr h) = inr h
+-- only the byte after it matters to a literal
+pub text_prefix : (v : DescriptionVersion) (inner : Bool) (own more tail bytes : List ℕ) → SpellsText v inner own (more ++ tail) bytes → SpellsText v inner own more bytes
+text_prefix v inner own more tail [] (inl h) = absurd h.1
+text_prefix v inner own more tail (b ∷ bs) (inl h) = inl (h.0, (h.1.0, h.1.1, stops_prefix (is_plain v) more tail h.1.2))
+text_prefix v inner own more tail bytes (inr h) = inr h
 
 pub text_more : (v : DescriptionVersion) (inner : Bool) (own more tail bytes : List ℕ) → Stops (is_plain v) tail → SpellsText v inner own more bytes → SpellsText v inner own (more ++ tail) bytes
 text_more v inner own more tail [] stops (inl h) = absurd h.1
@@ -66,7 +66,7 @@ escaped v inner s b h is_b back next =
     spelled Two h = (b, is_b, refl, refl)
     spelled Three h = (b, is_b, refl, refl)
 
-escape_reads : (v : DescriptionVersion) (inner : Bool) (s : Rest) → is_one v ≡ false → begins backslash s.text ≡ true → Reads (λ (x : List ℕ × Rest). TakesText v inner s x.0 x.1) (Behind s.index (BadEscape v s.text)) (escape_at s)
+escape_reads : (v : DescriptionVersion) (inner : Bool) (s : Rest) → is_one v ≡ false → begins backslash s.text ≡ true → Reads (λ (x : List ℕ × Rest). TakesText v inner s x.0 x.1) (After s.index (BadEscape v s.text)) (escape_at s)
 unfolding escape_at
 escape_reads v inner s h back = either _ _ _ (
     λ g. gives _ (elim (or_is (begins left_bracket (after 1 s).text) (begins backslash (after 1 s).text) (begins right_bracket (after 1 s).text) g) [
@@ -104,7 +104,7 @@ literal_takes v inner i (b ∷ bs) some h k l =
       spells = inl (refl, (may_begin v inner b bs h k l, each_run (is_plain v) bs, stops_past (is_plain v) bs));
     })
 
-pub text_reads : (v : DescriptionVersion) (inner : Bool) (s : Rest) → 0 < length s.text → begins left_bracket s.text ≡ false → (inner && begins right_bracket s.text) ≡ false → Reads (λ (x : List ℕ × Rest). TakesText v inner s x.0 x.1) (Behind s.index (BadEscape v s.text)) (text_at v s)
+pub text_reads : (v : DescriptionVersion) (inner : Bool) (s : Rest) → 0 < length s.text → begins left_bracket s.text ≡ false → (inner && begins right_bracket s.text) ≡ false → Reads (λ (x : List ℕ × Rest). TakesText v inner s x.0 x.1) (After s.index (BadEscape v s.text)) (text_at v s)
 unfolding text_at
 text_reads v inner s some h i = either _ _ _ (λ g. let p = not_first (is_one v) (begins backslash s.text) g in escape_reads v inner s p.0 p.1) (λ g. gives _ (literal_takes v inner s.index s.text some h i g))
 

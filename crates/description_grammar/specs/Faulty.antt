@@ -1,4 +1,4 @@
--- The first fault of a text that is no description. A fault's index counts from the first byte of its own construct; behind a front it is further on.
+-- The first fault of a text that is no description. A fault's index counts from the first byte of its own construct; after a prefix it is further on.
 use Rattle.std.specs.Prelude.{◌≡◌, ℕ, zero, suc, ◌+◌, ◌<◌, Bool, true, false, List, [], ◌∷◌, ◌++◌, length, Err, codes, ◌⊎◌}
 use Rattle.base.specs.Bytes.{colon, left_bracket, backslash, right_bracket}
 use Rattle.description_lexer.specs.Fault.{Fault, UnclosedOpeningBracket, InvalidModifier, MissingComponentName, Expected, NotSupported}
@@ -13,9 +13,9 @@ use Rattle.description_lexer.specs.Words.{Modifier, is_named, begins, is_escape}
 use Rattle.description_grammar.specs.Heads.{Each, Stops, IsWord, SpellsHead, SpellsOpening, SpellsNesting}
 use Rattle.description_grammar.specs.Spelling.{SpellsItems, SpellsNested, SpellsAlternatives}
 
--- a fault behind so many bytes
-abbrev pub Behind : ℕ → (Fault → Type 0) → Fault → Type 0
-Behind n Bad fault = (own : Fault) × Bad own × (fault ≡ further n own)
+-- a fault after so many bytes
+abbrev pub After : ℕ → (Fault → Type 0) → Fault → Type 0
+After n Bad fault = (own : Fault) × Bad own × (fault ≡ further n own)
 
 -- ---- components
 
@@ -58,7 +58,7 @@ pub record HasBadWord (v : DescriptionVersion) (text : List ℕ) (fault : Fault)
   pub apart : 0 < length is_head.last
   pub is_word : IsWord word
   pub no_word : Stops is_word_byte rest
-  pub bad : Behind (length head) (BadWord word) fault
+  pub bad : After (length head) (BadWord word) fault
 
 pub record IsUnclosed (v : DescriptionVersion) (text : List ℕ) (fault : Fault) : Type 0 where
   pub head : List ℕ
@@ -124,7 +124,7 @@ pub record HasFaultInside (v : DescriptionVersion) (name : List ℕ) (Before : L
   pub parts : text ≡ opening ++ (before ++ rest)
   pub is_opening : SpellsOpening v name opening
   pub is_before : Before before
-  pub is_bad : Behind (length opening + length before) (Deeper rest) fault
+  pub is_bad : After (length opening + length before) (Deeper rest) fault
 
 pub record IsNestingUnclosed (v : DescriptionVersion) (name : List ℕ) (Inside : List ℕ → List ℕ → Type 0) (text : List ℕ) (fault : Fault) : Type 0 where
   pub opening : List ℕ
@@ -158,7 +158,7 @@ BadNesting v name what Before Inside Deeper text fault =
 abbrev pub IsOne : DescriptionVersion → ℕ → List ℕ → List ℕ → Type 0
 IsOne v levels inside rest = (t : Tree) × SpellsNested v levels inside t
 
--- one nested description or more, and no other behind them
+-- one nested description or more, and no other after them
 abbrev pub AreSome : DescriptionVersion → ℕ → List ℕ → List ℕ → Type 0
 AreSome v levels inside rest = (ts : Trees) × (0 < length inside) × SpellsAlternatives v levels inside ts × (begins left_bracket rest ≡ false)
 
@@ -177,7 +177,7 @@ BadFirst v levels Deeper = BadNesting v (codes "first") (codes "whitespace after
 
 -- ---- texts
 
--- the construct at the front of the text is bad
+-- the construct at the start of the text is bad
 abbrev pub BadItem : DescriptionVersion → ℕ → Wrong → Wrong
 BadItem v levels Deeper text fault =
     BadEscape v text fault
@@ -191,17 +191,17 @@ BadItem v levels Deeper text fault =
 -- spelled items, followed by a bad construct
 pub record FaultyItems (v : DescriptionVersion) (inner : Bool) (levels : ℕ) (Deeper : Wrong) (text : List ℕ) (fault : Fault) : Type 0 where
   pub items : Trees
-  pub front : List ℕ
+  pub prefix : List ℕ
   pub bad : List ℕ
-  pub parts : text ≡ front ++ bad
-  pub is_front : SpellsItems v inner levels front items
-  pub is_bad : Behind (length front) (BadItem v levels Deeper bad) fault
+  pub parts : text ≡ prefix ++ bad
+  pub is_prefix : SpellsItems v inner levels prefix items
+  pub is_bad : After (length prefix) (BadItem v levels Deeper bad) fault
 
 -- a nested description opens one level more than there may be; or it holds a fault; or the text ends in it
 unfoldable pub FaultyNested : DescriptionVersion → ℕ → Wrong
 FaultyNested v zero text fault = (rest : List ℕ) × (text ≡ left_bracket ∷ rest) × (fault ≡ NotSupported (codes "nesting past 127 levels") (codes "format descriptions") 0)
 FaultyNested v (suc levels) text fault =
-    (rest : List ℕ) × (text ≡ left_bracket ∷ rest) × (Behind 1 (FaultyItems v true levels (FaultyNested v levels) rest) fault
+    (rest : List ℕ) × (text ≡ left_bracket ∷ rest) × (After 1 (FaultyItems v true levels (FaultyNested v levels) rest) fault
     ⊎ ((items : Trees) × SpellsItems v true levels rest items × (fault ≡ UnclosedOpeningBracket 0)))
 
 -- the first fault of the whole text

@@ -15,7 +15,7 @@ pub record OneOutcome (v : DescriptionVersion) (text : List ℕ) : Type 0 where
   pub one_fault : (e f : Fault) → Faulty v text e → Faulty v text f → e ≡ f
   pub not_both : (a : List Tree) (e : Fault) → Spells v text a → Faulty v text e → ⊥
 
--- the answer is a value whose tree, seen by view, the text spells, or a fault that it has; of want of memory nothing is said
+-- the answer is a value whose tree, seen by view, the text spells, or a fault that it has; of lack of memory nothing is said
 abbrev pub Outcome : {X : Type 0} → (X → Tree) → DescriptionVersion → List ℕ → Result X DescriptionFault → Type 0
 Outcome view v text (Ok x) = SpellsTree v text (view x)
 Outcome view v text (Err Memory) = Unit {0}

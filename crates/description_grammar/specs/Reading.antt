@@ -25,7 +25,7 @@ text_at v here =
     if not (is_one v) && begins backslash here.text then escape_at here
     else Ok (take (literal_len v here.text) here.text, after (literal_len v here.text) here)
 
--- a component behind its name
+-- a component after its name
 unfoldable pub component_from : DescriptionVersion → ℕ → Rest → Rest → Result (Component × Rest) Fault
 component_from v bracket name here = do
   modifiers ← modifiers_at here

@@ -13,7 +13,7 @@ abbrev mutual
   SpellsItems v inner levels text none = text ≡ []
   SpellsItems v inner levels text (also t ts) = (own more : List ℕ) × (text ≡ own ++ more) × SpellsItem v inner levels own more t × SpellsItems v inner levels more ts
 
-  -- one item, with more behind it; only version 3 has nested items
+  -- one item, with more after it; only version 3 has nested items
   pub SpellsItem : DescriptionVersion → Bool → ℕ → List ℕ → List ℕ → Tree → Type 0
   SpellsItem v inner levels own more (Literal bytes) = ((own ≡ bytes) × SpellsLiteral v inner bytes more) ⊎ SpellsEscape v own bytes
   SpellsItem v inner levels own more (Part c) = SpellsComponent v own c

@@ -1,4 +1,4 @@
-//! Components behind their names.
+//! Components after their names.
 
 ghost use Rattle.std.specs.Prelude.{◌≡◌, IfOk};
 ghost use Rattle.description_lexer.specs.Answer.{Gives};

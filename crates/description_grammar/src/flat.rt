@@ -51,14 +51,14 @@ fn element<'a>(
         (element_at version (nested_at version 127) (rest_of here.entry)) }
     ensures form { IfOk result (λ x. is_of_text x.0 ≡ true) }
 {
-    if let Some((front, rest)) = doubled(version, here) {
-        return Ok((BorrowedFormatItem::StringLiteral(front), rest));
+    if let Some((prefix, rest)) = doubled(version, here) {
+        return Ok((BorrowedFormatItem::StringLiteral(prefix), rest));
     }
     if begins(here.text, b'[') {
         return bracketed(alloc, version, here);
     }
-    let (front, rest) = text(version, here)?;
-    Ok((BorrowedFormatItem::StringLiteral(front), rest))
+    let (prefix, rest) = text(version, here)?;
+    Ok((BorrowedFormatItem::StringLiteral(prefix), rest))
 }
 
 #[tactic(auto, unfolding(crate::specs::Reading::bracket_at))]

@@ -113,14 +113,14 @@ fn element<'a>(
         (element_at version (nested_at version levels) (rest_of here.entry)) }
     ensures form { IfOk result (λ x. is_read x.0 ≡ true) }
 {
-    if let Some((front, rest)) = doubled(version, here) {
-        return Ok((FormatDescriptionV3Inner::BorrowedLiteral(front), rest));
+    if let Some((prefix, rest)) = doubled(version, here) {
+        return Ok((FormatDescriptionV3Inner::BorrowedLiteral(prefix), rest));
     }
     if begins(here.text, b'[') {
         return bracketed(alloc, version, levels, here);
     }
-    let (front, rest) = text(version, here)?;
-    Ok((FormatDescriptionV3Inner::BorrowedLiteral(front), rest))
+    let (prefix, rest) = text(version, here)?;
+    Ok((FormatDescriptionV3Inner::BorrowedLiteral(prefix), rest))
 }
 
 #[tactic(auto, unfolding(crate::specs::Reading::bracket_at))]
@@ -148,7 +148,7 @@ fn bracketed<'a>(
     Ok((FormatDescriptionV3Inner::from(component), rest))
 }
 
-/// An optional item behind its name, and what follows it.
+/// An optional item after its name, and what follows it.
 #[tactic(auto, unfolding(crate::specs::Reading::optional_at))]
 #[cycle(nested)]
 pub fn optional<'a>(
@@ -175,7 +175,7 @@ pub fn optional<'a>(
     ))
 }
 
-/// Alternatives behind their name, and what follows them.
+/// Alternatives after their name, and what follows them.
 #[tactic(auto, unfolding(crate::specs::Reading::first_at))]
 #[cycle(nested)]
 pub fn first<'a>(

@@ -23,11 +23,11 @@ pub fn doubled<'a>(version: DescriptionVersion, here: Rest<'a>) -> Option<(&'a s
     if !begins(rest.text, b'[') {
         return None;
     }
-    let (front, rest) = cut(rest, 1);
-    Some((front.text, rest))
+    let (prefix, rest) = cut(rest, 1);
+    Some((prefix.text, rest))
 }
 
-/// The literal or the escape at the front, and what follows it.
+/// The literal or the escape at the start, and what follows it.
 #[tactic(auto, unfolding(crate::specs::Reading::text_at))]
 pub fn text<'a>(
     version: DescriptionVersion,

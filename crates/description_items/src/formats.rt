@@ -6,7 +6,7 @@
 pub struct Rfc2822;
 
 /// The format of RFC 3339, section 5.6, as `2003-07-01T10:52:37.5+02:00`, with any one byte between date and time.
-/// `z` is read as `Z`, and digits behind the ninth of a fraction are dropped.
+/// `z` is read as `Z`, and digits after the ninth of a fraction are dropped.
 #[derive(Clone, Copy, Debug, PartialEq, Eq)]
 pub struct Rfc3339;
 

@@ -2,5 +2,5 @@ pub mod Cuts
 pub mod Many
 pub mod Readings
 pub mod Shorter
-pub mod Fronts
+pub mod Prefixes
 pub mod Steps

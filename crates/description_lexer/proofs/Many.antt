@@ -16,20 +16,20 @@ abbrev pub Step : Type 0 → Type 0
 Step A = Rest → Result (A × Rest) Fault
 
 -- what was read before, and what is still read
-abbrev pub with_front : {A : Type 0} → List A → Read A → Read A
-with_front front read = read >>= λ x. Ok (front ++ x.0, x.1)
+abbrev pub with_prefix : {A : Type 0} → List A → Read A → Read A
+with_prefix prefix read = read >>= λ x. Ok (prefix ++ x.0, x.1)
 
 -- what is told of the whole is what was read, and what the rest gives
-pub record SoFar {A : Type 0} (ends : Rest → Bool) (step : Step A) (total : Read A) (front : List A) (rest : Rest) : Type 0 where
+pub record SoFar {A : Type 0} (ends : Rest → Bool) (step : Step A) (total : Read A) (prefix : List A) (rest : Rest) : Type 0 where
   pub fuel : ℕ
   pub enough : length rest.text < fuel
-  pub same : total ≡ with_front front (many ends step fuel rest)
+  pub same : total ≡ with_prefix prefix (many ends step fuel rest)
 
-regroup : {A : Type 0} (front : List A) (m : A) (read : Read A) → with_front front (read >>= λ x. Ok (m ∷ x.0, x.1)) ≡ with_front (front ++ m ∷ []) read
-regroup {A} front m (Ok x) = ap (λ (ms : List A). Ok (ms, x.1)) (simp append_assoc)
-regroup front m (Err f) = refl
+regroup : {A : Type 0} (prefix : List A) (m : A) (read : Read A) → with_prefix prefix (read >>= λ x. Ok (m ∷ x.0, x.1)) ≡ with_prefix (prefix ++ m ∷ []) read
+regroup {A} prefix m (Ok x) = ap (λ (ms : List A). Ok (ms, x.1)) (simp append_assoc)
+regroup prefix m (Err f) = refl
 
-bare : {A : Type 0} (read : Read A) → with_front [] read ≡ read
+bare : {A : Type 0} (read : Read A) → with_prefix [] read ≡ read
 bare (Ok x) = refl
 bare (Err f) = refl
 
@@ -44,24 +44,24 @@ at_end : {A : Type 0} (ends : Rest → Bool) (step : Step A) (k : ℕ) (s : Rest
 unfolding many
 at_end ends step k s e = rw e refl
 
-pub many_goes_on : {A : Type 0} (ends : Rest → Bool) (step : Step A) (total : Read A) (front : List A) (s : Rest) (m : A) (after : Rest) → SoFar ends step total front s → ends s ≡ false → length after.text < length s.text → step s ≡ Ok (m, after) → SoFar ends step total (front ++ m ∷ []) after
-many_goes_on {A} ends step total front s m after so_far e less is_m = go so_far.fuel so_far.enough so_far.same
+pub many_goes_on : {A : Type 0} (ends : Rest → Bool) (step : Step A) (total : Read A) (prefix : List A) (s : Rest) (m : A) (after : Rest) → SoFar ends step total prefix s → ends s ≡ false → length after.text < length s.text → step s ≡ Ok (m, after) → SoFar ends step total (prefix ++ m ∷ []) after
+many_goes_on {A} ends step total prefix s m after so_far e less is_m = go so_far.fuel so_far.enough so_far.same
   where
-    go : (f : ℕ) → length s.text < f → total ≡ with_front front (many ends step f s) → SoFar ends step total (front ++ m ∷ []) after
+    go : (f : ℕ) → length s.text < f → total ≡ with_prefix prefix (many ends step f s) → SoFar ends step total (prefix ++ m ∷ []) after
     go zero lt same = absurd (omega arith)
-    go (suc k) lt same = record { fuel = k; enough = omega arith; same = same ∙ ap (with_front front) (at_step ends step k s e) ∙ rw is_m (regroup front m (many ends step k after)) }
+    go (suc k) lt same = record { fuel = k; enough = omega arith; same = same ∙ ap (with_prefix prefix) (at_step ends step k s e) ∙ rw is_m (regroup prefix m (many ends step k after)) }
 
-pub many_fails : {A : Type 0} (ends : Rest → Bool) (step : Step A) (total : Read A) (front : List A) (s : Rest) (d : DescriptionFault) → SoFar ends step total front s → ends s ≡ false → Fails d (step s) → Fails d total
-many_fails ends step total front s errors.Memory so_far e is_d = tt
-many_fails ends step total front s (errors.Description d) so_far e is_d = go so_far.fuel so_far.enough so_far.same
+pub many_fails : {A : Type 0} (ends : Rest → Bool) (step : Step A) (total : Read A) (prefix : List A) (s : Rest) (d : DescriptionFault) → SoFar ends step total prefix s → ends s ≡ false → Fails d (step s) → Fails d total
+many_fails ends step total prefix s errors.Memory so_far e is_d = tt
+many_fails ends step total prefix s (errors.Description d) so_far e is_d = go so_far.fuel so_far.enough so_far.same
   where
-    go : (f : ℕ) → length s.text < f → total ≡ with_front front (many ends step f s) → total ≡ Err (fault_of d)
+    go : (f : ℕ) → length s.text < f → total ≡ with_prefix prefix (many ends step f s) → total ≡ Err (fault_of d)
     go zero lt same = absurd (omega arith)
-    go (suc k) lt same = same ∙ ap (with_front front) (at_step ends step k s e) ∙ rw is_d refl
+    go (suc k) lt same = same ∙ ap (with_prefix prefix) (at_step ends step k s e) ∙ rw is_d refl
 
-pub many_ends : {A : Type 0} (ends : Rest → Bool) (step : Step A) (total : Read A) (front : List A) (s : Rest) → SoFar ends step total front s → ends s ≡ true → total ≡ Ok (front, s)
-many_ends {A} ends step total front s so_far e = go so_far.fuel so_far.enough so_far.same
+pub many_ends : {A : Type 0} (ends : Rest → Bool) (step : Step A) (total : Read A) (prefix : List A) (s : Rest) → SoFar ends step total prefix s → ends s ≡ true → total ≡ Ok (prefix, s)
+many_ends {A} ends step total prefix s so_far e = go so_far.fuel so_far.enough so_far.same
   where
-    go : (f : ℕ) → length s.text < f → total ≡ with_front front (many ends step f s) → total ≡ Ok (front, s)
+    go : (f : ℕ) → length s.text < f → total ≡ with_prefix prefix (many ends step f s) → total ≡ Ok (prefix, s)
     go zero lt same = absurd (omega arith)
-    go (suc k) lt same = same ∙ ap (with_front front) (at_end ends step k s e) ∙ ap (λ (ms : List A). Ok (ms, s)) (append-nil front)
+    go (suc k) lt same = same ∙ ap (with_prefix prefix) (at_end ends step k s e) ∙ ap (λ (ms : List A). Ok (ms, s)) (append-nil prefix)

@@ -34,9 +34,9 @@ many_steps {A} ends step less (suc k) s x lt e =
 
 -- the steps before the one that fails
 pub record Failing {A : Type 0} (ends : Rest → Bool) (step : Step A) (s : Rest) (e : Fault) : Type 0 where
-  pub front : List A
+  pub prefix : List A
   pub bad : Rest
-  pub steps : Steps ends step s front bad
+  pub steps : Steps ends step s prefix bad
   pub goes_on : ends bad ≡ false
   pub fails : step bad ≡ Err e
 
@@ -47,11 +47,11 @@ many_failing {A} ends step less (suc k) s e lt h =
     elim (chosen (ends s) (Ok ([], s)) (step s >>= λ y. many ends step k y.1 >>= λ others. Ok (y.0 ∷ others.0, others.1)) (Err e) h) [
       | inl g ↦ absurd (not_err ([], s) e g.1)
       | inr g ↦ elim (bind_err (step s) (λ y. many ends step k y.1 >>= λ others. Ok (y.0 ∷ others.0, others.1)) e g.1) [
-        | inl a ↦ record { front = []; bad = s; steps = refl; goes_on = g.0; fails = a }
+        | inl a ↦ record { prefix = []; bad = s; steps = refl; goes_on = g.0; fails = a }
         | inr a ↦ elim (bind_err (many ends step k a.0.1) (λ others. Ok (a.0.0 ∷ others.0, others.1)) e a.2) [
           | inl b ↦
               let more : Failing ends step a.0.1 e = many_failing ends step less k a.0.1 e (omega (arith, less s a.0 g.0 a.1)) b in
-              record { front = a.0.0 ∷ more.front; bad = more.bad; steps = (a.0.1, g.0, a.1, more.steps); goes_on = more.goes_on; fails = more.fails }
+              record { prefix = a.0.0 ∷ more.prefix; bad = more.bad; steps = (a.0.1, g.0, a.1, more.steps); goes_on = more.goes_on; fails = more.fails }
           | inr b ↦ absurd (not_err (a.0.0 ∷ b.0.0, b.0.1) e b.2)
         ]
       ]

@@ -16,7 +16,7 @@ abbrev pub Answers : {X Y : Type 0} → (X → Y) → Result X InvalidFormatDesc
 Answers view (Ok x) read = read ≡ Ok (view x)
 Answers view (Err e) read = read ≡ Err (fault_of e)
 
--- a fault is the one that is read; of want of memory nothing is said
+-- a fault is the one that is read; of lack of memory nothing is said
 abbrev pub Fails : {Y : Type 0} → DescriptionFault → Result Y Fault → Type 0
 Fails Memory read = Unit {0}
 Fails (Description e) read = read ≡ Err (fault_of e)

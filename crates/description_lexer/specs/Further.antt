@@ -1,4 +1,4 @@
--- Faults behind more text.
+-- Faults after more text.
 use Rattle.std.specs.Prelude.{ℕ, ◌+◌}
 use Rattle.description_lexer.specs.Fault.{Fault, UnclosedOpeningBracket, InvalidComponentName, InvalidModifier, MissingComponentName, MissingRequiredModifier, Expected, NotSupported, DuplicateModifier, InvalidModifierCombination}
 

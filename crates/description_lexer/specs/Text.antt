@@ -33,7 +33,7 @@ pub record Rest : Type 0 where
 abbrev pub whole : List ℕ → Rest
 whole text = record { index = 0; text = text }
 
--- the run of such bytes at the front
+-- the run of such bytes at the start
 abbrev pub run : (ℕ → Bool) → Rest → Rest
 run p here = record { index = here.index; text = take (prefix_len p here.text) here.text }
 
@@ -50,7 +50,7 @@ abbrev pub Each : (ℕ → Bool) → List ℕ → Type 0
 Each p [] = Unit {0}
 Each p (b ∷ bs) = (p b ≡ true) × Each p bs
 
--- no such byte stands at the front
+-- no such byte stands at the start
 abbrev pub Stops : (ℕ → Bool) → List ℕ → Type 0
 Stops p [] = Unit {0}
 Stops p (b ∷ bs) = p b ≡ false

@@ -28,7 +28,7 @@ begins b (c ∷ cs) = c == b
 abbrev pub has_word : Rest → Bool
 has_word here = not (prefix_len is_word_byte here.text == 0)
 
--- a word with a colon, a key before it and a value behind it
+-- a word with a colon, a key before it and a value after it
 unfoldable pub modifier_in : Rest → Result Modifier Fault
 modifier_in word =
     if prefix_len is_no_colon word.text == length word.text then Err (InvalidModifier word.text word.index)
@@ -36,7 +36,7 @@ modifier_in word =
     else (if prefix_len is_no_colon word.text + 1 == length word.text then Err (InvalidModifier [] (word.index + length word.text))
     else Ok (record { key = run is_no_colon word; value = after (prefix_len is_no_colon word.text + 1) word })))
 
--- the modifier behind the white space
+-- the modifier after the white space
 unfoldable pub modifier_at : Rest → Result (Modifier × Rest) Fault
 modifier_at here = do
   modifier ← modifier_in (run is_word_byte (past is_space here))
@@ -51,7 +51,7 @@ modifiers_at here = do
   all ← many no_modifier modifier_at (suc (length here.text)) here
   Ok (all.0, past is_space all.1)
 
--- the name behind a bracket
+-- the name after a bracket
 unfoldable pub name_at : ℕ → Rest → Result (Rest × Rest) Fault
 name_at bracket here =
     if has_word (past is_space here) then Ok (run is_word_byte (past is_space here), past is_word_byte (past is_space here))

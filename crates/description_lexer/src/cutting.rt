@@ -18,11 +18,11 @@ pub fn whole_of<'a>(text: &'a str) -> Rest<'a>
 /// The first `len` bytes, and what follows them.
 pub fn cut<'a>(here: Rest<'a>, len: usize) -> (Rest<'a>, Rest<'a>)
     requires { IsCharBoundary here.text.now len }
-    ensures front { (rest_of result.0).index ≡ here.entry.index }
+    ensures prefix { (rest_of result.0).index ≡ here.entry.index }
     ensures text { (rest_of result.0).text ≡ take len here.entry.text.now }
     ensures back { rest_of result.1 ≡ after len (rest_of here.entry) }
 {
-    let front = Rest {
+    let prefix = Rest {
         index: here.index,
         text: &here.text[..len],
     };
@@ -30,5 +30,5 @@ pub fn cut<'a>(here: Rest<'a>, len: usize) -> (Rest<'a>, Rest<'a>)
         index: here.index + len,
         text: &here.text[len..],
     };
-    (front, back)
+    (prefix, back)
 }

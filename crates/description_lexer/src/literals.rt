@@ -38,11 +38,11 @@ pub fn literal<'a>(version: DescriptionVersion, here: Rest<'a>) -> (&'a str, Res
     ensures rest { rest_of result.1
         ≡ after (literal_len version here.entry.text.now) (rest_of here.entry) }
 {
-    let (front, rest) = cut(here, literal_len(version, here.text));
-    (front.text, rest)
+    let (prefix, rest) = cut(here, literal_len(version, here.text));
+    (prefix.text, rest)
 }
 
-/// The bracket or backslash behind a backslash, and what follows it.
+/// The bracket or backslash after a backslash, and what follows it.
 #[tactic(auto, unfolding(crate::specs::Words::escape_at))]
 pub fn escape<'a>(here: Rest<'a>) -> Result<(&'a str, Rest<'a>), InvalidFormatDescription<'a>>
     requires { IsCharBoundary here.text.now 1 }
@@ -50,8 +50,8 @@ pub fn escape<'a>(here: Rest<'a>) -> Result<(&'a str, Rest<'a>), InvalidFormatDe
 {
     let (_, rest) = cut(here, 1);
     if begins(rest.text, b'[') || begins(rest.text, b'\\') || begins(rest.text, b']') {
-        let (front, rest) = cut(rest, 1);
-        Ok((front.text, rest))
+        let (prefix, rest) = cut(rest, 1);
+        Ok((prefix.text, rest))
     } else {
         Err(InvalidFormatDescription::Expected {
             what: "valid escape sequence",

@@ -62,13 +62,13 @@ fn has_word(here: Rest<'_>) -> bool
     }
 }
 
-// The modifier behind the white space, and what follows it.
+// The modifier after the white space, and what follows it.
 #[tactic(auto, unfolding(crate::specs::Words::modifier_at))]
 fn modifier_of<'a>(here: Rest<'a>) -> Result<(Modifier<'a>, Rest<'a>), InvalidFormatDescription<'a>>
     ensures { Answers (λ x. (modifier x.0, rest_of x.1)) result (modifier_at (rest_of here.entry)) }
 {
-    let (front, rest) = word(past_space(here));
-    let modifier = modifier_in(front)?;
+    let (prefix, rest) = word(past_space(here));
+    let modifier = modifier_in(prefix)?;
     Ok((modifier, rest))
 }
 

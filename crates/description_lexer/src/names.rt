@@ -33,7 +33,7 @@ pub fn begins(text: &str, byte: u8) -> bool
     }
 }
 
-/// The name behind a bracket, with white space before it where it likes, and what follows the name.
+/// The name after a bracket, with white space before it where it likes, and what follows the name.
 #[tactic(auto, unfolding(crate::specs::Words::name_at))]
 pub fn name_of<'a>(
     bracket: usize,

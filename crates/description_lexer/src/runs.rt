@@ -78,9 +78,9 @@ pub fn past_space<'a>(here: Rest<'a>) -> Rest<'a>
     cut(here, len).1
 }
 
-/// The word at the front, and what follows it.
+/// The word at the start, and what follows it.
 pub fn word<'a>(here: Rest<'a>) -> (Rest<'a>, Rest<'a>)
-    ensures front { rest_of result.0 ≡ run is_word_byte (rest_of here.entry) }
+    ensures prefix { rest_of result.0 ≡ run is_word_byte (rest_of here.entry) }
     ensures back { rest_of result.1 ≡ past is_word_byte (rest_of here.entry) }
 {
     let len = word_len(here.text.as_bytes());

@@ -14,7 +14,7 @@ use Rattle.description_strftime.specs.Reading.{letter_at, conversion_at, plain_l
 use Rattle.description_strftime.specs.Spelled.{flag_text, SpellsConversion, SpellsPart}
 use Rattle.description_strftime.specs.Faulty.{IsNoFlag}
 use Rattle.description_strftime.proofs.Flags.{at_index, no_flag, flag_again, past_again}
-use Rattle.description_lexer.proofs.Fronts.{run_again}
+use Rattle.description_lexer.proofs.Prefixes.{run_again}
 
 abbrev pub Step : Type 0
 Step = Result (List Tree × Rest) Fault
@@ -40,13 +40,13 @@ percent_again i rest = refl
 
 spelled_again : (i : ℕ) (own more : List ℕ) (items : List Tree) → SpellsConversion own items → strftime_step (at_index i (own ++ more)) ≡ done items (i + length own) more
 spelled_again i own more items h =
-    let front : List ℕ = flag_text h.flag in
-    let regroup : own ++ more ≡ percent ∷ (front ++ h.letter ∷ more) = rw h.parts (ap (λ (l : List ℕ). percent ∷ l) (append_assoc front (h.letter ∷ []) more)) in
-    let len : i + 1 + length front + 1 ≡ i + length own = omega (arith, ap (length {A = ℕ}) h.parts, length-append front (h.letter ∷ [])) in
-    rw regroup (percent_again i (front ++ h.letter ∷ more)
+    let prefix : List ℕ = flag_text h.flag in
+    let regroup : own ++ more ≡ percent ∷ (prefix ++ h.letter ∷ more) = rw h.parts (ap (λ (l : List ℕ). percent ∷ l) (append_assoc prefix (h.letter ∷ []) more)) in
+    let len : i + 1 + length prefix + 1 ≡ i + length own = omega (arith, ap (length {A = ℕ}) h.parts, length-append prefix (h.letter ∷ [])) in
+    rw regroup (percent_again i (prefix ++ h.letter ∷ more)
     ∙ conversion_again i (i + 1) h.flag h.letter more (no_flag h.flag h.letter items h.means)
-    ∙ letter_again i (i + 1 + length front) h.flag h.letter more items h.means
-    ∙ done_at items (i + 1 + length front + 1) (i + length own) more len)
+    ∙ letter_again i (i + 1 + length prefix) h.flag h.letter more items h.means
+    ∙ done_at items (i + 1 + length prefix + 1) (i + length own) more len)
 
 plain_is : (b : ℕ) → is_plain b ≡ true → (b == percent) ≡ false
 plain_is b e = grind (arith, nat_tests)

@@ -9,7 +9,7 @@ use Rattle.std.proofs.lemmas.Bool.{cases_lt}
 use Rattle.std.proofs.lemmas.Str.{IsCharBoundary-before_ascii, IsCharBoundary-after_ascii}
 use Rattle.description_strftime.specs.Text.{is_plain, is_continuation}
 
--- behind a first byte of ASCII
+-- after a first byte of ASCII
 pub ascii_cut : (s : List ℕ) → IsUtf8 s → 0 < length s → get_or s 0 0 < 128 → IsCharBoundary s 1
 ascii_cut s utf8 some here = IsCharBoundary-after_ascii s 0 utf8 some here
 
@@ -30,7 +30,7 @@ begins_character b h le = grind (arith, nat_tests)
 pub character_le : (s : List ℕ) → 0 < length s → 1 + prefix_len is_continuation (drop 1 s) ≤ length s
 character_le s some = omega (arith, prefix_len-le-length is_continuation (drop 1 s), length-drop 1 s)
 
--- behind the character at the front
+-- after the character at the start
 pub character_cut : (s : List ℕ) → 0 < length s → IsCharBoundary s (1 + prefix_len is_continuation (drop 1 s))
 character_cut s some = (character_le s some, λ lt ascii. go lt ascii)
   where

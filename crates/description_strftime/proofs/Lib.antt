@@ -1,7 +1,7 @@
 pub mod Again
 pub mod Composites
 pub mod Cuts
-pub mod FaultsBehind
+pub mod FaultsAfter
 pub mod Flags
 pub mod Joins
 pub mod Outcomes

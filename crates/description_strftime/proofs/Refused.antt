@@ -18,7 +18,7 @@ use Rattle.description_strftime.specs.Spelled.{flag_text}
 use Rattle.description_strftime.specs.Faulty.{head, IsNoFlag, BadConversion}
 use Rattle.description_strftime.proofs.Flags.{at_index, flag_takes, flag_index}
 use Rattle.description_lexer.proofs.Readings.{err_is, not_err}
-use Rattle.description_lexer.proofs.Fronts.{each_run, stops_past}
+use Rattle.description_lexer.proofs.Prefixes.{each_run, stops_past}
 use Rattle.description_strftime.proofs.Again.{Step}
 
 abbrev pub failed : Fault → Step
@@ -47,7 +47,7 @@ letter_lacking start flag i fault e = sym (err_is {A = List Tree × Rest} (Expec
 pub one_more : (n : ℕ) (b : ℕ) (bs : List ℕ) → take (1 + n) (b ∷ bs) ≡ b ∷ take n bs
 one_more n b bs = let one : 1 + n ≡ suc n = omega arith in rw one refl
 
--- what is wrong with a character behind a percent sign and a flag
+-- what is wrong with a character after a percent sign and a flag
 refusal_is : (at : ℕ) (flag : Option Padding) (b : ℕ) (bs : List ℕ) (fault : Fault) → IsNoFlag flag b → RefusesLetter flag (at_index (at + length (head flag)) (b ∷ bs)) b fault → BadConversion at (head flag ++ b ∷ bs) fault
 refusal_is at flag b bs fault no_flag h = go (refused b) refl
   where
@@ -81,10 +81,10 @@ refusal_is at flag b bs fault no_flag h = go (refused b) refl
       fault_is = h.fault_is ∙ ap (λ (r : Option (List ℕ)). refusal r (at_index j (b ∷ bs))) is_r ∙ ap (λ (l : List ℕ). InvalidComponentName l j) (one_more n b bs);
     }))
 
--- behind no flag stands none
-none_behind : (i : ℕ) (text : List ℕ) (b : ℕ) (bs : List ℕ) (flag : Option Padding) → flag_at text ≡ flag → (past_flag flag (at_index i text)).text ≡ b ∷ bs → IsNoFlag flag b
-none_behind i text b bs None e h = sym (ap flag_at h) ∙ e
-none_behind i text b bs (Some p) e h = tt
+-- after no flag stands none
+none_after : (i : ℕ) (text : List ℕ) (b : ℕ) (bs : List ℕ) (flag : Option Padding) → flag_at text ≡ flag → (past_flag flag (at_index i text)).text ≡ b ∷ bs → IsNoFlag flag b
+none_after i text b bs None e h = sym (ap flag_at h) ∙ e
+none_after i text b bs (Some p) e h = tt
 
 conversion_refused : (at : ℕ) (text : List ℕ) (fault : Fault) → conversion_at at (at_index (at + 1) text) ≡ Err fault → BadConversion at (percent ∷ text) fault
 unfolding conversion_at
@@ -110,7 +110,7 @@ conversion_refused at text fault e = go (past_flag flag (at_index (at + 1) text)
     })
     go (b ∷ bs) is_t =
         let here : letter_at at flag (at_index (at + length (head flag)) (b ∷ bs)) ≡ Err fault = subst (λ (k : ℕ). letter_at at flag (at_index k (b ∷ bs)) ≡ Err fault) index (subst (λ (l : List ℕ). letter_at at flag (at_index m.index l) ≡ Err fault) is_t e) in
-        let bad : BadConversion at (head flag ++ b ∷ bs) fault = refusal_is at flag b bs fault (none_behind (at + 1) text b bs flag refl is_t) (letter_refused at flag (at + length (head flag)) b bs fault here) in
+        let bad : BadConversion at (head flag ++ b ∷ bs) fault = refusal_is at flag b bs fault (none_after (at + 1) text b bs flag refl is_t) (letter_refused at flag (at + length (head flag)) b bs fault here) in
         subst (λ (l : List ℕ). BadConversion at (percent ∷ l) fault) (sym (whole ∙ ap (λ (l : List ℕ). flag_text flag ++ l) is_t)) bad
 
 step_refused : (at : ℕ) (text : List ℕ) (fault : Fault) → strftime_step (at_index at text) ≡ Err fault → BadConversion at text fault

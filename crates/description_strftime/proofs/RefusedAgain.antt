@@ -14,7 +14,7 @@ use Rattle.description_strftime.specs.Reading.{character_len, past_flag, refusal
 use Rattle.description_strftime.specs.Spelled.{flag_text}
 use Rattle.description_strftime.specs.Faulty.{head, IsNoFlag, BadConversion}
 use Rattle.description_strftime.proofs.Flags.{at_index, flag_alone}
-use Rattle.description_lexer.proofs.Fronts.{run_again}
+use Rattle.description_lexer.proofs.Prefixes.{run_again}
 use Rattle.description_strftime.proofs.Again.{conversion_again, percent_again}
 use Rattle.description_strftime.proofs.Refused.{failed, one_more}
 
@@ -36,7 +36,7 @@ letter_fails start i flag b bs e = rw e refl
 same_place : (at : ℕ) (flag : Option Padding) (r : Option (List ℕ)) (text : List ℕ) → refusal r (at_index (at + 1 + length (flag_text flag)) text) ≡ refusal r (at_index (at + length (head flag)) text)
 same_place at flag r text = ap (λ (i : ℕ). refusal r (at_index i text)) (omega arith)
 
--- a character that is no letter, behind its percent sign and flag
+-- a character that is no letter, after its percent sign and flag
 refuses : (at : ℕ) (flag : Option Padding) (b : ℕ) (bs : List ℕ) → IsNoFlag flag b → letter_items flag b ≡ None → strftime_step (at_index at (head flag ++ b ∷ bs)) ≡ failed (refusal (refused b) (at_index (at + length (head flag)) (b ∷ bs)))
 refuses at flag b bs no_flag no_letter =
     percent_again at (flag_text flag ++ b ∷ bs)

@@ -9,7 +9,7 @@ use Rattle.description_lexer.proofs.Readings.{bind_ok, ok_is, made_err, and_then
 use Rattle.description_lexer.proofs.Steps.{Steps, Failing, many_steps, many_failing, steps_many, steps_failing}
 use Rattle.description_strftime.specs.Text.{joined}
 use Rattle.description_strftime.specs.Reading.{at_end, strftime_step, read_strftime}
-use Rattle.description_strftime.specs.Spelled.{SpellsFront, SpellsStrftime}
+use Rattle.description_strftime.specs.Spelled.{SpellsPrefix, SpellsStrftime}
 use Rattle.description_strftime.specs.Faulty.{BadConversion, FaultyStrftime}
 use Rattle.description_strftime.proofs.Flags.{at_index}
 use Rattle.description_strftime.proofs.Parts.{all_parts}
@@ -31,7 +31,7 @@ not_end : (i : ℕ) (text : List ℕ) → 0 < length text → at_end (at_index i
 not_end i text some = grind (arith, nat_tests)
 
 -- steps spell parts, and go on by as many bytes as they take
-goes_spelled : (s : Rest) (parts : List (List Tree)) (t : Rest) → Goes s parts t → SpellsFront s.text parts t.text × (s.index + length s.text ≡ t.index + length t.text)
+goes_spelled : (s : Rest) (parts : List (List Tree)) (t : Rest) → Goes s parts t → SpellsPrefix s.text parts t.text × (s.index + length s.text ≡ t.index + length t.text)
 goes_spelled s [] t e = (ap (λ (p : Rest). p.text) e, ap (λ (p : Rest). p.index + length p.text) e)
 goes_spelled s (part ∷ parts) t (m, more, is_part, others) =
     let one : TakesPart s part m = part_takes s (part, m) more is_part in
@@ -39,7 +39,7 @@ goes_spelled s (part ∷ parts) t (m, more, is_part, others) =
     ((one.own, m.text, one.parts, one.spells, rest.0), omega (arith, rest.1, one.index, ap (length {A = ℕ}) one.parts, length-append one.own m.text))
 
 -- and spelled parts are such steps
-spelled_goes : (i : ℕ) (text : List ℕ) (parts : List (List Tree)) (rest : List ℕ) → SpellsFront text parts rest → (j : ℕ) × Goes (at_index i text) parts (at_index j rest) × (i + length text ≡ j + length rest)
+spelled_goes : (i : ℕ) (text : List ℕ) (parts : List (List Tree)) (rest : List ℕ) → SpellsPrefix text parts rest → (j : ℕ) × Goes (at_index i text) parts (at_index j rest) × (i + length text ≡ j + length rest)
 spelled_goes i text [] rest e = (i, ap (at_index i) e, ap (λ (t : List ℕ). i + length t) e)
 spelled_goes i text (part ∷ parts) rest (own, more, is_text, is_part, others) =
     let after : ℕ = i + length own in
@@ -61,13 +61,13 @@ unfolding read_strftime
 read_is_spelled text items e =
     let a = bind_ok (all_parts text) items_of items e in
     let steps = many_steps at_end strftime_step step_lt (suc (length text)) (whole text) a.0 (enough text) a.1 in
-    let front = goes_spelled (whole text) a.0.0 a.0.1 steps.0 in
-    record { parts = a.0.0; front = subst (λ (rest : List ℕ). SpellsFront text a.0.0 rest) (no_text a.0.1 steps.1) front.0; all = sym (ok_is (joined a.0.0) items a.2) }
+    let prefix = goes_spelled (whole text) a.0.0 a.0.1 steps.0 in
+    record { parts = a.0.0; prefix = subst (λ (rest : List ℕ). SpellsPrefix text a.0.0 rest) (no_text a.0.1 steps.1) prefix.0; all = sym (ok_is (joined a.0.0) items a.2) }
 
 pub spelled_is_read : (text : List ℕ) (items : List Tree) → SpellsStrftime text items → read_strftime text ≡ Ok items
 unfolding read_strftime
 spelled_is_read text items h =
-    let (j, goes, len) = spelled_goes 0 text h.parts [] h.front in
+    let (j, goes, len) = spelled_goes 0 text h.parts [] h.prefix in
     let read = steps_many at_end strftime_step step_lt (suc (length text)) (whole text) h.parts (at_index j []) (enough text) goes refl in
     and_then_ok (all_parts text) (h.parts, at_index j []) items_of read ∙ ap (λ (ts : List Tree). Ok ts) (sym h.all)
 
@@ -76,13 +76,13 @@ unfolding read_strftime
 refused_is_faulty text fault e =
     let fails = made_err (all_parts text) (λ (parts : List (List Tree) × Rest). joined parts.0) fault e in
     let stop : Failing at_end strftime_step (whole text) fault = many_failing at_end strftime_step step_lt (suc (length text)) (whole text) fault (enough text) fails in
-    let front = goes_spelled (whole text) stop.front stop.bad stop.steps in
-    record { parts = stop.front; bad = stop.bad.text; at = stop.bad.index; front = front.0; place = omega (arith, front.1); is_bad = part_refused stop.bad fault stop.fails }
+    let prefix = goes_spelled (whole text) stop.prefix stop.bad stop.steps in
+    record { parts = stop.prefix; bad = stop.bad.text; at = stop.bad.index; prefix = prefix.0; place = omega (arith, prefix.1); is_bad = part_refused stop.bad fault stop.fails }
 
 pub faulty_is_refused : (text : List ℕ) (fault : Fault) → FaultyStrftime text fault → read_strftime text ≡ Err fault
 unfolding read_strftime
 faulty_is_refused text fault h =
-    let (j, goes, len) = spelled_goes 0 text h.parts h.bad h.front in
+    let (j, goes, len) = spelled_goes 0 text h.parts h.bad h.prefix in
     let same : h.at ≡ j = omega (arith, h.place, len) in
     let bad : BadConversion j h.bad fault = subst (λ (i : ℕ). BadConversion i h.bad fault) same h.is_bad in
     let fails = bad_again j h.bad fault bad in

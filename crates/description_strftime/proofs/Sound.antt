@@ -16,7 +16,7 @@ use Rattle.description_strftime.specs.Letters.{letter_items, refused}
 use Rattle.description_strftime.specs.Reading.{flag_at, past_flag, refusal, letter_at, conversion_at, plain_len, at_end, strftime_step}
 use Rattle.description_strftime.specs.Spelled.{flag_text, SpellsPart}
 use Rattle.description_strftime.proofs.Flags.{at_index, flag_takes, flag_index}
-use Rattle.description_lexer.proofs.Fronts.{each_run, stops_past, some_run}
+use Rattle.description_lexer.proofs.Prefixes.{each_run, stops_past, some_run}
 
 ok_or_ok : {A : Type 0} (o : Option A) (fault : Fault) (y : A) → ok_or o fault ≡ Ok y → o ≡ Some y
 ok_or_ok (Some x) fault y e = ap (λ (z : _). Some z) (ok_is x y e)
@@ -51,13 +51,13 @@ conversion_takes i b bs x is_percent e =
     let flag : Option Padding = flag_at bs in
     let m : Rest = past_flag flag (at_index (i + 1) bs) in
     let t : TakesLetter flag m x = letter_takes i flag m.index m.text x e in
-    let front : List ℕ = flag_text flag in
-    let behind : bs ≡ front ++ t.letter ∷ x.1.text = flag_takes (i + 1) bs ∙ ap (λ (l : List ℕ). front ++ l) t.parts in
-    let regroup : front ++ t.letter ∷ x.1.text ≡ (front ++ t.letter ∷ []) ++ x.1.text = sym (append_assoc front (t.letter ∷ []) x.1.text) in
+    let prefix : List ℕ = flag_text flag in
+    let later : bs ≡ prefix ++ t.letter ∷ x.1.text = flag_takes (i + 1) bs ∙ ap (λ (l : List ℕ). prefix ++ l) t.parts in
+    let regroup : prefix ++ t.letter ∷ x.1.text ≡ (prefix ++ t.letter ∷ []) ++ x.1.text = sym (append_assoc prefix (t.letter ∷ []) x.1.text) in
     record {
-      own = percent ∷ (front ++ t.letter ∷ []);
-      parts = rw is_percent (ap (λ (l : List ℕ). percent ∷ l) (behind ∙ regroup));
-      index = omega (arith, t.index, flag_index flag (at_index (i + 1) bs), length-append front (t.letter ∷ []));
+      own = percent ∷ (prefix ++ t.letter ∷ []);
+      parts = rw is_percent (ap (λ (l : List ℕ). percent ∷ l) (later ∙ regroup));
+      index = omega (arith, t.index, flag_index flag (at_index (i + 1) bs), length-append prefix (t.letter ∷ []));
       some = omega arith;
       spells = inr (record { flag = flag; letter = t.letter; parts = refl; means = t.means });
     }

@@ -6,7 +6,7 @@ use Rattle.description_lexer.specs.Fault.{Fault, InvalidComponentName, Expected,
 use Rattle.description_items.specs.Tree.{Tree}
 use Rattle.description_strftime.specs.Letters.{flag_of, letter_items, refused}
 use Rattle.description_strftime.specs.Text.{is_continuation, Each, Stops}
-use Rattle.description_strftime.specs.Spelled.{flag_text, SpellsFront}
+use Rattle.description_strftime.specs.Spelled.{flag_text, SpellsPrefix}
 
 -- what stands before the letter
 abbrev pub head : Option Padding → List ℕ
@@ -47,7 +47,7 @@ pub record HasUnknown (at : ℕ) (text : List ℕ) (fault : Fault) : Type 0 wher
   pub not_refused : refused first ≡ None
   pub fault_is : fault ≡ InvalidComponentName (first ∷ more) (at + length (head flag))
 
--- the conversion at the front of the text is bad
+-- the conversion at the start of the text is bad
 abbrev pub BadConversion : ℕ → List ℕ → Fault → Type 0
 BadConversion at text fault = LacksLetter at text fault ⊎ HasRefused at text fault ⊎ HasUnknown at text fault
 
@@ -56,6 +56,6 @@ pub record FaultyStrftime (text : List ℕ) (fault : Fault) : Type 0 where
   pub parts : List (List Tree)
   pub bad : List ℕ
   pub at : ℕ
-  pub front : SpellsFront text parts bad
+  pub prefix : SpellsPrefix text parts bad
   pub place : length text ≡ at + length bad
   pub is_bad : BadConversion at bad fault

@@ -9,7 +9,7 @@ use Rattle.description_items.specs.Tree.{Tree, trees}
 use Rattle.description_strftime.specs.Spelled.{SpellsStrftime}
 use Rattle.description_strftime.specs.Faulty.{FaultyStrftime}
 
--- items that the text spells, or a fault that it has; of want of memory nothing is said
+-- items that the text spells, or a fault that it has; of lack of memory nothing is said
 abbrev pub IsOutcome : List ℕ → Result (Vec BorrowedFormatItem) DescriptionFault → Type 0
 IsOutcome text (Ok items) = SpellsStrftime text (trees items.items)
 IsOutcome text (Err (Description fault)) = FaultyStrftime text (fault_of fault)

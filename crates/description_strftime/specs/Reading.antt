@@ -13,11 +13,11 @@ use Rattle.description_lexer.specs.Words.{begins}
 use Rattle.description_strftime.specs.Letters.{flag_of, letter_items, refused}
 use Rattle.description_strftime.specs.Text.{is_plain, is_continuation, joined}
 
--- the length of the character at the front
+-- the length of the character at the start
 abbrev pub character_len : List ℕ → ℕ
 character_len text = 1 + prefix_len is_continuation (drop 1 text)
 
--- the flag at the front, and what follows it
+-- the flag at the start, and what follows it
 abbrev pub flag_at : List ℕ → Option Padding
 flag_at [] = None
 flag_at (b ∷ bs) = flag_of b
@@ -35,11 +35,11 @@ abbrev pub letter_in : List ℕ → ℕ → Option Padding → Rest → Result (
 letter_in [] start flag here = Err (Expected (codes "component letter") start)
 letter_in (b ∷ bs) start flag here = ok_or (letter_items flag b) (refusal (refused b) here) >>= λ items. Ok (items, after 1 here)
 
--- a letter behind a percent sign and a flag
+-- a letter after a percent sign and a flag
 unfoldable pub letter_at : ℕ → Option Padding → Rest → Result (List Tree × Rest) Fault
 letter_at start flag here = letter_in here.text start flag here
 
--- what stands behind a percent sign
+-- what stands after a percent sign
 unfoldable pub conversion_at : ℕ → Rest → Result (List Tree × Rest) Fault
 conversion_at start here = letter_at start (flag_at here.text) (past_flag (flag_at here.text) here)
 

@@ -33,12 +33,12 @@ abbrev pub SpellsPart : List ℕ → List ℕ → List Tree → Type 0
 SpellsPart own rest items = SpellsText own rest items ⊎ SpellsConversion own items
 
 -- parts one after the other, and then a rest
-abbrev pub SpellsFront : List ℕ → List (List Tree) → List ℕ → Type 0
-SpellsFront text [] rest = text ≡ rest
-SpellsFront text (part ∷ parts) rest = (own more : List ℕ) × (text ≡ own ++ more) × SpellsPart own more part × SpellsFront more parts rest
+abbrev pub SpellsPrefix : List ℕ → List (List Tree) → List ℕ → Type 0
+SpellsPrefix text [] rest = text ≡ rest
+SpellsPrefix text (part ∷ parts) rest = (own more : List ℕ) × (text ≡ own ++ more) × SpellsPart own more part × SpellsPrefix more parts rest
 
 -- a whole text, and the items of its parts
 pub record SpellsStrftime (text : List ℕ) (items : List Tree) : Type 0 where
   pub parts : List (List Tree)
-  pub front : SpellsFront text parts []
+  pub prefix : SpellsPrefix text parts []
   pub all : items ≡ joined parts

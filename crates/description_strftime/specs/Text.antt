@@ -8,7 +8,7 @@ pub use Rattle.description_lexer.specs.Text.{Each, Stops}
 abbrev pub is_plain : ℕ → Bool
 is_plain b = not (b == percent)
 
--- a byte of a character, behind its first one
+-- a byte of a character, after its first one
 abbrev pub is_continuation : ℕ → Bool
 is_continuation b = nat_le 128 b && nat_lt b 192
 

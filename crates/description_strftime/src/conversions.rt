@@ -30,7 +30,7 @@ fn plain_run(text: &[u8]) -> usize
     text.iter().take_while(|byte| **byte != b'%').count()
 }
 
-// The length of the character at the front.
+// The length of the character at the start.
 fn character_len(text: &str) -> usize
     requires { 0 < length text.now }
     ensures len { result ≡ character_len text.now }
@@ -40,7 +40,7 @@ fn character_len(text: &str) -> usize
     1 + continuation_len(rest)
 }
 
-// The length of the literal at the front.
+// The length of the literal at the start.
 fn plain_len(text: &str) -> usize
     ensures len { result ≡ plain_len text.now }
     ensures boundary { IsCharBoundary text.now result }
@@ -67,7 +67,7 @@ fn refusal<'a>(first: u8, here: Rest<'a>) -> InvalidFormatDescription<'a>
     }
 }
 
-// A letter behind a percent sign and a flag, and what follows it.
+// A letter after a percent sign and a flag, and what follows it.
 #[tactic(auto, unfolding(crate::specs::Reading::letter_at))]
 fn letter<'a>(
     start: usize,
@@ -91,7 +91,7 @@ fn letter<'a>(
     Ok((spelled, rest))
 }
 
-// The flag at the front, and what follows it.
+// The flag at the start, and what follows it.
 fn flag(here: Rest<'_>) -> (Option<Padding>, Rest<'_>)
     ensures flag { result.0 ≡ flag_at here.entry.text.now }
     ensures rest { rest_of result.1 ≡ past_flag (flag_at here.entry.text.now) (rest_of here.entry) }
@@ -104,7 +104,7 @@ fn flag(here: Rest<'_>) -> (Option<Padding>, Rest<'_>)
     (None, here)
 }
 
-// What stands behind a percent sign, and what follows it.
+// What stands after a percent sign, and what follows it.
 #[tactic(auto, unfolding(crate::specs::Reading::conversion_at))]
 fn conversion<'a>(
     start: usize,
@@ -118,7 +118,7 @@ fn conversion<'a>(
     letter(start, flag, rest)
 }
 
-/// The part of a text at its front, a conversion or a literal, and what follows it.
+/// The part of a text at its prefix, a conversion or a literal, and what follows it.
 #[tactic(auto, unfolding(crate::specs::Reading::strftime_step))]
 pub fn part<'a>(here: Rest<'a>) -> Result<(Spelled<'a>, Rest<'a>), InvalidFormatDescription<'a>>
     ensures value { Answers (λ x. (items_spelled x.0, rest_of x.1)) result
@@ -129,9 +129,9 @@ pub fn part<'a>(here: Rest<'a>) -> Result<(Spelled<'a>, Rest<'a>), InvalidFormat
         let (_, rest) = cut(here, 1);
         return conversion(here.index, rest);
     }
-    let (front, rest) = cut(here, plain_len(here.text));
+    let (prefix, rest) = cut(here, plain_len(here.text));
     Ok((
-        Spelled::Item(BorrowedFormatItem::StringLiteral(front.text)),
+        Spelled::Item(BorrowedFormatItem::StringLiteral(prefix.text)),
         rest,
     ))
 }

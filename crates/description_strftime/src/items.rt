@@ -36,7 +36,7 @@ fn part_of(byte: u8) -> BorrowedFormatItem<'static>
     }
 }
 
-// The items of a composite's letters, behind the others.
+// The items of a composite's letters, after the others.
 fn push_composite(
     all: &mut Vec<BorrowedFormatItem<'_>>,
     letters: &'static str,
@@ -52,7 +52,7 @@ fn push_composite(
     Ok(())
 }
 
-// The hours and the minutes of an offset, behind the others.
+// The hours and the minutes of an offset, after the others.
 fn push_offset(all: &mut Vec<BorrowedFormatItem<'_>>) -> Result<(), AllocError>
     ensures items { IfOk result (λ _. trees all.new.items ≡ trees all.old.items ++ offset) }
     ensures form { IfOk result (λ _. are_of_text all.old.items ≡ true
@@ -69,7 +69,7 @@ fn push_offset(all: &mut Vec<BorrowedFormatItem<'_>>) -> Result<(), AllocError>
     Ok(())
 }
 
-/// The items that a part stands for, behind the others.
+/// The items that a part stands for, after the others.
 pub fn push_part<'a>(
     all: &mut Vec<BorrowedFormatItem<'a>>,
     part: Spelled<'a>,

@@ -18,7 +18,7 @@ pub fn joined()
 
 /// A text that spells items, followed by one that has a fault, has that fault, as many bytes further on as the
 /// first text is long.
-pub fn faults_behind()
+pub fn faults_after()
     ensures holds { (s t : List ℕ) (items : List Tree) (fault : Fault) → SpellsStrftime s items
         → FaultyStrftime t fault → FaultyStrftime (s ++ t) (further (length s) fault) }
 {}

@@ -59,7 +59,7 @@ impl Second {
     }
 }
 
-/// The fraction of the second, without its point: `[subsecond]`. Digits behind the ninth are cut off.
+/// The fraction of the second, without its point: `[subsecond]`. Digits after the ninth are cut off.
 #[derive(Clone, Copy, Debug, PartialEq, Eq)]
 pub struct Subsecond {
     /// How many digits are written.

@@ -4,7 +4,7 @@ ghost use Rattle.description_date_modifiers.specs.declared.choices.Padding.TheVa
 
 use description_date_modifiers::Padding;
 
-/// The whole hours of the offset, 0 to 25, two digits wide, behind its sign: `[offset_hour]`.
+/// The whole hours of the offset, 0 to 25, two digits wide, after its sign: `[offset_hour]`.
 #[derive(Clone, Copy, Debug, PartialEq, Eq)]
 pub struct OffsetHour {
     /// Whether the sign must be written.

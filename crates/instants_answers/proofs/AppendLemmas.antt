@@ -1,12 +1,12 @@
--- Bytes put behind those of an array that are in use.
+-- Bytes put after those of an array that are in use.
 use Rattle.std.proofs.Common.{◌≡◌, ℕ, ◌+◌, ◌-◌, ◌≤◌, List, ◌++◌, length, take, drop, replicate, sym, ap, ◌∙◌, arith, append_assoc, length-append, length-drop, length-take-le, take-append-drop}
 use Rattle.std.proofs.lemmas.List.{take_at, drop_at, drop-replicate, replicate-append-replicate}
 use Rattle.instants_answers.specs.Padded.{IsPadded}
 use borrow.Rule.Slice.PartMut.{put_mid}
 
 module _ (len n k : ℕ) (bytes more : List ℕ) (p : IsPadded len bytes) (size : length more ≡ n) (same : k ≡ n) (room : len + n ≤ 64) where
-  front_length : length (take len bytes ++ more) ≡ len + n
-  front_length = length-append (take len bytes) more ∙ omega (arith, length-take-le len bytes (omega (arith, p.size, p.within)), size)
+  prefix_length : length (take len bytes ++ more) ≡ len + n
+  prefix_length = length-append (take len bytes) more ∙ omega (arith, length-take-le len bytes (omega (arith, p.size, p.within)), size)
 
   whole : put_mid len k bytes more ≡ (take len bytes ++ more) ++ drop k (drop len bytes)
   whole = sym (append_assoc (take len bytes) more (drop k (drop len bytes)))
@@ -14,12 +14,12 @@ module _ (len n k : ℕ) (bytes more : List ℕ) (p : IsPadded len bytes) (size 
   pub IsPadded_append : IsPadded (len + n) (put_mid len k bytes more)
   IsPadded_append = record {
     within = room;
-    size = ap length whole ∙ length-append (take len bytes ++ more) (drop k (drop len bytes)) ∙ omega (arith, front_length, length-drop k (drop len bytes), length-drop len bytes, p.size, same, room);
-    zeros = ap (drop (len + n)) whole ∙ drop_at (take len bytes ++ more) (drop k (drop len bytes)) (len + n) front_length ∙ ap (drop k) p.zeros ∙ drop-replicate k (64 - len) 0 ∙ ap (λ (m : ℕ). replicate m 0) (omega (arith, same));
+    size = ap length whole ∙ length-append (take len bytes ++ more) (drop k (drop len bytes)) ∙ omega (arith, prefix_length, length-drop k (drop len bytes), length-drop len bytes, p.size, same, room);
+    zeros = ap (drop (len + n)) whole ∙ drop_at (take len bytes ++ more) (drop k (drop len bytes)) (len + n) prefix_length ∙ ap (drop k) p.zeros ∙ drop-replicate k (64 - len) 0 ∙ ap (λ (m : ℕ). replicate m 0) (omega (arith, same));
   }
 
   pub take_append : take (len + n) (put_mid len k bytes more) ≡ take len bytes ++ more
-  take_append = ap (take (len + n)) whole ∙ take_at (take len bytes ++ more) (drop k (drop len bytes)) (len + n) front_length
+  take_append = ap (take (len + n)) whole ∙ take_at (take len bytes ++ more) (drop k (drop len bytes)) (len + n) prefix_length
 
   -- some of more are in use, and the others are zero
   module _ (used : ℕ) (few : used ≤ n) (zeros : drop used more ≡ replicate (n - used) 0) where

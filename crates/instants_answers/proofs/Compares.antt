@@ -71,10 +71,10 @@ pub decimal_field : (width m n : ℕ) → m < 10 ^ width → n < 10 ^ width → 
 unfolding decimal
 decimal_field zero m n h k = record { long = refl; gives = grind (arith, nat_tests) }
 decimal_field (suc width) m n h k =
-    let front = decimal_field width (m / 10) (n / 10) (fits_next width m h) (fits_next width n k) in
+    let prefix = decimal_field width (m / 10) (n / 10) (fits_next width m h) (fits_next width n k) in
     record {
       long = decimal_length (suc width) m ∙ sym (decimal_length (suc width) n);
-      gives = cmp_append (decimal width (m / 10)) (decimal width (n / 10)) ((digit_zero + m % 10) ∷ []) ((digit_zero + n % 10) ∷ []) front.long ∙ last_digit _ m n front.gives;
+      gives = cmp_append (decimal width (m / 10)) (decimal width (n / 10)) ((digit_zero + m % 10) ∷ []) ((digit_zero + n % 10) ∷ []) prefix.long ∙ last_digit _ m n prefix.gives;
     }
 
 -- lists compare as equal exactly where they are

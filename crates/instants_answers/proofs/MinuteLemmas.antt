@@ -38,7 +38,7 @@ byte bytes m j v e =
 same_eight : (a b c d e f g h a' b' c' d' e' f' g' h' : ℕ) → a ≡ a' → b ≡ b' → c ≡ c' → d ≡ d' → e ≡ e' → f ≡ f' → g ≡ g' → h ≡ h' → (a ∷ b ∷ c ∷ d ∷ e ∷ f ∷ g ∷ h ∷ []) ≡ (a' ∷ b' ∷ c' ∷ d' ∷ e' ∷ f' ∷ g' ∷ h' ∷ [])
 same_eight a b c d e f g h a' b' c' d' e' f' g' h' ea eb ec ed ee ef eg eh = cc
 
--- the row of a minute is its text, and a byte of zero behind it
+-- the row of a minute is its text, and a byte of zero after it
 pub row_at : (m : ℕ) (bytes : List ℕ) → are_rows bytes 1440 0 ≡ true → m < 1440
     → (get_or bytes (m * 8) 0 ∷ get_or bytes (m * 8 + 1) 0 ∷ get_or bytes (m * 8 + 2) 0 ∷ get_or bytes (m * 8 + 3) 0 ∷ get_or bytes (m * 8 + 4) 0 ∷ get_or bytes (m * 8 + 5) 0 ∷ get_or bytes (m * 8 + 6) 0 ∷ get_or bytes (m * 8 + 7) 0 ∷ []) ≡ minute_text m ++ 0 ∷ []
 unfolding minute_text decimal

@@ -100,16 +100,16 @@ wall_moved c n minute second fraction other target target_minutes offset minutes
 pub second_parts : (minute second : ℕ) → second < 60 → ((minute * 60 + second) / 3600 ≡ minute / 60) × ((minute * 60 + second) / 60 % 60 ≡ minute % 60) × ((minute * 60 + second) % 60 ≡ second)
 second_parts minute second h = (omega arith, omega arith, omega arith)
 
-by_parts : (front a b c d : List ℕ) → (((front ++ (codes "T" ++ a ++ codes ":" ++ b ++ codes ":")) ++ c) ++ dot ∷ []) ++ d ≡ front ++ (codes "T" ++ a ++ codes ":" ++ b ++ codes ":" ++ c ++ codes "." ++ d)
-by_parts front a b c d = grind (arith, append_assoc)
+by_parts : (prefix a b c d : List ℕ) → (((prefix ++ (codes "T" ++ a ++ codes ":" ++ b ++ codes ":")) ++ c) ++ dot ∷ []) ++ d ≡ prefix ++ (codes "T" ++ a ++ codes ":" ++ b ++ codes ":" ++ c ++ codes "." ++ d)
+by_parts prefix a b c d = grind (arith, append_assoc)
 
--- the time of a minute and a second of it, piece by piece behind what is there
-pub clock_text : (front nine : List ℕ) (minute second fraction : ℕ) → second < 60 → decimal 9 fraction ≡ nine
-    → (((front ++ minute_text minute) ++ decimal 2 second) ++ dot ∷ []) ++ nine ≡ front ++ (codes "T" ++ time_text (minute * 60 + second) fraction)
+-- the time of a minute and a second of it, piece by piece after what is there
+pub clock_text : (prefix nine : List ℕ) (minute second fraction : ℕ) → second < 60 → decimal 9 fraction ≡ nine
+    → (((prefix ++ minute_text minute) ++ decimal 2 second) ++ dot ∷ []) ++ nine ≡ prefix ++ (codes "T" ++ time_text (minute * 60 + second) fraction)
 unfolding time_text minute_text
-clock_text front nine minute second fraction h e =
+clock_text prefix nine minute second fraction h e =
     let parts = second_parts minute second h in
-    rw (parts.0, parts.1, parts.2, e) (by_parts front (decimal 2 (minute / 60)) (decimal 2 (minute % 60)) (decimal 2 second) nine)
+    rw (parts.0, parts.1, parts.2, e) (by_parts prefix (decimal 2 (minute / 60)) (decimal 2 (minute % 60)) (decimal 2 second) nine)
 
 -- what is written of a wall clock
 text_of : (n second fraction : ℕ) (offset : ℤ) (day : YearMonthDay) → second < 86_400 → fraction < second_nanos → day_at n ≡ day

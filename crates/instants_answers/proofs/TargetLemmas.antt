@@ -1,4 +1,4 @@
--- The text of an offset, with zeros behind it.
+-- The text of an offset, with zeros after it.
 use Rattle.std.proofs.Common.{◌≡◌, ℕ, ◌+◌, ◌/◌, ◌%◌, ◌-◌, ◌≤◌, List, [], ◌∷◌, ◌++◌, length, take, drop, replicate, lit≤, Bool, true, false, codes, length-append, refl, ◌∙◌, arith, ℤ, pos}
 use Rattle.std.specs.Prelude.{int_lt, unsigned_abs, if◌then◌else◌}
 use Rattle.std.specs.Ordering.{int_eq}
@@ -56,8 +56,8 @@ text_few z = omega (arith, text_len z, few (int_eq z (pos 0)))
 pub padded_len : (z : ℤ) → length (padded_offset z) ≡ 8
 padded_len z = length-append (offset_text z) (replicate (8 - offset_len z) 0) ∙ omega (arith, length-replicate {A = ℕ} (8 - offset_len z) 0, text_few z)
 
-pub text_front : (z : ℤ) → take (offset_len z) (padded_offset z) ≡ offset_text z
-text_front z = take_at (offset_text z) (replicate (8 - offset_len z) 0) (offset_len z) refl
+pub text_prefix : (z : ℤ) → take (offset_len z) (padded_offset z) ≡ offset_text z
+text_prefix z = take_at (offset_text z) (replicate (8 - offset_len z) 0) (offset_len z) refl
 
 pub text_zeros : (z : ℤ) → drop (offset_len z) (padded_offset z) ≡ replicate (8 - offset_len z) 0
 text_zeros z = drop_at (offset_text z) (replicate (8 - offset_len z) 0) (offset_len z) refl

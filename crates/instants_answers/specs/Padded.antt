@@ -1,4 +1,4 @@
--- A list in an array of 64 bytes, with zeros behind it.
+-- A list in an array of 64 bytes, with zeros after it.
 use Rattle.std.specs.Prelude.{◌≡◌, ℕ, ◌+◌, ◌-◌, ◌≤◌, ℤ, List, ◌++◌, length, take, drop, replicate, slice_set}
 use Rattle.instants_answers.specs.Text.{offset_text}
 use Rattle.std.proofs.Common.{sym, ap, ◌∙◌, arith, take-append-drop, length-take-le, length-set}

@@ -63,7 +63,7 @@ impl Answer {
     /// All 64 bytes of the storage, those of the answer first, and how many these are.
     #[inline(always)]
     pub fn padded(&self) -> (&[u8; 64], usize)
-        ensures front { take result.1 result.0.now ≡ self.now }
+        ensures prefix { take result.1 result.0.now ≡ self.now }
         ensures len { result.1 ≡ length self.now }
     {
         (&self.bytes, self.len)
@@ -93,7 +93,7 @@ impl Answer {
 
     // Adds the first of these bytes, of which the others are zero.
     #[inline(always)]
-    pub(crate) fn push_front(&mut self, bytes: &[u8], count: usize)
+    pub(crate) fn push_prefix(&mut self, bytes: &[u8], count: usize)
         requires room { length self.old + length bytes.now ≤ 64 }
         requires few { count ≤ length bytes.now }
         requires zeros { drop count bytes.now ≡ replicate (length bytes.now - count) 0 }

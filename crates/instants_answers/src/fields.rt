@@ -23,7 +23,7 @@ pub(crate) fn push_date(answer: &mut Answer, year: Year, month: u32, day: u32)
     push_two(answer, day);
 }
 
-// The time of a minute of the day, a second of it and a fraction of that, behind the letter that stands behind the date.
+// The time of a minute of the day, a second of it and a fraction of that, after the letter that stands after the date.
 #[inline(always)]
 #[tactic(auto, unfolding(crate::specs::Text::time_text))]
 pub(crate) fn push_clock(answer: &mut Answer, minute: usize, second: u32, fraction: Fraction)

@@ -5,7 +5,7 @@ ghost use Rattle.instants_answers.specs.Minute.{minute_text};
 
 use crate::answer::Answer;
 
-// The text of each minute of the day behind the date, with a byte of zero behind it.
+// The text of each minute of the day after the date, with a byte of zero after it.
 static MINUTES: [u8; 11_520] = *b"\
     T00:00:\0T00:01:\0T00:02:\0T00:03:\0T00:04:\0T00:05:\0T00:06:\0T00:07:\0T00:08:\0T00:09:\0\
     T00:10:\0T00:11:\0T00:12:\0T00:13:\0T00:14:\0T00:15:\0T00:16:\0T00:17:\0T00:18:\0T00:19:\0\
@@ -178,5 +178,5 @@ pub(crate) fn push_minute(answer: &mut Answer, minute: usize)
     ensures text { answer.new ≡ answer.old ++ minute_text minute }
     ensures len { length answer.new ≡ length answer.old + 7 }
 {
-    answer.push_front(&row(minute), 7);
+    answer.push_prefix(&row(minute), 7);
 }

@@ -11,7 +11,7 @@ use parsing_fields::digit_pair;
 use std::marker::Model;
 
 // The bytes of a line before its offset.
-const FRONT: usize = 29;
+const PREFIX: usize = 29;
 
 // Minutes are counted from so many days before on, so that no number is below zero.
 pub(crate) const DAYS_AHEAD: u8 = 4;
@@ -60,7 +60,7 @@ fn sign(seconds: i32) -> u8
     if seconds < 0 { b'-' } else { b'+' }
 }
 
-// The text of an offset, with zeros behind it, and how many bytes it has.
+// The text of an offset, with zeros after it, and how many bytes it has.
 fn offset_text(seconds: i32) -> ([u8; 8], usize)
     requires range { unsigned_abs seconds ≤ 86_340 }
     ensures text { result.0 ≡ padded_offset seconds }
@@ -99,7 +99,7 @@ impl Target {
             offset,
             minutes_ahead: MINUTES_AHEAD + i32::from(offset.whole_minutes()),
             text,
-            line_len: FRONT + len,
+            line_len: PREFIX + len,
         }
     }
 
@@ -130,6 +130,6 @@ impl Target {
             ≡ length answer.old + (if int_eq self.now (pos 0) then 1 else 6) }
         ensures clock { IsClockOffset self.now }
     {
-        answer.push_front(&self.text, self.line_len - FRONT);
+        answer.push_prefix(&self.text, self.line_len - PREFIX);
     }
 }

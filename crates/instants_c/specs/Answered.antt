@@ -13,7 +13,7 @@ use Rattle.instants_c.specs.declared.kept.Kept.{Kept}
 abbrev pub due_by : Kept → List ℕ → List ℕ
 due_by kept = output (answer_to (setting_of kept.timeline)) kept.limit
 
--- exactly what is due is written into the front of a room, and what lies behind stays; or it is longer than the room, which is full of its beginning
+-- exactly what is due is written into the start of a room, and what lies after stays; or it is longer than the room, which is full of its beginning
 pub record IsAnswered (kept : Kept) (input : List ℕ) (status written : ℕ) (before after : List ℕ) : Type 0 where
   pub either : status ≤ 1
   pub ok : status ≡ 0 → (written ≡ length (due_by kept input)) × (after ≡ due_by kept input ++ drop written before)
@@ -27,7 +27,7 @@ pub record IsAnswered (kept : Kept) (input : List ℕ) (status written : ℕ) (b
 abbrev pub entries_by : Kept → List ℕ → List Moment
 entries_by kept input = map (entry_of (setting_of kept.timeline) kept.limit) (lines input)
 
--- exactly the entries of the lines are written into the front of a room, and what lies behind stays; or there are more lines than the room has entries, which are those of the first lines
+-- exactly the entries of the lines are written into the start of a room, and what lies after stays; or there are more lines than the room has entries, which are those of the first lines
 pub record IsNumbered (kept : Kept) (input : List ℕ) (status written : ℕ) (before after : List Moment) : Type 0 where
   pub either : status ≤ 1
   pub ok : status ≡ 0 → (written ≡ length (lines input)) × (after ≡ entries_by kept input ++ drop written before)

@@ -7,10 +7,10 @@ pub record IsCutShort (words : List (List ℕ)) (input before after : List ℕ) 
   pub bytes : List ℕ
   pub is : IsOutputFor words input bytes
   pub longer : length before < length bytes
-  pub front : after ≡ take (length before) bytes
+  pub prefix : after ≡ take (length before) bytes
   pub full : written ≡ length before
 
--- a text stands at the front of a room, as much of it as there is room for, and its length is given
+-- a text stands at the start of a room, as much of it as there is room for, and its length is given
 pub record IsPut (text before after : List ℕ) (len : ℕ) : Type 0 where
-  pub front : after ≡ take (length before) text ++ drop (length text) before
+  pub prefix : after ≡ take (length before) text ++ drop (length text) before
   pub len_is : len ≡ length text

@@ -46,7 +46,7 @@ use std::mem;
 // Major, minor and patch, two digits each.
 const VERSION: u32 = 100;
 
-/// Answers each line of the input as the words say, each answer followed by a line feed, into the front of the output. The
+/// Answers each line of the input as the words say, each answer followed by a line feed, into the start of the output. The
 /// result is the program's status, and `written` has how many bytes were written.
 #[unsafe(no_mangle)]
 #[tactic(auto, using(crate::proofs::Feeds::lines_by_feeds))]
@@ -58,7 +58,7 @@ pub extern "C" fn instants_answer_lines(
     written: &mut usize,
 ) -> u8
     ensures status { result ≤ 2 }
-    // Exactly the output that the words ask for is written, and what lies behind it stays.
+    // Exactly the output that the words ask for is written, and what lies after it stays.
     ensures ok { result ≡ 0 → (bytes : List ℕ) × IsOutputFor (parts words.now) input.now bytes
         × (written.new ≡ length bytes) × (output.new ≡ bytes ++ drop (length bytes) output.old) }
     // Else nothing is written, or the answers are longer than the output, which is full of their beginning.

@@ -103,18 +103,18 @@ fn write_decimal(number: u64, digits: &mut [u8; 64]) -> usize
     at
 }
 
-// Puts bytes into a text, behind as many as it has, and gives how many it has then.
+// Puts bytes into a text, after as many as it has, and gives how many it has then.
 fn append(text: &mut [u8; 128], len: usize, bytes: &[u8]) -> usize
     requires { len + length bytes.now ≤ 128 }
     ensures len { result ≡ len + length bytes.now }
-    ensures front { take result text.new ≡ take len text.old ++ bytes.now }
+    ensures prefix { take result text.new ≡ take len text.old ++ bytes.now }
 {
     let end = len + bytes.len();
     text[len..end].copy_from_slice(bytes);
     end
 }
 
-// Puts a text into the front of a place, as much as there is room for, and tells its length.
+// Puts a text into the start of a place, as much as there is room for, and tells its length.
 fn put(place: &mut [u8], text: &[u8], len: &mut usize)
     ensures { IsPut text.now place.old place.new len.new }
 {

@@ -6,7 +6,7 @@ use Rattle.std.proofs.lemmas.Bool.{cases_lt}
 use Rattle.std.proofs.lemmas.List.Sums.{prefix_len_is, prefix_len_stops}
 use Rattle.base.specs.Bytes.{colon}
 use Rattle.instants_edges.specs.Edge.{byte_before}
-use Rattle.instants_edges.specs.Clock.{ends_pair, ends_clock, ends_seconds, has_seconds_before, quote_place, has_clock_in_front, HasNoColon}
+use Rattle.instants_edges.specs.Clock.{ends_pair, ends_clock, ends_seconds, has_seconds_before, quote_place, has_clock_before, HasNoColon}
 
 -- no clock and no quotation mark comes before a place
 abbrev pub NoneSoFar : List ℕ → ℕ → Type 0
@@ -51,17 +51,17 @@ quote_later line n within none =
       | inr more ↦ more
     ]
 
--- a quotation mark ends the front
-pub quote_ends : (line : List ℕ) (at place : ℕ) → at < length line → at < place → NoneSoFar line at → get_or line at 0 ≡ 34 → has_clock_in_front line place ≡ false
-unfolding has_clock_in_front
+-- a quotation mark ends the prefix
+pub quote_ends : (line : List ℕ) (at place : ℕ) → at < length line → at < place → NoneSoFar line at → get_or line at 0 ≡ 34 → has_clock_before line place ≡ false
+unfolding has_clock_before
 quote_ends line at place within before none quote =
     let first : quote_place line ≡ at = prefix_len_is (λ byte. not (byte == 34)) line at 0 (omega arith) none.quotes (λ h. rw quote refl) in
     let least : min place (quote_place line) ≡ at = omega (arith, first) in
     rw least none.clocks
 
 -- a clock is there
-pub clock_there : (line : List ℕ) (at place : ℕ) → at < length line → at < place → NoneSoFar line at → (get_or line at 0 == 34) ≡ false → ends_seconds line at ≡ true → has_clock_in_front line place ≡ true
-unfolding has_clock_in_front
+pub clock_there : (line : List ℕ) (at place : ℕ) → at < length line → at < place → NoneSoFar line at → (get_or line at 0 == 34) ≡ false → ends_seconds line at ≡ true → has_clock_before line place ≡ true
+unfolding has_clock_before
 clock_there line at place within before none quote clock =
     let later : at + 1 ≤ quote_place line = quote_later line (at + 1) (omega arith) (below_more _ _ none.quotes (rw quote refl)) in
     let there : has_seconds_before line (at + 1) ≡ true = rw (seconds_more line at, clock) refl in
@@ -70,8 +70,8 @@ clock_there line at place within before none quote clock =
     subst P far (seconds_later line (at + 1) (min place (quote_place line) - (at + 1)) there)
 
 -- none is
-pub none_there : (line : List ℕ) (at place : ℕ) → place ≤ length line → place ≤ at → at ≤ place → NoneSoFar line at → has_clock_in_front line place ≡ false
-unfolding has_clock_in_front
+pub none_there : (line : List ℕ) (at place : ℕ) → place ≤ length line → place ≤ at → at ≤ place → NoneSoFar line at → has_clock_before line place ≡ false
+unfolding has_clock_before
 none_there line at place within past before none =
     let later : at ≤ quote_place line = quote_later line at (omega arith) none.quotes in
     let least : min place (quote_place line) ≡ at = omega (arith, later) in
@@ -102,8 +102,8 @@ unfolding has_seconds_before
 none_before line place zero within none = refl
 none_before line place (suc n) within none = rw (unended line place n (omega (arith, within)) none) (none_before line place n (omega (arith, within)) none)
 
-pub no_colon_no_clock : (line : List ℕ) (place : ℕ) → HasNoColon line place → has_clock_in_front line place ≡ false
-unfolding has_clock_in_front
+pub no_colon_no_clock : (line : List ℕ) (place : ℕ) → HasNoColon line place → has_clock_before line place ≡ false
+unfolding has_clock_before
 no_colon_no_clock line place none = none_before line place (min place (quote_place line)) (omega arith) none
 
 -- sixteen bytes more without one

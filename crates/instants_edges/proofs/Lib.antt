@@ -1,4 +1,4 @@
-pub mod Fronts
+pub mod Prefixes
 pub mod Edges
 pub mod Texts
 pub mod Clocks
@@ -7,4 +7,4 @@ pub mod Numbers
 pub mod Zones
 pub mod Offsets
 pub mod Near
-pub mod TextFronts
+pub mod TextPrefixes

@@ -1,4 +1,4 @@
--- Fronts of bytes that may be a date.
+-- Prefixes of bytes that may be a date.
 use Rattle.std.proofs.Common.{◌≡◌, ℕ, ◌+◌, ◌-◌, ◌<◌, ◌≤◌, ◌==◌, true, false, ◌&&◌, List, [], ◌∷◌, ◌++◌, length, take, drop, get_or, refl, sym, ap, ◌∙◌, arith}
 use Rattle.std.specs.Char.{is_ascii_alphabetic, is_ascii_alphanumeric}
 use Rattle.std.proofs.lemmas.List.{append-nil, append_assoc, drop_more, drop_all, take_all, take_more, length-take-le, get_or-drop}
@@ -8,9 +8,9 @@ use Rattle.base.specs.Bytes.{lower_z}
 use Rattle.instants_edges.specs.Edge.{byte_before}
 use Rattle.instants_edges.specs.Text.{is_stop, iso_text, mail_text, is_letter, is_letter_alone, is_ut}
 
--- the first bytes are a front
-pub is_front : (bytes : List ℕ) (place : ℕ) → place ≤ length bytes → take place bytes ≡ take (length (take place bytes)) bytes
-is_front bytes place within = ap (λ (n : ℕ). take n bytes) (sym (length-take-le place bytes within))
+-- the first bytes are a prefix
+pub is_prefix : (bytes : List ℕ) (place : ℕ) → place ≤ length bytes → take place bytes ≡ take (length (take place bytes)) bytes
+is_prefix bytes place within = ap (λ (n : ℕ). take n bytes) (sym (length-take-le place bytes within))
 
 -- ---- ISO 8601
 

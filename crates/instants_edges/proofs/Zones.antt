@@ -1,4 +1,4 @@
--- Words of letters at the front, and bytes without white space at their end.
+-- Words of letters at the start, and bytes without white space at their end.
 use Rattle.std.proofs.Common.{◌≡◌, ℕ, ◌+◌, ◌-◌, ◌==◌, false, List, [], ◌∷◌, length, drop, get_or, refl, sym, ap, ◌∙◌, arith}
 use Rattle.std.specs.Char.{is_ascii_alphabetic, is_ascii_whitespace}
 use Rattle.std.specs.List.{prefix_len, suffix_len}

@@ -5,7 +5,7 @@ use Rattle.std.specs.List.{prefix_len}
 use Rattle.base.specs.Bytes.{colon}
 use Rattle.instants_edges.specs.Edge.{byte_before}
 
--- a clock stands at the front: one digit or two, a colon and a digit
+-- a clock stands at the start: one digit or two, a colon and a digit
 abbrev pub is_clock : List ℕ → Bool
 is_clock bytes = is_ascii_digit (get_or bytes 0 0) && ((get_or bytes 1 0 == colon && is_ascii_digit (get_or bytes 2 0)) || (is_ascii_digit (get_or bytes 1 0) && get_or bytes 2 0 == colon && is_ascii_digit (get_or bytes 3 0)))
 
@@ -38,9 +38,9 @@ has_seconds_before line (suc place) = ends_seconds line place || has_seconds_bef
 abbrev pub quote_place : List ℕ → ℕ
 quote_place line = prefix_len (λ byte. not (byte == 34)) line
 
--- a clock with seconds stands in front of a place and of all quotation marks
-unfoldable pub has_clock_in_front : List ℕ → ℕ → Bool
-has_clock_in_front line place = has_seconds_before line (min place (quote_place line))
+-- a clock with seconds stands before a place and of all quotation marks
+unfoldable pub has_clock_before : List ℕ → ℕ → Bool
+has_clock_before line place = has_seconds_before line (min place (quote_place line))
 
 -- no colon stands before a place, and so no clock
 abbrev pub HasNoColon : List ℕ → ℕ → Type 0

@@ -9,7 +9,7 @@ use Rattle.instants_words.specs.Pieces.{offset_said}
 use Rattle.instants_edges.specs.Edge.{is_edge, is_parameter, escape}
 use Rattle.instants_edges.specs.Text.{comma}
 
--- what so many bytes at the front say, where a word ends after them
+-- what so many bytes at the start say, where a word ends after them
 abbrev pub by_word : ℕ → List ℕ → (List ℕ → Option ℤ) → Option ℤ
 by_word long bytes said = if is_edge bytes long then said (take long bytes) else None
 
@@ -32,17 +32,17 @@ of_hours word = with_colon (word ++ codes ":00")
 abbrev pub of_name : List ℕ → Option ℤ
 of_name word = if bytes_eq word (codes "UTC") || bytes_eq word (codes "GMT") || bytes_eq word (codes "Z") then Some (pos 0) else None
 
--- the offset at the front of bytes
+-- the offset at the start of bytes
 abbrev pub offset_here : List ℕ → Option ℤ
 offset_here bytes =
     option_or (by_word 6 bytes with_colon) (option_or (by_word 5 bytes without_colon) (option_or (by_word 3 bytes of_name) (by_word 1 bytes of_name)))
 
--- a comma and digits at the front
+-- a comma and digits at the start
 abbrev pub fraction_length : List ℕ → ℕ
 fraction_length (first ∷ others) = if first == comma && is_ascii_digit (get_or others 0 0) then 1 + prefix_len is_ascii_digit others else 0
 fraction_length [] = 0
 
--- a control sequence at the front
+-- a control sequence at the start
 abbrev pub sequence_length : List ℕ → ℕ
 sequence_length (first ∷ second ∷ others) =
     let long = prefix_len is_parameter others in
@@ -53,7 +53,7 @@ sequence_length _ = 0
 abbrev pub past : (List ℕ → ℕ) → List ℕ → List ℕ
 past long bytes = drop (long bytes) bytes
 
--- the offset at the front of bytes, after a colour and a fraction: directly, or over one space; hours alone stand directly
+-- the offset at the start of bytes, after a colour and a fraction: directly, or over one space; hours alone stand directly
 unfoldable pub offset_after : List ℕ → Option ℤ
 offset_after bytes =
     let near = past fraction_length (past sequence_length bytes) in

@@ -1,4 +1,4 @@
--- Bytes at the front and at the end of a date.
+-- Bytes at the start and at the end of a date.
 use Rattle.std.specs.Prelude.{ℕ, ◌+◌, ◌-◌, ◌==◌, ◌&&◌, not, nat_lt, List, [], ◌∷◌, length, take, drop, get_or, if◌then◌else◌}
 use Rattle.std.specs.Char.{is_ascii_digit, is_ascii_alphabetic, is_ascii_whitespace}
 use Rattle.std.specs.List.{prefix_len, suffix_len}
@@ -6,7 +6,7 @@ use Rattle.base.specs.Bytes.{space}
 use Rattle.instants_edges.specs.Edge.{byte_before}
 use Rattle.instants_edges.specs.Text.{comma, is_fraction}
 
--- white space at the front
+-- white space at the start
 unfoldable pub blanks : List ℕ → ℕ
 blanks bytes = prefix_len is_ascii_whitespace bytes
 
@@ -14,7 +14,7 @@ blanks bytes = prefix_len is_ascii_whitespace bytes
 unfoldable pub trimmed_length : List ℕ → ℕ
 trimmed_length bytes = length bytes - suffix_len is_ascii_whitespace bytes
 
--- the word of letters at the front, over one space at most: a zone that a description has as text
+-- the word of letters at the start, over one space at most: a zone that a description has as text
 unfoldable pub zone_length : List ℕ → ℕ
 zone_length [] = 0
 zone_length (first ∷ others) =

@@ -40,9 +40,9 @@ pub(crate) fn byte_after(line: &[u8], place: usize) -> u8
     }
 }
 
-/// How many digits stand at the front.
+/// How many digits stand at the start.
 #[inline(always)]
-#[tactic(auto, using(crate::proofs::Fronts::front_count))]
+#[tactic(auto, using(crate::proofs::Prefixes::prefix_count))]
 pub(crate) fn digits_length(bytes: &[u8]) -> usize
     ensures value { result ≡ prefix_len is_ascii_digit bytes.now }
     ensures within { result ≤ length bytes.now }

@@ -9,7 +9,7 @@ use crate::bytes::{byte_at, byte_before};
 use crate::colons::lacks_colon;
 
 // Whether a clock stands at a place: one digit or two, a colon and a digit.
-#[tactic(auto, using(crate::proofs::Fronts::drop_at))]
+#[tactic(auto, using(crate::proofs::Prefixes::drop_at))]
 fn is_clock(line: &[u8], place: usize) -> bool
     requires { place ≤ length line.now + 2 }
     ensures { result ≡ Clock.is_clock (drop place line.now) }
@@ -81,12 +81,12 @@ fn ends_seconds(line: &[u8], place: usize) -> bool
         && stands_alone(line, place)
 }
 
-// The same, looked for byte by byte.
+// Whether a clock with seconds stands before a place, looked for byte by byte.
 #[inline(never)]
-#[tactic(auto, unfolding(crate::specs::Clock::has_clock_in_front))]
-fn has_seconds_in_front(line: &[u8], place: usize) -> bool
+#[tactic(auto, unfolding(crate::specs::Clock::has_clock_before))]
+fn has_seconds_before(line: &[u8], place: usize) -> bool
     requires { place ≤ length line.now }
-    ensures { result ≡ Clock.has_clock_in_front line.now place }
+    ensures { result ≡ Clock.has_clock_before line.now place }
 {
     for at in 0..place {
         if line[at] == b'"' {
@@ -101,12 +101,12 @@ fn has_seconds_in_front(line: &[u8], place: usize) -> bool
 
 /// Whether a clock with seconds ends before a place, and before the first quotation mark. Most lines have no colon there.
 #[inline(always)]
-pub fn has_clock_in_front(line: &[u8], place: usize) -> bool
+pub fn has_clock_before(line: &[u8], place: usize) -> bool
     requires { place ≤ length line.now }
-    ensures { result ≡ Clock.has_clock_in_front line.now place }
+    ensures { result ≡ Clock.has_clock_before line.now place }
 {
     if lacks_colon(line, place) {
         return false;
     }
-    has_seconds_in_front(line, place)
+    has_seconds_before(line, place)
 }

@@ -12,7 +12,7 @@ mod text;
 mod year;
 
 pub use bytes::byte_at;
-pub use clock::{has_clock_beside, has_clock_in_front};
+pub use clock::{has_clock_before, has_clock_beside};
 pub use edge::{is_edge, may_say};
 pub use offset::has_another_offset;
 pub use pieces::{blanks, reach, trimmed_length, zone_length};

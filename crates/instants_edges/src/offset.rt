@@ -66,7 +66,7 @@ fn clock_offset(sign: u8, h: u8, i: u8, m: u8, n: u8) -> Option<i32>
     with_sign(sign, hours, minutes)
 }
 
-// The offset at the front as `+02:00`, where a word ends after it.
+// The offset at the start as `+02:00`, where a word ends after it.
 fn by_colon(bytes: &[u8]) -> Option<i32>
     ensures { result ≡ Offset.by_word 6 bytes.now Offset.with_colon }
 {
@@ -79,7 +79,7 @@ fn by_colon(bytes: &[u8]) -> Option<i32>
     clock_offset(bytes[0], bytes[1], bytes[2], bytes[4], bytes[5])
 }
 
-// The offset at the front as `+0200`.
+// The offset at the start as `+0200`.
 fn by_digits(bytes: &[u8]) -> Option<i32>
     ensures { result ≡ Offset.by_word 5 bytes.now Offset.without_colon }
 {
@@ -92,7 +92,7 @@ fn by_digits(bytes: &[u8]) -> Option<i32>
     clock_offset(bytes[0], bytes[1], bytes[2], bytes[3], bytes[4])
 }
 
-// The offset at the front as `+02`.
+// The offset at the start as `+02`.
 fn by_hours(bytes: &[u8]) -> Option<i32>
     ensures { result ≡ Offset.by_word 3 bytes.now Offset.of_hours }
 {
@@ -105,7 +105,7 @@ fn by_hours(bytes: &[u8]) -> Option<i32>
     clock_offset(bytes[0], bytes[1], bytes[2], b'0', b'0')
 }
 
-// The offset at the front as `UTC` or `GMT`.
+// The offset at the start as `UTC` or `GMT`.
 fn by_letters(bytes: &[u8]) -> Option<i32>
     requires { (get_or bytes.now 0 0 == upper_z) ≡ false }
     ensures { result ≡ Offset.by_word 3 bytes.now Offset.of_name }
@@ -124,7 +124,7 @@ fn by_letters(bytes: &[u8]) -> Option<i32>
     }
 }
 
-// The offset at the front as `Z`.
+// The offset at the start as `Z`.
 #[tactic(auto, using(crate::proofs::Offsets::z_here))]
 fn by_z(bytes: &[u8]) -> Option<i32>
     requires { get_or bytes.now 0 0 ≡ upper_z }
@@ -135,7 +135,7 @@ fn by_z(bytes: &[u8]) -> Option<i32>
     if is_edge(bytes, 1) { Some(0) } else { None }
 }
 
-// The offset at the front.
+// The offset at the start.
 fn offset_here(bytes: &[u8]) -> Option<i32>
     ensures { result ≡ Offset.offset_here bytes.now }
 {
@@ -150,7 +150,7 @@ fn offset_here(bytes: &[u8]) -> Option<i32>
     }
 }
 
-// The length of a comma and digits at the front.
+// The length of a comma and digits at the start.
 #[inline(always)]
 fn fraction_length(bytes: &[u8]) -> usize
     ensures value { result ≡ Offset.fraction_length bytes.now }
@@ -162,8 +162,8 @@ fn fraction_length(bytes: &[u8]) -> usize
     digits_length(&bytes[1..]) + 1
 }
 
-// How many parameters of a control sequence stand at the front.
-#[tactic(auto, using(crate::proofs::Fronts::front_count))]
+// How many parameters of a control sequence stand at the start.
+#[tactic(auto, using(crate::proofs::Prefixes::prefix_count))]
 fn parameters_length(bytes: &[u8]) -> usize
     ensures value { result ≡ prefix_len Edge.is_parameter bytes.now }
     ensures within { result ≤ length bytes.now }
@@ -171,7 +171,7 @@ fn parameters_length(bytes: &[u8]) -> usize
     bytes.iter().take_while(|byte| is_parameter(**byte)).count()
 }
 
-// The length of a control sequence at the front.
+// The length of a control sequence at the start.
 #[inline(always)]
 fn sequence_length(bytes: &[u8]) -> usize
     ensures value { result ≡ Offset.sequence_length bytes.now }
@@ -189,7 +189,7 @@ fn sequence_length(bytes: &[u8]) -> usize
     }
 }
 
-// The offset at the front, after a colour and a fraction: directly, or over one space.
+// The offset at the start, after a colour and a fraction: directly, or over one space.
 fn offset_after(bytes: &[u8]) -> Option<i32>
     ensures { result ≡ Offset.offset_after bytes.now }
 {

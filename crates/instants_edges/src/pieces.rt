@@ -1,4 +1,4 @@
-//! Bytes at the front and at the end of a date.
+//! Bytes at the start and at the end of a date.
 ghost use Rattle.std.specs.Prelude.{◌≡◌, ◌≤◌, ◌-◌, length, take, drop};
 ghost use Rattle.std.specs.Char.{is_ascii_alphabetic, is_ascii_digit};
 ghost use Rattle.std.specs.List.{prefix_len, suffix_len};
@@ -7,8 +7,8 @@ ghost use Rattle.instants_edges.specs.Pieces as Pieces;
 use crate::bytes::{byte_at, byte_before};
 use crate::text::is_fraction;
 
-/// The length of the white space at the front.
-#[tactic(auto, using(crate::proofs::Fronts::front_count), unfolding(crate::specs::Pieces::blanks))]
+/// The length of the white space at the start.
+#[tactic(auto, using(crate::proofs::Prefixes::prefix_count), unfolding(crate::specs::Pieces::blanks))]
 pub fn blanks(bytes: &[u8]) -> usize
     ensures value { result ≡ Pieces.blanks bytes.now }
     ensures within { result ≤ length bytes.now }
@@ -27,8 +27,8 @@ pub fn trimmed_length(bytes: &[u8]) -> usize
     bytes.trim_ascii_end().len()
 }
 
-// How many letters stand at the front.
-#[tactic(auto, using(crate::proofs::Fronts::front_count))]
+// How many letters stand at the start.
+#[tactic(auto, using(crate::proofs::Prefixes::prefix_count))]
 fn letters_length(bytes: &[u8]) -> usize
     ensures value { result ≡ prefix_len is_ascii_alphabetic bytes.now }
     ensures within { result ≤ length bytes.now }
@@ -39,7 +39,7 @@ fn letters_length(bytes: &[u8]) -> usize
         .count()
 }
 
-/// The length of the word of letters at the front, with the space before it if there is one; 0 where no such word is.
+/// The length of the word of letters at the start, with the space before it if there is one; 0 where no such word is.
 #[tactic(auto, using(crate::proofs::Zones::zone_direct))]
 pub fn zone_length(bytes: &[u8]) -> usize
     ensures value { result ≡ Pieces.zone_length bytes.now }

@@ -17,7 +17,7 @@ fn is_continued(bytes: &[u8], place: usize) -> bool
     }
 }
 
-/// Whether the digits at the front are a fraction, and no field of a list.
+/// Whether the digits at the start are a fraction, and no field of a list.
 pub(crate) fn is_fraction(bytes: &[u8]) -> bool
     ensures { result ≡ Text.is_fraction bytes.now }
 {
@@ -43,7 +43,7 @@ fn is_stop(bytes: &[u8], place: usize) -> bool
 pub fn iso_text(bytes: &[u8]) -> &[u8]
     ensures value { result.now ≡ Text.iso_text bytes.now }
     ensures within { length result.now ≤ length bytes.now }
-    ensures front { result.now ≡ take (length result.now) bytes.now }
+    ensures prefix { result.now ≡ take (length result.now) bytes.now }
 {
     for place in 0..bytes.len() {
         if is_stop(bytes, place) {
@@ -94,7 +94,7 @@ fn mail_end(bytes: &[u8], place: usize) -> Option<usize>
 pub fn mail_text(bytes: &[u8]) -> &[u8]
     ensures value { result.now ≡ Text.mail_text 0 bytes.now }
     ensures within { length result.now ≤ length bytes.now }
-    ensures front { result.now ≡ take (length result.now) bytes.now }
+    ensures prefix { result.now ≡ take (length result.now) bytes.now }
 {
     for place in 0..bytes.len() {
         if let Some(end) = mail_end(bytes, place) {

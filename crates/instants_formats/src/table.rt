@@ -75,7 +75,7 @@ pub(crate) static FORMATS: [Format; 40] = [
         description: "audit([unix_timestamp].[subsecond]",
         lacks: Lacking::Nothing,
     },
-    // HAProxy, alone or behind a syslog's date.
+    // HAProxy, alone or after a syslog's date.
     //     Jan  2 03:04:06 lb haproxy[7]: 10.0.1.2:33317 [02/Jan/2021:03:04:05.123] http-in static/srv1
     //     2021-01-02T03:04:05.123000000Z
     Format {

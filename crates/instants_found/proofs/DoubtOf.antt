@@ -4,14 +4,14 @@ use Rattle.std.specs.Prelude.{is_some, slice_get, option_map, if◌then◌else�
 use Rattle.std.specs.Option.{is_none}
 use Rattle.std.proofs.lemmas.List.{drop_more, drop_all, length-take, length-map}
 use Rattle.std.proofs.lemmas.Option.{slice_get-map, slice_get_past, slice_get-get_or}
-use Rattle.instants_fronts.specs.DateSource.{grammar_in}
-use Rattle.instants_fronts.specs.declared.date_source.DateSource.{DateSource}
+use Rattle.instants_prefixes.specs.DateSource.{grammar_in}
+use Rattle.instants_prefixes.specs.declared.date_source.DateSource.{DateSource}
 use Rattle.instants_sources.specs.Grammar.{Grammar}
-use Rattle.instants_fronts.specs.Front.{front_at}
-use Rattle.instants_fronts.specs.declared.front.Front.{Front}
-use Rattle.instants_fronts.specs.declared.given.Given.{Given}
+use Rattle.instants_prefixes.specs.Prefix.{prefix_at}
+use Rattle.instants_prefixes.specs.declared.prefix.Prefix.{Prefix}
+use Rattle.instants_prefixes.specs.declared.given.Given.{Given}
 use Rattle.instants_found.specs.Beside.{is_read, if_read, read_at, stands_whole}
-use Rattle.instants_found.specs.Candidate.{candidate, candidates, of_front, as_candidate, longest}
+use Rattle.instants_found.specs.Candidate.{candidate, candidates, of_prefix, as_candidate, longest}
 use Rattle.instants_found.specs.Doubts.{why, as_doubted, doubted_at, first_read, doubted_there, doubt_of, HasDoubt}
 use Rattle.instants_found.specs.Found.{at_place, found, finding}
 use Rattle.instants_found.specs.declared.candidate.Candidate.{Candidate}
@@ -66,27 +66,27 @@ some_doubt (Some doubt) e = (doubt, refl)
 
 -- the date that is read
 record IsMadeOf (given : Given) (line : List ℕ) (start number : ℕ) (grammar : Grammar) (date : Candidate) : Type 0 where
-  front : Front
-  read : read_at given grammar line start ≡ Some front
-  made : as_candidate given line start number grammar front ≡ date
+  prefix : Prefix
+  read : read_at given grammar line start ≡ Some prefix
+  made : as_candidate given line start number grammar prefix ≡ date
 
-made_of : (given : Given) (line : List ℕ) (start number : ℕ) (grammar : Grammar) (o : Option Front) (date : Candidate) → of_front given line start number grammar o ≡ Some date → (front : Front) × (if_read grammar line start o ≡ Some front) × (as_candidate given line start number grammar front ≡ date)
+made_of : (given : Given) (line : List ℕ) (start number : ℕ) (grammar : Grammar) (o : Option Prefix) (date : Candidate) → of_prefix given line start number grammar o ≡ Some date → (prefix : Prefix) × (if_read grammar line start o ≡ Some prefix) × (as_candidate given line start number grammar prefix ≡ date)
 made_of given line start number grammar None date e = absurd cc
-made_of given line start number grammar (Some front) date e =
-    elim (is_read grammar line start front) as (λ b. (if b then Some (as_candidate given line start number grammar front) else None) ≡ Some date → (other : Front) × ((if b then Some front else None) ≡ Some other) × (as_candidate given line start number grammar other ≡ date)) [
-      | true ↦ λ h. (front, refl, cc)
+made_of given line start number grammar (Some prefix) date e =
+    elim (is_read grammar line start prefix) as (λ b. (if b then Some (as_candidate given line start number grammar prefix) else None) ≡ Some date → (other : Prefix) × ((if b then Some prefix else None) ≡ Some other) × (as_candidate given line start number grammar other ≡ date)) [
+      | true ↦ λ h. (prefix, refl, cc)
       | false ↦ λ h. absurd cc
     ] e
 
 is_made_of : (given : Given) (line : List ℕ) (start number : ℕ) (grammar : Grammar) (date : Candidate) → candidate given line start number grammar ≡ Some date → IsMadeOf given line start number grammar date
 unfolding candidate read_at
 is_made_of given line start number grammar date e =
-    let (front, read, made) = made_of given line start number grammar (front_at given grammar (drop start line)) date e in
-    record { front = front; read = read; made = made }
+    let (prefix, read, made) = made_of given line start number grammar (prefix_at given grammar (drop start line)) date e in
+    record { prefix = prefix; read = read; made = made }
 
-doubted_if : (given : Given) (line : List ℕ) (start : ℕ) (grammar : Grammar) (front : Front) (doubt : Doubt) → read_at given grammar line start ≡ Some front → why given grammar line start front ≡ Some doubt → doubted_at given grammar line start ≡ Some (as_doubted start front doubt)
+doubted_if : (given : Given) (line : List ℕ) (start : ℕ) (grammar : Grammar) (prefix : Prefix) (doubt : Doubt) → read_at given grammar line start ≡ Some prefix → why given grammar line start prefix ≡ Some doubt → doubted_at given grammar line start ≡ Some (as_doubted start prefix doubt)
 unfolding doubted_at
-doubted_if given line start grammar front doubt read is = rw (read, is) refl
+doubted_if given line start grammar prefix doubt read is = rw (read, is) refl
 
 not_whole : (b : Bool) → (b ≡ true → ⊥) → b ≡ false
 not_whole true h = absurd (h refl)
@@ -102,10 +102,10 @@ module _ (limit : ℕ) (given : Given) (sources : List Grammar) (line : List ℕ
   doubt_there place number date first read whole =
       let made = is_made_of given line place number read.grammar date read.reads in
       let same : read.far ≡ number = omega (arith, read.is) in
-      let stands : stands_whole given read.grammar line place made.front ≡ false = ap (λ (one : Candidate). one.is_whole) made.made ∙ whole in
-      let (doubt, is) = some_doubt (why given read.grammar line place made.front) (sym (whole_if given read.grammar line place made.front) ∙ stands) in
+      let stands : stands_whole given read.grammar line place made.prefix ≡ false = ap (λ (one : Candidate). one.is_whole) made.made ∙ whole in
+      let (doubt, is) = some_doubt (why given read.grammar line place made.prefix) (sym (whole_if given read.grammar line place made.prefix) ∙ stands) in
       let source : slice_get sources number ≡ Some read.grammar = rw (← same) read.source in
-      (number, as_doubted place made.front doubt, ap (λ o. doubted_there given line o (first_read given sources line 0 (take limit line))) source ∙ ap (λ o. doubted_there given line (Some read.grammar) o) (sym first) ∙ doubted_if given line place read.grammar made.front doubt made.read is)
+      (number, as_doubted place made.prefix doubt, ap (λ o. doubted_there given line o (first_read given sources line 0 (take limit line))) source ∙ ap (λ o. doubted_there given line (Some read.grammar) o) (sym first) ∙ doubted_if given line place read.grammar made.prefix doubt made.read is)
 
   at_first : IsFirstPlace given sources line (min limit (length line)) → found limit given sources line ≡ Some Doubtful → HasDoubt limit given sources line
   at_first it e =

@@ -3,7 +3,7 @@ use Rattle.std.proofs.Common.{◌≡◌, ◌<◌, ◌≤◌, ◌⊎◌, inl, inr
 use Rattle.std.specs.Prelude.{if◌then◌else◌}
 use Rattle.std.proofs.lemmas.Bool.{cases_lt}
 use Rattle.instants_edges.specs.Edge.{is_edge}
-use Rattle.instants_fronts.specs.declared.given.Given.{Given}
+use Rattle.instants_prefixes.specs.declared.given.Given.{Given}
 use Rattle.instants_sources.specs.Grammar.{Grammar}
 use Rattle.instants_found.specs.Candidate.{candidates, longest}
 use Rattle.instants_found.specs.Found.{at_place, found, of_candidates, finding}

@@ -5,7 +5,7 @@ use Rattle.std.specs.Int.{bit_at}
 use Rattle.std.proofs.lemmas.Bool.{cases_lt}
 use Rattle.std.proofs.lemmas.List.{get_or-drop, length-drop}
 use Rattle.std.proofs.lemmas.List.Elements.{All-weaker}
-use Rattle.instants_fronts.specs.NoFront.{HasNoFront}
+use Rattle.instants_prefixes.specs.NoPrefix.{HasNoPrefix}
 use Rattle.instants_sources.specs.Grammar.{Grammar}
 use Rattle.instants_found.specs.Starts.{AreStarts, HasNoDate, IsNoDate, MarkPlaces}
 use Rattle.instants_found.specs.Keys.{AreBytes, stands_at, has_key, NeedsFour, NeedsOne, AreKeys}
@@ -13,27 +13,27 @@ use Rattle.instants_found.specs.declared.key.Key.{Key}
 use Rattle.instants_found.specs.declared.keys.Keys.{Keys}
 use Rattle.instants_found.specs.Marks.{AreMarks, IsUnmarked}
 use Rattle.instants_found.specs.declared.marks.Marks.{Marks}
-use Rattle.instants_found.proofs.NoDates.{no_front_there, none_starts}
+use Rattle.instants_found.proofs.NoDates.{no_prefix_there, none_starts}
 
 -- ---- places
 
-bytes_behind : (line : List ℕ) (start : ℕ) → AreBytes line → AreBytes (drop start line)
-bytes_behind line start few k = let same : get_or (drop start line) k 0 ≡ get_or line (start + k) 0 = get_or-drop start line k 0 in rw same (few (start + k))
+bytes_after : (line : List ℕ) (start : ℕ) → AreBytes line → AreBytes (drop start line)
+bytes_after line start few k = let same : get_or (drop start line) k 0 ≡ get_or line (start + k) 0 = get_or-drop start line k 0 in rw same (few (start + k))
 
-no_key_behind : (key : Key) (line : List ℕ) (start : ℕ) → stands_at key line start ≡ false → has_key key (drop start line) ≡ false
-no_key_behind key line start none = ap (λ (n : ℕ). n == key.byte) (get_or-drop start line key.place 0) ∙ none
+no_key_after : (key : Key) (line : List ℕ) (start : ℕ) → stands_at key line start ≡ false → has_key key (drop start line) ≡ false
+no_key_after key line start none = ap (λ (n : ℕ). n == key.byte) (get_or-drop start line key.place 0) ∙ none
 
 module _ (sources : List Grammar) (line : List ℕ) where
-  -- neither key stands behind the place
+  -- neither key stands after the place
   pub unkeyed_none : (keys : Keys) (start : ℕ) → AreKeys sources keys → AreBytes line → stands_at keys.first line start ≡ false → stands_at keys.second line start ≡ false → IsNoDate sources line start
   unkeyed_none keys start are few first second =
-      no_front_there sources line start
-      (All-weaker (NeedsOne keys) (HasNoFront (drop start line)) (λ grammar needs. needs.key (drop start line) (bytes_behind line start few) (no_key_behind keys.first line start first) (no_key_behind keys.second line start second)) sources are)
+      no_prefix_there sources line start
+      (All-weaker (NeedsOne keys) (HasNoPrefix (drop start line)) (λ grammar needs. needs.key (drop start line) (bytes_after line start few) (no_key_after keys.first line start first) (no_key_after keys.second line start second)) sources are)
 
   -- fewer than four bytes are left
   pub short_none : (start : ℕ) → All NeedsFour sources → length line < start + 4 → IsNoDate sources line start
   short_none start are short =
-      no_front_there sources line start (All-weaker NeedsFour (HasNoFront (drop start line)) (λ grammar four. four (drop start line) (let left : length (drop start line) ≡ length line - start = length-drop start line in omega (arith, left, short))) sources are)
+      no_prefix_there sources line start (All-weaker NeedsFour (HasNoPrefix (drop start line)) (λ grammar four. four (drop start line) (let left : length (drop start line) ≡ length line - start = length-drop start line in omega (arith, left, short))) sources are)
 
   -- what isn't marked has no date
   pub unmarked_none : (starts : List Bool) (marks : Marks) (start : ℕ) → AreStarts sources starts → AreMarks sources starts marks → AreBytes line → IsUnmarked marks line start → IsNoDate sources line start

@@ -31,7 +31,7 @@ both_none a b k e = min_none (bit_at a k) (bit_at b k) (sym (bit_at_and a b k) �
 pub either_none : (a b k : ℕ) → bit_at (bit_or a b) k ≡ 0 → (bit_at a k ≡ 0) × (bit_at b k ≡ 0)
 either_none a b k e = let most : max (bit_at a k) (bit_at b k) ≡ 0 = sym (bit_at_or a b k) ∙ e in (omega (arith, most), omega (arith, most))
 
--- a key behind the place of a lane
+-- a key after the place of a lane
 pub stands_not : (key : Key) (line v : List ℕ) (at : ℕ) → ((k : ℕ) → k < 16 → get_or v k 0 ≡ get_or line (at + key.place + k) 0) → (k : ℕ) → k < 16 → (get_or v k 0 == key.byte) ≡ false → stands_at key line (at + k) ≡ false
 stands_not key line v at is k lt none =
     let place : at + key.place + k ≡ at + k + key.place = omega arith in

@@ -3,7 +3,7 @@ use Rattle.std.proofs.Common.{◌≡◌, ◌<◌, ◌≤◌, ◌⊎◌, inl, inr
 use Rattle.std.specs.Prelude.{slice_get, nat_lt, not, ◌&&◌, if◌then◌else◌}
 use Rattle.std.proofs.lemmas.Bool.{cases_lt}
 use Rattle.std.proofs.lemmas.Bool.Decides.{nat_tests}
-use Rattle.instants_fronts.specs.declared.given.Given.{Given}
+use Rattle.instants_prefixes.specs.declared.given.Given.{Given}
 use Rattle.instants_sources.specs.Grammar.{Grammar}
 use Rattle.instants_found.specs.Candidate.{candidate, candidates, joined, longer, longest}
 use Rattle.instants_found.specs.declared.candidate.Candidate.{Candidate}

@@ -14,16 +14,16 @@ use Rattle.parsing_components.specs.Component.{reads_component, reads_component_
 use Rattle.instants_sources.specs.Grammar.{Grammar, Items, V3, Rfc2822, Rfc3339, Iso8601}
 use Rattle.instants_edges.specs.Text.{iso_text, mail_text}
 use Rattle.instants_edges.specs.Pieces.{blanks, trimmed_length, zone_length, reach}
-use Rattle.instants_edges.proofs.Near.{near_edge, near_sign, near_clock_beside, near_clock_in_front, near_offset, near_year, near_reach}
-use Rattle.instants_edges.proofs.TextFronts.{IsFront, iso_is_front, mail_is_front}
-use Rattle.instants_fronts.specs.Front.{front_at, front_in}
-use Rattle.instants_fronts.specs.Given.{year_of}
-use Rattle.instants_fronts.specs.Lengths.{length_read, length_by, before_first, up_to_last, items_of, lengths}
-use Rattle.instants_fronts.specs.Reading.{window, text_for, front_named}
-use Rattle.instants_fronts.specs.declared.front.Front.{Front}
-use Rattle.instants_fronts.specs.declared.given.Given.{Given}
+use Rattle.instants_edges.proofs.Near.{near_edge, near_sign, near_clock_beside, near_clock_before, near_offset, near_year, near_reach}
+use Rattle.instants_edges.proofs.TextPrefixes.{IsPrefix, iso_is_prefix, mail_is_prefix}
+use Rattle.instants_prefixes.specs.Prefix.{prefix_at, prefix_in}
+use Rattle.instants_prefixes.specs.Given.{year_of}
+use Rattle.instants_prefixes.specs.Lengths.{length_read, length_by, before_first, up_to_last, items_of, lengths}
+use Rattle.instants_prefixes.specs.Reading.{window, text_for, prefix_named}
+use Rattle.instants_prefixes.specs.declared.prefix.Prefix.{Prefix}
+use Rattle.instants_prefixes.specs.declared.given.Given.{Given}
 use Rattle.instants_found.specs.Beside.{is_read, is_gainsaid, stands_whole, names_nothing, without_offset, without_time, without_year}
-use Rattle.instants_found.specs.Candidate.{candidate, candidates, of_front, as_candidate}
+use Rattle.instants_found.specs.Candidate.{candidate, candidates, of_prefix, as_candidate}
 use Rattle.instants_found.specs.Found.{at_place, from_place, found}
 use Rattle.instants_found.specs.IsFound.{IsFound}
 use Rattle.instants_found.specs.declared.candidate.Candidate.{Candidate}
@@ -35,16 +35,16 @@ use Rattle.instants_found.proofs.FirstFound.{is_found}
 -- ---- the text that is read
 
 -- what a source is given is the same whatever stands after the window
-near_text : (grammar : Grammar) (front rest : List ℕ) → window ≤ length front → text_for grammar (front ++ rest) ≡ text_for grammar front
+near_text : (grammar : Grammar) (prefix rest : List ℕ) → window ≤ length prefix → text_for grammar (prefix ++ rest) ≡ text_for grammar prefix
 unfolding text_for
-near_text (Items items) front rest within = take-append-le 256 front rest within
-near_text (V3 tree) front rest within = take-append-le 256 front rest within
-near_text Rfc2822 front rest within = ap (λ (bytes : List ℕ). mail_text 0 bytes) (take-append-le 256 front rest within)
-near_text Rfc3339 front rest within = take-append-le 256 front rest within
-near_text Iso8601 front rest within = ap (λ (bytes : List ℕ). iso_text bytes) (take-append-le 256 front rest within)
+near_text (Items items) prefix rest within = take-append-le 256 prefix rest within
+near_text (V3 tree) prefix rest within = take-append-le 256 prefix rest within
+near_text Rfc2822 prefix rest within = ap (λ (bytes : List ℕ). mail_text 0 bytes) (take-append-le 256 prefix rest within)
+near_text Rfc3339 prefix rest within = take-append-le 256 prefix rest within
+near_text Iso8601 prefix rest within = ap (λ (bytes : List ℕ). iso_text bytes) (take-append-le 256 prefix rest within)
 
-front_length : (text bytes : List ℕ) → IsFront text bytes → length text ≤ length bytes
-front_length text bytes (n, within, is) = rw is (omega (arith, length-take n bytes))
+prefix_length : (text bytes : List ℕ) → IsPrefix text bytes → length text ≤ length bytes
+prefix_length text bytes (n, within, is) = rw is (omega (arith, length-take n bytes))
 
 in_window : (bytes : List ℕ) → length (take 256 bytes) ≤ 256
 in_window bytes = omega (arith, length-take 256 bytes)
@@ -54,11 +54,11 @@ text_in_window : (grammar : Grammar) (bytes : List ℕ) → length (text_for gra
 unfolding text_for
 text_in_window (Items items) bytes = in_window bytes
 text_in_window (V3 tree) bytes = in_window bytes
-text_in_window Rfc2822 bytes = omega (arith, in_window bytes, front_length (mail_text 0 (take 256 bytes)) (take 256 bytes) (mail_is_front 0 (take 256 bytes)))
+text_in_window Rfc2822 bytes = omega (arith, in_window bytes, prefix_length (mail_text 0 (take 256 bytes)) (take 256 bytes) (mail_is_prefix 0 (take 256 bytes)))
 text_in_window Rfc3339 bytes = in_window bytes
-text_in_window Iso8601 bytes = omega (arith, in_window bytes, front_length (iso_text (take 256 bytes)) (take 256 bytes) (iso_is_front (take 256 bytes)))
+text_in_window Iso8601 bytes = omega (arith, in_window bytes, prefix_length (iso_text (take 256 bytes)) (take 256 bytes) (iso_is_prefix (take 256 bytes)))
 
--- ---- the lengths of a front
+-- ---- the lengths of a prefix
 
 trimmed_within : (bytes : List ℕ) → trimmed_length bytes ≤ length bytes
 unfolding trimmed_length
@@ -78,12 +78,12 @@ read_within text (Err fault) = omega arith
 begins_within : (n : ℕ) (text : List ℕ) → n ≤ length text → n + blanks (drop n text) ≤ length text
 begins_within n text within = omega (arith, within, blanks_within (drop n text), length-drop n text)
 
--- a front within the window
-record IsNear (front : Front) : Type 0 where
-  begins : front.begins ≤ 256
-  ends : front.ends ≤ 256
-  zone : front.zone ≤ 256
-  all : front.all ≤ 256
+-- a prefix within the window
+record IsNear (prefix : Prefix) : Type 0 where
+  begins : prefix.begins ≤ 256
+  ends : prefix.ends ≤ 256
+  zone : prefix.zone ≤ 256
+  all : prefix.all ≤ 256
 
 begins_by : (grammar : Grammar) (text rest : List ℕ) → (lengths grammar text rest).begins ≤ length text
 unfolding lengths
@@ -127,7 +127,7 @@ zone_by Rfc2822 text rest = trimmed_take (length text - length rest) text
 zone_by Rfc3339 text rest = trimmed_take (length text - length rest) text
 zone_by Iso8601 text rest = trimmed_take (length text - length rest) text
 
-near_in : (grammar : Grammar) (text : List ℕ) (named : Option (Shown × List ℕ)) → length text ≤ 256 → IfSome (front_in grammar text named) IsNear
+near_in : (grammar : Grammar) (text : List ℕ) (named : Option (Shown × List ℕ)) → length text ≤ 256 → IfSome (prefix_in grammar text named) IsNear
 near_in grammar text None within = tt
 near_in grammar text (Some (moment, rest)) within =
     let begins = begins_by grammar text rest in
@@ -136,9 +136,9 @@ near_in grammar text (Some (moment, rest)) within =
     let all = trimmed_take (length text - length rest) text in
     record { begins = omega (arith, begins, within); ends = omega (arith, ends, within); zone = omega (arith, zone, within); all = omega (arith, all, within) }
 
-front_near : (given : Given) (grammar : Grammar) (bytes : List ℕ) → IfSome (front_at given grammar bytes) IsNear
-unfolding front_at
-front_near given grammar bytes = near_in grammar (text_for grammar bytes) (front_named given grammar (text_for grammar bytes)) (text_in_window grammar bytes)
+prefix_near : (given : Given) (grammar : Grammar) (bytes : List ℕ) → IfSome (prefix_at given grammar bytes) IsNear
+unfolding prefix_at
+prefix_near given grammar bytes = near_in grammar (text_for grammar bytes) (prefix_named given grammar (text_for grammar bytes)) (text_in_window grammar bytes)
 
 -- ---- a date at a place
 
@@ -155,12 +155,12 @@ module _ (given : Given) (line rest : List ℕ) (start : ℕ) (far : start + 320
   same_text : (grammar : Grammar) → text_for grammar (drop start (line ++ rest)) ≡ text_for grammar (drop start line)
   same_text grammar = ap (λ (bytes : List ℕ). text_for grammar bytes) from_start ∙ near_text grammar (drop start line) rest (rw (length-drop start line) (omega (arith, far)))
 
-  same_front : (grammar : Grammar) → front_at given grammar (drop start (line ++ rest)) ≡ front_at given grammar (drop start line)
-  unfolding front_at
-  same_front grammar = ap (λ (text : List ℕ). front_in grammar text (front_named given grammar text)) (same_text grammar)
+  same_prefix : (grammar : Grammar) → prefix_at given grammar (drop start (line ++ rest)) ≡ prefix_at given grammar (drop start line)
+  unfolding prefix_at
+  same_prefix grammar = ap (λ (text : List ℕ). prefix_in grammar text (prefix_named given grammar text)) (same_text grammar)
 
   same_names : (without : Given) (grammar : Grammar) → names_nothing without grammar (drop start (line ++ rest)) ≡ names_nothing without grammar (drop start line)
-  same_names without grammar = ap (λ (text : List ℕ). is_none (front_named without grammar text)) (same_text grammar)
+  same_names without grammar = ap (λ (text : List ℕ). is_none (prefix_named without grammar text)) (same_text grammar)
 
   same_reach : (begins ends zone : ℕ) → ends ≤ 256 → reach (line ++ rest) (start + begins) (start + ends) zone ≡ reach line (start + begins) (start + ends) zone
   same_reach begins ends zone within =
@@ -169,53 +169,53 @@ module _ (given : Given) (line rest : List ℕ) (start : ℕ) (far : start + 320
         | inr order ↦ near_reach line rest (start + begins) (start + ends) zone (omega (arith, order)) (omega (arith, far, within))
       ]
 
-  module _ (grammar : Grammar) (front : Front) (near : IsNear front) where
-    same_gainsaid : is_gainsaid given grammar (line ++ rest) start front ≡ is_gainsaid given grammar line start front
+  module _ (grammar : Grammar) (prefix : Prefix) (near : IsNear prefix) where
+    same_gainsaid : is_gainsaid given grammar (line ++ rest) start prefix ≡ is_gainsaid given grammar line start prefix
     unfolding is_gainsaid
     same_gainsaid =
         let begins = near.begins in
         let ends = near.ends in
         rw (
-          near_offset line rest (start + front.ends) given.offset (omega (arith, far, ends)),
-          near_clock_beside line rest (start + front.begins) (start + front.ends) (omega (arith, far, begins)) (omega (arith, far, ends)),
-          near_year line rest (start + front.begins) (start + front.ends) (year_of front.moment) (omega (arith, far, begins)) (omega (arith, far, ends)),
+          near_offset line rest (start + prefix.ends) given.offset (omega (arith, far, ends)),
+          near_clock_beside line rest (start + prefix.begins) (start + prefix.ends) (omega (arith, far, begins)) (omega (arith, far, ends)),
+          near_year line rest (start + prefix.begins) (start + prefix.ends) (year_of prefix.moment) (omega (arith, far, begins)) (omega (arith, far, ends)),
           same_names (without_offset given) grammar,
           same_names (without_time given) grammar,
           same_names (without_year given) grammar,
         ) refl
 
-    same_whole : stands_whole given grammar (line ++ rest) start front ≡ stands_whole given grammar line start front
+    same_whole : stands_whole given grammar (line ++ rest) start prefix ≡ stands_whole given grammar line start prefix
     unfolding stands_whole
     same_whole =
         let begins = near.begins in
         let all = near.all in
         rw (
-          near_edge line rest (start + front.all) (omega (arith, far, all)),
-          near_clock_in_front line rest (start + front.begins) (omega (arith, far, begins)),
+          near_edge line rest (start + prefix.all) (omega (arith, far, all)),
+          near_clock_before line rest (start + prefix.begins) (omega (arith, far, begins)),
           same_gainsaid,
         ) refl
 
-    same_read : is_read grammar (line ++ rest) start front ≡ is_read grammar line start front
+    same_read : is_read grammar (line ++ rest) start prefix ≡ is_read grammar line start prefix
     same_read =
         let begins = near.begins in
         let all = near.all in
         rw (
-          near_sign line rest (start + front.begins) (omega (arith, far, begins)),
-          near_edge line rest (start + front.all) (omega (arith, far, all)),
+          near_sign line rest (start + prefix.begins) (omega (arith, far, begins)),
+          near_edge line rest (start + prefix.all) (omega (arith, far, all)),
         ) refl
 
-    same_candidate : (number : ℕ) → as_candidate given (line ++ rest) start number grammar front ≡ as_candidate given line start number grammar front
+    same_candidate : (number : ℕ) → as_candidate given (line ++ rest) start number grammar prefix ≡ as_candidate given line start number grammar prefix
     same_candidate number =
         let ends = near.ends in
-        rw (same_reach front.begins front.ends (start + front.zone) ends, same_whole) refl
+        rw (same_reach prefix.begins prefix.ends (start + prefix.zone) ends, same_whole) refl
 
-  same_of : (grammar : Grammar) (number : ℕ) (front : Option Front) → IfSome front IsNear → of_front given (line ++ rest) start number grammar front ≡ of_front given line start number grammar front
+  same_of : (grammar : Grammar) (number : ℕ) (prefix : Option Prefix) → IfSome prefix IsNear → of_prefix given (line ++ rest) start number grammar prefix ≡ of_prefix given line start number grammar prefix
   same_of grammar number None near = refl
-  same_of grammar number (Some front) near = rw (same_read grammar front near, same_candidate grammar front near number) refl
+  same_of grammar number (Some prefix) near = rw (same_read grammar prefix near, same_candidate grammar prefix near number) refl
 
   same_dates : (number : ℕ) (grammar : Grammar) → candidate given (line ++ rest) start number grammar ≡ candidate given line start number grammar
   unfolding candidate
-  same_dates number grammar = rw (same_front grammar) (same_of grammar number (front_at given grammar (drop start line)) (front_near given grammar (drop start line)))
+  same_dates number grammar = rw (same_prefix grammar) (same_of grammar number (prefix_at given grammar (drop start line)) (prefix_near given grammar (drop start line)))
 
 -- ---- all dates at a place, and all places
 
@@ -245,12 +245,12 @@ record LiesNear (start : ℕ) (date : Candidate) : Type 0 where
   begins : date.date.start ≤ start + 256
   ends : date.date.end ≤ start + 256
 
-front_lies : (given : Given) (line : List ℕ) (start number : ℕ) (grammar : Grammar) (front : Option Front) → IfSome front IsNear → IfSome (of_front given line start number grammar front) (LiesNear start)
-front_lies given line start number grammar None near = tt
-front_lies given line start number grammar (Some front) near =
+prefix_lies : (given : Given) (line : List ℕ) (start number : ℕ) (grammar : Grammar) (prefix : Option Prefix) → IfSome prefix IsNear → IfSome (of_prefix given line start number grammar prefix) (LiesNear start)
+prefix_lies given line start number grammar None near = tt
+prefix_lies given line start number grammar (Some prefix) near =
     let begins = near.begins in
     let zone = near.zone in
-    elim (is_read grammar line start front) as (λ b. IfSome (if b then Some (as_candidate given line start number grammar front) else None) (LiesNear start)) [
+    elim (is_read grammar line start prefix) as (λ b. IfSome (if b then Some (as_candidate given line start number grammar prefix) else None) (LiesNear start)) [
       | true ↦ record { begins = omega (arith, begins); ends = omega (arith, zone) }
       | false ↦ tt
     ]
@@ -259,7 +259,7 @@ lies_near : (given : Given) (line : List ℕ) (start number : ℕ) (grammar : Gr
 unfolding candidate
 lies_near given line start number grammar date e =
     let P : Option Candidate → Type 0 = λ o. IfSome o (LiesNear start) in
-    subst P e (front_lies given line start number grammar (front_at given grammar (drop start line)) (front_near given grammar (drop start line)))
+    subst P e (prefix_lies given line start number grammar (prefix_at given grammar (drop start line)) (prefix_near given grammar (drop start line)))
 
 pub found_near : (limit : ℕ) (given : Given) (sources : List Grammar) (line : List ℕ) (date : Found) → found limit given sources line ≡ Some (There date) → (date.start < limit + 256) × (date.end < limit + 256)
 found_near limit given sources line date e =

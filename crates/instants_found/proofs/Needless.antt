@@ -4,21 +4,21 @@ use Rattle.std.specs.Prelude.{is_some, not, ◌||◌}
 use Rattle.std.specs.Option.{is_none}
 use Rattle.datetime_wall.specs.Wall.{Shown}
 use Rattle.instants_sources.specs.Grammar.{Grammar}
-use Rattle.instants_fronts.specs.Front.{front_at, front_in}
-use Rattle.instants_fronts.specs.Reading.{front_named, text_for}
-use Rattle.instants_fronts.specs.declared.front.Front.{Front}
-use Rattle.instants_fronts.specs.declared.given.Given.{Given}
-use Rattle.instants_fronts.specs.declared.given.Years.TheVariants.{Unknown}
+use Rattle.instants_prefixes.specs.Prefix.{prefix_at, prefix_in}
+use Rattle.instants_prefixes.specs.Reading.{prefix_named, text_for}
+use Rattle.instants_prefixes.specs.declared.prefix.Prefix.{Prefix}
+use Rattle.instants_prefixes.specs.declared.given.Given.{Given}
+use Rattle.instants_prefixes.specs.declared.given.Years.TheVariants.{Unknown}
 use Rattle.instants_found.specs.Beside.{names_nothing, without_offset, without_time, without_year}
 
-named_there : (grammar : Grammar) (text : List ℕ) (o : Option (Shown × List ℕ)) (front : Front) → front_in grammar text o ≡ Some front → is_none o ≡ false
-named_there grammar text None front e = absurd cc
-named_there grammar text (Some x) front e = refl
+named_there : (grammar : Grammar) (text : List ℕ) (o : Option (Shown × List ℕ)) (prefix : Prefix) → prefix_in grammar text o ≡ Some prefix → is_none o ≡ false
+named_there grammar text None prefix e = absurd cc
+named_there grammar text (Some x) prefix e = refl
 
--- where a front is read, it names something with what was given
-names_something : (given : Given) (grammar : Grammar) (bytes : List ℕ) (front : Front) → front_at given grammar bytes ≡ Some front → names_nothing given grammar bytes ≡ false
-unfolding front_at
-names_something given grammar bytes front e = named_there grammar (text_for grammar bytes) (front_named given grammar (text_for grammar bytes)) front e
+-- where a prefix is read, it names something with what was given
+names_something : (given : Given) (grammar : Grammar) (bytes : List ℕ) (prefix : Prefix) → prefix_at given grammar bytes ≡ Some prefix → names_nothing given grammar bytes ≡ false
+unfolding prefix_at
+names_something given grammar bytes prefix e = named_there grammar (text_for grammar bytes) (prefix_named given grammar (text_for grammar bytes)) prefix e
 
 no_and : (a : Bool) → false ≡ (a && false)
 no_and true = refl
@@ -28,23 +28,23 @@ is_none_of : {A : Type 0} (o : Option A) → is_some o ≡ false → o ≡ None
 is_none_of None e = refl
 is_none_of (Some x) e = absurd cc
 
-pub no_offset : (says : Bool) (given : Given) (grammar : Grammar) (bytes : List ℕ) (front : Front) → is_some given.offset ≡ false → front_at given grammar bytes ≡ Some front
+pub no_offset : (says : Bool) (given : Given) (grammar : Grammar) (bytes : List ℕ) (prefix : Prefix) → is_some given.offset ≡ false → prefix_at given grammar bytes ≡ Some prefix
     → false ≡ (says && names_nothing (without_offset given) grammar bytes)
-no_offset says given grammar bytes front none read =
+no_offset says given grammar bytes prefix none read =
     let same : without_offset given ≡ given = ap (λ o. record given { offset = o }) (sym (is_none_of given.offset none)) in
-    rw (same, names_something given grammar bytes front read) (no_and says)
+    rw (same, names_something given grammar bytes prefix read) (no_and says)
 
-pub no_time : (says : Bool) (given : Given) (grammar : Grammar) (bytes : List ℕ) (front : Front) → is_some given.time ≡ false → front_at given grammar bytes ≡ Some front
+pub no_time : (says : Bool) (given : Given) (grammar : Grammar) (bytes : List ℕ) (prefix : Prefix) → is_some given.time ≡ false → prefix_at given grammar bytes ≡ Some prefix
     → false ≡ (says && names_nothing (without_time given) grammar bytes)
-no_time says given grammar bytes front none read =
+no_time says given grammar bytes prefix none read =
     let same : without_time given ≡ given = ap (λ o. record given { time = o }) (sym (is_none_of given.time none)) in
-    rw (same, names_something given grammar bytes front read) (no_and says)
+    rw (same, names_something given grammar bytes prefix read) (no_and says)
 
-pub no_year : (says : Bool) (given : Given) (grammar : Grammar) (bytes : List ℕ) (front : Front) → given.years ≡ Unknown → front_at given grammar bytes ≡ Some front
+pub no_year : (says : Bool) (given : Given) (grammar : Grammar) (bytes : List ℕ) (prefix : Prefix) → given.years ≡ Unknown → prefix_at given grammar bytes ≡ Some prefix
     → false ≡ (says && names_nothing (without_year given) grammar bytes)
-no_year says given grammar bytes front none read =
+no_year says given grammar bytes prefix none read =
     let same : without_year given ≡ given = ap (λ y. record given { years = y }) (sym none) in
-    rw (same, names_something given grammar bytes front read) (no_and says)
+    rw (same, names_something given grammar bytes prefix read) (no_and says)
 
 -- ---- tests
 

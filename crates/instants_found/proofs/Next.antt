@@ -30,9 +30,9 @@ module _ (sources : List Grammar) (line : List ℕ) where
       let P : ℕ → Type 0 = λ k. IsNoDate sources line k in
       subst P there (marks (place - from) (omega (arith, there, high)) bit)
 
-  -- the bits behind one
-  pub marks_behind : (from to bits n : ℕ) → MarkPlaces sources line from to bits → MarkPlaces sources line (from + n + 1) to (bits / 2 ^ n / 2 ^ 1)
-  marks_behind from to bits n marks = λ k lt none.
+  -- the bits after one
+  pub marks_after : (from to bits n : ℕ) → MarkPlaces sources line from to bits → MarkPlaces sources line (from + n + 1) to (bits / 2 ^ n / 2 ^ 1)
+  marks_after from to bits n marks = λ k lt none.
       let place : from + (n + 1 + k) ≡ from + n + 1 + k = omega arith in
       let moved : bit_at (bits / 2 ^ n / 2 ^ 1) k ≡ bit_at bits (n + 1 + k) = ap (λ (m : ℕ). bit_at m k) (shr-shr bits n 1) ∙ ap (λ (m : ℕ). m % 2) (shr-shr bits (n + 1) k) in
       let P : ℕ → Type 0 = λ j. IsNoDate sources line j in

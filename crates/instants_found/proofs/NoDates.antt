@@ -5,9 +5,9 @@ use Rattle.std.proofs.lemmas.Bool.{cases_lt}
 use Rattle.std.proofs.lemmas.List.{get_or-drop, length-take}
 use Rattle.std.proofs.lemmas.List.Elements.{All-head, All-tail, All-weaker}
 use Rattle.instants_edges.specs.Edge.{is_edge}
-use Rattle.instants_fronts.specs.Front.{front_at}
-use Rattle.instants_fronts.specs.declared.given.Given.{Given}
-use Rattle.instants_fronts.specs.NoFront.{HasNoFront}
+use Rattle.instants_prefixes.specs.Prefix.{prefix_at}
+use Rattle.instants_prefixes.specs.declared.given.Given.{Given}
+use Rattle.instants_prefixes.specs.NoPrefix.{HasNoPrefix}
 use Rattle.instants_sources.specs.Grammar.{Grammar}
 use Rattle.instants_found.specs.Candidate.{candidate, candidates}
 use Rattle.instants_found.specs.Found.{at_place, found}
@@ -17,30 +17,30 @@ use Rattle.instants_found.proofs.Steps.{GiveFromPlace, place_has, place_has_none
 
 -- ---- one place
 
-pub no_candidate : (given : Given) (line : List ℕ) (start number : ℕ) (grammar : Grammar) → HasNoFront (drop start line) grammar → candidate given line start number grammar ≡ None
-unfolding candidate front_at
+pub no_candidate : (given : Given) (line : List ℕ) (start number : ℕ) (grammar : Grammar) → HasNoPrefix (drop start line) grammar → candidate given line start number grammar ≡ None
+unfolding candidate prefix_at
 no_candidate given line start number grammar none = rw (none given) refl
 
-pub no_candidates : (given : Given) (line : List ℕ) (start number : ℕ) (sources : List Grammar) → All (HasNoFront (drop start line)) sources → candidates given line start number sources ≡ []
+pub no_candidates : (given : Given) (line : List ℕ) (start number : ℕ) (sources : List Grammar) → All (HasNoPrefix (drop start line)) sources → candidates given line start number sources ≡ []
 unfolding candidates
 no_candidates given line start number [] none = refl
 no_candidates given line start number (grammar ∷ others) none =
-    rw (no_candidate given line start number grammar (All-head (HasNoFront (drop start line)) grammar others none)) (no_candidates given line start (number + 1) others (All-tail (HasNoFront (drop start line)) grammar others none))
+    rw (no_candidate given line start number grammar (All-head (HasNoPrefix (drop start line)) grammar others none)) (no_candidates given line start (number + 1) others (All-tail (HasNoPrefix (drop start line)) grammar others none))
 
 if_edge : {A : Type 0} (b : Bool) (x : Option A) → x ≡ None → (if b then x else None) ≡ None
 if_edge true x h = h
 if_edge false x h = refl
 
--- no source reads a front there
-pub no_front_there : (sources : List Grammar) (line : List ℕ) (start : ℕ) → All (HasNoFront (drop start line)) sources → IsNoDate sources line start
+-- no source reads a prefix there
+pub no_prefix_there : (sources : List Grammar) (line : List ℕ) (start : ℕ) → All (HasNoPrefix (drop start line)) sources → IsNoDate sources line start
 unfolding at_place
-no_front_there sources line start none = λ given. if_edge (is_edge line start) _ (rw (no_candidates given line start 0 sources none) refl)
+no_prefix_there sources line start none = λ given. if_edge (is_edge line start) _ (rw (no_candidates given line start 0 sources none) refl)
 
 -- no source reads a date that begins with the byte there
 pub none_starts : (sources : List Grammar) (starts : List Bool) (line : List ℕ) (start : ℕ) → AreStarts sources starts → get_or starts (get_or line start 0) true ≡ false → IsNoDate sources line start
 none_starts sources starts line start are none =
     let first : get_or (drop start line) 0 0 ≡ get_or line start 0 = get_or-drop start line 0 0 ∙ ap (λ (n : ℕ). get_or line n 0) (omega arith) in
-    no_front_there sources line start (All-weaker (CannotBegin (get_or line start 0)) (HasNoFront (drop start line)) (λ grammar cannot. cannot (drop start line) first) sources (are (get_or line start 0) none))
+    no_prefix_there sources line start (All-weaker (CannotBegin (get_or line start 0)) (HasNoPrefix (drop start line)) (λ grammar cannot. cannot (drop start line) first) sources (are (get_or line start 0) none))
 
 -- the place is inside a word
 pub none_inside : (sources : List Grammar) (line : List ℕ) (start : ℕ) → is_edge line start ≡ false → IsNoDate sources line start

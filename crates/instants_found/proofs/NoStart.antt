@@ -9,11 +9,11 @@ use Rattle.parsing_components.specs.Component.{reads_component, reads_component_
 use Rattle.parsing_first_bytes.specs.FirstBytes.{IsRefusedAt}
 use Rattle.parsing_record.specs.Reads.{reading, reading_of_all}
 use Rattle.parsing_record.specs.Record.{Record}
-use Rattle.instants_fronts.specs.NoFront.{HasNoFront, begins_day, begins_part}
-use Rattle.instants_fronts.specs.Reading.{window, text_for}
-use Rattle.instants_fronts.proofs.ReadFronts.{no_digit}
-use Rattle.instants_fronts.proofs.NoneNamed.{items_none, tree_none, hyphen_none, day_none, part_none, nothing_rfc2822, nothing_iso8601}
-use Rattle.instants_fronts.proofs.Windows.{first_of_text}
+use Rattle.instants_prefixes.specs.NoPrefix.{HasNoPrefix, begins_day, begins_part}
+use Rattle.instants_prefixes.specs.Reading.{window, text_for}
+use Rattle.instants_prefixes.proofs.ReadPrefixes.{no_digit}
+use Rattle.instants_prefixes.proofs.NoneNamed.{items_none, tree_none, hyphen_none, day_none, part_none, nothing_rfc2822, nothing_iso8601}
+use Rattle.instants_prefixes.proofs.Windows.{first_of_text}
 use Rattle.instants_sources.specs.Grammar.{Items, V3, Rfc2822, Rfc3339, Iso8601}
 use Rattle.instants_found.specs.Starts.{CannotBegin}
 
@@ -47,16 +47,16 @@ part_cannot byte none = λ bytes at given.
       | inr first ↦ part_none (text_for Iso8601 bytes) (rw (first ∙ at) none) given
     ]
 
--- ---- fronts that the first bytes rule out
+-- ---- prefixes that the first bytes rule out
 
-pub items_no_front : (items : List Tree) (bytes : List ℕ) → ((r : Record) → result_ok (reading_of_all reads_component (listed items) r (take window bytes)) ≡ None) → HasNoFront bytes (Items items)
+pub items_no_prefix : (items : List Tree) (bytes : List ℕ) → ((r : Record) → result_ok (reading_of_all reads_component (listed items) r (take window bytes)) ≡ None) → HasNoPrefix bytes (Items items)
 unfolding text_for
-items_no_front items bytes refused = λ given. items_none items (take window bytes) refused given
+items_no_prefix items bytes refused = λ given. items_none items (take window bytes) refused given
 
-pub tree_no_front : (tree : Tree) (bytes : List ℕ) → ((r : Record) → result_ok (reading reads_component_v3 tree r (take window bytes)) ≡ None) → HasNoFront bytes (V3 tree)
+pub tree_no_prefix : (tree : Tree) (bytes : List ℕ) → ((r : Record) → result_ok (reading reads_component_v3 tree r (take window bytes)) ≡ None) → HasNoPrefix bytes (V3 tree)
 unfolding text_for
-tree_no_front tree bytes refused = λ given. tree_none tree (take window bytes) refused given
+tree_no_prefix tree bytes refused = λ given. tree_none tree (take window bytes) refused given
 
-pub year_no_front : (bytes : List ℕ) → eqb (get_or bytes 4 0) hyphen ≡ false → HasNoFront bytes Rfc3339
+pub year_no_prefix : (bytes : List ℕ) → eqb (get_or bytes 4 0) hyphen ≡ false → HasNoPrefix bytes Rfc3339
 unfolding text_for
-year_no_front bytes other = λ given. hyphen_none (take window bytes) (rw (first_bytes bytes 4 (omega arith)) other) given
+year_no_prefix bytes other = λ given. hyphen_none (take window bytes) (rw (first_bytes bytes 4 (omega arith)) other) given

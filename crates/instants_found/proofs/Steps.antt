@@ -4,10 +4,10 @@ use Rattle.std.specs.Prelude.{nat_lt, not, ◌&&◌, IfSome, if◌then◌else◌
 use Rattle.std.specs.Option.{option_or}
 use Rattle.std.proofs.lemmas.Bool.Decides.{nat_tests}
 use Rattle.std.proofs.lemmas.List.{drop_more, drop_all}
-use Rattle.instants_fronts.specs.declared.given.Given.{Given}
-use Rattle.instants_fronts.specs.DateSource.{grammar_in}
+use Rattle.instants_prefixes.specs.declared.given.Given.{Given}
+use Rattle.instants_prefixes.specs.DateSource.{grammar_in}
 use Rattle.instants_sources.specs.Grammar.{Grammar}
-use Rattle.instants_fronts.specs.declared.date_source.DateSource.{DateSource}
+use Rattle.instants_prefixes.specs.declared.date_source.DateSource.{DateSource}
 use Rattle.instants_found.specs.Candidate.{candidate, candidates, joined, longer, longest}
 use Rattle.instants_found.specs.Kept.{kept}
 use Rattle.instants_found.specs.Within.{LiesWithin, IsWithin}

@@ -2,37 +2,37 @@
 use Rattle.std.specs.Prelude.{ℕ, ◌+◌, ◌&&◌, not, nat_lt, Bool, List, [], ◌∷◌, drop, Option, None, Some, if◌then◌else◌}
 use Rattle.instants_sources.specs.Grammar.{Grammar}
 use Rattle.instants_edges.specs.Pieces.{reach}
-use Rattle.instants_fronts.specs.declared.given.Given.{Given}
-use Rattle.instants_fronts.specs.Front.{front_at}
-use Rattle.instants_fronts.specs.declared.front.Front.{Front}
+use Rattle.instants_prefixes.specs.declared.given.Given.{Given}
+use Rattle.instants_prefixes.specs.Prefix.{prefix_at}
+use Rattle.instants_prefixes.specs.declared.prefix.Prefix.{Prefix}
 use Rattle.instants_found.specs.Beside.{is_read, stands_whole}
 use Rattle.instants_found.specs.declared.candidate.Candidate.{Candidate}
 use Rattle.instants_found.specs.declared.found.Found.{Found}
 
 -- the date from where it says something to where the word of its zone ends
-abbrev pub found_at : ℕ → ℕ → Front → Found
-found_at start number front = record { start = start + front.begins; end = start + front.zone; source = number; moment = front.moment }
+abbrev pub found_at : ℕ → ℕ → Prefix → Found
+found_at start number prefix = record { start = start + prefix.begins; end = start + prefix.zone; source = number; moment = prefix.moment }
 
 -- it, how far it reaches for sure, and whether it stands whole
-abbrev pub candidate_with : List ℕ → ℕ → ℕ → Front → Bool → Candidate
-candidate_with line start number front is_whole =
+abbrev pub candidate_with : List ℕ → ℕ → ℕ → Prefix → Bool → Candidate
+candidate_with line start number prefix is_whole =
     record {
-      date = found_at start number front;
-      reach = reach line (start + front.begins) (start + front.ends) (start + front.zone);
+      date = found_at start number prefix;
+      reach = reach line (start + prefix.begins) (start + prefix.ends) (start + prefix.zone);
       is_whole = is_whole;
     }
 
-abbrev pub as_candidate : Given → List ℕ → ℕ → ℕ → Grammar → Front → Candidate
-as_candidate given line start number grammar front = candidate_with line start number front (stands_whole given grammar line start front)
+abbrev pub as_candidate : Given → List ℕ → ℕ → ℕ → Grammar → Prefix → Candidate
+as_candidate given line start number grammar prefix = candidate_with line start number prefix (stands_whole given grammar line start prefix)
 
-abbrev pub of_front : Given → List ℕ → ℕ → ℕ → Grammar → Option Front → Option Candidate
-of_front given line start number grammar None = None
-of_front given line start number grammar (Some front) =
-    if is_read grammar line start front then Some (as_candidate given line start number grammar front) else None
+abbrev pub of_prefix : Given → List ℕ → ℕ → ℕ → Grammar → Option Prefix → Option Candidate
+of_prefix given line start number grammar None = None
+of_prefix given line start number grammar (Some prefix) =
+    if is_read grammar line start prefix then Some (as_candidate given line start number grammar prefix) else None
 
 -- the date that the source of this number reads at this place
 unfoldable pub candidate : Given → List ℕ → ℕ → ℕ → Grammar → Option Candidate
-candidate given line start number grammar = of_front given line start number grammar (front_at given grammar (drop start line))
+candidate given line start number grammar = of_prefix given line start number grammar (prefix_at given grammar (drop start line))
 
 -- with a date more, where there is one
 abbrev pub joined : Option Candidate → List Candidate → List Candidate

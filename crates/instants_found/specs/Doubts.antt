@@ -2,39 +2,39 @@
 use Rattle.std.specs.Prelude.{◌≡◌, ℕ, ◌+◌, ◌&&◌, not, List, [], ◌∷◌, take, slice_get, Option, Some, None, option_map, is_some, if◌then◌else◌}
 use Rattle.instants_sources.specs.Grammar.{Grammar}
 use Rattle.instants_edges.specs.Edge.{is_edge}
-use Rattle.instants_edges.specs.Clock.{has_clock_in_front}
-use Rattle.instants_fronts.specs.declared.given.Given.{Given}
-use Rattle.instants_fronts.specs.declared.front.Front.{Front}
+use Rattle.instants_edges.specs.Clock.{has_clock_before}
+use Rattle.instants_prefixes.specs.declared.given.Given.{Given}
+use Rattle.instants_prefixes.specs.declared.prefix.Prefix.{Prefix}
 use Rattle.instants_found.specs.Beside.{read_at, says_another_offset, says_another_time, says_another_year}
 use Rattle.instants_found.specs.Found.{at_place}
 use Rattle.instants_found.specs.declared.doubt.Doubt.{Doubt}
-use Rattle.instants_found.specs.declared.doubt.Doubt.TheVariants.{Behind, ClockInFront, AnotherOffset, AnotherTime, AnotherYear}
+use Rattle.instants_found.specs.declared.doubt.Doubt.TheVariants.{After, ClockBefore, AnotherOffset, AnotherTime, AnotherYear}
 use Rattle.instants_found.specs.declared.doubt.Doubted.{Doubted}
 
 -- what the line says otherwise beside a date than what was given for it, the first of these
-unfoldable pub otherwise : Given → Grammar → List ℕ → ℕ → Front → Option Doubt
-otherwise given grammar line start front =
-    if says_another_offset given grammar line start front then Some AnotherOffset
-    else if says_another_time given grammar line start front then Some AnotherTime
-    else if says_another_year given grammar line start front then Some AnotherYear
+unfoldable pub otherwise : Given → Grammar → List ℕ → ℕ → Prefix → Option Doubt
+otherwise given grammar line start prefix =
+    if says_another_offset given grammar line start prefix then Some AnotherOffset
+    else if says_another_time given grammar line start prefix then Some AnotherTime
+    else if says_another_year given grammar line start prefix then Some AnotherYear
     else None
 
--- why a date does not stand whole, the first of these: a word or a clock goes on after it, a clock stands in front of it, or the line says otherwise beside it
-unfoldable pub why : Given → Grammar → List ℕ → ℕ → Front → Option Doubt
-why given grammar line start front =
-    if not (is_edge line (start + front.all)) then Some Behind
-    else if not front.is_chosen && has_clock_in_front line (start + front.begins) then Some ClockInFront
-    else otherwise given grammar line start front
+-- why a date does not stand whole, the first of these: a word or a clock goes on after it, a clock stands before it, or the line says otherwise beside it
+unfoldable pub why : Given → Grammar → List ℕ → ℕ → Prefix → Option Doubt
+why given grammar line start prefix =
+    if not (is_edge line (start + prefix.all)) then Some After
+    else if not prefix.is_chosen && has_clock_before line (start + prefix.begins) then Some ClockBefore
+    else otherwise given grammar line start prefix
 
 -- ---- what one source reads at a place
 
 -- the date, from where it says something to where the word of its zone ends, with its doubt
-abbrev pub as_doubted : ℕ → Front → Doubt → Doubted
-as_doubted start front doubt = record { start = start + front.begins; end = start + front.zone; doubt = doubt }
+abbrev pub as_doubted : ℕ → Prefix → Doubt → Doubted
+as_doubted start prefix doubt = record { start = start + prefix.begins; end = start + prefix.zone; doubt = doubt }
 
-abbrev pub doubted_of : Given → Grammar → List ℕ → ℕ → Option Front → Option Doubted
+abbrev pub doubted_of : Given → Grammar → List ℕ → ℕ → Option Prefix → Option Doubted
 doubted_of given grammar line start None = None
-doubted_of given grammar line start (Some front) = option_map (as_doubted start front) (why given grammar line start front)
+doubted_of given grammar line start (Some prefix) = option_map (as_doubted start prefix) (why given grammar line start prefix)
 
 -- the date that a source reads at a place, if it is in doubt
 unfoldable pub doubted_at : Given → Grammar → List ℕ → ℕ → Option Doubted

@@ -1,6 +1,6 @@
 -- What a finder looks for.
 use Rattle.std.specs.Prelude.{ℕ, List, map}
-use Rattle.instants_fronts.specs.DateSource.{grammar_in}
+use Rattle.instants_prefixes.specs.DateSource.{grammar_in}
 use Rattle.instants_sources.specs.Grammar.{Grammar}
 use Rattle.instants_found.specs.declared.finder.Finder.{Finder}
 

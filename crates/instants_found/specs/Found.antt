@@ -3,7 +3,7 @@ use Rattle.std.specs.Prelude.{ℕ, ◌+◌, List, [], ◌∷◌, take, Option, S
 use Rattle.std.specs.Option.{option_or}
 use Rattle.instants_sources.specs.Grammar.{Grammar}
 use Rattle.instants_edges.specs.Edge.{is_edge}
-use Rattle.instants_fronts.specs.declared.given.Given.{Given}
+use Rattle.instants_prefixes.specs.declared.given.Given.{Given}
 use Rattle.instants_found.specs.Candidate.{candidates, longest}
 use Rattle.instants_found.specs.declared.candidate.Candidate.{Candidate}
 use Rattle.instants_found.specs.declared.found.Finding.{Finding}

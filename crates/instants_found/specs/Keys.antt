@@ -3,7 +3,7 @@ use Rattle.std.specs.Prelude.{◌≡◌, ◌<◌, ◌+◌, ◌==◌, ℕ, Bool, 
 use Rattle.parsing_first_bytes.specs.FirstBytes.{rule_out}
 use Rattle.parsing_first_bytes.specs.declared.first_bytes.FirstBytes.{FirstBytes}
 use Rattle.instants_sources.specs.Grammar.{Grammar}
-use Rattle.instants_fronts.specs.NoFront.{HasNoFront}
+use Rattle.instants_prefixes.specs.NoPrefix.{HasNoPrefix}
 use Rattle.instants_found.specs.declared.key.Key.{Key}
 use Rattle.instants_found.specs.declared.keys.Keys.{Keys}
 
@@ -11,7 +11,7 @@ use Rattle.instants_found.specs.declared.keys.Keys.{Keys}
 abbrev pub AreBytes : List ℕ → Type 0
 AreBytes bytes = (k : ℕ) → get_or bytes k 0 < 256
 
--- a key stands behind this place of a line
+-- a key stands after this place of a line
 abbrev pub stands_at : Key → List ℕ → ℕ → Bool
 stands_at key line place = get_or line (place + key.place) 0 == key.byte
 
@@ -35,17 +35,17 @@ RuleOutShort first_bytes = (line : List ℕ) → length line < 4 → rule_out fi
 
 -- ---- of sources
 
--- a source reads no front without the key
+-- a source reads no prefix without the key
 abbrev pub NeedsKey : Key → Grammar → Type 0
-NeedsKey key grammar = (bytes : List ℕ) → AreBytes bytes → has_key key bytes ≡ false → HasNoFront bytes grammar
+NeedsKey key grammar = (bytes : List ℕ) → AreBytes bytes → has_key key bytes ≡ false → HasNoPrefix bytes grammar
 
 -- nor one of fewer than four bytes
 abbrev pub NeedsFour : Grammar → Type 0
-NeedsFour grammar = (bytes : List ℕ) → length bytes < 4 → HasNoFront bytes grammar
+NeedsFour grammar = (bytes : List ℕ) → length bytes < 4 → HasNoPrefix bytes grammar
 
--- a source reads no front with neither key, nor one of fewer than four bytes
+-- a source reads no prefix with neither key, nor one of fewer than four bytes
 pub record NeedsOne (keys : Keys) (grammar : Grammar) : Type 0 where
-  pub key : (bytes : List ℕ) → AreBytes bytes → has_key keys.first bytes ≡ false → has_key keys.second bytes ≡ false → HasNoFront bytes grammar
+  pub key : (bytes : List ℕ) → AreBytes bytes → has_key keys.first bytes ≡ false → has_key keys.second bytes ≡ false → HasNoPrefix bytes grammar
   pub four : NeedsFour grammar
 
 abbrev pub AreKeys : List Grammar → Keys → Type 0

@@ -2,19 +2,19 @@
 use Rattle.std.specs.Prelude.{◌≡◌, ◌<◌, ◌≤◌, ◌+◌, ℕ, nat_le, Bool, true, false, List, get_or, None, All}
 use Rattle.std.specs.Int.{bit_at}
 use Rattle.instants_sources.specs.Grammar.{Grammar}
-use Rattle.instants_fronts.specs.declared.given.Given.{Given}
-use Rattle.instants_fronts.specs.NoFront.{HasNoFront}
+use Rattle.instants_prefixes.specs.declared.given.Given.{Given}
+use Rattle.instants_prefixes.specs.NoPrefix.{HasNoPrefix}
 use Rattle.instants_found.specs.Found.{at_place}
 
--- no front that a source reads begins with this byte
+-- no prefix that a source reads begins with this byte
 abbrev pub CannotBegin : ℕ → Grammar → Type 0
-CannotBegin byte grammar = (bytes : List ℕ) → get_or bytes 0 0 ≡ byte → HasNoFront bytes grammar
+CannotBegin byte grammar = (bytes : List ℕ) → get_or bytes 0 0 ≡ byte → HasNoPrefix bytes grammar
 
--- no front that one of the sources reads begins with this byte
+-- no prefix that one of the sources reads begins with this byte
 abbrev pub NoneBegins : List Grammar → ℕ → Type 0
 NoneBegins sources byte = All (CannotBegin byte) sources
 
--- what is marked in a table are all bytes at which a front of a source can begin
+-- what is marked in a table are all bytes at which a prefix of a source can begin
 abbrev pub AreStarts : List Grammar → List Bool → Type 0
 AreStarts sources starts = (byte : ℕ) → get_or starts byte true ≡ false → NoneBegins sources byte
 

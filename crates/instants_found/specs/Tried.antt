@@ -3,7 +3,7 @@ use Rattle.std.specs.Prelude.{ℕ, zero, suc, ◌+◌, List, [], ◌∷◌, None
 use Rattle.std.specs.List.{sum_by}
 use Rattle.instants_sources.specs.Grammar.{Grammar}
 use Rattle.instants_sources.specs.Tried.{nodes_in, tried_by}
-use Rattle.instants_fronts.specs.Reading.{text_for}
+use Rattle.instants_prefixes.specs.Reading.{text_for}
 
 -- the items that all sources try on the bytes from a place on
 abbrev pub tried_at : List Grammar → List ℕ → ℕ

@@ -1,8 +1,8 @@
 //! Whether a date stands whole in its line, and nothing beside it says otherwise.
 ghost use Rattle.std.specs.Prelude.{◌≡◌, ◌<◌, ◌≤◌, ◌+◌, true, false, drop, length, Some, IfSome, is_some};
-ghost use Rattle.instants_fronts.specs.Front.{front_at};
-ghost use Rattle.instants_fronts.specs.DateSource.{grammar_in, IsWithin};
-ghost use Rattle.instants_fronts.specs.declared.given.Years.TheVariants.{Unknown};
+ghost use Rattle.instants_prefixes.specs.Prefix.{prefix_at};
+ghost use Rattle.instants_prefixes.specs.DateSource.{grammar_in, IsWithin};
+ghost use Rattle.instants_prefixes.specs.declared.given.Years.TheVariants.{Unknown};
 ghost use Rattle.instants_found.specs.Beside as Beside;
 ghost use Rattle.instants_found.specs.Beside.{read_at};
 ghost use Rattle.instants_found.specs.Doubts as Doubts;
@@ -10,9 +10,9 @@ ghost use Rattle.instants_found.specs.Doubts as Doubts;
 use crate::doubt::Doubt;
 use datetime_types::WallClock;
 use instants_edges::{
-    has_another_offset, has_another_year, has_clock_beside, has_clock_in_front, is_edge, may_say,
+    has_another_offset, has_another_year, has_clock_before, has_clock_beside, is_edge, may_say,
 };
-use instants_fronts::{DateSource, Front, Given, Years};
+use instants_prefixes::{DateSource, Given, Prefix, Years};
 
 /// The bytes from a place on.
 #[inline(always)]
@@ -27,16 +27,16 @@ pub(crate) fn after(line: &[u8], start: usize) -> &[u8]
 /// Whether what a source read at a place may be a date: it may say something there, and a number of Unix time inside a word is
 /// none.
 #[inline(always)]
-pub(crate) fn is_read(source: &DateSource<'_>, line: &[u8], start: usize, front: &Front) -> bool
-    requires begins { start + front.now.begins ≤ length line.now }
-    requires all { start + front.now.all ≤ length line.now }
-    ensures { result ≡ Beside.is_read (grammar_in source.now) line.now start front.now }
+pub(crate) fn is_read(source: &DateSource<'_>, line: &[u8], start: usize, prefix: &Prefix) -> bool
+    requires begins { start + prefix.now.begins ≤ length line.now }
+    requires all { start + prefix.now.all ≤ length line.now }
+    ensures { result ≡ Beside.is_read (grammar_in source.now) line.now start prefix.now }
 {
-    may_say(line, start + front.begins)
-        && (!source.has_unix_time() || is_edge(line, start + front.all))
+    may_say(line, start + prefix.begins)
+        && (!source.has_unix_time() || is_edge(line, start + prefix.all))
 }
 
-/// The front of a date that a source reads at a place.
+/// The prefix of a date that a source reads at a place.
 #[inline(always)]
 #[tactic(auto, unfolding(crate::specs::Beside::read_at))]
 pub(crate) fn read_at(
@@ -44,17 +44,17 @@ pub(crate) fn read_at(
     given: &Given,
     line: &[u8],
     start: usize,
-) -> Option<Front>
+) -> Option<Prefix>
     requires { start < length line.now }
     ensures is { result ≡ read_at given.now (grammar_in source.now) line.now start }
-    ensures front { IfSome result (λ front. front_at given.now (grammar_in source.now) (drop start line.now) ≡ Some front) }
+    ensures prefix { IfSome result (λ prefix. prefix_at given.now (grammar_in source.now) (drop start line.now) ≡ Some prefix) }
     ensures within { IfSome result (IsWithin (drop start line.now)) }
 {
-    let Some(front) = source.read(after(line, start), given) else {
+    let Some(prefix) = source.read(after(line, start), given) else {
         return None;
     };
-    if is_read(source, line, start, &front) {
-        Some(front)
+    if is_read(source, line, start, &prefix) {
+        Some(prefix)
     } else {
         None
     }
@@ -67,14 +67,14 @@ fn says_another_offset(
     given: &Given,
     line: &[u8],
     start: usize,
-    front: &Front,
+    prefix: &Prefix,
 ) -> bool
     requires within { start < length line.now }
-    requires ends { start + front.now.ends ≤ length line.now }
-    requires read { front_at given.now (grammar_in source.now) (drop start line.now) ≡ Some front.now }
-    ensures { result ≡ Beside.says_another_offset given.now (grammar_in source.now) line.now start front.now }
+    requires ends { start + prefix.now.ends ≤ length line.now }
+    requires read { prefix_at given.now (grammar_in source.now) (drop start line.now) ≡ Some prefix.now }
+    ensures { result ≡ Beside.says_another_offset given.now (grammar_in source.now) line.now start prefix.now }
 {
-    if given.offset.is_none() || !has_another_offset(line, start + front.ends, given.offset) {
+    if given.offset.is_none() || !has_another_offset(line, start + prefix.ends, given.offset) {
         return false;
     }
     let without = Given {
@@ -92,15 +92,15 @@ fn says_another_time(
     given: &Given,
     line: &[u8],
     start: usize,
-    front: &Front,
+    prefix: &Prefix,
 ) -> bool
     requires within { start < length line.now }
-    requires begins { start + front.now.begins ≤ length line.now }
-    requires ends { start + front.now.ends ≤ length line.now }
-    requires read { front_at given.now (grammar_in source.now) (drop start line.now) ≡ Some front.now }
-    ensures { result ≡ Beside.says_another_time given.now (grammar_in source.now) line.now start front.now }
+    requires begins { start + prefix.now.begins ≤ length line.now }
+    requires ends { start + prefix.now.ends ≤ length line.now }
+    requires read { prefix_at given.now (grammar_in source.now) (drop start line.now) ≡ Some prefix.now }
+    ensures { result ≡ Beside.says_another_time given.now (grammar_in source.now) line.now start prefix.now }
 {
-    if given.time.is_none() || !has_clock_beside(line, start + front.begins, start + front.ends) {
+    if given.time.is_none() || !has_clock_beside(line, start + prefix.begins, start + prefix.ends) {
         return false;
     }
     let without = Given {
@@ -118,19 +118,19 @@ fn says_another_year(
     given: &Given,
     line: &[u8],
     start: usize,
-    front: &Front,
+    prefix: &Prefix,
 ) -> bool
     requires within { start < length line.now }
-    requires begins { start + front.now.begins ≤ length line.now }
-    requires ends { start + front.now.ends ≤ length line.now }
-    requires read { front_at given.now (grammar_in source.now) (drop start line.now) ≡ Some front.now }
-    ensures { result ≡ Beside.says_another_year given.now (grammar_in source.now) line.now start front.now }
+    requires begins { start + prefix.now.begins ≤ length line.now }
+    requires ends { start + prefix.now.ends ≤ length line.now }
+    requires read { prefix_at given.now (grammar_in source.now) (drop start line.now) ≡ Some prefix.now }
+    ensures { result ≡ Beside.says_another_year given.now (grammar_in source.now) line.now start prefix.now }
 {
     if let Years::Unknown = given.years {
         return false;
     }
-    let year = front.moment.moment().year();
-    if !has_another_year(line, start + front.begins, start + front.ends, year) {
+    let year = prefix.moment.moment().year();
+    if !has_another_year(line, start + prefix.begins, start + prefix.ends, year) {
         return false;
     }
     let without = Given {
@@ -159,21 +159,21 @@ fn otherwise(
     given: &Given,
     line: &[u8],
     start: usize,
-    front: &Front,
+    prefix: &Prefix,
 ) -> Option<Doubt>
     requires within { start < length line.now }
-    requires begins { start + front.now.begins ≤ length line.now }
-    requires ends { start + front.now.ends ≤ length line.now }
-    requires read { front_at given.now (grammar_in source.now) (drop start line.now) ≡ Some front.now }
-    ensures { result ≡ Doubts.otherwise given.now (grammar_in source.now) line.now start front.now }
+    requires begins { start + prefix.now.begins ≤ length line.now }
+    requires ends { start + prefix.now.ends ≤ length line.now }
+    requires read { prefix_at given.now (grammar_in source.now) (drop start line.now) ≡ Some prefix.now }
+    ensures { result ≡ Doubts.otherwise given.now (grammar_in source.now) line.now start prefix.now }
 {
-    if says_another_offset(source, given, line, start, front) {
+    if says_another_offset(source, given, line, start, prefix) {
         return Some(Doubt::AnotherOffset);
     }
-    if says_another_time(source, given, line, start, front) {
+    if says_another_time(source, given, line, start, prefix) {
         return Some(Doubt::AnotherTime);
     }
-    if says_another_year(source, given, line, start, front) {
+    if says_another_year(source, given, line, start, prefix) {
         return Some(Doubt::AnotherYear);
     }
     None
@@ -188,25 +188,25 @@ pub(crate) fn why(
     given: &Given,
     line: &[u8],
     start: usize,
-    front: &Front,
+    prefix: &Prefix,
 ) -> Option<Doubt>
     requires within { start < length line.now }
-    requires begins { start + front.now.begins ≤ length line.now }
-    requires ends { start + front.now.ends ≤ length line.now }
-    requires all { start + front.now.all ≤ length line.now }
-    requires read { front_at given.now (grammar_in source.now) (drop start line.now) ≡ Some front.now }
-    ensures { result ≡ Doubts.why given.now (grammar_in source.now) line.now start front.now }
+    requires begins { start + prefix.now.begins ≤ length line.now }
+    requires ends { start + prefix.now.ends ≤ length line.now }
+    requires all { start + prefix.now.all ≤ length line.now }
+    requires read { prefix_at given.now (grammar_in source.now) (drop start line.now) ≡ Some prefix.now }
+    ensures { result ≡ Doubts.why given.now (grammar_in source.now) line.now start prefix.now }
 {
-    if !is_edge(line, start + front.all) {
-        return Some(Doubt::Behind);
+    if !is_edge(line, start + prefix.all) {
+        return Some(Doubt::After);
     }
-    if !front.is_chosen && has_clock_in_front(line, start + front.begins) {
-        return Some(Doubt::ClockInFront);
+    if !prefix.is_chosen && has_clock_before(line, start + prefix.begins) {
+        return Some(Doubt::ClockBefore);
     }
     if gives_nothing(given) {
         return None;
     }
-    otherwise(source, given, line, start, front)
+    otherwise(source, given, line, start, prefix)
 }
 
 /// Whether the date that a source reads at a place stands whole there.
@@ -216,14 +216,14 @@ pub(crate) fn stands_whole(
     given: &Given,
     line: &[u8],
     start: usize,
-    front: &Front,
+    prefix: &Prefix,
 ) -> bool
     requires within { start < length line.now }
-    requires begins { start + front.now.begins ≤ length line.now }
-    requires ends { start + front.now.ends ≤ length line.now }
-    requires all { start + front.now.all ≤ length line.now }
-    requires read { front_at given.now (grammar_in source.now) (drop start line.now) ≡ Some front.now }
-    ensures { result ≡ Beside.stands_whole given.now (grammar_in source.now) line.now start front.now }
+    requires begins { start + prefix.now.begins ≤ length line.now }
+    requires ends { start + prefix.now.ends ≤ length line.now }
+    requires all { start + prefix.now.all ≤ length line.now }
+    requires read { prefix_at given.now (grammar_in source.now) (drop start line.now) ≡ Some prefix.now }
+    ensures { result ≡ Beside.stands_whole given.now (grammar_in source.now) line.now start prefix.now }
 {
-    why(source, given, line, start, front).is_none()
+    why(source, given, line, start, prefix).is_none()
 }

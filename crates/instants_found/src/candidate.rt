@@ -1,13 +1,13 @@
 //! The dates that sources read at one place of a line.
 ghost use Rattle.std.specs.Prelude.{◌≡◌, ◌<◌, ◌≤◌, ◌+◌, ◌^◌, drop, length, IfSome};
-ghost use Rattle.instants_fronts.specs.DateSource.{grammar_in, IsWithin};
+ghost use Rattle.instants_prefixes.specs.DateSource.{grammar_in, IsWithin};
 ghost use Rattle.instants_found.specs.Candidate as Candidates;
 ghost use Rattle.instants_found.specs.Kept.{kept};
 
 use crate::beside::{read_at, stands_whole};
 use crate::found::Found;
 use instants_edges::reach;
-use instants_fronts::{DateSource, Front, Given};
+use instants_prefixes::{DateSource, Given, Prefix};
 
 /// A date that a source reads at a place.
 #[derive(Drop)]
@@ -18,18 +18,18 @@ pub(crate) struct Candidate {
     pub(crate) is_whole: bool,
 }
 
-/// The date of a front that the source of this number reads at a place.
+/// The date of a prefix that the source of this number reads at a place.
 #[inline(always)]
-pub(crate) fn found_at(start: usize, number: usize, front: Front) -> Found
-    requires begins { start + front.begins < 2 ^ 64 }
-    requires zone { start + front.zone < 2 ^ 64 }
-    ensures { result ≡ Candidates.found_at start number front }
+pub(crate) fn found_at(start: usize, number: usize, prefix: Prefix) -> Found
+    requires begins { start + prefix.begins < 2 ^ 64 }
+    requires zone { start + prefix.zone < 2 ^ 64 }
+    ensures { result ≡ Candidates.found_at start number prefix }
 {
     Found {
-        start: start + front.begins,
-        end: start + front.zone,
+        start: start + prefix.begins,
+        end: start + prefix.zone,
         source: number,
-        moment: front.moment,
+        moment: prefix.moment,
     }
 }
 
@@ -39,17 +39,21 @@ pub(crate) fn candidate_with(
     line: &[u8],
     start: usize,
     number: usize,
-    front: Front,
+    prefix: Prefix,
     is_whole: bool,
 ) -> Candidate
     requires within { start < length line.now }
-    requires front { IsWithin (drop start line.now) front }
-    ensures { result ≡ Candidates.candidate_with line.now start number front is_whole }
+    requires prefix { IsWithin (drop start line.now) prefix }
+    ensures { result ≡ Candidates.candidate_with line.now start number prefix is_whole }
 {
-    let (begins, ends, zone) = (start + front.begins, start + front.ends, start + front.zone);
+    let (begins, ends, zone) = (
+        start + prefix.begins,
+        start + prefix.ends,
+        start + prefix.zone,
+    );
     let reach = reach(line, begins, ends, zone);
     Candidate {
-        date: found_at(start, number, front),
+        date: found_at(start, number, prefix),
         reach,
         is_whole,
     }
@@ -71,11 +75,11 @@ pub(crate) fn read_candidate(
     ensures end { IfSome result (λ one. one.date.end ≤ length line.now) }
     ensures source { IfSome result (λ one. one.date.source ≡ number) }
 {
-    let Some(front) = read_at(source, given, line, start) else {
+    let Some(prefix) = read_at(source, given, line, start) else {
         return None;
     };
-    let is_whole = stands_whole(source, given, line, start, &front);
-    Some(candidate_with(line, start, number, front, is_whole))
+    let is_whole = stands_whole(source, given, line, start, &prefix);
+    Some(candidate_with(line, start, number, prefix, is_whole))
 }
 
 /// Of a date that stands whole and another one the one that stands whole and reaches further, and of equals the first.

@@ -1,18 +1,18 @@
 //! Why a date that a source reads is in doubt.
 ghost use Rattle.std.specs.Prelude.{◌≡◌, ◌<◌, ◌≤◌, length, IfSome};
-ghost use Rattle.instants_fronts.specs.DateSource.{grammar_in};
+ghost use Rattle.instants_prefixes.specs.DateSource.{grammar_in};
 ghost use Rattle.instants_found.specs.Doubts.{doubted_at};
 
 use crate::beside::{read_at, why};
-use instants_fronts::{DateSource, Given};
+use instants_prefixes::{DateSource, Given};
 
 /// Why a date does not stand whole in its line. Where there are several reasons, it is the first of these.
 #[derive(Clone, Copy)]
 pub enum Doubt {
     /// A word or a clock goes on after it.
-    Behind,
-    /// A clock with seconds stands in front of it, and no text of its description chose its place.
-    ClockInFront,
+    After,
+    /// A clock with seconds stands before it, and no text of its description chose its place.
+    ClockBefore,
     /// The line says another offset after it than the one that was given for it.
     AnotherOffset,
     /// The line says a clock beside it, and its time of day was given for it.
@@ -45,13 +45,13 @@ pub(crate) fn doubted_at(
     ensures start { IfSome result (λ date. date.start ≤ length line.now) }
     ensures end { IfSome result (λ date. date.end ≤ length line.now) }
 {
-    let Some(front) = read_at(source, given, line, start) else {
+    let Some(prefix) = read_at(source, given, line, start) else {
         return None;
     };
-    let doubt = why(source, given, line, start, &front)?;
+    let doubt = why(source, given, line, start, &prefix)?;
     Some(Doubted {
-        start: start + front.begins,
-        end: start + front.zone,
+        start: start + prefix.begins,
+        end: start + prefix.zone,
         doubt,
     })
 }

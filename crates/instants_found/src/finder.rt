@@ -1,14 +1,14 @@
 //! A search for dates that is made ready once.
 ghost use Rattle.std.specs.Prelude.{map};
 ghost use Rattle.std.specs.Option.{ForSome};
-ghost use Rattle.instants_fronts.specs.DateSource.{grammar_in};
+ghost use Rattle.instants_prefixes.specs.DateSource.{grammar_in};
 ghost use Rattle.instants_found.specs.Marks.{AreMarks};
 ghost use Rattle.instants_found.specs.Starts.{AreStarts};
 
 mod calls;
 
 use crate::marks::Marks;
-use instants_fronts::DateSource;
+use instants_prefixes::DateSource;
 
 /// Finds the date of a line by its sources. Places at which none can begin are passed sixteen at a time.
 #[derive(Drop)]

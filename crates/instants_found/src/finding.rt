@@ -1,7 +1,7 @@
 //! What is found at one place of a line.
 ghost use Rattle.std.specs.Prelude.{◌≡◌, ◌<◌, ◌≤◌, ◌+◌, ◌∷◌, All, false, drop, length, map, IfSome};
-ghost use Rattle.instants_fronts.specs.NoFront.{HasNoFront};
-ghost use Rattle.instants_fronts.specs.DateSource.{grammar_in, IsWithin};
+ghost use Rattle.instants_prefixes.specs.NoPrefix.{HasNoPrefix};
+ghost use Rattle.instants_prefixes.specs.DateSource.{grammar_in, IsWithin};
 ghost use Rattle.instants_found.specs.Candidate.{candidate_with, candidates, longest};
 ghost use Rattle.instants_found.specs.Found.{at_place, finding, of_candidates};
 ghost use Rattle.instants_found.specs.Within as Within;
@@ -10,7 +10,7 @@ use crate::beside::{after, is_read, stands_whole};
 use crate::candidate::{Candidate, candidate_with, found_at, longer, read_candidate};
 use crate::found::Finding;
 use instants_edges::is_edge;
-use instants_fronts::{DateSource, Front, Given, lacks_byte, rules_out};
+use instants_prefixes::{DateSource, Given, Prefix, lacks_byte, rules_out};
 
 // What is found where some date is read, by the longest that stands whole.
 #[inline(always)]
@@ -31,18 +31,18 @@ fn with_others(
     line: &[u8],
     start: usize,
     number: usize,
-    front: Front,
+    prefix: Prefix,
     is_whole: bool,
 ) -> Finding
     requires start { start < length line.now }
     requires number { number < length sources.now }
-    requires front { IsWithin (drop start line.now) front }
-    ensures found { result ≡ finding (longest (candidate_with line.now start number front is_whole
+    requires prefix { IsWithin (drop start line.now) prefix }
+    ensures found { result ≡ finding (longest (candidate_with line.now start number prefix is_whole
         ∷ candidates given.now line.now start (number + 1) (map grammar_in (drop (number + 1) sources.now)))) }
     ensures within { Within.IsWithin (length line.now) (length sources.now) result }
 {
     let bytes = after(line, start);
-    let one = candidate_with(line, start, number, front, is_whole);
+    let one = candidate_with(line, start, number, prefix, is_whole);
     let mut longest = longer(None, one);
     for number in number + 1..sources.len() {
         let source = &sources[number];
@@ -66,10 +66,10 @@ fn sources_from<'s, 'a>(sources: &'s [DateSource<'a>], number: usize) -> &'s [Da
     &sources[number..]
 }
 
-// Whether the bytes may have a front that one of these sources reads. Few places have a second one, so it is a call of its own.
+// Whether the bytes may have a prefix that one of these sources reads. Few places have a second one, so it is a call of its own.
 #[inline(never)]
 fn some_may_read(sources: &[DateSource<'_>], bytes: &[u8]) -> bool
-    ensures { result ≡ false → All (HasNoFront bytes.now) (map grammar_in sources.now) }
+    ensures { result ≡ false → All (HasNoPrefix bytes.now) (map grammar_in sources.now) }
 {
     may_read(sources, bytes)
 }
@@ -78,7 +78,7 @@ fn some_may_read(sources: &[DateSource<'_>], bytes: &[u8]) -> bool
 #[inline(always)]
 fn others_may_read(sources: &[DateSource<'_>], number: usize, bytes: &[u8]) -> bool
     requires { number ≤ length sources.now }
-    ensures { result ≡ false → All (HasNoFront bytes.now) (map grammar_in (drop number sources.now)) }
+    ensures { result ≡ false → All (HasNoPrefix bytes.now) (map grammar_in (drop number sources.now)) }
 {
     if number == sources.len() {
         return false;
@@ -105,28 +105,28 @@ fn by_sources(
         if lacks_byte(source.source(), bytes) {
             continue;
         }
-        let Some(front) = source.read(bytes, given) else {
+        let Some(prefix) = source.read(bytes, given) else {
             continue;
         };
-        if !is_read(source, line, start, &front) {
+        if !is_read(source, line, start, &prefix) {
             continue;
         }
-        let is_whole = stands_whole(source, given, line, start, &front);
+        let is_whole = stands_whole(source, given, line, start, &prefix);
         if others_may_read(sources, number + 1, bytes) {
-            return Some(with_others(sources, given, line, start, number, front, is_whole));
+            return Some(with_others(sources, given, line, start, number, prefix, is_whole));
         }
         if !is_whole {
             return Some(Finding::Doubtful);
         }
-        return Some(Finding::There(found_at(start, number, front)));
+        return Some(Finding::There(found_at(start, number, prefix)));
     }
     None
 }
 
-/// Whether the bytes may have a front that some source reads: `false` says that they have none.
+/// Whether the bytes may have a prefix that some source reads: `false` says that they have none.
 #[inline(always)]
 pub(crate) fn may_read(sources: &[DateSource<'_>], bytes: &[u8]) -> bool
-    ensures { result ≡ false → All (HasNoFront bytes.now) (map grammar_in sources.now) }
+    ensures { result ≡ false → All (HasNoPrefix bytes.now) (map grammar_in sources.now) }
 {
     for number in 0..sources.len() {
         if !rules_out(sources[number].source(), bytes) {

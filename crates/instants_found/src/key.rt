@@ -1,7 +1,7 @@
 //! A byte by which dates are looked for.
 ghost use Rattle.std.specs.Prelude.{◌≡◌, true};
 
-/// A byte that stands at one place of each date of a source, so many bytes behind where the date begins.
+/// A byte that stands at one place of each date of a source, so many bytes after where the date begins.
 #[derive(Clone, Copy)]
 pub(crate) struct Key {
     pub(crate) place: usize,

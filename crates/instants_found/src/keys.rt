@@ -68,7 +68,7 @@ impl Keys {
         Some(keys)
     }
 
-    /// A bit for each of the 16 places from one on, which is 0 only where neither key stands behind it.
+    /// A bit for each of the 16 places from one on, which is 0 only where neither key stands after it.
     #[inline(always)]
     pub(crate) fn bits(&self, line: &[u8], at: usize) -> u64
         requires { at + REACH ≤ length line.now }

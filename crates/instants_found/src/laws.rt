@@ -2,9 +2,9 @@
 ghost use Rattle.std.specs.Prelude.{◌≡◌, ◌+◌, ◌<◌, ◌≤◌, ◌*◌, ℕ, Option, Some, List, ◌++◌, length, take};
 ghost use Rattle.instants_sources.specs.Grammar.{Grammar};
 ghost use Rattle.std.specs.Option.{is_none};
-ghost use Rattle.instants_fronts.specs.declared.front.Front.{Front};
-ghost use Rattle.instants_fronts.specs.declared.given.Given.{Given};
-ghost use Rattle.instants_fronts.specs.Reading.{text_for, window};
+ghost use Rattle.instants_prefixes.specs.declared.prefix.Prefix.{Prefix};
+ghost use Rattle.instants_prefixes.specs.declared.given.Given.{Given};
+ghost use Rattle.instants_prefixes.specs.Reading.{text_for, window};
 ghost use Rattle.instants_found.specs.Beside.{stands_whole};
 ghost use Rattle.instants_found.specs.Doubts.{HasDoubt, why};
 ghost use Rattle.instants_found.specs.Found.{found};
@@ -42,8 +42,8 @@ pub fn looks_near()
 /// A date stands whole exactly where there is no reason against it. Where the date of a line is in doubt some source reads a date
 /// there that is.
 pub fn doubts()
-    ensures whole { (given : Given) (grammar : Grammar) (line : List ℕ) (start : ℕ) (front : Front)
-        → stands_whole given grammar line start front ≡ is_none (why given grammar line start front) }
+    ensures whole { (given : Given) (grammar : Grammar) (line : List ℕ) (start : ℕ) (prefix : Prefix)
+        → stands_whole given grammar line start prefix ≡ is_none (why given grammar line start prefix) }
     ensures some { (limit : ℕ) (given : Given) (sources : List Grammar) (line : List ℕ)
         → found limit given sources line ≡ Some Doubtful → HasDoubt limit given sources line }
 {}

@@ -7,16 +7,16 @@ mod doubt;
 mod finder;
 mod finding;
 mod found;
-mod front_bytes;
 mod key;
 mod keys;
 mod lanes;
 pub mod laws;
 mod marks;
+mod prefix_bytes;
 mod source_key;
 mod starts;
 
 pub use doubt::{Doubt, Doubted};
 pub use finder::Finder;
 pub use found::{Finding, Found};
-pub use instants_fronts::{DateSource, Given, Years};
+pub use instants_prefixes::{DateSource, Given, Years};

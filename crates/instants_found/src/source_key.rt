@@ -3,12 +3,12 @@ ghost use Rattle.std.specs.Prelude.{◌≤◌, IfSome};
 ghost use Rattle.instants_sources.specs.Grammar.{grammar_of};
 ghost use Rattle.instants_found.specs.Keys.{NeedsFour, NeedsKey};
 
-use crate::front_bytes::key_of_first_bytes;
 use crate::key::Key;
+use crate::prefix_bytes::key_of_first_bytes;
 use instants_sources::Source;
 use parsing_first_bytes::FirstBytes;
 
-/// The key of a source, if one is found: RFC 3339 has a hyphen behind its year.
+/// The key of a source, if one is found: RFC 3339 has a hyphen after its year.
 pub(crate) fn key_of(source: &Source<'_>) -> Option<Key>
     ensures near { IfSome result (λ key. key.place ≤ 4) }
     ensures key { IfSome result (λ key. NeedsKey key (grammar_of source.now)) }

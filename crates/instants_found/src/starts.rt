@@ -1,7 +1,7 @@
 //! The bytes at which a date of a source can begin.
 ghost use Rattle.std.specs.Prelude.{◌≡◌, true, false, map, get_or, nat_le};
 ghost use Rattle.instants_sources.specs.Grammar.{grammar_of};
-ghost use Rattle.instants_fronts.specs.NoFront.{begins_day, begins_part};
+ghost use Rattle.instants_prefixes.specs.NoPrefix.{begins_day, begins_part};
 ghost use Rattle.instants_found.specs.Starts.{AreStarts, AreUpTo, CannotBegin, NoneBegins};
 
 use instants_sources::Source;
@@ -73,7 +73,7 @@ pub(crate) fn last_start(starts: &[bool; 256]) -> u8 {
     last
 }
 
-/// Whether no date can begin with a byte behind this one.
+/// Whether no date can begin with a byte after this one.
 pub(crate) fn are_up_to(starts: &[bool; 256], most: u8) -> bool
     ensures { result ≡ true → AreUpTo starts.now most }
 {
@@ -85,7 +85,7 @@ pub(crate) fn are_up_to(starts: &[bool; 256], most: u8) -> bool
     true
 }
 
-// Whether a byte is not behind this one if a date can begin with it.
+// Whether a byte is not after this one if a date can begin with it.
 fn is_up_to(starts: &[bool; 256], most: u8, byte: u8) -> bool
     ensures { result ≡ true → nat_le byte most ≡ false → get_or starts.now byte true ≡ false }
 {

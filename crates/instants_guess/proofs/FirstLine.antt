@@ -1,4 +1,4 @@
--- The first line of a text, and the lines behind it.
+-- The first line of a text, and the lines after it.
 use Rattle.std.proofs.Common.{◌≡◌, ℕ, ◌+◌, ◌<◌, List, [], ◌∷◌, ◌++◌, length, take, drop, get_or, refl, sym, ap, ◌∙◌, arith, append_assoc, take-append-drop}
 use Rattle.std.proofs.lemmas.List.{drop_more}
 use Rattle.instants_stream.specs.Lines.{HasNoLineFeed, if_nonempty, whole_lines, last_part, lines}
@@ -30,7 +30,7 @@ fed_line line free =
     let last : last_part (line ++ 10 ∷ []) ≡ [] = last_part-line [] line free in
     rw (whole, last) refl
 
--- the line before the first line feed, and the lines behind it
+-- the line before the first line feed, and the lines after it
 pub first_and_others : (text : List ℕ) (len : ℕ) → len < length text → HasNoLineFeed (take len text) → get_or text len 0 ≡ 10 → lines text ≡ take len text ∷ lines (drop (len + 1) text)
 first_and_others text len within free feed =
     let line = take len text in

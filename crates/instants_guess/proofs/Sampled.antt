@@ -12,31 +12,31 @@ use Rattle.instants_guess.specs.Tallies.{most}
 use Rattle.instants_guess.specs.Trials.{Trial}
 
 abbrev Parted : List ℕ → List ℕ → List ℕ → Type 0
-Parted stream front rest = (rest ≡ drop most stream) × (take most stream ≡ front)
+Parted stream prefix rest = (rest ≡ drop most stream) × (take most stream ≡ prefix)
 
 -- all bytes, of which there are few
-all_bytes : (stream front rest : List ℕ) → stream ≡ front ++ rest → length front ≤ most → rest ≡ [] → Parted stream front rest
-all_bytes stream front rest e h none =
-    let whole : stream ≡ front = e ∙ (ap (λ l. front ++ l) none ∙ append-nil front) in
-    (none ∙ sym (ap (drop most) whole ∙ drop_of_length-le front h), ap (take most) whole ∙ take_all most front h)
+all_bytes : (stream prefix rest : List ℕ) → stream ≡ prefix ++ rest → length prefix ≤ most → rest ≡ [] → Parted stream prefix rest
+all_bytes stream prefix rest e h none =
+    let whole : stream ≡ prefix = e ∙ (ap (λ l. prefix ++ l) none ∙ append-nil prefix) in
+    (none ∙ sym (ap (drop most) whole ∙ drop_of_length-le prefix h), ap (take most) whole ∙ take_all most prefix h)
 
 -- as many as are looked at
-most_bytes : (stream front rest : List ℕ) → stream ≡ front ++ rest → length front ≡ most → Parted stream front rest
-most_bytes stream front rest e h = (
-  sym (ap (drop most) e ∙ subst (λ n. drop n (front ++ rest) ≡ rest) h (drop-append_seam front rest)),
-  ap (take most) e ∙ subst (λ n. take n (front ++ rest) ≡ front) h (take-append_seam front rest),
+most_bytes : (stream prefix rest : List ℕ) → stream ≡ prefix ++ rest → length prefix ≡ most → Parted stream prefix rest
+most_bytes stream prefix rest e h = (
+  sym (ap (drop most) e ∙ subst (λ n. drop n (prefix ++ rest) ≡ rest) h (drop-append_seam prefix rest)),
+  ap (take most) e ∙ subst (λ n. take n (prefix ++ rest) ≡ prefix) h (take-append_seam prefix rest),
 )
 
-parted : (stream front rest : List ℕ) → stream ≡ front ++ rest → (length front ≡ most) ⊎ (length front < most) → (length front < most → rest ≡ []) → Parted stream front rest
-parted stream front rest e (inl all) ends = most_bytes stream front rest e all
-parted stream front rest e (inr few) ends = all_bytes stream front rest e (omega (arith, few)) (ends few)
+parted : (stream prefix rest : List ℕ) → stream ≡ prefix ++ rest → (length prefix ≡ most) ⊎ (length prefix < most) → (length prefix < most → rest ≡ []) → Parted stream prefix rest
+parted stream prefix rest e (inl all) ends = most_bytes stream prefix rest e all
+parted stream prefix rest e (inr few) ends = all_bytes stream prefix rest e (omega (arith, few)) (ends few)
 
-sampled : (left left_new : Option (List ℕ)) (front : List ℕ) (P : List ℕ → Type 0) → Consumes left left_new front → length front ≤ most → (length front < most → IsAtEnd left_new) → P front
+sampled : (left left_new : Option (List ℕ)) (prefix : List ℕ) (P : List ℕ → Type 0) → Consumes left left_new prefix → length prefix ≤ most → (length prefix < most → IsAtEnd left_new) → P prefix
     → IfSome left (λ stream. (left_new ≡ Some (drop most stream)) × P (take most stream))
-sampled None left_new front P read few ends p = tt
-sampled (Some stream) None front P read few ends p = absurd read
-sampled (Some stream) (Some rest) front P read few ends p =
-    let (left, first) = parted stream front rest read (eq-or-lt_of_le few) ends in
+sampled None left_new prefix P read few ends p = tt
+sampled (Some stream) None prefix P read few ends p = absurd read
+sampled (Some stream) (Some rest) prefix P read few ends p =
+    let (left, first) = parted stream prefix rest read (eq-or-lt_of_le few) ends in
     (ap Some left, subst P (sym first) p)
 
 -- what was read into a buffer

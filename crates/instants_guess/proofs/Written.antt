@@ -1,4 +1,4 @@
--- Texts written one behind the other.
+-- Texts written one after the other.
 use Rattle.std.proofs.Common.{◌≡◌, ℕ, ◌+◌, ◌<◌, Bool, true, false, ◌||◌, nat_lt, List, [], ◌∷◌, ◌++◌, length, map, take, drop, get_or, filter, refl, sym, ap, ◌∙◌, arith, append-nil, take-append-drop}
 use Rattle.std.specs.List.{concat, flat_map, list_any}
 use Rattle.std.proofs.lemmas.List.{take_more, map-append}

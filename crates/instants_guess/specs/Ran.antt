@@ -1,14 +1,14 @@
 -- What a guess did to the device that it read from and the one that it wrote to.
 use Rattle.std.specs.Prelude.{◌≡◌, ◌≤◌, ℕ, true, false, List, length, take, drop, Some, Result, Ok, Err, IfSome}
 use Rattle.std.specs.Io.KnownBytes.{Appends}
-use Rattle.instants_stream.specs.Told.{ConsumesOrUntold, AppendsFront}
+use Rattle.instants_stream.specs.Known.{ConsumesOrUnknown, AppendsPrefix}
 use Rattle.instants_stream.specs.declared.devices.ByteReader as reader
 use Rattle.instants_stream.specs.declared.devices.ByteWriter as writer
 use Rattle.instants_stream.specs.declared.run.RunFault.{RunFault}
 use Rattle.instants_stream.specs.declared.run.RunFault.TheVariants.{Read, Write}
 use Rattle.instants_guess.specs.Tallies.{most}
 
--- This is written for the first bytes of a stream, and the reader and the writer were so before, and are so behind it.
+-- This is written for the first bytes of a stream, and the reader and the writer were so before, and are so after it.
 module _ {R W : Type 0} (text : List ℕ → List ℕ) (from : reader.Ghosts R) (r r_new : R) (to : writer.Ghosts W) (w w_new : W) where
   -- the first bytes were read, exactly their text was written, and the writer was flushed
   pub record IsThrough : Type 0 where
@@ -21,13 +21,13 @@ module _ {R W : Type 0} (text : List ℕ → List ℕ) (from : reader.Ghosts R) 
   pub record HasFailedToRead : Type 0 where
     pub read : List ℕ
     pub few : length read ≤ most
-    pub consumed : ConsumesOrUntold (from.left r) (from.left r_new) read
+    pub consumed : ConsumesOrUnknown (from.left r) (from.left r_new) read
     pub reader_failed : from.failed r_new ≡ true
     pub unwritten : w_new ≡ w
 
-  -- a write or the flush failed: the first bytes were read, and a front of their text was written
+  -- a write or the flush failed: the first bytes were read, and a prefix of their text was written
   pub record HasFailedToWrite : Type 0 where
-    pub front : IfSome (from.left r) (λ stream. (from.left r_new ≡ Some (drop most stream)) × AppendsFront (to.held w) (to.held w_new) (text (take most stream)))
+    pub prefix : IfSome (from.left r) (λ stream. (from.left r_new ≡ Some (drop most stream)) × AppendsPrefix (to.held w) (to.held w_new) (text (take most stream)))
     pub reader_works : from.failed r_new ≡ false
     pub writer_failed : to.failed w_new ≡ true
 

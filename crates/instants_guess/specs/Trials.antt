@@ -1,8 +1,8 @@
 -- A format with what it means, and what is given to its dates.
 use Rattle.std.specs.Prelude.{◌≡◌, ℕ, List, [], ◌∷◌, None, Some, pos, ⊤}
 use Rattle.instants_sources.specs.Grammar.{Grammar, Means}
-use Rattle.instants_fronts.specs.declared.given.Given.{Given}
-use Rattle.instants_fronts.specs.declared.given.Years.TheVariants.{Unknown, In}
+use Rattle.instants_prefixes.specs.declared.given.Given.{Given}
+use Rattle.instants_prefixes.specs.declared.given.Years.TheVariants.{Unknown, In}
 use Rattle.instants_formats.specs.declared.format.Lacking.{Lacking}
 use Rattle.instants_formats.specs.declared.format.Lacking.TheVariants.{Nothing, Offset, YearAndOffset, TimeAndOffset}
 use Rattle.instants_guess.specs.Offers.{OfferSaid}

@@ -17,7 +17,7 @@ use calendar::UtcOffset;
 use description::DescriptionFault;
 use instants_formats::Lacking;
 use instants_found::Finder;
-use instants_fronts::{Given, Years};
+use instants_prefixes::{Given, Years};
 use instants_sources::Source;
 use instants_words::SourceText;
 use std::alloc::{AllocError, Global};
@@ -83,9 +83,9 @@ impl Candidate {
         let mut tally = Tally::NONE;
         let mut rest = text;
         while !rest.is_empty() {
-            let (line, behind) = first_line(rest);
+            let (line, after) = first_line(rest);
             tally = tally.counted(self.finder.find(&given, line));
-            rest = behind;
+            rest = after;
         }
         tally
     }

@@ -1,7 +1,7 @@
 //! The first bytes of a stream.
 ghost use Rattle.std.specs.Prelude.{◌≡◌, ◌<◌, ◌≤◌, ℕ, List, true, false, length, take, IfOk, OnOk, OnErr};
 ghost use Rattle.std.specs.Io.KnownBytes.{Consumes, IsAtEnd};
-ghost use Rattle.instants_stream.specs.Told.{ConsumesOrUntold};
+ghost use Rattle.instants_stream.specs.Known.{ConsumesOrUnknown};
 
 use instants_stream::{ByteReader, DeviceFailed};
 
@@ -19,7 +19,7 @@ pub(crate) fn read_sample<R: ByteReader>(
     ensures ok { OnOk result (R.failed reader.new ≡ false) }
     ensures err { OnErr result (R.failed reader.new ≡ true) }
     ensures consumed { OnErr result ((bytes : List ℕ) × (length bytes ≤ length buffer.old)
-        × ConsumesOrUntold (R.left reader.old) (R.left reader.new) bytes) }
+        × ConsumesOrUnknown (R.left reader.old) (R.left reader.new) bytes) }
 {
     let mut filled = 0;
     while filled < buffer.len() {

@@ -2,7 +2,7 @@
 ghost use Rattle.std.specs.Prelude.{◌≡◌, ◌≤◌, ◌+◌, ◌++◌, ◌∷◌, [], false, true, length, map, decimal, OnOk, OnErr};
 ghost use Rattle.std.specs.Io.KnownBytes.{Appends};
 ghost use Rattle.std.specs.List.{concat, list_any};
-ghost use Rattle.instants_stream.specs.Told.{AppendsFront};
+ghost use Rattle.instants_stream.specs.Known.{AppendsPrefix};
 ghost use Rattle.instants_guess.specs.Ranked.{guess_said, ranked};
 ghost use Rattle.instants_guess.specs.Text.{assumed_word, dates_some, doubt_text, given_words, line_of, lines_of, none_of, text_of};
 
@@ -71,13 +71,13 @@ fn given_words(lacks: Lacking) -> &'static [u8]
     }
 }
 
-// Writes parts, one behind the other.
+// Writes parts, one after the other.
 fn write_parts<W: ByteWriter>(writer: &mut W, parts: &[&[u8]]) -> Result<(), DeviceFailed>
     requires { W.failed writer.old ≡ false }
     ensures written { OnOk result (Appends (W.held writer.old) (W.held writer.new)
         (concat (map (λ part. part.now) parts.now))) }
     ensures ok { OnOk result (W.failed writer.new ≡ false) }
-    ensures front { OnErr result (AppendsFront (W.held writer.old) (W.held writer.new)
+    ensures prefix { OnErr result (AppendsPrefix (W.held writer.old) (W.held writer.new)
         (concat (map (λ part. part.now) parts.now))) }
     ensures err { OnErr result (W.failed writer.new ≡ true) }
 {
@@ -94,7 +94,7 @@ fn write_line<W: ByteWriter>(writer: &mut W, all: usize, guess: &Guess) -> Resul
     ensures written { OnOk result (Appends (W.held writer.old) (W.held writer.new)
         (line_of all (guess_said guess.now))) }
     ensures ok { OnOk result (W.failed writer.new ≡ false) }
-    ensures front { OnErr result (AppendsFront (W.held writer.old) (W.held writer.new)
+    ensures prefix { OnErr result (AppendsPrefix (W.held writer.old) (W.held writer.new)
         (line_of all (guess_said guess.now))) }
     ensures err { OnErr result (W.failed writer.new ≡ true) }
 {
@@ -125,7 +125,7 @@ fn write_guess<W: ByteWriter>(writer: &mut W, all: usize, guess: &Guess) -> Resu
     ensures written { OnOk result (Appends (W.held writer.old) (W.held writer.new)
         (lines_of all (guess_said guess.now ∷ []))) }
     ensures ok { OnOk result (W.failed writer.new ≡ false) }
-    ensures front { OnErr result (AppendsFront (W.held writer.old) (W.held writer.new)
+    ensures prefix { OnErr result (AppendsPrefix (W.held writer.old) (W.held writer.new)
         (lines_of all (guess_said guess.now ∷ []))) }
     ensures err { OnErr result (W.failed writer.new ≡ true) }
 {
@@ -145,7 +145,7 @@ fn write_lines<W: ByteWriter>(
     ensures written { OnOk result (Appends (W.held writer.old) (W.held writer.new)
         (lines_of all (map guess_said guesses.now))) }
     ensures ok { OnOk result (W.failed writer.new ≡ false) }
-    ensures front { OnErr result (AppendsFront (W.held writer.old) (W.held writer.new)
+    ensures prefix { OnErr result (AppendsPrefix (W.held writer.old) (W.held writer.new)
         (lines_of all (map guess_said guesses.now))) }
     ensures err { OnErr result (W.failed writer.new ≡ true) }
 {
@@ -162,8 +162,8 @@ fn write_none<W: ByteWriter>(writer: &mut W, all: usize) -> Result<(), DeviceFai
     ensures written { OnOk result
         (Appends (W.held writer.old) (W.held writer.new) (none_of all)) }
     ensures ok { OnOk result (W.failed writer.new ≡ false) }
-    ensures front { OnErr result
-        (AppendsFront (W.held writer.old) (W.held writer.new) (none_of all)) }
+    ensures prefix { OnErr result
+        (AppendsPrefix (W.held writer.old) (W.held writer.new) (none_of all)) }
     ensures err { OnErr result (W.failed writer.new ≡ true) }
 {
     let lines = decimal(all);
@@ -192,7 +192,7 @@ pub(crate) fn write_text<W: ByteWriter>(
     ensures written { OnOk result (Appends (W.held writer.old) (W.held writer.new)
         (text_of all (map guess_said guesses.old))) }
     ensures ok { OnOk result (W.failed writer.new ≡ false) }
-    ensures front { OnErr result (AppendsFront (W.held writer.old) (W.held writer.new)
+    ensures prefix { OnErr result (AppendsPrefix (W.held writer.old) (W.held writer.new)
         (text_of all (map guess_said guesses.old))) }
     ensures err { OnErr result (W.failed writer.new ≡ true) }
 {

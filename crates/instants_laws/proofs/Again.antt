@@ -20,7 +20,7 @@ use Rattle.parsing_laws.specs.TwoFormats.{HoldsAtMostAnOffset}
 use Rattle.parsing_laws.proofs.Assumed.{one_road, same_moment, two_formats}
 use Rattle.instants_laws.proofs.Pieces.{date_read, any_read, clock_read, subsecond_read, zone_named, offset_read, offset_ends}
 use Rattle.instants_laws.proofs.Values.{day_named, time_named, offset_named}
-use Rattle.instants_laws.proofs.Bytes.{behind_second, behind_date, line_parts, both, unrounded}
+use Rattle.instants_laws.proofs.Bytes.{after_second, after_date, line_parts, both, unrounded}
 
 abbrev placed : ℤ → ℤ → Shown
 placed wall offset = record { wall = wall; offset = offset }
@@ -37,12 +37,12 @@ directly_again m h o =
     let valid = day_valid c count in
     let s = n / second_nanos in
     let part = n % second_nanos in
-    let behind = behind_second part m.offset in
+    let after = after_second part m.offset in
     ap direct (line_parts m)
-    ∙ moment_read _ (behind_date n m.offset) _ behind (offset_text m.offset) (unsigned_abs t.year, t.month, t.day) (s / 3600, s / 60 % 60, s % 60) part m.offset c n
-    (date_read t (behind_date n m.offset) (day_fits c count year) (omega (arith, valid)))
+    ∙ moment_read _ (after_date n m.offset) _ after (offset_text m.offset) (unsigned_abs t.year, t.month, t.day) (s / 3600, s / 60 % 60, s % 60) part m.offset c n
+    (date_read t (after_date n m.offset) (day_fits c count year) (omega (arith, valid)))
     (any_read _ _)
-    (clock_read s behind (omega arith))
+    (clock_read s after (omega arith))
     (Some part, subsecond_read part (offset_text m.offset) (omega arith) (offset_ends m.offset), refl)
     (zone_named m.offset, offset_read m.offset o, offset_named m.offset o)
     (day_named c count year)

@@ -14,19 +14,19 @@ use Rattle.parsing_iso8601.proofs.Rounding.{none_left}
 use Rattle.parsing_laws.specs.TwoFormats.{separator, last_byte, fraction_of, rounds_up, is_of_both, rounded}
 use Rattle.parsing_laws.proofs.Places.{byte_at, last_of_rest}
 use Rattle.parsing_combinator.specs.Pieces.{digit_count}
-use Rattle.parsing_combinator.proofs.Fronts.{byte_at as byte_read}
+use Rattle.parsing_combinator.proofs.Prefixes.{byte_at as byte_read}
 use Rattle.instants_laws.proofs.Decimals.{count_with}
 use Rattle.instants_laws.proofs.Pieces.{clock_text, zone_text, offset_ends}
 
 -- what follows the second, from the point on
-abbrev pub behind_second : ℕ → ℤ → List ℕ
-behind_second n o = dot ∷ (decimal 9 n ++ offset_text o)
+abbrev pub after_second : ℕ → ℤ → List ℕ
+after_second n o = dot ∷ (decimal 9 n ++ offset_text o)
 
 -- what follows the date, from the designator on
-abbrev pub behind_date : ℕ → ℤ → List ℕ
-behind_date n o = time_designator ∷ (clock_text (n / second_nanos) ++ behind_second (n % second_nanos) o)
+abbrev pub after_date : ℕ → ℤ → List ℕ
+after_date n o = time_designator ∷ (clock_text (n / second_nanos) ++ after_second (n % second_nanos) o)
 
-pub line_parts : (m : Shown) → moment_text m ≡ date_text (day_at (day_of m.wall)) ++ behind_date (nanosecond_of m.wall) m.offset
+pub line_parts : (m : Shown) → moment_text m ≡ date_text (day_at (day_of m.wall)) ++ after_date (nanosecond_of m.wall) m.offset
 unfolding moment_text time_text
 line_parts m = simp append_assoc
 
@@ -54,29 +54,29 @@ at_most_35 m =
 separator_is : (m : Shown) → separator (moment_text m) ≡ time_designator
 separator_is m =
     let t = day_at (day_of m.wall) in
-    rw (line_parts m) (byte_at 10 (date_text t ++ behind_date (nanosecond_of m.wall) m.offset) ∙ rw (drop_at (date_text t) (behind_date (nanosecond_of m.wall) m.offset) 10 (date_length t)) refl)
+    rw (line_parts m) (byte_at 10 (date_text t ++ after_date (nanosecond_of m.wall) m.offset) ∙ rw (drop_at (date_text t) (after_date (nanosecond_of m.wall) m.offset) 10 (date_length t)) refl)
 
 -- the date, the designator and the clock
-abbrev front : Shown → List ℕ
-front m = date_text (day_at (day_of m.wall)) ++ (time_designator ∷ clock_text (nanosecond_of m.wall / second_nanos))
+abbrev prefix : Shown → List ℕ
+prefix m = date_text (day_at (day_of m.wall)) ++ (time_designator ∷ clock_text (nanosecond_of m.wall / second_nanos))
 
-front_length : (m : Shown) → length (front m) ≡ 19
-front_length m = simp (length-append, date_length, decimal_length)
+prefix_length : (m : Shown) → length (prefix m) ≡ 19
+prefix_length m = simp (length-append, date_length, decimal_length)
 
-behind_front : (m : Shown) → drop 19 (moment_text m) ≡ behind_second (nanosecond_of m.wall % second_nanos) m.offset
-behind_front m =
+after_prefix : (m : Shown) → drop 19 (moment_text m) ≡ after_second (nanosecond_of m.wall % second_nanos) m.offset
+after_prefix m =
     let n = nanosecond_of m.wall in
-    let behind = behind_second (n % second_nanos) m.offset in
-    ap (drop 19) (line_parts m ∙ sym (append_assoc (date_text (day_at (day_of m.wall))) (time_designator ∷ clock_text (n / second_nanos)) behind))
-    ∙ drop_at (front m) behind 19 (front_length m)
+    let after = after_second (n % second_nanos) m.offset in
+    ap (drop 19) (line_parts m ∙ sym (append_assoc (date_text (day_at (day_of m.wall))) (time_designator ∷ clock_text (n / second_nanos)) after))
+    ∙ drop_at (prefix m) after 19 (prefix_length m)
 
--- nine digits behind the point
+-- nine digits after the point
 fraction_is : (m : Shown) → fraction_of (moment_text m) ≡ decimal 9 (nanosecond_of m.wall % second_nanos)
 unfolding fraction_of
 fraction_is m =
     let n = nanosecond_of m.wall % second_nanos in
     let count : digit_count (decimal 9 n ++ offset_text m.offset) ≡ 9 = count_with 9 n (offset_text m.offset) ∙ rw (offset_ends m.offset) refl in
-    rw (behind_front m, byte_read dot (decimal 9 n ++ offset_text m.offset), count) (take_at (decimal 9 n) (offset_text m.offset) 9 (decimal_length 9 n))
+    rw (after_prefix m, byte_read dot (decimal 9 n ++ offset_text m.offset), count) (take_at (decimal 9 n) (offset_text m.offset) 9 (decimal_length 9 n))
 
 not_up : (n : ℕ) → rounds_up (decimal 9 n) ≡ false
 unfolding rounds_up
@@ -84,8 +84,8 @@ not_up n = none_left (decimal 9 n) (omega (arith, decimal_length 9 n))
 
 last_append : (a b : List ℕ) → 0 < length b → last_byte (a ++ b) ≡ last_byte b
 last_append a b some =
-    let behind = drop_at a b (length a) refl in
-    last_of_rest (length a) (a ++ b) (rw behind some) ∙ ap (λ (bytes : List ℕ). last_byte bytes) behind
+    let after = drop_at a b (length a) refl in
+    last_of_rest (length a) (a ++ b) (rw after some) ∙ ap (λ (bytes : List ℕ). last_byte bytes) after
 
 last_digit : (n : ℕ) → last_byte (decimal 2 n) ≡ digit_zero + n % 10
 unfolding decimal

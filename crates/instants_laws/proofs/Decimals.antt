@@ -26,9 +26,9 @@ decimal_count : (width n : ℕ) → digit_count (decimal width n) ≡ width
 unfolding decimal
 decimal_count zero n = refl
 decimal_count (suc width) n =
-    let front = decimal_count width (n / 10) in
+    let prefix = decimal_count width (n / 10) in
     let long = decimal_length width (n / 10) in
-    digit_count-append (decimal width (n / 10)) ((digit_zero + n % 10) ∷ []) (front ∙ sym long) ∙ rw ((digit_is (n % 10) (omega arith)).0, long) (omega arith)
+    digit_count-append (decimal width (n / 10)) ((digit_zero + n % 10) ∷ []) (prefix ∙ sym long) ∙ rw ((digit_is (n % 10) (omega arith)).0, long) (omega arith)
 
 decimal_value : (width n : ℕ) → n < 10 ^ width → digits_value 10 (decimal width n) ≡ n
 unfolding decimal

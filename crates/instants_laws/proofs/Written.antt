@@ -8,11 +8,11 @@ use Rattle.instants_laws.specs.Output.{IsAnsweredIn, written}
 use Rattle.instants_timeline.specs.Place.{Setting, answer_to}
 use Rattle.instants_laws.proofs.Reread.{answered_within}
 
-pub stands_in : (setting : Setting) (limit : ℕ) (stream line : List ℕ) (before behind : List (List ℕ)) (m : Shown) → IsAnsweredIn setting limit stream before line behind m
-    → output (answer_to setting) limit stream ≡ written setting limit before ++ ((answer_to setting line ++ line_feed ∷ []) ++ written setting limit behind)
+pub stands_in : (setting : Setting) (limit : ℕ) (stream line : List ℕ) (before after : List (List ℕ)) (m : Shown) → IsAnsweredIn setting limit stream before line after m
+    → output (answer_to setting) limit stream ≡ written setting limit before ++ ((answer_to setting line ++ line_feed ∷ []) ++ written setting limit after)
 unfolding output
-stands_in setting limit stream line before behind m h =
+stands_in setting limit stream line before after m h =
     let own = answered_within (answer_to setting) limit line h.within in
     ap (λ all. written setting limit all) h.stands
-    ∙ flat_map-append (answered (answer_to setting) limit) before (line ∷ behind)
+    ∙ flat_map-append (answered (answer_to setting) limit) before (line ∷ after)
     ∙ rw own refl

@@ -7,9 +7,9 @@ use Rattle.instants_stream.specs.Answers.{answered}
 use Rattle.instants_laws.specs.Answered.{IsAnswered}
 use Rattle.instants_timeline.specs.Place.{Setting, answer_to}
 
--- a line of a stream, between the lines before and behind it, is within the limit and answered by a date-time
-pub record IsAnsweredIn (setting : Setting) (limit : ℕ) (stream : List ℕ) (before : List (List ℕ)) (line : List ℕ) (behind : List (List ℕ)) (named : Shown) : Type 0 where
-  pub stands : lines stream ≡ before ++ line ∷ behind
+-- a line of a stream, between the lines before and after it, is within the limit and answered by a date-time
+pub record IsAnsweredIn (setting : Setting) (limit : ℕ) (stream : List ℕ) (before : List (List ℕ)) (line : List ℕ) (after : List (List ℕ)) (named : Shown) : Type 0 where
+  pub stands : lines stream ≡ before ++ line ∷ after
   pub within : length line ≤ limit
   pub answered : IsAnswered setting line named
 

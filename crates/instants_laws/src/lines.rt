@@ -18,7 +18,7 @@ ghost use Rattle.instants_laws.specs.Appended.{with_source};
 ghost use Rattle.instants_laws.specs.FixedPoint.{ReadsLines, alone};
 ghost use Rattle.instants_laws.specs.Output.{IsAnsweredIn, written};
 
-/// One source more, behind the others, leaves the answer to each line for which another one has a moment, also where the
+/// One source more, after the others, leaves the answer to each line for which another one has a moment, also where the
 /// answer is `! year`. Any other line gets the new source's date-time or `! year`, or it keeps its fault. A line that is
 /// longer than the limit stays `! long`.
 pub fn appended()
@@ -44,7 +44,7 @@ pub fn appended()
 
 /// Lines that are answered by date-times at one target, from whatever sources and with whatever offset assumed, are
 /// ordered as bytes exactly as the instants that the sources name, and are equal exactly where these are. So are they in
-/// what is written for any streams, where each stands behind the answers to the lines before it, with a line feed.
+/// what is written for any streams, where each stands after the answers to the lines before it, with a line feed.
 pub fn embedding()
     ensures order { (one other : Setting) (line another : List ℕ) (m n : Shown)
         → one.target ≡ other.target → IsAnswered one line m → IsAnswered other another n
@@ -54,11 +54,11 @@ pub fn embedding()
         → one.target ≡ other.target → IsAnswered one line m → IsAnswered other another n
         → (answer_to one line ≡ answer_to other another) ↔ (instant m ≡ instant n) }
     ensures output { (setting : Setting) (limit : ℕ) (stream line : List ℕ)
-        (before behind : List (List ℕ)) (m : Shown)
-        → IsAnsweredIn setting limit stream before line behind m
+        (before after : List (List ℕ)) (m : Shown)
+        → IsAnsweredIn setting limit stream before line after m
         → output (answer_to setting) limit stream
         ≡ written setting limit before
-        ++ ((answer_to setting line ++ line_feed ∷ []) ++ written setting limit behind) }
+        ++ ((answer_to setting line ++ line_feed ∷ []) ++ written setting limit after) }
 {}
 
 /// The line of a moment, read by RFC 3339 alone or by ISO 8601 alone, names that moment, whatever offset is assumed. The

@@ -2,16 +2,16 @@
 use Rattle.std.proofs.Common.{◌≡◌, ℕ, ◌+◌, List, [], ◌∷◌, ◌++◌, length, take, Some, refl, sym, ap, ◌∙◌, inl, inr}
 use Rattle.std.proofs.lemmas.Bool.{cases_lt}
 use Rattle.base.specs.Bytes.{tab, line_feed}
-use Rattle.instants_fronts.specs.declared.given.Given.{Given}
-use Rattle.instants_fronts.specs.declared.given.Years.TheVariants.{Unknown}
+use Rattle.instants_prefixes.specs.declared.given.Given.{Given}
+use Rattle.instants_prefixes.specs.declared.given.Years.TheVariants.{Unknown}
 use Rattle.instants_found.specs.declared.found.Finding.{Finding}
 use Rattle.instants_found.specs.declared.found.Finding.TheVariants.{Doubtful, There}
 use Rattle.instants_stream.specs.Lines.{lines, whole_lines, last_part}
-use Rattle.instants_stream.specs.Steps.{state_within, line_next, written, behind, output}
+use Rattle.instants_stream.specs.Steps.{state_within, line_next, written, after, output}
 use Rattle.instants_stream.proofs.Written.{line_next-longer, line_next-short}
 use Rattle.instants_timeline.specs.Place.{Setting}
 use Rattle.instants_lines.specs.Dates.{date_in, key_or}
-use Rattle.instants_lines.specs.Going.{Going, search_below, key_of_line, key_below, keyed, label_front, next_in, near, lines_steps}
+use Rattle.instants_lines.specs.Going.{Going, search_below, key_of_line, key_below, keyed, label_prefix, next_in, near, lines_steps}
 use Rattle.instants_lines_words.specs.declared.mode.Mode.{Mode}
 use Rattle.instants_lines_words.specs.declared.mode.Mode.TheVariants.{Key, Carry, Replace, Explain, Locate}
 use Rattle.instants_lines.proofs.Handed.{HandsOn, handed_said, handed_next}
@@ -24,7 +24,7 @@ abbrev pub with_key : Going → List ℕ → Going
 with_key going key = record going { key = key }
 
 abbrev IsWithKey : Going → Going → Type 0
-IsWithKey going after = (key : List ℕ) × (after ≡ with_key going key)
+IsWithKey going later = (key : List ℕ) × (later ≡ with_key going key)
 
 below_key : (going : Going) (line key : List ℕ) → going.search.given.years ≡ Unknown → record going { search = search_below going.search line; key = key } ≡ with_key going key
 below_key going line key e =
@@ -48,13 +48,13 @@ line_key many going line e =
       | inr fits ↦ let next = next_key going.mode going line e in (next.0, line_next-short Going lines_steps many going line fits ∙ next.1)
     ]
 
-behind_key : (many : ℕ) (going : Going) (some : List (List ℕ)) → going.search.given.years ≡ Unknown → IsWithKey going (behind lines_steps many going some)
-unfolding behind
-behind_key many going [] e = (going.key, refl)
-behind_key many going (line ∷ others) e =
+after_key : (many : ℕ) (going : Going) (some : List (List ℕ)) → going.search.given.years ≡ Unknown → IsWithKey going (after lines_steps many going some)
+unfolding after
+after_key many going [] e = (going.key, refl)
+after_key many going (line ∷ others) e =
     let next = line_key many going line e in
-    let rest = behind_key many (with_key going next.0) others e in
-    (rest.0, ap (λ (state : Going). behind lines_steps many state others) next.1 ∙ rest.1)
+    let rest = after_key many (with_key going next.0) others e in
+    (rest.0, ap (λ (state : Going). after lines_steps many state others) next.1 ∙ rest.1)
 
 -- ---- what is written from a line with a date on
 
@@ -90,7 +90,7 @@ module _ (going : Going) (line : List ℕ) (others : List (List ℕ)) (finding :
   written_from key =
       ap (λ (text : List ℕ). text ++ written lines_steps many (line_next lines_steps many (with_key going key) line) others)
       (handed_said (with_key going key) line hands
-      ∙ ap (λ (text : List ℕ). text ++ line_feed ∷ []) (text_of going.mode keys (with_key going key) line ∙ ap (λ (k : List ℕ). k ++ tab ∷ (label_front going.label ++ line)) (key_found key)))
+      ∙ ap (λ (text : List ℕ). text ++ line_feed ∷ []) (text_of going.mode keys (with_key going key) line ∙ ap (λ (k : List ℕ). k ++ tab ∷ (label_prefix going.label ++ line)) (key_found key)))
       ∙ ap (λ (next : Going). (keyed going line ++ line_feed ∷ []) ++ written lines_steps many next others) (next_found key)
 
   module _ (second : List ℕ) (cut : lines second ≡ line ∷ others) where
@@ -106,7 +106,7 @@ module _ (going : Going) (line : List ℕ) (others : List (List ℕ)) (finding :
     pub joined_carried : (first : List ℕ) → going.search.given.years ≡ Unknown → last_part first ≡ []
         → output lines_steps going many (first ++ second) ≡ output lines_steps going many first ++ output lines_steps going many second
     joined_carried first years ended =
-        let after = behind_key many going (whole_lines first) years in
+        let later = after_key many going (whole_lines first) years in
         joined going many first second ended
-        ∙ ap (λ (state : Going). output lines_steps going many first ++ output lines_steps state many second) after.1
-        ∙ ap (λ (text : List ℕ). output lines_steps going many first ++ text) (output_from after.0)
+        ∙ ap (λ (state : Going). output lines_steps going many first ++ output lines_steps state many second) later.1
+        ∙ ap (λ (text : List ℕ). output lines_steps going many first ++ text) (output_from later.0)

@@ -17,12 +17,12 @@ first_or_others (Ok m) r moment e = inl e
 first_or_others (Err f) (Ok m) moment e = inr ((f, refl), e)
 first_or_others (Err f) (Err g) moment e = absurd cc
 
--- what the first source says that names a moment, behind those that name none
+-- what the first source says that names a moment, after those that name none
 record FirstSays (setting : Setting) (line : List ℕ) (number : ℕ) (sources : List Grammar) (moment : Shown) : Type 0 where
   before : List Grammar
   source : Grammar
-  behind : List Grammar
-  parts : sources ≡ before ++ source ∷ behind
+  after : List Grammar
+  parts : sources ≡ before ++ source ∷ after
   names : named setting.assumed source line ≡ Ok moment
   none_before : All (λ other. IsErr (named setting.assumed other line)) before
   says : first_answer setting line number sources ≡ Some ((decimal (length before + number) ++ 9 ∷ []) ++ place_text (shown_or_refused setting.target (Ok moment)))
@@ -35,7 +35,7 @@ first_says setting line number (grammar ∷ others) moment e =
       | inl h ↦ record {
         before = [];
         source = grammar;
-        behind = others;
+        after = others;
         parts = refl;
         names = h;
         none_before = All-nil (λ (other : Grammar). IsErr (named setting.assumed other line));
@@ -47,7 +47,7 @@ first_says setting line number (grammar ∷ others) moment e =
           record {
             before = grammar ∷ next.before;
             source = next.source;
-            behind = next.behind;
+            after = next.after;
             parts = ap (λ (sources : List Grammar). grammar ∷ sources) next.parts;
             names = next.names;
             none_before = All-cons (λ (other : Grammar). IsErr (named setting.assumed other line)) grammar next.before (rw h.0.1 refl) next.none_before;
@@ -60,7 +60,7 @@ pub explained_by : (setting : Setting) (line : List ℕ) (moment : Shown) → fi
 unfolding explained answer_to place_of
 explained_by setting line moment e =
     let first = first_says setting line 1 setting.sources moment e in (
-      record { before = first.before; source = first.source; behind = first.behind; parts = first.parts; names = first.names; none_before = first.none_before },
+      record { before = first.before; source = first.source; after = first.after; parts = first.parts; names = first.names; none_before = first.none_before },
       ap (λ (o : Option (List ℕ)). unwrap_or o (all_said setting line 1 setting.sources)) first.says
           ∙ ap (λ (n : Result Shown Fault). (decimal (length first.before + 1) ++ 9 ∷ []) ++ place_text (shown_or_refused setting.target n)) (sym e),
     )

@@ -17,7 +17,7 @@ use Rattle.instants_timeline.specs.Place.{Setting, in_written_years, place_text}
 use Rattle.instants_timeline.specs.Refusal.{year}
 use Rattle.instants_lines.specs.Dates.{date_in, key_or, place_of_date}
 use Rattle.instants_lines.specs.Fields.{IsLabel, is_field, without_fields, without_key}
-use Rattle.instants_lines.specs.Going.{Going, key_of_line, key_below, label_front}
+use Rattle.instants_lines.specs.Going.{Going, key_of_line, key_below, label_prefix}
 use Rattle.instants_lines_words.specs.declared.mode.Mode.{Mode}
 use Rattle.instants_lines_words.specs.declared.mode.Mode.TheVariants.{Key, Carry, Replace, Explain, Locate}
 
@@ -120,12 +120,12 @@ without_field [] line is = refl
 without_field (byte ∷ key) line is = one_more byte (key ++ tab ∷ line) (first_byte byte key is).0 ∙ without_field key line (other_bytes byte key is)
 
 -- a label has no line feed
-pub label_free : (label : Option (List ℕ)) → IsLabel label → HasNoLineFeed (label_front label)
+pub label_free : (label : Option (List ℕ)) → IsLabel label → HasNoLineFeed (label_prefix label)
 label_free None is = All-nil (λ (b : ℕ). (b == 10) ≡ false)
 label_free (Some text) is = All-append (λ (b : ℕ). (b == 10) ≡ false) text (tab ∷ []) (field_free text is) (All-cons (λ (b : ℕ). (b == 10) ≡ false) tab [] refl (All-nil (λ (b : ℕ). (b == 10) ≡ false)))
 
 -- what stands after a key and a label
-pub without_both : (key : List ℕ) (label : Option (List ℕ)) (line : List ℕ) → is_field key ≡ true → IsLabel label → without_fields label (key ++ tab ∷ (label_front label ++ line)) ≡ line
+pub without_both : (key : List ℕ) (label : Option (List ℕ)) (line : List ℕ) → is_field key ≡ true → IsLabel label → without_fields label (key ++ tab ∷ (label_prefix label ++ line)) ≡ line
 without_both key None line is label_is = without_field key line is
 without_both key (Some text) line is label_is =
     ap without_key (without_field key ((text ++ tab ∷ []) ++ line) is ∙ append_assoc text (tab ∷ []) line) ∙ without_field text line label_is

@@ -15,7 +15,7 @@ use Rattle.instants_stream.proofs.Written.{line_said-longer, line_next-longer, l
 use Rattle.instants_timeline.specs.Place.{Setting}
 use Rattle.instants_timeline.specs.Refusal.{Refusal}
 use Rattle.instants_lines.specs.Dates.{date_in, key_or, place_of_date, with_date_time, with_date, replaced}
-use Rattle.instants_lines.specs.Going.{Going, below, given_below, search_below, key_of_line, key_below, keyed, label_front, text_in, next_in, near, begun_in, hands_on, end_in, lines_steps}
+use Rattle.instants_lines.specs.Going.{Going, below, given_below, search_below, key_of_line, key_below, keyed, label_prefix, text_in, next_in, near, begun_in, hands_on, end_in, lines_steps}
 use Rattle.instants_lines_words.specs.declared.mode.Mode.{Mode}
 use Rattle.instants_lines_words.specs.declared.mode.Mode.TheVariants.{Key, Carry, Replace, Explain, Locate}
 
@@ -55,86 +55,86 @@ end_of Locate other end = absurd cc
 
 -- ---- a line with a date-time in place of its date
 
--- the date ends within the front
+-- the date ends within the prefix
 abbrev LiesIn : List ℕ → Option Finding → Type 0
-LiesIn front o = (date : Found) → o ≡ Some (There date) → (date.start ≤ length front) × (date.end ≤ length front)
+LiesIn prefix o = (date : Found) → o ≡ Some (There date) → (date.start ≤ length prefix) × (date.end ≤ length prefix)
 
-time_longer : (front rest : List ℕ) (date : Found) (place : Result Shown Refusal) → date.start ≤ length front → date.end ≤ length front → with_date_time front date place ++ rest ≡ with_date_time (front ++ rest) date place
-time_longer front rest date (Ok moment) start end =
-    append_assoc (take date.start front) (moment_text moment ++ drop date.end front) rest
-    ∙ ap (λ (l : List ℕ). take date.start front ++ l) (append_assoc (moment_text moment) (drop date.end front) rest)
-    ∙ rw (take-append-le date.start front rest start, drop-append-le date.end front rest end) refl
-time_longer front rest date (Err refusal) start end = refl
+time_longer : (prefix rest : List ℕ) (date : Found) (place : Result Shown Refusal) → date.start ≤ length prefix → date.end ≤ length prefix → with_date_time prefix date place ++ rest ≡ with_date_time (prefix ++ rest) date place
+time_longer prefix rest date (Ok moment) start end =
+    append_assoc (take date.start prefix) (moment_text moment ++ drop date.end prefix) rest
+    ∙ ap (λ (l : List ℕ). take date.start prefix ++ l) (append_assoc (moment_text moment) (drop date.end prefix) rest)
+    ∙ rw (take-append-le date.start prefix rest start, drop-append-le date.end prefix rest end) refl
+time_longer prefix rest date (Err refusal) start end = refl
 
-with_longer : (setting : Setting) (front rest : List ℕ) (o : Option Finding) → LiesIn front o → with_date setting front o ++ rest ≡ with_date setting (front ++ rest) o
-with_longer setting front rest None lies = refl
-with_longer setting front rest (Some Doubtful) lies = refl
-with_longer setting front rest (Some (There date)) lies = let both = lies date refl in time_longer front rest date (place_of_date setting date) both.0 both.1
+with_longer : (setting : Setting) (prefix rest : List ℕ) (o : Option Finding) → LiesIn prefix o → with_date setting prefix o ++ rest ≡ with_date setting (prefix ++ rest) o
+with_longer setting prefix rest None lies = refl
+with_longer setting prefix rest (Some Doubtful) lies = refl
+with_longer setting prefix rest (Some (There date)) lies = let both = lies date refl in time_longer prefix rest date (place_of_date setting date) both.0 both.1
 
 -- ---- a line that is longer
 
 module _ (going : Going) (line : List ℕ) (many : ℕ) (other : HandsOn going.mode) (far : many ≡ going.search.limit + 256 + 64) (longer : many < length line) where
-  abbrev front : List ℕ
-  front = take (many + 1) line
+  abbrev prefix : List ℕ
+  prefix = take (many + 1) line
 
   abbrev rest : List ℕ
   rest = drop (many + 1) line
 
-  joined : front ++ rest ≡ line
+  joined : prefix ++ rest ≡ line
   joined = take-append-drop (many + 1) line
 
-  front_length : length front ≡ many + 1
-  front_length = length-take-le (many + 1) line (omega (arith, longer))
+  prefix_length : length prefix ≡ many + 1
+  prefix_length = length-take-le (many + 1) line (omega (arith, longer))
 
-  same_date : date_in going.search front ≡ date_in going.search line
+  same_date : date_in going.search prefix ≡ date_in going.search line
   same_date =
-      sym (near_found going.search.limit going.search.given going.search.setting.sources front rest (omega (arith, far, front_length)))
+      sym (near_found going.search.limit going.search.given going.search.setting.sources prefix rest (omega (arith, far, prefix_length)))
       ∙ ap (λ (l : List ℕ). found going.search.limit going.search.given going.search.setting.sources l) joined
 
-  same_key : key_of_line going front ≡ key_of_line going line
+  same_key : key_of_line going prefix ≡ key_of_line going line
   unfolding key_of_line
   same_key = ap (key_or going.search.setting going.key) same_date
 
-  same_below : below going front ≡ below going line
+  same_below : below going prefix ≡ below going line
   same_below =
-      ap (λ (o : Option Finding). record going { search = record going.search { given = given_below going.search.given o }; key = key_below going.mode going.key (key_of_line going front) }) same_date
+      ap (λ (o : Option Finding). record going { search = record going.search { given = given_below going.search.given o }; key = key_below going.mode going.key (key_of_line going prefix) }) same_date
       ∙ ap (λ (key : List ℕ). record going { search = search_below going.search line; key = key_below going.mode going.key key }) same_key
 
-  same_keyed : keyed going front ++ rest ≡ keyed going line
+  same_keyed : keyed going prefix ++ rest ≡ keyed going line
   same_keyed =
-      append_assoc (key_of_line going front) (tab ∷ (label_front going.label ++ front)) rest
-      ∙ ap (λ (l : List ℕ). key_of_line going front ++ tab ∷ l) (append_assoc (label_front going.label) front rest ∙ ap (λ (l : List ℕ). label_front going.label ++ l) joined)
-      ∙ ap (λ (key : List ℕ). key ++ tab ∷ (label_front going.label ++ line)) same_key
+      append_assoc (key_of_line going prefix) (tab ∷ (label_prefix going.label ++ prefix)) rest
+      ∙ ap (λ (l : List ℕ). key_of_line going prefix ++ tab ∷ l) (append_assoc (label_prefix going.label) prefix rest ∙ ap (λ (l : List ℕ). label_prefix going.label ++ l) joined)
+      ∙ ap (λ (key : List ℕ). key ++ tab ∷ (label_prefix going.label ++ line)) same_key
 
-  lies : LiesIn front (date_in going.search front)
+  lies : LiesIn prefix (date_in going.search prefix)
   lies = λ date e.
-      let near = found_near going.search.limit going.search.given going.search.setting.sources front date e in
-      (omega (arith, near.0, far, front_length), omega (arith, near.1, far, front_length))
+      let near = found_near going.search.limit going.search.given going.search.setting.sources prefix date e in
+      (omega (arith, near.0, far, prefix_length), omega (arith, near.1, far, prefix_length))
 
-  same_replaced : replaced going.search front ++ rest ≡ replaced going.search line
+  same_replaced : replaced going.search prefix ++ rest ≡ replaced going.search line
   unfolding replaced
   same_replaced =
-      with_longer going.search.setting front rest (date_in going.search front) lies
-      ∙ ap (λ (l : List ℕ). with_date going.search.setting l (date_in going.search front)) joined
+      with_longer going.search.setting prefix rest (date_in going.search prefix) lies
+      ∙ ap (λ (l : List ℕ). with_date going.search.setting l (date_in going.search prefix)) joined
       ∙ ap (λ (o : Option Finding). with_date going.search.setting line o) same_date
 
-  same_text : (mode : Mode) → HandsOn mode → text_in mode going front ++ rest ≡ text_in mode going line
+  same_text : (mode : Mode) → HandsOn mode → text_in mode going prefix ++ rest ≡ text_in mode going line
   same_text Key own = same_keyed
   same_text Carry own = same_keyed
   same_text Replace own = same_replaced
   same_text Explain own = absurd cc
   same_text Locate own = absurd cc
 
-  within_is : state_within lines_steps many going line ≡ below going front
+  within_is : state_within lines_steps many going line ≡ below going prefix
   unfolding state_within
-  within_is = next_of going.mode other going front
+  within_is = next_of going.mode other going prefix
 
   opened_is : opened lines_steps many going line ≡ text_in going.mode going line
   unfolding opened
   opened_is =
-      ap (λ (text : List ℕ). text ++ passed (hands_on (state_within lines_steps many going line).mode) rest) (begun_of going.mode other going front)
-      ∙ ap (λ (within : Going). text_in going.mode going front ++ passed (hands_on within.mode) rest) within_is
-      ∙ ap (λ (on : Bool). text_in going.mode going front ++ passed on rest) other
+      ap (λ (text : List ℕ). text ++ passed (hands_on (state_within lines_steps many going line).mode) rest) (begun_of going.mode other going prefix)
+      ∙ ap (λ (within : Going). text_in going.mode going prefix ++ passed (hands_on within.mode) rest) within_is
+      ∙ ap (λ (on : Bool). text_in going.mode going prefix ++ passed on rest) other
       ∙ same_text going.mode other
 
   ended_is : end_in (state_within lines_steps many going line).mode (line_feed ∷ []) ≡ line_feed ∷ []

@@ -1,13 +1,13 @@
 -- Joined streams.
 use Rattle.std.proofs.Common.{◌≡◌, ℕ, ◌+◌, List, [], ◌∷◌, ◌++◌, length, take, Option, None, Some, refl, ap, ◌∙◌, inl, inr}
 use Rattle.std.proofs.lemmas.Bool.{cases_lt}
-use Rattle.instants_fronts.specs.declared.given.Given.{Given}
-use Rattle.instants_fronts.specs.declared.given.Years.{Years}
-use Rattle.instants_fronts.specs.declared.given.Years.TheVariants.{Unknown}
+use Rattle.instants_prefixes.specs.declared.given.Given.{Given}
+use Rattle.instants_prefixes.specs.declared.given.Years.{Years}
+use Rattle.instants_prefixes.specs.declared.given.Years.TheVariants.{Unknown}
 use Rattle.instants_found.specs.declared.found.Finding.{Finding}
 use Rattle.instants_found.specs.declared.found.Finding.TheVariants.{Doubtful, There}
 use Rattle.instants_stream.specs.Lines.{whole_lines, last_part}
-use Rattle.instants_stream.specs.Steps.{state_within, line_next, behind, output}
+use Rattle.instants_stream.specs.Steps.{state_within, line_next, after, output}
 use Rattle.instants_stream.proofs.Written.{line_next-longer, line_next-short, output-append}
 use Rattle.instants_lines.specs.Dates.{date_in}
 use Rattle.instants_lines.specs.Going.{Going, below, given_below, years_below, key_of_line, key_below, next_in, lines_steps}
@@ -66,15 +66,15 @@ module _ (going : Going) (limit : ℕ) (keep : Keeps going) where
         | inr fits ↦ line_next-short Going lines_steps limit going line fits ∙ keep line
       ]
 
-  kept : (some : List (List ℕ)) → behind lines_steps limit going some ≡ going
-  unfolding behind
+  kept : (some : List (List ℕ)) → after lines_steps limit going some ≡ going
+  unfolding after
   kept [] = refl
-  kept (line ∷ others) = ap (λ (state : Going). behind lines_steps limit state others) (line_kept line) ∙ kept others
+  kept (line ∷ others) = ap (λ (state : Going). after lines_steps limit state others) (line_kept line) ∙ kept others
 
 -- ---- joined streams
 
 pub joined : (going : Going) (limit : ℕ) (first second : List ℕ) → last_part first ≡ []
-    → output lines_steps going limit (first ++ second) ≡ output lines_steps going limit first ++ output lines_steps (behind lines_steps limit going (whole_lines first)) limit second
+    → output lines_steps going limit (first ++ second) ≡ output lines_steps going limit first ++ output lines_steps (after lines_steps limit going (whole_lines first)) limit second
 joined going limit first second ended = output-append Going lines_steps limit going first second ended
 
 joined_kept : (going : Going) (limit : ℕ) → Keeps going → (first second : List ℕ) → last_part first ≡ []

@@ -70,11 +70,11 @@ pub located_dated : (going : Going) (line : List ℕ) (date : Found) → going.m
     → record going { search = record going.search { given = given_below going.search.given (Some (There date)) } } ≡ below going line
 located_dated going line date mode e = below_here going line (Some (There date)) (locate_key going line mode) (sym e)
 
--- ---- a key and the tab behind it are written as one part
+-- ---- a key and the tab after it are written as one part
 
 pub key_and_tab : (key tabbed label line : List ℕ) → tabbed ≡ key ++ tab ∷ [] → (key ++ tab ∷ (label ++ line)) ++ line_feed ∷ [] ≡ tabbed ++ (label ++ (line ++ line_feed ∷ []))
 key_and_tab key tabbed label line is =
     append_assoc key (tab ∷ (label ++ line)) (line_feed ∷ [])
     ∙ ap (λ (l : List ℕ). key ++ tab ∷ l) (append_assoc label line (line_feed ∷ []))
     ∙ sym (append_assoc key (tab ∷ []) (label ++ (line ++ line_feed ∷ [])))
-    ∙ ap (λ (front : List ℕ). front ++ (label ++ (line ++ line_feed ∷ []))) (sym is)
+    ∙ ap (λ (prefix : List ℕ). prefix ++ (label ++ (line ++ line_feed ∷ []))) (sym is)

@@ -1,11 +1,11 @@
 -- The first source that lacks something, step by step.
 use Rattle.std.proofs.Common.{◌≡◌, ◌<◌, ◌≤◌, ◌+◌, ℕ, List, [], ◌∷◌, length, get_or, drop, map, Option, None, Some, refl, sym, ap, ◌∙◌}
 use Rattle.std.proofs.lemmas.List.{drop_more, drop_all}
-use Rattle.instants_fronts.specs.DateSource.{grammar_in}
-use Rattle.instants_fronts.specs.Lacks.{lack}
-use Rattle.instants_fronts.specs.declared.date_source.DateSource.{DateSource}
-use Rattle.instants_fronts.specs.declared.given.Given.{Given}
-use Rattle.instants_fronts.specs.declared.lacks.Lack.{Lack}
+use Rattle.instants_prefixes.specs.DateSource.{grammar_in}
+use Rattle.instants_prefixes.specs.Lacks.{lack}
+use Rattle.instants_prefixes.specs.declared.date_source.DateSource.{DateSource}
+use Rattle.instants_prefixes.specs.declared.given.Given.{Given}
+use Rattle.instants_prefixes.specs.declared.lacks.Lack.{Lack}
 use Rattle.instants_lines.specs.Lacking.{first_lacking, lacks_or}
 use Rattle.instants_lines.specs.declared.lacking.Lacking.{Lacking}
 

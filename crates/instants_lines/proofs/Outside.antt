@@ -38,13 +38,13 @@ pub twice : (search below : Search) (line : List ℕ) (date again : Found) (mome
     → replaced below (replaced search line) ≡ replaced search line
 twice search below line date again moment one e p within f starts ends same =
     let text = moment_text moment in
-    let front = take date.start line in
+    let prefix = take date.start line in
     let back = drop date.end line in
-    let size : length front ≡ date.start = length-take-le date.start line within in
-    let is : replaced search line ≡ front ++ (text ++ back) = written search line date moment e p in
-    let before : take date.start (front ++ (text ++ back)) ≡ front = take_at front (text ++ back) date.start size in
-    let whole : length (front ++ text) ≡ date.start + length text = simp length-append (omega (arith, size)) in
-    let behind : drop (date.start + length text) (front ++ (text ++ back)) ≡ back =
-    ap (drop (date.start + length text)) (sym (append_assoc front text back)) ∙ drop_at (front ++ text) back (date.start + length text) whole in
+    let size : length prefix ≡ date.start = length-take-le date.start line within in
+    let is : replaced search line ≡ prefix ++ (text ++ back) = written search line date moment e p in
+    let before : take date.start (prefix ++ (text ++ back)) ≡ prefix = take_at prefix (text ++ back) date.start size in
+    let whole : length (prefix ++ text) ≡ date.start + length text = simp length-append (omega (arith, size)) in
+    let after : drop (date.start + length text) (prefix ++ (text ++ back)) ≡ back =
+    ap (drop (date.start + length text)) (sym (append_assoc prefix text back)) ∙ drop_at (prefix ++ text) back (date.start + length text) whole in
     written below (replaced search line) again moment f (ap (λ (setting : Setting). place_of_date setting again) one ∙ same_place search.setting date again same ∙ p)
-    ∙ rw (starts, ends, is) (rw (before, behind) refl)
+    ∙ rw (starts, ends, is) (rw (before, after) refl)

@@ -1,7 +1,7 @@
 -- What words ask for that are accepted, by those of `instants` that stand for them.
 use Rattle.std.proofs.Common.{◌≡◌, ℕ, List, Result, Ok, Err, refl, sym, subst, ap, ◌∙◌}
 use Rattle.std.specs.Prelude.{IfSome}
-use Rattle.instants_fronts.specs.declared.given.Given.{Given}
+use Rattle.instants_prefixes.specs.declared.given.Given.{Given}
 use Rattle.instants_stream.specs.Steps.{by_steps}
 use Rattle.instants_stream.specs.Writing.{Writing}
 use Rattle.instants_stream.specs.declared.run.RunFault.{RunFault}

@@ -3,8 +3,8 @@ use Rattle.std.proofs.Common.{◌≡◌, ◌<◌, ◌≤◌, ◌+◌, ℕ, List,
 use Rattle.std.specs.Option.{option_or}
 use Rattle.std.proofs.lemmas.List.{take_more, drop_more, drop_all, take_all, map-append, length-map}
 use Rattle.instants_sources.specs.Grammar.{Grammar}
-use Rattle.instants_fronts.specs.DateSource.{grammar_in}
-use Rattle.instants_fronts.specs.declared.date_source.DateSource.{DateSource}
+use Rattle.instants_prefixes.specs.DateSource.{grammar_in}
+use Rattle.instants_prefixes.specs.declared.date_source.DateSource.{DateSource}
 use Rattle.instants_timeline.specs.Place.{Setting}
 use Rattle.instants_lines.specs.Explained.{said_by, answer_by, first_answer, parted, all_said}
 

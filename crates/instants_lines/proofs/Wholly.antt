@@ -24,18 +24,18 @@ use Rattle.parsing_parsable.specs.Moment.{reads_in_turn}
 use Rattle.parsing_laws.specs.TwoRoads.{AgreeOn}
 use Rattle.instants_sources.specs.Grammar.{Grammar, Items, V3, Rfc2822, Rfc3339, Iso8601}
 use Rattle.instants_sources.specs.Named.{named}
-use Rattle.instants_edges.specs.Clock.{has_clock_in_front, has_seconds_before, quote_place}
+use Rattle.instants_edges.specs.Clock.{has_clock_before, has_seconds_before, quote_place}
 use Rattle.instants_edges.specs.Edge.{byte_before, ends_sequence, is_edge, is_sign, may_say}
 use Rattle.instants_edges.specs.Pieces.{trimmed_length}
-use Rattle.instants_fronts.specs.Front.{with_lengths, front_in, front_at}
-use Rattle.instants_fronts.specs.Given.{moment_of}
-use Rattle.instants_fronts.specs.Lengths.{lengths}
-use Rattle.instants_fronts.specs.Reading.{text_for, may_begin, is_likely, if_likely, front_of, front_named}
-use Rattle.instants_fronts.specs.declared.front.Front.{Front}
-use Rattle.instants_fronts.specs.declared.given.Given.{Given}
-use Rattle.instants_fronts.proofs.NamedAlone.{named_given}
+use Rattle.instants_prefixes.specs.Prefix.{with_lengths, prefix_in, prefix_at}
+use Rattle.instants_prefixes.specs.Given.{moment_of}
+use Rattle.instants_prefixes.specs.Lengths.{lengths}
+use Rattle.instants_prefixes.specs.Reading.{text_for, may_begin, is_likely, if_likely, prefix_of, prefix_named}
+use Rattle.instants_prefixes.specs.declared.prefix.Prefix.{Prefix}
+use Rattle.instants_prefixes.specs.declared.given.Given.{Given}
+use Rattle.instants_prefixes.proofs.NamedAlone.{named_given}
 use Rattle.instants_found.specs.Beside.{is_read, is_gainsaid, stands_whole, names_nothing, without_offset, without_time, without_year}
-use Rattle.instants_found.specs.Candidate.{as_candidate, of_front, candidate, candidates, longest}
+use Rattle.instants_found.specs.Candidate.{as_candidate, of_prefix, candidate, candidates, longest}
 use Rattle.instants_found.specs.Found.{at_place, from_place, found}
 use Rattle.instants_found.specs.declared.found.Found.{Found}
 use Rattle.instants_found.specs.declared.found.Finding.TheVariants.{There}
@@ -43,7 +43,7 @@ use Rattle.instants_timeline.specs.Place.{Setting, first_named, shown_or_refused
 use Rattle.instants_lines.specs.Dates.{place_of_date, key_or}
 use Rattle.instants_lines.specs.Going.{Going, key_of_line}
 
--- ---- the front is the whole line
+-- ---- the prefix is the whole line
 
 chosen : {A : Type 0} (b : Bool) (x : A) → b ≡ true → (if b then Some x else None) ≡ Some x
 chosen true x e = refl
@@ -57,32 +57,32 @@ module _ (given : Given) (grammar : Grammar) (moment : Shown) (likely : is_likel
   kept : (o : Option Shown) → o ≡ Some moment → if_likely grammar o [] ≡ Some (moment, [])
   kept o e = ap (λ (x : Option Shown). if_likely grammar x []) e ∙ chosen (is_likely grammar moment) (moment, []) likely
 
-  front_all : (x : Answer) → names moment_named (all_read x) ≡ Ok moment → front_of given grammar x ≡ Some (moment, [])
-  front_all (Ok (r, [])) e = kept (moment_of given given.years r) (named_given given given.years r moment e)
-  front_all (Ok (r, byte ∷ rest)) e =
+  prefix_all : (x : Answer) → names moment_named (all_read x) ≡ Ok moment → prefix_of given grammar x ≡ Some (moment, [])
+  prefix_all (Ok (r, [])) e = kept (moment_of given given.years r) (named_given given given.years r moment e)
+  prefix_all (Ok (r, byte ∷ rest)) e =
       let more : (length (byte ∷ rest) == 0) ≡ false = grind (arith, nat_tests) in
       let refused = rw more at e in
       absurd cc
-  front_all (Err f) e = absurd cc
+  prefix_all (Err f) e = absurd cc
 
-  by_record : (m : Meaning) (line : List ℕ) → names moment_named (whole m None line) ≡ Ok moment → front_of given grammar (m empty line) ≡ Some (moment, [])
+  by_record : (m : Meaning) (line : List ℕ) → names moment_named (whole m None line) ≡ Ok moment → prefix_of given grammar (m empty line) ≡ Some (moment, [])
   unfolding whole
-  by_record m line e = front_all (m empty line) e
+  by_record m line e = prefix_all (m empty line) e
 
-  by_road : (direct : List ℕ → Result Shown Fault) (m : Meaning) (line : List ℕ) → AgreeOn direct m line → direct line ≡ Ok moment → front_of given grammar (m empty line) ≡ Some (moment, [])
+  by_road : (direct : List ℕ → Result Shown Fault) (m : Meaning) (line : List ℕ) → AgreeOn direct m line → direct line ≡ Ok moment → prefix_of given grammar (m empty line) ≡ Some (moment, [])
   unfolding whole
   by_road direct m line agree e =
       let alike : Some moment ≡ result_ok (names moment_named (whole m None line)) = sym (ap result_ok e) ∙ agree None None in
       by_record m line (ok_of (names moment_named (whole m None line)) moment alike)
 
-front_whole : (given : Given) (grammar : Grammar) (line : List ℕ) (moment : Shown) → AgreeOn rfc3339.direct reads_rfc3339 line → AgreeOn rfc2822.direct reads_rfc2822 line
-    → named None grammar line ≡ Ok moment → may_begin grammar line ≡ true → is_likely grammar moment ≡ true → front_named given grammar line ≡ Some (moment, [])
-unfolding front_named
-front_whole given (Items items) line moment of_rfc3339 of_rfc2822 e begins likely = by_record given (Items items) moment likely (meaning (reads_in_turn items)) line e
-front_whole given (V3 tree) line moment of_rfc3339 of_rfc2822 e begins likely = by_record given (V3 tree) moment likely (meaning (reads reads_component_v3 tree)) line e
-front_whole given Rfc2822 line moment of_rfc3339 of_rfc2822 e begins likely = rw begins (by_road given Rfc2822 moment likely rfc2822.direct reads_rfc2822 line of_rfc2822 e)
-front_whole given Rfc3339 line moment of_rfc3339 of_rfc2822 e begins likely = by_road given Rfc3339 moment likely rfc3339.direct reads_rfc3339 line of_rfc3339 e
-front_whole given Iso8601 line moment of_rfc3339 of_rfc2822 e begins likely = by_record given Iso8601 moment likely reads_iso8601 line e
+prefix_whole : (given : Given) (grammar : Grammar) (line : List ℕ) (moment : Shown) → AgreeOn rfc3339.direct reads_rfc3339 line → AgreeOn rfc2822.direct reads_rfc2822 line
+    → named None grammar line ≡ Ok moment → may_begin grammar line ≡ true → is_likely grammar moment ≡ true → prefix_named given grammar line ≡ Some (moment, [])
+unfolding prefix_named
+prefix_whole given (Items items) line moment of_rfc3339 of_rfc2822 e begins likely = by_record given (Items items) moment likely (meaning (reads_in_turn items)) line e
+prefix_whole given (V3 tree) line moment of_rfc3339 of_rfc2822 e begins likely = by_record given (V3 tree) moment likely (meaning (reads reads_component_v3 tree)) line e
+prefix_whole given Rfc2822 line moment of_rfc3339 of_rfc2822 e begins likely = rw begins (by_road given Rfc2822 moment likely rfc2822.direct reads_rfc2822 line of_rfc2822 e)
+prefix_whole given Rfc3339 line moment of_rfc3339 of_rfc2822 e begins likely = by_road given Rfc3339 moment likely rfc3339.direct reads_rfc3339 line of_rfc3339 e
+prefix_whole given Iso8601 line moment of_rfc3339 of_rfc2822 e begins likely = by_record given Iso8601 moment likely reads_iso8601 line e
 
 -- ---- the edges of the line
 
@@ -141,8 +141,8 @@ or_true false = refl
 says_first : (line : List ℕ) → may_say line 0 ≡ true
 says_first line = or_true (not (is_sign (get_or line 0 0)))
 
-clock_none : (line : List ℕ) → has_clock_in_front line 0 ≡ false
-unfolding has_clock_in_front has_seconds_before
+clock_none : (line : List ℕ) → has_clock_before line 0 ≡ false
+unfolding has_clock_before has_seconds_before
 clock_none line =
     let none : min 0 (quote_place line) ≡ 0 = omega arith in
     rw none refl
@@ -163,51 +163,51 @@ all_three : (c : Bool) → (true && (c || not false) && not false) ≡ true
 all_three true = refl
 all_three false = refl
 
-module _ (given : Given) (grammar : Grammar) (line : List ℕ) (moment : Shown) (text : text_for grammar line ≡ line) (names_it : (other : Given) → front_named other grammar line ≡ Some (moment, [])) (first : (lengths grammar line []).begins ≡ 0) where
-  abbrev front : Front
-  front = with_lengths line moment [] (lengths grammar line [])
+module _ (given : Given) (grammar : Grammar) (line : List ℕ) (moment : Shown) (text : text_for grammar line ≡ line) (names_it : (other : Given) → prefix_named other grammar line ≡ Some (moment, [])) (first : (lengths grammar line []).begins ≡ 0) where
+  abbrev prefix : Prefix
+  prefix = with_lengths line moment [] (lengths grammar line [])
 
-  front_is : front_at given grammar line ≡ Some front
-  unfolding front_at
-  front_is = ap (λ (bytes : List ℕ). front_in grammar bytes (front_named given grammar bytes)) text ∙ ap (front_in grammar line) (names_it given)
+  prefix_is : prefix_at given grammar line ≡ Some prefix
+  unfolding prefix_at
+  prefix_is = ap (λ (bytes : List ℕ). prefix_in grammar bytes (prefix_named given grammar bytes)) text ∙ ap (prefix_in grammar line) (names_it given)
 
-  ends : 0 + front.all ≡ trimmed_length line
+  ends : 0 + prefix.all ≡ trimmed_length line
   ends =
       let all : take (length line - 0) line ≡ line = take_all (length line - 0) line (omega arith) in
-      let none : 0 + front.all ≡ front.all = omega arith in
+      let none : 0 + prefix.all ≡ prefix.all = omega arith in
       none ∙ ap trimmed_length all
 
-  edge : is_edge line (0 + front.all) ≡ true
+  edge : is_edge line (0 + prefix.all) ≡ true
   edge = ap (λ (place : ℕ). is_edge line place) ends ∙ edge_at_end line
 
-  begins : 0 + front.begins ≡ 0
+  begins : 0 + prefix.begins ≡ 0
   begins = omega (arith, first)
 
-  says : may_say line (0 + front.begins) ≡ true
+  says : may_say line (0 + prefix.begins) ≡ true
   says = ap (λ (place : ℕ). may_say line place) begins ∙ says_first line
 
-  no_clock : has_clock_in_front line (0 + front.begins) ≡ false
-  no_clock = ap (λ (place : ℕ). has_clock_in_front line place) begins ∙ clock_none line
+  no_clock : has_clock_before line (0 + prefix.begins) ≡ false
+  no_clock = ap (λ (place : ℕ). has_clock_before line place) begins ∙ clock_none line
 
   named_too : (without : Given) → names_nothing without grammar (drop 0 line) ≡ false
-  named_too without = ap (λ (bytes : List ℕ). is_none (front_named without grammar bytes)) text ∙ ap (λ (o : Option (Shown × List ℕ)). is_none o) (names_it without)
+  named_too without = ap (λ (bytes : List ℕ). is_none (prefix_named without grammar bytes)) text ∙ ap (λ (o : Option (Shown × List ℕ)). is_none o) (names_it without)
 
-  unsaid : is_gainsaid given grammar line 0 front ≡ false
+  unsaid : is_gainsaid given grammar line 0 prefix ≡ false
   unfolding is_gainsaid
   unsaid = rw (named_too (without_offset given), named_too (without_time given), named_too (without_year given)) (no_three _ _ _)
 
-  stands : stands_whole given grammar line 0 front ≡ true
+  stands : stands_whole given grammar line 0 prefix ≡ true
   unfolding stands_whole
-  stands = rw (edge, no_clock, unsaid) (all_three front.is_chosen)
+  stands = rw (edge, no_clock, unsaid) (all_three prefix.is_chosen)
 
-  read : is_read grammar line 0 front ≡ true
+  read : is_read grammar line 0 prefix ≡ true
   read = rw (says, edge) refl
 
-  candidate_is : candidate given line 0 0 grammar ≡ Some (as_candidate given line 0 0 grammar front)
+  candidate_is : candidate given line 0 0 grammar ≡ Some (as_candidate given line 0 0 grammar prefix)
   unfolding candidate
-  candidate_is = ap (of_front given line 0 0 grammar) front_is ∙ chosen (is_read grammar line 0 front) (as_candidate given line 0 0 grammar front) read
+  candidate_is = ap (of_prefix given line 0 0 grammar) prefix_is ∙ chosen (is_read grammar line 0 prefix) (as_candidate given line 0 0 grammar prefix) read
 
-  at_first : at_place given (grammar ∷ []) line 0 ≡ Some (There (as_candidate given line 0 0 grammar front).date)
+  at_first : at_place given (grammar ∷ []) line 0 ≡ Some (There (as_candidate given line 0 0 grammar prefix).date)
   unfolding at_place candidates longest
   at_first = rw (candidate_is, stands) refl
 
@@ -231,7 +231,7 @@ unfolding key_of_line place_of_date answer_to place_of
 key_alone going grammar line moment of_rfc3339 of_rfc2822 alone e assumed some long text may likely first =
     let search = going.search in
     let setting = search.setting in
-    let at = at_first search.given grammar line moment text (λ other. front_whole other grammar line moment of_rfc3339 of_rfc2822 e may likely) first in
+    let at = at_first search.given grammar line moment text (λ other. prefix_whole other grammar line moment of_rfc3339 of_rfc2822 e may likely) first in
     let is = ap (λ (sources : List Grammar). found search.limit search.given sources line) alone ∙ found_first search.limit search.given (grammar ∷ []) line _ some long at in
     ap (key_or setting going.key) is
     ∙ ap (λ (n : Result Shown Fault). place_text (shown_or_refused setting.target n)) (sym (alone_named setting grammar line moment alone assumed))

@@ -5,11 +5,11 @@ use Rattle.std.specs.List.{slice_split, onto_first}
 use Rattle.std.proofs.lemmas.List.Elements.{All-nil, All-cons, All-append}
 use Rattle.base.specs.Bytes.{tab, line_feed}
 use Rattle.instants_stream.specs.Lines.{HasNoLineFeed, but_last, if_nonempty, parts, whole_lines, last_part, lines}
-use Rattle.instants_stream.specs.Steps.{state_within, opened, line_said, line_next, written, behind, last_part_said, output}
+use Rattle.instants_stream.specs.Steps.{state_within, opened, line_said, line_next, written, after, last_part_said, output}
 use Rattle.instants_stream.proofs.Lines.{whole_lines-line, last_part-line, last_part-append, lines-append, whole_lines_none, last_part_of_none, last_part_free}
 use Rattle.instants_stream.proofs.Written.{is_no_longer, written-append}
 use Rattle.instants_lines.specs.Fields.{IsLabel, is_field, without_fields}
-use Rattle.instants_lines.specs.Going.{Going, below, hands_on, key_of_line, keyed, label_front, text_in, next_in, near, end_in, last_end, lines_steps}
+use Rattle.instants_lines.specs.Going.{Going, below, hands_on, key_of_line, keyed, label_prefix, text_in, next_in, near, end_in, last_end, lines_steps}
 use Rattle.instants_lines_words.specs.declared.mode.Mode.{Mode}
 use Rattle.instants_lines_words.specs.declared.mode.Mode.TheVariants.{Key, Carry, Replace, Explain, Locate}
 use Rattle.instants_lines.proofs.Fields.{line_field, below_field, field_free, label_free, without_both}
@@ -97,10 +97,10 @@ mode_line many going line =
       | false ↦ mode_next going.mode going line
     ]
 
-mode_behind : (many : ℕ) (going : Going) (some : List (List ℕ)) → (behind lines_steps many going some).mode ≡ going.mode
-unfolding behind
-mode_behind many going [] = refl
-mode_behind many going (line ∷ others) = mode_behind many (line_next lines_steps many going line) others ∙ mode_line many going line
+mode_after : (many : ℕ) (going : Going) (some : List (List ℕ)) → (after lines_steps many going some).mode ≡ going.mode
+unfolding after
+mode_after many going [] = refl
+mode_after many going (line ∷ others) = mode_after many (line_next lines_steps many going line) others ∙ mode_line many going line
 
 -- ---- the output is written line by line
 
@@ -128,10 +128,10 @@ last_is many going keyed (byte ∷ bytes) =
 pub output_is : (many : ℕ) (going : Going) → IsKeyed going.mode → (stream : List ℕ) → output lines_steps going many stream ≡ written lines_steps many going (lines stream)
 unfolding output lines
 output_is many going keyed stream =
-    let after : Going = behind lines_steps many going (whole_lines stream) in
+    let later : Going = after lines_steps many going (whole_lines stream) in
     let P : Mode → Type 0 = λ mode. IsKeyed mode in
-    let still : IsKeyed after.mode = subst P (sym (mode_behind many going (whole_lines stream))) keyed in
-    ap (λ (text : List ℕ). written lines_steps many going (whole_lines stream) ++ text) (last_is many after still (last_part stream))
+    let still : IsKeyed later.mode = subst P (sym (mode_after many going (whole_lines stream))) keyed in
+    ap (λ (text : List ℕ). written lines_steps many going (whole_lines stream) ++ text) (last_is many later still (last_part stream))
     ∙ sym (written-append Going lines_steps many going (whole_lines stream) (if_nonempty (last_part stream)))
 
 -- ---- without their keys
@@ -151,12 +151,12 @@ none_are label texts e =
     subst P (sym e) (record { ends = last_part_of_none; are = rw (whole_lines_none, last_part_of_none) refl })
 
 module _ (label : Option (List ℕ)) (is_label : IsLabel label) where
-  one_more : (key line texts more : List ℕ) (others : List (List ℕ)) → is_field key ≡ true → HasNoLineFeed line → texts ≡ ((key ++ tab ∷ (label_front label ++ line)) ++ line_feed ∷ []) ++ more → AreLines label more others
+  one_more : (key line texts more : List ℕ) (others : List (List ℕ)) → is_field key ≡ true → HasNoLineFeed line → texts ≡ ((key ++ tab ∷ (label_prefix label ++ line)) ++ line_feed ∷ []) ++ more → AreLines label more others
       → AreLines label texts (line ∷ others)
   one_more key line texts more others is free e rest =
-      let text : List ℕ = key ++ tab ∷ (label_front label ++ line) in
-      let line_is : HasNoLineFeed (label_front label ++ line) = All-append (λ (b : ℕ). (b == 10) ≡ false) (label_front label) line (label_free label is_label) free in
-      let text_free : HasNoLineFeed text = All-append (λ (b : ℕ). (b == 10) ≡ false) key (tab ∷ (label_front label ++ line)) (field_free key is) (one_free tab (label_front label ++ line) refl line_is) in
+      let text : List ℕ = key ++ tab ∷ (label_prefix label ++ line) in
+      let line_is : HasNoLineFeed (label_prefix label ++ line) = All-append (λ (b : ℕ). (b == 10) ≡ false) (label_prefix label) line (label_free label is_label) free in
+      let text_free : HasNoLineFeed text = All-append (λ (b : ℕ). (b == 10) ≡ false) key (tab ∷ (label_prefix label ++ line)) (field_free key is) (one_free tab (label_prefix label ++ line) refl line_is) in
       let end : last_part (text ++ line_feed ∷ []) ≡ [] = last_part-line [] text text_free in
       record {
         ends = ap last_part e ∙ last_part-append (text ++ line_feed ∷ []) more end ∙ rest.ends;

@@ -1,8 +1,8 @@
 -- What words ask of the lines of a stream.
 use Rattle.std.specs.Prelude.{ℕ, Option, None, Some, ℤ}
-use Rattle.instants_fronts.specs.declared.given.Given.{Given}
-use Rattle.instants_fronts.specs.declared.given.Years.{Years}
-use Rattle.instants_fronts.specs.declared.given.Years.TheVariants.{Unknown, In}
+use Rattle.instants_prefixes.specs.declared.given.Given.{Given}
+use Rattle.instants_prefixes.specs.declared.given.Years.{Years}
+use Rattle.instants_prefixes.specs.declared.given.Years.TheVariants.{Unknown, In}
 use Rattle.instants_timeline.specs.Place.{Setting}
 use Rattle.instants_lines.specs.Going.{Going, beginning}
 use Rattle.instants_lines_words.specs.Asked.{Asking}

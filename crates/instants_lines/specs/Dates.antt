@@ -2,7 +2,7 @@
 use Rattle.std.specs.Prelude.{ℕ, List, ◌++◌, take, drop, codes, Option, None, Some, Result, Ok, Err}
 use Rattle.datetime_wall.specs.Wall.{Shown}
 use Rattle.instants_answers.specs.Text.{moment_text}
-use Rattle.instants_fronts.specs.declared.given.Given.{Given}
+use Rattle.instants_prefixes.specs.declared.given.Given.{Given}
 use Rattle.instants_found.specs.Found.{found}
 use Rattle.instants_found.specs.declared.found.Found.{Found}
 use Rattle.instants_found.specs.declared.found.Finding.{Finding}

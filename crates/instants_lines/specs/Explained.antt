@@ -14,7 +14,7 @@ use Rattle.instants_timeline.specs.Place.{Setting, shown_or_refused, place_text}
 unfoldable pub text_by : Setting → List ℕ → Grammar → List ℕ
 text_by setting line grammar = place_text (shown_or_refused setting.target (named setting.assumed grammar line))
 
--- the same behind the number of the source and a tab
+-- the same after the number of the source and a tab
 unfoldable pub said_by : Setting → List ℕ → ℕ → Grammar → List ℕ
 said_by setting line number grammar = (decimal number ++ tab ∷ []) ++ text_by setting line grammar
 
@@ -49,7 +49,7 @@ explained setting line = unwrap_or (first_answer setting line 1 setting.sources)
 pub record IsFirstToName (setting : Setting) (line : List ℕ) (moment : Shown) : Type 0 where
   pub before : List Grammar
   pub source : Grammar
-  pub behind : List Grammar
-  pub parts : setting.sources ≡ before ++ source ∷ behind
+  pub after : List Grammar
+  pub parts : setting.sources ≡ before ++ source ∷ after
   pub names : named setting.assumed source line ≡ Ok moment
   pub none_before : All (λ other. IsErr (named setting.assumed other line)) before

@@ -2,10 +2,10 @@
 use Rattle.std.specs.Prelude.{ℕ, ◌+◌, Bool, true, false, List, [], ◌∷◌, ◌++◌, Option, None, Some, codes}
 use Rattle.base.specs.Bytes.{tab, line_feed}
 use Rattle.datetime_wall.specs.Wall.{Shown}
-use Rattle.instants_fronts.specs.Reading.{window}
-use Rattle.instants_fronts.specs.declared.given.Given.{Given}
-use Rattle.instants_fronts.specs.declared.given.Years.{Years}
-use Rattle.instants_fronts.specs.declared.given.Years.TheVariants.{Unknown, In, Near}
+use Rattle.instants_prefixes.specs.Reading.{window}
+use Rattle.instants_prefixes.specs.declared.given.Given.{Given}
+use Rattle.instants_prefixes.specs.declared.given.Years.{Years}
+use Rattle.instants_prefixes.specs.declared.given.Years.TheVariants.{Unknown, In, Near}
 use Rattle.instants_found.specs.declared.found.Finding.{Finding}
 use Rattle.instants_found.specs.declared.found.Finding.TheVariants.{Doubtful, There}
 use Rattle.instants_stream.specs.Steps.{Steps}
@@ -27,13 +27,13 @@ unfoldable pub key_of_line : Going → List ℕ → List ℕ
 key_of_line going line = key_or going.search.setting going.key (date_in going.search line)
 
 -- what stands before a line for its label: the label and a tab, or nothing
-abbrev pub label_front : Option (List ℕ) → List ℕ
-label_front None = []
-label_front (Some label) = label ++ tab ∷ []
+abbrev pub label_prefix : Option (List ℕ) → List ℕ
+label_prefix None = []
+label_prefix (Some label) = label ++ tab ∷ []
 
 -- a line after its key and a tab, and after its label
 abbrev pub keyed : Going → List ℕ → List ℕ
-keyed going line = key_of_line going line ++ tab ∷ (label_front going.label ++ line)
+keyed going line = key_of_line going line ++ tab ∷ (label_prefix going.label ++ line)
 
 -- the text for a line: it stands after its key and its label, or has the date-time in place of its date, or is explained, or its date is located
 abbrev pub text_in : Mode → Going → List ℕ → List ℕ
@@ -99,11 +99,11 @@ near Locate limit = limit + window + 64
 
 -- the text for the first bytes of a longer line
 abbrev pub begun_in : Mode → Going → List ℕ → List ℕ
-begun_in Key going front = text_in Key going front
-begun_in Carry going front = text_in Carry going front
-begun_in Replace going front = text_in Replace going front
-begun_in Explain going front = []
-begun_in Locate going front = text_in Locate going front
+begun_in Key going prefix = text_in Key going prefix
+begun_in Carry going prefix = text_in Carry going prefix
+begun_in Replace going prefix = text_in Replace going prefix
+begun_in Explain going prefix = []
+begun_in Locate going prefix = text_in Locate going prefix
 
 abbrev pub hands_on : Mode → Bool
 hands_on Key = true
@@ -126,8 +126,8 @@ lines_steps =
       said = λ going line. text_in going.mode going line ++ line_feed ∷ [];
       next = λ going line. next_in going.mode going line;
       last_said = λ going line. text_in going.mode going line ++ last_end going.mode;
-      begun = λ going front. begun_in going.mode going front;
-      within = λ going front. next_in going.mode going front;
+      begun = λ going prefix. begun_in going.mode going prefix;
+      within = λ going prefix. next_in going.mode going prefix;
       hands_on = λ going. hands_on going.mode;
       ended = λ going. end_in going.mode (line_feed ∷ []);
       last_ended = λ going. end_in going.mode (last_end going.mode);

@@ -1,13 +1,13 @@
 -- The first source that can name no moment.
 use Rattle.std.specs.Prelude.{ℕ, ◌+◌, List, [], ◌∷◌, Option, None, Some}
-use Rattle.instants_fronts.specs.Lacks.{lack}
-use Rattle.instants_fronts.specs.declared.lacks.Lack.{Lack}
-use Rattle.instants_fronts.specs.declared.given.Given.{Given}
+use Rattle.instants_prefixes.specs.Lacks.{lack}
+use Rattle.instants_prefixes.specs.declared.lacks.Lack.{Lack}
+use Rattle.instants_prefixes.specs.declared.given.Given.{Given}
 use Rattle.instants_sources.specs.Grammar.{Grammar}
 use Rattle.instants_lines.specs.Dates.{Search}
 use Rattle.instants_lines.specs.declared.lacking.Lacking.{Lacking}
 
--- what a source of this number lacks, or else what one behind it does
+-- what a source of this number lacks, or else what one after it does
 abbrev pub lacks_or : ℕ → Option Lack → Option Lacking → Option Lacking
 lacks_or number None others = others
 lacks_or number (Some lack) others = Some (record { place = number; lack = lack })

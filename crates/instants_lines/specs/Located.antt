@@ -4,7 +4,7 @@ use Rattle.std.specs.Fmt.{decimal}
 use Rattle.base.specs.Bytes.{tab, hyphen}
 use Rattle.instants_found.specs.Doubts.{doubt_of}
 use Rattle.instants_found.specs.declared.doubt.Doubt.{Doubt}
-use Rattle.instants_found.specs.declared.doubt.Doubt.TheVariants.{Behind, ClockInFront, AnotherOffset, AnotherTime, AnotherYear}
+use Rattle.instants_found.specs.declared.doubt.Doubt.TheVariants.{After, ClockBefore, AnotherOffset, AnotherTime, AnotherYear}
 use Rattle.instants_found.specs.declared.doubt.Doubted.{Doubted}
 use Rattle.instants_found.specs.declared.found.Found.{Found}
 use Rattle.instants_found.specs.declared.found.Finding.{Finding}
@@ -21,8 +21,8 @@ read_text number start end = tab ∷ ((decimal (number + 1) ++ tab ∷ []) ++ ra
 
 -- why a date does not stand whole
 abbrev pub reason : Doubt → List ℕ
-reason Behind = codes "goes on"
-reason ClockInFront = codes "clock in front"
+reason After = codes "goes on"
+reason ClockBefore = codes "clock in front"
 reason AnotherOffset = codes "another offset"
 reason AnotherTime = codes "another time"
 reason AnotherYear = codes "another year"

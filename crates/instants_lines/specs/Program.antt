@@ -68,11 +68,11 @@ IsMemory (lines.Lacks lacking) = ⊥
 IsMemory (lines.Program fault) = instants.IsMemory fault
 
 -- the words are refused so: they are wrong, or there is no memory for a list of words that are accepted
-abbrev pub IsToldAs : List (List ℕ) → LinesFault → Type 0
-IsToldAs words (lines.Words wrong) = mode_words_said words ≡ Err (wrong_of wrong)
-IsToldAs words (lines.Lacks lacking) = ⊥
-IsToldAs words (lines.Program program.Memory) = IsOk (mode_words_said words)
-IsToldAs words (lines.Program _) = ⊥
+abbrev pub IsReportedAs : List (List ℕ) → LinesFault → Type 0
+IsReportedAs words (lines.Words wrong) = mode_words_said words ≡ Err (wrong_of wrong)
+IsReportedAs words (lines.Lacks lacking) = ⊥
+IsReportedAs words (lines.Program program.Memory) = IsOk (mode_words_said words)
+IsReportedAs words (lines.Program _) = ⊥
 
 -- what is written for a stream, from this beginning on
 abbrev pub writing : Going → Writing

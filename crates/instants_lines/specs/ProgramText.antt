@@ -5,8 +5,8 @@ use Rattle.instants_timeline.specs.ProgramText.{text_of}
 use Rattle.instants_timeline.specs.ProgramText as instants
 use Rattle.instants_lines_words.specs.Wrong.{wrong_of}
 use Rattle.instants_lines_words.specs.WrongText.{wrong_text}
-use Rattle.instants_fronts.specs.declared.lacks.Lack.{Lack}
-use Rattle.instants_fronts.specs.declared.lacks.Lack.TheVariants.{Century, Year, Day, Hour, Offset}
+use Rattle.instants_prefixes.specs.declared.lacks.Lack.{Lack}
+use Rattle.instants_prefixes.specs.declared.lacks.Lack.TheVariants.{Century, Year, Day, Hour, Offset}
 use Rattle.instants_lines.specs.declared.lacking.Lacking.{Lacking}
 use Rattle.instants_lines.specs.declared.lines_fault.LinesFault.{LinesFault}
 use Rattle.instants_lines.specs.declared.lines_fault.LinesFault.TheVariants as lines
@@ -19,7 +19,7 @@ lack_word Day = codes "day"
 lack_word Hour = codes "hour"
 lack_word Offset = codes "offset"
 
--- the sentence for a source that lacks something, behind the name of the program
+-- the sentence for a source that lacks something, after the name of the program
 abbrev pub lacking_text : Lacking → List ℕ
 lacking_text lacking = codes "source " ++ (decimal lacking.place ++ (codes " names no moment: it has no " ++ lack_word lacking.lack))
 

@@ -1,6 +1,6 @@
 -- What dates are found by, and where they are shown.
 use Rattle.std.specs.Prelude.{ℕ}
-use Rattle.instants_fronts.specs.declared.given.Given.{Given}
+use Rattle.instants_prefixes.specs.declared.given.Given.{Given}
 use Rattle.instants_found.specs.Finder.{sources_of, limit_of}
 use Rattle.instants_timeline.specs.Place.{Setting}
 use Rattle.instants_lines.specs.Dates.{Search}

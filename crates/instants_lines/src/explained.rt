@@ -2,8 +2,8 @@
 ghost use Rattle.std.specs.Prelude.{◌≡◌, [], ◌∷◌, ◌++◌, true, false, decimal, option_map, OnOk, OnErr};
 ghost use Rattle.std.specs.Io.KnownBytes.{Appends};
 ghost use Rattle.base.specs.Bytes.{tab, line_feed};
-ghost use Rattle.instants_stream.specs.Told.{AppendsFront};
-ghost use Rattle.instants_fronts.specs.DateSource.{grammar_in};
+ghost use Rattle.instants_stream.specs.Known.{AppendsPrefix};
+ghost use Rattle.instants_prefixes.specs.DateSource.{grammar_in};
 ghost use Rattle.instants_lines.specs.Showing.{setting_in};
 ghost use Rattle.instants_lines.specs.Explained.{text_by, said_by, answer_by, first_answer, parted, all_said, explained};
 
@@ -11,7 +11,7 @@ use crate::date_sources::DateSources;
 use crate::decimals::numbered;
 use crate::parts::{write_parts, write_three};
 use instants_answers::Answer;
-use instants_fronts::DateSource;
+use instants_prefixes::DateSource;
 use instants_stream::{ByteWriter, DeviceFailed};
 
 // What stands before a number.
@@ -77,7 +77,7 @@ fn write_said<W: ByteWriter>(
         (parted number
         ++ said_by (setting_in dates.now) line.now number (grammar_in source.now))) }
     ensures ok { OnOk result (W.failed writer.new ≡ W.failed writer.old) }
-    ensures front { OnErr result (AppendsFront (W.held writer.old) (W.held writer.new)
+    ensures prefix { OnErr result (AppendsPrefix (W.held writer.old) (W.held writer.new)
         (parted number
         ++ said_by (setting_in dates.now) line.now number (grammar_in source.now))) }
     ensures err { OnErr result (W.failed writer.new ≡ true) }
@@ -101,7 +101,7 @@ fn write_all_said<W: ByteWriter>(
     ensures written { OnOk result (Appends (W.held writer.old) (W.held writer.new)
         (all_said (setting_in dates.now) line.now 1 (setting_in dates.now).sources)) }
     ensures ok { OnOk result (W.failed writer.new ≡ W.failed writer.old) }
-    ensures front { OnErr result (AppendsFront (W.held writer.old) (W.held writer.new)
+    ensures prefix { OnErr result (AppendsPrefix (W.held writer.old) (W.held writer.new)
         (all_said (setting_in dates.now) line.now 1 (setting_in dates.now).sources)) }
     ensures err { OnErr result (W.failed writer.new ≡ true) }
 {
@@ -123,7 +123,7 @@ fn write_all_said_line<W: ByteWriter>(
         (all_said (setting_in dates.now) line.now 1 (setting_in dates.now).sources
         ++ line_feed ∷ [])) }
     ensures ok { OnOk result (W.failed writer.new ≡ W.failed writer.old) }
-    ensures front { OnErr result (AppendsFront (W.held writer.old) (W.held writer.new)
+    ensures prefix { OnErr result (AppendsPrefix (W.held writer.old) (W.held writer.new)
         (all_said (setting_in dates.now) line.now 1 (setting_in dates.now).sources
         ++ line_feed ∷ [])) }
     ensures err { OnErr result (W.failed writer.new ≡ true) }
@@ -143,7 +143,7 @@ pub(crate) fn write_explained<W: ByteWriter>(
     ensures written { OnOk result (Appends (W.held writer.old) (W.held writer.new)
         (explained (setting_in dates.now) line.now ++ line_feed ∷ [])) }
     ensures ok { OnOk result (W.failed writer.new ≡ W.failed writer.old) }
-    ensures front { OnErr result (AppendsFront (W.held writer.old) (W.held writer.new)
+    ensures prefix { OnErr result (AppendsPrefix (W.held writer.old) (W.held writer.new)
         (explained (setting_in dates.now) line.now ++ line_feed ∷ [])) }
     ensures err { OnErr result (W.failed writer.new ≡ true) }
 {

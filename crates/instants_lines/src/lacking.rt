@@ -2,10 +2,10 @@
 ghost use Rattle.std.specs.Prelude.{◌≡◌, Some};
 ghost use Rattle.instants_lines.specs.ProgramText.{lack_word};
 
-use instants_fronts::Lack;
+use instants_prefixes::Lack;
 use std::fmt;
 
-/// The first source that can name no moment, whatever a line has. `Display` gives the sentence behind the program's name,
+/// The first source that can name no moment, whatever a line has. `Display` gives the sentence after the program's name,
 /// without a line feed.
 #[derive(Clone, Copy, Debug, PartialEq, Eq)]
 pub struct Lacking {

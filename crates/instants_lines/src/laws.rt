@@ -5,16 +5,16 @@ ghost use Rattle.std.specs.Cmp.Lexicographic.{slice_cmp};
 ghost use Rattle.base.specs.Bytes.{tab, line_feed};
 ghost use Rattle.datetime_wall.specs.Wall.{Shown, instant};
 ghost use Rattle.instants_answers.specs.Text.{moment_text};
-ghost use Rattle.instants_fronts.specs.Lengths.{lengths};
-ghost use Rattle.instants_fronts.specs.Reading.{is_likely, may_begin, text_for};
-ghost use Rattle.instants_fronts.specs.declared.given.Years.TheVariants.{Unknown};
+ghost use Rattle.instants_prefixes.specs.Lengths.{lengths};
+ghost use Rattle.instants_prefixes.specs.Reading.{is_likely, may_begin, text_for};
+ghost use Rattle.instants_prefixes.specs.declared.given.Years.TheVariants.{Unknown};
 ghost use Rattle.instants_found.specs.declared.found.Found.{Found};
 ghost use Rattle.instants_found.specs.declared.found.Finding.{Finding};
 ghost use Rattle.instants_found.specs.declared.found.Finding.TheVariants.{Doubtful, There};
 ghost use Rattle.instants_sources.specs.Grammar.{Grammar};
 ghost use Rattle.instants_sources.specs.Named.{named};
 ghost use Rattle.instants_stream.specs.Lines.{whole_lines, lines};
-ghost use Rattle.instants_stream.specs.Steps.{line_said, line_next, behind, output};
+ghost use Rattle.instants_stream.specs.Steps.{line_said, line_next, after, output};
 ghost use Rattle.instants_timeline.specs.Place.{Setting, first_named, answer_to};
 ghost use Rattle.instants_timeline.specs.Refusal.{Refusal};
 ghost use Rattle.instants_lines.specs.Dates.{Search, date_in, place_of_date, key_of_date, replaced};
@@ -95,24 +95,24 @@ pub fn order_of_keys()
 /// counts for nothing if the second stream begins with a line in which a date is found, be it in doubt.
 pub fn joined_streams()
     ensures joined { (going : Going) (limit : ℕ) (first second : List ℕ)
-        → ((first ≡ []) ⊎ ((front : List ℕ) × (first ≡ front ++ line_feed ∷ [])))
+        → ((first ≡ []) ⊎ ((prefix : List ℕ) × (first ≡ prefix ++ line_feed ∷ [])))
         → output lines_steps going limit (first ++ second)
         ≡ output lines_steps going limit first
-        ++ output lines_steps (behind lines_steps limit going (whole_lines first)) limit second }
+        ++ output lines_steps (after lines_steps limit going (whole_lines first)) limit second }
     ensures others { (going : Going) (limit : ℕ) (first second : List ℕ)
         → (going.mode ≡ Carry → ⊥) → going.search.given.years ≡ Unknown
-        → ((first ≡ []) ⊎ ((front : List ℕ) × (first ≡ front ++ line_feed ∷ [])))
+        → ((first ≡ []) ⊎ ((prefix : List ℕ) × (first ≡ prefix ++ line_feed ∷ [])))
         → output lines_steps going limit (first ++ second)
         ≡ output lines_steps going limit first ++ output lines_steps going limit second }
     ensures explained { (going : Going) (limit : ℕ) (first second : List ℕ)
         → going.mode ≡ Explain
-        → ((first ≡ []) ⊎ ((front : List ℕ) × (first ≡ front ++ line_feed ∷ [])))
+        → ((first ≡ []) ⊎ ((prefix : List ℕ) × (first ≡ prefix ++ line_feed ∷ [])))
         → output lines_steps going limit (first ++ second)
         ≡ output lines_steps going limit first ++ output lines_steps going limit second }
     ensures carry { (going : Going) (first second line : List ℕ) (others : List (List ℕ))
         (finding : Finding)
         → going.mode ≡ Carry → going.search.given.years ≡ Unknown
-        → ((first ≡ []) ⊎ ((front : List ℕ) × (first ≡ front ++ line_feed ∷ [])))
+        → ((first ≡ []) ⊎ ((prefix : List ℕ) × (first ≡ prefix ++ line_feed ∷ [])))
         → lines second ≡ line ∷ others → date_in going.search line ≡ Some finding
         → output lines_steps going (near going.mode going.search.limit) (first ++ second)
         ≡ output lines_steps going (near going.mode going.search.limit) first

@@ -7,8 +7,8 @@ mod writes;
 
 use crate::date_sources::DateSources;
 use instants_answers::Answer;
-use instants_fronts::Given;
 use instants_lines_words::Mode;
+use instants_prefixes::Given;
 
 /// Writes lines in a mode, by their dates. It keeps the key that a line without a date takes, and
 /// the year of the last date where one is given.

@@ -7,7 +7,7 @@ use instants_timeline::{FaultText, ProgramFault, RunsFault};
 use std::alloc::AllocError;
 use std::fmt;
 
-// The words of the program behind its name.
+// The words of the program after its name.
 const USAGE: &str =
     "instants-lines MODE [TARGET [ASSUMED [LIMIT]]] [year N] [time HH:MM] [label TEXT] SOURCE...";
 

@@ -1,7 +1,7 @@
 //! Where the date of a line is, and by which source, or why it is in doubt.
 ghost use Rattle.std.specs.Prelude.{◌≡◌, ◌<◌, ◌≤◌, ◌+◌, ◌^◌, [], ◌∷◌, ◌++◌, length, true, false, Some, IfSome, OnOk, OnErr};
 ghost use Rattle.std.specs.Io.KnownBytes.{Appends};
-ghost use Rattle.instants_stream.specs.Told.{AppendsFront};
+ghost use Rattle.instants_stream.specs.Known.{AppendsPrefix};
 ghost use Rattle.instants_found.specs.Doubts.{doubt_of};
 ghost use Rattle.instants_found.specs.Within.{IsWithin};
 ghost use Rattle.instants_lines.specs.Dates.{doubt, key_of_date};
@@ -13,7 +13,7 @@ use crate::decimals::{numbered, push_decimal};
 use crate::parts::{write_both, write_three};
 use instants_answers::Answer;
 use instants_found::{Doubt, Doubted, Finding, Found};
-use instants_fronts::Given;
+use instants_prefixes::Given;
 use instants_stream::{ByteWriter, DeviceFailed};
 
 // The bytes from one place up to another: the first and the last, counted from 1.
@@ -34,8 +34,8 @@ fn reason(doubt: Doubt) -> &'static [u8]
     ensures { result.now ≡ reason doubt }
 {
     match doubt {
-        Doubt::Behind => b"goes on",
-        Doubt::ClockInFront => b"clock in front",
+        Doubt::After => b"goes on",
+        Doubt::ClockBefore => b"clock in front",
         Doubt::AnotherOffset => b"another offset",
         Doubt::AnotherTime => b"another time",
         Doubt::AnotherYear => b"another year",
@@ -55,8 +55,8 @@ fn write_read<W: ByteWriter>(
     ensures written { OnOk result
         (Appends (W.held writer.old) (W.held writer.new) (read_text number start end)) }
     ensures ok { OnOk result (W.failed writer.new ≡ W.failed writer.old) }
-    ensures front { OnErr result
-        (AppendsFront (W.held writer.old) (W.held writer.new) (read_text number start end)) }
+    ensures prefix { OnErr result
+        (AppendsPrefix (W.held writer.old) (W.held writer.new) (read_text number start end)) }
     ensures err { OnErr result (W.failed writer.new ≡ true) }
 {
     write_three(
@@ -79,8 +79,8 @@ fn write_doubted<W: ByteWriter>(
     ensures written { OnOk result
         (Appends (W.held writer.old) (W.held writer.new) (doubt_text number (Some one.now))) }
     ensures ok { OnOk result (W.failed writer.new ≡ W.failed writer.old) }
-    ensures front { OnErr result
-        (AppendsFront (W.held writer.old) (W.held writer.new) (doubt_text number (Some one.now))) }
+    ensures prefix { OnErr result
+        (AppendsPrefix (W.held writer.old) (W.held writer.new) (doubt_text number (Some one.now))) }
     ensures err { OnErr result (W.failed writer.new ≡ true) }
 {
     write_read(number, one.start, one.end, writer)?;
@@ -101,7 +101,7 @@ fn write_doubt<W: ByteWriter>(
         (doubt_text number (doubt_of (search_in dates.now given.now).limit given.now
         (search_in dates.now given.now).setting.sources line.now number))) }
     ensures ok { OnOk result (W.failed writer.new ≡ W.failed writer.old) }
-    ensures front { OnErr result (AppendsFront (W.held writer.old) (W.held writer.new)
+    ensures prefix { OnErr result (AppendsPrefix (W.held writer.old) (W.held writer.new)
         (doubt_text number (doubt_of (search_in dates.now given.now).limit given.now
         (search_in dates.now given.now).setting.sources line.now number))) }
     ensures err { OnErr result (W.failed writer.new ≡ true) }
@@ -124,7 +124,7 @@ fn write_doubts<W: ByteWriter>(
         (doubts_of_first (search_in dates.now given.now) line.now
         (length (search_in dates.now given.now).setting.sources))) }
     ensures ok { OnOk result (W.failed writer.new ≡ W.failed writer.old) }
-    ensures front { OnErr result (AppendsFront (W.held writer.old) (W.held writer.new)
+    ensures prefix { OnErr result (AppendsPrefix (W.held writer.old) (W.held writer.new)
         (doubts_of_first (search_in dates.now given.now) line.now
         (length (search_in dates.now given.now).setting.sources))) }
     ensures err { OnErr result (W.failed writer.new ≡ true) }
@@ -150,7 +150,7 @@ fn write_date<W: ByteWriter>(
         (key_of_date (setting_in dates.now) date.now
         ++ read_text date.now.source date.now.start date.now.end)) }
     ensures ok { OnOk result (W.failed writer.new ≡ W.failed writer.old) }
-    ensures front { OnErr result (AppendsFront (W.held writer.old) (W.held writer.new)
+    ensures prefix { OnErr result (AppendsPrefix (W.held writer.old) (W.held writer.new)
         (key_of_date (setting_in dates.now) date.now
         ++ read_text date.now.source date.now.start date.now.end)) }
     ensures err { OnErr result (W.failed writer.new ≡ true) }
@@ -171,7 +171,7 @@ fn write_in_doubt<W: ByteWriter>(
         (doubt ++ doubts_of_first (search_in dates.now given.now) line.now
         (length (search_in dates.now given.now).setting.sources))) }
     ensures ok { OnOk result (W.failed writer.new ≡ W.failed writer.old) }
-    ensures front { OnErr result (AppendsFront (W.held writer.old) (W.held writer.new)
+    ensures prefix { OnErr result (AppendsPrefix (W.held writer.old) (W.held writer.new)
         (doubt ++ doubts_of_first (search_in dates.now given.now) line.now
         (length (search_in dates.now given.now).setting.sources))) }
     ensures err { OnErr result (W.failed writer.new ≡ true) }
@@ -194,7 +194,7 @@ pub(crate) fn write_finding<W: ByteWriter>(
     ensures written { OnOk result (Appends (W.held writer.old) (W.held writer.new)
         (finding_text (search_in dates.now given.now) line.now finding.now)) }
     ensures ok { OnOk result (W.failed writer.new ≡ W.failed writer.old) }
-    ensures front { OnErr result (AppendsFront (W.held writer.old) (W.held writer.new)
+    ensures prefix { OnErr result (AppendsPrefix (W.held writer.old) (W.held writer.new)
         (finding_text (search_in dates.now given.now) line.now finding.now)) }
     ensures err { OnErr result (W.failed writer.new ≡ true) }
 {

@@ -2,13 +2,13 @@
 ghost use Rattle.std.specs.Prelude.{◌≡◌, ◌≤◌, [], ◌∷◌, ◌++◌, length, option_map, true, false, OnOk, OnErr};
 ghost use Rattle.std.specs.Io.KnownBytes.{Appends};
 ghost use Rattle.base.specs.Bytes.{tab, line_feed};
-ghost use Rattle.instants_stream.specs.Told.{AppendsFront};
-ghost use Rattle.instants_lines.specs.Going.{label_front};
+ghost use Rattle.instants_stream.specs.Known.{AppendsPrefix};
+ghost use Rattle.instants_lines.specs.Going.{label_prefix};
 
 use instants_answers::Answer;
 use instants_stream::{ByteWriter, DeviceFailed};
 
-// One byte, in the storage of a front, which is written in fewer instructions than a slice.
+// One byte, in the storage of a prefix, which is written in fewer instructions than a slice.
 static TAB: [u8; 64] = *b"\t                                                               ";
 
 static LINE_FEED: [u8; 64] = *b"\n                                                               ";
@@ -24,8 +24,8 @@ pub(crate) fn write_both<W: ByteWriter>(
     ensures written { OnOk result
         (Appends (W.held writer.old) (W.held writer.new) (first.now ++ second.now)) }
     ensures ok { OnOk result (W.failed writer.new ≡ W.failed writer.old) }
-    ensures front { OnErr result
-        (AppendsFront (W.held writer.old) (W.held writer.new) (first.now ++ second.now)) }
+    ensures prefix { OnErr result
+        (AppendsPrefix (W.held writer.old) (W.held writer.new) (first.now ++ second.now)) }
     ensures err { OnErr result (W.failed writer.new ≡ true) }
 {
     writer.write_all(first)?;
@@ -44,7 +44,7 @@ pub(crate) fn write_three<W: ByteWriter>(
     ensures written { OnOk result (Appends (W.held writer.old) (W.held writer.new)
         (first.now ++ (second.now ++ third.now))) }
     ensures ok { OnOk result (W.failed writer.new ≡ W.failed writer.old) }
-    ensures front { OnErr result (AppendsFront (W.held writer.old) (W.held writer.new)
+    ensures prefix { OnErr result (AppendsPrefix (W.held writer.old) (W.held writer.new)
         (first.now ++ (second.now ++ third.now))) }
     ensures err { OnErr result (W.failed writer.new ≡ true) }
 {
@@ -64,7 +64,7 @@ pub(crate) fn write_parts<W: ByteWriter>(
     ensures written { OnOk result (Appends (W.held writer.old) (W.held writer.new)
         ((first.now ++ (second.now ++ third.now)) ++ line_feed ∷ [])) }
     ensures ok { OnOk result (W.failed writer.new ≡ W.failed writer.old) }
-    ensures front { OnErr result (AppendsFront (W.held writer.old) (W.held writer.new)
+    ensures prefix { OnErr result (AppendsPrefix (W.held writer.old) (W.held writer.new)
         ((first.now ++ (second.now ++ third.now)) ++ line_feed ∷ [])) }
     ensures err { OnErr result (W.failed writer.new ≡ true) }
 {
@@ -79,12 +79,12 @@ fn write_fed<W: ByteWriter>(writer: &mut W, line: &[u8]) -> Result<(), DeviceFai
     ensures written { OnOk result
         (Appends (W.held writer.old) (W.held writer.new) (line.now ++ line_feed ∷ [])) }
     ensures ok { OnOk result (W.failed writer.new ≡ W.failed writer.old) }
-    ensures front { OnErr result
-        (AppendsFront (W.held writer.old) (W.held writer.new) (line.now ++ line_feed ∷ [])) }
+    ensures prefix { OnErr result
+        (AppendsPrefix (W.held writer.old) (W.held writer.new) (line.now ++ line_feed ∷ [])) }
     ensures err { OnErr result (W.failed writer.new ≡ true) }
 {
     writer.write_all(line)?;
-    writer.write_front(&LINE_FEED, 1)
+    writer.write_prefix(&LINE_FEED, 1)
 }
 
 /// Writes a line after its label.
@@ -97,10 +97,10 @@ pub(crate) fn write_labelled<W: ByteWriter>(
 ) -> Result<(), DeviceFailed>
     requires { W.failed writer.old ≡ false }
     ensures written { OnOk result (Appends (W.held writer.old) (W.held writer.new)
-        (label_front (option_map (λ text. text.now) label.entry) ++ line.now)) }
+        (label_prefix (option_map (λ text. text.now) label.entry) ++ line.now)) }
     ensures ok { OnOk result (W.failed writer.new ≡ W.failed writer.old) }
-    ensures front { OnErr result (AppendsFront (W.held writer.old) (W.held writer.new)
-        (label_front (option_map (λ text. text.now) label.entry) ++ line.now)) }
+    ensures prefix { OnErr result (AppendsPrefix (W.held writer.old) (W.held writer.new)
+        (label_prefix (option_map (λ text. text.now) label.entry) ++ line.now)) }
     ensures err { OnErr result (W.failed writer.new ≡ true) }
 {
     match label {
@@ -119,10 +119,10 @@ fn write_labelled_line<W: ByteWriter>(
 ) -> Result<(), DeviceFailed>
     requires { W.failed writer.old ≡ false }
     ensures written { OnOk result (Appends (W.held writer.old) (W.held writer.new)
-        (label_front (option_map (λ text. text.now) label.entry) ++ (line.now ++ line_feed ∷ []))) }
+        (label_prefix (option_map (λ text. text.now) label.entry) ++ (line.now ++ line_feed ∷ []))) }
     ensures ok { OnOk result (W.failed writer.new ≡ W.failed writer.old) }
-    ensures front { OnErr result (AppendsFront (W.held writer.old) (W.held writer.new)
-        (label_front (option_map (λ text. text.now) label.entry) ++ (line.now ++ line_feed ∷ []))) }
+    ensures prefix { OnErr result (AppendsPrefix (W.held writer.old) (W.held writer.new)
+        (label_prefix (option_map (λ text. text.now) label.entry) ++ (line.now ++ line_feed ∷ []))) }
     ensures err { OnErr result (W.failed writer.new ≡ true) }
 {
     match label {
@@ -140,19 +140,19 @@ fn write_tabbed<W: ByteWriter>(
 ) -> Result<(), DeviceFailed>
     requires { W.failed writer.old ≡ false }
     ensures written { OnOk result (Appends (W.held writer.old) (W.held writer.new)
-        (tab ∷ (label_front (option_map (λ text. text.now) label.entry) ++ (line.now ++ line_feed ∷ [])))) }
+        (tab ∷ (label_prefix (option_map (λ text. text.now) label.entry) ++ (line.now ++ line_feed ∷ [])))) }
     ensures ok { OnOk result (W.failed writer.new ≡ W.failed writer.old) }
-    ensures front { OnErr result (AppendsFront (W.held writer.old) (W.held writer.new)
-        (tab ∷ (label_front (option_map (λ text. text.now) label.entry) ++ (line.now ++ line_feed ∷ [])))) }
+    ensures prefix { OnErr result (AppendsPrefix (W.held writer.old) (W.held writer.new)
+        (tab ∷ (label_prefix (option_map (λ text. text.now) label.entry) ++ (line.now ++ line_feed ∷ [])))) }
     ensures err { OnErr result (W.failed writer.new ≡ true) }
 {
-    writer.write_front(&TAB, 1)?;
+    writer.write_prefix(&TAB, 1)?;
     write_labelled_line(writer, label, line)
 }
 
 /// Writes an answer, a tab, a line after its label, and a line feed.
 #[inline(always)]
-pub(crate) fn write_behind<W: ByteWriter>(
+pub(crate) fn write_keyed_by_tab<W: ByteWriter>(
     writer: &mut W,
     answer: &Answer,
     label: Option<&str>,
@@ -161,14 +161,14 @@ pub(crate) fn write_behind<W: ByteWriter>(
     requires works { W.failed writer.old ≡ false }
     requires room { length answer.now ≤ 64 }
     ensures written { OnOk result (Appends (W.held writer.old) (W.held writer.new)
-        ((answer.now ++ tab ∷ (label_front (option_map (λ text. text.now) label.entry) ++ line.now)) ++ line_feed ∷ [])) }
+        ((answer.now ++ tab ∷ (label_prefix (option_map (λ text. text.now) label.entry) ++ line.now)) ++ line_feed ∷ [])) }
     ensures ok { OnOk result (W.failed writer.new ≡ W.failed writer.old) }
-    ensures front { OnErr result (AppendsFront (W.held writer.old) (W.held writer.new)
-        ((answer.now ++ tab ∷ (label_front (option_map (λ text. text.now) label.entry) ++ line.now)) ++ line_feed ∷ [])) }
+    ensures prefix { OnErr result (AppendsPrefix (W.held writer.old) (W.held writer.new)
+        ((answer.now ++ tab ∷ (label_prefix (option_map (λ text. text.now) label.entry) ++ line.now)) ++ line_feed ∷ [])) }
     ensures err { OnErr result (W.failed writer.new ≡ true) }
 {
     let (bytes, len) = answer.padded();
-    writer.write_front(bytes, len)?;
+    writer.write_prefix(bytes, len)?;
     write_tabbed(writer, label, line)
 }
 
@@ -185,7 +185,7 @@ pub(crate) fn tabbed(answer: Answer) -> Answer
 
 /// Writes an answer, a line after its label, and a line feed.
 #[inline(always)]
-pub(crate) fn write_after<W: ByteWriter>(
+pub(crate) fn write_keyed<W: ByteWriter>(
     writer: &mut W,
     answer: &Answer,
     label: Option<&str>,
@@ -194,13 +194,13 @@ pub(crate) fn write_after<W: ByteWriter>(
     requires works { W.failed writer.old ≡ false }
     requires room { length answer.now ≤ 64 }
     ensures written { OnOk result (Appends (W.held writer.old) (W.held writer.new)
-        (answer.now ++ (label_front (option_map (λ text. text.now) label.entry) ++ (line.now ++ line_feed ∷ [])))) }
+        (answer.now ++ (label_prefix (option_map (λ text. text.now) label.entry) ++ (line.now ++ line_feed ∷ [])))) }
     ensures ok { OnOk result (W.failed writer.new ≡ W.failed writer.old) }
-    ensures front { OnErr result (AppendsFront (W.held writer.old) (W.held writer.new)
-        (answer.now ++ (label_front (option_map (λ text. text.now) label.entry) ++ (line.now ++ line_feed ∷ [])))) }
+    ensures prefix { OnErr result (AppendsPrefix (W.held writer.old) (W.held writer.new)
+        (answer.now ++ (label_prefix (option_map (λ text. text.now) label.entry) ++ (line.now ++ line_feed ∷ [])))) }
     ensures err { OnErr result (W.failed writer.new ≡ true) }
 {
     let (bytes, len) = answer.padded();
-    writer.write_front(bytes, len)?;
+    writer.write_prefix(bytes, len)?;
     write_labelled_line(writer, label, line)
 }

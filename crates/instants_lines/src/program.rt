@@ -12,15 +12,15 @@ ghost use Rattle.instants_lines_words.specs.Wrong.{Wrong};
 ghost use Rattle.instants_lines.specs.Asked.{given_by};
 ghost use Rattle.instants_lines.specs.Going.{Going, near};
 ghost use Rattle.instants_lines.specs.Lacking.{lacking_in};
-ghost use Rattle.instants_lines.specs.Program.{AsksFor, IsBeforeRun, IsMemory, IsOfWords, IsToldAs, run_of, writing, wrong_in};
+ghost use Rattle.instants_lines.specs.Program.{AsksFor, IsBeforeRun, IsMemory, IsOfWords, IsReportedAs, run_of, writing, wrong_in};
 ghost use Rattle.instants_lines.specs.declared.lacking.Lacking.{Lacking};
 
 use crate::date_sources::DateSources;
 use crate::line_writer::LineWriter;
 use crate::lines_fault::LinesFault;
 use calendar::UtcOffset;
-use instants_fronts::{Given, Years};
 use instants_lines_words::{Asked, Mode, read_mode_words};
+use instants_prefixes::{Given, Years};
 use instants_stream::write_lines;
 use instants_timeline::{ByteReader, ByteWriter, RunFault, RunsLines, asked_timeline, run_program};
 use std::alloc::Global;
@@ -116,7 +116,7 @@ pub fn run_words<'a, R: ByteReader, W: ByteWriter>(
         → wrong_in result ≡ Some wrong }
     // No others are refused as wrong.
     ensures only_wrong { IfErr result (λ fault. IsOfWords fault
-        → IsToldAs (map (λ word. word.now) words.now) fault) }
+        → IsReportedAs (map (λ word. word.now) words.now) fault) }
     // A source that is no description is refused by its place and its fault; it is the first such one.
     ensures new { (fault : NewFault) → result ≡ Err (LinesFault.Program (ProgramFault.New fault))
         → (asked : Asking) × (said : Words)

@@ -34,8 +34,8 @@ instants-lines guess
     time HH:MM
              the time of day of dates without one, 00:00 to 23:59
     label TEXT
-             in the modes key and carry, what stands behind the key and a tab,
-             with a tab behind it
+             in the modes key and carry, what stands after the key and a tab,
+             with a tab after it
     SOURCE   rfc3339, rfc2822, iso8601, or v1, v2, v3 or strftime with a
              description in the next argument, or a format by its name;
              several are tried in order

@@ -1,5 +1,5 @@
 //! `instants-lines MODE [TARGET [ASSUMED [LIMIT]]] [year N] [time HH:MM] SOURCE...`: reads lines with dates in them from
-//! standard input, and writes each to standard output: behind the date-time at the target offset, or with that in place of
+//! standard input, and writes each to standard output: after the date-time at the target offset, or with that in place of
 //! its date. `instants-lines guess`: writes which formats date the lines of standard input.
 #![tactic(auto)]
 
@@ -33,7 +33,7 @@ fn main(rt: HostRuntime) -> ExitCode {
     }
 }
 
-// The program's name and the words behind it.
+// The program's name and the words after it.
 fn words(rt: &HostRuntime) -> Result<Vec<String>, LinesFault<'static>> {
     let args = env::args(rt).map_err(|_| LinesFault::Program(ProgramFault::Memory))?;
     Ok(args.collect(rt.alloc())?)
@@ -83,7 +83,7 @@ fn write_input(rt: &HostRuntime, words: &Vec<String>) -> ExitCode {
     }
 }
 
-// The same by these words.
+// Writes what these words ask for.
 fn write_by(rt: &HostRuntime, words: &[&str]) -> ExitCode {
     let Ok(block) = vec![in rt.alloc(); 0; BLOCK] else {
         return ended(rt, Err(LinesFault::Program(ProgramFault::Memory)), None);

@@ -3,7 +3,7 @@
 use calendar::UtcOffset;
 use instants::read_words;
 use instants_found::{Doubt, Doubted, Finder, Finding};
-use instants_fronts::{Given, Years};
+use instants_prefixes::{Given, Years};
 use instants_sources::Source;
 use std::alloc::Global;
 use std::process::Abort;
@@ -287,8 +287,8 @@ fn memory_refused(rt: HostRuntime) -> Result<(), Fail> {
 // Why a date is in doubt, by name.
 fn name_of(doubt: Doubt) -> &'static str {
     match doubt {
-        Doubt::Behind => "behind",
-        Doubt::ClockInFront => "clock in front",
+        Doubt::After => "after",
+        Doubt::ClockBefore => "clock in front",
         Doubt::AnotherOffset => "another offset",
         Doubt::AnotherTime => "another time",
         Doubt::AnotherYear => "another year",
@@ -311,7 +311,7 @@ const DOUBTS: [(&str, &str, usize, Option<(usize, usize, &str)>); 8] = [
         "+00:00|-|100|rfc3339",
         "2024-05-01T10:00:00Zulu up",
         0,
-        Some((0, 20, "behind")),
+        Some((0, 20, "after")),
     ),
     (
         "+00:00|-|100|rfc3339",

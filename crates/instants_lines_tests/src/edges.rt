@@ -2,7 +2,7 @@
 
 use calendar::UtcOffset;
 use instants_edges::{
-    blanks, byte_at, has_another_offset, has_another_year, has_clock_beside, has_clock_in_front,
+    blanks, byte_at, has_another_offset, has_another_year, has_clock_before, has_clock_beside,
     is_edge, iso_text, mail_text, may_say, reach, trimmed_length, zone_length,
 };
 
@@ -34,7 +34,7 @@ static BESIDE: [(&[u8], usize, usize, [bool; 4]); 9] = [
     (b"10:00:00+0100", 0, 8, [false; 4]),
 ];
 
-// Bytes, what of them a date of ISO 8601 and one of RFC 2822 may have, and the lengths of the white space at the front, of all
+// Bytes, what of them a date of ISO 8601 and one of RFC 2822 may have, and the lengths of the white space at the start, of all
 // without that at the end, and of the word of a zone.
 static TEXTS: [(&[u8], &[u8], &[u8], [usize; 3]); 5] = [
     (b"", b"", b"", [0; 3]),
@@ -88,7 +88,7 @@ fn beside(line: &[u8], begins: usize, ends: usize) -> Option<[bool; 4]> {
     let hour = UtcOffset::from_hms(1, 0, 0).ok()?;
     Some([
         has_clock_beside(line, begins, ends),
-        has_clock_in_front(line, begins),
+        has_clock_before(line, begins),
         has_another_year(line, begins, ends, 2024),
         has_another_offset(line, ends, Some(hour)),
     ])

@@ -1,4 +1,4 @@
-//! Tests of the crates of `instants-lines`: what stands beside a date, the fronts of sources, dates in lines, the words of the
+//! Tests of the crates of `instants-lines`: what stands beside a date, the prefixes of sources, dates in lines, the words of the
 //! program and its runs.
 #![tactic(auto)]
 
@@ -9,11 +9,11 @@ mod dates_in_lines;
 #[cfg(test)]
 mod edges;
 #[cfg(test)]
-mod fronts;
-#[cfg(test)]
 mod labelled_lines;
 #[cfg(test)]
 mod located_dates;
+#[cfg(test)]
+mod prefixes;
 #[cfg(test)]
 mod trusted_dates;
 #[cfg(test)]

@@ -4,7 +4,7 @@ use crate::dated_lines::{refused, refused_none};
 use instants_lines::LinesFault;
 use std::alloc::Global;
 
-// Words parted by bars, and the sentence behind the name of the program.
+// Words parted by bars, and the sentence after the name of the program.
 static ROWS: [(&str, &str); 74] = [
     (
         "",

@@ -1,5 +1,5 @@
 mod AskedWords
 pub mod Spelling
-pub mod Told
+pub mod Reported
 mod Reading
 pub mod Stays

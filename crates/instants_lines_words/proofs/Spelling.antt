@@ -105,12 +105,12 @@ no_language word format e = no_language_by word format (is_some (language_named 
 
 -- ---- step by step
 
--- a language and what stands behind it stay
+-- a language and what stands after it stay
 pub spelled_language : (word next : List ℕ) (words : List (List ℕ)) → is_some (language_named word) ≡ true → spelled_out (word ∷ next ∷ words) ≡ word ∷ next ∷ spelled_out words
 unfolding spelled_out
 spelled_language word next words is = rw is refl
 
--- any other word is spelled out by itself, and so is a language with nothing behind it
+-- any other word is spelled out by itself, and so is a language with nothing after it
 pub spelled_word : (word : List ℕ) (words : List (List ℕ)) → is_some (language_named word) ≡ false → spelled_out (word ∷ words) ≡ in_place (named_format word) word ++ spelled_out words
 unfolding spelled_out
 spelled_word word [] is = sym (append-nil (in_place (named_format word) word))
@@ -156,18 +156,18 @@ none_of : {A : Type 0} (o : Option A) → is_some o ≡ false → o ≡ None
 none_of None e = refl
 none_of (Some x) e = absurd cc
 
-of_format : (format : Option SourceSaid) (language : Option (List ℕ → SourceSaid)) (behind : List (List ℕ)) → is_some format ≡ true → (said : SourceSaid) × (first_said format language behind ≡ Some (said, behind))
-of_format (Some f) language behind f_is = (f, refl)
-of_format None language behind f_is = absurd cc
+of_format : (format : Option SourceSaid) (language : Option (List ℕ → SourceSaid)) (after : List (List ℕ)) → is_some format ≡ true → (said : SourceSaid) × (first_said format language after ≡ Some (said, after))
+of_format (Some f) language after f_is = (f, refl)
+of_format None language after f_is = absurd cc
 
-of_language : (format : Option SourceSaid) (language : Option (List ℕ → SourceSaid)) (next : List ℕ) (behind : List (List ℕ)) → format ≡ None → is_some language ≡ true → (said : SourceSaid) × (first_said format language (next ∷ behind) ≡ Some (said, behind))
-of_language (Some f) language next behind f_is l_is = absurd cc
-of_language None (Some l) next behind f_is l_is = (l next, refl)
-of_language None None next behind f_is l_is = absurd cc
+of_language : (format : Option SourceSaid) (language : Option (List ℕ → SourceSaid)) (next : List ℕ) (after : List (List ℕ)) → format ≡ None → is_some language ≡ true → (said : SourceSaid) × (first_said format language (next ∷ after) ≡ Some (said, after))
+of_language (Some f) language next after f_is l_is = absurd cc
+of_language None (Some l) next after f_is l_is = (l next, refl)
+of_language None None next after f_is l_is = absurd cc
 
--- what the words say first, and those behind it
+-- what the words say first, and those after it
 abbrev pub SaysFirst : List (List ℕ) → List (List ℕ) → Type 0
-SaysFirst words behind = (said : SourceSaid) × (source_said (spelled_out words) ≡ Some (said, spelled_out behind))
+SaysFirst words after = (said : SourceSaid) × (source_said (spelled_out words) ≡ Some (said, spelled_out after))
 
 pub as_itself : (word : List ℕ) (words : List (List ℕ)) → is_some (language_named word) ≡ false → named_format word ≡ None → spelled_out (word ∷ words) ≡ word ∷ spelled_out words
 as_itself word words no_language no_name = spelled_word word words no_language ∙ ap (λ (o : Option FormatSaid). in_place o word ++ spelled_out words) no_name
@@ -211,14 +211,14 @@ pub no_first_word : (word : List ℕ) (words : List (List ℕ)) → is_some (for
 no_first_word word words no_format no_language no_name =
     ap source_said (as_itself word words no_language no_name) ∙ neither_says (format_named word) (language_named word) (spelled_out words) (none_of (format_named word) no_format) (none_of (language_named word) no_language)
 
--- a language with a description behind it, and what stands behind both
-pub first_two : (word : List ℕ) (behind : List (List ℕ)) → 0 < length behind → is_some (language_named word) ≡ true → SaysFirst (word ∷ behind) (drop 2 (word ∷ behind))
+-- a language with a description after it, and what stands after both
+pub first_two : (word : List ℕ) (after : List (List ℕ)) → 0 < length after → is_some (language_named word) ≡ true → SaysFirst (word ∷ after) (drop 2 (word ∷ after))
 first_two word [] some is = absurd (omega arith)
 first_two word (next ∷ words) some is = first_language word next words is
 
 -- ---- what is wrong with the first word
 
--- a language stands first, whatever is behind it
+-- a language stands first, whatever is after it
 pub language_head : (word : List ℕ) (words : List (List ℕ)) → is_some (language_named word) ≡ true → (rest : List (List ℕ)) × (spelled_out (word ∷ words) ≡ word ∷ rest)
 language_head word [] is = ([], spelled_last word [] refl ∙ ap (λ (o : Option FormatSaid). in_place o word ++ spelled_out []) (language_alone word is).0 ∙ ap (λ (l : List (List ℕ)). word ∷ l) (spelled_none [] refl))
 language_head word (next ∷ words) is = (next ∷ spelled_out words, spelled_language word next words is)

@@ -13,7 +13,7 @@ use Rattle.instants_words.specs.Words.{words_said}
 use Rattle.instants_words.specs.declared.fault.WordsFault.{WordsFault}
 use Rattle.instants_lines_words.specs.Spelled.{spelled_out}
 use Rattle.instants_lines_words.proofs.Spelling.{as_itself, format_alone, spelled_language, spelled_none}
-use Rattle.instants_lines_words.proofs.Told.{by_parts, parts}
+use Rattle.instants_lines_words.proofs.Reported.{by_parts, parts}
 use Rattle.instants_lines_words.specs.Filled.{has_sign_or_digit, is_utc, is_setting, as_offset, target_in, assumed_in, limit_in, sources_in, filled}
 
 signed : (sign : ℕ) (number : Option ℕ) (offset : ℤ) → with_sign sign number ≡ Some offset → (sign == plus || sign == hyphen) ≡ true
@@ -115,13 +115,13 @@ last_format : (place : ℕ) (format : Option SourceSaid) (all : List SourceSaid)
 last_format place (Some format) all e = refl
 last_format place None all e = absurd cc
 
--- a format with sources behind it, or a language with its description and others behind these
-next_source : (place : ℕ) (format : Option SourceSaid) (language : Option (List ℕ → SourceSaid)) (next : List ℕ) (behind behind_description : Result (List SourceSaid) WordsFault) (all : List SourceSaid)
-    → next_said place format language next behind behind_description ≡ Ok all
-    → ((is_some format ≡ true) × ((others : List SourceSaid) × (behind ≡ Ok others))) ⊎ ((is_some language ≡ true) × ((others : List SourceSaid) × (behind_description ≡ Ok others)))
-next_source place (Some format) language next behind behind_description all e = inl (refl, also_ok format behind all e)
-next_source place None (Some language) next behind behind_description all e = inr (refl, also_ok (language next) behind_description all e)
-next_source place None None next behind behind_description all e = absurd cc
+-- a format with sources after it, or a language with its description and others after these
+next_source : (place : ℕ) (format : Option SourceSaid) (language : Option (List ℕ → SourceSaid)) (next : List ℕ) (after after_description : Result (List SourceSaid) WordsFault) (all : List SourceSaid)
+    → next_said place format language next after after_description ≡ Ok all
+    → ((is_some format ≡ true) × ((others : List SourceSaid) × (after ≡ Ok others))) ⊎ ((is_some language ≡ true) × ((others : List SourceSaid) × (after_description ≡ Ok others)))
+next_source place (Some format) language next after after_description all e = inl (refl, also_ok format after all e)
+next_source place None (Some language) next after after_description all e = inr (refl, also_ok (language next) after_description all e)
+next_source place None None next after after_description all e = absurd cc
 
 spelled : (place : ℕ) (sources : List (List ℕ)) (all : List SourceSaid) → sources_said place sources ≡ Ok all → spelled_out sources ≡ sources
 unfolding sources_said

@@ -1,4 +1,4 @@
--- The words behind the mode, with what is taken where some are left out: a target, an assumed offset and a limit, then a year, a time and a label, each behind its name, and then the sources.
+-- The words after the mode, with what is taken where some are left out: a target, an assumed offset and a limit, then a year, a time and a label, each after its name, and then the sources.
 use Rattle.std.specs.Prelude.{ℕ, Bool, false, ◌||◌, ◌==◌, if◌then◌else◌, Option, None, Some, is_some, unwrap_or, List, [], ◌∷◌, codes}
 use Rattle.std.specs.Char.{is_ascii_digit}
 use Rattle.std.specs.Str.{bytes_eq}
@@ -19,14 +19,14 @@ unfoldable pub is_setting : List ℕ → Bool
 is_setting word = has_sign_or_digit word || is_utc word
 
 -- the first word, where it is such a word
-abbrev pub front_setting : List (List ℕ) → Option (List ℕ)
-front_setting [] = None
-front_setting (word ∷ words) = if is_setting word then Some word else None
+abbrev pub prefix_setting : List (List ℕ) → Option (List ℕ)
+prefix_setting [] = None
+prefix_setting (word ∷ words) = if is_setting word then Some word else None
 
--- the words behind it
-abbrev pub behind_setting : List (List ℕ) → List (List ℕ)
-behind_setting [] = []
-behind_setting (word ∷ words) = if is_setting word then words else word ∷ words
+-- the words after it
+abbrev pub after_setting : List (List ℕ) → List (List ℕ)
+after_setting [] = []
+after_setting (word ∷ words) = if is_setting word then words else word ∷ words
 
 -- UTC as an offset
 unfoldable pub as_offset : List ℕ → List ℕ
@@ -34,67 +34,67 @@ as_offset word = if is_utc word then codes "+00:00" else word
 
 -- the target: the first word, or UTC
 unfoldable pub target_in : List (List ℕ) → List ℕ
-target_in words = as_offset (unwrap_or (front_setting words) (codes "+00:00"))
+target_in words = as_offset (unwrap_or (prefix_setting words) (codes "+00:00"))
 
 -- the assumed offset: the second word, or none
 unfoldable pub assumed_in : List (List ℕ) → List ℕ
-assumed_in words = as_offset (unwrap_or (front_setting (behind_setting words)) (codes "-"))
+assumed_in words = as_offset (unwrap_or (prefix_setting (after_setting words)) (codes "-"))
 
 -- the limit: the third word, or the greatest
 unfoldable pub limit_in : List (List ℕ) → List ℕ
-limit_in words = unwrap_or (front_setting (behind_setting (behind_setting words))) (codes "1048576")
+limit_in words = unwrap_or (prefix_setting (after_setting (after_setting words))) (codes "1048576")
 
 -- whether none of the three is left out
 unfoldable pub is_whole : List (List ℕ) → Bool
-is_whole words = is_some (front_setting (behind_setting (behind_setting words)))
+is_whole words = is_some (prefix_setting (after_setting (after_setting words)))
 
--- the words behind these
-abbrev pub behind_settings : List (List ℕ) → List (List ℕ)
-behind_settings words = behind_setting (behind_setting (behind_setting words))
+-- the words after these
+abbrev pub after_settings : List (List ℕ) → List (List ℕ)
+after_settings words = after_setting (after_setting (after_setting words))
 
 -- the first word, where there is one
 abbrev pub first_of : List (List ℕ) → Option (List ℕ)
 first_of [] = None
 first_of (word ∷ words) = Some word
 
--- the words behind it
-abbrev pub behind_first : List (List ℕ) → List (List ℕ)
-behind_first [] = []
-behind_first (word ∷ words) = words
+-- the words after it
+abbrev pub after_first : List (List ℕ) → List (List ℕ)
+after_first [] = []
+after_first (word ∷ words) = words
 
--- the word behind a name, where the first word is this name
-abbrev pub front_named : List ℕ → List (List ℕ) → Option (List ℕ)
-front_named name [] = None
-front_named name (word ∷ words) = if bytes_eq word name then first_of words else None
+-- the word after a name, where the first word is this name
+abbrev pub prefix_named : List ℕ → List (List ℕ) → Option (List ℕ)
+prefix_named name [] = None
+prefix_named name (word ∷ words) = if bytes_eq word name then first_of words else None
 
--- the words behind both
-abbrev pub behind_named : List ℕ → List (List ℕ) → List (List ℕ)
-behind_named name [] = []
-behind_named name (word ∷ words) = if bytes_eq word name then behind_first words else word ∷ words
+-- the words after both
+abbrev pub after_named : List ℕ → List (List ℕ) → List (List ℕ)
+after_named name [] = []
+after_named name (word ∷ words) = if bytes_eq word name then after_first words else word ∷ words
 
--- the year, which stands behind its name
+-- the year, which stands after its name
 unfoldable pub year_in : List (List ℕ) → Option (List ℕ)
-year_in words = front_named (codes "year") (behind_settings words)
+year_in words = prefix_named (codes "year") (after_settings words)
 
--- the words behind it
-abbrev pub behind_year : List (List ℕ) → List (List ℕ)
-behind_year words = behind_named (codes "year") (behind_settings words)
+-- the words after it
+abbrev pub after_year : List (List ℕ) → List (List ℕ)
+after_year words = after_named (codes "year") (after_settings words)
 
--- the time of day, which stands behind its name
+-- the time of day, which stands after its name
 unfoldable pub time_in : List (List ℕ) → Option (List ℕ)
-time_in words = front_named (codes "time") (behind_year words)
+time_in words = prefix_named (codes "time") (after_year words)
 
--- the words behind it
-abbrev pub behind_time : List (List ℕ) → List (List ℕ)
-behind_time words = behind_named (codes "time") (behind_year words)
+-- the words after it
+abbrev pub after_time : List (List ℕ) → List (List ℕ)
+after_time words = after_named (codes "time") (after_year words)
 
--- the label, which stands behind its name
+-- the label, which stands after its name
 unfoldable pub label_in : List (List ℕ) → Option (List ℕ)
-label_in words = front_named (codes "label") (behind_time words)
+label_in words = prefix_named (codes "label") (after_time words)
 
--- the sources: all words behind these, with names of formats spelled out
+-- the sources: all words after these, with names of formats spelled out
 unfoldable pub sources_in : List (List ℕ) → List (List ℕ)
-sources_in words = spelled_out (behind_named (codes "label") (behind_time words))
+sources_in words = spelled_out (after_named (codes "label") (after_time words))
 
 -- all of it, as the words of `instants`
 unfoldable pub filled : List (List ℕ) → List (List ℕ)

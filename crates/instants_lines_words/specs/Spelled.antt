@@ -9,7 +9,7 @@ abbrev pub in_place : Option FormatSaid → List ℕ → List (List ℕ)
 in_place None word = word ∷ []
 in_place (Some format) word = format.language ∷ format.description ∷ []
 
--- the words of sources with the language and the description of each format in place of its name; what stands behind a language is a description
+-- the words of sources with the language and the description of each format in place of its name; what stands after a language is a description
 unfoldable pub spelled_out : List (List ℕ) → List (List ℕ)
 spelled_out [] = []
 spelled_out (word ∷ []) = in_place (named_format word) word

@@ -1,4 +1,4 @@
--- What the words of the program say: a mode, and behind it what the words of `instants` say, of which some may be left out, and before the sources a year, a time and a label.
+-- What the words of the program say: a mode, and after it what the words of `instants` say, of which some may be left out, and before the sources a year, a time and a label.
 use Rattle.std.specs.Prelude.{ℕ, ◌+◌, ◌*◌, ◌==◌, ◌||◌, ◌&&◌, not, Bool, true, false, List, [], ◌∷◌, Option, None, Some, option_map, Result, Ok, Err, if◌then◌else◌, ℤ, pos}
 use Rattle.std.specs.List.{list_all}
 use Rattle.base.specs.Bytes.{colon, tab, line_feed}
@@ -25,11 +25,11 @@ abbrev pub last_wrong : Option SourceSaid → Wrong → Wrong
 last_wrong (Some format) wrong = NoSource
 last_wrong None wrong = wrong
 
--- a word names a format, or a language with its description, and something else is wrong behind; or this is wrong
+-- a word names a format, or a language with its description, and something else is wrong after; or this is wrong
 abbrev pub next_wrong : Option SourceSaid → Option (List ℕ → SourceSaid) → Wrong → Wrong → Wrong → Wrong
-next_wrong (Some format) language wrong behind behind_description = behind
-next_wrong None (Some language) wrong behind behind_description = behind_description
-next_wrong None None wrong behind behind_description = wrong
+next_wrong (Some format) language wrong after after_description = after
+next_wrong None (Some language) wrong after after_description = after_description
+next_wrong None None wrong after after_description = wrong
 
 -- the first of the sources that is wrong, where one is; the first of them is in this place
 unfoldable pub wrong_source : ℕ → List (List ℕ) → Wrong
@@ -44,13 +44,13 @@ first_wrong false wrong = wrong
 first_wrong true wrong = wrong
 
 -- a fault of a target, an assumed offset, a limit and sources, with the word that is wrong; this is what is wrong with the sources
-abbrev pub told : List ℕ → List ℕ → List ℕ → Wrong → WordsFault → Wrong
-told target assumed limit wrong words.Usage = NoSource
-told target assumed limit wrong words.Target = Target target
-told target assumed limit wrong words.Assumed = Assumed assumed
-told target assumed limit wrong words.Limit = Limit limit
-told target assumed limit wrong (words.Source place) = wrong
-told target assumed limit wrong words.Memory = NoSource
+abbrev pub reported : List ℕ → List ℕ → List ℕ → Wrong → WordsFault → Wrong
+reported target assumed limit wrong words.Usage = NoSource
+reported target assumed limit wrong words.Target = Target target
+reported target assumed limit wrong words.Assumed = Assumed assumed
+reported target assumed limit wrong words.Limit = Limit limit
+reported target assumed limit wrong (words.Source place) = wrong
+reported target assumed limit wrong words.Memory = NoSource
 
 -- the hours and minutes of a clock, in minutes
 abbrev pub clock_minutes : Option ℕ → Option ℕ → Option ℕ
@@ -87,7 +87,7 @@ time_read (Some word) = or_wrong (time_said word) (Time word)
 abbrev pub is_field : List ℕ → Bool
 is_field bytes = list_all (λ byte. not (byte == tab || byte == line_feed)) bytes
 
--- in these modes a label stands behind the key
+-- in these modes a label stands after the key
 abbrev pub has_label : Mode → Bool
 has_label Key = true
 has_label Carry = true
@@ -109,30 +109,30 @@ asked_by mode (Ok year) (Ok time) (Err wrong) = Err wrong
 asked_by mode (Ok year) (Err wrong) label = Err wrong
 asked_by mode (Err wrong) time label = Err wrong
 
--- what the words behind the mode ask
+-- what the words after the mode ask
 unfoldable pub asked_said : Mode → List (List ℕ) → Result Asking Wrong
 asked_said mode others = asked_by mode (year_read (year_in others)) (time_read (time_in others)) (label_read mode (label_in others))
 
 -- what is wrong first where sources are: what is asked, or the first source that is wrong
-abbrev pub wrong_behind : Result Asking Wrong → Wrong → Wrong
-wrong_behind (Ok asked) wrong = wrong
-wrong_behind (Err wrong_asked) wrong = wrong_asked
+abbrev pub wrong_after : Result Asking Wrong → Wrong → Wrong
+wrong_after (Ok asked) wrong = wrong
+wrong_after (Err wrong_asked) wrong = wrong_asked
 
--- a fault of the words behind the mode
-unfoldable pub told_behind : List (List ℕ) → Result Asking Wrong → WordsFault → Wrong
-told_behind others asked fault =
-    told (target_in others) (assumed_in others) (limit_in others) (wrong_behind asked (first_wrong (is_whole others) (wrong_source 1 (sources_in others)))) fault
+-- a fault of the words after the mode
+unfoldable pub reported_after : List (List ℕ) → Result Asking Wrong → WordsFault → Wrong
+reported_after others asked fault =
+    reported (target_in others) (assumed_in others) (limit_in others) (wrong_after asked (first_wrong (is_whole others) (wrong_source 1 (sources_in others)))) fault
 
 abbrev pub asked_and_words : List (List ℕ) → Result Asking Wrong → Result Words WordsFault → Result (Asking × Words) Wrong
 asked_and_words others (Ok asked) (Ok said) = Ok (asked, said)
 asked_and_words others (Err wrong) (Ok said) = Err wrong
-asked_and_words others asked (Err fault) = Err (told_behind others asked fault)
+asked_and_words others asked (Err fault) = Err (reported_after others asked fault)
 
 abbrev pub with_mode : Option Mode → List ℕ → List (List ℕ) → Result (Asking × Words) Wrong
 with_mode None word others = Err (UnknownMode word)
 with_mode (Some mode) word others = asked_and_words others (asked_said mode others) (words_said (filled others))
 
--- the mode and the words behind it, or the first thing wrong with them
+-- the mode and the words after it, or the first thing wrong with them
 unfoldable pub mode_words_said : List (List ℕ) → Result (Asking × Words) Wrong
 mode_words_said [] = Err NoMode
 mode_words_said (word ∷ others) = with_mode (mode_said word) word others

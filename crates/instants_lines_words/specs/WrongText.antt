@@ -1,4 +1,4 @@
--- The sentence for what is wrong with words, behind the name of the program.
+-- The sentence for what is wrong with words, after the name of the program.
 use Rattle.std.specs.Prelude.{ℕ, Bool, false, ◌||◌, ◌==◌, if◌then◌else◌, List, [], ◌∷◌, ◌++◌, codes}
 use Rattle.std.specs.Fmt.{decimal}
 use Rattle.std.specs.List.{list_any}
@@ -6,13 +6,13 @@ use Rattle.base.specs.Bytes.{dot}
 use Rattle.instants_lines_words.specs.Wrong.{Wrong, NoMode, UnknownMode, NoSource, Target, Assumed, Limit, Year, Time, Label, Source, FirstSource, NoDescription}
 
 -- a word begins with a slash
-abbrev pub has_slash_in_front : List ℕ → Bool
-has_slash_in_front [] = false
-has_slash_in_front (first ∷ rest) = first == 47
+abbrev pub has_slash_before : List ℕ → Bool
+has_slash_before [] = false
+has_slash_before (first ∷ rest) = first == 47
 
--- a word looks like the name of a file: it has a dot, or a slash in front
+-- a word looks like the name of a file: it has a dot, or a slash before
 unfoldable pub is_file_name : List ℕ → Bool
-is_file_name word = list_any (λ b. b == dot) word || has_slash_in_front word
+is_file_name word = list_any (λ b. b == dot) word || has_slash_before word
 
 -- what is said of a word that is no source
 abbrev pub no_such_source : List ℕ → List ℕ
@@ -26,7 +26,7 @@ no_such_first_source word =
     if is_file_name word then codes "no such source; files are read from standard input: instants-lines .. < FILE"
     else codes "no such source; there are rfc3339, rfc2822, iso8601, v1, v2, v3, strftime, and the names of --help; an offset before the sources is +HH:MM, -HH:MM, Z or UTC"
 
--- the sentence for what is wrong with words, behind the name of the program
+-- the sentence for what is wrong with words, after the name of the program
 abbrev pub wrong_text : Wrong → List ℕ
 wrong_text NoMode = codes "usage: instants-lines MODE [TARGET [ASSUMED [LIMIT]]] [year N] [time HH:MM] [label TEXT] SOURCE..."
 wrong_text (UnknownMode word) = codes "\"" ++ (word ++ codes "\": no such mode; there are key, carry, replace, explain, locate")

@@ -75,7 +75,7 @@ fn read_time(word: Option<&str>) -> Result<Option<u16>, WrongWords<'_>>
     }
 }
 
-// Whether a label stands behind the keys of a mode.
+// Whether a label stands after the keys of a mode.
 fn has_label(mode: Mode) -> bool
     ensures { result ≡ has_label mode }
 {

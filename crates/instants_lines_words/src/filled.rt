@@ -1,6 +1,6 @@
-//! The words behind the mode, of which some may be left out.
+//! The words after the mode, of which some may be left out.
 ghost use Rattle.std.specs.Prelude.{◌≡◌, ◌∷◌, map, option_map, IfOk};
-ghost use Rattle.instants_lines_words.specs.Filled.{assumed_in, as_offset, behind_named, behind_setting, filled, front_named, front_setting, has_sign_or_digit, is_setting, is_utc, is_whole, label_in, limit_in, sources_in, target_in, time_in, year_in};
+ghost use Rattle.instants_lines_words.specs.Filled.{assumed_in, as_offset, after_named, after_setting, filled, prefix_named, prefix_setting, has_sign_or_digit, is_setting, is_utc, is_whole, label_in, limit_in, sources_in, target_in, time_in, year_in};
 ghost use Rattle.instants_lines_words.specs.Spelled.{spelled_out};
 
 use crate::spelled::spell_out;
@@ -56,18 +56,18 @@ fn is_setting(word: &str) -> bool
     has_sign_or_digit(word) || is_utc(word)
 }
 
-// The first word, where it is such a word, and those behind it.
-fn front_setting<'a, 'b>(words: &'b [&'a str]) -> (Option<&'a str>, &'b [&'a str])
-    ensures front { option_map (λ word. word.now) result.0
-        ≡ front_setting (map (λ word. word.now) words.now) }
-    ensures behind { map (λ word. word.now) result.1.now
-        ≡ behind_setting (map (λ word. word.now) words.now) }
+// The first word, where it is such a word, and those after it.
+fn prefix_setting<'a, 'b>(words: &'b [&'a str]) -> (Option<&'a str>, &'b [&'a str])
+    ensures prefix { option_map (λ word. word.now) result.0
+        ≡ prefix_setting (map (λ word. word.now) words.now) }
+    ensures after { map (λ word. word.now) result.1.now
+        ≡ after_setting (map (λ word. word.now) words.now) }
 {
-    let Some((word, behind)) = words.split_first() else {
+    let Some((word, after)) = words.split_first() else {
         return (None, words);
     };
     if is_setting(word) {
-        (Some(word), behind)
+        (Some(word), after)
     } else {
         (None, words)
     }
@@ -81,26 +81,26 @@ fn as_offset(word: &str) -> &str
     if is_utc(word) { TARGET } else { word }
 }
 
-// The word behind a name that the words begin with, and those behind it.
-fn front_named<'a, 'b>(name: &str, words: &'b [&'a str]) -> (Option<&'a str>, &'b [&'a str])
-    ensures front { option_map (λ word. word.now) result.0
-        ≡ front_named name.now (map (λ word. word.now) words.now) }
-    ensures behind { map (λ word. word.now) result.1.now
-        ≡ behind_named name.now (map (λ word. word.now) words.now) }
+// The word after a name that the words begin with, and those after it.
+fn prefix_named<'a, 'b>(name: &str, words: &'b [&'a str]) -> (Option<&'a str>, &'b [&'a str])
+    ensures prefix { option_map (λ word. word.now) result.0
+        ≡ prefix_named name.now (map (λ word. word.now) words.now) }
+    ensures after { map (λ word. word.now) result.1.now
+        ≡ after_named name.now (map (λ word. word.now) words.now) }
 {
-    let Some((word, behind)) = words.split_first() else {
+    let Some((word, after)) = words.split_first() else {
         return (None, words);
     };
     if *word != name {
         return (None, words);
     }
-    match behind.split_first() {
+    match after.split_first() {
         Some((said, others)) => (Some(said), others),
-        None => (None, behind),
+        None => (None, after),
     }
 }
 
-/// Parts the words behind the mode.
+/// Parts the words after the mode.
 #[tactic(auto, unfolding(crate::specs::Filled::target_in, crate::specs::Filled::assumed_in, crate::specs::Filled::limit_in, crate::specs::Filled::is_whole, crate::specs::Filled::year_in, crate::specs::Filled::time_in, crate::specs::Filled::label_in, crate::specs::Filled::sources_in))]
 pub fn part<'a, 'b>(words: &'b [&'a str]) -> Parted<'a, 'b>
     ensures target { result.target.now ≡ target_in (map (λ word. word.now) words.now) }
@@ -116,12 +116,12 @@ pub fn part<'a, 'b>(words: &'b [&'a str]) -> Parted<'a, 'b>
     ensures sources { spelled_out (map (λ word. word.now) result.sources.now)
         ≡ sources_in (map (λ word. word.now) words.now) }
 {
-    let (target, behind_target) = front_setting(words);
-    let (assumed, behind_assumed) = front_setting(behind_target);
-    let (limit, behind_limit) = front_setting(behind_assumed);
-    let (year, behind_year) = front_named("year", behind_limit);
-    let (time, behind_time) = front_named("time", behind_year);
-    let (label, sources) = front_named("label", behind_time);
+    let (target, after_target) = prefix_setting(words);
+    let (assumed, after_assumed) = prefix_setting(after_target);
+    let (limit, after_limit) = prefix_setting(after_assumed);
+    let (year, after_year) = prefix_named("year", after_limit);
+    let (time, after_time) = prefix_named("time", after_year);
+    let (label, sources) = prefix_named("label", after_time);
     Parted {
         target: as_offset(target.unwrap_or(TARGET)),
         assumed: as_offset(assumed.unwrap_or(ASSUMED)),

@@ -6,7 +6,7 @@
 //! ```
 //!
 //! - `Asked` is the mode, what is given for dates that lack it, and the label.
-//! - `read_mode_words` gives it with the words of `instants` behind it: those that are left out are filled in, and names of
+//! - `read_mode_words` gives it with the words of `instants` after it: those that are left out are filled in, and names of
 //!   formats are spelled out.
 //! - `WrongWords` says what is wrong.
 #![tactic(auto)]

@@ -18,19 +18,19 @@ fn push_word<'a>(word: &'a str, words: &mut Vec<&'a str>) -> Result<(), AllocErr
     }
 }
 
-// Adds the words of the first source, and gives how many of those behind its first one say it too.
+// Adds the words of the first source, and gives how many of those after its first one say it too.
 fn spell_first<'a>(
     word: &'a str,
-    behind: &[&'a str],
+    after: &[&'a str],
     words: &mut Vec<&'a str>,
 ) -> Result<usize, AllocError>
-    ensures within { IfOk result (λ count. count ≤ length behind.now) }
+    ensures within { IfOk result (λ count. count ≤ length after.now) }
     ensures spelled { IfOk result (λ count. map (λ word. word.now) words.new.items
-        ++ spelled_out (drop count (map (λ word. word.now) behind.now))
+        ++ spelled_out (drop count (map (λ word. word.now) after.now))
         ≡ map (λ word. word.now) words.old.items
-        ++ spelled_out (word.now ∷ map (λ word. word.now) behind.now)) }
+        ++ spelled_out (word.now ∷ map (λ word. word.now) after.now)) }
 {
-    match behind.split_first() {
+    match after.split_first() {
         Some((description, _)) if is_language(word) => {
             words.extend_from_slice(&[word, *description])?;
             Ok(1)
@@ -49,8 +49,8 @@ pub fn spell_out<'a>(sources: &[&'a str], words: &mut Vec<&'a str>) -> Result<()
         ++ spelled_out (map (λ word. word.now) sources.now)) }
 {
     let mut at = 0;
-    while let Some((word, behind)) = sources[at..].split_first() {
-        at += 1 + spell_first(word, behind, words)?;
+    while let Some((word, after)) = sources[at..].split_first() {
+        at += 1 + spell_first(word, after, words)?;
     }
     Ok(())
 }

@@ -5,7 +5,7 @@ ghost use Rattle.instants_words.specs.declared.words.Words.{Words};
 ghost use Rattle.instants_lines_words.specs.Asked.{asking_of};
 ghost use Rattle.instants_lines_words.specs.Read.{IsRefusedAs};
 ghost use Rattle.instants_lines_words.specs.Spelled.{spelled_out};
-ghost use Rattle.instants_lines_words.specs.Words.{first_wrong, mode_words_said, told};
+ghost use Rattle.instants_lines_words.specs.Words.{first_wrong, mode_words_said, reported};
 ghost use Rattle.instants_lines_words.specs.Wrong.{NoSource, Wrong, wrong_of};
 
 use crate::asked::Asked;
@@ -18,7 +18,7 @@ use crate::wrong_words::WrongWords;
 use instants_words::{WordsFault, read_words};
 use std::alloc::Global;
 
-// The fault of the words before the sources. The source behind them here is a known one, and `read_words` looks at all words
+// The fault of the words before the sources. The source after them here is a known one, and `read_words` looks at all words
 // before it takes memory.
 fn setting_fault(alloc: Global, parted: &Parted<'_, '_>) -> Option<WordsFault>
     ensures some { IfSome result (λ fault. words_said (parted.now.target.now
@@ -38,8 +38,8 @@ fn setting_fault(alloc: Global, parted: &Parted<'_, '_>) -> Option<WordsFault>
 }
 
 // What is wrong by a fault of the words before the sources.
-fn told_setting<'a>(parted: &Parted<'a, '_>, fault: WordsFault) -> WrongWords<'a>
-    ensures { wrong_of result ≡ told parted.now.target.now parted.now.assumed.now
+fn reported_setting<'a>(parted: &Parted<'a, '_>, fault: WordsFault) -> WrongWords<'a>
+    ensures { wrong_of result ≡ reported parted.now.target.now parted.now.assumed.now
         parted.now.limit.now NoSource fault }
 {
     match fault {
@@ -65,8 +65,8 @@ fn wrong_before<'a>(alloc: Global, parted: &Parted<'a, '_>) -> Option<WrongWords
     ensures some { IfSome result (λ wrong. (fault : WordsFault)
         × (words_said (parted.now.target.now ∷ parted.now.assumed.now ∷ parted.now.limit.now
         ∷ spelled_out (map (λ word. word.now) parted.now.sources.now)) ≡ Err fault)
-        × ((behind : Wrong) → wrong_of wrong ≡ told parted.now.target.now
-        parted.now.assumed.now parted.now.limit.now behind fault)) }
+        × ((after : Wrong) → wrong_of wrong ≡ reported parted.now.target.now
+        parted.now.assumed.now parted.now.limit.now after fault)) }
     ensures none { IfNone result
         ((0 < length (spelled_out (map (λ word. word.now) parted.now.sources.now)))
         × IsOk (words_said (parted.now.target.now ∷ parted.now.assumed.now
@@ -76,7 +76,7 @@ fn wrong_before<'a>(alloc: Global, parted: &Parted<'a, '_>) -> Option<WrongWords
         return Some(WrongWords::NoSource);
     }
     match setting_fault(alloc, parted) {
-        Some(fault) => Some(told_setting(parted, fault)),
+        Some(fault) => Some(reported_setting(parted, fault)),
         None => None,
     }
 }

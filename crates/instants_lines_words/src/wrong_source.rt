@@ -33,20 +33,20 @@ fn source_len(words: &[&str]) -> usize
     ensures none { result ≡ 0
         → source_said (spelled_out (map (λ word. word.now) words.now)) ≡ None }
 {
-    let Some((name, behind)) = words.split_first() else {
+    let Some((name, after)) = words.split_first() else {
         return 0;
     };
     if is_format(name) || format_named(name).is_some() {
         return 1;
     }
-    if is_language(name) && !behind.is_empty() {
+    if is_language(name) && !after.is_empty() {
         return 2;
     }
     0
 }
 
 // What is wrong with the words where the first of them says no source.
-fn told_of<'a>(place: usize, words: &[&'a str]) -> WrongWords<'a>
+fn reported_of<'a>(place: usize, words: &[&'a str]) -> WrongWords<'a>
     requires { source_said (spelled_out (map (λ word. word.now) words.now)) ≡ None }
     ensures { wrong_of result ≡ wrong_source place (spelled_out (map (λ word. word.now) words.now)) }
 {
@@ -78,7 +78,7 @@ pub fn wrong_source<'a>(words: &[&'a str]) -> Option<WrongWords<'a>>
         count += 1;
         let taken = source_len(&words[at..]);
         if taken == 0 {
-            return Some(told_of(count, &words[at..]));
+            return Some(reported_of(count, &words[at..]));
         }
         at += taken;
     }

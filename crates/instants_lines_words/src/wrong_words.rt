@@ -4,14 +4,14 @@ ghost use Rattle.instants_lines_words.specs.WrongText.{is_file_name, no_such_fir
 
 use std::fmt;
 
-/// The first thing that is wrong with the words. `Display` gives the sentence behind the program's name, without a line feed.
+/// The first thing that is wrong with the words. `Display` gives the sentence after the program's name, without a line feed.
 #[derive(Clone, Copy, Debug, PartialEq, Eq)]
 pub enum WrongWords<'a> {
     /// There are none.
     NoMode,
     /// The first is no mode.
     UnknownMode(&'a str),
-    /// No source stands behind the mode, the offsets and the limit.
+    /// No source stands after the mode, the offsets and the limit.
     NoSource,
     /// The target is no offset.
     Target(&'a str),

@@ -35,11 +35,11 @@ unfolding lines
 last_line [] free some = absurd (omega arith)
 last_line (b ∷ line) free some = rw (whole_lines-piece [] (b ∷ line) free, last_part-piece [] (b ∷ line) free, whole_lines_none, last_part_of_none) refl
 
--- the first line, and those of the bytes behind its line feed
+-- the first line, and those of the bytes after its line feed
 pub next_line : (bytes : List ℕ) (len : ℕ) → HasNoLineFeed (take len bytes) → len < length bytes → get_or bytes len 0 ≡ 10 → lines bytes ≡ take len bytes ∷ lines (drop (len + 1) bytes)
 next_line bytes len free within line_feed =
-    let front : take (len + 1) bytes ≡ take len bytes ++ 10 ∷ [] = take_more bytes len 0 within ∙ ap (λ (b : ℕ). take len bytes ++ b ∷ []) line_feed in
-    let whole : bytes ≡ (take len bytes ++ 10 ∷ []) ++ drop (len + 1) bytes = sym (take-append-drop (len + 1) bytes) ∙ ap (λ (l : List ℕ). l ++ drop (len + 1) bytes) front in
+    let prefix : take (len + 1) bytes ≡ take len bytes ++ 10 ∷ [] = take_more bytes len 0 within ∙ ap (λ (b : ℕ). take len bytes ++ b ∷ []) line_feed in
+    let whole : bytes ≡ (take len bytes ++ 10 ∷ []) ++ drop (len + 1) bytes = sym (take-append-drop (len + 1) bytes) ∙ ap (λ (l : List ℕ). l ++ drop (len + 1) bytes) prefix in
     ap lines whole
     ∙ lines-append (take len bytes ++ 10 ∷ []) (drop (len + 1) bytes) (last_part-line [] (take len bytes) free)
     ∙ ap (λ (l : List (List ℕ)). l ++ lines (drop (len + 1) bytes)) (one_line (take len bytes) free)

@@ -10,10 +10,10 @@ ghost use Rattle.instants_memory.specs.OutputFor.{IsOutputFor};
 use instants_timeline::{ProgramFault, RunFault, Timeline, TooLittleRoom, read_words, run_over};
 use std::alloc::Global;
 
-/// Room that always suffices for a line's answer and the line feed behind it.
+/// Room that always suffices for a line's answer and the line feed after it.
 pub const LINE_ROOM: usize = 36;
 
-/// Answers each line of the input as the program's words say, each answer followed by a line feed, into the front of the
+/// Answers each line of the input as the program's words say, each answer followed by a line feed, into the start of the
 /// output. How many bytes the answers have.
 ///
 /// The words are those of `run_words`: `TARGET ASSUMED LIMIT SOURCE...`. Where the answers are longer than the output, its
@@ -24,7 +24,7 @@ pub fn answer_lines<'a>(
     input: &[u8],
     output: &mut [u8],
 ) -> Result<usize, ProgramFault<'a>>
-    // Exactly the output that the words ask for is written, and what lies behind it stays.
+    // Exactly the output that the words ask for is written, and what lies after it stays.
     ensures ok { IfOk result (λ len. (bytes : List ℕ)
         × IsOutputFor (map (λ word. word.now) words.now) input.now bytes
         × (len ≡ length bytes) × (output.new ≡ bytes ++ drop len output.old)) }

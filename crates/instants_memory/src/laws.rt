@@ -14,7 +14,7 @@ ghost use Rattle.instants_memory.specs.Printed.{HasNumber, entry_line};
 
 use crate::answers::LINE_ROOM;
 
-/// The room that always suffices for a line's answer and the line feed behind it: `2021-01-02T03:04:05.000000000+01:00` has 35
+/// The room that always suffices for a line's answer and the line feed after it: `2021-01-02T03:04:05.000000000+01:00` has 35
 /// bytes.
 pub fn line_room() -> usize
     ensures { result ≡ 36 }
@@ -28,11 +28,11 @@ pub fn one_output()
         → IsOutputFor words input one → IsOutputFor words input other → one ≡ other }
 {}
 
-/// Where a block is empty or ends in a line feed, its output and that of the bytes behind it, one after the other, are the
+/// Where a block is empty or ends in a line feed, its output and that of the bytes after it, one after the other, are the
 /// output of both together.
 pub fn joined_blocks()
     ensures { (words : List (List ℕ)) (first second one other : List ℕ)
-        → ((first ≡ []) ⊎ ((front : List ℕ) × (first ≡ front ++ line_feed ∷ [])))
+        → ((first ≡ []) ⊎ ((prefix : List ℕ) × (first ≡ prefix ++ line_feed ∷ [])))
         → IsOutputFor words first one → IsOutputFor words second other
         → IsOutputFor words (first ++ second) (one ++ other) }
 {}

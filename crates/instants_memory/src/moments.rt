@@ -76,7 +76,7 @@ fn first_line_feed(bytes: &[u8]) -> Option<usize>
     bytes.iter().position(|byte| *byte == LINE_FEED)
 }
 
-// The first line of an input, and the bytes behind it and its line feed.
+// The first line of an input, and the bytes after it and its line feed.
 #[inline(always)]
 fn first_line(input: &[u8]) -> (&[u8], &[u8])
     requires { 0 < length input.now }
@@ -89,7 +89,7 @@ fn first_line(input: &[u8]) -> (&[u8], &[u8])
     }
 }
 
-/// Writes what each line of the input names into the front of the room, one entry a line. How many lines there are.
+/// Writes what each line of the input names into the start of the room, one entry a line. How many lines there are.
 ///
 /// Lines end in LF; a nonempty last part is a line too. A line that is longer than the limit has the fault of that. The lines
 /// are read where they lie, and no memory is taken.
@@ -101,7 +101,7 @@ pub fn moments_over(
     input: &[u8],
     room: &mut [Moment],
 ) -> Result<usize, TooLittleRoom>
-    // Exactly the entries of the lines are written, and what lies behind them stays.
+    // Exactly the entries of the lines are written, and what lies after them stays.
     ensures len { IfOk result (λ len. len ≡ length (lines input.now)) }
     ensures written { IfOk result (λ len. room.new
         ≡ map (entry_of (setting_of timeline.now) limit) (lines input.now) ++ drop len room.old) }
@@ -116,10 +116,10 @@ pub fn moments_over(
         if count == room.len() {
             return Err(TooLittleRoom);
         }
-        let (line, behind) = first_line(rest);
+        let (line, after) = first_line(rest);
         room[count] = line_numbers(timeline, limit, line);
         count += 1;
-        rest = behind;
+        rest = after;
     }
     Ok(count)
 }

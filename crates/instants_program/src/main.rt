@@ -39,7 +39,7 @@ fn shown(rt: &HostRuntime, text: &str) -> ExitCode {
     }
 }
 
-// The program's name and the words behind it.
+// The program's name and the words after it.
 fn words(rt: &HostRuntime) -> Result<Vec<String>, ProgramFault<'static>> {
     let args = env::args(rt).map_err(|_| ProgramFault::Memory)?;
     Ok(args.collect(rt.alloc())?)

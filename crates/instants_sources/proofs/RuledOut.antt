@@ -26,7 +26,7 @@ use Rattle.parsing_rfc2822.specs.Names.{weekday, weekday_of}
 use Rattle.parsing_rfc2822.specs.Direct as rfc2822_direct
 use Rattle.parsing_rfc2822.proofs.WhiteSpaceLemmas.{none_at, none_of_nothing}
 
--- ---- RFC 3339: a hyphen is due behind four digits
+-- ---- RFC 3339: a hyphen is due after four digits
 
 no_byte : (wanted : ℕ) (bytes : List ℕ) (n : ℕ) → eqb (get_or bytes n 0) wanted ≡ false → byte wanted (drop n bytes) ≡ None
 unfolding skip_of
@@ -55,7 +55,7 @@ short_get (c ∷ rest) (suc n) h = short_get rest n (omega (arith, h))
 pub five_due : (bytes : List ℕ) → length bytes ≤ 4 → result_ok (rfc3339_direct.direct bytes) ≡ None
 five_due bytes h = hyphen_due bytes (rw (short_get bytes 4 h) refl)
 
--- ---- RFC 2822: white space or a comment is due behind two digits
+-- ---- RFC 2822: white space or a comment is due after two digits
 
 digit_bounds : (c : ℕ) → is_ascii_digit c ≡ true → (48 ≤ c) × (c ≤ 57)
 digit_bounds c h = let d = digit_here c h in (omega (arith, d.0), omega (arith, d.1))
@@ -126,7 +126,7 @@ space_due_of_one [] le hc hd h = absurd (omega (arith, le))
 space_due_of_one (c ∷ []) le hc hd h = absurd (omega (arith, le))
 space_due_of_one (c ∷ d ∷ rest) le hc hd h = rw (one_day_read c d rest hc hd, month_refused d rest h) refl
 
--- ---- a first byte behind the digits begins no number
+-- ---- a first byte after the digits begins no number
 
 no_digit : (c : ℕ) → 57 < c → is_ascii_digit c ≡ false
 no_digit c h = elim (is_ascii_digit c) as (λ b. is_ascii_digit c ≡ b → is_ascii_digit c ≡ false) [
@@ -134,7 +134,7 @@ no_digit c h = elim (is_ascii_digit c) as (λ b. is_ascii_digit c ≡ b → is_a
   | false ↦ λ t. t
 ] refl
 
--- RFC 2822: a comma is due behind a weekday, and a number where none stands
+-- RFC 2822: a comma is due after a weekday, and a number where none stands
 
 no_day : (c : ℕ) (rest : List ℕ) → 57 < c → byte rfc2822.comma (drop 3 (c ∷ rest)) ≡ None → (fault : Fault) × (rfc2822.day false (c ∷ rest) ≡ Err fault)
 unfolding rfc2822.day rfc2822.optional_weekday rfc2822.named_day rfc2822.one_or_two_digits digits weekday

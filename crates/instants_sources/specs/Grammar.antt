@@ -66,7 +66,7 @@ TakesMemory said.Rfc3339 = ⊥
 TakesMemory said.Iso8601 = ⊥
 TakesMemory _ = ⊤
 
--- a refusal names the fault of what is said, or want of memory
+-- a refusal names the fault of what is said, or lack of memory
 abbrev pub IsRefused : SourceSaid → DescriptionFault → Type 0
 IsRefused said (refused.Description fault) = IsFaulty said (fault_of fault)
 IsRefused said refused.Memory = TakesMemory said

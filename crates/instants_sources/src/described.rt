@@ -9,7 +9,7 @@ ghost use Rattle.parsing_first_bytes.specs.FirstBounds.{AreBoundsOf, ReadsNoneWh
 ghost use Rattle.parsing_first_bytes.specs.FirstBytes.{AreOf, IsRefusedAt};
 ghost use Rattle.parsing_combinator.specs.Tame.{EndsWith};
 ghost use Rattle.parsing_fields.specs.Moment.{moment_of};
-ghost use Rattle.parsing_plan.specs.Plan.{IsPlanOf, NamesFront};
+ghost use Rattle.parsing_plan.specs.Plan.{IsPlanOf, NamesPrefix};
 ghost use Rattle.parsing_record.specs.Reads.{reading, reading_of_all};
 ghost use Rattle.parsing_record.specs.Record.{Record};
 
@@ -68,21 +68,21 @@ impl<'a> DescribedItems<'a> {
         }
     }
 
-    /// The fields of a front of a line that the items read, where a plan finds them, with an offset assumed or none, and
-    /// what stands behind that front: `None` says nothing of the line.
+    /// The fields of a prefix of a line that the items read, where a plan finds them, with an offset assumed or none, and
+    /// what stands after that prefix: `None` says nothing of the line.
     #[inline(always)]
-    pub fn read_front<'l>(
+    pub fn read_prefix<'l>(
         &self,
         line: &'l [u8],
         assumed: Option<UtcOffset>,
     ) -> Option<(Fields, &'l [u8])>
-        ensures front { IfSome result (λ x. NamesFront
+        ensures prefix { IfSome result (λ x. NamesPrefix
             (reading_of_all reads_component (listed (trees self.now.items.items)))
             (beginning assumed) line.now x.1.now (moment_of x.0)) }
         ensures end { IfSome result (λ x. EndsWith line.now x.1.now) }
     {
         match self.plan() {
-            Some(plan) => plan.read_front(line, assumed),
+            Some(plan) => plan.read_prefix(line, assumed),
             None => None,
         }
     }
@@ -162,15 +162,15 @@ impl<'a> DescribedTree<'a> {
         }
     }
 
-    /// The fields of a front of a line that the tree reads, where a plan finds them, with an offset assumed or none, and
-    /// what stands behind that front: `None` says nothing of the line.
+    /// The fields of a prefix of a line that the tree reads, where a plan finds them, with an offset assumed or none, and
+    /// what stands after that prefix: `None` says nothing of the line.
     #[inline(always)]
-    pub fn read_front<'l>(
+    pub fn read_prefix<'l>(
         &self,
         line: &'l [u8],
         assumed: Option<UtcOffset>,
     ) -> Option<(Fields, &'l [u8])>
-        ensures front { IfSome result (λ x. NamesFront
+        ensures prefix { IfSome result (λ x. NamesPrefix
             (reading reads_component_v3 (v3_tree self.now.tree))
             (beginning assumed) line.now x.1.now (moment_of x.0)) }
         ensures end { IfSome result (λ x. EndsWith line.now x.1.now) }
@@ -178,7 +178,7 @@ impl<'a> DescribedTree<'a> {
         let Some(plan) = self.plan() else {
             return None;
         };
-        plan.read_front(line, assumed)
+        plan.read_prefix(line, assumed)
     }
 
     /// Whether the first bytes of a line show that the tree doesn't read it.

@@ -26,7 +26,8 @@ pub fn fast_rfc2822(line: &[u8]) -> Option<Fields>
     parsing_rfc2822::read_fields(line)
 }
 
-/// The same of a line of RFC 3339.
+/// The fields of the moment of a line of RFC 3339, where the fast way finds them, whatever offset is assumed: `None` says
+/// nothing of the line.
 #[inline(always)]
 pub fn fast_rfc3339(line: &[u8]) -> Option<Fields>
     ensures { IfSome result (λ fields. IsNamedBy grammar.Rfc3339 line.now (moment_of fields)) }
@@ -35,7 +36,8 @@ pub fn fast_rfc3339(line: &[u8]) -> Option<Fields>
     parsing_rfc3339::read_fields(line)
 }
 
-/// The same of a line of ISO 8601.
+/// The fields of the moment of a line of ISO 8601, where the fast way finds them, whatever offset is assumed: `None` says
+/// nothing of the line.
 #[inline(always)]
 pub fn fast_iso8601(line: &[u8]) -> Option<Fields>
     ensures { IfSome result (λ fields. IsNamedBy grammar.Iso8601 line.now (moment_of fields)) }

@@ -6,7 +6,7 @@ ghost use Rattle.parsing_rfc2822.specs.Direct as rfc2822;
 ghost use Rattle.parsing_rfc3339.specs.Direct as rfc3339;
 ghost use Rattle.parsing_parsable.specs.Staged.{reads_iso8601};
 
-/// Whether a line has no hyphen behind its first four bytes, so that RFC 3339 names no moment for it.
+/// Whether a line has no hyphen after its first four bytes, so that RFC 3339 names no moment for it.
 #[inline(always)]
 pub(crate) fn has_no_hyphen(line: &[u8]) -> bool
     ensures { result ≡ true → result_ok (rfc3339.direct line.now) ≡ None }
@@ -17,7 +17,7 @@ pub(crate) fn has_no_hyphen(line: &[u8]) -> bool
     line[4] != b'-'
 }
 
-/// Whether neither white space nor a comment stands behind the one digit or the two that begin a line, so that RFC 2822 names
+/// Whether neither white space nor a comment stands after the one digit or the two that begin a line, so that RFC 2822 names
 /// no moment for it.
 #[inline(always)]
 pub(crate) fn has_no_space(line: &[u8]) -> bool
@@ -33,20 +33,20 @@ pub(crate) fn has_no_space(line: &[u8]) -> bool
     }
 }
 
-/// Whether a line is empty, or begins behind the digits and with no comma behind three bytes, as one stands behind a weekday,
+/// Whether a line is empty, or begins after the digits and with no comma after three bytes, as one stands after a weekday,
 /// so that RFC 2822 names no moment for it.
 #[inline(always)]
 pub(crate) fn begins_no_day(line: &[u8]) -> bool
     ensures { result ≡ true → result_ok (rfc2822.direct line.now) ≡ None }
 {
     match line {
-        [first, _, _, behind, ..] => *first > b'9' && *behind != b',',
+        [first, _, _, after, ..] => *first > b'9' && *after != b',',
         [first, ..] => *first > b'9',
         [] => true,
     }
 }
 
-/// Whether a line is empty or begins behind the digits, and with neither a `T` nor a `Z`, so that ISO 8601 reads no part
+/// Whether a line is empty or begins after the digits, and with neither a `T` nor a `Z`, so that ISO 8601 reads no part
 /// of it.
 #[inline(always)]
 pub(crate) fn begins_no_part(line: &[u8]) -> bool

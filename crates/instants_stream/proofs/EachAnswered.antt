@@ -6,7 +6,7 @@ use Rattle.instants_stream.specs.Lines.{if_nonempty, lines, whole_lines, last_pa
 use Rattle.instants_stream.specs.Answers.{answer_or_long, answered, by_answers}
 use Rattle.instants_stream.specs.Answers as answers
 use Rattle.instants_stream.specs.Answering.{answering}
-use Rattle.instants_stream.specs.Steps.{opened, line_said, line_next, written, behind, if_any, state_within, part_said, last_part_said, output, owed, by_steps}
+use Rattle.instants_stream.specs.Steps.{opened, line_said, line_next, written, after, if_any, state_within, part_said, last_part_said, output, owed, by_steps}
 use Rattle.instants_stream.proofs.Written.{is_no_longer}
 
 said_or_long : (answer : List ℕ → List ℕ) (is_long : Bool) (line : List ℕ) → (if is_long then codes "! long" ++ 10 ∷ [] else (answer line ++ 10 ∷ [])) ≡ answer_or_long answer is_long line
@@ -39,10 +39,10 @@ module _ (answer : List ℕ → List ℕ) (limit : ℕ) where
   written-answered [] = refl
   written-answered (line ∷ others) = rw (line_said-is line, line_next-is line) (ap (λ (l : List ℕ). answered answer limit line ++ l) (written-answered others))
 
-  behind-answered : (some : List (List ℕ)) → behind answering limit answer some ≡ answer
-  unfolding behind
-  behind-answered [] = refl
-  behind-answered (line ∷ others) = rw (line_next-is line) (behind-answered others)
+  after-answered : (some : List (List ℕ)) → after answering limit answer some ≡ answer
+  unfolding after
+  after-answered [] = refl
+  after-answered (line ∷ others) = rw (line_next-is line) (after-answered others)
 
   last-answered : (part : List ℕ) → last_part_said answering limit answer part ≡ flat_map (answered answer limit) (if_nonempty part)
   unfolding last_part_said opened
@@ -55,12 +55,12 @@ module _ (answer : List ℕ → List ℕ) (limit : ℕ) where
   output-answered : (stream : List ℕ) → output answering answer limit stream ≡ answers.output answer limit stream
   unfolding output answers.output lines
   output-answered stream =
-      rw (written-answered (whole_lines stream), behind-answered (whole_lines stream), last-answered (last_part stream)) (sym (flat_map-append (answered answer limit) (whole_lines stream) (if_nonempty (last_part stream))))
+      rw (written-answered (whole_lines stream), after-answered (whole_lines stream), last-answered (last_part stream)) (sym (flat_map-append (answered answer limit) (whole_lines stream) (if_nonempty (last_part stream))))
 
   owed-answered : (bytes : List ℕ) → owed answering answer limit bytes ≡ answers.owed answer limit bytes
   unfolding owed answers.owed
   owed-answered bytes =
-      rw (behind-answered (whole_lines bytes), part-answered (last_part bytes), written-answered (whole_lines bytes)) (append-nil (flat_map (answered answer limit) (whole_lines bytes)))
+      rw (after-answered (whole_lines bytes), part-answered (last_part bytes), written-answered (whole_lines bytes)) (append-nil (flat_map (answered answer limit) (whole_lines bytes)))
 
   pub same_writing : by_steps answering answer limit ≡ by_answers answer limit
   same_writing = λ i. record { output = λ stream. output-answered stream i; owed = λ bytes. owed-answered bytes i }

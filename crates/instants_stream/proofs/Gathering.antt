@@ -17,7 +17,7 @@ gathered-moved below next block start end count ordered moved =
     subst (λ (l : List ℕ). Keeps (append_known below here) (append_known next l)) left
     (append_known-moved below next (take count here) (drop count here) here taken (sym (take-append-drop count here)))
 
--- bytes were put behind those gathered
+-- bytes were put after those gathered
 pub gathered-grown : (below : Option (List ℕ)) (old new bytes : List ℕ) (start end : ℕ) → start ≤ end → end ≤ length old
     → take (end + length bytes) new ≡ take end old ++ bytes → Appends (gathered below old start end) (gathered below new start (end + length bytes)) bytes
 gathered-grown below old new bytes start end ordered within put =
@@ -25,10 +25,10 @@ gathered-grown below old new bytes start end ordered within put =
     (Keeps-refl (append_known below (drop start (take end old))))
     (ap (drop start) put ∙ drop-append-le start (take end old) bytes (omega (arith, length-take-le end old within)))
 
--- more bytes were put behind those gathered than count
-pub gathered-front : (below : Option (List ℕ)) (old new bytes : List ℕ) (start end len : ℕ) → start ≤ end → end ≤ length old → len ≤ length bytes
+-- more bytes were put after those gathered than count
+pub gathered-prefix : (below : Option (List ℕ)) (old new bytes : List ℕ) (start end len : ℕ) → start ≤ end → end ≤ length old → len ≤ length bytes
     → take (end + length bytes) new ≡ take end old ++ bytes → Appends (gathered below old start end) (gathered below new start (end + len)) (take len bytes)
-gathered-front below old new bytes start end len ordered within few put =
+gathered-prefix below old new bytes start end len ordered within few put =
     let size : length (take len bytes) ≡ len = length-take-le len bytes few in
     let there : take (length (take end old) + len) (take end old ++ bytes) ≡ take end old ++ take len bytes = take-append-add (take end old) bytes len in
     let shorter : take (end + len) new ≡ take end old ++ take len bytes =
@@ -46,9 +46,9 @@ gathered-below below block start end none = subst (λ (all : Option (List ℕ)).
 -- All that was gathered is held below, and then something is done there: the same is done to all.
 pub done_below : (R : Option (List ℕ) → Option (List ℕ) → Type 0) → ((new : Option (List ℕ)) → R None new)
     → (all below next : Option (List ℕ)) (block : List ℕ) (start end : ℕ) → Keeps all below → end ≡ 0 → R below next → R all (gathered next block start end)
-done_below R untold None below next block start end kept none done = untold (gathered next block start end)
-done_below R untold (Some x) None next block start end kept none done = absurd kept
-done_below R untold (Some x) (Some y) next block start end kept none done =
+done_below R unknown None below next block start end kept none done = unknown (gathered next block start end)
+done_below R unknown (Some x) None next block start end kept none done = absurd kept
+done_below R unknown (Some x) (Some y) next block start end kept none done =
     subst (λ (new : Option (List ℕ)). R (Some x) new) (sym (gathered-none next block start end none)) (subst (λ (l : List ℕ). R (Some l) next) kept done)
 
 -- what follows from a result's clause

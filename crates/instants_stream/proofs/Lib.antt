@@ -9,5 +9,5 @@ pub mod Pending
 pub mod Searched
 pub mod EachAnswered
 pub mod Gathering
-pub mod Told
+pub mod Known
 pub mod Ends

@@ -7,7 +7,7 @@ use Rattle.std.proofs.lemmas.List.Concat.{flat_map-append}
 use Rattle.instants_stream.specs.Lines.{HasNoLineFeed, but_last, last, if_nonempty, parts, whole_lines, last_part, lines}
 use Rattle.instants_stream.specs.Answers.{answered, output}
 
--- the bytes in front of the first part
+-- the bytes before the first part
 abbrev pub glue : List ℕ → List (List ℕ) → List (List ℕ)
 glue [] ps = ps
 glue (b ∷ bs) ps = onto_first b (glue bs ps)
@@ -26,12 +26,12 @@ last-append [] q qs = refl
 last-append (p ∷ []) q qs = refl
 last-append (p ∷ r ∷ ps) q qs = last-append (r ∷ ps) q qs
 
--- a part of its own in front
+-- a part of its own before
 join_part : (ps qs : List (List ℕ)) → 0 < length ps → [] ∷ (but_last ps ++ glue (last ps) qs) ≡ but_last ([] ∷ ps) ++ glue (last ([] ∷ ps)) qs
 join_part [] qs h = absurd (omega arith)
 join_part (p ∷ ps) qs h = refl
 
--- a byte in front of the first part
+-- a byte before the first part
 join_byte : (x : ℕ) (ps qs : List (List ℕ)) → onto_first x (but_last ps ++ glue (last ps) qs) ≡ but_last (onto_first x ps) ++ glue (last (onto_first x ps)) qs
 join_byte x [] qs = refl
 join_byte x (p ∷ []) qs = refl
@@ -74,7 +74,7 @@ pub last_part-line : (s piece : List ℕ) → HasNoLineFeed piece → last_part 
 unfolding last_part
 last_part-line s piece h = rw (parts-line s piece h, last-append) refl
 
--- where nothing stands behind the last line feed, the lines of joined bytes are the lines of each
+-- where nothing stands after the last line feed, the lines of joined bytes are the lines of each
 parts-append : (s t : List ℕ) → last_part s ≡ [] → parts (s ++ t) ≡ but_last (parts s) ++ parts t
 unfolding parts last_part
 parts-append s t h = split_append (λ b. b == 10) s t ∙ ap (λ (l : List ℕ). but_last (slice_split (λ b. b == 10) s) ++ glue l (slice_split (λ b. b == 10) t)) h
@@ -103,8 +103,8 @@ pub lines-append : (s t : List ℕ) → last_part s ≡ [] → lines (s ++ t) �
 unfolding lines
 lines-append s t h = rw (whole_lines-append s t h, last_part-append s t h, h) (rw append-nil (append_assoc (whole_lines s) (whole_lines t) (if_nonempty (last_part t))))
 
--- an empty stream, or one that ends in a line feed, has nothing behind its last line feed
-pub last_part_none : (s : List ℕ) → ((s ≡ []) ⊎ ((front : List ℕ) × (s ≡ front ++ 10 ∷ []))) → last_part s ≡ []
+-- an empty stream, or one that ends in a line feed, has nothing after its last line feed
+pub last_part_none : (s : List ℕ) → ((s ≡ []) ⊎ ((prefix : List ℕ) × (s ≡ prefix ++ 10 ∷ []))) → last_part s ≡ []
 unfolding last_part parts
 last_part_none s (inl e) = rw e refl
 last_part_none s (inr w) = ap last_part w.1 ∙ last_part-line w.0 [] (All-nil (λ b. (b == 10) ≡ false))
@@ -122,12 +122,12 @@ pub last_part_of_none : last_part [] ≡ []
 unfolding last_part parts
 last_part_of_none = refl
 
--- the parts of joined bytes: the last part of the first goes in front of the first part of the second
+-- the parts of joined bytes: the last part of the first goes before the first part of the second
 pub parts_joined : (s t : List ℕ) → parts (s ++ t) ≡ but_last (parts s) ++ glue (last (parts s)) (parts t)
 unfolding parts
 parts_joined s t = split_append (λ b. b == 10) s t
 
--- behind bytes with no line feed
+-- after bytes with no line feed
 pub parts_glued : (line t : List ℕ) → HasNoLineFeed line → parts (line ++ t) ≡ glue line (parts t)
 unfolding parts
 parts_glued line t free = rw (split_append (λ (b : ℕ). b == 10) line t, slice_split_none (λ (b : ℕ). b == 10) line free) refl
@@ -178,7 +178,7 @@ last_is_free (x ∷ s) =
       | false ↦ λ e. last_byte x (slice_split (λ b. b == 10) s) e (last_is_free s)
     ] refl
 
--- no line feed stands behind the last line feed
+-- no line feed stands after the last line feed
 pub last_part_free : (s : List ℕ) → HasNoLineFeed (last_part s)
 unfolding last_part parts
 last_part_free s = last_is_free s

@@ -1,15 +1,15 @@
--- What is written for bytes that come behind others.
+-- What is written for bytes that come after others.
 use Rattle.std.proofs.Common.{◌≡◌, ℕ, ◌+◌, ◌<◌, ◌≤◌, Bool, true, false, List, [], ◌∷◌, ◌++◌, length, take, drop, get_or, nat_lt, refl, sym, ap, ◌∙◌, subst, arith, append_assoc, append-nil}
 use Rattle.std.proofs.lemmas.List.{take_all, drop_all}
 use Rattle.std.proofs.lemmas.Bool.Decides.{nat_tests}
 use Rattle.instants_stream.specs.Lines.{HasNoLineFeed, parts, but_last, last, whole_lines, last_part}
-use Rattle.instants_stream.specs.Steps.{Steps, passed, state_within, opened, written, behind, part_said, owed_of, part_state, state_of}
+use Rattle.instants_stream.specs.Steps.{Steps, passed, state_within, opened, written, after, part_said, owed_of, part_state, state_of}
 use Rattle.instants_stream.specs.Came.{came_said, came_state, came_begun, kept, GoesOn}
 use Rattle.instants_stream.proofs.Lines.{glue, glue-cons, parts_joined, parts_glued, parts_nonempty, but_last-append_nonempty, last-append_nonempty, glue_some}
 use Rattle.instants_stream.proofs.WholeLines.{no_lines, all_last, first_line, last_of_others}
-use Rattle.instants_stream.proofs.Written.{owed_of-none, state_of-none, owed_of-cons, behind-cons, line_said-more, line_next-more, part_said-more, part_said-short, part_said-long, part_state-more, longer-more}
+use Rattle.instants_stream.proofs.Written.{owed_of-none, state_of-none, owed_of-cons, after-cons, line_said-more, line_next-more, part_said-more, part_said-short, part_said-long, part_state-more, longer-more}
 
--- the lines and the last part of joined bytes: the last part of the first goes in front of the first part of the second
+-- the lines and the last part of joined bytes: the last part of the first goes before the first part of the second
 pub whole_lines-joined : (bytes more : List ℕ) → whole_lines (bytes ++ more) ≡ whole_lines bytes ++ but_last (glue (last_part bytes) (parts more))
 unfolding whole_lines last_part
 whole_lines-joined bytes more =
@@ -21,13 +21,13 @@ last_part-joined bytes more =
     ap last (parts_joined bytes more) ∙ last-append_nonempty (but_last (parts bytes)) (glue (last (parts bytes)) (parts more)) (glue_some (last (parts bytes)) (parts more) (parts_nonempty more))
 
 module _ (State : Type 0) (steps : Steps State) (limit : ℕ) where
-  -- Parts come behind those of a line that is longer than the limit.
+  -- Parts come after those of a line that is longer than the limit.
   module _ (state : State) (gone : List ℕ) (over : limit < length gone) where
     abbrev inside : State
     inside = state_within steps limit state gone
 
     long_said : (ps : List (List ℕ)) → 0 < length ps → owed_of steps limit state (but_last (glue gone ps)) (last (glue gone ps)) ≡ opened steps limit state gone ++ came_said steps limit true inside (but_last ps) (last ps)
-    unfolding written behind
+    unfolding written after
     long_said [] some = absurd (omega arith)
     long_said (q ∷ []) some = rw (glue-cons gone q []) (part_said-more State steps limit state gone q over)
     long_said (q ∷ r ∷ ps) some =
@@ -35,11 +35,11 @@ module _ (State : Type 0) (steps : Steps State) (limit : ℕ) where
         (append_assoc (opened steps limit state gone) (passed (steps.hands_on inside) q ++ steps.ended inside) (owed_of steps limit inside (but_last (r ∷ ps)) (last (r ∷ ps))))
 
     long_state : (ps : List (List ℕ)) → 0 < length ps → state_of steps limit state (but_last (glue gone ps)) (last (glue gone ps)) ≡ came_state steps limit true inside (but_last ps) (last ps)
-    unfolding behind
+    unfolding after
     long_state [] some = absurd (omega arith)
     long_state (q ∷ []) some = rw (glue-cons gone q []) (part_state-more State steps limit state gone q over)
     long_state (q ∷ r ∷ ps) some =
-        rw (glue-cons gone q (r ∷ ps), behind-cons State steps limit state (gone ++ q) (but_last (r ∷ ps)), line_next-more State steps limit state gone q over) refl
+        rw (glue-cons gone q (r ∷ ps), after-cons State steps limit state (gone ++ q) (but_last (r ∷ ps)), line_next-more State steps limit state gone q over) refl
 
     long_begun : (ps : List (List ℕ)) → 0 < length ps → nat_lt limit (length (last (glue gone ps))) ≡ came_begun limit true (but_last ps) (last ps)
     long_begun [] some = absurd (omega arith)
@@ -51,7 +51,7 @@ module _ (State : Type 0) (steps : Steps State) (limit : ℕ) where
     long_last (q ∷ []) some e = absurd cc
     long_last (q ∷ r ∷ ps) some e = rw (glue-cons gone q (r ∷ ps)) refl
 
-  -- More bytes come behind a part, of which all bytes are kept unless it is begun.
+  -- More bytes come after a part, of which all bytes are kept unless it is begun.
   module _ (state : State) (gone line more : List ℕ) (free : HasNoLineFeed gone) where
     abbrev ps : List (List ℕ)
     ps = glue gone (parts more)

@@ -14,25 +14,25 @@ pending buffer start filled = take (filled - start) (drop start buffer)
 pub length-pending : (buffer : List ℕ) (start filled : ℕ) → filled ≤ length buffer → length (pending buffer start filled) ≡ filled - start
 length-pending buffer start filled fits = length-take-le (filled - start) (drop start buffer) (simp length-drop (omega arith))
 
--- count bytes were read behind them
+-- count bytes were read after them
 module _ (buffer into : List ℕ) (start filled count k : ℕ) (ordered : start ≤ filled) (fits : filled ≤ length buffer) (within : count ≤ length into) where
   pub pending_more : pending (put_mid filled k buffer into) start (filled + count) ≡ pending buffer start filled ++ take count into
   pending_more =
-      let behind = drop k (drop filled buffer) in
+      let after = drop k (drop filled buffer) in
       let head : drop start (take filled buffer) ≡ take (filled - start) (drop start buffer) = ap (λ (n : ℕ). drop start (take n buffer)) (omega arith) ∙ drop-take start (filled - start) buffer in
-      let cut : drop start (put_mid filled k buffer into) ≡ take (filled - start) (drop start buffer) ++ (into ++ behind) = drop-append-le start (take filled buffer) (into ++ behind) (simp length-take (omega arith)) ∙ ap (λ (l : List ℕ). l ++ (into ++ behind)) head in
+      let cut : drop start (put_mid filled k buffer into) ≡ take (filled - start) (drop start buffer) ++ (into ++ after) = drop-append-le start (take filled buffer) (into ++ after) (simp length-take (omega arith)) ∙ ap (λ (l : List ℕ). l ++ (into ++ after)) head in
       let size : filled + count - start ≡ length (take (filled - start) (drop start buffer)) + count = omega (arith, length-pending buffer start filled fits) in
       ap (take (filled + count - start)) cut
-      ∙ ap (λ (n : ℕ). take n (take (filled - start) (drop start buffer) ++ (into ++ behind))) size
-      ∙ take-append-add (take (filled - start) (drop start buffer)) (into ++ behind) count
-      ∙ ap (λ (l : List ℕ). take (filled - start) (drop start buffer) ++ l) (take-append-le count into behind within)
+      ∙ ap (λ (n : ℕ). take n (take (filled - start) (drop start buffer) ++ (into ++ after))) size
+      ∙ take-append-add (take (filled - start) (drop start buffer)) (into ++ after) count
+      ∙ ap (λ (l : List ℕ). take (filled - start) (drop start buffer) ++ l) (take-append-le count into after within)
 
 -- the first of them were answered
 pub pending_rest : (buffer : List ℕ) (start filled n : ℕ) → start + n ≤ filled → pending buffer (start + n) filled ≡ drop n (pending buffer start filled)
 pending_rest buffer start filled n h =
     ap (take (filled - (start + n))) (sym (drop-drop n start buffer)) ∙ sym (drop-take n (filled - (start + n)) (drop start buffer)) ∙ ap (λ (m : ℕ). drop n (take m (drop start buffer))) (omega arith)
 
--- they were moved to the front of a full buffer
+-- they were moved to the start of a full buffer
 pub pending_moved : (buffer : List ℕ) (start filled n : ℕ) → start ≤ filled → filled ≡ length buffer → n ≡ filled - start → take n (copy_within buffer start (length buffer) 0) ≡ pending buffer start filled
 pending_moved buffer start filled n ordered e h =
     let same : length buffer - start ≡ n = omega arith in

@@ -5,13 +5,13 @@ use Rattle.std.proofs.KnownBytes.{Consumes-nil, Consumes-trans, Appends-nil, App
 use Rattle.std.proofs.lemmas.List.Elements.{All-nil}
 use Rattle.instants_stream.specs.Lines.{HasNoLineFeed, last_part, whole_lines}
 use Rattle.instants_stream.specs.Writing.{due}
-use Rattle.instants_stream.specs.Steps.{Steps, written, behind, part_said, last_part_said, part_state, owed_of, state_of, output, owed, by_steps}
+use Rattle.instants_stream.specs.Steps.{Steps, written, after, part_said, last_part_said, part_state, owed_of, state_of, output, owed, by_steps}
 use Rattle.instants_stream.specs.Came.{came_said, came_state, came_begun, kept, end_said}
-use Rattle.instants_stream.specs.Told.{StaysOrUntold, AppendsFront}
+use Rattle.instants_stream.specs.Known.{StaysOrUnknown, AppendsPrefix}
 use Rattle.instants_stream.proofs.Lines.{last_part_of_none, last_part_free}
-use Rattle.instants_stream.proofs.Written.{is_no_longer, owed_of-none, state_of-none, behind-append, owed_of-append}
+use Rattle.instants_stream.proofs.Written.{is_no_longer, owed_of-none, state_of-none, after-append, owed_of-append}
 use Rattle.instants_stream.proofs.MoreCame.{whole_lines-joined, last_part-joined, more_said, more_state, more_begun, more_last}
-use Rattle.instants_stream.proofs.Told.{AppendsFront-after, AppendsFront-more, AppendsFront-stays}
+use Rattle.instants_stream.proofs.Known.{AppendsPrefix-after, AppendsPrefix-more, AppendsPrefix-stays}
 
 -- A run has read these bytes and written what is owed for them. Of the unfinished line it holds all bytes, or none once it is begun.
 pub record Progress (State : Type 0) (steps : Steps State) (first state : State) (limit : ℕ) (left_first left held_first held : Option (List ℕ)) (line : List ℕ) (is_begun : Bool) : Type 0 where
@@ -26,8 +26,8 @@ kept_free : (is_begun : Bool) (part : List ℕ) → HasNoLineFeed part → HasNo
 kept_free true part free = All-nil (λ (b : ℕ). (b == 10) ≡ false)
 kept_free false part free = free
 
-AppendsFront-all : (a b c : Option (List ℕ)) (bytes : List ℕ) → Appends a b bytes → StaysOrUntold b c → AppendsFront a c bytes
-AppendsFront-all a b c bytes = AppendsFront-stays a b c bytes [] bytes (sym (append-nil bytes))
+AppendsPrefix-all : (a b c : Option (List ℕ)) (bytes : List ℕ) → Appends a b bytes → StaysOrUnknown b c → AppendsPrefix a c bytes
+AppendsPrefix-all a b c bytes = AppendsPrefix-stays a b c bytes [] bytes (sym (append-nil bytes))
 
 module _ (State : Type 0) (steps : Steps State) (first : State) (limit : ℕ) where
   pub begins : (left held : Option (List ℕ)) → Progress State steps first first limit left left held held [] false
@@ -52,7 +52,7 @@ module _ (State : Type 0) (steps : Steps State) (first : State) (limit : ℕ) wh
       → output steps first limit bytes ≡ owed steps first limit bytes ++ end_said steps is_begun (state_of steps limit first (whole_lines bytes) (last_part bytes)) line
   unfolding output owed
   output-owed bytes line is_begun e is =
-      let state = behind steps limit first (whole_lines bytes) in
+      let state = after steps limit first (whole_lines bytes) in
       ap (λ (l : List ℕ). written steps limit first (whole_lines bytes) ++ l) (end_is state (last_part bytes) line is_begun e is)
       ∙ sym (append_assoc (written steps limit first (whole_lines bytes)) (part_said steps limit state (last_part bytes)) (end_said steps is_begun (part_state steps limit state (last_part bytes)) line))
 
@@ -88,13 +88,13 @@ module _ (State : Type 0) (steps : Steps State) (first : State) (limit : ℕ) wh
     }
 
   -- what is owed is due
-  due_from_owed : (a c : Option (List ℕ)) (bytes : List ℕ) (left : Option (List ℕ)) → AppendsFront a c (owed steps first limit bytes) → AppendsFront a c (due (by_steps steps first limit) bytes left)
-  due_from_owed a c bytes None h = let more = output_extends bytes in subst (AppendsFront a c) (sym more.1) (AppendsFront-more a c (owed steps first limit bytes) more.0 h)
-  due_from_owed a c bytes (Some []) h = let more = output_extends bytes in subst (AppendsFront a c) (sym more.1) (AppendsFront-more a c (owed steps first limit bytes) more.0 h)
+  due_from_owed : (a c : Option (List ℕ)) (bytes : List ℕ) (left : Option (List ℕ)) → AppendsPrefix a c (owed steps first limit bytes) → AppendsPrefix a c (due (by_steps steps first limit) bytes left)
+  due_from_owed a c bytes None h = let more = output_extends bytes in subst (AppendsPrefix a c) (sym more.1) (AppendsPrefix-more a c (owed steps first limit bytes) more.0 h)
+  due_from_owed a c bytes (Some []) h = let more = output_extends bytes in subst (AppendsPrefix a c) (sym more.1) (AppendsPrefix-more a c (owed steps first limit bytes) more.0 h)
   due_from_owed a c bytes (Some (b ∷ left)) h = h
 
   -- at the end the whole output is due
-  due_at_end : (a c : Option (List ℕ)) (bytes : List ℕ) (left : Option (List ℕ)) → IsAtEnd left → AppendsFront a c (output steps first limit bytes) → AppendsFront a c (due (by_steps steps first limit) bytes left)
+  due_at_end : (a c : Option (List ℕ)) (bytes : List ℕ) (left : Option (List ℕ)) → IsAtEnd left → AppendsPrefix a c (output steps first limit bytes) → AppendsPrefix a c (due (by_steps steps first limit) bytes left)
   due_at_end a c bytes None e h = h
   due_at_end a c bytes (Some []) e h = h
   due_at_end a c bytes (Some (b ∷ left)) e h = absurd cc
@@ -106,22 +106,22 @@ module _ (State : Type 0) (steps : Steps State) (first : State) (limit : ℕ) wh
     pub ends : IsAtEnd left
     pub written : Appends held_first held (output steps first limit bytes)
 
-  -- A write failed: a front of what is due is written.
+  -- A write failed: a prefix of what is due is written.
   abbrev pub Fails : Option (List ℕ) → Option (List ℕ) → Option (List ℕ) → Option (List ℕ) → Type 0
-  Fails left_first left held_first held = (bytes : List ℕ) × Consumes left_first left bytes × AppendsFront held_first held (due (by_steps steps first limit) bytes left)
+  Fails left_first left held_first held = (bytes : List ℕ) × Consumes left_first left bytes × AppendsPrefix held_first held (due (by_steps steps first limit) bytes left)
 
   module _ (state : State) (left_first left held_first held held_next : Option (List ℕ)) (line : List ℕ) (is_begun : Bool) (p : Progress State steps first state limit left_first left held_first held line is_begun) where
     -- handing on failed
-    pub fails_to_hand_on : StaysOrUntold held held_next → Fails left_first left held_first held_next
+    pub fails_to_hand_on : StaysOrUnknown held held_next → Fails left_first left held_first held_next
     fails_to_hand_on stays =
-        (p.bytes, p.read, due_from_owed held_first held_next p.bytes left (AppendsFront-all held_first held held_next (owed steps first limit p.bytes) p.written stays))
+        (p.bytes, p.read, due_from_owed held_first held_next p.bytes left (AppendsPrefix-all held_first held held_next (owed steps first limit p.bytes) p.written stays))
 
     output_is : output steps first limit p.bytes ≡ owed steps first limit p.bytes ++ end_said steps is_begun state line
     output_is = output-owed p.bytes line is_begun p.begun p.line_is ∙ ap (λ (s : State). owed steps first limit p.bytes ++ end_said steps is_begun s line) (sym p.stands)
 
     -- the write at the end failed
-    pub fails_at_end : IsAtEnd left → AppendsFront held held_next (end_said steps is_begun state line) → Fails left_first left held_first held_next
-    fails_at_end ends wrote = (p.bytes, p.read, due_at_end held_first held_next p.bytes left ends (rw output_is (AppendsFront-after _ _ _ _ _ p.written wrote)))
+    pub fails_at_end : IsAtEnd left → AppendsPrefix held held_next (end_said steps is_begun state line) → Fails left_first left held_first held_next
+    fails_at_end ends wrote = (p.bytes, p.read, due_at_end held_first held_next p.bytes left ends (rw output_is (AppendsPrefix-after _ _ _ _ _ p.written wrote)))
 
     -- all was written at the end
     pub through : IsAtEnd left → Appends held held_next (end_said steps is_begun state line) → Through left_first left held_first held_next
@@ -143,33 +143,33 @@ module _ (State : Type 0) (steps : Steps State) (first : State) (limit : ℕ) wh
       abbrev gone : List ℕ
       gone = last_part p.bytes
 
-      abbrev behind_gone : State
-      behind_gone = behind steps limit first (whole_lines p.bytes)
+      abbrev after_gone : State
+      after_gone = after steps limit first (whole_lines p.bytes)
 
       owed-more : owed steps first limit (p.bytes ++ more) ≡ owed steps first limit p.bytes ++ came_said steps limit is_begun state whole part
       unfolding owed
       owed-more =
-          rw (whole_lines-joined p.bytes more, last_part-joined p.bytes more, owed_of-append State steps limit first (whole_lines p.bytes) _ _, more_said State steps limit behind_gone gone line more (last_part_free p.bytes) is_begun p.begun p.line_is)
-          (sym (append_assoc (written steps limit first (whole_lines p.bytes)) (part_said steps limit behind_gone gone) (came_said steps limit is_begun (part_state steps limit behind_gone gone) whole part))
+          rw (whole_lines-joined p.bytes more, last_part-joined p.bytes more, owed_of-append State steps limit first (whole_lines p.bytes) _ _, more_said State steps limit after_gone gone line more (last_part_free p.bytes) is_begun p.begun p.line_is)
+          (sym (append_assoc (written steps limit first (whole_lines p.bytes)) (part_said steps limit after_gone gone) (came_said steps limit is_begun (part_state steps limit after_gone gone) whole part))
           ∙ ap (λ (s : State). owed_of steps limit first (whole_lines p.bytes) gone ++ came_said steps limit is_begun s whole part) (sym p.stands))
 
       stands-more : state_of steps limit first (whole_lines (p.bytes ++ more)) (last_part (p.bytes ++ more)) ≡ came_state steps limit is_begun state whole part
       stands-more =
-          rw (whole_lines-joined p.bytes more, last_part-joined p.bytes more, behind-append State steps limit first (whole_lines p.bytes) _, p.stands) (more_state State steps limit behind_gone gone line more (last_part_free p.bytes) is_begun p.begun p.line_is)
+          rw (whole_lines-joined p.bytes more, last_part-joined p.bytes more, after-append State steps limit first (whole_lines p.bytes) _, p.stands) (more_state State steps limit after_gone gone line more (last_part_free p.bytes) is_begun p.begun p.line_is)
 
       begun-more : nat_lt limit (length (last_part (p.bytes ++ more))) ≡ came_begun limit is_begun whole part
-      begun-more = rw (last_part-joined p.bytes more) (more_begun State steps limit behind_gone gone line more (last_part_free p.bytes) is_begun p.begun p.line_is)
+      begun-more = rw (last_part-joined p.bytes more) (more_begun State steps limit after_gone gone line more (last_part_free p.bytes) is_begun p.begun p.line_is)
 
       line-more : (is_begun_next : Bool) → is_begun_next ≡ came_begun limit is_begun whole part → kept is_begun_next part ≡ kept is_begun_next (last_part (p.bytes ++ more))
       line-more true e = refl
-      line-more false e = sym (last_part-joined p.bytes more ∙ more_last State steps limit behind_gone gone line more (last_part_free p.bytes) is_begun p.begun p.line_is (sym e))
+      line-more false e = sym (last_part-joined p.bytes more ∙ more_last State steps limit after_gone gone line more (last_part_free p.bytes) is_begun p.begun p.line_is (sym e))
 
       -- a write for them failed
-      pub more_fails : AppendsFront held held_next (came_said steps limit is_begun state whole part) → Fails left_first left_next held_first held_next
+      pub more_fails : AppendsPrefix held held_next (came_said steps limit is_begun state whole part) → Fails left_first left_next held_first held_next
       more_fails wrote = (
         p.bytes ++ more,
         Consumes-trans _ _ _ _ _ p.read came,
-        due_from_owed held_first held_next (p.bytes ++ more) left_next (rw owed-more (AppendsFront-after _ _ _ _ _ p.written wrote)),
+        due_from_owed held_first held_next (p.bytes ++ more) left_next (rw owed-more (AppendsPrefix-after _ _ _ _ _ p.written wrote)),
       )
 
       -- what is owed for them is written
@@ -189,9 +189,9 @@ module _ (State : Type 0) (steps : Steps State) (first : State) (limit : ℕ) wh
       }
 
   -- the flush failed
-  pub fails_at_flush : (left_first left held_first held held_next : Option (List ℕ)) → Through left_first left held_first held → StaysOrUntold held held_next → Fails left_first left held_first held_next
+  pub fails_at_flush : (left_first left held_first held held_next : Option (List ℕ)) → Through left_first left held_first held → StaysOrUnknown held held_next → Fails left_first left held_first held_next
   fails_at_flush left_first left held_first held held_next t stays =
-      (t.bytes, t.read, due_at_end held_first held_next t.bytes left t.ends (AppendsFront-all held_first held held_next (output steps first limit t.bytes) t.written stays))
+      (t.bytes, t.read, due_at_end held_first held_next t.bytes left t.ends (AppendsPrefix-all held_first held held_next (output steps first limit t.bytes) t.written stays))
 
   -- the flush succeeded
   pub done : (left_first left held_first held held_next : Option (List ℕ)) → Through left_first left held_first held → Keeps held held_next → IfSome left_first (λ stream. (left ≡ Some []) × Appends held_first held_next (output steps first limit stream))

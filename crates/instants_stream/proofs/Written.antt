@@ -3,7 +3,7 @@ use Rattle.std.proofs.Common.{◌≡◌, ◌+◌, ℕ, ◌<◌, ◌≤◌, Bool,
 use Rattle.std.proofs.lemmas.Bool.Decides.{nat_tests}
 use Rattle.std.proofs.lemmas.List.{take-append-le, drop-append-le}
 use Rattle.instants_stream.specs.Lines.{whole_lines, last_part}
-use Rattle.instants_stream.specs.Steps.{Steps, passed, state_within, opened, line_said, line_next, written, behind, part_said, last_part_said, owed_of, part_state, state_of, output}
+use Rattle.instants_stream.specs.Steps.{Steps, passed, state_within, opened, line_said, line_next, written, after, part_said, last_part_said, owed_of, part_state, state_of, output}
 use Rattle.instants_stream.proofs.Lines.{whole_lines_none, last_part_of_none, whole_lines-append, last_part-append}
 
 pub is_longer : (limit n : ℕ) → limit < n → nat_lt limit n ≡ true
@@ -13,67 +13,67 @@ pub is_no_longer : (limit n : ℕ) → n ≤ limit → nat_lt limit n ≡ false
 is_no_longer limit n h = grind (arith, nat_tests)
 
 module _ (State : Type 0) (steps : Steps State) (limit : ℕ) where
-  pub written-append : (state : State) (xs ys : List (List ℕ)) → written steps limit state (xs ++ ys) ≡ written steps limit state xs ++ written steps limit (behind steps limit state xs) ys
-  unfolding written behind
+  pub written-append : (state : State) (xs ys : List (List ℕ)) → written steps limit state (xs ++ ys) ≡ written steps limit state xs ++ written steps limit (after steps limit state xs) ys
+  unfolding written after
   written-append state [] ys = refl
   written-append state (x ∷ xs) ys =
-      ap (λ (l : List ℕ). line_said steps limit state x ++ l) (written-append (line_next steps limit state x) xs ys) ∙ sym (append_assoc (line_said steps limit state x) (written steps limit (line_next steps limit state x) xs) (written steps limit (behind steps limit (line_next steps limit state x) xs) ys))
+      ap (λ (l : List ℕ). line_said steps limit state x ++ l) (written-append (line_next steps limit state x) xs ys) ∙ sym (append_assoc (line_said steps limit state x) (written steps limit (line_next steps limit state x) xs) (written steps limit (after steps limit (line_next steps limit state x) xs) ys))
 
-  pub behind-append : (state : State) (xs ys : List (List ℕ)) → behind steps limit state (xs ++ ys) ≡ behind steps limit (behind steps limit state xs) ys
-  unfolding behind
-  behind-append state [] ys = refl
-  behind-append state (x ∷ xs) ys = behind-append (line_next steps limit state x) xs ys
+  pub after-append : (state : State) (xs ys : List (List ℕ)) → after steps limit state (xs ++ ys) ≡ after steps limit (after steps limit state xs) ys
+  unfolding after
+  after-append state [] ys = refl
+  after-append state (x ∷ xs) ys = after-append (line_next steps limit state x) xs ys
 
   -- of one line
   pub written-one : (state : State) (x : List ℕ) → written steps limit state (x ∷ []) ≡ line_said steps limit state x
   unfolding written
   written-one state x = append-nil (line_said steps limit state x)
 
-  pub behind-one : (state : State) (x : List ℕ) → behind steps limit state (x ∷ []) ≡ line_next steps limit state x
-  unfolding behind
-  behind-one state x = refl
+  pub after-one : (state : State) (x : List ℕ) → after steps limit state (x ∷ []) ≡ line_next steps limit state x
+  unfolding after
+  after-one state x = refl
 
   pub written-none : (state : State) → written steps limit state [] ≡ []
   unfolding written
   written-none state = refl
 
-  pub behind-none : (state : State) → behind steps limit state [] ≡ state
-  unfolding behind
-  behind-none state = refl
+  pub after-none : (state : State) → after steps limit state [] ≡ state
+  unfolding after
+  after-none state = refl
 
-  -- one line more, in the state behind those before it
-  pub written-next : (first state : State) (xs : List (List ℕ)) (x : List ℕ) → state ≡ behind steps limit first xs → written steps limit first (xs ++ x ∷ []) ≡ written steps limit first xs ++ line_said steps limit state x
+  -- one line more, in the state after those before it
+  pub written-next : (first state : State) (xs : List (List ℕ)) (x : List ℕ) → state ≡ after steps limit first xs → written steps limit first (xs ++ x ∷ []) ≡ written steps limit first xs ++ line_said steps limit state x
   written-next first state xs x e =
-      written-append first xs (x ∷ []) ∙ ap (λ (l : List ℕ). written steps limit first xs ++ l) (written-one (behind steps limit first xs) x) ∙ ap (λ (s : State). written steps limit first xs ++ line_said steps limit s x) (sym e)
+      written-append first xs (x ∷ []) ∙ ap (λ (l : List ℕ). written steps limit first xs ++ l) (written-one (after steps limit first xs) x) ∙ ap (λ (s : State). written steps limit first xs ++ line_said steps limit s x) (sym e)
 
-  pub behind-next : (first state : State) (xs : List (List ℕ)) (x : List ℕ) → state ≡ behind steps limit first xs → behind steps limit first (xs ++ x ∷ []) ≡ line_next steps limit state x
-  behind-next first state xs x e = behind-append first xs (x ∷ []) ∙ behind-one (behind steps limit first xs) x ∙ ap (λ (s : State). line_next steps limit s x) (sym e)
+  pub after-next : (first state : State) (xs : List (List ℕ)) (x : List ℕ) → state ≡ after steps limit first xs → after steps limit first (xs ++ x ∷ []) ≡ line_next steps limit state x
+  after-next first state xs x e = after-append first xs (x ∷ []) ∙ after-one (after steps limit first xs) x ∙ ap (λ (s : State). line_next steps limit s x) (sym e)
 
   -- what is written for lines begins with what is written for the first of them
   pub written-begins : (first : State) (all xs rest : List (List ℕ)) → all ≡ xs ++ rest → (more : List ℕ) × (written steps limit first all ≡ written steps limit first xs ++ more)
-  written-begins first all xs rest e = (written steps limit (behind steps limit first xs) rest, ap (written steps limit first) e ∙ written-append first xs rest)
+  written-begins first all xs rest e = (written steps limit (after steps limit first xs) rest, ap (written steps limit first) e ∙ written-append first xs rest)
 
   -- what is owed for more lines
-  pub owed_of-append : (state : State) (xs ys : List (List ℕ)) (part : List ℕ) → owed_of steps limit state (xs ++ ys) part ≡ written steps limit state xs ++ owed_of steps limit (behind steps limit state xs) ys part
+  pub owed_of-append : (state : State) (xs ys : List (List ℕ)) (part : List ℕ) → owed_of steps limit state (xs ++ ys) part ≡ written steps limit state xs ++ owed_of steps limit (after steps limit state xs) ys part
   owed_of-append state xs ys part =
-      rw (written-append state xs ys, behind-append state xs ys) (append_assoc (written steps limit state xs) (written steps limit (behind steps limit state xs) ys) (part_said steps limit (behind steps limit (behind steps limit state xs) ys) part))
+      rw (written-append state xs ys, after-append state xs ys) (append_assoc (written steps limit state xs) (written steps limit (after steps limit state xs) ys) (part_said steps limit (after steps limit (after steps limit state xs) ys) part))
 
   pub owed_of-cons : (state : State) (x : List ℕ) (xs : List (List ℕ)) (part : List ℕ) → owed_of steps limit state (x ∷ xs) part ≡ line_said steps limit state x ++ owed_of steps limit (line_next steps limit state x) xs part
-  unfolding written behind
+  unfolding written after
   owed_of-cons state x xs part =
-      append_assoc (line_said steps limit state x) (written steps limit (line_next steps limit state x) xs) (part_said steps limit (behind steps limit (line_next steps limit state x) xs) part)
+      append_assoc (line_said steps limit state x) (written steps limit (line_next steps limit state x) xs) (part_said steps limit (after steps limit (line_next steps limit state x) xs) part)
 
-  pub behind-cons : (state : State) (x : List ℕ) (xs : List (List ℕ)) → behind steps limit state (x ∷ xs) ≡ behind steps limit (line_next steps limit state x) xs
-  unfolding behind
-  behind-cons state x xs = refl
+  pub after-cons : (state : State) (x : List ℕ) (xs : List (List ℕ)) → after steps limit state (x ∷ xs) ≡ after steps limit (line_next steps limit state x) xs
+  unfolding after
+  after-cons state x xs = refl
 
-  -- the output of joined streams, where nothing stands behind the last line feed of the first
-  pub output-append : (state : State) (s t : List ℕ) → last_part s ≡ [] → output steps state limit (s ++ t) ≡ output steps state limit s ++ output steps (behind steps limit state (whole_lines s)) limit t
+  -- the output of joined streams, where nothing stands after the last line feed of the first
+  pub output-append : (state : State) (s t : List ℕ) → last_part s ≡ [] → output steps state limit (s ++ t) ≡ output steps state limit s ++ output steps (after steps limit state (whole_lines s)) limit t
   unfolding output last_part_said
   output-append state s t h =
       let fits : nat_lt limit 0 ≡ false = is_no_longer limit 0 (omega arith) in
-      rw (whole_lines-append s t h, last_part-append s t h, h, fits, written-append state (whole_lines s) (whole_lines t), behind-append state (whole_lines s) (whole_lines t), append-nil (written steps limit state (whole_lines s)))
-      (append_assoc (written steps limit state (whole_lines s)) (written steps limit (behind steps limit state (whole_lines s)) (whole_lines t)) _)
+      rw (whole_lines-append s t h, last_part-append s t h, h, fits, written-append state (whole_lines s) (whole_lines t), after-append state (whole_lines s) (whole_lines t), append-nil (written steps limit state (whole_lines s)))
+      (append_assoc (written steps limit state (whole_lines s)) (written steps limit (after steps limit state (whole_lines s)) (whole_lines t)) _)
 
   -- nothing is owed for a part that may still fit
   pub part_said-short : (state : State) (part : List ℕ) → nat_lt limit (length part) ≡ false → part_said steps limit state part ≡ []
@@ -112,10 +112,10 @@ module _ (State : Type 0) (steps : Steps State) (limit : ℕ) where
   fits = rw last_part_of_none (is_no_longer limit 0 (omega arith))
 
   pub owed_of-none : (state : State) → owed_of steps limit state (whole_lines []) (last_part []) ≡ []
-  owed_of-none state = rw (part_said-short (behind steps limit state (whole_lines [])) (last_part []) fits, whole_lines_none, written-none state) refl
+  owed_of-none state = rw (part_said-short (after steps limit state (whole_lines [])) (last_part []) fits, whole_lines_none, written-none state) refl
 
   pub state_of-none : (state : State) → state_of steps limit state (whole_lines []) (last_part []) ≡ state
-  state_of-none state = rw (fits, whole_lines_none, behind-none state) refl
+  state_of-none state = rw (fits, whole_lines_none, after-none state) refl
 
   passed-append : (hands_on : Bool) (xs ys : List ℕ) → passed hands_on (xs ++ ys) ≡ passed hands_on xs ++ passed hands_on ys
   passed-append true xs ys = refl

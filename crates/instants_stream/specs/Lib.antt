@@ -4,7 +4,7 @@ pub mod Answers
 pub mod Steps
 pub mod Came
 pub mod Answering
-pub mod Told
+pub mod Known
 pub mod Ran
 pub mod CutDevices
 pub mod Gathering

@@ -28,7 +28,7 @@ parts bytes = slice_split (λ b. b == line_feed) bytes
 unfoldable pub whole_lines : List ℕ → List (List ℕ)
 whole_lines bytes = but_last (parts bytes)
 
--- what stands behind the last line feed
+-- what stands after the last line feed
 unfoldable pub last_part : List ℕ → List ℕ
 last_part bytes = last (parts bytes)
 

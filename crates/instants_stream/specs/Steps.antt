@@ -49,9 +49,9 @@ module _ {State : Type 0} (steps : Steps State) (limit : ℕ) where
   written state [] = []
   written state (line ∷ others) = line_said state line ++ written (line_next state line) others
 
-  unfoldable pub behind : State → List (List ℕ) → State
-  behind state [] = state
-  behind state (line ∷ others) = behind (line_next state line) others
+  unfoldable pub after : State → List (List ℕ) → State
+  after state [] = state
+  after state (line ∷ others) = after (line_next state line) others
 
   -- what is written for a line as soon as these bytes of it were read: nothing while it may still fit
   unfoldable pub part_said : State → List ℕ → List ℕ
@@ -63,18 +63,18 @@ module _ {State : Type 0} (steps : Steps State) (limit : ℕ) where
 
   -- what is owed as soon as these whole lines and this part of the next one were read, and the state then
   abbrev pub owed_of : State → List (List ℕ) → List ℕ → List ℕ
-  owed_of state whole part = written state whole ++ part_said (behind state whole) part
+  owed_of state whole part = written state whole ++ part_said (after state whole) part
 
   abbrev pub part_state : State → List ℕ → State
   part_state state part = if nat_lt limit (length part) then state_within state part else state
 
   abbrev pub state_of : State → List (List ℕ) → List ℕ → State
-  state_of state whole part = part_state (behind state whole) part
+  state_of state whole part = part_state (after state whole) part
 
 -- what is written for a whole stream
 unfoldable pub output : {State : Type 0} → Steps State → State → ℕ → List ℕ → List ℕ
 output steps state limit stream =
-    written steps limit state (whole_lines stream) ++ last_part_said steps limit (behind steps limit state (whole_lines stream)) (last_part stream)
+    written steps limit state (whole_lines stream) ++ last_part_said steps limit (after steps limit state (whole_lines stream)) (last_part stream)
 
 -- what is owed as soon as these bytes were read
 unfoldable pub owed : {State : Type 0} → Steps State → State → ℕ → List ℕ → List ℕ

@@ -2,7 +2,7 @@
 ghost use Rattle.std.specs.Prelude.{◌≡◌, ◌<◌, true, false, [], ◌∷◌, ◌++◌, codes, length, Err, OnOk, OnErr};
 ghost use Rattle.std.specs.Io.KnownBytes.{Appends, Keeps};
 ghost use Rattle.base.specs.Bytes.{line_feed};
-ghost use Rattle.instants_stream.specs.Told.{AppendsFront};
+ghost use Rattle.instants_stream.specs.Known.{AppendsPrefix};
 ghost use Rattle.instants_stream.specs.Ran.{Ran};
 ghost use Rattle.instants_stream.specs.Answers.{by_answers};
 
@@ -25,17 +25,17 @@ fn write_answer<A: AnswersLines, W: ByteWriter>(
     ensures written { OnOk result (Appends (W.held writer.old) (W.held writer.new)
         (A.answer answers.now line.now ++ line_feed ∷ [])) }
     ensures ok { OnOk result (W.failed writer.new ≡ W.failed writer.old) }
-    ensures front { OnErr result (AppendsFront (W.held writer.old) (W.held writer.new)
+    ensures prefix { OnErr result (AppendsPrefix (W.held writer.old) (W.held writer.new)
         (A.answer answers.now line.now ++ line_feed ∷ [])) }
     ensures err { OnErr result (W.failed writer.new ≡ true) }
 {
     answers.write_answer(line, storage);
     storage.push(LINE_FEED);
     let (bytes, len) = storage.padded();
-    writer.write_front(bytes, len)
+    writer.write_prefix(bytes, len)
 }
 
-// The same for a last line, which no line feed ends.
+// Writes the answer to a last line, which no line feed ends.
 #[cold]
 #[inline(never)]
 fn write_last_answer<A: AnswersLines, W: ByteWriter>(
@@ -47,7 +47,7 @@ fn write_last_answer<A: AnswersLines, W: ByteWriter>(
     ensures written { OnOk result (Appends (W.held writer.old) (W.held writer.new)
         (A.answer answers.now line.now ++ line_feed ∷ [])) }
     ensures ok { OnOk result (W.failed writer.new ≡ W.failed writer.old) }
-    ensures front { OnErr result (AppendsFront (W.held writer.old) (W.held writer.new)
+    ensures prefix { OnErr result (AppendsPrefix (W.held writer.old) (W.held writer.new)
         (A.answer answers.now line.now ++ line_feed ∷ [])) }
     ensures err { OnErr result (W.failed writer.new ≡ true) }
 {
@@ -64,7 +64,7 @@ fn write_long<W: ByteWriter>(writer: &mut W) -> Result<(), DeviceFailed>
     ensures written { OnOk result (Appends (W.held writer.old) (W.held writer.new)
         (codes "! long" ++ line_feed ∷ [])) }
     ensures ok { OnOk result (W.failed writer.new ≡ W.failed writer.old) }
-    ensures front { OnErr result (AppendsFront (W.held writer.old) (W.held writer.new)
+    ensures prefix { OnErr result (AppendsPrefix (W.held writer.old) (W.held writer.new)
         (codes "! long" ++ line_feed ∷ [])) }
     ensures err { OnErr result (W.failed writer.new ≡ true) }
 {
@@ -122,7 +122,7 @@ impl<A: AnswersLines> WritesLines for Answering<'_, A> {
     #[inline(always)]
     fn begin_line<W: ByteWriter>(
         &mut self,
-        _front: &[u8],
+        _prefix: &[u8],
         _writer: &mut W,
     ) -> Result<(), DeviceFailed> {
         Ok(())
@@ -144,7 +144,7 @@ impl<A: AnswersLines> WritesLines for Answering<'_, A> {
     }
 }
 
-/// Writes the answer to each line that the reader gives, and a line feed behind each answer.
+/// Writes the answer to each line that the reader gives, and a line feed after each answer.
 ///
 /// A line with more bytes than the limit is answered `! long`. The buffer is longer than the limit.
 /// What is answered is handed on before each read, and the writer is flushed once, before `Ok`. A reader or a writer

@@ -1,14 +1,14 @@
 //! A writer that gathers bytes in a block, and hands whole blocks on.
 ghost use Rattle.std.specs.Prelude.{◌≡◌, ◌&&◌, ◌+◌, ◌<◌, ◌≤◌, ◌++◌, false, true, take, length, vec_len, IfOk, OnOk, OnErr};
 ghost use Rattle.std.specs.Io.KnownBytes.{Appends, Keeps};
-ghost use Rattle.instants_stream.specs.Told.{StaysOrUntold, AppendsFront};
+ghost use Rattle.instants_stream.specs.Known.{StaysOrUnknown, AppendsPrefix};
 
 use crate::devices::{ByteWriter, DeviceFailed};
 use std::simd::prelude::*;
 
 /// Writes to another writer, a block at a time.
 ///
-/// It holds what the other writer holds, and behind that the bytes that were gathered. After a failure it makes no
+/// It holds what the other writer holds, and after that the bytes that were gathered. After a failure it makes no
 /// call any more, and dropping it makes none: what was not handed on then is lost, and `write` has said so.
 #[derive(Drop)]
 pub struct BlockWriter<W> {
@@ -23,22 +23,22 @@ pub struct BlockWriter<W> {
     ghost unwritten: { is_flushed ≡ true → end ≡ 0 },
 }
 
-// Puts bytes into the block, behind as many as stand before the place.
+// Puts bytes into the block, after as many as stand before the place.
 #[inline(always)]
 fn put(block: &mut Vec<u8>, at: usize, bytes: &[u8])
     requires { at + length bytes.now ≤ vec_len block.old }
-    ensures front { take (at + length bytes.now) block.new.items
+    ensures prefix { take (at + length bytes.now) block.new.items
         ≡ take at block.old.items ++ bytes.now }
     ensures len { vec_len block.new ≡ vec_len block.old }
 {
     block[at..at + bytes.len()].copy_from_slice(bytes);
 }
 
-// The same of 64 bytes, all read before one is written: nothing asks whether they lie apart from the block.
+// Puts 64 bytes into the block, all read before one is written: nothing asks whether they lie apart from the block.
 #[inline(always)]
 fn put_lanes(block: &mut [u8], at: usize, bytes: &[u8; 64])
     requires { at + 64 ≤ length block.old }
-    ensures front { take (at + length bytes.now) block.new ≡ take at block.old ++ bytes.now }
+    ensures prefix { take (at + length bytes.now) block.new ≡ take at block.old ++ bytes.now }
     ensures len { length block.new ≡ length block.old }
 {
     u8x64::from_slice(bytes).copy_to_slice(&mut block[at..]);
@@ -47,7 +47,7 @@ fn put_lanes(block: &mut [u8], at: usize, bytes: &[u8; 64])
 #[inline(always)]
 fn put_all(block: &mut Vec<u8>, at: usize, bytes: &[u8; 64])
     requires { at + 64 ≤ vec_len block.old }
-    ensures front { take (at + length bytes.now) block.new.items
+    ensures prefix { take (at + length bytes.now) block.new.items
         ≡ take at block.old.items ++ bytes.now }
     ensures len { vec_len block.new ≡ vec_len block.old }
 {
@@ -82,7 +82,7 @@ impl<W: ByteWriter> BlockWriter<W> {
         ensures empty { OnOk result (self.new.end ≡ 0) }
         ensures ok { OnOk result (W.failed self.new.inner ≡ W.failed self.old.inner) }
         ensures kept { OnErr result
-            (StaysOrUntold (held_by W.held self.old) (held_by W.held self.new)) }
+            (StaysOrUnknown (held_by W.held self.old) (held_by W.held self.new)) }
         ensures err { OnErr result (W.failed self.new.inner ≡ true) }
         ensures flushed { self.new.is_flushed ≡ self.old.is_flushed }
     {
@@ -121,7 +121,7 @@ impl<W: ByteWriter> BlockWriter<W> {
         ensures none { IfOk result (λ count. 0 < length from.now → 0 < count) }
         ensures ok { OnOk result (W.failed self.new.inner ≡ W.failed self.old.inner) }
         ensures kept { OnErr result
-            (StaysOrUntold (held_by W.held self.old) (held_by W.held self.new)) }
+            (StaysOrUnknown (held_by W.held self.old) (held_by W.held self.new)) }
         ensures err { OnErr result (W.failed self.new.inner ≡ true) }
         ensures flushed { self.new.is_flushed ≡ self.old.is_flushed }
     {
@@ -136,7 +136,7 @@ impl<W: ByteWriter> BlockWriter<W> {
     // more a line.
     #[cold]
     #[inline(never)]
-    fn write_front_past_end(&mut self, bytes: &[u8; 64], len: usize) -> Result<(), DeviceFailed>
+    fn write_prefix_past_end(&mut self, bytes: &[u8; 64], len: usize) -> Result<(), DeviceFailed>
         requires works { W.failed self.old.inner ≡ false }
         requires within { len ≤ 64 }
         ensures written { OnOk result (Appends
@@ -144,7 +144,7 @@ impl<W: ByteWriter> BlockWriter<W> {
         ensures ok { OnOk result (W.failed self.new.inner ≡ W.failed self.old.inner) }
         ensures unflushed { OnOk result (0 < len →
             ⟦<BlockWriter<W> as ByteWriter>⟧.flushed self.new ≡ false) }
-        ensures front { OnErr result (AppendsFront
+        ensures prefix { OnErr result (AppendsPrefix
             (held_by W.held self.old) (held_by W.held self.new) (take len bytes.now)) }
         ensures err { OnErr result (W.failed self.new.inner ≡ true) }
     {
@@ -203,7 +203,7 @@ impl<W: ByteWriter> ByteWriter for BlockWriter<W> {
 
         ensures err { OnErr result (W.failed self.new.inner ≡ true) }
         ensures kept { OnErr result
-            (StaysOrUntold (held_by W.held self.old) (held_by W.held self.new)) }
+            (StaysOrUnknown (held_by W.held self.old) (held_by W.held self.new)) }
     {
         if self.end > 0 {
             self.write_block()?;
@@ -213,9 +213,9 @@ impl<W: ByteWriter> ByteWriter for BlockWriter<W> {
 
     // All 64 bytes are put into the block, which needs no test of how many they are.
     #[inline(always)]
-    fn write_front(&mut self, bytes: &[u8; 64], len: usize) -> Result<(), DeviceFailed> {
+    fn write_prefix(&mut self, bytes: &[u8; 64], len: usize) -> Result<(), DeviceFailed> {
         if self.block.len() - self.end < 64 {
-            return self.write_front_past_end(bytes, len);
+            return self.write_prefix_past_end(bytes, len);
         }
         self.is_flushed = false;
         put_all(&mut self.block, self.end, bytes);

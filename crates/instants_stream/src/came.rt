@@ -1,9 +1,9 @@
 //! What is written for bytes that came.
 ghost use Rattle.std.specs.Prelude.{◌≡◌, ◌+◌, ◌-◌, ◌<◌, ◌≤◌, ◌++◌, ◌||◌, ℕ, List, true, false, length, take, drop, IfOk, OnOk, OnErr};
 ghost use Rattle.std.specs.Io.KnownBytes.{Appends};
-ghost use Rattle.instants_stream.specs.Told.{AppendsFront};
+ghost use Rattle.instants_stream.specs.Known.{AppendsPrefix};
 ghost use Rattle.instants_stream.specs.Lines.{HasNoLineFeed, whole_lines, last_part};
-ghost use Rattle.instants_stream.specs.Steps.{passed, opened, state_within, line_said, line_next, written, behind, owed_of, state_of};
+ghost use Rattle.instants_stream.specs.Steps.{passed, opened, state_within, line_said, line_next, written, after, owed_of, state_of};
 ghost use Rattle.instants_stream.specs.Came.{came_said, came_state, came_begun, kept, GoesOn, end_said};
 
 use crate::devices::{ByteWriter, DeviceFailed};
@@ -19,7 +19,7 @@ pub(crate) struct Unfinished {
 
 // What stands after a line of so many bytes and its line feed.
 #[inline(always)]
-fn behind_line(bytes: &[u8], len: usize) -> &[u8]
+fn after_line(bytes: &[u8], len: usize) -> &[u8]
     requires { len < length bytes.now }
     ensures { result.now ≡ drop (len + 1) bytes.now }
 {
@@ -37,7 +37,7 @@ fn pass_on<S: WritesLines, W: ByteWriter>(
     ensures written { OnOk result (Appends (W.held writer.old) (W.held writer.new)
         (passed (S.steps.hands_on (S.state steps.now)) bytes.now)) }
     ensures ok { OnOk result (W.failed writer.new ≡ W.failed writer.old) }
-    ensures front { OnErr result (AppendsFront (W.held writer.old) (W.held writer.new)
+    ensures prefix { OnErr result (AppendsPrefix (W.held writer.old) (W.held writer.new)
         (passed (S.steps.hands_on (S.state steps.now)) bytes.now)) }
     ensures err { OnErr result (W.failed writer.new ≡ true) }
 {
@@ -62,7 +62,7 @@ fn open_line<S: WritesLines, W: ByteWriter>(
     ensures state { OnOk result
         (S.state steps.new ≡ state_within S.steps limit (S.state steps.old) bytes.now) }
     ensures ok { OnOk result (W.failed writer.new ≡ W.failed writer.old) }
-    ensures front { OnErr result (AppendsFront (W.held writer.old) (W.held writer.new)
+    ensures prefix { OnErr result (AppendsPrefix (W.held writer.old) (W.held writer.new)
         (opened S.steps limit (S.state steps.old) bytes.now)) }
     ensures err { OnErr result (W.failed writer.new ≡ true) }
 {
@@ -84,7 +84,7 @@ fn write_any<S: WritesLines, W: ByteWriter>(
     ensures state { OnOk result
         (S.state steps.new ≡ line_next S.steps limit (S.state steps.old) line.now) }
     ensures ok { OnOk result (W.failed writer.new ≡ W.failed writer.old) }
-    ensures front { OnErr result (AppendsFront (W.held writer.old) (W.held writer.new)
+    ensures prefix { OnErr result (AppendsPrefix (W.held writer.old) (W.held writer.new)
         (line_said S.steps limit (S.state steps.old) line.now)) }
     ensures err { OnErr result (W.failed writer.new ≡ true) }
 {
@@ -112,9 +112,9 @@ fn write_whole_lines<S: WritesLines, W: ByteWriter>(
     ensures written { OnOk result (Appends (W.held writer.old) (W.held writer.new)
         (written S.steps limit (S.state steps.old) (whole_lines bytes.now))) }
     ensures state { OnOk result (S.state steps.new ≡
-        behind S.steps limit (S.state steps.old) (whole_lines bytes.now)) }
+        after S.steps limit (S.state steps.old) (whole_lines bytes.now)) }
     ensures ok { OnOk result (W.failed writer.new ≡ W.failed writer.old) }
-    ensures front { OnErr result (AppendsFront (W.held writer.old) (W.held writer.new)
+    ensures prefix { OnErr result (AppendsPrefix (W.held writer.old) (W.held writer.new)
         (written S.steps limit (S.state steps.old) (whole_lines bytes.now))) }
     ensures err { OnErr result (W.failed writer.new ≡ true) }
 {
@@ -123,7 +123,7 @@ fn write_whole_lines<S: WritesLines, W: ByteWriter>(
     let mut len = line_end(bytes, searched);
     while len < rest.len() {
         let line = &rest[..len];
-        rest = behind_line(rest, len);
+        rest = after_line(rest, len);
         len = line_end(rest, 0);
         write_any(steps, limit, line, writer)?;
     }
@@ -147,8 +147,8 @@ fn go_on<S: WritesLines, W: ByteWriter>(
         × GoesOn S.steps (S.state steps.now) is_begun
         bytes.now word (drop left.start bytes.now) left.is_begun) }
     ensures ok { OnOk result (W.failed writer.new ≡ W.failed writer.old) }
-    ensures front { OnErr result ((limit : ℕ)
-        → AppendsFront (W.held writer.old) (W.held writer.new) (came_said S.steps limit is_begun
+    ensures prefix { OnErr result ((limit : ℕ)
+        → AppendsPrefix (W.held writer.old) (W.held writer.new) (came_said S.steps limit is_begun
         (S.state steps.now) (whole_lines bytes.now) (last_part bytes.now))) }
     ensures err { OnErr result (W.failed writer.new ≡ true) }
 {
@@ -197,7 +197,7 @@ pub(crate) fn write_came<S: WritesLines, W: ByteWriter>(
     ensures state { OnOk result (S.state steps.new ≡ came_state S.steps limit is_begun
         (S.state steps.old) (whole_lines bytes.now) (last_part bytes.now)) }
     ensures ok { OnOk result (W.failed writer.new ≡ W.failed writer.old) }
-    ensures front { OnErr result (AppendsFront (W.held writer.old) (W.held writer.new)
+    ensures prefix { OnErr result (AppendsPrefix (W.held writer.old) (W.held writer.new)
         (came_said S.steps limit is_begun
         (S.state steps.old) (whole_lines bytes.now) (last_part bytes.now))) }
     ensures err { OnErr result (W.failed writer.new ≡ true) }
@@ -230,7 +230,7 @@ pub(crate) fn write_end<S: WritesLines, W: ByteWriter>(
     ensures written { OnOk result (Appends (W.held writer.old) (W.held writer.new)
         (end_said S.steps is_begun (S.state steps.old) line.now)) }
     ensures ok { OnOk result (W.failed writer.new ≡ W.failed writer.old) }
-    ensures front { OnErr result (AppendsFront (W.held writer.old) (W.held writer.new)
+    ensures prefix { OnErr result (AppendsPrefix (W.held writer.old) (W.held writer.new)
         (end_said S.steps is_begun (S.state steps.old) line.now)) }
     ensures err { OnErr result (W.failed writer.new ≡ true) }
 {

@@ -87,8 +87,8 @@ impl<'a> ByteReader for CutReader<'a> {
             count = count.min(until_failure);
             self.until_failure = Some(until_failure - count);
         }
-        let (front, rest) = self.rest.split_at(count);
-        into[..count].copy_from_slice(front);
+        let (prefix, rest) = self.rest.split_at(count);
+        into[..count].copy_from_slice(prefix);
         self.rest = rest;
         Ok(count)
     }

@@ -2,7 +2,7 @@
 
 ghost use Rattle.std.specs.Prelude.{◌≡◌, ◌<◌, ◌≤◌, ℕ, Bool, true, false, List, length, take, Option, IfOk, OnOk, OnErr};
 ghost use Rattle.std.specs.Io.KnownBytes.{Consumes, Appends, Keeps, IsAtEnd};
-ghost use Rattle.instants_stream.specs.Told.{StaysOrUntold, AppendsFront};
+ghost use Rattle.instants_stream.specs.Known.{StaysOrUnknown, AppendsPrefix};
 
 /// A device failed.
 #[derive(Clone, Copy, Debug, PartialEq, Eq)]
@@ -21,7 +21,7 @@ pub trait ByteReader {
     /// A number that each read which gives bytes lowers.
     ghost reads_left: { Self → ℕ };
 
-    /// Moves bytes to the front of `into`, and says how many: none only into an empty slice or at
+    /// Moves bytes to the start of `into`, and says how many: none only into an empty slice or at
     /// the end.
     fn read(&mut self, into: &mut [u8]) -> Result<usize, DeviceFailed>
         requires { failed self.old ≡ false }
@@ -35,7 +35,7 @@ pub trait ByteReader {
         ensures ok { OnOk result (failed self.new ≡ failed self.old) }
 
         ensures err { OnErr result (failed self.new ≡ true) }
-        ensures kept { OnErr result (StaysOrUntold (left self.old) (left self.new)) };
+        ensures kept { OnErr result (StaysOrUnknown (left self.old) (left self.new)) };
 
     /// Whether a read has failed.
     fn has_failed(&self) -> bool
@@ -59,7 +59,7 @@ pub trait ByteWriter {
     /// gathers bytes.
     ghost handed_on: { Self → Option (List ℕ) };
 
-    /// Takes bytes from the front of `from`, and says how many: none only from an empty slice.
+    /// Takes bytes from the start of `from`, and says how many: none only from an empty slice.
     fn write(&mut self, from: &[u8]) -> Result<usize, DeviceFailed>
         requires { failed self.old ≡ false }
         ensures within { IfOk result (λ count. count ≤ length from.now) }
@@ -70,7 +70,7 @@ pub trait ByteWriter {
         ensures ok { OnOk result (failed self.new ≡ failed self.old) }
 
         ensures err { OnErr result (failed self.new ≡ true) }
-        ensures kept { OnErr result (StaysOrUntold (held self.old) (held self.new)) };
+        ensures kept { OnErr result (StaysOrUnknown (held self.old) (held self.new)) };
 
     /// Flushes what was written, here and below.
     fn flush(&mut self) -> Result<(), DeviceFailed>
@@ -80,7 +80,7 @@ pub trait ByteWriter {
         ensures ok { OnOk result (failed self.new ≡ failed self.old) }
 
         ensures err { OnErr result (failed self.new ≡ true) }
-        ensures kept { OnErr result (StaysOrUntold (held self.old) (held self.new)) };
+        ensures kept { OnErr result (StaysOrUnknown (held self.old) (held self.new)) };
 
     /// Whether there was no write since the last flush.
     fn is_flushed(&self) -> bool
@@ -102,9 +102,9 @@ pub trait ByteWriter {
         ensures ok { OnOk result (failed self.new ≡ failed self.old) }
 
         ensures err { OnErr result (failed self.new ≡ true) }
-        ensures kept { OnErr result (StaysOrUntold (held self.old) (held self.new)) };
+        ensures kept { OnErr result (StaysOrUnknown (held self.old) (held self.new)) };
 
-    /// Writes all of the bytes. The first write that fails ends it, and a front of them is written.
+    /// Writes all of the bytes. The first write that fails ends it, and a prefix of them is written.
     #[inline(always)]
     fn write_all(&mut self, bytes: &[u8]) -> Result<(), DeviceFailed>
         requires { failed self.old ≡ false }
@@ -112,7 +112,7 @@ pub trait ByteWriter {
         ensures ok { OnOk result (failed self.new ≡ failed self.old) }
         ensures unflushed { OnOk result (0 < length bytes.now → flushed self.new ≡ false) }
 
-        ensures front { OnErr result (AppendsFront (held self.old) (held self.new) bytes.now) }
+        ensures prefix { OnErr result (AppendsPrefix (held self.old) (held self.new) bytes.now) }
         ensures err { OnErr result (failed self.new ≡ true) }
     {
         let mut rest = bytes;
@@ -123,10 +123,10 @@ pub trait ByteWriter {
         Ok(())
     }
 
-    /// Writes all of the first `len` bytes. The first write that fails ends it, and a front of them is written.
+    /// Writes all of the first `len` bytes. The first write that fails ends it, and a prefix of them is written.
     ///
     /// A writer into memory can copy all 64 bytes, whatever the length is, which takes fewer instructions.
-    fn write_front(&mut self, bytes: &[u8; 64], len: usize) -> Result<(), DeviceFailed>
+    fn write_prefix(&mut self, bytes: &[u8; 64], len: usize) -> Result<(), DeviceFailed>
         requires works { failed self.old ≡ false }
         requires within { len ≤ 64 }
         ensures written { OnOk result
@@ -134,8 +134,8 @@ pub trait ByteWriter {
         ensures ok { OnOk result (failed self.new ≡ failed self.old) }
         ensures unflushed { OnOk result (0 < len → flushed self.new ≡ false) }
 
-        ensures front { OnErr result
-            (AppendsFront (held self.old) (held self.new) (take len bytes.now)) }
+        ensures prefix { OnErr result
+            (AppendsPrefix (held self.old) (held self.new) (take len bytes.now)) }
         ensures err { OnErr result (failed self.new ≡ true) }
     {
         self.write_all(&bytes[..len])

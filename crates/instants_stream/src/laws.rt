@@ -8,7 +8,7 @@ ghost use Rattle.instants_stream.specs.Answers.{output};
 /// whatever answers the lines and whatever the limit is.
 pub fn joined_streams()
     ensures { (answer : List ℕ → List ℕ) (limit : ℕ) (first second : List ℕ)
-        → ((first ≡ []) ⊎ ((front : List ℕ) × (first ≡ front ++ line_feed ∷ [])))
+        → ((first ≡ []) ⊎ ((prefix : List ℕ) × (first ≡ prefix ++ line_feed ∷ [])))
         → output answer limit (first ++ second)
         ≡ output answer limit first ++ output answer limit second }
 {}

@@ -22,7 +22,7 @@ fn write_answered<A: AnswersLines>(answers: &A, limit: usize, line: &[u8], stora
     storage.push(LINE_FEED);
 }
 
-/// Writes the answer to each line of the input into the front of the room, a line feed behind each answer. How many bytes
+/// Writes the answer to each line of the input into the start of the room, a line feed after each answer. How many bytes
 /// the answers have.
 ///
 /// A line with more bytes than the limit is answered `! long`.
@@ -34,7 +34,7 @@ pub fn lines_over<A: AnswersLines>(
     input: &[u8],
     room: &mut [u8],
 ) -> Result<usize, TooLittleRoom>
-    // Exactly the answers are written, and what lies behind them stays.
+    // Exactly the answers are written, and what lies after them stays.
     ensures len { IfOk result
         (λ len. len ≡ length (output (A.answer answers.now) limit input.now)) }
     ensures written { IfOk result (λ len. room.new

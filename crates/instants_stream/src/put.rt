@@ -10,28 +10,28 @@ pub struct TooLittleRoom;
 // How many bytes an answer with a moment has that is shown in UTC, its line feed included.
 const MOMENT: usize = 31;
 
-// Puts bytes into the room, behind as many as stand before the place.
+// Puts bytes into the room, after as many as stand before the place.
 #[inline(always)]
 fn put_whole(room: &mut [u8], at: usize, bytes: &[u8])
     requires { at + length bytes.now ≤ length room.old }
-    ensures front { take (at + length bytes.now) room.new ≡ take at room.old ++ bytes.now }
-    ensures behind { drop (at + length bytes.now) room.new
+    ensures prefix { take (at + length bytes.now) room.new ≡ take at room.old ++ bytes.now }
+    ensures after { drop (at + length bytes.now) room.new
         ≡ drop (at + length bytes.now) room.old }
 {
     room[at..at + bytes.len()].copy_from_slice(bytes);
 }
 
-// The same of the first bytes of a moment's answer. The compiler knows their count: two loads and two stores.
+// Puts the first bytes of a moment's answer into the room. The compiler knows their count: two loads and two stores.
 #[inline(always)]
 fn put_moment(room: &mut [u8], at: usize, bytes: &[u8; 64])
     requires { at + MOMENT ≤ length room.old }
-    ensures front { take (at + MOMENT) room.new ≡ take at room.old ++ take MOMENT bytes.now }
-    ensures behind { drop (at + MOMENT) room.new ≡ drop (at + MOMENT) room.old }
+    ensures prefix { take (at + MOMENT) room.new ≡ take at room.old ++ take MOMENT bytes.now }
+    ensures after { drop (at + MOMENT) room.new ≡ drop (at + MOMENT) room.old }
 {
     put_whole(room, at, &bytes[..MOMENT]);
 }
 
-// Fills the room behind a place with the first of these bytes.
+// Fills the room after a place with the first of these bytes.
 #[cold]
 #[inline(never)]
 fn fill(room: &mut [u8], at: usize, bytes: &[u8])
@@ -43,15 +43,15 @@ fn fill(room: &mut [u8], at: usize, bytes: &[u8])
     room[at..].copy_from_slice(&bytes[..count]);
 }
 
-/// Puts an answer into the room, behind as many bytes as stand before the place, and tells where it ends. Where there is too
+/// Puts an answer into the room, after as many bytes as stand before the place, and tells where it ends. Where there is too
 /// little room, it is filled with the beginning.
 #[inline(always)]
 pub(crate) fn put(room: &mut [u8], at: usize, answer: &Answer) -> Result<usize, TooLittleRoom>
     requires { at ≤ length room.old }
     ensures end { IfOk result (λ end. end ≡ at + length answer.now) }
     ensures within { IfOk result (λ end. end ≤ length room.old) }
-    ensures front { IfOk result (λ end. take end room.new ≡ take at room.old ++ answer.now) }
-    ensures behind { IfOk result (λ end. drop end room.new ≡ drop end room.old) }
+    ensures prefix { IfOk result (λ end. take end room.new ≡ take at room.old ++ answer.now) }
+    ensures after { IfOk result (λ end. drop end room.new ≡ drop end room.old) }
     ensures less { OnErr result (length room.old < at + length answer.now) }
     ensures full { OnErr result
         (room.new ≡ take at room.old ++ take (length room.old - at) answer.now) }

@@ -2,7 +2,7 @@
 
 ghost use Rattle.std.specs.Prelude.{◌≡◌, ◌+◌, ◌-◌, ◌^◌, ◌<◌, ◌≤◌, None, true, false, length, take, IfOk, OnOk, OnErr, if◌then◌else◌};
 ghost use Rattle.std.specs.Io.KnownBytes.{Consumes, IsAtEnd};
-ghost use Rattle.instants_stream.specs.Told.{StaysOrUntold};
+ghost use Rattle.instants_stream.specs.Known.{StaysOrUnknown};
 
 use crate::devices::{ByteReader, DeviceFailed};
 use std::io::Read;
@@ -58,7 +58,7 @@ impl<R: Read> ByteReader for StdReader<R> {
         ensures ok { OnOk result (⟦<StdReader<R> as ByteReader>⟧.failed self.new
             ≡ ⟦<StdReader<R> as ByteReader>⟧.failed self.old) }
         ensures err { OnErr result (⟦<StdReader<R> as ByteReader>⟧.failed self.new ≡ true) }
-        ensures kept { OnErr result (StaysOrUntold
+        ensures kept { OnErr result (StaysOrUnknown
             (⟦<StdReader<R> as ByteReader>⟧.left self.old)
             (⟦<StdReader<R> as ByteReader>⟧.left self.new)) }
     {

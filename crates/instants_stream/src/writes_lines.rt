@@ -1,7 +1,7 @@
 //! What writes for lines.
 ghost use Rattle.std.specs.Prelude.{◌≡◌, true, false, OnOk, OnErr};
 ghost use Rattle.std.specs.Io.KnownBytes.{Appends};
-ghost use Rattle.instants_stream.specs.Told.{AppendsFront};
+ghost use Rattle.instants_stream.specs.Known.{AppendsPrefix};
 ghost use Rattle.instants_stream.specs.Steps.{Steps};
 
 use crate::devices::{ByteWriter, DeviceFailed};
@@ -27,11 +27,11 @@ pub trait WritesLines {
             (steps.said (state self.old) line.now)) }
         ensures next { OnOk result (state self.new ≡ steps.next (state self.old) line.now) }
         ensures ok { OnOk result (W.failed writer.new ≡ W.failed writer.old) }
-        ensures front { OnErr result (AppendsFront (W.held writer.old) (W.held writer.new)
+        ensures prefix { OnErr result (AppendsPrefix (W.held writer.old) (W.held writer.new)
             (steps.said (state self.old) line.now)) }
         ensures err { OnErr result (W.failed writer.new ≡ true) };
 
-    /// The same for a last line, which no line feed ends: nothing is kept of it.
+    /// Writes what is due for a last line, which no line feed ends: nothing is kept of it.
     fn write_last_line<W: ByteWriter>(
         &mut self,
         line: &[u8],
@@ -41,23 +41,23 @@ pub trait WritesLines {
         ensures written { OnOk result (Appends (W.held writer.old) (W.held writer.new)
             (steps.last_said (state self.old) line.now)) }
         ensures ok { OnOk result (W.failed writer.new ≡ W.failed writer.old) }
-        ensures front { OnErr result (AppendsFront (W.held writer.old) (W.held writer.new)
+        ensures prefix { OnErr result (AppendsPrefix (W.held writer.old) (W.held writer.new)
             (steps.last_said (state self.old) line.now)) }
         ensures err { OnErr result (W.failed writer.new ≡ true) };
 
     /// Writes what there is to write for the first bytes of a longer line, and keeps what there is to keep of it.
     fn begin_line<W: ByteWriter>(
         &mut self,
-        front: &[u8],
+        prefix: &[u8],
         writer: &mut W,
     ) -> Result<(), DeviceFailed>
         requires { W.failed writer.old ≡ false }
         ensures written { OnOk result (Appends (W.held writer.old) (W.held writer.new)
-            (steps.begun (state self.old) front.now)) }
-        ensures within { OnOk result (state self.new ≡ steps.within (state self.old) front.now) }
+            (steps.begun (state self.old) prefix.now)) }
+        ensures within { OnOk result (state self.new ≡ steps.within (state self.old) prefix.now) }
         ensures ok { OnOk result (W.failed writer.new ≡ W.failed writer.old) }
-        ensures front { OnErr result (AppendsFront (W.held writer.old) (W.held writer.new)
-            (steps.begun (state self.old) front.now)) }
+        ensures prefix { OnErr result (AppendsPrefix (W.held writer.old) (W.held writer.new)
+            (steps.begun (state self.old) prefix.now)) }
         ensures err { OnErr result (W.failed writer.new ≡ true) };
 
     /// Whether the bytes after those first ones are handed on.
@@ -70,17 +70,17 @@ pub trait WritesLines {
         ensures written { OnOk result (Appends (W.held writer.old) (W.held writer.new)
             (steps.ended (state self.now))) }
         ensures ok { OnOk result (W.failed writer.new ≡ W.failed writer.old) }
-        ensures front { OnErr result (AppendsFront (W.held writer.old) (W.held writer.new)
+        ensures prefix { OnErr result (AppendsPrefix (W.held writer.old) (W.held writer.new)
             (steps.ended (state self.now))) }
         ensures err { OnErr result (W.failed writer.new ≡ true) };
 
-    /// The same where it is the last line, which no line feed ends.
+    /// Writes what ends a longer last line, which no line feed ends.
     fn end_last_line<W: ByteWriter>(&self, writer: &mut W) -> Result<(), DeviceFailed>
         requires { W.failed writer.old ≡ false }
         ensures written { OnOk result (Appends (W.held writer.old) (W.held writer.new)
             (steps.last_ended (state self.now))) }
         ensures ok { OnOk result (W.failed writer.new ≡ W.failed writer.old) }
-        ensures front { OnErr result (AppendsFront (W.held writer.old) (W.held writer.new)
+        ensures prefix { OnErr result (AppendsPrefix (W.held writer.old) (W.held writer.new)
             (steps.last_ended (state self.now))) }
         ensures err { OnErr result (W.failed writer.new ≡ true) };
 }

@@ -96,7 +96,7 @@ fn run_in(
     (answer, writer.has_failed())
 }
 
-// Whether a run whose call at this place fails has written what came before, and makes no call behind it.
+// Whether a run whose call at this place fails has written what came before, and makes no call after it.
 fn is_used(device: &FailsOnce, fails: bool, has_failed: bool) -> bool {
     let len = device.fails_at.min(48);
     (has_failed, device.calls, device.len) == (fails, len + 1, len)

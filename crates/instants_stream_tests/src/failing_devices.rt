@@ -85,7 +85,7 @@ fn reads_end_so(alloc: Global, words: &str) -> bool {
     true
 }
 
-// The same of a line that is longer than the limit, and of devices that both fail.
+// Whether runs end so on a line that is longer than the limit, and on devices that both fail.
 fn others_end_so(alloc: Global, words: &str) -> [bool; 3] {
     let both = Failing {
         read: Some(0),
@@ -98,7 +98,7 @@ fn others_end_so(alloc: Global, words: &str) -> [bool; 3] {
     ]
 }
 
-// The same of writes.
+// Whether runs end so where a write fails, after any count of bytes.
 fn writes_end_so(alloc: Global, words: &str) -> bool {
     for after in 0..49 {
         let failing = write_fails(after);
@@ -109,7 +109,7 @@ fn writes_end_so(alloc: Global, words: &str) -> bool {
     true
 }
 
-// The same of each kind of failure, and of devices that don't fail.
+// Whether runs end so for each kind of failure, and on devices that don't fail.
 fn all_end_so(alloc: Global, words: &str) -> [bool; 4] {
     [
         reads_end_so(alloc, words),

@@ -84,7 +84,7 @@ fn handed_on(inner: Vec<u8>, outer: Vec<u8>, fail_after: Option<usize>) -> (Hand
     (end, space)
 }
 
-// The same through a block of 8 bytes and one of 100.
+// What is handed on through a block of 8 bytes and one of 100.
 fn handed_on_by_both(alloc: Global, fail_after: Option<usize>) -> Option<(Handed, [u8; 6])> {
     Some(handed_on(block(alloc, 8)?, block(alloc, 100)?, fail_after))
 }
@@ -156,7 +156,7 @@ fn ended(
     Some((answer, space))
 }
 
-// These bytes in front, and zeros.
+// These bytes before, and zeros.
 fn with_zeros(bytes: &[u8]) -> [u8; 48] {
     let mut space = [0; 48];
     let count = bytes.len().min(48);
@@ -196,7 +196,7 @@ fn ends_at_writes(alloc: Global) -> bool {
     true
 }
 
-// What fails to be handed on is a failed write, and nothing is read behind it.
+// What fails to be handed on is a failed write, and nothing is read after it.
 #[test]
 fn fails_before_a_read(rt: HostRuntime) {
     assert!(rt; ends_at_writes(rt.alloc()));

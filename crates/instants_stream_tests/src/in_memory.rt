@@ -11,7 +11,7 @@ static NO_WORDS: [&str; 1] = ["+00:00"];
 
 const INPUT: &[u8] = b"2021-01-02T04:04:05+01:00\n";
 
-// How many bytes the answer has, or the status, and the room behind it: that of a line, as the laws allow.
+// How many bytes the answer has, or the status, and the room after it: that of a line, as the laws allow.
 fn answered(alloc: Global, words: &[&str]) -> (Result<usize, u8>, [u8; LINE_ROOM]) {
     laws::one_output();
     laws::joined_blocks();
@@ -20,7 +20,7 @@ fn answered(alloc: Global, words: &[&str]) -> (Result<usize, u8>, [u8; LINE_ROOM
     (answer.map_err(|fault| fault.status()), output)
 }
 
-// The same with room for a date alone.
+// What words ask for, into a room for a date alone.
 fn cut(alloc: Global) -> (Result<usize, u8>, [u8; 10]) {
     let mut output = [b'.'; 10];
     let answer = answer_lines(alloc, &WORDS, INPUT, &mut output);

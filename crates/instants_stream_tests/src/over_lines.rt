@@ -4,7 +4,7 @@ use crate::support::timeline;
 use instants_timeline::{TooLittleRoom, run_over};
 use std::alloc::Global;
 
-// What a call answers, and the room behind it.
+// What a call answers, and the room after it.
 type Over = (Result<usize, TooLittleRoom>, [u8; 40]);
 
 // What lines of at most 30 bytes are answered by the words, in room for so many bytes.

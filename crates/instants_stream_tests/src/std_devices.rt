@@ -1,4 +1,4 @@
-//! Devices of std that fail once and work again, behind ours: how often they are called.
+//! Devices of std that fail once and work again, after ours: how often they are called.
 
 use instants_stream::{ByteReader, ByteWriter, DeviceFailed, StdReader, StdWriter};
 use std::io::{Error, ErrorKind, Read, Result as IoResult, Write};

@@ -117,10 +117,10 @@ fn are_answered_over(row: &(usize, &[u8], &[u8])) -> bool {
     if over(limit, stream, output.len(), output) != (Ok(output.len()), true) {
         return false;
     }
-    let Some((_, front)) = output.split_last() else {
+    let Some((_, prefix)) = output.split_last() else {
         return true;
     };
-    over(limit, stream, front.len(), front) == (Err(TooLittleRoom), true)
+    over(limit, stream, prefix.len(), prefix) == (Err(TooLittleRoom), true)
 }
 
 #[test]
@@ -162,7 +162,7 @@ fn reads_end_so(limit: usize, after: usize, write_fails: Option<usize>, output: 
     end_so(cut, RunFault::Read, output)
 }
 
-// The same of a line that is longer than the limit, and of devices that both fail.
+// Whether runs end so on a line that is longer than the limit, and on devices that both fail.
 fn others_end_so() -> [bool; 3] {
     [
         reads_end_so(22, 23, None, b""),

@@ -80,7 +80,7 @@ pub fn run_words_on<'a, R: ByteReader, W: ByteWriter>(
     run_words(alloc, words, reader, writer)
 }
 
-/// The same by the timeline that words ask for, which are parted by bars, with lines of at most so many bytes.
+/// Runs the timeline that words ask for, which are parted by bars, with lines of at most so many bytes.
 pub fn run_on<R: ByteReader, W: ByteWriter>(
     alloc: Global,
     words: &str,
@@ -144,8 +144,8 @@ impl ByteReader for Counting<'_> {
     fn read(&mut self, into: &mut [u8]) -> Result<usize, DeviceFailed> {
         self.reads = self.reads.saturating_add(1);
         let count = into.len().min(self.rest.len());
-        let (front, rest) = self.rest.split_at(count);
-        into[..count].copy_from_slice(front);
+        let (prefix, rest) = self.rest.split_at(count);
+        into[..count].copy_from_slice(prefix);
         self.rest = rest;
         Ok(count)
     }

@@ -136,7 +136,7 @@ fn rows(rt: HostRuntime) {
     }
 }
 
-// A description, a line, and whether its first sixteen bytes show that no front of it is read, and whether they or its length
+// A description, a line, and whether its first sixteen bytes show that no prefix of it is read, and whether they or its length
 // show that it is not read as a whole.
 const BOUNDS: &str = r"v3 [day]-[month] [hour]:[minute] => 01-07 10:52 => false false
 v3 [day]-[month] [hour]:[minute] => 01-07 10.52 => true true

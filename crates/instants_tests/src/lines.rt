@@ -32,7 +32,7 @@ fn have_lines(row: &((i32, Month, u8), i32, bool, bool)) -> bool {
     parts == Some((year, target, year && target))
 }
 
-// A moment behind the years that have lines, which is shown at an offset within them, fits a line there alone.
+// A moment after the years that have lines, which is shown at an offset within them, fits a line there alone.
 fn west_in_utc() -> Option<bool> {
     let west = moment((9999, Month::December, 31), (23, 59, 59, 0), -3600)?;
     Some(fits_line(west.checked_to_offset(UtcOffset::UTC)?))

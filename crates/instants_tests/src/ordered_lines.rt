@@ -168,7 +168,7 @@ fn assumed(rt: &impl Abort, is_assumed: bool) -> Option<UtcOffset>
     }
 }
 
-// The same of these sources for timelines with both targets, with or without an offset to assume.
+// Whether timelines with both targets read the answers of these sources again as themselves, with an offset to assume or not.
 fn all_read_again(
     rt: &impl Abort,
     alloc: Global,
@@ -186,7 +186,7 @@ fn all_read_again(
     are_read_again(&again, from_lines, &from_answers, answers)
 }
 
-// The same of each source that reads the answers, with and without an offset to assume.
+// Whether each source that reads the answers reads them again as themselves, with and without an offset to assume.
 fn each_reads_again(
     rt: &impl Abort,
     alloc: Global,

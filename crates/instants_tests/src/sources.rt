@@ -61,7 +61,7 @@ fn told(
     format!(in alloc; "{read:?} {named:?} {}", source.cannot_match(line))
 }
 
-// Whether what is told of a row's line is what stands behind it.
+// Whether what is told of a row's line is what stands after it.
 fn is_told(rt: &impl Abort, alloc: Global, source: &Source, row: &str, hour: UtcOffset) -> bool {
     let (line, wanted) = row.split_once(" => ").expect(rt, "a row");
     let told = told(alloc, source, line.as_bytes(), hour).expect(rt, "memory");

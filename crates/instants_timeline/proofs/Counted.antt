@@ -43,7 +43,7 @@ unnamed_all : (r : Result Shown Fault) (n : ℕ) → is_some (result_ok r) ≡ f
 unnamed_all (Ok m) n e = absurd cc
 unnamed_all (Err f) n e = refl
 
--- behind a source that names none the others are tried
+-- after a source that names none the others are tried
 tried_on-later : (assumed : Option ℤ) (grammar : Grammar) (others : List Grammar) (line : List ℕ) → is_some (result_ok (named assumed grammar line)) ≡ false
     → tried_on assumed (grammar ∷ others) line ≡ tried_by assumed grammar line + tried_on assumed others line
 unfolding tried_on
@@ -51,7 +51,7 @@ tried_on-later assumed grammar others line e = omega (arith, unnamed_all (named 
 
 -- ---- sources from an index on
 
--- the next one, and those behind it
+-- the next one, and those after it
 sources_from : (sources : List Source) (i : ℕ) (x : Source) → i < length sources → x ≡ get_or sources i x → map grammar_of (drop i sources) ≡ grammar_of x ∷ map grammar_of (drop (i + 1) sources)
 sources_from sources i x lt e =
     let there : drop i sources ≡ get_or sources i x ∷ drop (i + 1) sources = drop_more sources i x lt in

@@ -68,16 +68,16 @@ answered_at setting line bytes place grammar others from cut a =
     let there : result_ok (first_named setting.assumed (drop place setting.sources) line) ≡ Some a.moment = rw cut (first_named-here setting.assumed grammar others line a.moment a.is) in
     answered setting line bytes (answer_alike a (sym from ∙ there))
 
-behind : (setting : Setting) (line : List ℕ) (place : ℕ) (grammar : Grammar) (others : List Grammar) → NamesFrom setting line place → drop place setting.sources ≡ grammar ∷ others
+after : (setting : Setting) (line : List ℕ) (place : ℕ) (grammar : Grammar) (others : List Grammar) → NamesFrom setting line place → drop place setting.sources ≡ grammar ∷ others
     → result_ok (named setting.assumed grammar line) ≡ None → result_ok (first_named setting.assumed setting.sources line) ≡ result_ok (first_named setting.assumed others line)
-behind setting line place grammar others from cut none =
+after setting line place grammar others from cut none =
     let there : result_ok (first_named setting.assumed (drop place setting.sources) line) ≡ result_ok (first_named setting.assumed others line) = rw cut (first_named-later setting.assumed grammar others line none) in
     sym from ∙ there
 
 -- a place whose source names none names what the next one does
 pub names_from_next : (setting : Setting) (line : List ℕ) (place : ℕ) (grammar : Grammar) → NamesFrom setting line place → drop place setting.sources ≡ grammar ∷ drop (place + 1) setting.sources
     → result_ok (named setting.assumed grammar line) ≡ None → NamesFrom setting line (place + 1)
-names_from_next setting line place grammar from cut none = sym (behind setting line place grammar (drop (place + 1) setting.sources) from cut none)
+names_from_next setting line place grammar from cut none = sym (after setting line place grammar (drop (place + 1) setting.sources) from cut none)
 
 fault_of_first : (r : Result Shown Fault) (o : Option Shown) (fault : Fault) → result_ok (or_named r o) ≡ None → r ≡ Err fault → or_named r o ≡ Err fault
 fault_of_first r None fault none e = rw e refl
@@ -91,7 +91,7 @@ answered_fault setting line bytes grammar others fault e none refused text =
     let first : first_named setting.assumed setting.sources line ≡ Err fault = rw e (fault_of_first (named setting.assumed grammar line) (result_ok (first_named setting.assumed others line)) fault (rw e at none) refused) in
     rw first text
 
--- the source at a place, before those behind it
+-- the source at a place, before those after it
 pub source_before : (sources : List Source) (place : ℕ) (source : Source) → place < length sources → source ≡ get_or sources place source
     → drop place (map grammar_of sources) ≡ grammar_of source ∷ map grammar_of (drop (place + 1) sources)
 source_before sources place source within is =
@@ -104,7 +104,7 @@ pub source_at : (sources : List Source) (place : ℕ) (source : Source) → plac
 source_at sources place source within is =
     source_before sources place source within is ∙ ap (λ (rest : List Grammar). grammar_of source ∷ rest) (sym (drop-map grammar_of (place + 1) sources))
 
--- behind all places there is none
+-- after all places there is none
 pub none_at_end : (setting : Setting) (line : List ℕ) (place : ℕ) → length setting.sources ≤ place → NamesFrom setting line place → result_ok (first_named setting.assumed setting.sources line) ≡ None
 unfolding first_named
 none_at_end setting line place end from =

@@ -16,12 +16,12 @@ mean_more [] (h ∷ grammars) s g all one = absurd all
 mean_more (t ∷ said) [] s g all one = absurd all
 mean_more (t ∷ said) (h ∷ grammars) s g all one = (all.0, mean_more said grammars s g all.1 one)
 
--- the refused source behind those that mean something
-pub refused_next : (before : List SourceSaid) (s : SourceSaid) (behind : List SourceSaid) (grammars : List Grammar) (fault : DescriptionFault)
-    → AllMean before grammars → IsRefused s fault → IsRefusal (before ++ s ∷ behind) (refused_at (length before + 1) fault)
-refused_next before s behind grammars (description.Description fault) all one =
-    record { before = before; refused = s; behind = behind; parts = refl; is_place = refl; grammars = grammars; good = all; is_faulty = one }
-refused_next before s behind grammars description.Memory all one = tt
+-- the refused source after those that mean something
+pub refused_next : (before : List SourceSaid) (s : SourceSaid) (after : List SourceSaid) (grammars : List Grammar) (fault : DescriptionFault)
+    → AllMean before grammars → IsRefused s fault → IsRefusal (before ++ s ∷ after) (refused_at (length before + 1) fault)
+refused_next before s after grammars (description.Description fault) all one =
+    record { before = before; refused = s; after = after; parts = refl; is_place = refl; grammars = grammars; good = all; is_faulty = one }
+refused_next before s after grammars description.Memory all one = tt
 
 -- the same by places in a list of texts
 pub mean_index : (texts : List SourceText) (i : ℕ) (d : SourceText) (grammars : List Grammar) (g : Grammar) → i < length texts

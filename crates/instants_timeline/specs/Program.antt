@@ -62,7 +62,7 @@ IsMemory (program.New new.Memory) = ⊤
 IsMemory (program.New (new.Source place fault)) = ⊥
 IsMemory program.Memory = ⊤
 
--- the words are refused so: they are wrong, or a source among them is no description and is the first such one; of want of memory nothing is said
+-- the words are refused so: they are wrong, or a source among them is no description and is the first such one; of lack of memory nothing is said
 abbrev pub IsRefusedAs : List (List ℕ) → ProgramFault → Type 0
 IsRefusedAs said (program.Words fault) = fault ≢ words.Memory → words_said said ≡ Err fault
 IsRefusedAs said (program.New fault) = (asked : Words) × (words_said said ≡ Ok asked) × IsRefusal asked.sources fault

@@ -10,7 +10,7 @@ use Rattle.instants_timeline.specs.declared.new_fault.NewFault.TheVariants as ne
 use Rattle.instants_timeline.specs.declared.program_fault.ProgramFault.{ProgramFault}
 use Rattle.instants_timeline.specs.declared.program_fault.ProgramFault.TheVariants as program
 
--- what is said of a fault behind a program's name, whose words are these
+-- what is said of a fault after a program's name, whose words are these
 abbrev pub text_of : List ℕ → ProgramFault → List ℕ
 text_of usage (program.Words words.Usage) = codes ": usage: " ++ usage
 text_of usage (program.Words words.Target) = codes ": the target offset must be +HH:MM or -HH:MM"

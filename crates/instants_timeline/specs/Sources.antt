@@ -17,14 +17,14 @@ AllMean (said ∷ others) (grammar ∷ grammars) = Means said grammar × AllMean
 pub record IsFirstRefused (sources : List SourceSaid) (place : ℕ) (fault : Fault) : Type 0 where
   pub before : List SourceSaid
   pub refused : SourceSaid
-  pub behind : List SourceSaid
-  pub parts : sources ≡ before ++ refused ∷ behind
+  pub after : List SourceSaid
+  pub parts : sources ≡ before ++ refused ∷ after
   pub is_place : place ≡ length before + 1
   pub grammars : List Grammar
   pub good : AllMean before grammars
   pub is_faulty : IsFaulty refused fault
 
--- a refusal names the first refused source and its fault; of want of memory nothing is said
+-- a refusal names the first refused source and its fault; of lack of memory nothing is said
 abbrev pub IsRefusal : List SourceSaid → NewFault → Type 0
 IsRefusal sources (new.Source place fault) = IsFirstRefused sources place (fault_of fault)
 IsRefusal sources new.Memory = ⊤

@@ -53,7 +53,7 @@ impl LineFault {
         }
     }
 
-    // The same as a call, for faults that are not known when it is compiled.
+    // Writes a fault that is not known when this is compiled, by a call.
     #[cold]
     #[inline(never)]
     pub(crate) fn write(self, answer: &mut Answer)

@@ -52,10 +52,10 @@ impl fmt::Display for ProgramFault<'_> {
     }
 }
 
-// The words of the program behind its name.
+// The words of the program after its name.
 const USAGE: &str = "instants TARGET ASSUMED LIMIT SOURCE...";
 
-/// What a program says of a fault behind its name, as `: reading failed`.
+/// What a program says of a fault after its name, as `: reading failed`.
 #[derive(Clone, Copy, Debug, PartialEq, Eq)]
 pub struct FaultText<'a, 'b> {
     pub fault: ProgramFault<'a>,

@@ -61,7 +61,7 @@ pub(crate) fn answer_lines<R: ByteReader, W: ByteWriter>(
     }
 }
 
-// The same in one way, whatever the first source.
+// Runs over a stream in one way, whatever the first source.
 #[inline(always)]
 fn run_by<A: AnswerWay + Drop, R: ByteReader, W: ByteWriter>(
     way: A,
@@ -83,7 +83,7 @@ fn run_by<A: AnswerWay + Drop, R: ByteReader, W: ByteWriter>(
     run_lines(&Led::new(timeline, way), limit, buffer, reader, writer)
 }
 
-/// Writes the answer to each line of the input, each followed by a line feed, into the front of the room. How many bytes the
+/// Writes the answer to each line of the input, each followed by a line feed, into the start of the room. How many bytes the
 /// answers have.
 ///
 /// Lines end in LF; a nonempty last part is a line too. A line that is longer than the limit is answered `! long`. The lines are
@@ -94,7 +94,7 @@ pub fn run_over(
     input: &[u8],
     room: &mut [u8],
 ) -> Result<usize, TooLittleRoom>
-    // Exactly the answers are written, and what lies behind them stays.
+    // Exactly the answers are written, and what lies after them stays.
     ensures len { IfOk result
         (λ len. len ≡ length (output (answer_to (setting_of timeline.now)) limit input.now)) }
     ensures written { IfOk result (λ len. room.new

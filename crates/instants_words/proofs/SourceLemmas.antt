@@ -24,16 +24,16 @@ next_step place (Some f) language next words = refl
 next_step place None (Some l) next words = refl
 next_step place None None next words = refl
 
--- sources are the first one and those behind it
+-- sources are the first one and those after it
 pub sources_step : (place : ℕ) (word : List ℕ) (words : List (List ℕ)) → sources_said place (word ∷ words) ≡ first_or place (source_said (word ∷ words))
 unfolding sources_said
 sources_step place word [] = last_step place (format_named word) (language_named word)
 sources_step place word (next ∷ words) = next_step place (format_named word) (language_named word) next words
 
 -- sources that stand before others
-abbrev pub behind : List SourceSaid → Result (List SourceSaid) WordsFault → Result (List SourceSaid) WordsFault
-behind before (Ok sources) = Ok (before ++ sources)
-behind before (Err fault) = Err fault
+abbrev pub after : List SourceSaid → Result (List SourceSaid) WordsFault → Result (List SourceSaid) WordsFault
+after before (Ok sources) = Ok (before ++ sources)
+after before (Err fault) = Err fault
 
 pub step_some : (place : ℕ) (words others : List (List ℕ)) (s : SourceSaid) → source_said words ≡ Some (s, others) → sources_said place words ≡ also s (sources_said (place + 1) others)
 step_some place [] others s e = absurd cc
@@ -44,33 +44,33 @@ step_none place [] some e = absurd (omega arith)
 step_none place (word ∷ words) some e = sources_step place word words ∙ ap (first_or place) e
 
 -- one source more stands before the others
-pub behind_one : (before : List SourceSaid) (s : SourceSaid) (others : Result (List SourceSaid) WordsFault) → behind before (also s others) ≡ behind (before ++ s ∷ []) others
-behind_one before s (Ok sources) = ap Ok (sym (append_assoc before (s ∷ []) sources))
-behind_one before s (Err fault) = refl
+pub after_one : (before : List SourceSaid) (s : SourceSaid) (others : Result (List SourceSaid) WordsFault) → after before (also s others) ≡ after (before ++ s ∷ []) others
+after_one before s (Ok sources) = ap Ok (sym (append_assoc before (s ∷ []) sources))
+after_one before s (Err fault) = refl
 
 -- what is said is what was said so far, and then one source more
 pub said_more : (ws : List (List ℕ)) (before : List SourceSaid) (place at n : ℕ) (s : SourceSaid)
-    → sources_said 1 ws ≡ behind before (sources_said place (drop at ws)) → source_said (drop at ws) ≡ Some (s, drop n (drop at ws))
-    → sources_said 1 ws ≡ behind (before ++ s ∷ []) (sources_said (place + 1) (drop (at + n) ws))
+    → sources_said 1 ws ≡ after before (sources_said place (drop at ws)) → source_said (drop at ws) ≡ Some (s, drop n (drop at ws))
+    → sources_said 1 ws ≡ after (before ++ s ∷ []) (sources_said (place + 1) (drop (at + n) ws))
 said_more ws before place at n s so_far e =
-    so_far ∙ ap (behind before) (step_some place (drop at ws) (drop n (drop at ws)) s e) ∙ behind_one before s (sources_said (place + 1) (drop n (drop at ws)))
-    ∙ ap (λ rest. behind (before ++ s ∷ []) (sources_said (place + 1) rest)) (drop-drop n at ws)
+    so_far ∙ ap (after before) (step_some place (drop at ws) (drop n (drop at ws)) s e) ∙ after_one before s (sources_said (place + 1) (drop n (drop at ws)))
+    ∙ ap (λ rest. after (before ++ s ∷ []) (sources_said (place + 1) rest)) (drop-drop n at ws)
 
--- nothing is said behind the last word
+-- nothing is said after the last word
 pub said_all : (ws : List (List ℕ)) (before : List SourceSaid) (place at : ℕ)
-    → sources_said 1 ws ≡ behind before (sources_said place (drop at ws)) → length ws ≤ at → sources_said 1 ws ≡ Ok before
+    → sources_said 1 ws ≡ after before (sources_said place (drop at ws)) → length ws ≤ at → sources_said 1 ws ≡ Ok before
 unfolding sources_said
-said_all ws before place at so_far h = so_far ∙ ap (λ rest. behind before (sources_said place rest)) (drop_all at ws h) ∙ ap Ok (append-nil before)
+said_all ws before place at so_far h = so_far ∙ ap (λ rest. after before (sources_said place rest)) (drop_all at ws h) ∙ ap Ok (append-nil before)
 
 -- a word that says nothing
 pub said_wrong : (ws : List (List ℕ)) (before : List SourceSaid) (place at : ℕ)
-    → sources_said 1 ws ≡ behind before (sources_said place (drop at ws)) → at < length ws → source_said (drop at ws) ≡ None
+    → sources_said 1 ws ≡ after before (sources_said place (drop at ws)) → at < length ws → source_said (drop at ws) ≡ None
     → sources_said 1 ws ≡ Err (Source place)
-said_wrong ws before place at so_far h none = so_far ∙ ap (behind before) (step_none place (drop at ws) (rw (length-drop at ws) (omega arith)) none)
+said_wrong ws before place at so_far h none = so_far ∙ ap (after before) (step_none place (drop at ws) (rw (length-drop at ws) (omega arith)) none)
 
 -- where all words say sources, those so far are all of them once none is left
 pub said_end : (ws : List (List ℕ)) (before all : List SourceSaid) (place at : ℕ)
-    → sources_said 1 ws ≡ behind before (sources_said place (drop at ws)) → source_said (drop at ws) ≡ None → sources_said 1 ws ≡ Ok all
+    → sources_said 1 ws ≡ after before (sources_said place (drop at ws)) → source_said (drop at ws) ≡ None → sources_said 1 ws ≡ Ok all
     → sources_said 1 ws ≡ Ok before
 said_end ws before all place at so_far none good =
     elim (nat_lt at (length ws)) as (λ b. nat_lt at (length ws) ≡ b → sources_said 1 ws ≡ Ok before) [

@@ -15,9 +15,9 @@ use Rattle.instants_words.specs.Sources.{SourceSaid, said_by, format_named, lang
 use Rattle.instants_words.specs.FirstSource.{first_said, source_said}
 use Rattle.instants_words.specs.TextWords.{words_in, words_left}
 use Rattle.instants_words.specs.Words.{◌or◌, ◌>>=◌, words_said}
-use Rattle.instants_words.proofs.SourceLemmas.{behind, step_some, step_none, behind_one}
+use Rattle.instants_words.proofs.SourceLemmas.{after, step_some, step_none, after_one}
 
--- a word, and behind its line feed more
+-- a word, and after its line feed more
 pub more_words : (text word rest : List ℕ) → word ≡ before_first (λ b. b == 10) text → rest ≡ after_first (λ b. b == 10) text → position_or_len (λ b. b == 10) text < length text
     → words_in text ≡ word ∷ words_in rest
 unfolding words_in
@@ -31,16 +31,16 @@ one_word text none =
 
 -- what is said is what was said so far, and then one source more
 pub said_next : (ws left rest : List (List ℕ)) (before : List SourceSaid) (place : ℕ) (s : SourceSaid)
-    → sources_said 1 ws ≡ behind before (sources_said place left) → source_said left ≡ Some (s, rest)
-    → sources_said 1 ws ≡ behind (before ++ s ∷ []) (sources_said (place + 1) rest)
+    → sources_said 1 ws ≡ after before (sources_said place left) → source_said left ≡ Some (s, rest)
+    → sources_said 1 ws ≡ after (before ++ s ∷ []) (sources_said (place + 1) rest)
 said_next ws left rest before place s so_far e =
-    so_far ∙ ap (behind before) (step_some place left rest s e) ∙ behind_one before s (sources_said (place + 1) rest)
+    so_far ∙ ap (after before) (step_some place left rest s e) ∙ after_one before s (sources_said (place + 1) rest)
 
 -- a word that says nothing
 pub said_no_source : (ws left : List (List ℕ)) (before : List SourceSaid) (place : ℕ)
-    → sources_said 1 ws ≡ behind before (sources_said place left) → 0 < length left → source_said left ≡ None
+    → sources_said 1 ws ≡ after before (sources_said place left) → 0 < length left → source_said left ≡ None
     → sources_said 1 ws ≡ Err (Source place)
-said_no_source ws left before place so_far some none = so_far ∙ ap (behind before) (step_none place left some none)
+said_no_source ws left before place so_far some none = so_far ∙ ap (after before) (step_none place left some none)
 
 abbrev left_len : Option (SourceSaid × List (List ℕ)) → ℕ
 left_len None = 0
@@ -64,12 +64,12 @@ few_words text =
     let len = length-slice_split (λ b. b == 10) text in
     (omega (arith, len), omega (arith, len, count_by-le-length (λ b. b == 10) text))
 
-pub behind_nothing : (r : Result (List SourceSaid) WordsFault) → r ≡ behind [] r
-behind_nothing (Ok sources) = refl
-behind_nothing (Err fault) = refl
+pub after_nothing : (r : Result (List SourceSaid) WordsFault) → r ≡ after [] r
+after_nothing (Ok sources) = refl
+after_nothing (Err fault) = refl
 
--- no word is left behind as many sources as there are words
-pub none_left : (text : List ℕ) (left : List (List ℕ)) (before : List SourceSaid) (count : ℕ) → sources_said 1 (words_in text) ≡ behind before (sources_said (count + 1) left)
+-- no word is left after as many sources as there are words
+pub none_left : (text : List ℕ) (left : List (List ℕ)) (before : List SourceSaid) (count : ℕ) → sources_said 1 (words_in text) ≡ after before (sources_said (count + 1) left)
     → length left ≡ 0 → IsOk (sources_said 1 (words_in text))
 unfolding sources_said
 none_left text [] before count e none = rw e refl
@@ -110,7 +110,7 @@ unfolding words_said
 said_four ws [] t a l e some = absurd (omega arith)
 said_four ws (word ∷ others) t a l e some = rw e refl
 
--- words one after the other, and at least one behind the third
+-- words one after the other, and at least one after the third
 pub four_words : (text t a l : List ℕ) (first second third : Option (Bor (List ℕ))) (b c d : Bor (List ℕ))
     → words_in text ≡ t ∷ words_left first → first ≡ Some b → words_in b.now ≡ a ∷ words_left second → second ≡ Some c
     → words_in c.now ≡ l ∷ words_left third → third ≡ Some d → words_said (words_in text) ≡ four_said t a l (words_in d.now)

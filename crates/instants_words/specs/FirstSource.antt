@@ -1,4 +1,4 @@
--- The first of several sources, and the words behind it.
+-- The first of several sources, and the words after it.
 use Rattle.std.specs.Prelude.{ℕ, Option, None, Some, List, [], ◌∷◌}
 use Rattle.instants_words.specs.Sources.{SourceSaid, format_named, language_named}
 

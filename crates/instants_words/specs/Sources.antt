@@ -52,11 +52,11 @@ abbrev pub last_said : ℕ → Option SourceSaid → Result (List SourceSaid) Wo
 last_said place (Some format) = Ok (format ∷ [])
 last_said place None = Err (Source place)
 
--- a word names a format, with these sources behind it, or a language, with its description and those sources behind it
+-- a word names a format, with these sources after it, or a language, with its description and those sources after it
 abbrev pub next_said : ℕ → Option SourceSaid → Option (List ℕ → SourceSaid) → List ℕ → Result (List SourceSaid) WordsFault → Result (List SourceSaid) WordsFault → Result (List SourceSaid) WordsFault
-next_said place (Some format) language description behind behind_description = also format behind
-next_said place None (Some language) description behind behind_description = also (language description) behind_description
-next_said place None None description behind behind_description = Err (Source place)
+next_said place (Some format) language description after after_description = also format after
+next_said place None (Some language) description after after_description = also (language description) after_description
+next_said place None None description after after_description = Err (Source place)
 
 -- sources by their words, the first of them in this place: a format is one word, a language and its description are two
 unfoldable pub sources_said : ℕ → List (List ℕ) → Result (List SourceSaid) WordsFault

@@ -11,7 +11,7 @@ pub enum WordsFault {
     Assumed,
     /// The third is not a number from 1 to 1048576, in one to seven digits.
     Limit,
-    /// The source in this place, counted from 1, is not known, or is a language with no word behind it.
+    /// The source in this place, counted from 1, is not known, or is a language with no word after it.
     Source(usize),
     /// Memory ran out. The words themselves are fine.
     Memory,

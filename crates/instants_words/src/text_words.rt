@@ -10,7 +10,7 @@ use crate::fault::WordsFault;
 use crate::pieces;
 use crate::sources::{described, format};
 
-// The first word, and the words behind it, if there are any.
+// The first word, and the words after it, if there are any.
 fn first_word(text: &str) -> (&str, Option<&str>)
     ensures { words_in text.now ≡ result.0.now ∷ words_left result.1 }
 {
@@ -20,8 +20,8 @@ fn first_word(text: &str) -> (&str, Option<&str>)
     }
 }
 
-// The words behind those that say the first source: one word of a format, or two of a language and a description.
-fn behind_source(text: &str) -> Option<Option<&str>>
+// The words after those that say the first source: one word of a format, or two of a language and a description.
+fn after_source(text: &str) -> Option<Option<&str>>
     ensures some { IfSome result (λ rest. (said : SourceSaid)
         × (source_said (words_in text.now) ≡ Some (said, words_left rest))) }
     ensures none { IfNone result (source_said (words_in text.now) ≡ None) }
@@ -48,7 +48,7 @@ fn fault_in_sources(text: &str) -> Option<WordsFault>
         let Some(words) = left else {
             return None;
         };
-        match behind_source(words) {
+        match after_source(words) {
             Some(rest) => left = rest,
             None => return Some(WordsFault::Source(count + 1)),
         }
@@ -65,16 +65,16 @@ pub fn fault_in_text(text: &str) -> Option<WordsFault>
     ensures none { IfNone result (IsOk (words_said (words_in text.now))) }
     ensures never_memory { result ≢ Some WordsFault.Memory }
 {
-    let (target, behind_target) = first_word(text);
-    let Some(rest) = behind_target else {
+    let (target, after_target) = first_word(text);
+    let Some(rest) = after_target else {
         return Some(WordsFault::Usage);
     };
-    let (assumed, behind_assumed) = first_word(rest);
-    let Some(rest) = behind_assumed else {
+    let (assumed, after_assumed) = first_word(rest);
+    let Some(rest) = after_assumed else {
         return Some(WordsFault::Usage);
     };
-    let (limit, behind_limit) = first_word(rest);
-    let Some(sources) = behind_limit else {
+    let (limit, after_limit) = first_word(rest);
+    let Some(sources) = after_limit else {
         return Some(WordsFault::Usage);
     };
     if pieces::offset(target.as_bytes()).is_none() {

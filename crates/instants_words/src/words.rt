@@ -27,7 +27,7 @@ pub struct Words<'a> {
 /// Reads the words of the program: a target offset, an offset to assume or `-`, a limit, and sources.
 ///
 /// A source is `rfc2822`, `rfc3339` or `iso8601`, or one of `v1`, `v2`, `v3` and `strftime` with a description in the
-/// word behind it. All words are looked at before memory is taken: `Memory` comes only where a growth of the list of
+/// word after it. All words are looked at before memory is taken: `Memory` comes only where a growth of the list of
 /// sources was refused.
 #[tactic(auto, unfolding(crate::specs::Words::words_said))]
 pub fn read_words<'a>(alloc: Global, words: &[&'a str]) -> Result<Words<'a>, WordsFault>

@@ -1,4 +1,4 @@
-//! Any refusal of this library but want of memory.
+//! Any refusal of this library but lack of memory.
 ghost use Rattle.std.specs.Prelude.{◌≡◌, Some};
 ghost use Rattle.base.specs.Convert.{GivesBack};
 ghost use Rattle.parsing.specs.Error.{error_of, error_text};
@@ -10,7 +10,7 @@ use description_lexer::InvalidFormatDescription;
 use parsing_combinator::{Parse, ParseFromDescription, TryFromParsed};
 use std::fmt;
 
-/// Any refusal but want of memory, as one type. Each is made into it by `from`, and given back by `try_from`, which
+/// Any refusal but lack of memory, as one type. Each is made into it by `from`, and given back by `try_from`, which
 /// answers `DifferentVariant` where it was another.
 #[derive(Clone, Copy, Debug, PartialEq, Eq)]
 pub enum Error<'a> {

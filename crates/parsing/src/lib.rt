@@ -13,12 +13,12 @@
 //!
 //! - `Parsable` has the readings, of `Items`, which are a slice of items, of a tree of version 3, and of `Rfc2822`,
 //!   `Rfc3339` and `Iso8601`. `parse_date` to `parse_offset_date_time` read all of the bytes to one value;
-//!   `parse_into` reads their front into a record and leaves the rest.
+//!   `parse_into` reads their prefix into a record and leaves the rest.
 //! - The second argument is what is said beforehand: a `Parsed` with, say, the offset to assume, or `None`.
 //! - `Parsed` is the record of what was read, part by part. `Date`, `Time` and the others are made of it by
 //!   `try_from`.
 //! - What is refused is refused as `Parse`: the bytes can't be read (`ParseFromDescription`), or what they say names
-//!   no value (`TryFromParsed`). `Error` is any refusal of these crates but want of memory.
+//!   no value (`TryFromParsed`). `Error` is any refusal of these crates but lack of memory.
 //! - `Parsable::parse_into_counted` also counts the items that it tries. No bytes take more than `nodes_in_items` or
 //!   `nodes_in_description` says.
 //! - `laws` has what follows from the contracts. A call of a law hands it to a proof.

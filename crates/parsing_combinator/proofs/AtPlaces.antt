@@ -8,7 +8,7 @@ use Rattle.parsing_combinator.specs.Chunks.{IsClock}
 use Rattle.parsing_combinator.specs.Pieces.{digits, byte, byte_of, sign}
 use Rattle.parsing_combinator.specs.Places.{HasDigit, HasPair, HasClock}
 use Rattle.parsing_combinator.proofs.Fixed.{digits_two, digits_four}
-use Rattle.parsing_combinator.proofs.Fronts.{byte_at}
+use Rattle.parsing_combinator.proofs.Prefixes.{byte_at}
 
 pub is_digit : (c : ℕ) → 48 ≤ c → c ≤ 57 → is_ascii_digit c ≡ true
 is_digit c low high = grind (arith, nat_tests)
@@ -58,8 +58,8 @@ pairs_there w text place h k is =
 pub places_two_on : (text : List ℕ) (place : ℕ) → HasPair text (place + 2) → digits 2 (drop (place + 2) text) ≡ Some ((get_or text (place + 2) 0 - 48) * 10 + (get_or text (place + 3) 0 - 48), drop (place + 4) text)
 places_two_on text place h =
     let second : place + 2 + 1 ≡ place + 3 = omega arith in
-    let behind : place + 2 + 2 ≡ place + 4 = omega arith in
-    rw (second, behind) at (two_there text (place + 2) h)
+    let after : place + 2 + 2 ≡ place + 4 = omega arith in
+    rw (second, after) at (two_there text (place + 2) h)
 
 pub four_there : (text : List ℕ) (place high low : ℕ) → digits 2 (drop place text) ≡ Some (high, drop (place + 2) text) → digits 2 (drop (place + 2) text) ≡ Some (low, drop (place + 4) text) → digits 4 (drop place text) ≡ Some (high * 100 + low, drop (place + 4) text)
 four_there text place high low first second =

@@ -17,7 +17,7 @@ power_next n = ap (λ (k : ℕ). 10 ^ k) (let e : suc n ≡ n + 1 = omega arith 
 carried : (n d p q v a b : ℕ) → q ≡ p * 10 → a ≡ (n * 10 + d) * p + v → b ≡ (0 + d) * p + v → a ≡ n * q + b
 carried n d p q v a b e h k = rw (h, k, e) (omega arith)
 
--- the number of digits behind a number
+-- the number of digits after a number
 pub value_after : (n : ℕ) (cs : List ℕ) → digits_value_after 10 n cs ≡ n * 10 ^ length cs + digits_value_after 10 0 cs
 value_after n [] = omega arith
 value_after n (c ∷ cs) =
@@ -32,15 +32,15 @@ count_step : (b : Bool) (n k m : ℕ) → (n ≤ k → m + n ≡ k) → suc n �
 count_step true n k m more le = omega (arith, more (omega arith))
 count_step false n k m more le = absurd (omega arith)
 
--- how many digits are left behind the first n
+-- how many digits are left after the first n
 pub count_drop : (n : ℕ) (bytes : List ℕ) → n ≤ digit_count bytes → digit_count (drop n bytes) + n ≡ digit_count bytes
 count_drop zero bytes le = omega arith
 count_drop (suc n) [] le = absurd (omega arith)
 count_drop (suc n) (c ∷ cs) le = count_step (is_ascii_digit c) n (digit_count cs) (digit_count (drop n cs)) (count_drop n cs) le
 
--- the first n of the digits at the front are digits
-pub count_front : (bytes : List ℕ) (n : ℕ) → n ≤ digit_count bytes → digit_count (take n bytes) ≡ length (take n bytes)
-count_front bytes n le =
+-- the first n of the digits at the start are digits
+pub count_prefix : (bytes : List ℕ) (n : ℕ) → n ≤ digit_count bytes → digit_count (take n bytes) ≡ length (take n bytes)
+count_prefix bytes n le =
     let fits : n ≤ length bytes = omega (arith, prefix_len-le-length is_ascii_digit bytes) in
     let long : length (take n bytes) ≡ n = length-take-le n bytes fits in
     prefix_len_is is_ascii_digit (take n bytes) (length (take n bytes)) 0 (omega arith)

@@ -3,7 +3,7 @@ use Rattle.std.proofs.Common.{◌≡◌, ℕ, ◌+◌, ◌-◌, ◌*◌, ◌/◌
 use Rattle.std.specs.Int.Bits.{bit_and}
 use Rattle.parsing_combinator.specs.Pieces.{digits}
 use Rattle.parsing_combinator.specs.Chunks.{chunk, paired}
-use Rattle.parsing_combinator.proofs.Fronts.{digit_of, eight_at}
+use Rattle.parsing_combinator.proofs.Prefixes.{digit_of, eight_at}
 use Rattle.parsing_combinator.proofs.Lanes.{masked, pair_here, pair_next, half_lane}
 
 -- the number without what makes its bytes digits, and what it says of the bytes

@@ -74,7 +74,7 @@ digits_two_there bytes le h k =
     let enough : leb 2 (length bytes) ≡ true = grind (arith, nat_tests) in
     digits_two bytes ∙ rw (take_rest bytes 2, enough, h, k) refl
 
--- the number of more digits behind a number that was read
+-- the number of more digits after a number that was read
 abbrev pub joined : ℕ → Piece ℕ → Option (ℕ × List ℕ) → Option (ℕ × List ℕ)
 joined power piece None = None
 joined power piece (Some x) = option_map (λ y. (x.0 * power + y.0, y.1)) (piece x.1)

@@ -53,15 +53,15 @@ short_fraction run le =
 pub long_fraction : (run : List ℕ) → 9 < length run → digit_count run ≡ length run → digits_value 10 (take 9 run) ≡ nanoseconds_of run
 long_fraction run lt all =
     let k = length run - 9 in
-    let front = digits_value 10 (take 9 run) in
+    let prefix = digits_value 10 (take 9 run) in
     let rest_length : length (drop 9 run) ≡ k = length-drop 9 run in
-    let value : digits_value 10 run ≡ digits_value_after 10 front (drop 9 run) = ap (digits_value 10) (sym (take-append-drop 9 run)) ∙ value_append 0 (take 9 run) (drop 9 run) in
-    let low : front * 10 ^ k ≤ digits_value 10 run = rw (value, ← rest_length) (value_after_ge front (drop 9 run)) in
-    let high : digits_value 10 run < (front + 1) * 10 ^ k = rw (value, ← rest_length) (value_after_lt front (drop 9 run) (AllDigits-drop 9 run (all_digits run all))) in
+    let value : digits_value 10 run ≡ digits_value_after 10 prefix (drop 9 run) = ap (digits_value 10) (sym (take-append-drop 9 run)) ∙ value_append 0 (take 9 run) (drop 9 run) in
+    let low : prefix * 10 ^ k ≤ digits_value 10 run = rw (value, ← rest_length) (value_after_ge prefix (drop 9 run)) in
+    let high : digits_value 10 run < (prefix + 1) * 10 ^ k = rw (value, ← rest_length) (value_after_lt prefix (drop 9 run) (AllDigits-drop 9 run (all_digits run all))) in
     let power : 10 ^ length run ≡ 10 ^ k * 10 ^ 9 = ap (λ (m : ℕ). 10 ^ m) (let e : length run ≡ k + 9 = omega arith in e) ∙ pow-add 10 k 9 in
     let less : nanoseconds_of run ≡ digits_value 10 run / 10 ^ k = ap (λ (m : ℕ). digits_value 10 run * 10 ^ 9 / m) power ∙ mul-div-mul_right {m = 10 ^ 9} (digits_value 10 run) (10 ^ k) (lit< tt) in
-    let above = le-div front (digits_value 10 run) (10 ^ k) (one-le-pow k 10 (lit< tt)) low in
-    let below = div_below (digits_value 10 run) (10 ^ k) (front + 1) (one-le-pow k 10 (lit< tt)) high in
+    let above = le-div prefix (digits_value 10 run) (10 ^ k) (one-le-pow k 10 (lit< tt)) low in
+    let below = div_below (digits_value 10 run) (10 ^ k) (prefix + 1) (one-le-pow k 10 (lit< tt)) high in
     omega (arith, above, below, less)
 
 pub nanoseconds_is : (run : List ℕ) (used : ℕ) → digit_count run ≡ length run → (length run ≤ 9 → used ≡ length run) → (9 < length run → used ≡ 9) → digits_value 10 (take used run) * 10 ^ (9 - used) ≡ nanoseconds_of run
@@ -71,7 +71,7 @@ nanoseconds_is run used all short long =
       | inr le ↦ let u : used ≡ length run = short le in rw (u, take_all (length run) run (omega arith)) (short_fraction run le)
     ]
 
--- the digits that are there, with zeros behind them, stay below the ninth power
+-- the digits that are there, with zeros after them, stay below the ninth power
 pub scaled_below : (value used : ℕ) → value < 10 ^ used → used ≤ 9 → value * 10 ^ (9 - used) < 1_000_000_000
 scaled_below value used small le =
     let split : 10 ^ 9 ≡ 10 ^ used * 10 ^ (9 - used) = ap (λ (k : ℕ). 10 ^ k) (let e : 9 ≡ used + (9 - used) = omega arith in e) ∙ pow-add 10 used (9 - used) in

@@ -6,7 +6,7 @@ pub mod DigitLanes
 pub mod Fitting
 pub mod Fixed
 pub mod FractionDigits
-pub mod Fronts
+pub mod Prefixes
 pub mod Lanes
 pub mod Numbers
 pub mod ManyBetween

@@ -1,4 +1,4 @@
--- The longest front, by what it is and by what the shape's parts say.
+-- The longest prefix, by what it is and by what the shape's parts say.
 use Rattle.std.proofs.Common.{◌≡◌, ℕ, zero, suc, min, ◌+◌, ◌<◌, ◌≤◌, ◌&&◌, Bool, true, false, cond, List, [], ◌∷◌, length, take, drop, Option, Some, None, refl, sym, ap, ◌∙◌, arith, inl, inr, lit<, ◌^◌}
 use Rattle.std.specs.Prelude.{option_map, nat_le, nat_eq, IfSome}
 use Rattle.std.specs.List.{list_all}
@@ -11,7 +11,7 @@ use Rattle.std.proofs.lemmas.List.Sums.{prefix_len-le-length}
 use Rattle.std.proofs.Math.Seq.{take-length}
 use Rattle.std.proofs.Math.Nat.{pow-le-pow_right}
 use Rattle.parsing_combinator.specs.Pieces.{digit_count, digits, digit_run, fraction, nanoseconds_of}
-use Rattle.parsing_combinator.specs.Shape.{Shape, or_before, greatest, front, taken, nothing, are_digits, digits_as, digits_between}
+use Rattle.parsing_combinator.specs.Shape.{Shape, or_before, greatest, prefix, taken, nothing, are_digits, digits_as, digits_between}
 
 -- ---- the greatest number
 
@@ -36,7 +36,7 @@ before_none : {A : Type 0} → (x : Option A) → or_before x None ≡ x
 before_none (Some x) = refl
 before_none None = refl
 
--- where nothing is found at 0, what is found is found at a number behind it
+-- where nothing is found at 0, what is found is found at a number after it
 pub greatest_up : {A : Type 0} → (f : ℕ → Option A) (n : ℕ) → f 0 ≡ None → greatest f (suc n) ≡ greatest (λ k. f (suc k)) n
 greatest_up f zero none = rw none (before_none (f 1))
 greatest_up f (suc n) none = ap (or_before (f (suc (suc n)))) (greatest_up f n none)
@@ -54,19 +54,19 @@ greatest_map h f (suc n) = ap (or_before (option_map h (f (suc n)))) (greatest_m
 
 pub taken_nothing : {A : Type 0} → (bytes : List ℕ) → taken {A = A} nothing bytes ≡ None
 unfolding taken nothing
-taken_nothing bytes = greatest_none (front nothing bytes) (length bytes) (λ j le. refl)
+taken_nothing bytes = greatest_none (prefix nothing bytes) (length bytes) (λ j le. refl)
 
--- shapes that agree on the fronts
+-- shapes that agree on the prefixes
 pub taken_same : {A : Type 0} → (shape other : Shape A) (bytes : List ℕ) → ((j : ℕ) → j ≤ length bytes → shape (take j bytes) ≡ other (take j bytes)) → taken shape bytes ≡ taken other bytes
 unfolding taken
-taken_same shape other bytes same = greatest_same (front shape bytes) (front other bytes) (length bytes) (λ j le. ap (option_map (λ x. (x, drop j bytes))) (same j le))
+taken_same shape other bytes same = greatest_same (prefix shape bytes) (prefix other bytes) (length bytes) (λ j le. ap (option_map (λ x. (x, drop j bytes))) (same j le))
 
 -- a byte that all of the shape begin with
-pub taken_behind : {A : Type 0} → (shape other : Shape A) (c : ℕ) (cs : List ℕ) → shape [] ≡ None → ((text : List ℕ) → shape (c ∷ text) ≡ other text) → taken shape (c ∷ cs) ≡ taken other cs
+pub taken_after : {A : Type 0} → (shape other : Shape A) (c : ℕ) (cs : List ℕ) → shape [] ≡ None → ((text : List ℕ) → shape (c ∷ text) ≡ other text) → taken shape (c ∷ cs) ≡ taken other cs
 unfolding taken
-taken_behind shape other c cs none same =
-    greatest_up (front shape (c ∷ cs)) (length cs) (ap (option_map (λ x. (x, c ∷ cs))) none)
-    ∙ greatest_same (λ k. front shape (c ∷ cs) (suc k)) (front other cs) (length cs) (λ j le. ap (option_map (λ x. (x, drop j cs))) (same (take j cs)))
+taken_after shape other c cs none same =
+    greatest_up (prefix shape (c ∷ cs)) (length cs) (ap (option_map (λ x. (x, c ∷ cs))) none)
+    ∙ greatest_same (λ k. prefix shape (c ∷ cs) (suc k)) (prefix other cs) (length cs) (λ j le. ap (option_map (λ x. (x, drop j cs))) (same (take j cs)))
 
 -- ---- a run of digits
 
@@ -97,11 +97,11 @@ le_true n c h = grind (arith, nat_tests)
 le_false : (n c : ℕ) → c < n → nat_le n c ≡ false
 le_false n c h = grind (arith, nat_tests)
 
-said_none : {A : Type 0} → (value : List ℕ → A) (n m : ℕ) (bytes : List ℕ) (j : ℕ) → are_digits n m (take j bytes) ≡ false → front (digits_as value n m) bytes j ≡ None
+said_none : {A : Type 0} → (value : List ℕ → A) (n m : ℕ) (bytes : List ℕ) (j : ℕ) → are_digits n m (take j bytes) ≡ false → prefix (digits_as value n m) bytes j ≡ None
 unfolding digits_as
 said_none value n m bytes j e = rw e refl
 
-said_some : {A : Type 0} → (value : List ℕ → A) (n m : ℕ) (bytes : List ℕ) (j : ℕ) → are_digits n m (take j bytes) ≡ true → front (digits_as value n m) bytes j ≡ Some (value (take j bytes), drop j bytes)
+said_some : {A : Type 0} → (value : List ℕ → A) (n m : ℕ) (bytes : List ℕ) (j : ℕ) → are_digits n m (take j bytes) ≡ true → prefix (digits_as value n m) bytes j ≡ Some (value (take j bytes), drop j bytes)
 unfolding digits_as
 said_some value n m bytes j e = rw e refl
 
@@ -115,10 +115,10 @@ taken_digits value n m bytes le =
     let c = digit_count bytes in
     let short : c ≤ length bytes = prefix_len-le-length is_ascii_digit bytes in
     elim (cases_lt c n) [
-      | inl few ↦ rw (le_false n c few) (greatest_none (front (digits_as value n m) bytes) (length bytes) (λ j a. said_none value n m bytes j (shape_at n m bytes j a ∙ too_few n m c j few)))
+      | inl few ↦ rw (le_false n c few) (greatest_none (prefix (digits_as value n m) bytes) (length bytes) (λ j a. said_none value n m bytes j (shape_at n m bytes j a ∙ too_few n m c j few)))
       | inr enough ↦
           rw (le_true n c enough)
-          (greatest_is (front (digits_as value n m) bytes) (run_of value (min c m) bytes) (length bytes) (min c m) (omega arith)
+          (greatest_is (prefix (digits_as value n m) bytes) (run_of value (min c m) bytes) (length bytes) (min c m) (omega arith)
           (said_some value n m bytes (min c m) (shape_at n m bytes (min c m) (omega arith) ∙ within n m c (min c m) (omega arith) (omega arith) (omega arith)))
           (λ j a b. said_none value n m bytes j (shape_at n m bytes j b ∙ too_long n m c j a)))
     ]

@@ -5,7 +5,7 @@ use Rattle.std.specs.Char.{to_ascii_lowercase}
 use Rattle.std.proofs.lemmas.Bool.{true≢false}
 use Rattle.std.proofs.lemmas.List.{length-take-le, length-take}
 use Rattle.std.proofs.lemmas.Slice.Eq.{bytes_eq-Decides}
-use Rattle.parsing_combinator.specs.Shape.{front, taken, nothing}
+use Rattle.parsing_combinator.specs.Shape.{prefix, taken, nothing}
 use Rattle.parsing_combinator.specs.Names.{compared, is_name, begins, named, found, long_months, long_weekdays, short_months, short_weekdays, periods, period}
 use Rattle.parsing_combinator.proofs.Longest.{greatest_is, taken_same, taken_nothing}
 
@@ -113,19 +113,19 @@ not_here b entry entries bytes j other_start le =
     let other : is_name b entry.0 (take j bytes) ≡ false = decided _ (λ is. absurd (true≢false (sym (begins_if b entry.0 bytes j le is) ∙ other_start))) in
     rw other refl
 
-above_none : {A : Type 0} → (b : Bool) (entry : List ℕ × A) (entries : List (List ℕ × A)) (bytes : List ℕ) (j : ℕ) → none_begins b entry.0 entries ≡ true → begins b entry.0 bytes ≡ true → length entry.0 < j → j ≤ length bytes → front (named b (entry ∷ entries)) bytes j ≡ None
+above_none : {A : Type 0} → (b : Bool) (entry : List ℕ × A) (entries : List (List ℕ × A)) (bytes : List ℕ) (j : ℕ) → none_begins b entry.0 entries ≡ true → begins b entry.0 bytes ≡ true → length entry.0 < j → j ≤ length bytes → prefix (named b (entry ∷ entries)) bytes j ≡ None
 unfolding named
 above_none b entry entries bytes j none starts lt le =
     rw (other_length b entry.0 bytes j lt le, no_later b entry.0 entries bytes j none (omega arith) starts) refl
 
-here_some : {A : Type 0} → (b : Bool) (entry : List ℕ × A) (entries : List (List ℕ × A)) (bytes : List ℕ) → begins b entry.0 bytes ≡ true → front (named b (entry ∷ entries)) bytes (length entry.0) ≡ Some (entry.1, drop (length entry.0) bytes)
+here_some : {A : Type 0} → (b : Bool) (entry : List ℕ × A) (entries : List (List ℕ × A)) (bytes : List ℕ) → begins b entry.0 bytes ≡ true → prefix (named b (entry ∷ entries)) bytes (length entry.0) ≡ Some (entry.1, drop (length entry.0) bytes)
 unfolding named begins
 here_some b entry entries bytes starts = rw starts refl
 
 found_here : {A : Type 0} → (b t : Bool) (entry : List ℕ × A) (entries : List (List ℕ × A)) (bytes : List ℕ) → begins b entry.0 bytes ≡ t → none_begins b entry.0 entries ≡ true → taken (named b entries) bytes ≡ found b entries bytes → taken (named b (entry ∷ entries)) bytes ≡ found b (entry ∷ entries) bytes
 unfolding found taken
 found_here b true entry entries bytes e none more =
-    rw e (greatest_is (front (named b (entry ∷ entries)) bytes) (entry.1, drop (length entry.0) bytes) (length bytes) (length entry.0) (long_enough b entry.0 bytes e) (here_some b entry entries bytes e) (λ j lt le. above_none b entry entries bytes j none e lt le))
+    rw e (greatest_is (prefix (named b (entry ∷ entries)) bytes) (entry.1, drop (length entry.0) bytes) (length bytes) (length entry.0) (long_enough b entry.0 bytes e) (here_some b entry entries bytes e) (λ j lt le. above_none b entry entries bytes j none e lt le))
 found_here b false entry entries bytes e none more =
     rw e (taken_same (named b (entry ∷ entries)) (named b entries) bytes (λ j le. not_here b entry entries bytes j e le) ∙ more)
 

@@ -1,4 +1,4 @@
--- Digits at the front of bytes, read with zeros behind them.
+-- Digits at the start of bytes, read with zeros after them.
 use Rattle.std.proofs.Common.{◌≡◌, ℕ, zero, suc, ◌+◌, ◌-◌, ◌*◌, ◌%◌, ◌^◌, ◌<◌, ◌≤◌, ◌==◌, eqb, List, [], ◌∷◌, ◌++◌, length, get_or, take, drop, replicate, Some, None, true, false, Fits, w64, refl, sym, ap, ◌∙◌, arith, lit<, take-append-drop, length-append}
 use Rattle.std.specs.Char.{is_ascii_digit}
 use Rattle.std.specs.Str.Parse.{digits_value, digits_value_after}
@@ -12,7 +12,7 @@ use Rattle.std.proofs.lemmas.Nat.{pow-add, and_mask}
 use Rattle.std.proofs.Math.Nat.{add-mul-mod_self_right, mod-eq_of_lt, pow-le-pow_right}
 use Rattle.parsing_combinator.specs.Pieces.{digits, digit_count, digit_run, fraction, nanoseconds_of}
 use Rattle.parsing_combinator.specs.Chunks.{chunk, padded}
-use Rattle.parsing_combinator.proofs.Decimal.{value_append, value_after, count_front}
+use Rattle.parsing_combinator.proofs.Decimal.{value_append, value_after, count_prefix}
 use Rattle.parsing_combinator.proofs.DigitChunks.{EightChunk, eight_read}
 use Rattle.parsing_combinator.proofs.FractionDigits.{Read, digits_read, none_there, short_fraction}
 
@@ -38,7 +38,7 @@ drop_fit (suc n) (b ∷ bs) fit k = drop_fit n bs (λ j. fit (suc j)) k
 pub drop_fits : (n : ℕ) (bytes : List ℕ) → length bytes < 8 → ((k : ℕ) → get_or bytes k 0 < 256) → chunk (drop n bytes) < 2 ^ 56
 drop_fits n bytes lt fit = short_fits (drop n bytes) (omega (arith, length-drop n bytes)) (drop_fit n bytes fit)
 
--- one byte more in front
+-- one byte more before
 pub chunk_drop : (n : ℕ) (bytes : List ℕ) → n < length bytes → chunk (drop n bytes) ≡ chunk (drop (n + 1) bytes) * 256 + get_or bytes n 0
 unfolding chunk
 chunk_drop n bytes lt = ap chunk (drop_more bytes n 0 lt)
@@ -70,7 +70,7 @@ zeros_value : (m : ℕ) → digits_value_after 10 0 (replicate m 48) ≡ 0
 zeros_value zero = refl
 zeros_value (suc m) = zeros_value m
 
--- the number of the digits with zeros behind them
+-- the number of the digits with zeros after them
 padded_value : (k : ℕ) (run : List ℕ) → k ≤ 8 → length run ≡ k → digits_value 10 (run ++ replicate (8 - k) 48) ≡ digits_value 10 run * 10 ^ (8 - k)
 padded_value k run few long =
     value_append 0 run (replicate (8 - k) 48) ∙ value_after (digits_value 10 run) (replicate (8 - k) 48) ∙ rw (zeros_value (8 - k), length-replicate {A = ℕ} (8 - k) 48) (omega arith)
@@ -78,7 +78,7 @@ padded_value k run few long =
 ten_more : (v p q : ℕ) → q ≡ p * 10 → v * p * 10 ≡ v * q
 ten_more v p q e = rw e (omega arith)
 
--- digits that are all that are there, read with zeros behind them, are a fraction
+-- digits that are all that are there, read with zeros after them, are a fraction
 pub fraction_of_padded : (bytes : List ℕ) (k v : ℕ) → 0 < k → k ≤ 8 → k ≤ length bytes → digits 8 (padded k bytes) ≡ Some (v, []) → digits 1 (drop k bytes) ≡ None → fraction bytes ≡ Some (v * 10, drop k bytes)
 unfolding fraction digit_run
 fraction_of_padded bytes k v some few within eight none =
@@ -87,8 +87,8 @@ fraction_of_padded bytes k v some few within eight none =
     let long : length run ≡ k = length-take-le k bytes within in
     let r : Read 8 (run ++ zeros) v [] = digits_read 8 (run ++ zeros) v [] eight in
     let whole : take 8 (run ++ zeros) ≡ run ++ zeros = take_all 8 (run ++ zeros) (omega (arith, length-append run zeros, length-replicate {A = ℕ} (8 - k) 48)) in
-    let front : take k (run ++ zeros) ≡ run = take-append-le k run zeros (omega arith) ∙ take_all k run (omega arith) in
-    let all : digit_count run ≡ length run = rw front at (count_front (run ++ zeros) k (omega (arith, r.enough))) in
+    let prefix : take k (run ++ zeros) ≡ run = take-append-le k run zeros (omega arith) ∙ take_all k run (omega arith) in
+    let all : digit_count run ≡ length run = rw prefix at (count_prefix (run ++ zeros) k (omega (arith, r.enough))) in
     let left = none_there (drop k bytes) none in
     let counted : digit_count bytes ≡ k =
     ap digit_count (sym (take-append-drop k bytes)) ∙ prefix_len-append is_ascii_digit run (drop k bytes) ∙ (let e : eqb (digit_count run) (length run) ≡ true = grind (arith, nat_tests) in rw e (omega arith)) in
@@ -136,12 +136,12 @@ module _ (bytes : List ℕ) (k : ℕ) (few : k ≤ 8) (within : k ≤ length byt
   sum : chunk (padded k bytes) ≡ chunk (take k bytes) + chunk (replicate (8 - k) 48) * 2 ^ (8 * k)
   sum = chunk_append (take k bytes) (replicate (8 - k) 48) ∙ rw long refl
 
-  -- the first bytes of a chunk, and zeros behind them
+  -- the first bytes of a chunk, and zeros after them
   pub padded_is : bit_and (chunk (take 8 bytes)) (2 ^ (8 * k) - 1) + chunk (replicate (8 - k) 48) * 2 ^ (8 * k) ≡ chunk (padded k bytes)
   padded_is =
-      let front : take k (take 8 bytes) ≡ take k bytes = take-take k 8 bytes few in
+      let prefix : take k (take 8 bytes) ≡ take k bytes = take-take k 8 bytes few in
       let parts : chunk (take 8 bytes) ≡ chunk (take k bytes) + chunk (drop k (take 8 bytes)) * 2 ^ (8 * k) =
-      ap chunk (sym (take-append-drop k (take 8 bytes))) ∙ chunk_append (take k (take 8 bytes)) (drop k (take 8 bytes)) ∙ rw front (rw long refl) in
+      ap chunk (sym (take-append-drop k (take 8 bytes))) ∙ chunk_append (take k (take 8 bytes)) (drop k (take 8 bytes)) ∙ rw prefix (rw long refl) in
       let below : chunk (take k bytes) < 2 ^ (8 * k) = rw long at (chunk_below (take k bytes) (take_fit k bytes fit)) in
       let mask : bit_and (chunk (take 8 bytes)) (2 ^ (8 * k) - 1) ≡ chunk (take k bytes) = and_mask (chunk (take 8 bytes)) (8 * k) ∙ masked_sum (chunk (take 8 bytes)) (chunk (take k bytes)) (chunk (drop k (take 8 bytes))) (2 ^ (8 * k)) parts below in
       rw mask (sym sum)
@@ -152,7 +152,7 @@ module _ (bytes : List ℕ) (k : ℕ) (few : k ≤ 8) (within : k ≤ length byt
   pub padded_below : Fits w64 (chunk (padded k bytes))
   padded_below = record { fits = below }
 
-  -- what the test of the first bytes with zeros behind them says
+  -- what the test of the first bytes with zeros after them says
   pub record PaddedRead : Type 0 where
     pub eight : EightChunk (padded k bytes) (chunk (padded k bytes))
     pub rest : drop 8 (padded k bytes) ≡ []

@@ -1,20 +1,20 @@
--- Digits behind spaces, by how many spaces there are.
+-- Digits after spaces, by how many spaces there are.
 use Rattle.std.proofs.Common.{◌≡◌, ℕ, zero, suc, ◌+◌, ◌-◌, ◌≤◌, Bool, true, false, cond, List, [], ◌∷◌, length, take, drop, Option, None, refl, sym, ◌∙◌, arith}
 use Rattle.std.specs.Prelude.{nat_lt, nat_le, if◌then◌else◌}
 use Rattle.std.proofs.lemmas.Bool.Decides.{nat_tests}
 use Rattle.std.proofs.lemmas.List.Sums.{prefix_len-le-length}
-use Rattle.parsing_combinator.specs.Shape.{taken, nothing, is_space, space_count, digits_as, digits_between, behind_spaces, spaced_between}
-use Rattle.parsing_combinator.proofs.Longest.{taken_same, taken_behind, taken_nothing}
+use Rattle.parsing_combinator.specs.Shape.{taken, nothing, is_space, space_count, digits_as, digits_between, after_spaces, spaced_between}
+use Rattle.parsing_combinator.proofs.Longest.{taken_same, taken_after, taken_nothing}
 
--- what is taken, by the spaces at the front
-abbrev pub taken_behind_spaces : ℕ → ℕ → ℕ → List ℕ → Option (ℕ × List ℕ)
-taken_behind_spaces spaces n m bytes = if nat_lt spaces n then taken (digits_between (n - spaces) (m - spaces)) (drop spaces bytes) else None
+-- what is taken, by the spaces at the start
+abbrev pub taken_after_spaces : ℕ → ℕ → ℕ → List ℕ → Option (ℕ × List ℕ)
+taken_after_spaces spaces n m bytes = if nat_lt spaces n then taken (digits_between (n - spaces) (m - spaces)) (drop spaces bytes) else None
 
 none_at : (m : ℕ) (text : List ℕ) → spaced_between 0 m text ≡ nothing text
 unfolding spaced_between nothing
 none_at m text = let e : nat_lt (space_count text) 0 ≡ false = grind (arith, nat_tests) in rw e refl
 
-no_spaces : (n m : ℕ) (text : List ℕ) → behind_spaces 0 (suc n) m text ≡ digits_between (suc n) m text
+no_spaces : (n m : ℕ) (text : List ℕ) → after_spaces 0 (suc n) m text ≡ digits_between (suc n) m text
 no_spaces n m text =
     let t : nat_lt 0 (suc n) ≡ true = grind (arith, nat_tests) in
     let e : suc n - 0 ≡ suc n = omega arith in
@@ -25,7 +25,7 @@ no_text : (n m : ℕ) → digits_between (suc n) m [] ≡ None
 unfolding digits_as
 no_text n m = let e : nat_le (suc n) 0 ≡ false = grind (arith, nat_tests) in rw e refl
 
-one_space : (s n m c : ℕ) (text : List ℕ) → behind_spaces (suc s) (suc n) (suc m) (c ∷ text) ≡ behind_spaces s n m text
+one_space : (s n m c : ℕ) (text : List ℕ) → after_spaces (suc s) (suc n) (suc m) (c ∷ text) ≡ after_spaces s n m text
 one_space s n m c text =
     let t : nat_lt (suc s) (suc n) ≡ nat_lt s n = grind (arith, nat_tests) in
     let e : suc n - suc s ≡ n - s = omega arith in
@@ -47,24 +47,24 @@ unfolding spaced_between
 bare_at n m c cs zero e = no_spaces n m []
 bare_at n m c cs (suc j) e = rw e (no_spaces n m (c ∷ take j cs))
 
-taken_one_space : (s n m c : ℕ) (cs : List ℕ) → taken_behind_spaces (suc s) (suc n) (suc m) (c ∷ cs) ≡ taken_behind_spaces s n m cs
+taken_one_space : (s n m c : ℕ) (cs : List ℕ) → taken_after_spaces (suc s) (suc n) (suc m) (c ∷ cs) ≡ taken_after_spaces s n m cs
 taken_one_space s n m c cs =
     let t : nat_lt (suc s) (suc n) ≡ nat_lt s n = grind (arith, nat_tests) in
     let e : suc n - suc s ≡ n - s = omega arith in
     let f : suc m - suc s ≡ m - s = omega arith in
     rw (t, e, f) refl
 
-taken_no_spaces : (n m : ℕ) (bytes : List ℕ) → taken_behind_spaces 0 (suc n) m bytes ≡ taken (digits_between (suc n) m) bytes
+taken_no_spaces : (n m : ℕ) (bytes : List ℕ) → taken_after_spaces 0 (suc n) m bytes ≡ taken (digits_between (suc n) m) bytes
 taken_no_spaces n m bytes =
     let t : nat_lt 0 (suc n) ≡ true = grind (arith, nat_tests) in
     let e : suc n - 0 ≡ suc n = omega arith in
     let f : m - 0 ≡ m = omega arith in
     rw (t, e, f) refl
 
-step : (b : Bool) (n m c : ℕ) (cs : List ℕ) → is_space c ≡ b → n ≤ m → taken (spaced_between n m) cs ≡ taken_behind_spaces (space_count cs) n m cs → taken (spaced_between (suc n) (suc m)) (c ∷ cs) ≡ taken_behind_spaces (cond b (1 + space_count cs) 0) (suc n) (suc m) (c ∷ cs)
+step : (b : Bool) (n m c : ℕ) (cs : List ℕ) → is_space c ≡ b → n ≤ m → taken (spaced_between n m) cs ≡ taken_after_spaces (space_count cs) n m cs → taken (spaced_between (suc n) (suc m)) (c ∷ cs) ≡ taken_after_spaces (cond b (1 + space_count cs) 0) (suc n) (suc m) (c ∷ cs)
 step true n m c cs e le more =
     let f : 1 + space_count cs ≡ suc (space_count cs) = omega arith in
-    taken_behind (spaced_between (suc n) (suc m)) (spaced_between n m) c cs (empty_at n m) (λ text. space_at n m c text e) ∙ more ∙ rw f (sym (taken_one_space (space_count cs) n m c cs))
+    taken_after (spaced_between (suc n) (suc m)) (spaced_between n m) c cs (empty_at n m) (λ text. space_at n m c text e) ∙ more ∙ rw f (sym (taken_one_space (space_count cs) n m c cs))
 step false n m c cs e le more = taken_same (spaced_between (suc n) (suc m)) (digits_between (suc n) (suc m)) (c ∷ cs) (λ j a. bare_at n (suc m) c cs j e) ∙ sym (taken_no_spaces n (suc m) (c ∷ cs))
 
 empty_same : (n m j : ℕ) → spaced_between (suc n) m (take j []) ≡ digits_between (suc n) m (take j [])
@@ -72,10 +72,10 @@ unfolding spaced_between
 empty_same n m zero = no_spaces n m []
 empty_same n m (suc j) = no_spaces n m []
 
-none_taken : (s m : ℕ) (bytes : List ℕ) → taken_behind_spaces s 0 m bytes ≡ None
+none_taken : (s m : ℕ) (bytes : List ℕ) → taken_after_spaces s 0 m bytes ≡ None
 none_taken s m bytes = let e : nat_lt s 0 ≡ false = grind (arith, nat_tests) in rw e refl
 
-pub taken_spaced : (n m : ℕ) (bytes : List ℕ) → n ≤ m → taken (spaced_between n m) bytes ≡ taken_behind_spaces (space_count bytes) n m bytes
+pub taken_spaced : (n m : ℕ) (bytes : List ℕ) → n ≤ m → taken (spaced_between n m) bytes ≡ taken_after_spaces (space_count bytes) n m bytes
 taken_spaced zero m bytes le = taken_same (spaced_between 0 m) nothing bytes (λ j a. none_at m (take j bytes)) ∙ taken_nothing bytes ∙ sym (none_taken (space_count bytes) m bytes)
 taken_spaced (suc n) zero bytes le = absurd (omega arith)
 taken_spaced (suc n) (suc m) [] le = taken_same (spaced_between (suc n) (suc m)) (digits_between (suc n) (suc m)) [] (λ j a. empty_same n (suc m) j) ∙ sym (taken_no_spaces n (suc m) [])

@@ -22,7 +22,7 @@ unfoldable pub likely_digits : ℕ → ℕ
 likely_digits number =
     trailing_zeros w64 (bit_xor (bit_and number 17_361_641_481_138_401_520) 3_472_328_296_227_680_304) / 8
 
--- the number of so many digits at the front, with the digit zero behind them
+-- the number of so many digits at the start, with the digit zero after them
 pub record IsDigitChunk (bytes : List ℕ) (number count : ℕ) : Type 0 where
   pub some : 0 < count
   pub few : count ≤ 8

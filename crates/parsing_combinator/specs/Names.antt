@@ -24,7 +24,7 @@ unfoldable pub named : {A : Type 0} → Bool → List (List ℕ × A) → Shape 
 named case_sensitive [] text = None
 named case_sensitive (entry ∷ entries) text = if is_name case_sensitive entry.0 text then Some entry.1 else named case_sensitive entries text
 
--- the first entry whose name is at the front
+-- the first entry whose name is at the start
 unfoldable pub found : {A : Type 0} → Bool → List (List ℕ × A) → List ℕ → Option (A × List ℕ)
 found b [] bytes = None
 found b (entry ∷ entries) bytes = if begins b entry.0 bytes then Some (entry.1, drop (length entry.0) bytes) else found b entries bytes

@@ -1,4 +1,4 @@
--- The shapes of numbers: padded, and behind a sign.
+-- The shapes of numbers: padded, and after a sign.
 use Rattle.std.specs.Prelude.{ℕ, Bool, if◌then◌else◌}
 use Rattle.description_date_modifiers.specs.declared.choices.Padding.{Padding}
 use Rattle.description_date_modifiers.specs.declared.choices.Padding.TheVariants as padding
@@ -10,15 +10,15 @@ padded padding.Zero n m = digits_between n m
 padded padding.Space n m = spaced_between n m
 padded padding.None n m = digits_between 1 m
 
--- one shape behind a sign, and another without one, where none is due
+-- one shape after a sign, and another without one, where none is due
 unfoldable pub signed_if : Bool → Shape ℕ → Shape ℕ → Shape (Bool × ℕ)
-signed_if mandatory behind bare = signed behind (if mandatory then nothing else bare)
+signed_if mandatory after bare = signed after (if mandatory then nothing else bare)
 
--- a year: four digits, and where it is extended up to six behind a sign
+-- a year: four digits, and where it is extended up to six after a sign
 unfoldable pub year : Padding → Bool → Bool → Shape (Bool × ℕ)
 year p mandatory extended = signed_if mandatory (padded p 4 (if extended then 6 else 4)) (padded p 4 4)
 
--- a century: behind a sign two digits, and where it is extended up to four; without one at most two
+-- a century: after a sign two digits, and where it is extended up to four; without one at most two
 unfoldable pub century : Padding → Bool → Bool → Shape (Bool × ℕ)
 century p mandatory extended = signed_if mandatory (padded p 2 (if extended then 4 else 2)) (padded p 1 2)
 

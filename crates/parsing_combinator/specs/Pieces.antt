@@ -1,4 +1,4 @@
--- Pieces: each cuts a front off the bytes, where they have such a front, and tells its value and the rest.
+-- Pieces: each cuts a prefix off the bytes, where they have such a prefix, and tells its value and the rest.
 use Rattle.std.specs.Prelude.{ℕ, ◌*◌, ◌/◌, ◌^◌, ◌||◌, Bool, true, List, [], ◌∷◌, length, take, drop, Option, Some, None, option_map, nat_le, ◌==◌, if◌then◌else◌}
 use Rattle.std.specs.List.{prefix_len}
 use Rattle.std.specs.Char.{is_ascii_digit}
@@ -9,7 +9,7 @@ use Rattle.base.specs.Bytes.{plus, hyphen}
 abbrev pub Piece : Type 0 → Type 0
 Piece A = List ℕ → Option (A × List ℕ)
 
--- what a function cut off, with the bytes behind the reference
+-- what a function cut off, with the bytes after the reference
 abbrev pub cut_view : {A : Type 0} → Option (A × Bor (List ℕ)) → Option (A × List ℕ)
 cut_view r = option_map (λ p. (p.0, p.1.now)) r
 
@@ -17,7 +17,7 @@ cut_view r = option_map (λ p. (p.0, p.1.now)) r
 abbrev pub run_view : Option (Bor (List ℕ) × Bor (List ℕ)) → Option (List ℕ × List ℕ)
 run_view r = option_map (λ p. (p.0.now, p.1.now)) r
 
--- what stands behind what a function cut off, which tells no value
+-- what stands after what a function cut off, which tells no value
 abbrev pub rest_view : Option (Bor (List ℕ)) → Option (Unit {0} × List ℕ)
 rest_view r = option_map (λ rest. (tt, rest.now)) r
 
@@ -33,7 +33,7 @@ digits n bytes = if nat_le n (digit_count bytes) then Some (digits_value 10 (tak
 unfoldable pub digit_run : Piece (List ℕ)
 digit_run bytes = if digit_count bytes == 0 then None else Some (take (digit_count bytes) bytes, drop (digit_count bytes) bytes)
 
--- the whole nanoseconds of a fraction of a second with these digits behind the point, however many they are
+-- the whole nanoseconds of a fraction of a second with these digits after the point, however many they are
 abbrev pub nanoseconds_of : List ℕ → ℕ
 nanoseconds_of ds = digits_value 10 ds * 10 ^ 9 / 10 ^ length ds
 

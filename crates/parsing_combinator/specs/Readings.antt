@@ -1,4 +1,4 @@
--- Readings: pieces one after another, or the fault of the first one that has no front.
+-- Readings: pieces one after another, or the fault of the first one that has no prefix.
 use Rattle.std.specs.Prelude.{ℕ, Bool, true, ◌&&◌, nat_le, List, [], ◌∷◌, Option, Some, None, Result, Ok, Err, if◌then◌else◌}
 use Rattle.calendar_count.specs.declared.component_range.ComponentRange.{ComponentRange}
 use Rattle.parsing_combinator.specs.Fault.{Fault, trailing, range}
@@ -7,7 +7,7 @@ use Rattle.parsing_combinator.specs.Pieces.{Piece}
 abbrev pub Reading : Type 0 → Type 0
 Reading A = List ℕ → Result (A × List ℕ) Fault
 
--- the piece, and the fault where the bytes have no such front
+-- the piece, and the fault where the bytes have no such prefix
 abbrev pub piece_or : {A : Type 0} → Fault → Option (A × List ℕ) → Result (A × List ℕ) Fault
 piece_or f None = Err f
 piece_or f (Some x) = Ok x
@@ -32,7 +32,7 @@ abbrev pub ◌>>◌ : {A B : Type 0} → Reading A → Reading B → Reading B
 abbrev pub give : {A : Type 0} → A → Reading A
 give x bytes = Ok (x, bytes)
 
--- an optional group: entered exactly where its first piece has a front, and then all of it is due
+-- an optional group: entered exactly where its first piece has a prefix, and then all of it is due
 abbrev pub entered : {A B : Type 0} → Option (A × List ℕ) → (A → Reading B) → Reading B → Reading B
 entered None due other bytes = other bytes
 entered (Some x) due other bytes = due x.0 x.1

@@ -1,4 +1,4 @@
--- A shape is a set of byte strings with what each of them says. What is taken from the front of the bytes is the longest front in the shape.
+-- A shape is a set of byte strings with what each of them says. What is taken from the start of the bytes is the longest prefix in the shape.
 use Rattle.std.specs.Prelude.{ℕ, zero, suc, ◌-◌, ◌&&◌, ◌||◌, Bool, false, List, [], ◌∷◌, length, take, drop, Option, Some, None, option_map, nat_le, nat_lt, ◌==◌, if◌then◌else◌}
 use Rattle.std.specs.List.{list_all, prefix_len}
 use Rattle.std.specs.Char.{is_ascii_digit}
@@ -18,13 +18,13 @@ abbrev pub greatest : {A : Type 0} → (ℕ → Option A) → ℕ → Option A
 greatest f zero = f 0
 greatest f (suc n) = or_before (f (suc n)) (greatest f n)
 
--- the front of k bytes, where it is in the shape: what it says, and the bytes after it
-abbrev pub front : {A : Type 0} → Shape A → List ℕ → ℕ → Option (A × List ℕ)
-front shape bytes k = option_map (λ x. (x, drop k bytes)) (shape (take k bytes))
+-- the prefix of k bytes, where it is in the shape: what it says, and the bytes after it
+abbrev pub prefix : {A : Type 0} → Shape A → List ℕ → ℕ → Option (A × List ℕ)
+prefix shape bytes k = option_map (λ x. (x, drop k bytes)) (shape (take k bytes))
 
--- the longest front in the shape
+-- the longest prefix in the shape
 unfoldable pub taken : {A : Type 0} → Shape A → Piece A
-taken shape bytes = greatest (front shape bytes) (length bytes)
+taken shape bytes = greatest (prefix shape bytes) (length bytes)
 
 -- ---- the shapes
 
@@ -53,18 +53,18 @@ digits_as value n m text = if are_digits n m text then Some (value text) else No
 abbrev pub digits_between : ℕ → ℕ → Shape ℕ
 digits_between = digits_as (digits_value 10)
 
--- the nanoseconds of a second that they write behind the point
+-- the nanoseconds of a second that they write after the point
 abbrev pub fraction_between : ℕ → ℕ → Shape ℕ
 fraction_between = digits_as nanoseconds_of
 
 -- fewer than n spaces, then digits: n to m bytes in all
-abbrev pub behind_spaces : ℕ → ℕ → ℕ → List ℕ → Option ℕ
-behind_spaces spaces n m text = if nat_lt spaces n then digits_between (n - spaces) (m - spaces) (drop spaces text) else None
+abbrev pub after_spaces : ℕ → ℕ → ℕ → List ℕ → Option ℕ
+after_spaces spaces n m text = if nat_lt spaces n then digits_between (n - spaces) (m - spaces) (drop spaces text) else None
 
 unfoldable pub spaced_between : ℕ → ℕ → Shape ℕ
-spaced_between n m text = behind_spaces (space_count text) n m text
+spaced_between n m text = after_spaces (space_count text) n m text
 
--- one shape behind a sign, another where there is none; and whether the sign is a minus
+-- one shape after a sign, another where there is none; and whether the sign is a minus
 unfoldable pub signed : {A : Type 0} → Shape A → Shape A → Shape (Bool × A)
-signed behind bare [] = option_map (λ x. (false, x)) (bare [])
-signed behind bare (c ∷ cs) = if is_sign c then option_map (λ x. (c == 45, x)) (behind cs) else option_map (λ x. (false, x)) (bare (c ∷ cs))
+signed after bare [] = option_map (λ x. (false, x)) (bare [])
+signed after bare (c ∷ cs) = if is_sign c then option_map (λ x. (c == 45, x)) (after cs) else option_map (λ x. (false, x)) (bare (c ∷ cs))

@@ -6,7 +6,7 @@ use Rattle.parsing_combinator.specs.ShortName.{HasShortName}
 
 -- the bytes end with the rest
 abbrev pub EndsWith : List ℕ → List ℕ → Type 0
-EndsWith bytes rest = (front : List ℕ) × (bytes ≡ front ++ rest)
+EndsWith bytes rest = (prefix : List ℕ) × (bytes ≡ prefix ++ rest)
 
 -- a piece leaves the end of the bytes
 abbrev pub Leaves : {A : Type 0} → List ℕ → Option (A × List ℕ) → Type 0

@@ -117,7 +117,7 @@ static FIRST_BYTES: [Chunk; 9] = [
 ];
 
 // The digit zero in all bytes but the first, for each number of these.
-static ZEROS_BEHIND: [Chunk; 9] = [
+static ZEROS_AFTER: [Chunk; 9] = [
     0x3030_3030_3030_3030,
     0x3030_3030_3030_3000,
     0x3030_3030_3030_0000,
@@ -138,14 +138,14 @@ fn first_bytes(count: usize) -> Chunk
 }
 
 #[inline(always)]
-fn zeros_behind(count: usize) -> Chunk
+fn zeros_after(count: usize) -> Chunk
     requires { count ≤ 8 }
     ensures { result ≡ Chunks.chunk (replicate (8 - count) digit_zero) * 2 ^ (8 * count) }
 {
-    ZEROS_BEHIND[count]
+    ZEROS_AFTER[count]
 }
 
-// The first bytes as a chunk, with the digit zero behind them.
+// The first bytes as a chunk, with the digit zero after them.
 #[inline(always)]
 fn padded_chunk(bytes: &[u8], chunk: Chunk, count: usize) -> Chunk
     requires chunk { chunk ≡ Chunks.chunk (take 8 bytes.now) }
@@ -153,10 +153,10 @@ fn padded_chunk(bytes: &[u8], chunk: Chunk, count: usize) -> Chunk
     requires within { count ≤ length bytes.now }
     ensures { result ≡ Chunks.chunk (Chunks.padded count bytes.now) }
 {
-    (chunk & first_bytes(count)) + zeros_behind(count)
+    (chunk & first_bytes(count)) + zeros_after(count)
 }
 
-// The number of the first bytes with zeros behind them, eight digits in all, where each is a digit.
+// The number of the first bytes with zeros after them, eight digits in all, where each is a digit.
 #[inline(always)]
 fn padded_digits(bytes: &[u8], chunk: Chunk, count: usize) -> Option<u32>
     requires chunk { chunk ≡ Chunks.chunk (take 8 bytes.now) }
@@ -175,7 +175,7 @@ fn padded_digits(bytes: &[u8], chunk: Chunk, count: usize) -> Option<u32>
     Some((high * 10_000 + low) as u32)
 }
 
-/// At most eight digits at the front, in one number with the digit zero behind them, the first one lowest, and how many
+/// At most eight digits at the start, in one number with the digit zero after them, the first one lowest, and how many
 /// they are: all that are there, where they are fewer than eight.
 #[inline(always)]
 pub fn digit_chunk(bytes: &[u8]) -> Option<(u64, usize)>

@@ -1,4 +1,4 @@
-//! Functions that cut a piece off the front of bytes, where they have such a front.
+//! Functions that cut a piece off the start of bytes, where they have such a prefix.
 ghost use Rattle.std.specs.Prelude.{◌≡◌, ◌≤◌, ◌<◌, IfSome, length};
 ghost use Rattle.parsing_combinator.specs.Pieces as Pieces;
 
@@ -66,7 +66,7 @@ pub fn six_digits(bytes: &[u8]) -> Option<(u32, &[u8])>
     Some((u32::from(high) * 100 + u32::from(low), rest))
 }
 
-/// What stands behind the byte `wanted`.
+/// What stands after the byte `wanted`.
 #[tactic(auto, unfolding(crate::specs::Pieces::skip_of))]
 #[inline(always)]
 pub fn byte(wanted: u8, bytes: &[u8]) -> Option<&[u8]>
@@ -78,7 +78,7 @@ pub fn byte(wanted: u8, bytes: &[u8]) -> Option<&[u8]>
     }
 }
 
-/// What stands behind any byte.
+/// What stands after any byte.
 #[tactic(auto, unfolding(crate::specs::Pieces::skip_of))]
 #[inline(always)]
 pub fn any_byte(bytes: &[u8]) -> Option<&[u8]>
@@ -114,7 +114,7 @@ fn leading_digits(bytes: &[u8]) -> usize
 
 /// All digits that are there, at least one.
 #[inline(always)]
-#[tactic(auto, using(crate::proofs::Decimal::count_front), unfolding(crate::specs::Pieces::digit_run))]
+#[tactic(auto, using(crate::proofs::Decimal::count_prefix), unfolding(crate::specs::Pieces::digit_run))]
 pub fn digit_run(bytes: &[u8]) -> Option<(&[u8], &[u8])>
     ensures cut { Pieces.run_view result ≡ Pieces.digit_run bytes.now }
     ensures all { IfSome result (λ x. Pieces.digit_count x.0.now ≡ length x.0.now) }

@@ -18,21 +18,21 @@ pub(crate) fn leading_digits(bytes: &[u8]) -> usize
 
 // The number that at most nine digits write.
 #[inline(always)]
-fn number(front: &[u8]) -> u32
-    requires short { length front.now ≤ 9 }
-    requires all { Pieces.digit_count front.now ≡ length front.now }
-    ensures value { result ≡ digits_value 10 front.now }
-    ensures bound { result < 10 ^ length front.now }
+fn number(prefix: &[u8]) -> u32
+    requires short { length prefix.now ≤ 9 }
+    requires all { Pieces.digit_count prefix.now ≡ length prefix.now }
+    ensures value { result ≡ digits_value 10 prefix.now }
+    ensures bound { result < 10 ^ length prefix.now }
 {
     let mut value = 0;
-    for b in front {
+    for b in prefix {
         value = value * 10 + u32::from(*b - b'0');
     }
     value
 }
 
 /// `n` to `m` digits, as many as there are.
-#[tactic(auto, using(crate::proofs::Longest::taken_digits, crate::proofs::Longest::taken_bound, crate::proofs::Decimal::count_front))]
+#[tactic(auto, using(crate::proofs::Longest::taken_digits, crate::proofs::Longest::taken_bound, crate::proofs::Decimal::count_prefix))]
 pub fn digits_between(n: usize, m: usize, bytes: &[u8]) -> Option<(u32, &[u8])>
     requires ordered { n ≤ m }
     requires fits { m ≤ 9 }
@@ -43,8 +43,8 @@ pub fn digits_between(n: usize, m: usize, bytes: &[u8]) -> Option<(u32, &[u8])>
     if count < n {
         return None;
     }
-    let (front, rest) = bytes.split_at(count.min(m));
-    Some((number(front), rest))
+    let (prefix, rest) = bytes.split_at(count.min(m));
+    Some((number(prefix), rest))
 }
 
 // How many spaces the bytes begin with.
@@ -74,7 +74,7 @@ pub fn spaced_between(n: usize, m: usize, bytes: &[u8]) -> Option<(u32, &[u8])>
 }
 
 /// `n` to `m` digits, as many as there are, as a fraction of a second in nanoseconds.
-#[tactic(auto, using(crate::proofs::Longest::taken_digits, crate::proofs::Decimal::count_front, crate::proofs::Longest::whole_fraction))]
+#[tactic(auto, using(crate::proofs::Longest::taken_digits, crate::proofs::Decimal::count_prefix, crate::proofs::Longest::whole_fraction))]
 pub fn fraction_between(n: usize, m: usize, bytes: &[u8]) -> Option<(u32, &[u8])>
     requires some { 1 ≤ n }
     requires ordered { n ≤ m }
@@ -85,7 +85,7 @@ pub fn fraction_between(n: usize, m: usize, bytes: &[u8]) -> Option<(u32, &[u8])
     if count < n {
         return None;
     }
-    let (front, rest) = bytes.split_at(count.min(m));
-    let (value, _) = fraction(front)?;
+    let (prefix, rest) = bytes.split_at(count.min(m));
+    let (value, _) = fraction(prefix)?;
     Some((value, rest))
 }

@@ -8,14 +8,14 @@ use crate::cut::{digit_run, one_digit};
 
 // The number that at most nine digits write.
 #[inline(always)]
-fn number(front: &[u8]) -> u32
-    requires short { length front.now ≤ 9 }
-    requires all { Pieces.digit_count front.now ≡ length front.now }
-    ensures value { result ≡ digits_value 10 front.now }
-    ensures bound { result < 10 ^ length front.now }
+fn number(prefix: &[u8]) -> u32
+    requires short { length prefix.now ≤ 9 }
+    requires all { Pieces.digit_count prefix.now ≡ length prefix.now }
+    ensures value { result ≡ digits_value 10 prefix.now }
+    ensures bound { result < 10 ^ length prefix.now }
 {
     let mut value = 0;
-    for b in front {
+    for b in prefix {
         value = value * 10 + u32::from(*b - b'0');
     }
     value
@@ -44,7 +44,7 @@ fn power_of_ten(exponent: usize) -> u32
 
 // The whole nanoseconds of a fraction with these digits.
 #[inline(always)]
-#[tactic(auto, using(crate::proofs::Decimal::count_front))]
+#[tactic(auto, using(crate::proofs::Decimal::count_prefix))]
 fn nanoseconds(run: &[u8]) -> u32
     requires { Pieces.digit_count run.now ≡ length run.now }
     ensures value { result ≡ Pieces.nanoseconds_of run.now }

@@ -1,4 +1,4 @@
-//! What readings of texts share: the faults, the pieces that texts are cut into, and the longest front of bytes in a shape.
+//! What readings of texts share: the faults, the pieces that texts are cut into, and the longest prefix of bytes in a shape.
 #![tactic(auto)]
 
 mod between;

@@ -17,16 +17,16 @@ fn after<'a>(name: &[u8], case_sensitive: bool, bytes: &'a [u8]) -> Option<&'a [
     if bytes.len() < name.len() {
         return None;
     }
-    let (front, rest) = bytes.split_at(name.len());
+    let (prefix, rest) = bytes.split_at(name.len());
     let same = if case_sensitive {
-        front == name
+        prefix == name
     } else {
-        front.eq_ignore_ascii_case(name)
+        prefix.eq_ignore_ascii_case(name)
     };
     if same { Some(rest) } else { None }
 }
 
-// The first name of a table that is at the front.
+// The first name of a table that is at the start.
 #[inline(always)]
 #[tactic(auto, unfolding(crate::specs::Names::found))]
 fn first_long_month(case_sensitive: bool, bytes: &[u8]) -> Option<(Month, &[u8])>

@@ -1,6 +1,6 @@
 //! Numbers at places of a text where digits are known to stand.
 //!
-//! Bytes stand in one number, the first one lowest: one product takes the tens of all digits, to the byte behind them.
+//! Bytes stand in one number, the first one lowest: one product takes the tens of all digits, to the byte after them.
 ghost use Rattle.std.specs.Prelude.{◌≡◌, ◌≤◌, ◌+◌, Some, drop};
 ghost use Rattle.parsing_combinator.specs.Chunks as Chunks;
 ghost use Rattle.parsing_combinator.specs.Pieces as Pieces;
@@ -18,7 +18,7 @@ pub fn two_digits_at(text: &[u8], place: usize) -> u8
     (number - 528) as u8
 }
 
-/// The numbers of the two digits at a place and of the two behind them.
+/// The numbers of the two digits at a place and of the two after them.
 #[inline(always)]
 pub fn two_pairs_at(text: &[u8], place: usize) -> (u8, u8)
     requires first { HasPair text.now place }

@@ -1,4 +1,4 @@
-//! Numbers behind a sign: whether it is a minus, and the number.
+//! Numbers after a sign: whether it is a minus, and the number.
 ghost use Rattle.std.specs.Prelude.{◌≡◌, ◌≤◌, ◌<◌, ◌^◌, IfSome, if◌then◌else◌};
 ghost use Rattle.parsing_combinator.specs.Pieces as Pieces;
 ghost use Rattle.parsing_combinator.specs.Shape as Shape;
@@ -9,7 +9,7 @@ use crate::sign;
 use crate::wide::wide_digits;
 use description_date_modifiers::Padding;
 
-// The digits of a year behind its sign.
+// The digits of a year after its sign.
 #[tactic(auto, using(crate::proofs::Components::taken_padded))]
 fn signed_year(padding: Padding, extended: bool, bytes: &[u8]) -> Option<(u32, &[u8])>
     ensures taken { Pieces.cut_view result
@@ -19,7 +19,7 @@ fn signed_year(padding: Padding, extended: bool, bytes: &[u8]) -> Option<(u32, &
     padded(padding, 4, if extended { 6 } else { 4 }, bytes)
 }
 
-/// A year: four digits, and where it is extended up to six behind a sign.
+/// A year: four digits, and where it is extended up to six after a sign.
 #[inline(always)]
 #[tactic(auto, using(crate::proofs::Components::taken_year))]
 pub fn year(
@@ -45,7 +45,7 @@ pub fn year(
     }
 }
 
-/// A century: behind a sign two digits, and where it is extended up to four; without one at most
+/// A century: after a sign two digits, and where it is extended up to four; without one at most
 /// two.
 #[tactic(auto, using(crate::proofs::Components::taken_century))]
 pub fn century(

@@ -8,21 +8,21 @@ use crate::digits::leading_digits;
 
 // The number that at most 23 digits write.
 #[inline(always)]
-fn wide_number(front: &[u8]) -> u128
-    requires short { length front.now ≤ 23 }
-    requires all { Pieces.digit_count front.now ≡ length front.now }
-    ensures value { result ≡ digits_value 10 front.now }
-    ensures bound { result < 10 ^ length front.now }
+fn wide_number(prefix: &[u8]) -> u128
+    requires short { length prefix.now ≤ 23 }
+    requires all { Pieces.digit_count prefix.now ≡ length prefix.now }
+    ensures value { result ≡ digits_value 10 prefix.now }
+    ensures bound { result < 10 ^ length prefix.now }
 {
     let mut value = 0;
-    for b in front {
+    for b in prefix {
         value = value * 10 + u128::from(*b - b'0');
     }
     value
 }
 
 /// One to `m` digits, as many as there are.
-#[tactic(auto, using(crate::proofs::Longest::taken_digits, crate::proofs::Longest::taken_bound, crate::proofs::Decimal::count_front))]
+#[tactic(auto, using(crate::proofs::Longest::taken_digits, crate::proofs::Longest::taken_bound, crate::proofs::Decimal::count_prefix))]
 pub(crate) fn wide_digits(m: usize, bytes: &[u8]) -> Option<(u128, &[u8])>
     requires some { 1 ≤ m }
     requires fits { m ≤ 23 }
@@ -33,6 +33,6 @@ pub(crate) fn wide_digits(m: usize, bytes: &[u8]) -> Option<(u128, &[u8])>
     if count == 0 {
         return None;
     }
-    let (front, rest) = bytes.split_at(count.min(m));
-    Some((wide_number(front), rest))
+    let (prefix, rest) = bytes.split_at(count.min(m));
+    Some((wide_number(prefix), rest))
 }

@@ -60,10 +60,10 @@ no_sign (c ∷ cs) rest x e = rw (digit_no_sign c (first_digit (is_ascii_digit c
 small_year : (n : ℕ) → is_in_range 0 9999 n ≡ true → nat_le n greatest_year ≡ true
 small_year n e = grind (arith, nat_tests)
 
-year_kept : (b : Bool) (n : ℕ) (rest behind : List ℕ) (said : Read) → is_in_range 0 9999 n ≡ b → option_map {U = Read × List ℕ} (λ y. (y, rest)) (if b then Some (read.Year (pos n)) else None) ≡ Some (said, behind)
-    → option_map {U = Read × List ℕ} (λ y. (y, rest)) (if nat_le n greatest_year then Some (read.Year (pos n)) else None) ≡ Some (said, behind)
-year_kept true n rest behind said is e = rw (small_year n is) e
-year_kept false n rest behind said is e = absurd (let never : None ≡ Some (said, behind) = e in cc)
+year_kept : (b : Bool) (n : ℕ) (rest after : List ℕ) (said : Read) → is_in_range 0 9999 n ≡ b → option_map {U = Read × List ℕ} (λ y. (y, rest)) (if b then Some (read.Year (pos n)) else None) ≡ Some (said, after)
+    → option_map {U = Read × List ℕ} (λ y. (y, rest)) (if nat_le n greatest_year then Some (read.Year (pos n)) else None) ≡ Some (said, after)
+year_kept true n rest after said is e = rw (small_year n is) e
+year_kept false n rest after said is e = absurd (let never : None ≡ Some (said, after) = e in cc)
 
 year_of_digits : (o : Option (ℕ × List ℕ)) (rest : List ℕ) (said : Read) → kept (between 0 9999 (λ y. read.Year (pos y))) o ≡ Some (said, rest) → kept (up_to greatest_year (λ negative y. read.Year y)) (under false o) ≡ Some (said, rest)
 year_of_digits None rest said e = absurd cc

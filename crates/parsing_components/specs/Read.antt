@@ -5,7 +5,7 @@ use Rattle.calendar_count.specs.declared.weekday.Weekday as weekdays
 
 pub data Read : Type 0 where
   Year : ℤ → Read
-  -- the century, and whether it is behind a minus
+  -- the century, and whether it is after a minus
   YearCentury : ℤ → Bool → Read
   YearLastTwo : ℕ → Read
   -- the year that ISO 8601's weeks belong to
@@ -27,7 +27,7 @@ pub data Read : Type 0 where
   Second : ℕ → Read
   -- in nanoseconds
   Subsecond : ℕ → Read
-  -- the hours, and whether they are behind a minus
+  -- the hours, and whether they are after a minus
   OffsetHour : ℤ → Bool → Read
   OffsetMinute : ℕ → Read
   OffsetSecond : ℕ → Read

@@ -19,7 +19,7 @@ use Rattle.parsing_components.specs.Read as read
 use Rattle.parsing_components.specs.declared.slot.Slot.{Slot}
 use Rattle.parsing_components.specs.declared.slot.Slot.TheVariants as slot
 
--- what is read: four digits of a year, two digits of each other number, of a day also one behind a space, the hours of an offset behind their sign
+-- what is read: four digits of a year, two digits of each other number, of a day also one after a space, the hours of an offset after their sign
 unfoldable pub slot_piece : Slot → Piece Read
 slot_piece slot.Year = says (between 0 9999 (λ y. read.Year (pos y))) (digits 4)
 slot_piece slot.Month = says (λ n. option_map read.Month (counted true months n)) (digits 2)

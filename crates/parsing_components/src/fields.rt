@@ -7,13 +7,13 @@ use calendar_count::{Month, Weekday};
 pub struct Record {
     pub year: Option<i32>,
     pub year_century: Option<i16>,
-    /// Whether the century is behind a minus, which -0 has too.
+    /// Whether the century is after a minus, which -0 has too.
     pub year_century_is_negative: bool,
     pub year_last_two: Option<u8>,
     /// The year that ISO 8601's weeks belong to.
     pub iso_year: Option<i32>,
     pub iso_year_century: Option<i16>,
-    /// Whether the century is behind a minus, which -0 has too.
+    /// Whether the century is after a minus, which -0 has too.
     pub iso_year_century_is_negative: bool,
     pub iso_year_last_two: Option<u8>,
     pub month: Option<Month>,
@@ -37,7 +37,7 @@ pub struct Record {
     pub offset_second: Option<i8>,
     /// The nanoseconds since 1970 began in UTC.
     pub unix_timestamp_nanos: Option<i128>,
-    /// Whether the offset's minutes and seconds count against it, as an hour behind a minus says.
+    /// Whether the offset's minutes and seconds count against it, as an hour after a minus says.
     pub offset_is_negative: bool,
     /// Whether second 60 stands for the last nanosecond before it.
     pub leap_second_is_permitted: bool,

@@ -124,7 +124,7 @@ fn ignored(count: u16, bytes: &[u8]) -> Option<&[u8]>
     Some(rest)
 }
 
-// So many bytes, behind which no character goes on.
+// So many bytes, after which no character goes on.
 pub(crate) fn ignored_characters(count: u16, bytes: &[u8]) -> Option<&[u8]>
     ensures { option_map passed result ≡ Components.if_whole (Components.ignored count bytes.now) }
 {

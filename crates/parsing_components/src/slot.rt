@@ -25,7 +25,7 @@ pub enum Slot {
     Second,
     /// So many digits of a fraction of a second.
     Subsecond(usize),
-    /// The hours of an offset, behind a sign.
+    /// The hours of an offset, after a sign.
     OffsetHour,
     OffsetMinute,
 }

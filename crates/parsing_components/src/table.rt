@@ -110,7 +110,7 @@ fn read_modern<'a>(
     }
 }
 
-/// Sets what the component says at the front of the bytes, and returns the bytes after it.
+/// Sets what the component says at the start of the bytes, and returns the bytes after it.
 #[tactic(auto, unfolding(crate::specs::Component::reads_component))]
 pub fn read_component<'a>(
     component: Component,
@@ -125,7 +125,7 @@ pub fn read_component<'a>(
     read_modern(component.modern(), bytes, fields)
 }
 
-/// Sets what the component says as version 3 reads: no character may go on behind ignored bytes.
+/// Sets what the component says as version 3 reads: no character may go on after ignored bytes.
 #[tactic(auto, unfolding(crate::specs::Component::reads_component_v3))]
 pub fn read_component_v3<'a>(
     component: Component,

@@ -11,7 +11,7 @@ use Rattle.std.proofs.lemmas.List.{append-nil, take_all}
 use Rattle.std.proofs.lemmas.Nat.{le_bytes_8}
 use Rattle.parsing_combinator.specs.Pieces.{digits, digit_count, fraction, cut_view}
 use Rattle.parsing_combinator.specs.Chunks.{IsDigitChunk, padded}
-use Rattle.parsing_combinator.proofs.Decimal.{value_append, count_front, digit_count_within}
+use Rattle.parsing_combinator.proofs.Decimal.{value_append, count_prefix, digit_count_within}
 use Rattle.parsing_combinator.proofs.Fixed.{digits_nine, joined}
 use Rattle.parsing_combinator.proofs.FractionDigits.{fraction_of_nine, digits_read}
 use Rattle.parsing_combinator.proofs.PaddingLemmas.{fraction_of_padded, padded_long, padded_fit, padded_whole, padded_rest, padded_below}
@@ -31,7 +31,7 @@ pub of_number : (n first last : ℕ) → n < 1_000_000_000 → first < 2 ^ 64 �
 unfolding decimal
 of_number n first last h fits is end =
     let all : digit_count (decimal 9 n) ≡ 9 = decimal_count 9 n in
-    let eight : to_le_bytes w64 first ≡ take 8 (decimal 9 n) = le_bytes_8 (take 8 (decimal 9 n)) first refl (digits_fit (take 8 (decimal 9 n)) (count_front (decimal 9 n) 8 (omega (arith, all)))) is in
+    let eight : to_le_bytes w64 first ≡ take 8 (decimal 9 n) = le_bytes_8 (take 8 (decimal 9 n)) first refl (digits_fit (take 8 (decimal 9 n)) (count_prefix (decimal 9 n) 8 (omega (arith, all)))) is in
     let nine : nine_digits first last ≡ decimal 9 n = nine_is first last (take 8 (decimal 9 n)) eight ∙ ap (λ (d : ℕ). take 8 (decimal 9 n) ++ d ∷ []) end in
     let small : n < 10 ^ 9 = omega (arith, h) in
     ((fits, ap digit_count nine ∙ all), ap (digits_value 10) nine ∙ decimal_value 9 n small)
@@ -98,10 +98,10 @@ short_read bytes first count c fit none =
 pub nine_read : (bytes : List ℕ) (first value : ℕ) (rest : List ℕ) → IsDigitChunk bytes first 8 → ((k : ℕ) → get_or bytes k 0 < 256) → digits 1 (drop 8 bytes) ≡ Some (value, rest) → value < 10 → digits 1 rest ≡ None → Nine first (48 + value) bytes rest
 unfolding digits
 nine_read bytes first value rest c fit one small none =
-    let front : padded 8 bytes ≡ take 8 bytes = append-nil (take 8 bytes) in
-    let is : to_le_bytes w64 first ≡ take 8 bytes = chunk_bytes bytes first 8 c fit ∙ front in
-    let all : digit_count (take 8 bytes) ≡ 8 = ap digit_count (sym front) ∙ counted bytes first 8 c fit in
-    let eight_long : length (take 8 bytes) ≡ 8 = ap length (sym front) ∙ long bytes first 8 c fit in
+    let prefix : padded 8 bytes ≡ take 8 bytes = append-nil (take 8 bytes) in
+    let is : to_le_bytes w64 first ≡ take 8 bytes = chunk_bytes bytes first 8 c fit ∙ prefix in
+    let all : digit_count (take 8 bytes) ≡ 8 = ap digit_count (sym prefix) ∙ counted bytes first 8 c fit in
+    let eight_long : length (take 8 bytes) ≡ 8 = ap length (sym prefix) ∙ long bytes first 8 c fit in
     let same : eqb (digit_count (take 8 bytes)) (length (take 8 bytes)) ≡ true = grind (arith, nat_tests) in
     let count : digit_count bytes ≡ 8 + digit_count (drop 8 bytes) =
     ap digit_count (sym (take-append-drop 8 bytes)) ∙ prefix_len-append is_ascii_digit (take 8 bytes) (drop 8 bytes) ∙ rw same (omega (arith, eight_long)) in
@@ -111,8 +111,8 @@ nine_read bytes first value rest c fit one small none =
     let digit = as_digit value (omega arith) in
     let nine = with_last first (48 + value) (take 8 bytes) is all eight_long digit.0 (below bytes first 8 c fit) in
     let same_value : digits_value 10 (nine_digits first (48 + value)) ≡ digits_value 10 (take 8 bytes) * 10 + value = omega (arith, nine.value, digit.1) in
-    let behind : length rest ≡ length (drop 1 (drop 8 bytes)) = ap length (sym (digits_read 1 (drop 8 bytes) value rest one).after) in
-    record { are = nine.are; at_most_nine = omega (arith, behind, length-drop 1 (drop 8 bytes), length-drop 8 bytes); reads = rw same_value (fraction_of_nine bytes (digits_value 10 (take 8 bytes) * 10 + value) rest read none) }
+    let later : length rest ≡ length (drop 1 (drop 8 bytes)) = ap length (sym (digits_read 1 (drop 8 bytes) value rest one).after) in
+    record { are = nine.are; at_most_nine = omega (arith, later, length-drop 1 (drop 8 bytes), length-drop 8 bytes); reads = rw same_value (fraction_of_nine bytes (digits_value 10 (take 8 bytes) * 10 + value) rest read none) }
 
 pub none_of_nothing : digits 1 [] ≡ None
 unfolding digits

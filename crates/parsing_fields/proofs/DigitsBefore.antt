@@ -10,7 +10,7 @@ use Rattle.std.proofs.lemmas.List.Folds.{prefix_len-append}
 use Rattle.std.proofs.lemmas.Nat.{div-mul-add}
 use Rattle.parsing_combinator.specs.Pieces.{digits, digit_count, digit_run, fraction, nanoseconds_of}
 use Rattle.parsing_combinator.specs.Chunks.{chunk, padded, IsDigitChunk}
-use Rattle.parsing_combinator.proofs.Decimal.{count_front}
+use Rattle.parsing_combinator.proofs.Decimal.{count_prefix}
 use Rattle.parsing_combinator.proofs.FractionDigits.{digits_read}
 use Rattle.parsing_combinator.proofs.PaddingLemmas.{chunk_append, chunk_below, padded_read}
 use Rattle.parsing_fields.proofs.DigitLemmas.{Nine, short_read, none_of_nothing}
@@ -37,9 +37,9 @@ split_off w x y p e lt =
 -- the number of bytes without the first few
 chunk_tail : (xs : List ℕ) (m : ℕ) → m ≤ length xs → ((k : ℕ) → get_or xs k 0 < 256) → chunk xs / 2 ^ (8 * m) ≡ chunk (drop m xs)
 chunk_tail xs m within fit =
-    let front : length (take m xs) ≡ m = length-take-le m xs within in
-    let parts : chunk xs ≡ chunk (take m xs) + chunk (drop m xs) * 2 ^ (8 * m) = ap chunk (sym (take-append-drop m xs)) ∙ chunk_append (take m xs) (drop m xs) ∙ rw front refl in
-    let below : chunk (take m xs) < 2 ^ (8 * m) = rw front at (chunk_below (take m xs) (take_fit m xs fit)) in
+    let prefix : length (take m xs) ≡ m = length-take-le m xs within in
+    let parts : chunk xs ≡ chunk (take m xs) + chunk (drop m xs) * 2 ^ (8 * m) = ap chunk (sym (take-append-drop m xs)) ∙ chunk_append (take m xs) (drop m xs) ∙ rw prefix refl in
+    let below : chunk (take m xs) < 2 ^ (8 * m) = rw prefix at (chunk_below (take m xs) (take_fit m xs fit)) in
     split_off (chunk xs) (chunk (take m xs)) (chunk (drop m xs)) (2 ^ (8 * m)) parts below
 
 module _ (line : List ℕ) (end count : ℕ) (room : 8 ≤ end) (within : end ≤ length line) (some : 0 < count) (few : count ≤ 8) (fit : (k : ℕ) → get_or line k 0 < 256) where
@@ -55,7 +55,7 @@ module _ (line : List ℕ) (end count : ℕ) (room : 8 ≤ end) (within : end �
       let at : end - 8 + (8 - count) ≡ end - count = omega arith in
       ap (λ (n : ℕ). drop (8 - count) (take n (drop (end - 8) line))) (sym eight) ∙ drop-take (8 - count) count (drop (end - 8) line) ∙ ap (take count) (drop-drop (8 - count) (end - 8) line ∙ ap (λ (n : ℕ). drop n line) at)
 
-  -- what the shift leaves, with zeros behind it
+  -- what the shift leaves, with zeros after it
   pub number : chunk (take 8 (drop (end - 8) line)) / 2 ^ (8 * (8 - count)) + chunk (replicate (8 - count) 48) * 2 ^ (8 * count) ≡ chunk (padded count (take count (drop (end - count) line)))
   number =
       let run = take count (drop (end - count) line) in
@@ -87,8 +87,8 @@ fraction_whole : (run : List ℕ) (n : ℕ) (rest : List ℕ) → digit_count ru
 unfolding fraction digit_run
 fraction_whole run n rest all some e =
     let nonzero : (digit_count run == 0) ≡ false = grind (arith, nat_tests) in
-    let front : take (digit_count run) run ≡ run = take_all (digit_count run) run (omega arith) in
-    let cut : Some (n, rest) ≡ Some (nanoseconds_of run, drop (digit_count run) run) = sym e ∙ rw (nonzero, front) refl in
+    let prefix : take (digit_count run) run ≡ run = take_all (digit_count run) run (omega arith) in
+    let cut : Some (n, rest) ≡ Some (nanoseconds_of run, drop (digit_count run) run) = sym e ∙ rw (nonzero, prefix) refl in
     ap (λ (o : Option (ℕ × List ℕ)). (unwrap_or o (0, [])).0) cut
 
 pub fraction_before : (bytes : List ℕ) (first count : ℕ) → count ≤ length bytes → IsDigitChunk (take count bytes) first count → ((k : ℕ) → get_or bytes k 0 < 256) → WriteFraction bytes count (digits_value 10 (nine_digits first 48))
@@ -99,8 +99,8 @@ fraction_before bytes first count within c fit =
     let nine : Nine first 48 run (drop count run) = short_read run first count c (take_fit count bytes fit) (ap (digits 1) nothing ∙ none_of_nothing) in
     let zeros : List ℕ = replicate (8 - count) 48 in
     let whole : take count run ≡ run = take_all count run (omega (arith, long)) in
-    let front : take count (padded count run) ≡ run = take-append-le count (take count run) zeros (omega (arith, ap length whole, long)) ∙ ap (take count) whole ∙ whole in
-    let all : digit_count run ≡ length run = rw front at (count_front (padded count run) count (omega (arith, c.few, c.digits_are))) in
+    let prefix : take count (padded count run) ≡ run = take-append-le count (take count run) zeros (omega (arith, ap length whole, long)) ∙ ap (take count) whole ∙ whole in
+    let all : digit_count run ≡ length run = rw prefix at (count_prefix (padded count run) count (omega (arith, c.few, c.digits_are))) in
     let same : eqb (digit_count run) (length run) ≡ true = grind (arith, nat_tests) in
     let counted : digit_count bytes ≡ length run + digit_count (drop count bytes) = ap digit_count (sym (take-append-drop count bytes)) ∙ prefix_len-append is_ascii_digit run (drop count bytes) ∙ rw same refl in
     record {

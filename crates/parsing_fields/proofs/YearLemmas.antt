@@ -11,7 +11,7 @@ use Rattle.std.proofs.lemmas.Nat.{le_bytes_4}
 use Rattle.parsing_combinator.specs.Pieces.{digits, digit_count}
 use Rattle.parsing_combinator.specs.Places.{HasDigit, HasPair}
 use Rattle.parsing_combinator.proofs.AtPlaces.{two_there, places_two_on, four_there}
-use Rattle.parsing_combinator.proofs.Decimal.{digit_here, count_front}
+use Rattle.parsing_combinator.proofs.Decimal.{digit_here, count_prefix}
 use Rattle.parsing_combinator.proofs.FractionDigits.{Read, digits_read}
 use Rattle.parsing_fields.specs.Decimal.{decimal}
 use Rattle.parsing_fields.specs.Digits.{four_digits, AreFourDigits}
@@ -46,7 +46,7 @@ module _ (text : List ℕ) (place : ℕ) (high : HasPair text place) (low : HasP
   long = length-take-le 4 (drop place text) (omega (arith, length-drop place text, low.room))
 
   all_there : digit_count (take 4 (drop place text)) ≡ 4
-  all_there = count_front (drop place text) 4 read.enough ∙ long
+  all_there = count_prefix (drop place text) 4 read.enough ∙ long
 
   module _ (number : ℕ) (fits : number < 2 ^ 32) (is : number ≡ from_le_bytes w32 (take 4 (drop place text))) where
     bytes : four_digits number ≡ take 4 (drop place text)

@@ -13,15 +13,15 @@ use Rattle.parsing_combinator.proofs.FractionDigits.{all_digits}
 use Rattle.parsing_fields.specs.Decimal.{decimal}
 use Rattle.parsing_fields.specs.Digits.{nine_digits, AreNineDigits, four_digits, AreFourDigits}
 
--- the last digit, behind the decimal of the others
-one_more : (w v c : ℕ) (front : List ℕ) → 48 ≤ c → c ≤ 57 → decimal w v ≡ front → decimal (suc w) (v * 10 + (c - 48)) ≡ front ++ c ∷ []
+-- the last digit, after the decimal of the others
+one_more : (w v c : ℕ) (prefix : List ℕ) → 48 ≤ c → c ≤ 57 → decimal w v ≡ prefix → decimal (suc w) (v * 10 + (c - 48)) ≡ prefix ++ c ∷ []
 unfolding decimal
-one_more w v c front low high e =
+one_more w v c prefix low high e =
     let tens : (v * 10 + (c - 48)) / 10 ≡ v = omega arith in
     let last : 48 + (v * 10 + (c - 48)) % 10 ≡ c = omega arith in
     rw (tens, last, e) refl
 
--- the digits at the front are the decimal of their number
+-- the digits at the start are the decimal of their number
 decimal_of_digits : (n : ℕ) (bytes : List ℕ) → n ≤ digit_count bytes → decimal n (digits_value 10 (take n bytes)) ≡ take n bytes
 unfolding decimal
 decimal_of_digits zero bytes h = refl

@@ -24,7 +24,7 @@ fn eight_before(line: &[u8], end: usize) -> u64
 }
 
 // The digit zero in all bytes but the first, for each number of these.
-static ZEROS_BEHIND: [u64; 9] = [
+static ZEROS_AFTER: [u64; 9] = [
     0x3030_3030_3030_3030,
     0x3030_3030_3030_3000,
     0x3030_3030_3030_0000,
@@ -37,11 +37,11 @@ static ZEROS_BEHIND: [u64; 9] = [
 ];
 
 #[inline(always)]
-fn zeros_behind(count: usize) -> u64
+fn zeros_after(count: usize) -> u64
     requires { count ≤ 8 }
     ensures { result ≡ Chunks.chunk (replicate (8 - count) digit_zero) * 2 ^ (8 * count) }
 {
-    ZEROS_BEHIND[count]
+    ZEROS_AFTER[count]
 }
 
 // Whether all eight bytes are digits: each has the high half of one, and so has the byte six above it.
@@ -57,7 +57,7 @@ fn are_digits(chunk: u64) -> bool
         && above & 0xf0f0_f0f0_f0f0_f0f0 == 0x3030_3030_3030_3030
 }
 
-/// So many digits that end at a place, at most eight, in one number with the digit zero behind them, the first one lowest:
+/// So many digits that end at a place, at most eight, in one number with the digit zero after them, the first one lowest:
 /// `None` says nothing.
 #[inline(always)]
 pub(crate) fn digits_before(line: &[u8], end: usize, count: usize) -> Option<u64>
@@ -68,7 +68,7 @@ pub(crate) fn digits_before(line: &[u8], end: usize, count: usize) -> Option<u64
     ensures { IfSome result
         (λ x. Chunks.IsDigitChunk (take count (drop (end - count) line.now)) x count) }
 {
-    let digits = (eight_before(line, end) >> (8 * (8 - count))) + zeros_behind(count);
+    let digits = (eight_before(line, end) >> (8 * (8 - count))) + zeros_after(count);
     if !are_digits(digits) {
         return None;
     }

@@ -50,7 +50,7 @@ impl Model for Fraction {
     ) };
 }
 
-// A digit behind so many: where they are fewer than eight, they are all that are there.
+// A digit after so many: where they are fewer than eight, they are all that are there.
 #[inline(always)]
 fn ninth_digit(count: usize, rest: &[u8]) -> Option<(u8, &[u8])>
     requires { count < 8 → Pieces.digits 1 rest.now ≡ None }
@@ -104,7 +104,7 @@ impl Fraction {
         }
     }
 
-    /// The fraction of the digits at the front, where they are at most nine, and what follows them: `None` says nothing.
+    /// The fraction of the digits at the start, where they are at most nine, and what follows them: `None` says nothing.
     #[inline(always)]
     pub fn read(bytes: &[u8]) -> Option<(Fraction, &[u8])>
         ensures fraction { IfSome result (λ x. Pieces.fraction bytes.now ≡ Some (x.0, x.1.now)) }
@@ -113,15 +113,15 @@ impl Fraction {
     {
         let (first, count) = digit_chunk(bytes)?;
         let rest = &bytes[count..];
-        let Some((last, behind)) = ninth_digit(count, rest) else {
+        let Some((last, after)) = ninth_digit(count, rest) else {
             let last = u64::from(b'0');
             return Some((Fraction { first, last }, rest));
         };
-        if one_digit(behind).is_some() {
+        if one_digit(after).is_some() {
             return None;
         }
         let last = u64::from(b'0' + last);
-        Some((Fraction { first, last }, behind))
+        Some((Fraction { first, last }, after))
     }
 
     /// The fraction that so many digits write, at most eight, which end at a place of a line: `None` says nothing.

@@ -1,5 +1,5 @@
 pub mod Ruled
-pub mod Fronts
+pub mod Prefixes
 pub mod Shapes
 pub mod Walk
 mod Widths

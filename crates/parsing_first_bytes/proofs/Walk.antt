@@ -8,18 +8,18 @@ use Rattle.parsing_record.specs.Meaning.{Meaning, Answer, Counted, then_counted,
 use Rattle.parsing_record.specs.Reads.{Language, reading, reading_of_all, reads, each_reads}
 use Rattle.parsing_record.specs.Record.{Record}
 use Rattle.parsing_combinator.specs.Shape.{is_sign}
-use Rattle.parsing_first_bytes.specs.declared.front.Front.{Front}
+use Rattle.parsing_first_bytes.specs.declared.prefix.Prefix.{Prefix}
 use Rattle.parsing_first_bytes.specs.FirstBounds.{IsUnsigned}
-use Rattle.parsing_first_bytes.specs.Front.{Leaves, Begins, stands}
+use Rattle.parsing_first_bytes.specs.Prefix.{Leaves, Begins, stands}
 use Rattle.parsing_first_bytes.specs.declared.first_bytes.FirstBytes.{FirstBytes}
 use Rattle.parsing_first_bytes.specs.FirstBytes.{fits_at, rule_out, IsRefusedAt, AreOf}
 
-counted_none : (f : Front) (line : List ℕ) (x : Answer) (n : ℕ) (next : Counted) → IfOk x (λ y. Leaves f line y.1) → ((r : Record) (rest : List ℕ) → Leaves f line rest → result_ok (next r rest).0 ≡ None) → result_ok (then_counted x n next).0 ≡ None
+counted_none : (f : Prefix) (line : List ℕ) (x : Answer) (n : ℕ) (next : Counted) → IfOk x (λ y. Leaves f line y.1) → ((r : Record) (rest : List ℕ) → Leaves f line rest → result_ok (next r rest).0 ≡ None) → result_ok (then_counted x n next).0 ≡ None
 counted_none f line (Ok y) n next h k = k y.0 y.1 h
 counted_none f line (Err e) n next h k = refl
 
 -- the byte can't stand in the first item
-pub here_refused : (language : Language) (t : Tree) (ts : List Tree) (f : Front) (place byte : ℕ) → Begins f (reading language t) → place < f.least → stands f.bytes place byte ≡ false → IsRefusedAt (reading_of_all language (listed (t ∷ ts))) place byte
+pub here_refused : (language : Language) (t : Tree) (ts : List Tree) (f : Prefix) (place byte : ℕ) → Begins f (reading language t) → place < f.least → stands f.bytes place byte ≡ false → IsRefusedAt (reading_of_all language (listed (t ∷ ts))) place byte
 unfolding each_reads all_of
 here_refused language t ts f place byte h lt none line at r =
     counted_none f line (reads language t r line).0 (reads language t r line).1 (all_of (each_reads language (listed ts))) (h r line)
@@ -35,26 +35,26 @@ unsigned_there sign start line unsigned e =
     let here : start + 0 ≡ start = omega arith in
     ap is_sign (get_or-drop start line 0 0 ∙ ap (λ n. get_or line n 0) here) ∙ unsigned start e
 
-counted_behind : (width : ℕ) (line : List ℕ) (x : Answer) (n : ℕ) (next : Counted) → IfOk x (λ y. y.1 ≡ drop width line) → ((r : Record) → result_ok (next r (drop width line)).0 ≡ None) → result_ok (then_counted x n next).0 ≡ None
-counted_behind width line (Ok y) n next h k = ap (λ rest. result_ok (next y.0 rest).0) h ∙ k y.0
-counted_behind width line (Err e) n next h k = refl
+counted_after : (width : ℕ) (line : List ℕ) (x : Answer) (n : ℕ) (next : Counted) → IfOk x (λ y. y.1 ≡ drop width line) → ((r : Record) → result_ok (next r (drop width line)).0 ≡ None) → result_ok (then_counted x n next).0 ≡ None
+counted_after width line (Ok y) n next h k = ap (λ rest. result_ok (next y.0 rest).0) h ∙ k y.0
+counted_after width line (Err e) n next h k = refl
 
 -- what follows the first item is refused, which has so many bytes
 pub next_refuses : (language : Language) (t : Tree) (ts : List Tree) (width : ℕ) (line : List ℕ) → ((r : Record) → IfOk (reading language t r line) (λ x. x.1 ≡ drop width line)) → Refuses (reading_of_all language (listed ts)) (drop width line)
     → Refuses (reading_of_all language (listed (t ∷ ts))) line
 unfolding each_reads all_of
 next_refuses language t ts width line h others r =
-    counted_behind width line (reads language t r line).0 (reads language t r line).1 (all_of (each_reads language (listed ts))) (h r) others
+    counted_after width line (reads language t r line).0 (reads language t r line).1 (all_of (each_reads language (listed ts))) (h r) others
 
-nothing_behind : (x : Answer) (n : ℕ) → result_ok (then_counted x n (all_of [])).0 ≡ None → result_ok x ≡ None
+nothing_after : (x : Answer) (n : ℕ) → result_ok (then_counted x n (all_of [])).0 ≡ None → result_ok x ≡ None
 unfolding all_of
-nothing_behind (Ok y) n h = absurd cc
-nothing_behind (Err f) n h = refl
+nothing_after (Ok y) n h = absurd cc
+nothing_after (Err f) n h = refl
 
 -- what one item refuses by itself
 pub alone_refused : (language : Language) (t : Tree) (line : List ℕ) (r : Record) → result_ok (reading_of_all language (listed (t ∷ [])) r line) ≡ None → result_ok (reading language t r line) ≡ None
 unfolding each_reads all_of
-alone_refused language t line r e = nothing_behind (reads language t r line).0 (reads language t r line).1 e
+alone_refused language t line r e = nothing_after (reads language t r line).0 (reads language t r line).1 e
 
 -- an item that holds others reads what they read, one after the other
 pub compound_refused : (language : Language) (ts : List Tree) (r : Record) (line : List ℕ) → result_ok (reading_of_all language (listed ts) r line) ≡ None → result_ok (reading language (Compound (listed ts)) r line) ≡ None

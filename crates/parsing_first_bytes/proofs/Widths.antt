@@ -13,18 +13,18 @@ use Rattle.parsing_first_bytes.specs.declared.first_bounds.FirstBounds.{FirstBou
 use Rattle.parsing_first_bytes.proofs.Walk.{alone_refused, compound_refused}
 use Rattle.parsing_first_bytes.specs.FirstBounds.{AreBoundsOf, IsOutside, ReadsBytes, HasWidth, ReadsNoneWhole}
 
--- what was read, if something was, leaves what stands behind so many bytes
-abbrev LeavesBehind : Answer → ℕ → List ℕ → Type 0
-LeavesBehind x w line = IfOk x (λ z. z.1 ≡ drop w line)
+-- what was read, if something was, leaves what stands after so many bytes
+abbrev LeavesAfter : Answer → ℕ → List ℕ → Type 0
+LeavesAfter x w line = IfOk x (λ z. z.1 ≡ drop w line)
 
-if_read : (x : Answer) (w : ℕ) (line : List ℕ) → ((set : Record) (rest : List ℕ) → x ≡ Ok (set, rest) → rest ≡ drop w line) → LeavesBehind x w line
+if_read : (x : Answer) (w : ℕ) (line : List ℕ) → ((set : Record) (rest : List ℕ) → x ≡ Ok (set, rest) → rest ≡ drop w line) → LeavesAfter x w line
 if_read (Ok z) w line h = h z.0 z.1 refl
 if_read (Err f) w line h = tt
 
-each_read : (m : Meaning) (w : ℕ) (line : List ℕ) → ReadsBytes m w line → (r : Record) → LeavesBehind (m r line) w line
+each_read : (m : Meaning) (w : ℕ) (line : List ℕ) → ReadsBytes m w line → (r : Record) → LeavesAfter (m r line) w line
 each_read m w line h r = if_read (m r line) w line (h r)
 
-reads_bytes : (m : Meaning) (w : ℕ) (line : List ℕ) → ((r : Record) → LeavesBehind (m r line) w line) → ReadsBytes m w line
+reads_bytes : (m : Meaning) (w : ℕ) (line : List ℕ) → ((r : Record) → LeavesAfter (m r line) w line) → ReadsBytes m w line
 reads_bytes m w line h r set rest e = let left = h r in rw e at left
 
 -- nothing is read by no items
@@ -32,12 +32,12 @@ pub none_read_by_none : (language : Language) (line : List ℕ) → ReadsBytes (
 unfolding each_reads all_of
 none_read_by_none language line = reads_bytes (reading_of_all language (listed [])) 0 line (λ r. refl)
 
-behind : (x : Answer) (k w : ℕ) (line rest : List ℕ) → rest ≡ drop k line → LeavesBehind x w (drop k line) → LeavesBehind x (k + w) line
-behind (Ok z) k w line rest e h = h ∙ drop-drop w k line
-behind (Err f) k w line rest e h = tt
+after : (x : Answer) (k w : ℕ) (line rest : List ℕ) → rest ≡ drop k line → LeavesAfter x w (drop k line) → LeavesAfter x (k + w) line
+after (Ok z) k w line rest e h = h ∙ drop-drop w k line
+after (Err f) k w line rest e h = tt
 
-counted_wide : (line : List ℕ) (k w : ℕ) (x : Answer) (n : ℕ) (next : Counted) → LeavesBehind x k line → ((r : Record) → LeavesBehind (next r (drop k line)).0 w (drop k line)) → LeavesBehind (then_counted x n next).0 (k + w) line
-counted_wide line k w (Ok y) n next h others = behind (next y.0 y.1).0 k w line y.1 h (rw h (others y.0))
+counted_wide : (line : List ℕ) (k w : ℕ) (x : Answer) (n : ℕ) (next : Counted) → LeavesAfter x k line → ((r : Record) → LeavesAfter (next r (drop k line)).0 w (drop k line)) → LeavesAfter (then_counted x n next).0 (k + w) line
+counted_wide line k w (Ok y) n next h others = after (next y.0 y.1).0 k w line y.1 h (rw h (others y.0))
 counted_wide line k w (Err e) n next h others = tt
 
 -- an item of fixed width before others
@@ -48,7 +48,7 @@ next_bytes language t ts k w line h others =
     reads_bytes (reading_of_all language (listed (t ∷ ts))) (k + w) line (λ r.
     counted_wide line k w (reads language t r line).0 (reads language t r line).1 (all_of (each_reads language (listed ts))) (h r) (each_read (reading_of_all language (listed ts)) w (drop k line) others))
 
-nothing_more : (x : Answer) (n w : ℕ) (line : List ℕ) → LeavesBehind (then_counted x n (all_of [])).0 w line → LeavesBehind x w line
+nothing_more : (x : Answer) (n w : ℕ) (line : List ℕ) → LeavesAfter (then_counted x n (all_of [])).0 w line → LeavesAfter x w line
 unfolding all_of
 nothing_more (Ok y) n w line h = h
 nothing_more (Err f) n w line h = tt

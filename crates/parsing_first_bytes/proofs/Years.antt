@@ -3,11 +3,11 @@ use Rattle.std.proofs.Common.{◌≡◌, ◌≤◌, ◌==◌, ℕ, zero, suc, Bo
 use Rattle.std.specs.Prelude.{option_map, IfSome, if◌then◌else◌}
 use Rattle.std.proofs.lemmas.List.{get_or-take, length-take-le}
 use Rattle.description_date_modifiers.specs.declared.choices.Padding.TheVariants as padding
-use Rattle.parsing_combinator.specs.Shape.{Shape, front, taken, nothing, is_sign, signed}
+use Rattle.parsing_combinator.specs.Shape.{Shape, prefix, taken, nothing, is_sign, signed}
 use Rattle.parsing_combinator.specs.Numbers.{padded, signed_if, year}
-use Rattle.parsing_first_bytes.specs.declared.front.Bytes.TheVariants.{Digits}
-use Rattle.parsing_first_bytes.specs.declared.front.Front.{Front}
-use Rattle.parsing_first_bytes.proofs.Shapes.{front_of, HasText, Holds, greatest_each, padded_zero_hold, padded_space_hold}
+use Rattle.parsing_first_bytes.specs.declared.prefix.Bytes.TheVariants.{Digits}
+use Rattle.parsing_first_bytes.specs.declared.prefix.Prefix.{Prefix}
+use Rattle.parsing_first_bytes.proofs.Shapes.{prefix_of, HasText, Holds, greatest_each, padded_zero_hold, padded_space_hold}
 
 -- each text of a shape has so many bytes
 abbrev HasLength : {A : Type 0} → ℕ → Shape A → Type 0
@@ -29,9 +29,9 @@ still_unsigned (suc k) line e = ap is_sign (get_or-take (suc k) line 0 0 (omega 
 
 taken_width : {A : Type 0} (width : ℕ) (shape : Shape A) → HasLengthUnsigned width shape → (line : List ℕ) → is_sign (get_or line 0 0) ≡ false → IfSome (taken shape line) (λ x. x.1 ≡ drop width line)
 unfolding taken
-taken_width width shape h line e = greatest_each (λ x. x.1 ≡ drop width line) (front shape line) (length line) (λ k le. left_at width k line (shape (take k line)) le (h (take k line) (still_unsigned k line e)))
+taken_width width shape h line e = greatest_each (λ x. x.1 ≡ drop width line) (prefix shape line) (length line) (λ k le. left_at width k line (shape (take k line)) le (h (take k line) (still_unsigned k line e)))
 
--- ---- behind a sign, or without one
+-- ---- after a sign, or without one
 
 bare_length : {A : Type 0} (width : ℕ) (text : List ℕ) (o : Option A) → IfSome o (λ _. length text ≡ width) → IfSome {T = Bool × A} (option_map (λ x. (false, x)) o) (λ _. length text ≡ width)
 bare_length width text None h = tt
@@ -54,24 +54,24 @@ signed_if_length false width with_sign without h = signed_length width with_sign
 
 -- ---- four digits, or four bytes with spaces
 
-long_if : {A : Type 0} (f : Front) (text : List ℕ) (o : Option A) → f.is_whole ≡ true → IfSome o (λ _. HasText f text) → IfSome o (λ _. length text ≡ f.least)
+long_if : {A : Type 0} (f : Prefix) (text : List ℕ) (o : Option A) → f.is_whole ≡ true → IfSome o (λ _. HasText f text) → IfSome o (λ _. length text ≡ f.least)
 long_if f text None whole h = tt
 long_if f text (Some x) whole h = h.1.1 whole
 
-held_length : {A : Type 0} (f : Front) (shape : Shape A) → f.is_whole ≡ true → Holds f shape → HasLength f.least shape
+held_length : {A : Type 0} (f : Prefix) (shape : Shape A) → f.is_whole ≡ true → Holds f shape → HasLength f.least shape
 held_length f shape whole holds text = long_if f text (shape text) whole (holds text)
 
 pub zero_year : (mandatory extended : Bool) (line : List ℕ) → is_sign (get_or line 0 0) ≡ false → IfSome (taken (year padding.Zero mandatory extended) line) (λ x. x.1 ≡ drop 4 line)
 unfolding year
 zero_year mandatory extended =
     taken_width 4 (year padding.Zero mandatory extended) (signed_if_length mandatory 4 (padded padding.Zero 4 (if extended then 6 else 4)) (padded padding.Zero 4 4)
-    (held_length (front_of (Digits false false) 4 true) (padded padding.Zero 4 4) refl (padded_zero_hold 4 4 4 false true (omega arith) (λ e. (refl, refl)))))
+    (held_length (prefix_of (Digits false false) 4 true) (padded padding.Zero 4 4) refl (padded_zero_hold 4 4 4 false true (omega arith) (λ e. (refl, refl)))))
 
 pub space_year : (mandatory extended : Bool) (line : List ℕ) → is_sign (get_or line 0 0) ≡ false → IfSome (taken (year padding.Space mandatory extended) line) (λ x. x.1 ≡ drop 4 line)
 unfolding year
 space_year mandatory extended =
     taken_width 4 (year padding.Space mandatory extended) (signed_if_length mandatory 4 (padded padding.Space 4 (if extended then 6 else 4)) (padded padding.Space 4 4)
-    (held_length (front_of (Digits true false) 4 true) (padded padding.Space 4 4) refl (padded_space_hold 4 4 4 true (omega arith) (λ e. (refl, refl)))))
+    (held_length (prefix_of (Digits true false) 4 true) (padded padding.Space 4 4) refl (padded_space_hold 4 4 4 true (omega arith) (λ e. (refl, refl)))))
 
 pub each_width : (o : Option ℕ) {P Q : ℕ → Type 0} → ((width : ℕ) → P width → Q width) → IfSome o P → IfSome o Q
 each_width None f h = tt

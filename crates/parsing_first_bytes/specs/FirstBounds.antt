@@ -12,7 +12,7 @@ use Rattle.parsing_first_bytes.specs.declared.first_bounds.FirstBounds.{FirstBou
 abbrev pub IsUnsigned : Option ℕ → List ℕ → Type 0
 IsUnsigned sign line = ForSome sign (λ place. is_sign (get_or line place 0) ≡ false)
 
--- one of the first sixteen bytes of a line is out of the range of its place, and no sign stands where a year may have one; behind the line stands 0
+-- one of the first sixteen bytes of a line is out of the range of its place, and no sign stands where a year may have one; after the line stands 0
 pub record IsOutside (b : FirstBounds) (line : List ℕ) : Type 0 where
   pub place : ℕ
   pub near : place < 16

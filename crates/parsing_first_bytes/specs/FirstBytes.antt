@@ -5,7 +5,7 @@ use Rattle.parsing_record.specs.Meaning.{Meaning}
 use Rattle.parsing_record.specs.Record.{Record}
 use Rattle.parsing_first_bytes.specs.declared.first_bytes.FirstBytes.{FirstBytes}
 
--- the bytes that can stand at a place of a line that is read; behind the fourth place none is left out
+-- the bytes that can stand at a place of a line that is read; after the fourth place none is left out
 abbrev pub bytes_at : FirstBytes → ℕ → List Bool
 bytes_at f zero = f.first
 bytes_at f (suc zero) = f.second
@@ -17,7 +17,7 @@ bytes_at f (suc (suc (suc (suc place)))) = []
 abbrev pub can_stand : FirstBytes → ℕ → ℕ → Bool
 can_stand f place byte = get_or (bytes_at f place) byte true
 
--- whether the byte at a place of a line can stand there; behind the line stands 0
+-- whether the byte at a place of a line can stand there; after the line stands 0
 abbrev pub fits_at : FirstBytes → List ℕ → ℕ → Bool
 fits_at f line place = can_stand f place (get_or line place 0)
 

@@ -1,3 +1,3 @@
 pub mod FirstBytes
-pub mod Front
+pub mod Prefix
 pub mod FirstBounds

@@ -3,9 +3,9 @@ ghost use Rattle.std.specs.Prelude.{◌≡◌, ℕ, Bool, List, false, drop, get
 ghost use Rattle.parsing_combinator.specs.Numbers.{year};
 ghost use Rattle.parsing_combinator.specs.Shape.{is_sign, taken};
 ghost use Rattle.parsing_components.specs.Component.{reads_component, reads_component_v3};
-ghost use Rattle.parsing_first_bytes.specs.Front.{ComponentBegins, HasWidthUnsigned};
+ghost use Rattle.parsing_first_bytes.specs.Prefix.{ComponentBegins, HasWidthUnsigned};
 
-use crate::front::Front;
+use crate::prefix::Prefix;
 use description_items::Component;
 use description_items::modifier::Padding;
 
@@ -19,73 +19,73 @@ const WEEKDAYS: &[u8] = b"mtwfs";
 const PERIODS: &[u8] = b"ap";
 
 /// What each text of a component begins with, in all versions.
-pub(crate) fn front_of_component(component: &Component) -> Front<'static>
+pub(crate) fn prefix_of_component(component: &Component) -> Prefix<'static>
     ensures { ComponentBegins result component.now }
 {
     match component {
-        Component::Day(m) => Front::of_padded(m.padding, 2),
-        Component::MonthShort(_) => Front::of_name(MONTHS, 3, true),
-        Component::MonthLong(_) => Front::of_name(MONTHS, 3, false),
-        Component::MonthNumerical(m) => Front::of_padded(m.padding, 2),
-        Component::Ordinal(m) => Front::of_padded(m.padding, 3),
-        Component::WeekdayShort(_) => Front::of_name(WEEKDAYS, 3, true),
-        Component::WeekdayLong(_) => Front::of_name(WEEKDAYS, 3, false),
-        Component::WeekdaySunday(_) => Front::of_digits(),
-        Component::WeekdayMonday(_) => Front::of_digits(),
-        Component::WeekNumberIso(m) => Front::of_padded(m.padding, 2),
-        Component::WeekNumberSunday(m) => Front::of_padded(m.padding, 2),
-        Component::WeekNumberMonday(m) => Front::of_padded(m.padding, 2),
-        _ => front_of_year(component),
+        Component::Day(m) => Prefix::of_padded(m.padding, 2),
+        Component::MonthShort(_) => Prefix::of_name(MONTHS, 3, true),
+        Component::MonthLong(_) => Prefix::of_name(MONTHS, 3, false),
+        Component::MonthNumerical(m) => Prefix::of_padded(m.padding, 2),
+        Component::Ordinal(m) => Prefix::of_padded(m.padding, 3),
+        Component::WeekdayShort(_) => Prefix::of_name(WEEKDAYS, 3, true),
+        Component::WeekdayLong(_) => Prefix::of_name(WEEKDAYS, 3, false),
+        Component::WeekdaySunday(_) => Prefix::of_digits(),
+        Component::WeekdayMonday(_) => Prefix::of_digits(),
+        Component::WeekNumberIso(m) => Prefix::of_padded(m.padding, 2),
+        Component::WeekNumberSunday(m) => Prefix::of_padded(m.padding, 2),
+        Component::WeekNumberMonday(m) => Prefix::of_padded(m.padding, 2),
+        _ => prefix_of_year(component),
     }
 }
 
-// The same of a year, a part of a time or an offset, or a timestamp.
-fn front_of_year(component: &Component) -> Front<'static>
+// What a year, a part of a time or an offset, or a timestamp begins with.
+fn prefix_of_year(component: &Component) -> Prefix<'static>
     ensures { ComponentBegins result component.now }
 {
     match component {
-        Component::CalendarYearFullExtendedRange(m) => Front::of_signed(m.padding, 4),
-        Component::CalendarYearFullStandardRange(m) => Front::of_signed(m.padding, 4),
-        Component::IsoYearFullExtendedRange(m) => Front::of_signed(m.padding, 4),
-        Component::IsoYearFullStandardRange(m) => Front::of_signed(m.padding, 4),
-        Component::CalendarYearCenturyExtendedRange(m) => Front::of_signed(m.padding, 1),
-        Component::CalendarYearCenturyStandardRange(m) => Front::of_signed(m.padding, 1),
-        Component::IsoYearCenturyExtendedRange(m) => Front::of_signed(m.padding, 1),
-        Component::IsoYearCenturyStandardRange(m) => Front::of_signed(m.padding, 1),
-        Component::CalendarYearLastTwo(m) => Front::of_padded(m.padding, 2),
-        Component::IsoYearLastTwo(m) => Front::of_padded(m.padding, 2),
-        _ => front_of_time(component),
+        Component::CalendarYearFullExtendedRange(m) => Prefix::of_signed(m.padding, 4),
+        Component::CalendarYearFullStandardRange(m) => Prefix::of_signed(m.padding, 4),
+        Component::IsoYearFullExtendedRange(m) => Prefix::of_signed(m.padding, 4),
+        Component::IsoYearFullStandardRange(m) => Prefix::of_signed(m.padding, 4),
+        Component::CalendarYearCenturyExtendedRange(m) => Prefix::of_signed(m.padding, 1),
+        Component::CalendarYearCenturyStandardRange(m) => Prefix::of_signed(m.padding, 1),
+        Component::IsoYearCenturyExtendedRange(m) => Prefix::of_signed(m.padding, 1),
+        Component::IsoYearCenturyStandardRange(m) => Prefix::of_signed(m.padding, 1),
+        Component::CalendarYearLastTwo(m) => Prefix::of_padded(m.padding, 2),
+        Component::IsoYearLastTwo(m) => Prefix::of_padded(m.padding, 2),
+        _ => prefix_of_time(component),
     }
 }
 
-// The same of a part of a time or an offset, or a timestamp.
-fn front_of_time(component: &Component) -> Front<'static>
+// What a part of a time or an offset, or a timestamp begins with.
+fn prefix_of_time(component: &Component) -> Prefix<'static>
     ensures { ComponentBegins result component.now }
 {
     match component {
-        Component::Hour12(m) => Front::of_padded(m.padding, 2),
-        Component::Hour24(m) => Front::of_padded(m.padding, 2),
-        Component::Minute(m) => Front::of_padded(m.padding, 2),
-        Component::Period(_) => Front::of_name(PERIODS, 2, true),
-        Component::Second(m) => Front::of_padded(m.padding, 2),
-        Component::Subsecond(_) => Front::of_digits(),
-        Component::OffsetHour(m) => Front::of_signed(m.padding, 2),
-        Component::OffsetMinute(m) => Front::of_padded(m.padding, 2),
-        Component::OffsetSecond(m) => Front::of_padded(m.padding, 2),
-        _ => front_of_timestamp(component),
+        Component::Hour12(m) => Prefix::of_padded(m.padding, 2),
+        Component::Hour24(m) => Prefix::of_padded(m.padding, 2),
+        Component::Minute(m) => Prefix::of_padded(m.padding, 2),
+        Component::Period(_) => Prefix::of_name(PERIODS, 2, true),
+        Component::Second(m) => Prefix::of_padded(m.padding, 2),
+        Component::Subsecond(_) => Prefix::of_digits(),
+        Component::OffsetHour(m) => Prefix::of_signed(m.padding, 2),
+        Component::OffsetMinute(m) => Prefix::of_padded(m.padding, 2),
+        Component::OffsetSecond(m) => Prefix::of_padded(m.padding, 2),
+        _ => prefix_of_timestamp(component),
     }
 }
 
-// The same of a timestamp. Nothing is known of ignored bytes and of the end.
-fn front_of_timestamp(component: &Component) -> Front<'static>
+// What a timestamp begins with. Nothing is known of ignored bytes and of the end.
+fn prefix_of_timestamp(component: &Component) -> Prefix<'static>
     ensures { ComponentBegins result component.now }
 {
     match component {
-        Component::UnixTimestampSecond(_) => Front::of_signed(Padding::Zero, 1),
-        Component::UnixTimestampMillisecond(_) => Front::of_signed(Padding::Zero, 1),
-        Component::UnixTimestampMicrosecond(_) => Front::of_signed(Padding::Zero, 1),
-        Component::UnixTimestampNanosecond(_) => Front::of_signed(Padding::Zero, 1),
-        _ => Front::unknown(),
+        Component::UnixTimestampSecond(_) => Prefix::of_signed(Padding::Zero, 1),
+        Component::UnixTimestampMillisecond(_) => Prefix::of_signed(Padding::Zero, 1),
+        Component::UnixTimestampMicrosecond(_) => Prefix::of_signed(Padding::Zero, 1),
+        Component::UnixTimestampNanosecond(_) => Prefix::of_signed(Padding::Zero, 1),
+        _ => Prefix::unknown(),
     }
 }
 

@@ -20,7 +20,7 @@ const PLACES: usize = 16;
 /// The lowest and the highest byte that can stand at each of the first sixteen places of a line, and how many bytes are
 /// read where that is one number.
 ///
-/// Behind a year both are known of lines in which it has no sign.
+/// After a year both are known of lines in which it has no sign.
 #[derive(Clone, Copy)]
 pub struct FirstBounds {
     low: [u8; PLACES],
@@ -69,7 +69,7 @@ impl FirstBounds {
         }
     }
 
-    // Whether no sign stands where a year may have one; behind the line stands NUL.
+    // Whether no sign stands where a year may have one; after the line stands NUL.
     #[inline(always)]
     fn is_unsigned(&self, line: &[u8]) -> bool
         ensures { result ≡ true → IsUnsigned self.now.sign line.now }
@@ -83,7 +83,7 @@ impl FirstBounds {
         }
     }
 
-    // Whether the byte at a place of a line can't stand there, and the bounds hold for the line; behind the line stands NUL.
+    // Whether the byte at a place of a line can't stand there, and the bounds hold for the line; after the line stands NUL.
     #[inline(always)]
     fn is_outside(&self, line: &[u8], place: usize) -> bool
         requires { place < PLACES }
@@ -93,7 +93,7 @@ impl FirstBounds {
         (byte < self.low[place] || byte > self.high[place]) && self.is_unsigned(line)
     }
 
-    // The same of one of the first places of a line that may have fewer.
+    // Whether one of the first places of a line, which may have fewer, has a byte outside of its bounds.
     #[inline(never)]
     fn is_outside_short(&self, line: &[u8]) -> bool
         ensures { result ≡ true → IsOutside self.now line.now }
@@ -106,7 +106,7 @@ impl FirstBounds {
         false
     }
 
-    /// Whether one of the first sixteen bytes of a line can't stand at its place, so that no front of the line is read: `false`
+    /// Whether one of the first sixteen bytes of a line can't stand at its place, so that no prefix of the line is read: `false`
     /// says nothing of it. A line that is shorter counts as one that goes on with NUL.
     ///
     /// All places are compared at once, and the first one that seems to be outside is looked at.

@@ -70,7 +70,7 @@ impl FirstBytes {
         }
     }
 
-    // The same of a line that may be shorter.
+    // Whether the first bytes of a line, which may have fewer than four, rule it out.
     #[inline(never)]
     #[tactic(auto, unfolding(crate::specs::FirstBytes::rule_out))]
     fn rule_out_short(&self, line: &[u8]) -> bool
@@ -82,7 +82,7 @@ impl FirstBytes {
             && self.fourth[byte_at(line, 3)])
     }
 
-    /// Whether a byte can stand at a place of a line that is read; any can behind the first four. A line that is shorter
+    /// Whether a byte can stand at a place of a line that is read; any can after the first four. A line that is shorter
     /// counts as one that goes on with NUL.
     pub fn can_stand(&self, place: usize, byte: u8) -> bool
         ensures value { result ≡ can_stand self.now place byte }
@@ -100,7 +100,7 @@ impl FirstBytes {
     }
 }
 
-// The byte at a place of a line, or NUL behind it.
+// The byte at a place of a line, or NUL after it.
 fn byte_at(line: &[u8], place: usize) -> usize
     ensures { result ≡ get_or line.now place 0 }
 {

@@ -6,20 +6,20 @@ ghost use Rattle.parsing_record.specs.Reads.{reading, reading_of_all};
 ghost use Rattle.parsing_record.specs.Record.{Record};
 ghost use Rattle.parsing_first_bytes.specs.FirstBytes.{IsRefusedAt};
 ghost use Rattle.parsing_first_bytes.specs.FirstBounds.{HasWidth, IsRefusedUnsigned};
-ghost use Rattle.parsing_first_bytes.specs.Front.{Begins, stands};
+ghost use Rattle.parsing_first_bytes.specs.Prefix.{Begins, stands};
 
-use crate::components::{front_of_component, unsigned_width};
-use crate::front::Front;
+use crate::components::{prefix_of_component, unsigned_width};
+use crate::prefix::Prefix;
 use parsing_record::{Node, NodeStep};
 
 // What each text that a node reads begins with.
-fn front_of<N: Node>(node: &N) -> Front<'_>
+fn prefix_of<N: Node>(node: &N) -> Prefix<'_>
     ensures { Begins result (reading N.language (N.tree node.now)) }
 {
     match node.step() {
-        NodeStep::Literal(text) => Front::of_text(text),
-        NodeStep::Component(component) => front_of_component(&component),
-        _ => Front::unknown(),
+        NodeStep::Literal(text) => Prefix::of_text(text),
+        NodeStep::Component(component) => prefix_of_component(&component),
+        _ => Prefix::unknown(),
     }
 }
 
@@ -29,9 +29,9 @@ fn width_of_node<N: Node>(node: &N, is_unsigned: bool) -> Option<usize>
         → (is_unsigned ≡ true → is_sign (get_or line 0 0) ≡ false) → (r : Record)
         → IfOk (reading N.language (N.tree node.now) r line) (λ x. x.1 ≡ drop width line)) }
 {
-    let front = front_of(node);
-    if front.is_whole {
-        return Some(front.least);
+    let prefix = prefix_of(node);
+    if prefix.is_whole {
+        return Some(prefix.least);
     }
     match node.step() {
         NodeStep::Component(component) if is_unsigned => unsigned_width(&component),
@@ -63,17 +63,17 @@ pub(crate) fn sign_place<N: Node>(items: &[N]) -> Option<usize> {
 
 // What the item begins with in which a place of the line lies, and the place in it, where all items before it have a fixed
 // width, a year without its sign: `None` says nothing.
-fn front_at<N: Node>(items: &[N], sign: Option<usize>, place: usize) -> Option<(Front<'_>, usize)>
+fn prefix_at<N: Node>(items: &[N], sign: Option<usize>, place: usize) -> Option<(Prefix<'_>, usize)>
     ensures { IfSome result (λ at. (byte : ℕ) → stands at.0.bytes at.1 byte ≡ false
         → IsRefusedUnsigned (reading_of_all N.language (listed (map N.tree items.now)))
         sign place byte) }
 {
     let mut start = 0;
     for item in items {
-        let front = front_of(item);
+        let prefix = prefix_of(item);
         let left = place - start;
-        if left < front.least {
-            return Some((front, left));
+        if left < prefix.least {
+            return Some((prefix, left));
         }
         let width = width_of_node(item, begins_at(sign, start))?;
         if width > left {
@@ -89,8 +89,8 @@ pub(crate) fn bytes_at<N: Node>(items: &[N], place: usize) -> [bool; 256]
     ensures { (byte : ℕ) → get_or result byte true ≡ false
         → IsRefusedAt (reading_of_all N.language (listed (map N.tree items.now))) place byte }
 {
-    match front_at(items, None, place) {
-        Some((front, place)) => front.bytes_at(place),
+    match prefix_at(items, None, place) {
+        Some((prefix, place)) => prefix.bytes_at(place),
         None => [true; 256],
     }
 }
@@ -105,8 +105,8 @@ pub(crate) fn range_at<N: Node>(items: &[N], sign: Option<usize>, place: usize) 
         → IsRefusedUnsigned (reading_of_all N.language (listed (map N.tree items.now)))
         sign place byte }
 {
-    match front_at(items, sign, place) {
-        Some((front, place)) => front.range_at(place),
+    match prefix_at(items, sign, place) {
+        Some((prefix, place)) => prefix.range_at(place),
         None => (0, 255),
     }
 }

@@ -4,8 +4,8 @@
 mod components;
 mod first_bounds;
 mod first_bytes;
-mod front;
 mod items;
+mod prefix;
 
 pub use first_bounds::FirstBounds;
 pub use first_bytes::FirstBytes;

@@ -12,23 +12,23 @@ use Rattle.parsing_iso8601.specs.Designators.{time_designator}
 use Rattle.parsing_iso8601.specs.Forms.{EndsWithClock, mark}
 use Rattle.parsing_iso8601.specs.Times.{time, time_of, subsecond_of}
 use Rattle.parsing_iso8601.specs.declared.kind.Kind.TheVariants.{Basic, Extended}
-use Rattle.parsing_iso8601.proofs.EndLemmas.{Behind, no_mark, no_colon, fraction_said}
+use Rattle.parsing_iso8601.proofs.EndLemmas.{After, no_mark, no_colon, fraction_said}
 use Rattle.parsing_iso8601.proofs.FastTimes.{time_of_pieces, minutes_of_pieces, basic_time_of_pieces, basic_minutes_of_pieces, of_fraction}
 use Rattle.parsing_iso8601.proofs.PlaceLemmas.{kind_of, said}
 
-no_two : (text : List ℕ) (place : ℕ) → Behind text place → digits 2 (drop place text) ≡ None
+no_two : (text : List ℕ) (place : ℕ) → After text place → digits 2 (drop place text) ≡ None
 unfolding digits
 no_two text place b = rw (drop_more text place 0 b.within) (rw b.no_digit refl)
 
 -- two digits at a place of a clock
 two_at : (text : List ℕ) (place next there number : ℕ) → place ≡ there → there + 2 ≡ next → WritesTwo text place number → digits 2 (drop there text) ≡ Some (number, drop next text)
-two_at text place next there number is behind w = rw (is, behind) at w
+two_at text place next there number is after w = rw (is, after) at w
 
 mark_at : (text : List ℕ) (place next c : ℕ) → place + 1 ≡ next → place < length text → get_or text place 0 ≡ c → byte c (drop place text) ≡ Some (tt, drop next text)
-mark_at text place next c behind lt e = rw behind at (byte_there text place c lt e)
+mark_at text place next c after lt e = rw after at (byte_there text place c lt e)
 
 module _ (shape : Shape) (text : List ℕ) (small : (k : ℕ) → get_or text k 0 < 256) (has : HasShape shape text) (c : ℕ) (k : EndsWithClock shape c)
-    (high low h m s : ℕ) (numbers : HasNumbers shape text high low h m s) (early : h < 24) (end count n : ℕ) (ends : HasFraction text shape.length end count n) (behind : Behind text end) (few : n < 1_000_000_000) where
+    (high low h m s : ℕ) (numbers : HasNumbers shape text high low h m s) (early : h < 24) (end count n : ℕ) (ends : HasFraction text shape.length end count n) (after : After text end) (few : n < 1_000_000_000) where
   hour_few : h ≤ 23
   hour_few = omega (arith, early)
 
@@ -56,7 +56,7 @@ module _ (shape : Shape) (text : List ℕ) (small : (k : ℕ) → get_or text k 
       let hours = two_at text shape.hour (c + 3) (c + 1) h k.hour (omega arith) numbers.hour_is in
       let minutes = two_at text shape.minute (c + 6) (c + 4) m (omega (arith, k.minute, width)) (omega arith) numbers.minute_is in
       let seconds = two_at text shape.second (c + 9) (c + 7) s (omega (arith, k.second, width)) (omega arith) (numbers.second_is there) in
-      of_fraction (drop (c + 9) text) (drop end text) n (rw long at (fraction_said text shape.length end count n ends behind)) (λ run read is.
+      of_fraction (drop (c + 9) text) (drop end text) n (rw long at (fraction_said text shape.length end count n ends after)) (λ run read is.
       rw is at (time_of_pieces (drop c text) (drop (c + 1) text) (drop (c + 3) text) (drop (c + 4) text) (drop (c + 6) text) (drop (c + 7) text) (drop (c + 9) text) (drop end text) h m s run (designator (omega (arith, room))) hours first minutes second seconds read hour_few numbers.minute_few (omega (arith, numbers.second_few)) (run_small (subsecond_of run) is)))
 
   basic_whole : shape.has_colon ≡ false → shape.has_second ≡ true → time Basic true (drop c text) ≡ Some ((time_of h m s n, Basic), drop end text)
@@ -67,7 +67,7 @@ module _ (shape : Shape) (text : List ℕ) (small : (k : ℕ) → get_or text k 
       let hours = two_at text shape.hour (c + 3) (c + 1) h k.hour (omega arith) numbers.hour_is in
       let minutes = two_at text shape.minute (c + 5) (c + 3) m (omega (arith, k.minute, width)) (omega arith) numbers.minute_is in
       let seconds = two_at text shape.second (c + 7) (c + 5) s (omega (arith, k.second, width)) (omega arith) (numbers.second_is there) in
-      of_fraction (drop (c + 7) text) (drop end text) n (rw long at (fraction_said text shape.length end count n ends behind)) (λ run read is.
+      of_fraction (drop (c + 7) text) (drop end text) n (rw long at (fraction_said text shape.length end count n ends after)) (λ run read is.
       rw is at (basic_time_of_pieces (drop c text) (drop (c + 1) text) (drop (c + 3) text) (drop (c + 5) text) (drop (c + 7) text) (drop end text) h m s run (designator (omega (arith, room))) hours minutes seconds read hour_few numbers.minute_few (omega (arith, numbers.second_few)) (run_small (subsecond_of run) is)))
 
   -- without a second there is no fraction
@@ -85,20 +85,20 @@ module _ (shape : Shape) (text : List ℕ) (small : (k : ℕ) → get_or text k 
     extended_short colons =
         let width : mark shape ≡ 1 = ap width_of colons in
         let long : end ≡ c + 6 = omega (arith, k.short short, width, same_end) in
-        let room : c + 6 < length text = omega (arith, behind.within, long) in
+        let room : c + 6 < length text = omega (arith, after.within, long) in
         let first = mark_at text (c + 3) (c + 4) colon (omega arith) (omega (arith, room)) (said shape text small has (c + 3) colon (lit< tt) (k.first_colon colons)) in
         let hours = two_at text shape.hour (c + 3) (c + 1) h k.hour (omega arith) numbers.hour_is in
         let minutes = two_at text shape.minute end (c + 4) m (omega (arith, k.minute, width)) (omega (arith, long)) numbers.minute_is in
-        rw (zero, no_second) (minutes_of_pieces (drop c text) (drop (c + 1) text) (drop (c + 3) text) (drop (c + 4) text) (drop end text) h m (designator (omega (arith, room))) hours first minutes (no_mark text end behind) (no_colon text end behind) hour_few numbers.minute_few)
+        rw (zero, no_second) (minutes_of_pieces (drop c text) (drop (c + 1) text) (drop (c + 3) text) (drop (c + 4) text) (drop end text) h m (designator (omega (arith, room))) hours first minutes (no_mark text end after) (no_colon text end after) hour_few numbers.minute_few)
 
     basic_short : shape.has_colon ≡ false → time Basic true (drop c text) ≡ Some ((time_of h m s n, Basic), drop end text)
     basic_short colons =
         let width : mark shape ≡ 0 = ap width_of colons in
         let long : end ≡ c + 5 = omega (arith, k.short short, width, same_end) in
-        let room : c + 5 < length text = omega (arith, behind.within, long) in
+        let room : c + 5 < length text = omega (arith, after.within, long) in
         let hours = two_at text shape.hour (c + 3) (c + 1) h k.hour (omega arith) numbers.hour_is in
         let minutes = two_at text shape.minute end (c + 3) m (omega (arith, k.minute, width)) (omega (arith, long)) numbers.minute_is in
-        rw (zero, no_second) (basic_minutes_of_pieces (drop c text) (drop (c + 1) text) (drop (c + 3) text) (drop end text) h m (designator (omega (arith, room))) hours minutes (no_mark text end behind) (no_two text end behind) hour_few numbers.minute_few)
+        rw (zero, no_second) (basic_minutes_of_pieces (drop c text) (drop (c + 1) text) (drop (c + 3) text) (drop end text) h m (designator (omega (arith, room))) hours minutes (no_mark text end after) (no_two text end after) hour_few numbers.minute_few)
 
   clock_by : (colons seconds : Bool) → shape.has_colon ≡ colons → shape.has_second ≡ seconds → (shape.has_second ≡ false → count ≡ 0) → time (kind_of colons) true (drop c text) ≡ Some ((time_of h m s n, kind_of colons), drop end text)
   clock_by true true is there none = extended_whole is there

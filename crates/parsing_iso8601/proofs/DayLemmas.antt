@@ -65,7 +65,7 @@ ordinal_named year ordinal four range =
 day_there : (y : ℤ) (m d count : ℕ) → IsCount count → day_at count ≡ ymd y m d → IsDay y m d
 day_there y m d count within is = rw is at (day_valid count within)
 
--- behind February
+-- after February
 march_ordinal : (year ordinal k m d : ℕ) → year ≤ 9999 → IsInRange 1 365 ordinal → ordinal + 305 ≡ days_in_year (pos year) + k → march_days m + d ≡ k → k < march_days (m + 1) → 3 ≤ m → m ≤ 12 → NamesOrdinal year ordinal m (d + 1)
 march_ordinal year ordinal k m d four range is day next low high =
     let c = place_count (pos year) ordinal in

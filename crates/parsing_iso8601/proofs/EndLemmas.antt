@@ -1,4 +1,4 @@
--- What stands behind a time of day, by the places of its parts.
+-- What stands after a time of day, by the places of its parts.
 use Rattle.std.proofs.Common.{◌≡◌, ◌<◌, ◌+◌, ◌-◌, ◌∙◌, ◌==◌, ◌||◌, ℕ, Bool, true, false, List, [], length, get_or, drop, leb, Some, None, ℤ, refl, inl, inr, arith, lit<}
 use Rattle.std.specs.Char.{is_ascii_digit}
 use Rattle.std.proofs.lemmas.Bool.{cases_lt}
@@ -24,7 +24,7 @@ use Rattle.parsing_iso8601.proofs.PlaceLemmas.{kind_of, other_byte}
 -- ---- what an offset begins with
 
 -- the first byte of an offset is no part of a time
-pub record Behind (text : List ℕ) (place : ℕ) : Type 0 where
+pub record After (text : List ℕ) (place : ℕ) : Type 0 where
   pub within : place < length text
   pub no_digit : is_ascii_digit (get_or text place 0) ≡ false
   pub no_mark : ((get_or text place 0 == dot) || (get_or text place 0 == comma)) ≡ false
@@ -33,28 +33,28 @@ pub record Behind (text : List ℕ) (place : ℕ) : Type 0 where
 other : (b c : ℕ) → b ≡ c → is_ascii_digit c ≡ false → ((c == dot) || (c == comma)) ≡ false → (c == colon) ≡ false → (is_ascii_digit b ≡ false) × (((b == dot) || (b == comma)) ≡ false) × (b ≡ colon → ⊥)
 other b c e digit mark apart = (rw e digit, rw e mark, λ same. absurd (grind (arith, nat_tests, e, same, apart)))
 
-behind : (text : List ℕ) (place c : ℕ) → place < length text → get_or text place 0 ≡ c → is_ascii_digit c ≡ false → ((c == dot) || (c == comma)) ≡ false → (c == colon) ≡ false → Behind text place
-behind text place c lt e digit mark apart =
+after : (text : List ℕ) (place c : ℕ) → place < length text → get_or text place 0 ≡ c → is_ascii_digit c ≡ false → ((c == dot) || (c == comma)) ≡ false → (c == colon) ≡ false → After text place
+after text place c lt e digit mark apart =
     let o = other (get_or text place 0) c e digit mark apart in
     record { within = lt; no_digit = o.0; no_mark = o.1; no_colon = o.2 }
 
-pub behind_offset : (width : ℕ) (text : List ℕ) (place : ℕ) (o : ℤ) → SaysOffset width text place o → Behind text place
-behind_offset width text place o (inl z) = behind text place upper_z (omega (arith, z.whole)) z.zulu refl refl refl
-behind_offset width text place o (inr s) = elim s.sign_is [
-  | inl e ↦ behind text place plus (omega (arith, s.whole)) e refl refl refl
-  | inr e ↦ behind text place hyphen (omega (arith, s.whole)) e refl refl refl
+pub after_offset : (width : ℕ) (text : List ℕ) (place : ℕ) (o : ℤ) → SaysOffset width text place o → After text place
+after_offset width text place o (inl z) = after text place upper_z (omega (arith, z.whole)) z.zulu refl refl refl
+after_offset width text place o (inr s) = elim s.sign_is [
+  | inl e ↦ after text place plus (omega (arith, s.whole)) e refl refl refl
+  | inr e ↦ after text place hyphen (omega (arith, s.whole)) e refl refl refl
 ]
 
-pub no_digits : (text : List ℕ) (place : ℕ) → Behind text place → digits 1 (drop place text) ≡ None
+pub no_digits : (text : List ℕ) (place : ℕ) → After text place → digits 1 (drop place text) ≡ None
 no_digits text place b =
     let long : leb 1 (length (drop place text)) ≡ true = at_least 1 (length (drop place text)) (omega (arith, length-drop place text, b.within)) in
     digits_one (drop place text) ∙ rw (long, first_at text place, b.no_digit) refl
 
-pub no_mark : (text : List ℕ) (place : ℕ) → Behind text place → decimal_mark (drop place text) ≡ None
+pub no_mark : (text : List ℕ) (place : ℕ) → After text place → decimal_mark (drop place text) ≡ None
 unfolding decimal_mark skip_of
 no_mark text place b = rw (drop_more text place 0 b.within) (rw b.no_mark refl)
 
-pub no_colon : (text : List ℕ) (place : ℕ) → Behind text place → byte colon (drop place text) ≡ None
+pub no_colon : (text : List ℕ) (place : ℕ) → After text place → byte colon (drop place text) ≡ None
 no_colon text place b = other_byte text place colon b.within b.no_colon
 
 -- ---- offsets
@@ -117,7 +117,7 @@ mark_at text place lt is = rw (drop_more text place 0 lt, is) refl
 nothing_written : (bytes : List ℕ) (count n : ℕ) → count ≡ 0 → WriteFraction bytes count n → n ≡ 0
 nothing_written bytes count n e w = w.value ∙ rw e refl
 
-pub fraction_said : (text : List ℕ) (place end count n : ℕ) → HasFraction text place end count n → Behind text end → subsecond (drop place text) ≡ Some (n, drop end text)
+pub fraction_said : (text : List ℕ) (place end count n : ℕ) → HasFraction text place end count n → After text end → subsecond (drop place text) ≡ Some (n, drop end text)
 fraction_said text place end count n h f = elim (cases_lt 0 count) [
   | inl some ↦
       let is : place + 1 + count ≡ end = h.some some in

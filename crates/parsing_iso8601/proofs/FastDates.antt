@@ -21,7 +21,7 @@ use Rattle.parsing_combinator.specs.Pieces.{digits, byte}
 use Rattle.parsing_iso8601.specs.declared.kind.Kind.{Kind}
 use Rattle.parsing_iso8601.specs.declared.kind.Kind.TheVariants.{Extended}
 use Rattle.parsing_iso8601.specs.declared.written.WrittenDate.TheVariants.{OfMonth}
-use Rattle.parsing_iso8601.specs.Dates.{month_and_day, date_of_month, date_behind, year_and_kind}
+use Rattle.parsing_iso8601.specs.Dates.{month_and_day, date_of_month, date_after, year_and_kind}
 use Rattle.parsing_iso8601.specs.Kinds.{kind_of_date}
 use Rattle.parsing_iso8601.specs.Numbers.{digits_within, numbered, months, year, plain_year}
 use Rattle.parsing_iso8601.specs.Reading.{dated}
@@ -58,7 +58,7 @@ within n low high bytes v rest e above below =
 -- the date whose pieces these are
 pub date_of_pieces : (b0 b1 b2 b3 b4 b5 : List ℕ) (y n d : ℕ) (m : Month) → digits 4 b0 ≡ Some (y, b1) → byte hyphen b1 ≡ Some (tt, b2) → digits 2 b2 ≡ Some (n, b3) → month_number m ≡ n → byte hyphen b3 ≡ Some (tt, b4) → digits 2 b4 ≡ Some (d, b5) → 1 ≤ d → d ≤ 31
     → dated b0 ≡ Ok ((Ok (OfMonth (pos y) m d), Extended), b5)
-unfolding dated year_and_kind kind_of_date date_behind month_and_day date_of_month
+unfolding dated year_and_kind kind_of_date date_after month_and_day date_of_month
 date_of_pieces b0 b1 b2 b3 b4 b5 y n d m p1 p2 p3 is p4 p5 some most =
     let yes : leb d 31 ≡ true = grind (arith, nat_tests) in
     let year_is = year_of b0 y b1 p1 in

@@ -8,7 +8,7 @@ use Rattle.calendar.specs.Time.{time_of}
 use Rattle.calendar.specs.UtcOffset.{offset_of}
 use Rattle.datetime_wall.specs.Wall.{wall_clock}
 use Rattle.parsing_values.specs.NamedDate.{named_date, in_range, by_ordinal, by_day, by_iso_week, year_of, split_year}
-use Rattle.parsing_values.specs.NamedTime.{named_time, named_offset, hour_of, half_day_hour, finer_parts, seconds_behind}
+use Rattle.parsing_values.specs.NamedTime.{named_time, named_offset, hour_of, half_day_hour, finer_parts, seconds_after}
 use Rattle.parsing_values.specs.NamedMoment.{named_moment, dated_moment, named_wall}
 use Rattle.parsing_values.specs.Resolution.{permitted_time_of, leap_time_of}
 use Rattle.parsing_values.specs.StandIn.{leap_checked}
@@ -43,7 +43,7 @@ unfolding named_time hour_of half_day_hour finer_parts
 time_named t = refl
 
 pub offset_named : (o : WrittenOffset) → named_offset (offset_parts (Some o)) ≡ in_range (offset_of o.hour o.minute (unwrap_or o.second (pos 0)))
-unfolding named_offset seconds_behind
+unfolding named_offset seconds_after
 offset_named o = refl
 
 -- the moment of these values, a second 60 being tested
@@ -64,7 +64,7 @@ plain_moment d t o day nanos seconds plain hd ht ho =
     let named = moment_named d t o day nanos seconds hd (plain_time t.hour t.minute t.second t.subsecond plain ∙ ht) ho in
     named ∙ rw plain refl
 
--- the parts of a text that has all three, and nothing behind them
+-- the parts of a text that has all three, and nothing after them
 pub whole_of : (bytes b1 b2 : List ℕ) (d : WrittenDate) (k l : Kind) (t : WrittenTime) (o : WrittenOffset) → dated bytes ≡ Ok ((Ok d, k), b1) → time k true b1 ≡ Some ((t, l), b2) → offset l b2 ≡ Some (o, []) → whole bytes ≡ Ok (all_three d t o, [])
 unfolding whole iso8601
 whole_of bytes b1 b2 d k l t o hd ht ho = rw hd (rw ht (rw ho refl))

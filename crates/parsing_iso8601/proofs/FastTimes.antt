@@ -20,12 +20,12 @@ unfolding number fraction_digits
 whole_number bytes n rest e none = rw e (rw none refl)
 
 -- two digits and their fraction
-pub number_of : (bytes : List ℕ) (n : ℕ) (behind : List ℕ) (run : Option (List ℕ)) (rest : List ℕ) → digits 2 bytes ≡ Some (n, behind) → fraction_digits behind ≡ Some (run, rest) → number bytes ≡ Some ((n, run), rest)
+pub number_of : (bytes : List ℕ) (n : ℕ) (after : List ℕ) (run : Option (List ℕ)) (rest : List ℕ) → digits 2 bytes ≡ Some (n, after) → fraction_digits after ≡ Some (run, rest) → number bytes ≡ Some ((n, run), rest)
 unfolding number
-number_of bytes n behind run rest e f = rw e (rw f refl)
+number_of bytes n after run rest e f = rw e (rw f refl)
 
-pub before_colon : (bytes : List ℕ) (n : ℕ) (rest behind : List ℕ) → digits 2 bytes ≡ Some (n, rest) → byte colon rest ≡ Some (tt, behind) → number bytes ≡ Some ((n, None), rest)
-before_colon bytes n rest behind e f = whole_number bytes n rest e (only_byte colon rest (tt, behind) refl refl f)
+pub before_colon : (bytes : List ℕ) (n : ℕ) (rest after : List ℕ) → digits 2 bytes ≡ Some (n, rest) → byte colon rest ≡ Some (tt, after) → number bytes ≡ Some ((n, None), rest)
+before_colon bytes n rest after e f = whole_number bytes n rest e (only_byte colon rest (tt, after) refl refl f)
 
 -- the time whose pieces these are
 pub time_of_pieces : (b0 b1 b2 b3 b4 b5 b6 rest : List ℕ) (h m s : ℕ) (run : Option (List ℕ)) → byte time_designator b0 ≡ Some (tt, b1) → digits 2 b1 ≡ Some (h, b2) → byte colon b2 ≡ Some (tt, b3) → digits 2 b3 ≡ Some (m, b4) → byte colon b4 ≡ Some (tt, b5) → digits 2 b5 ≡ Some (s, b6) → fraction_digits b6 ≡ Some (run, rest)
@@ -42,7 +42,7 @@ time_of_pieces b0 b1 b2 b3 b4 b5 b6 rest h m s run p0 p1 p2 p3 p4 p5 p6 hh hm hs
     let tn : nat_lt (subsecond_of run) 1_000_000_000 ≡ true = grind (arith, nat_tests) in
     rw p0 (rw hour (rw th (rw p2 (rw minute (rw tm (rw p4 (rw second (rw ts (rw tn refl)))))))))
 
--- the time to a minute, behind which no second stands
+-- the time to a minute, after which no second stands
 pub minutes_of_pieces : (b0 b1 b2 b3 b4 : List ℕ) (h m : ℕ) → byte time_designator b0 ≡ Some (tt, b1) → digits 2 b1 ≡ Some (h, b2) → byte colon b2 ≡ Some (tt, b3) → digits 2 b3 ≡ Some (m, b4) → decimal_mark b4 ≡ None → byte colon b4 ≡ None
     → h ≤ 23 → m ≤ 59 → time Extended true b0 ≡ Some ((time_of h m 0 0, Extended), b4)
 unfolding time designator from_hour kind_of_time minutes from_minute seconds extended_seconds
@@ -91,16 +91,16 @@ basic_minutes_of_pieces b0 b1 b2 b3 h m p0 p1 p2 unmarked none hh hm =
 -- ---- fractions
 
 -- a time whose fraction has these nanoseconds
-pub of_fraction : {C : Type 0} (behind rest : List ℕ) (n : ℕ) → subsecond behind ≡ Some (n, rest) → ((run : Option (List ℕ)) → fraction_digits behind ≡ Some (run, rest) → subsecond_of run ≡ n → C) → C
+pub of_fraction : {C : Type 0} (after rest : List ℕ) (n : ℕ) → subsecond after ≡ Some (n, rest) → ((run : Option (List ℕ)) → fraction_digits after ≡ Some (run, rest) → subsecond_of run ≡ n → C) → C
 unfolding subsecond
-of_fraction behind rest n f on = mapped subsecond_of (fraction_digits behind) n rest f on
+of_fraction after rest n f on = mapped subsecond_of (fraction_digits after) n rest f on
 
 -- a fraction of at most nine digits
-pub short_subsecond : (bytes behind rest : List ℕ) (n : ℕ) → decimal_mark bytes ≡ Some (tt, behind) → fraction behind ≡ Some (n, rest) → length behind ≤ length rest + 9 → subsecond bytes ≡ Some (n, rest)
+pub short_subsecond : (bytes after rest : List ℕ) (n : ℕ) → decimal_mark bytes ≡ Some (tt, after) → fraction after ≡ Some (n, rest) → length after ≤ length rest + 9 → subsecond bytes ≡ Some (n, rest)
 unfolding subsecond fraction_digits due_digits
-short_subsecond bytes behind rest n mark f short =
-    fraction_run behind n rest f (λ run e is.
-    let few : length run ≤ 9 = omega (arith, run_length behind run rest e) in
+short_subsecond bytes after rest n mark f short =
+    fraction_run after n rest f (λ run e is.
+    let few : length run ≤ 9 = omega (arith, run_length after run rest e) in
     let value : rounded_part_of 1_000_000_000 run ≡ n = short_fraction run few ∙ is in
     rw mark (rw e (rw value refl)))
 

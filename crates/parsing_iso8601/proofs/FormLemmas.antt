@@ -90,86 +90,86 @@ not_below a le = grind (arith, nat_tests)
 
 -- ---- the windows of a row
 
-pub record Windows (front back : Window) (r : Row) : Type 0 where
-  pub low : front.low ≡ r.low
-  pub high : front.high ≡ r.above
-  pub lanes : front.taken.lanes ≡ r.lanes
+pub record Windows (prefix back : Window) (r : Row) : Type 0 where
+  pub low : prefix.low ≡ r.low
+  pub high : prefix.high ≡ r.above
+  pub lanes : prefix.taken.lanes ≡ r.lanes
   pub back_low : back.low ≡ r.back_low
   pub back_high : back.high ≡ r.back_above
   pub back_lanes : back.taken.lanes ≡ r.back_lanes
 
-year_digit : (front : Window) (r : Row) → front.low ≡ r.low → front.high ≡ r.above → (place : ℕ) → place < 16 → year_at r place ≡ true → LetsDigit front place
-year_digit front r low high place lt e =
+year_digit : (prefix : Window) (r : Row) → prefix.low ≡ r.low → prefix.high ≡ r.above → (place : ℕ) → place < 16 → year_at r place ≡ true → LetsDigit prefix place
+year_digit prefix r low high place lt e =
     let both = both_are _ _ e in
     record { inside = lt; low = rw low (equals (get_or r.low place 0) 48 both.0); high = rw high (at_most (get_or r.above place 0) 9 both.1) }
 
-pub year_of : (front : Window) (r : Row) (has_second : Bool) → front.low ≡ r.low → front.high ≡ r.above → Fits has_second r → LetsYear front 0
-year_of front r has_second low high f =
+pub year_of : (prefix : Window) (r : Row) (has_second : Bool) → prefix.low ≡ r.low → prefix.high ≡ r.above → Fits has_second r → LetsYear prefix 0
+year_of prefix r has_second low high f =
     let a = both_are _ _ f.year in
     let b = both_are _ _ a.1 in
     let c = both_are _ _ b.1 in
     record {
-      first = year_digit front r low high 0 (lit< tt) a.0;
-      second = year_digit front r low high 1 (lit< tt) b.0;
-      third = year_digit front r low high 2 (lit< tt) c.0;
-      fourth = year_digit front r low high 3 (lit< tt) c.1;
+      first = year_digit prefix r low high 0 (lit< tt) a.0;
+      second = year_digit prefix r low high 1 (lit< tt) b.0;
+      third = year_digit prefix r low high 2 (lit< tt) c.0;
+      fourth = year_digit prefix r low high 3 (lit< tt) c.1;
     }
 
-module _ (front back : Window) (r : Row) (has_second : Bool) (w : Windows front back r) (f : Fits has_second r) where
-  digit_of : (lane place most : ℕ) → digit_at r lane place most ≡ true → TakesDigit front back r.back_at lane place most
-  digit_of lane place most e = digit_is front back r.back_at lane place most (rw (w.low, w.high, w.lanes, w.back_low, w.back_high, w.back_lanes) e)
+module _ (prefix back : Window) (r : Row) (has_second : Bool) (w : Windows prefix back r) (f : Fits has_second r) where
+  digit_of : (lane place most : ℕ) → digit_at r lane place most ≡ true → TakesDigit prefix back r.back_at lane place most
+  digit_of lane place most e = digit_is prefix back r.back_at lane place most (rw (w.low, w.high, w.lanes, w.back_low, w.back_high, w.back_lanes) e)
 
-  pair_of : (lane place most : ℕ) → pair_at r lane place most ≡ true → TakesPair front back r.back_at lane place most
+  pair_of : (lane place most : ℕ) → pair_at r lane place most ≡ true → TakesPair prefix back r.back_at lane place most
   pair_of lane place most e =
       let both = both_are _ _ e in
       record { first = digit_of lane place most both.0; second = digit_of (lane + 1) (place + 1) 9 both.1 }
 
-  none_of : (lane : ℕ) → spares r lane ≡ true → TakesNone front back lane
+  none_of : (lane : ℕ) → spares r lane ≡ true → TakesNone prefix back lane
   none_of lane e =
       let both = both_are _ _ e in
-      record { front_free = rw w.lanes (at_most 128 (get_or r.lanes lane 0) both.0); back_free = rw w.back_lanes (at_most 128 (get_or r.back_lanes lane 0) both.1) }
+      record { prefix_free = rw w.lanes (at_most 128 (get_or r.lanes lane 0) both.0); back_free = rw w.back_lanes (at_most 128 (get_or r.back_lanes lane 0) both.1) }
 
-  pub nothing_of : (lane : ℕ) → spares_both r lane ≡ true → TakesNothing front back lane
+  pub nothing_of : (lane : ℕ) → spares_both r lane ≡ true → TakesNothing prefix back lane
   nothing_of lane e =
       let one = none_of lane (both_are _ _ e).0 in
       let two = none_of (lane + 1) (both_are _ _ e).1 in
-      record { first_front = one.front_free; first_back = one.back_free; second_front = two.front_free; second_back = two.back_free }
+      record { first_prefix = one.prefix_free; first_back = one.back_free; second_prefix = two.prefix_free; second_back = two.back_free }
 
-  first_of : TakesNumber front back r.back_at 0 (two_digits (high r)) 5
+  first_of : TakesNumber prefix back r.back_at 0 (two_digits (high r)) 5
   first_of =
       let a = both_are (nat_le 1 (high r)) (digit_at r 0 (high r - 1) 5 && digit_at r 1 (high r) 9) f.first in
       let b = both_are (digit_at r 0 (high r - 1) 5) (digit_at r 1 (high r) 9) a.1 in
-      record { tens = λ _. digit_of 0 (high r - 1) 5 b.0; no_tens = λ e. absurd cc; ones = digit_of 1 (high r) 9 b.1; behind = λ _. at_most 1 (high r) a.0 }
+      record { tens = λ _. digit_of 0 (high r - 1) 5 b.0; no_tens = λ e. absurd cc; ones = digit_of 1 (high r) 9 b.1; after = λ _. at_most 1 (high r) a.0 }
 
-  pub high_of : (place : ℕ) → place ≡ high r → TakesNumber front back r.back_at 0 (two_digits place) 5
+  pub high_of : (place : ℕ) → place ≡ high r → TakesNumber prefix back r.back_at 0 (two_digits place) 5
   high_of place is = rw is first_of
 
-  low_by : (tens : Bool) → cond tens (digit_at r 2 (r.clock - 1 - 1) 9) (spares r 2) ≡ true → digit_at r 3 (r.clock - 1) 9 ≡ true → 2 ≤ r.clock → TakesNumber front back r.back_at 2 (record { has_tens = tens; place = r.clock - 1 }) 9
-  low_by true first last far = record { tens = λ _. digit_of 2 (r.clock - 1 - 1) 9 first; no_tens = λ e. absurd cc; ones = digit_of 3 (r.clock - 1) 9 last; behind = λ _. omega (arith, far) }
-  low_by false first last far = record { tens = λ e. absurd cc; no_tens = λ _. none_of 2 first; ones = digit_of 3 (r.clock - 1) 9 last; behind = λ e. absurd cc }
+  low_by : (tens : Bool) → cond tens (digit_at r 2 (r.clock - 1 - 1) 9) (spares r 2) ≡ true → digit_at r 3 (r.clock - 1) 9 ≡ true → 2 ≤ r.clock → TakesNumber prefix back r.back_at 2 (record { has_tens = tens; place = r.clock - 1 }) 9
+  low_by true first last far = record { tens = λ _. digit_of 2 (r.clock - 1 - 1) 9 first; no_tens = λ e. absurd cc; ones = digit_of 3 (r.clock - 1) 9 last; after = λ _. omega (arith, far) }
+  low_by false first last far = record { tens = λ e. absurd cc; no_tens = λ _. none_of 2 first; ones = digit_of 3 (r.clock - 1) 9 last; after = λ e. absurd cc }
 
-  pub low_of : TakesNumber front back r.back_at 2 (record { has_tens = is_calendar r.dating; place = r.clock - 1 }) 9
+  pub low_of : TakesNumber prefix back r.back_at 2 (record { has_tens = is_calendar r.dating; place = r.clock - 1 }) 9
   low_of =
       let a = both_are _ _ f.last in
       let b = both_are _ _ a.1 in
       low_by (is_calendar r.dating) b.0 b.1 (at_most 2 r.clock a.0)
 
-  pub hour_of : TakesPair front back r.back_at 4 (r.clock + 1) 9
+  pub hour_of : TakesPair prefix back r.back_at 4 (r.clock + 1) 9
   hour_of = pair_of 4 (r.clock + 1) 9 f.hour
 
-  pub minute_of : (mark : ℕ) → mark ≡ width_of r.is_extended → TakesPair front back r.back_at 6 (r.clock + 3 + mark) 5
+  pub minute_of : (mark : ℕ) → mark ≡ width_of r.is_extended → TakesPair prefix back r.back_at 6 (r.clock + 3 + mark) 5
   minute_of mark is = rw is (pair_of 6 (r.clock + 3 + width r) 5 f.minute)
 
-  pub second_of : (mark : ℕ) → mark ≡ width_of r.is_extended → has_second ≡ true → TakesPair front back r.back_at 14 (r.clock + 5 + 2 * mark) 5
+  pub second_of : (mark : ℕ) → mark ≡ width_of r.is_extended → has_second ≡ true → TakesPair prefix back r.back_at 14 (r.clock + 5 + 2 * mark) 5
   second_of mark is there = rw is (pair_of 14 (r.clock + 5 + 2 * width r) 5 (rw there at f.second))
 
-  pub no_second_of : has_second ≡ false → TakesNothing front back 14
+  pub no_second_of : has_second ≡ false → TakesNothing prefix back 14
   no_second_of none = nothing_of 14 (rw none at f.second)
 
 -- ---- the form of a row
 
 pub record IsRow (shape : Shape) (r : Row) (has_second : Bool) : Type 0 where
-  pub windows : Windows shape.front shape.back r
+  pub windows : Windows shape.prefix shape.back r
   pub back_is : shape.back_at ≡ r.back_at
   pub length_is : shape.length ≡ r.length
   pub high_is : shape.high ≡ two_digits (high r)
@@ -186,13 +186,13 @@ module _ (shape : Shape) (r : Row) (has_second : Bool) (is : IsRow shape r has_s
 
   lets_of : (place byte : ℕ) → lets_at r place byte ≡ true → Lets shape place byte
   lets_of place byte e = record {
-    front = λ small.
+    prefix = λ small.
         let there : lets r.low r.above place byte ≡ true = rw (below place small) (rw (below place small) at e) in
-        lets_is shape.front place byte (rw (is.windows.low, is.windows.high) there);
+        lets_is shape.prefix place byte (rw (is.windows.low, is.windows.high) there);
     back = λ large.
         let there : lets r.back_low r.back_above (place - r.back_at) byte ≡ true = rw (not_below place large) at e in
         lets_is shape.back (place - shape.back_at) byte (rw (is.windows.back_low, is.windows.back_high, is.back_is) there);
-    behind = near;
+    after = near;
   }
 
   marks_of : (place byte : ℕ) → marks_at r place byte ≡ true → shape.has_colon ≡ true → Lets shape place byte

@@ -19,7 +19,7 @@ pub same : {A : Type 0} (x y : A) → there x ≡ there y → x ≡ y
 unfolding of_some
 same x y h = ap (of_some x) h
 
--- what stands behind a test was there, so the test passed
+-- what stands after a test was there, so the test passed
 pub passed : {A : Type 0} (b : Bool) (v x : A) → cond b (there v) None ≡ there x → b ≡ true
 passed true v x e = refl
 passed false v x e = absurd (cc)

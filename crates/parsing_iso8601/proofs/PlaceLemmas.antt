@@ -21,7 +21,7 @@ use Rattle.parsing_places.specs.End.{width_of}
 use Rattle.parsing_places.specs.Numbers.{WritesTwo, WritesNumber, HasShape}
 use Rattle.parsing_places.specs.declared.shape.Shape.{Shape}
 use Rattle.parsing_places.proofs.YearLemmas.{byte_in}
-use Rattle.parsing_iso8601.specs.Dates.{month_and_day, date_of_month, date_of_year, date_of_week, week_and_weekday, date_without_month, date_behind, year_and_kind}
+use Rattle.parsing_iso8601.specs.Dates.{month_and_day, date_of_month, date_of_year, date_of_week, week_and_weekday, date_without_month, date_after, year_and_kind}
 use Rattle.parsing_iso8601.specs.Days.{NamesOrdinal, NamesWeekDay}
 use Rattle.parsing_iso8601.specs.Designators.{time_designator, week_designator}
 use Rattle.parsing_iso8601.specs.Forms.{Lets, EndsWithClock, IsCalendar, IsOrdinal, IsWeek, NamesDate, mark, two_digits, one_digit}
@@ -61,8 +61,8 @@ other_byte text place c lt other =
     rw (drop_more text place 0 lt) (rw t refl)
 
 -- three digits, by two and the last
-three_behind : (text : List ℕ) (place high low : ℕ) → digits 2 (drop place text) ≡ Some (high, drop (place + 2) text) → digits 1 (drop (place + 2) text) ≡ Some (low, drop (place + 3) text) → digits 3 (drop place text) ≡ Some (high * 10 + low, drop (place + 3) text)
-three_behind text place high low two one = digits_three (drop place text) ∙ rw (two, one) refl
+three_after : (text : List ℕ) (place high low : ℕ) → digits 2 (drop place text) ≡ Some (high, drop (place + 2) text) → digits 1 (drop (place + 2) text) ≡ Some (low, drop (place + 3) text) → digits 3 (drop place text) ≡ Some (high * 10 + low, drop (place + 3) text)
+three_after text place high low two one = digits_three (drop place text) ∙ rw (two, one) refl
 
 -- ---- dates by their pieces
 
@@ -90,7 +90,7 @@ none_within n low high bytes e = rw e refl
 
 -- `1985-102`
 extended_ordinal_pieces : (b0 b1 b2 b4 b5 : List ℕ) (y n o : ℕ) → digits 4 b0 ≡ Some (y, b1) → byte hyphen b1 ≡ Some (tt, b2) → digits 2 b2 ≡ Some (n, b4) → byte hyphen b4 ≡ None → digits 3 b2 ≡ Some (o, b5) → 1 ≤ o → o ≤ 365 → dated b0 ≡ Ok ((Ok (OfYear (pos y) o), Extended), b5)
-unfolding dated year_and_kind kind_of_date date_behind date_without_month date_of_year
+unfolding dated year_and_kind kind_of_date date_after date_without_month date_of_year
 extended_ordinal_pieces b0 b1 b2 b4 b5 y n o p0 p1 p2 p3 p4 some most =
     let none = month_or_none (counted months n) b2 b4 (month_of_two b2 b4 n p2) p3 in
     let yes : leb o 366 ≡ true = grind (arith, nat_tests) in
@@ -98,7 +98,7 @@ extended_ordinal_pieces b0 b1 b2 b4 b5 y n o p0 p1 p2 p3 p4 some most =
 
 -- `1985102`
 basic_ordinal_pieces : (b0 b1 b3 b4 : List ℕ) (y n o : ℕ) → digits 4 b0 ≡ Some (y, b1) → byte hyphen b1 ≡ None → digits 2 b1 ≡ Some (n, b3) → digits 2 b3 ≡ None → digits 3 b1 ≡ Some (o, b4) → 1 ≤ o → o ≤ 365 → dated b0 ≡ Ok ((Ok (OfYear (pos y) o), Basic), b4)
-unfolding dated year_and_kind kind_of_date date_behind date_without_month date_of_year
+unfolding dated year_and_kind kind_of_date date_after date_without_month date_of_year
 basic_ordinal_pieces b0 b1 b3 b4 y n o p0 p1 p2 p3 p4 some most =
     let none = month_alone (counted months n) b1 b3 (month_of_two b1 b3 n p2) (none_within 2 1 99 b3 p3) in
     let yes : leb o 366 ≡ true = grind (arith, nat_tests) in
@@ -106,21 +106,21 @@ basic_ordinal_pieces b0 b1 b3 b4 y n o p0 p1 p2 p3 p4 some most =
 
 -- `1985-W15-5`
 extended_week_pieces : (b0 b1 b2 b3 b4 b5 b6 : List ℕ) (y n : ℕ) (w : Weekday) → digits 4 b0 ≡ Some (y, b1) → byte hyphen b1 ≡ Some (tt, b2) → digits 2 b2 ≡ None → digits 3 b2 ≡ None → byte week_designator b2 ≡ Some (tt, b3) → digits 2 b3 ≡ Some (n, b4) → 1 ≤ n → n ≤ 53 → byte hyphen b4 ≡ Some (tt, b5) → numbered 1 weekdays b5 ≡ Some (w, b6) → dated b0 ≡ Ok ((Ok (OfWeek (pos y) n w), Extended), b6)
-unfolding dated year_and_kind kind_of_date date_behind month_and_day date_without_month date_of_week week_and_weekday
+unfolding dated year_and_kind kind_of_date date_after month_and_day date_without_month date_of_week week_and_weekday
 extended_week_pieces b0 b1 b2 b3 b4 b5 b6 y n w p0 p1 p2 p3 p4 p5 some most p6 p7 =
     let yes : leb n 53 ≡ true = grind (arith, nat_tests) in
     rw (year_of b0 y b1 p0) (rw p1 (rw (no_month b2 p2) (rw (none_within 3 1 999 b2 p3) (rw p4 (rw (within 2 1 99 b3 n b4 p5 some (omega arith)) (rw p6 (rw p7 (rw yes refl))))))))
 
 -- `1985W155`
 basic_week_pieces : (b0 b1 b2 b3 b4 : List ℕ) (y n : ℕ) (w : Weekday) → digits 4 b0 ≡ Some (y, b1) → byte hyphen b1 ≡ None → digits 2 b1 ≡ None → digits 3 b1 ≡ None → byte week_designator b1 ≡ Some (tt, b2) → digits 2 b2 ≡ Some (n, b3) → 1 ≤ n → n ≤ 53 → numbered 1 weekdays b3 ≡ Some (w, b4) → dated b0 ≡ Ok ((Ok (OfWeek (pos y) n w), Basic), b4)
-unfolding dated year_and_kind kind_of_date date_behind month_and_day date_without_month date_of_week week_and_weekday
+unfolding dated year_and_kind kind_of_date date_after month_and_day date_without_month date_of_week week_and_weekday
 basic_week_pieces b0 b1 b2 b3 b4 y n w p0 p1 p2 p3 p4 p5 some most p7 =
     let yes : leb n 53 ≡ true = grind (arith, nat_tests) in
     rw (year_of b0 y b1 p0) (rw p1 (rw (no_month b1 p2) (rw (none_within 3 1 999 b1 p3) (rw p4 (rw (within 2 1 99 b2 n b3 p5 some (omega arith)) (rw p7 (rw yes refl)))))))
 
 -- `19850412`
 calendar_pieces : (b0 b1 b2 b3 : List ℕ) (y n d : ℕ) (m : Month) → digits 4 b0 ≡ Some (y, b1) → byte hyphen b1 ≡ None → digits 2 b1 ≡ Some (n, b2) → month_number m ≡ n → digits 2 b2 ≡ Some (d, b3) → 1 ≤ d → d ≤ 31 → dated b0 ≡ Ok ((Ok (OfMonth (pos y) m d), Basic), b3)
-unfolding dated year_and_kind kind_of_date date_behind month_and_day date_of_month
+unfolding dated year_and_kind kind_of_date date_after month_and_day date_of_month
 calendar_pieces b0 b1 b2 b3 y n d m p0 p1 p2 is p3 some most =
     let yes : leb d 31 ≡ true = grind (arith, nat_tests) in
     rw (year_of b0 y b1 p0) (rw p1 (rw (month_of b1 m n b2 p2 is) (rw (within 2 1 99 b2 d b3 p3 some (omega arith)) (rw yes refl))))
@@ -133,7 +133,7 @@ of_ordinal y o m d named = count_names (OfYear (pos y) o) (pos y) y m d named.co
 no_three : (bytes : List ℕ) → digits 2 bytes ≡ None → digits 3 bytes ≡ None
 no_three bytes e = digits_three bytes ∙ rw e refl
 
--- the weekday so many days behind Monday
+-- the weekday so many days after Monday
 weekday_of : (n : ℕ) → n ≤ 6 → (w : Weekday) × (days_from_monday w ≡ n)
 weekday_of zero le = (Monday, refl)
 weekday_of (suc zero) le = (Tuesday, refl)
@@ -166,11 +166,11 @@ module _ (shape : Shape) (text : List ℕ) (small : (k : ℕ) → get_or text k 
   -- a byte that alone can stand at a place
   pub said : (place c : ℕ) → c < 256 → Lets shape place c → get_or text place 0 ≡ c
   said place c fits lets = elim (cases_lt place 16) [
-    | inl front ↦
+    | inl prefix ↦
         let here : 0 + place ≡ place = omega arith in
-        rw here at (byte_in shape.front text 0 place c small has.front (lets.front front) fits)
+        rw here at (byte_in shape.prefix text 0 place c small has.prefix (lets.prefix prefix) fits)
     | inr back ↦
-        let there : shape.back_at + (place - shape.back_at) ≡ place = omega (arith, lets.behind, back) in
+        let there : shape.back_at + (place - shape.back_at) ≡ place = omega (arith, lets.after, back) in
         rw there at (byte_in shape.back text shape.back_at (place - shape.back_at) c small has.back (lets.back back) fits)
   ]
 
@@ -204,20 +204,20 @@ module _ (shape : Shape) (text : List ℕ) (small : (k : ℕ) → get_or text k 
     ordinal_read true m d is s some most named =
         let one : shape.high ≡ two_digits 6 = s.first_two ∙ ap (λ b. two_digits (5 + width_of b)) is in
         let two : shape.low ≡ one_digit 7 = s.last ∙ ap (λ b. one_digit (6 + width_of b)) is in
-        let front : digits 2 (drop 5 text) ≡ Some (high, drop 7 text) = (rw one at first).two refl in
+        let prefix : digits 2 (drop 5 text) ≡ Some (high, drop 7 text) = (rw one at first).two refl in
         let last : digits 1 (drop 7 text) ≡ Some (low, drop 8 text) = (rw two at second).one refl in (
           OfYear (pos y) (high * 10 + low),
-          extended_ordinal_pieces text (drop 4 text) (drop 5 text) (drop 7 text) (drop 8 text) y high (high * 10 + low) year (byte_there text 4 hyphen (omega (arith, long)) (said 4 hyphen (lit< tt) (s.first_hyphen is))) front (no_byte hyphen 1 (drop 7 text) (low, drop 8 text) refl (lit≤ tt) last) (three_behind text 5 high low front last) some most,
+          extended_ordinal_pieces text (drop 4 text) (drop 5 text) (drop 7 text) (drop 8 text) y high (high * 10 + low) year (byte_there text 4 hyphen (omega (arith, long)) (said 4 hyphen (lit< tt) (s.first_hyphen is))) prefix (no_byte hyphen 1 (drop 7 text) (low, drop 8 text) refl (lit≤ tt) last) (three_after text 5 high low prefix last) some most,
           of_ordinal y (high * 10 + low) m d named,
         )
     ordinal_read false m d is s some most named =
         let one : shape.high ≡ two_digits 5 = s.first_two ∙ ap (λ b. two_digits (5 + width_of b)) is in
         let two : shape.low ≡ one_digit 6 = s.last ∙ ap (λ b. one_digit (6 + width_of b)) is in
-        let front : digits 2 (drop 4 text) ≡ Some (high, drop 6 text) = (rw one at first).two refl in
+        let prefix : digits 2 (drop 4 text) ≡ Some (high, drop 6 text) = (rw one at first).two refl in
         let last : digits 1 (drop 6 text) ≡ Some (low, drop 7 text) = (rw two at second).one refl in
-        let behind = said 7 time_designator (lit< tt) (subst (λ b. Lets shape (7 + width_of b) time_designator) is s.clock.designator) in (
+        let after = said 7 time_designator (lit< tt) (subst (λ b. Lets shape (7 + width_of b) time_designator) is s.clock.designator) in (
           OfYear (pos y) (high * 10 + low),
-          basic_ordinal_pieces text (drop 4 text) (drop 6 text) (drop 7 text) y high (high * 10 + low) year (no_byte hyphen 2 (drop 4 text) (high, drop 6 text) refl (lit≤ tt) front) front (no_second text 6 (omega (arith, long)) (omega (arith, behind))) (three_behind text 4 high low front last) some most,
+          basic_ordinal_pieces text (drop 4 text) (drop 6 text) (drop 7 text) y high (high * 10 + low) year (no_byte hyphen 2 (drop 4 text) (high, drop 6 text) refl (lit≤ tt) prefix) prefix (no_second text 6 (omega (arith, long)) (omega (arith, after))) (three_after text 4 high low prefix last) some most,
           of_ordinal y (high * 10 + low) m d named,
         )
 

@@ -10,7 +10,7 @@ use Rattle.parsing_iso8601.specs.Forms.{NamesDate}
 use Rattle.parsing_iso8601.specs.Moment.{IsOfOffset}
 use Rattle.parsing_iso8601.specs.declared.form.Form.{Form}
 use Rattle.parsing_iso8601.proofs.ClockLemmas.{clock_read}
-use Rattle.parsing_iso8601.proofs.EndLemmas.{behind_offset, offset_said}
+use Rattle.parsing_iso8601.proofs.EndLemmas.{after_offset, offset_said}
 use Rattle.parsing_iso8601.proofs.FastMoments.{fields_named}
 use Rattle.parsing_iso8601.proofs.PlaceLemmas.{kind_of, date_read}
 
@@ -20,7 +20,7 @@ read_directly form text n month day f small says names numbers =
     let said = says.names in
     let year : digits 4 text ≡ Some (n.year, drop 4 text) = rw form.year_is at says.year_is in
     let date = date_read shape text small said.has_shape n.year n.high n.low year said.numbers.high_is said.numbers.low_is form.dating month day form.calendar form.ordinal form.week names in
-    let behind = behind_offset _ text said.end n.offset said.offset_is in
+    let after = after_offset _ text said.end n.offset said.offset_is in
     let minutes : n.minute ≡ said.hour * 60 + said.minute = omega (arith, said.minutes_are) in
-    let clock = clock_read shape text small said.has_shape date.0 date.1 n.high n.low said.hour said.minute n.second said.numbers said.hour_few said.end said.count n.fraction said.fraction_is behind said.fraction_few said.no_fraction in
+    let clock = clock_read shape text small said.has_shape date.0 date.1 n.high n.low said.hour said.minute n.second said.numbers said.hour_few said.end said.count n.fraction said.fraction_is after said.fraction_few said.no_fraction in
     fields_named f text (drop date.0 text) (drop said.end text) (kind_of shape.has_colon) n.year month day said.hour said.minute n.second n.fraction n.offset date.2 clock said.fraction_few (offset_said shape.has_colon text said.end n.offset said.offset_is) (rw minutes at numbers) (omega (arith, said.hour_few)) said.numbers.minute_few

@@ -12,7 +12,7 @@ use Rattle.parsing_combinator.specs.Readings.{Reading, then_read}
 use Rattle.parsing_combinator.specs.ShortName.{HasShortName}
 use Rattle.parsing_combinator.specs.Tame.{EndsWith, Leaves, Tame, IsTame}
 use Rattle.parsing_combinator.specs.declared.fault.ParseFromDescription.{ParseFromDescription}
-use Rattle.parsing_combinator.proofs.lemmas.Tame.{joined, whole_end, digits_leaves, byte_leaves, skip_leaves, run_leaves, piece_tame, further, then_tame, require_tame, entered_tame, front_ends, front_short}
+use Rattle.parsing_combinator.proofs.lemmas.Tame.{joined, whole_end, digits_leaves, byte_leaves, skip_leaves, run_leaves, piece_tame, further, then_tame, require_tame, entered_tame, prefix_ends, prefix_short}
 use Rattle.parsing_iso8601.specs.declared.kind.Kind.{Kind}
 use Rattle.parsing_iso8601.specs.declared.kind.Kind.TheVariants.{Unknown, Basic, Extended}
 use Rattle.parsing_iso8601.specs.declared.written.Iso8601Parts.{Iso8601Parts}
@@ -20,12 +20,12 @@ use Rattle.parsing_iso8601.specs.declared.written.WrittenDate.{WrittenDate}
 use Rattle.parsing_iso8601.specs.declared.written.WrittenTime.{WrittenTime}
 use Rattle.parsing_iso8601.specs.declared.written.WrittenOffset.{WrittenOffset}
 use Rattle.parsing_iso8601.specs.AllOrNothing as part
-use Rattle.parsing_iso8601.specs.Dates.{month_and_day, week_and_weekday, date_of_month, date_of_year, date_of_week, date_without_month, either, date_behind, year_and_kind}
+use Rattle.parsing_iso8601.specs.Dates.{month_and_day, week_and_weekday, date_of_month, date_of_year, date_of_week, date_without_month, either, date_after, year_and_kind}
 use Rattle.parsing_iso8601.specs.Designators.{week_designator, time_designator}
 use Rattle.parsing_iso8601.specs.Kinds.{by_kind, kind_of_date, dash, kind_of_time}
 use Rattle.parsing_iso8601.specs.Numbers.{kept, digits_within, counted, entry_of, numbered, months, weekdays, signed_year, plain_year, year, decimal_mark, due_digits, fraction_digits, number}
 use Rattle.parsing_iso8601.specs.Offsets.{if_colon, maybe_colon, offset_minute, signed_offset, offset}
-use Rattle.parsing_iso8601.specs.Reading.{Dated, dated_as, dated_from, dated, or_nothing, offset_behind, gathered, iso8601}
+use Rattle.parsing_iso8601.specs.Reading.{Dated, dated_as, dated_from, dated, or_nothing, offset_after, gathered, iso8601}
 use Rattle.parsing_iso8601.specs.Times.{subsecond_of, to_second, basic_seconds, due_second, extended_seconds, seconds, fraction_or, from_minute, minutes, from_hour, designator, time}
 
 -- ---- pieces one after another
@@ -80,19 +80,19 @@ numbered_leaves n xs bytes = entry_leaves xs bytes (digits n bytes) (digits_leav
 year_leaves : (bytes : List ℕ) → Leaves bytes (year bytes)
 unfolding year signed_year plain_year
 year_leaves bytes =
-    entered_leaves bytes (sign bytes) _ plain_year (byte_leaves _ bytes) (λ mark rest. then_leaves rest (digits 6 rest) _ (digits_leaves 6 rest) (λ n behind. whole_end behind))
-    (then_leaves bytes (digits 4 bytes) _ (digits_leaves 4 bytes) (λ n behind. whole_end behind))
+    entered_leaves bytes (sign bytes) _ plain_year (byte_leaves _ bytes) (λ mark rest. then_leaves rest (digits 6 rest) _ (digits_leaves 6 rest) (λ n after. whole_end after))
+    (then_leaves bytes (digits 4 bytes) _ (digits_leaves 4 bytes) (λ n after. whole_end after))
 
 fraction_leaves : (bytes : List ℕ) → Leaves bytes (fraction_digits bytes)
 unfolding fraction_digits decimal_mark due_digits
 fraction_leaves bytes =
-    entered_leaves bytes (decimal_mark bytes) _ (part.give None) (skip_leaves _ bytes) (λ mark rest. then_leaves rest (digit_run rest) _ (run_leaves rest) (λ run behind. whole_end behind)) (whole_end bytes)
+    entered_leaves bytes (decimal_mark bytes) _ (part.give None) (skip_leaves _ bytes) (λ mark rest. then_leaves rest (digit_run rest) _ (run_leaves rest) (λ run after. whole_end after)) (whole_end bytes)
 
 number_leaves : (bytes : List ℕ) → Leaves bytes (number bytes)
 unfolding number
 number_leaves bytes =
     then_leaves bytes (digits 2 bytes) _ (digits_leaves 2 bytes) (λ value rest.
-    then_leaves rest (fraction_digits rest) _ (fraction_leaves rest) (λ run behind. whole_end behind))
+    then_leaves rest (fraction_digits rest) _ (fraction_leaves rest) (λ run after. whole_end after))
 
 -- ---- the time of day
 
@@ -100,7 +100,7 @@ to_second_leaves : (hour minute : ℕ) (second : ℕ × Option (List ℕ)) (byte
 unfolding to_second
 to_second_leaves hour minute second bytes =
     then_leaves bytes _ _ (require_leaves (nat_le second.0 60) bytes) (λ some rest.
-    then_leaves rest _ _ (require_leaves (nat_lt (subsecond_of second.1) 1_000_000_000) rest) (λ more behind. whole_end behind))
+    then_leaves rest _ _ (require_leaves (nat_lt (subsecond_of second.1) 1_000_000_000) rest) (λ more after. whole_end after))
 
 basic_leaves : (hour minute : ℕ) (bytes : List ℕ) → Leaves bytes (basic_seconds hour minute bytes)
 unfolding basic_seconds
@@ -128,7 +128,7 @@ from_minute_leaves : (kind : Kind) (hour : ℕ) (minute : ℕ × Option (List �
 unfolding from_minute
 from_minute_leaves kind hour minute bytes =
     then_leaves bytes _ _ (require_leaves (nat_le minute.0 59) bytes) (λ some rest.
-    then_leaves rest _ _ (fraction_or_leaves minute.1 _ (seconds kind hour minute.0) rest (λ ds. whole_end rest) (seconds_leaves kind hour minute.0 rest)) (λ read behind. whole_end behind))
+    then_leaves rest _ _ (fraction_or_leaves minute.1 _ (seconds kind hour minute.0) rest (λ ds. whole_end rest) (seconds_leaves kind hour minute.0 rest)) (λ read after. whole_end after))
 
 minutes_leaves : (kind : Kind) (hour : ℕ) (bytes : List ℕ) → Leaves bytes (minutes kind hour bytes)
 unfolding minutes
@@ -145,15 +145,15 @@ from_hour_leaves : (kind : Kind) (hour : ℕ) (bytes : List ℕ) → Leaves byte
 unfolding from_hour
 from_hour_leaves kind hour bytes = then_leaves bytes (kind_of_time kind bytes) _ (kind_leaves kind bytes) (λ now rest. minutes_leaves now hour rest)
 
-designator_leaves : (behind_date : Bool) (bytes : List ℕ) → Leaves bytes (designator behind_date bytes)
+designator_leaves : (after_date : Bool) (bytes : List ℕ) → Leaves bytes (designator after_date bytes)
 unfolding designator
-designator_leaves behind_date bytes =
-    entered_leaves bytes (byte time_designator bytes) _ _ (skip_leaves _ bytes) (λ mark rest. whole_end rest) (require_leaves (not behind_date) bytes)
+designator_leaves after_date bytes =
+    entered_leaves bytes (byte time_designator bytes) _ _ (skip_leaves _ bytes) (λ mark rest. whole_end rest) (require_leaves (not after_date) bytes)
 
-time_leaves : (kind : Kind) (behind_date : Bool) (bytes : List ℕ) → Leaves bytes (time kind behind_date bytes)
+time_leaves : (kind : Kind) (after_date : Bool) (bytes : List ℕ) → Leaves bytes (time kind after_date bytes)
 unfolding time
-time_leaves kind behind_date b0 =
-    then_leaves b0 (designator behind_date b0) _ (designator_leaves behind_date b0) (λ mark b1.
+time_leaves kind after_date b0 =
+    then_leaves b0 (designator after_date b0) _ (designator_leaves after_date b0) (λ mark b1.
     then_leaves b1 (number b1) _ (number_leaves b1) (λ hour b2.
     then_leaves b2 _ _ (require_leaves (nat_le hour.0 23) b2) (λ some b3.
     fraction_or_leaves hour.1 _ (from_hour kind hour.0) b3 (λ ds. whole_end b3) (from_hour_leaves kind hour.0 b3))))
@@ -168,7 +168,7 @@ colon_leaves kind bytes =
 minute_leaves : (bytes : List ℕ) → Leaves bytes (offset_minute bytes)
 unfolding offset_minute
 minute_leaves bytes =
-    entered_leaves bytes (digits 2 bytes) _ _ (digits_leaves 2 bytes) (λ minute rest. then_leaves rest _ _ (require_leaves (nat_le minute 59) rest) (λ some behind. whole_end behind)) (whole_end bytes)
+    entered_leaves bytes (digits 2 bytes) _ _ (digits_leaves 2 bytes) (λ minute rest. then_leaves rest _ _ (require_leaves (nat_le minute 59) rest) (λ some after. whole_end after)) (whole_end bytes)
 
 signed_leaves : (kind : Kind) (bytes : List ℕ) → Leaves bytes (signed_offset kind bytes)
 unfolding signed_offset
@@ -224,11 +224,11 @@ either_tame : {A B : Type 0} (bytes : List ℕ) (r : Result (A × List ℕ) Faul
 either_tame bytes (Ok x) due other h k m = further bytes x.1 (due x.0 x.1) h (k x.0 x.1)
 either_tame bytes (Err f) due other h k m = m f h
 
-date_behind_tame : (kind : Kind) (y : ℤ) → IsTame (date_behind kind y)
-unfolding date_behind date_of_month
-date_behind_tame kind y bytes =
+date_after_tame : (kind : Kind) (y : ℤ) → IsTame (date_after kind y)
+unfolding date_after date_of_month
+date_after_tame kind y bytes =
     either_tame bytes (month_and_day kind bytes) _ (λ fault. date_without_month kind y fault) (month_and_day_tame kind bytes)
-    (λ md rest. then_tame rest _ _ (require_tame (nat_le md.1 31) (component (codes "day")) rest (lit< tt)) (λ some behind. whole_end behind))
+    (λ md rest. then_tame rest _ _ (require_tame (nat_le md.1 31) (component (codes "day")) rest (lit< tt)) (λ some after. whole_end after))
     (λ fault short. without_month_tame kind y fault short bytes)
 
 kind_of_date_tame : IsTame kind_of_date
@@ -253,7 +253,7 @@ dated_as_tame kind bytes between (Ok x) h t = (joined bytes between x.1 h t, tt)
 dated_as_tame kind bytes between (Err f) h t = (whole_end bytes, t)
 
 dated_from_tame : (bytes : List ℕ) (r : Result ((ℤ × Kind) × List ℕ) Fault) → Tame bytes r → TameDate bytes (dated_from r bytes)
-dated_from_tame bytes (Ok x) h = dated_as_tame x.0.1 bytes x.1 (date_behind x.0.1 x.0.0 x.1) h (date_behind_tame x.0.1 x.0.0 x.1)
+dated_from_tame bytes (Ok x) h = dated_as_tame x.0.1 bytes x.1 (date_after x.0.1 x.0.0 x.1) h (date_after_tame x.0.1 x.0.0 x.1)
 dated_from_tame bytes (Err f) h = (whole_end bytes, h)
 
 dated_tame : (bytes : List ℕ) → TameDate bytes (dated bytes)
@@ -272,8 +272,8 @@ if_tame : {A : Type 0} (b : Bool) (one other : Reading A) (bytes : List ℕ) →
 if_tame true one other bytes h k = h
 if_tame false one other bytes h k = k
 
-offset_behind_tame : (has_date has_time : Bool) (kind : Kind) → IsTame (offset_behind has_date has_time kind)
-offset_behind_tame has_date has_time kind bytes =
+offset_after_tame : (has_date has_time : Bool) (kind : Kind) → IsTame (offset_after has_date has_time kind)
+offset_after_tame has_date has_time kind bytes =
     if_tame (has_time || not has_date) (λ rest. or_nothing (offset kind rest) rest) _ bytes (maybe_tame bytes (offset kind bytes) (offset_leaves kind bytes)) (whole_end bytes)
 
 gathered_tame : (r : Result WrittenDate Fault) (t : Option WrittenTime) (o : Option WrittenOffset) (bytes : List ℕ) → IfErr r HasShortName → Tame bytes (gathered r t o bytes)
@@ -287,11 +287,11 @@ unfolding iso8601
 iso8601_tame b0 =
     then_dated b0 (dated b0) _ (dated_tame b0) (λ d b1 short.
     then_tame b1 _ _ (maybe_tame b1 (time d.1 (is_ok d.0) b1) (time_leaves d.1 (is_ok d.0) b1)) (λ t b2.
-    then_tame b2 _ _ (offset_behind_tame (is_ok d.0) (is_some t) _ b2) (λ o b3. gathered_tame d.0 _ o b3 short)))
+    then_tame b2 _ _ (offset_after_tame (is_ok d.0) (is_some t) _ b2) (λ o b3. gathered_tame d.0 _ o b3 short)))
 
--- what a function returns that reads the front of the bytes
+-- what a function returns that reads the prefix of the bytes
 pub given_end : (result : Result (Iso8601Parts × Bor (List ℕ)) ParseFromDescription) (bytes : List ℕ) → Gives (λ x. (x.0, x.1.now)) reading_fault result (iso8601 bytes) → IfOk result (λ x. EndsWith bytes x.1.now)
-given_end result bytes given = front_ends (λ w. w) result bytes (iso8601 bytes) given (iso8601_tame bytes)
+given_end result bytes given = prefix_ends (λ w. w) result bytes (iso8601 bytes) given (iso8601_tame bytes)
 
 pub given_short : (result : Result (Iso8601Parts × Bor (List ℕ)) ParseFromDescription) (bytes : List ℕ) → Gives (λ x. (x.0, x.1.now)) reading_fault result (iso8601 bytes) → IfErr result (λ e. HasShortName (reading_fault e))
-given_short result bytes given = front_short (λ w. w) result bytes (iso8601 bytes) given (iso8601_tame bytes)
+given_short result bytes given = prefix_short (λ w. w) result bytes (iso8601 bytes) given (iso8601_tame bytes)

@@ -1,4 +1,4 @@
--- Pieces one after another: where one of them has no front, neither have all.
+-- Pieces one after another: where one of them has no prefix, neither have all.
 use Rattle.std.specs.Prelude.{ℕ, Bool, List, Option, Some, None, if◌then◌else◌}
 use Rattle.parsing_combinator.specs.Pieces.{Piece}
 
@@ -18,7 +18,7 @@ abbrev pub ◌>>◌ : {A B : Type 0} → Piece A → Piece B → Piece B
 abbrev pub give : {A : Type 0} → A → Piece A
 give x bytes = Some (x, bytes)
 
--- no bytes have such a front
+-- no bytes have such a prefix
 abbrev pub refuse : {A : Type 0} → Piece A
 refuse bytes = None
 

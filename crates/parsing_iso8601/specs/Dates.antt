@@ -39,7 +39,7 @@ date_of_year year ordinal = do
   require (nat_le ordinal 366) (component (codes "ordinal"))
   give (OfYear year ordinal)
 
--- behind the `W`
+-- after the `W`
 unfoldable pub date_of_week : Kind → ℤ → Reading WrittenDate
 date_of_week kind year = do
   w ← week_and_weekday kind
@@ -61,9 +61,9 @@ abbrev pub either : {A B : Type 0} → Result (A × List ℕ) Fault → (A → R
 either (Ok x) due other bytes = due x.0 x.1
 either (Err f) due other bytes = other f bytes
 
--- the date behind the year. A form whose pieces were all read is the date, or refuses it; no other form is tried
-unfoldable pub date_behind : Kind → ℤ → Reading WrittenDate
-date_behind kind year bytes =
+-- the date after the year. A form whose pieces were all read is the date, or refuses it; no other form is tried
+unfoldable pub date_after : Kind → ℤ → Reading WrittenDate
+date_after kind year bytes =
     either (month_and_day kind bytes) (λ md. date_of_month year md.0 md.1) (λ fault. date_without_month kind year fault) bytes
 
 -- the year, and the kind of all that follows

@@ -13,9 +13,9 @@ use Rattle.parsing_iso8601.specs.declared.form.Dating.TheVariants.{Calendar, Ord
 
 -- one byte alone can stand at a place of a text
 pub record Lets (shape : Shape) (place byte : ℕ) : Type 0 where
-  pub front : place < 16 → LetsByte shape.front place byte
+  pub prefix : place < 16 → LetsByte shape.prefix place byte
   pub back : 16 ≤ place → LetsByte shape.back (place - shape.back_at) byte
-  pub behind : shape.back_at ≤ 16
+  pub after : shape.back_at ≤ 16
 
 -- the same in a text of the extended format alone, which has hyphens and colons
 abbrev pub LetsMark : Shape → ℕ → ℕ → Type 0
@@ -48,7 +48,7 @@ is_calendar Calendar = true
 is_calendar Ordinal = false
 is_calendar Week = false
 
--- where the last digit of the first number stands behind a year
+-- where the last digit of the first number stands after a year
 abbrev pub first_number_at : Dating → ℕ → ℕ
 first_number_at Calendar mark = 5 + mark
 first_number_at Ordinal mark = 5 + mark
@@ -83,7 +83,7 @@ pub record IsWeek (shape : Shape) : Type 0 where
   pub weekday : shape.low ≡ one_digit (7 + 2 * mark shape)
   pub clock : EndsWithClock shape (8 + 2 * mark shape)
 
--- two numbers of a date behind its year are this day of a month of the year
+-- two numbers of a date after its year are this day of a month of the year
 pub record NamesDate (dating : Dating) (year high low month day : ℕ) : Type 0 where
   pub there : IsDay (pos year) month day
   pub calendar : dating ≡ Calendar → (month ≡ high) × (day ≡ low)

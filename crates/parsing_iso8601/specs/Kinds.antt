@@ -13,7 +13,7 @@ by_kind Unknown unknown basic extended = unknown
 by_kind Basic unknown basic extended = basic
 by_kind Extended unknown basic extended = extended
 
--- behind the year: a hyphen makes the kind extended, its absence basic
+-- after the year: a hyphen makes the kind extended, its absence basic
 unfoldable pub kind_of_date : Reading Kind
 kind_of_date = if_there (byte hyphen) (λ _. give Extended) (give Basic)
 
@@ -21,7 +21,7 @@ kind_of_date = if_there (byte hyphen) (λ _. give Extended) (give Basic)
 abbrev pub dash : Kind → Reading (Unit {0})
 dash kind = by_kind kind (give tt) (give tt) (byte hyphen or literal)
 
--- behind the hour: a colon makes an unknown kind extended, and the basic kind has none
+-- after the hour: a colon makes an unknown kind extended, and the basic kind has none
 unfoldable pub kind_of_time : Kind → Piece Kind
 kind_of_time kind =
     part.if_there (byte colon) (λ _. by_kind kind (part.give Extended) part.refuse (part.give Extended)) (part.give kind)

@@ -42,7 +42,7 @@ weekdays = Monday ∷ Tuesday ∷ Wednesday ∷ Thursday ∷ Friday ∷ Saturday
 abbrev pub signed : Bool → ℕ → ℤ
 signed is_negative n = if is_negative then neg_ℤ (pos n) else pos n
 
--- behind a sign six digits
+-- after a sign six digits
 unfoldable pub signed_year : Bool → Piece ℤ
 signed_year is_negative = do
   n ← digits 6
@@ -61,7 +61,7 @@ year = if_there sign (λ mark. signed_year (mark == hyphen)) plain_year
 unfoldable pub decimal_mark : Piece (Unit {0})
 decimal_mark = skip_of (λ c. (c == dot) || (c == comma))
 
--- behind a decimal mark at least one digit is due, and all that are there are read
+-- after a decimal mark at least one digit is due, and all that are there are read
 unfoldable pub due_digits : Piece (Option (List ℕ))
 due_digits = do
   run ← digit_run

@@ -19,7 +19,7 @@ abbrev pub date_view : Result WrittenDate ParseFromDescription → Result Writte
 date_view (Ok date) = Ok date
 date_view (Err e) = Err (reading_fault e)
 
--- the digits of a fraction, with the bytes behind the reference
+-- the digits of a fraction, with the bytes after the reference
 abbrev pub digits_view : Option (Bor (List ℕ)) → Option (List ℕ)
 digits_view run = option_map (λ ds. ds.now) run
 

@@ -10,7 +10,7 @@ use Rattle.parsing_iso8601.specs.declared.written.Iso8601Parts.{Iso8601Parts}
 use Rattle.parsing_iso8601.specs.declared.written.WrittenDate.{WrittenDate}
 use Rattle.parsing_iso8601.specs.declared.written.WrittenTime.{WrittenTime}
 use Rattle.parsing_iso8601.specs.declared.written.WrittenOffset.{WrittenOffset}
-use Rattle.parsing_iso8601.specs.Dates.{date_behind, year_and_kind, refuse}
+use Rattle.parsing_iso8601.specs.Dates.{date_after, year_and_kind, refuse}
 use Rattle.parsing_iso8601.specs.Times.{time}
 use Rattle.parsing_iso8601.specs.Offsets.{offset}
 
@@ -23,7 +23,7 @@ dated_as kind (Ok x) bytes = Ok ((Ok x.0, kind), x.1)
 dated_as kind (Err f) bytes = Ok ((Err f, kind), bytes)
 
 abbrev pub dated_from : Result ((ℤ × Kind) × List ℕ) Fault → Reading Dated
-dated_from (Ok x) bytes = dated_as x.0.1 (date_behind x.0.1 x.0.0 x.1) bytes
+dated_from (Ok x) bytes = dated_as x.0.1 (date_after x.0.1 x.0.0 x.1) bytes
 dated_from (Err f) bytes = Ok ((Err f, Unknown), bytes)
 
 -- the date; a refused one reads nothing, but where its year was read the kind stays
@@ -38,14 +38,14 @@ or_nothing None bytes = Ok (None, bytes)
 abbrev pub maybe : {A : Type 0} → Piece A → Reading (Option A)
 maybe part bytes = or_nothing (part bytes) bytes
 
--- the kind behind the time
+-- the kind after the time
 abbrev pub handed_on : Kind → Option (WrittenTime × Kind) → Kind
 handed_on kind None = kind
 handed_on kind (Some t) = t.1
 
--- an offset may stand alone or behind a time, but not behind a date without one
-abbrev pub offset_behind : Bool → Bool → Kind → Reading (Option WrittenOffset)
-offset_behind has_date has_time kind = if has_time || not has_date then maybe (offset kind) else give None
+-- an offset may stand alone or after a time, but not after a date without one
+abbrev pub offset_after : Bool → Bool → Kind → Reading (Option WrittenOffset)
+offset_after has_date has_time kind = if has_time || not has_date then maybe (offset kind) else give None
 
 -- what was read; without any part, why there is no date
 abbrev pub gathered : Result WrittenDate Fault → Option WrittenTime → Option WrittenOffset → Reading Iso8601Parts
@@ -59,7 +59,7 @@ unfoldable pub iso8601 : Reading Iso8601Parts
 iso8601 = do
   d ← dated
   t ← maybe (time d.1 (is_ok d.0))
-  o ← offset_behind (is_ok d.0) (is_some t) (handed_on d.1 t)
+  o ← offset_after (is_ok d.0) (is_some t) (handed_on d.1 t)
   gathered d.0 (option_map (λ x. x.0) t) o
 
 -- the parts of a whole text: nothing follows them

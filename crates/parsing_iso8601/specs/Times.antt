@@ -13,13 +13,13 @@ use Rattle.parsing_iso8601.specs.Numbers.{number}
 abbrev pub time_of : ℕ → ℕ → ℕ → ℕ → WrittenTime
 time_of hour minute second subsecond = record { hour = hour; minute = minute; second = second; subsecond = subsecond }
 
--- an hour and nanoseconds behind it
-unfoldable pub behind_hour : ℕ → ℕ → WrittenTime
-behind_hour hour nanos = time_of hour (nanos / 60_000_000_000) (nanos / 1_000_000_000 % 60) (nanos % 1_000_000_000)
+-- an hour and nanoseconds after it
+unfoldable pub after_hour : ℕ → ℕ → WrittenTime
+after_hour hour nanos = time_of hour (nanos / 60_000_000_000) (nanos / 1_000_000_000 % 60) (nanos % 1_000_000_000)
 
--- a minute and nanoseconds behind it
-unfoldable pub behind_minute : ℕ → ℕ → ℕ → WrittenTime
-behind_minute hour minute nanos = time_of hour minute (nanos / 1_000_000_000) (nanos % 1_000_000_000)
+-- a minute and nanoseconds after it
+unfoldable pub after_minute : ℕ → ℕ → ℕ → WrittenTime
+after_minute hour minute nanos = time_of hour minute (nanos / 1_000_000_000) (nanos % 1_000_000_000)
 
 abbrev pub subsecond_of : Option (List ℕ) → ℕ
 subsecond_of None = 0
@@ -32,7 +32,7 @@ to_second hour minute second = do
   require (nat_lt (subsecond_of second.1) 1_000_000_000)
   give (time_of hour minute second.0 (subsecond_of second.1))
 
--- behind a whole minute of the basic kind: a second, if there is one
+-- after a whole minute of the basic kind: a second, if there is one
 unfoldable pub basic_seconds : ℕ → ℕ → Piece WrittenTime
 basic_seconds hour minute = if_there number (λ second. to_second hour minute second) (give (time_of hour minute 0 0))
 
@@ -41,7 +41,7 @@ due_second hour minute = do
   second ← number
   to_second hour minute second
 
--- of the extended kind: behind a colon the second is due
+-- of the extended kind: after a colon the second is due
 unfoldable pub extended_seconds : ℕ → ℕ → Piece WrittenTime
 extended_seconds hour minute = if_there (byte colon) (λ _. due_second hour minute) (give (time_of hour minute 0 0))
 
@@ -57,7 +57,7 @@ fraction_or (Some ds) ends on = ends ds
 unfoldable pub from_minute : Kind → ℕ → ℕ × Option (List ℕ) → Piece (WrittenTime × Kind)
 from_minute kind hour minute = do
   require (nat_le minute.0 59)
-  time ← fraction_or minute.1 (λ ds. give (behind_minute hour minute.0 (part_of 60_000_000_000 ds))) (seconds kind hour minute.0)
+  time ← fraction_or minute.1 (λ ds. give (after_minute hour minute.0 (part_of 60_000_000_000 ds))) (seconds kind hour minute.0)
   give (time, settled kind)
 
 -- minutes are due in the extended kind alone
@@ -66,19 +66,19 @@ minutes kind hour =
     if_there number (λ minute. from_minute kind hour minute)
     (by_kind kind (give (time_of hour 0 0 0, kind)) (give (time_of hour 0 0 0, kind)) refuse)
 
--- behind a whole hour
+-- after a whole hour
 unfoldable pub from_hour : Kind → ℕ → Piece (WrittenTime × Kind)
 from_hour kind hour = do
   now ← kind_of_time kind
   minutes now hour
 
--- `T`, which has to be there behind a date
+-- `T`, which has to be there after a date
 unfoldable pub designator : Bool → Piece (Unit {0})
-designator behind_date = if_there (byte time_designator) (λ _. give tt) (require (not behind_date))
+designator after_date = if_there (byte time_designator) (λ _. give tt) (require (not after_date))
 
 unfoldable pub time : Kind → Bool → Piece (WrittenTime × Kind)
-time kind behind_date = do
-  designator behind_date
+time kind after_date = do
+  designator after_date
   hour ← number
   require (nat_le hour.0 23)
-  fraction_or hour.1 (λ ds. give (behind_hour hour.0 (part_of 3_600_000_000_000 ds), kind)) (from_hour kind hour.0)
+  fraction_or hour.1 (λ ds. give (after_hour hour.0 (part_of 3_600_000_000_000 ds), kind)) (from_hour kind hour.0)

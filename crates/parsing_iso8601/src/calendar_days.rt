@@ -103,7 +103,7 @@ fn of_weeks(year: Year, week: u8, weekday: u8) -> Option<(u8, u8)>
     Some(of_ordinal(year, ordinal))
 }
 
-/// The month, and the day of the month, that two numbers of a date name behind its year: `None` says nothing of them.
+/// The month, and the day of the month, that two numbers of a date name after its year: `None` says nothing of them.
 #[inline(always)]
 pub(crate) fn of_date(dating: Dating, year: Year, high: u8, low: u8) -> Option<(u8, u8)>
     requires year { year ≤ 9999 }

@@ -87,18 +87,18 @@ fn date_without_month(
     date_of_week(kind, year, rest)
 }
 
-/// The date behind its year: a month and a day of it, a day of the year, or a week and a day of it. ISO 8601-1:2019,
+/// The date after its year: a month and a day of it, a day of the year, or a week and a day of it. ISO 8601-1:2019,
 /// section 5.2.
-#[tactic(auto, unfolding(crate::specs::Dates::date_behind, crate::specs::Dates::date_of_month))]
+#[tactic(auto, unfolding(crate::specs::Dates::date_after, crate::specs::Dates::date_of_month))]
 #[inline(always)]
-pub fn date_behind(
+pub fn date_after(
     kind: Kind,
     year: i32,
     bytes: &[u8],
 ) -> Result<(WrittenDate, &[u8]), ParseFromDescription>
     requires year { IsYear year }
     ensures gives { Gives (λ x. (x.0, x.1.now)) reading_fault result
-        (Dates.date_behind kind year bytes.now) }
+        (Dates.date_after kind year bytes.now) }
     ensures range { IfOk result (λ x. IsDateInRange x.0) }
 {
     match month_and_day(kind, bytes) {
@@ -112,7 +112,7 @@ pub fn date_behind(
     }
 }
 
-/// The year, and the kind of what follows: extended behind a hyphen.
+/// The year, and the kind of what follows: extended after a hyphen.
 #[tactic(auto, unfolding(crate::specs::Dates::year_and_kind))]
 #[inline(always)]
 pub fn year_and_kind(bytes: &[u8]) -> Result<((i32, Kind), &[u8]), ParseFromDescription>

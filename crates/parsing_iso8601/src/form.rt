@@ -5,7 +5,7 @@ ghost use Rattle.parsing_iso8601.specs.declared.form.Dating.TheVariants.{Calenda
 
 use parsing_places::Shape;
 
-/// What names the day of a date behind its year.
+/// What names the day of a date after its year.
 #[derive(Clone, Copy)]
 pub(crate) enum Dating {
     /// A month and a day of it, as `04-12`.

@@ -220,7 +220,7 @@ fn mark_length(is_extended: bool) -> usize
     if is_extended { 1 } else { 0 }
 }
 
-// Where the last digit of the first number stands behind a year.
+// Where the last digit of the first number stands after a year.
 #[inline(always)]
 fn first_number_at(dating: Dating, mark: usize) -> usize
     requires { mark ≤ 1 }
@@ -252,7 +252,7 @@ pub(crate) fn form_at(form: usize, has_second: bool) -> Form
     let mark = mark_length(TABLE[row].is_extended);
     Form {
         shape: Shape {
-            front: Window {
+            prefix: Window {
                 low: TABLE[row].low,
                 high: TABLE[row].above,
                 taken: Moves {
@@ -287,7 +287,7 @@ pub(crate) fn form_at(form: usize, has_second: bool) -> Form
     }
 }
 
-/// Which form a text has, if one: a hyphen behind the year makes it an extended form, and then `W` or the place of the `T` tells
+/// Which form a text has, if one: a hyphen after the year makes it an extended form, and then `W` or the place of the `T` tells
 /// how its day is named.
 #[inline(always)]
 pub(crate) fn form_of(text: &[u8]) -> usize

@@ -5,7 +5,7 @@ ghost use Rattle.parsing_iso8601.specs.Fractions as Fractions;
 
 /// The whole nanoseconds in a fraction of `unit` nanoseconds that these digits write.
 ///
-/// From the last digit on, each digit takes what the digits behind it leave: no number grows past ten units.
+/// From the last digit on, each digit takes what the digits after it leave: no number grows past ten units.
 pub fn part_of(unit: u64, run: &[u8]) -> u64
     requires all { Pieces.digit_count run.now ≡ length run.now }
     requires some { 0 < unit }

@@ -17,7 +17,7 @@ pub enum Kind {
     Extended,
 }
 
-/// The kind that a hyphen behind the year, or its absence, decides.
+/// The kind that a hyphen after the year, or its absence, decides.
 #[tactic(auto, unfolding(crate::specs::Kinds::kind_of_date))]
 #[inline(always)]
 pub fn kind_of_date(bytes: &[u8]) -> (Kind, &[u8])
@@ -41,7 +41,7 @@ pub fn dash(kind: Kind, bytes: &[u8]) -> Result<&[u8], ParseFromDescription>
     }
 }
 
-/// The kind that a colon behind the hour, or its absence, decides.
+/// The kind that a colon after the hour, or its absence, decides.
 #[tactic(auto, unfolding(crate::specs::Kinds::kind_of_time))]
 #[inline(always)]
 pub fn kind_of_time(kind: Kind, bytes: &[u8]) -> Option<(Kind, &[u8])>

@@ -33,7 +33,7 @@ fn read_to_minute(form: usize, input: &[u8]) -> Option<Fields>
 /// The fields of a text, where the fast way finds them: `None` says nothing of the text.
 ///
 /// It finds those of most texts: a date of any kind in a year of four digits, a time of day to the minute or the second without
-/// a leap second, behind a second a point and at most nine digits, and an offset of less than a day to the minute.
+/// a leap second, after a second a point and at most nine digits, and an offset of less than a day to the minute.
 #[inline(always)]
 pub fn read_fields(input: &[u8]) -> Option<Fields>
     ensures { IfSome result (λ fields. IsOfOffset input.now (moment_of fields)) }

@@ -11,7 +11,7 @@ use parsing_combinator::{
     digit_run, four_digits, one_digit, sign, six_digits, three_digits, two_digits,
 };
 
-/// What stands behind a decimal point or a comma.
+/// What stands after a decimal point or a comma.
 #[tactic(auto, unfolding(crate::specs::Numbers::decimal_mark, parsing_combinator::specs::Pieces::skip_of))]
 #[inline(always)]
 fn decimal_mark(bytes: &[u8]) -> Option<&[u8]>
@@ -31,10 +31,10 @@ fn fraction_digits(bytes: &[u8]) -> Option<(Option<&[u8]>, &[u8])>
         ≡ Numbers.fraction_digits bytes.now }
     ensures all { IfSome result (λ x. AreDigits x.0) }
 {
-    let Some(behind) = decimal_mark(bytes) else {
+    let Some(after) = decimal_mark(bytes) else {
         return Some((None, bytes));
     };
-    let (run, rest) = digit_run(behind)?;
+    let (run, rest) = digit_run(after)?;
     Some((Some(run), rest))
 }
 
@@ -106,7 +106,7 @@ pub fn ordinal(bytes: &[u8]) -> Option<(u16, &[u8])>
     Some((value, rest))
 }
 
-// The six digits of a year behind its sign.
+// The six digits of a year after its sign.
 #[tactic(auto, unfolding(crate::specs::Numbers::signed_year))]
 fn signed_year(is_negative: bool, bytes: &[u8]) -> Option<(i32, &[u8])>
     ensures cut { cut_view result ≡ Numbers.signed_year is_negative bytes.now }

@@ -76,7 +76,7 @@ fn signed_offset(kind: Kind, bytes: &[u8]) -> Option<(WrittenOffset, &[u8])>
     Some((under_sign(mark == b'-', hour, minute), rest))
 }
 
-/// The offset at the front of the bytes: `Z`, or a sign and hours up to 25, with minutes where they are written.
+/// The offset at the start of the bytes: `Z`, or a sign and hours up to 25, with minutes where they are written.
 #[tactic(auto, unfolding(crate::specs::Offsets::offset))]
 #[inline(always)]
 pub fn offset(kind: Kind, bytes: &[u8]) -> Option<(WrittenOffset, &[u8])>

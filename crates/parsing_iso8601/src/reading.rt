@@ -9,7 +9,7 @@ ghost use Rattle.parsing_iso8601.specs.Times as Times;
 ghost use Rattle.parsing_iso8601.specs.Offsets as Offsets;
 ghost use Rattle.parsing_iso8601.specs.ReadView.{date_view};
 
-use crate::date::{date_behind, year_and_kind};
+use crate::date::{date_after, year_and_kind};
 use crate::kind::Kind;
 use crate::offset::offset;
 use crate::time::time;
@@ -28,7 +28,7 @@ fn dated(bytes: &[u8]) -> ((DateOrFault, Kind), &[u8])
 {
     match year_and_kind(bytes) {
         Err(fault) => ((Err(fault), Kind::Unknown), bytes),
-        Ok(((year, kind), behind)) => match date_behind(kind, year, behind) {
+        Ok(((year, kind), after)) => match date_after(kind, year, after) {
             Ok((date, rest)) => ((Ok(date), kind), rest),
             Err(fault) => ((Err(fault), kind), bytes),
         },
@@ -36,12 +36,12 @@ fn dated(bytes: &[u8]) -> ((DateOrFault, Kind), &[u8])
 }
 
 // The time, where it is there, and the kind that it hands on.
-fn maybe_time(kind: Kind, behind_date: bool, bytes: &[u8]) -> (Option<(WrittenTime, Kind)>, &[u8])
-    ensures gives { Reading.maybe (Times.time kind behind_date) bytes.now
+fn maybe_time(kind: Kind, after_date: bool, bytes: &[u8]) -> (Option<(WrittenTime, Kind)>, &[u8])
+    ensures gives { Reading.maybe (Times.time kind after_date) bytes.now
         ≡ Ok (result.0, result.1.now) }
     ensures range { IfSome result.0 (λ t. IsTimeInRange t.0) }
 {
-    match time(kind, behind_date, bytes) {
+    match time(kind, after_date, bytes) {
         Some((read, rest)) => (Some(read), rest),
         None => (None, bytes),
     }
@@ -59,13 +59,13 @@ fn maybe_offset(kind: Kind, bytes: &[u8]) -> (Option<WrittenOffset>, &[u8])
 }
 
 // The offset, where it may stand and is there.
-fn offset_behind(
+fn offset_after(
     has_date: bool,
     has_time: bool,
     kind: Kind,
     bytes: &[u8],
 ) -> (Option<WrittenOffset>, &[u8])
-    ensures gives { Reading.offset_behind has_date has_time kind bytes.now
+    ensures gives { Reading.offset_after has_date has_time kind bytes.now
         ≡ Ok (result.0, result.1.now) }
     ensures range { IfSome result.0 IsOffsetInRange }
 {
@@ -76,7 +76,7 @@ fn offset_behind(
     }
 }
 
-// The kind behind the time.
+// The kind after the time.
 fn handed_on(kind: Kind, read: Option<(WrittenTime, Kind)>) -> Kind
     ensures { result ≡ Reading.handed_on kind read }
 {
@@ -116,11 +116,11 @@ fn parts(bytes: &[u8]) -> Result<(Iso8601Parts, &[u8]), ParseFromDescription>
     let ((date, kind), rest) = dated(bytes);
     let (read, rest) = maybe_time(kind, date.is_ok(), rest);
     let kind = handed_on(kind, read);
-    let (offset, rest) = offset_behind(date.is_ok(), read.is_some(), kind, rest);
+    let (offset, rest) = offset_after(date.is_ok(), read.is_some(), kind, rest);
     gathered(date, read.map(|x| x.0), offset, rest)
 }
 
-/// The parts at the front of the bytes, and the rest.
+/// The parts at the start of the bytes, and the rest.
 pub fn parse_prefix(bytes: &[u8]) -> Result<(Iso8601Parts, &[u8]), ParseFromDescription>
     ensures gives { Gives (λ x. (x.0, x.1.now)) reading_fault result (Reading.iso8601 bytes.now) }
     ensures range { IfOk result (λ x. AreInRange x.0) }

@@ -17,12 +17,12 @@ const NANOSECONDS_IN_MINUTE: u64 = 60_000_000_000;
 
 const NANOSECONDS_IN_HOUR: u64 = 3_600_000_000_000;
 
-// The time so many nanoseconds behind an hour.
-#[tactic(auto, unfolding(crate::specs::Times::behind_hour))]
-fn behind_hour(hour: u8, nanos: u64) -> WrittenTime
+// The time so many nanoseconds after an hour.
+#[tactic(auto, unfolding(crate::specs::Times::after_hour))]
+fn after_hour(hour: u8, nanos: u64) -> WrittenTime
     requires hour { hour ≤ 23 }
     requires nanos { nanos < 3_600_000_000_000 }
-    ensures value { result ≡ Times.behind_hour hour nanos }
+    ensures value { result ≡ Times.after_hour hour nanos }
     ensures range { IsTimeInRange result }
 {
     WrittenTime {
@@ -33,13 +33,13 @@ fn behind_hour(hour: u8, nanos: u64) -> WrittenTime
     }
 }
 
-// The time so many nanoseconds behind a minute.
-#[tactic(auto, unfolding(crate::specs::Times::behind_minute))]
-fn behind_minute(hour: u8, minute: u8, nanos: u64) -> WrittenTime
+// The time so many nanoseconds after a minute.
+#[tactic(auto, unfolding(crate::specs::Times::after_minute))]
+fn after_minute(hour: u8, minute: u8, nanos: u64) -> WrittenTime
     requires hour { hour ≤ 23 }
     requires minute { minute ≤ 59 }
     requires nanos { nanos < 60_000_000_000 }
-    ensures value { result ≡ Times.behind_minute hour minute nanos }
+    ensures value { result ≡ Times.after_minute hour minute nanos }
     ensures range { IsTimeInRange result }
 {
     WrittenTime {
@@ -176,7 +176,7 @@ fn from_minute<'a>(
     }
     match minute.1 {
         Some(run) => {
-            let time = behind_minute(hour, minute.0, part_of(NANOSECONDS_IN_MINUTE, run));
+            let time = after_minute(hour, minute.0, part_of(NANOSECONDS_IN_MINUTE, run));
             Some(((time, kind.settled()), bytes))
         }
         None => {
@@ -215,35 +215,35 @@ fn from_hour(kind: Kind, hour: u8, bytes: &[u8]) -> Option<((WrittenTime, Kind),
     minutes(kind, hour, rest)
 }
 
-// Past the `T`, which has to be there behind a date.
+// Past the `T`, which has to be there after a date.
 #[tactic(auto, unfolding(crate::specs::Times::designator))]
 #[inline(always)]
-fn designator(behind_date: bool, bytes: &[u8]) -> Option<&[u8]>
-    ensures { rest_view result ≡ Times.designator behind_date bytes.now }
+fn designator(after_date: bool, bytes: &[u8]) -> Option<&[u8]>
+    ensures { rest_view result ≡ Times.designator after_date bytes.now }
 {
     match byte(b'T', bytes) {
         Some(rest) => Some(rest),
-        None if behind_date => None,
+        None if after_date => None,
         None => Some(bytes),
     }
 }
 
-/// The time of day at the front of the bytes, and the kind that it hands on: ISO 8601-1:2019, section 5.3. Its `T`
+/// The time of day at the start of the bytes, and the kind that it hands on: ISO 8601-1:2019, section 5.3. Its `T`
 /// may be missing where no date stands before it. There is no hour 24.
 #[tactic(auto, unfolding(crate::specs::Times::time))]
 #[inline(always)]
-pub fn time(kind: Kind, behind_date: bool, bytes: &[u8]) -> Option<((WrittenTime, Kind), &[u8])>
-    ensures cut { cut_view result ≡ Times.time kind behind_date bytes.now }
+pub fn time(kind: Kind, after_date: bool, bytes: &[u8]) -> Option<((WrittenTime, Kind), &[u8])>
+    ensures cut { cut_view result ≡ Times.time kind after_date bytes.now }
     ensures range { IfSome result (λ x. IsTimeInRange x.0.0) }
 {
-    let rest = designator(behind_date, bytes)?;
+    let rest = designator(after_date, bytes)?;
     let ((hour, fraction), rest) = number(rest)?;
     if hour > 23 {
         return None;
     }
     match fraction {
         Some(run) => {
-            let time = behind_hour(hour, part_of(NANOSECONDS_IN_HOUR, run));
+            let time = after_hour(hour, part_of(NANOSECONDS_IN_HOUR, run));
             Some(((time, kind), rest))
         }
         None => from_hour(kind, hour, rest),

@@ -19,7 +19,7 @@ use Rattle.parsing_record.specs.Reads.{reads, each_reads, reading}
 use Rattle.parsing_record.specs.Whole.{whole, names, starting, all_read as all_ended, moment_named}
 use Rattle.parsing_laws.specs.Joined.{by_items, by_tree}
 use Rattle.parsing_laws.specs.TwoVersions.{IgnoresNothing, IsReadByBoth}
-use Rattle.parsing_laws.proofs.ItemLemmas.{items_read, first_in_turn, same_behind}
+use Rattle.parsing_laws.proofs.ItemLemmas.{items_read, first_in_turn, same_after}
 
 component_alike : (c : Component) → ((m : Ignore) → ¬ (c ≡ component.Ignore m)) → (bytes : List ℕ) → reads_component_v3 c bytes ≡ reads_component c bytes
 unfolding reads_component_v3
@@ -29,14 +29,14 @@ component_alike other h bytes = refl
 first_is_other : (c : Component) (items : List Tree) → IgnoresNothing (Part c ∷ items) → (m : Ignore) → ¬ (c ≡ component.Ignore m)
 first_is_other c items h m e = h m (0, omega arith, ap Part e)
 
-behind_is_other : (t : Tree) (items : List Tree) → IgnoresNothing (t ∷ items) → IgnoresNothing items
-behind_is_other t items h m (k, lt, e) = h m (suc k, omega arith, e)
+after_is_other : (t : Tree) (items : List Tree) → IgnoresNothing (t ∷ items) → IgnoresNothing items
+after_is_other t items h m (k, lt, e) = h m (suc k, omega arith, e)
 
 first_alike : (t : Tree) (items : List Tree) → ((r : Record) (bytes : List ℕ) → reading reads_component_v3 t r bytes ≡ reading reads_component t r bytes) → ((r : Record) (bytes : List ℕ) → items_read reads_component_v3 items r bytes ≡ items_read reads_component items r bytes) → (r : Record) (bytes : List ℕ) → items_read reads_component_v3 (t ∷ items) r bytes ≡ items_read reads_component (t ∷ items) r bytes
 first_alike t items h k r bytes =
     first_in_turn reads_component_v3 t (listed items) r bytes
     ∙ ap (λ (a : Answer). then_read a (items_read reads_component_v3 items)) (h r bytes)
-    ∙ same_behind _ _ (reading reads_component t r bytes) k
+    ∙ same_after _ _ (reading reads_component t r bytes) k
     ∙ sym (first_in_turn reads_component t (listed items) r bytes)
 
 literal_alike : (own : List ℕ) (r : Record) (bytes : List ℕ) → reading reads_component_v3 (Literal own) r bytes ≡ reading reads_component (Literal own) r bytes
@@ -50,8 +50,8 @@ part_alike c h r bytes = ap (λ (a : Result (Read × List ℕ) Fault). then_read
 items_alike : (text : List ℕ) (items : List Tree) → SpellsRanged text items → IgnoresNothing items → (r : Record) (bytes : List ℕ) → items_read reads_component_v3 items r bytes ≡ items_read reads_component items r bytes
 unfolding each_reads
 items_alike text [] h n r bytes = refl
-items_alike text (Literal own ∷ items) (first, more, parts, one, others) n r bytes = first_alike (Literal own) items (literal_alike own) (items_alike more items others (behind_is_other (Literal own) items n)) r bytes
-items_alike text (Part c ∷ items) (first, more, parts, one, says, others) n r bytes = first_alike (Part c) items (part_alike c (first_is_other c items n)) (items_alike more items others (behind_is_other (Part c) items n)) r bytes
+items_alike text (Literal own ∷ items) (first, more, parts, one, others) n r bytes = first_alike (Literal own) items (literal_alike own) (items_alike more items others (after_is_other (Literal own) items n)) r bytes
+items_alike text (Part c ∷ items) (first, more, parts, one, says, others) n r bytes = first_alike (Part c) items (part_alike c (first_is_other c items n)) (items_alike more items others (after_is_other (Part c) items n)) r bytes
 items_alike text (Compound us ∷ items) h n r bytes = absurd h
 items_alike text (Optional f t ∷ items) h n r bytes = absurd h
 items_alike text (First us ∷ items) h n r bytes = absurd h

@@ -11,7 +11,7 @@ use Rattle.description.proofs.Nodes.{tree_nodes}
 use Rattle.description_grammar.specs.Spelling.{Spells}
 use Rattle.description_strftime.specs.Letters.{is_in, item_of, component_of, text_of, offset, composite, separator, part_of, letter_items}
 use Rattle.description_strftime.specs.Text.{joined}
-use Rattle.description_strftime.specs.Spelled.{SpellsPart, SpellsFront, SpellsStrftime}
+use Rattle.description_strftime.specs.Spelled.{SpellsPart, SpellsPrefix, SpellsStrftime}
 
 -- the root of the tree is left out
 pub items_few : (version : DescriptionVersion) (text : List ℕ) (items : List Tree) → Spells version text items → all_nodes (listed items) ≤ length text
@@ -86,11 +86,11 @@ unfolding all_nodes
 nodes_append [] ts = omega arith
 nodes_append (s ∷ ss) ts = omega (arith, nodes_append ss ts)
 
-front_single : (text : List ℕ) (parts : List (List Tree)) (rest : List ℕ) → SpellsFront text parts rest → AreSingle (joined parts)
+prefix_single : (text : List ℕ) (parts : List (List Tree)) (rest : List ℕ) → SpellsPrefix text parts rest → AreSingle (joined parts)
 unfolding all_nodes
-front_single text [] rest h = refl
-front_single text (part ∷ parts) rest (own, more, is_text, is_part, others) =
-    omega (arith, part_items_single own more part is_part, front_single more parts rest others, nodes_append part (joined parts), length-append part (joined parts))
+prefix_single text [] rest h = refl
+prefix_single text (part ∷ parts) rest (own, more, is_text, is_part, others) =
+    omega (arith, part_items_single own more part is_part, prefix_single more parts rest others, nodes_append part (joined parts), length-append part (joined parts))
 
 pub letters_single : (text : List ℕ) (items : List Tree) → SpellsStrftime text items → all_nodes (listed items) ≡ length items
-letters_single text items h = rw h.all (front_single text h.parts [] h.front)
+letters_single text items h = rw h.all (prefix_single text h.parts [] h.prefix)

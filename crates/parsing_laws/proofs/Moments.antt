@@ -76,10 +76,10 @@ date_place bytes d rest h =
     let three = further 7 1 bytes p.b3 p.b4 two (byte_place _ p.b3 p.b4 p.second) in
     further 8 2 bytes p.b4 rest three (digits_place 2 p.b4 d.2 rest p.day).1
 
--- where the second stands behind a clock, and what follows it
+-- where the second stands after a clock, and what follows it
 record ClockPlace (bytes : List ℕ) (t : ℕ × ℕ × ℕ) (rest : List ℕ) : Type 0 where
   second : digits_value 10 (take 2 (drop 6 bytes)) ≡ t.2
-  behind : drop 8 bytes ≡ rest
+  after : drop 8 bytes ≡ rest
 
 clock_place : (bytes : List ℕ) (t : ℕ × ℕ × ℕ) (rest : List ℕ) → clock false bytes ≡ Ok (t, rest) → ClockPlace bytes t rest
 clock_place bytes t rest h =
@@ -90,7 +90,7 @@ clock_place bytes t rest h =
     let last = digits_place 2 p.b4 t.2 rest p.second in
     record {
       second = rw three last.0;
-      behind = further 6 2 bytes p.b4 rest three last.1;
+      after = further 6 2 bytes p.b4 rest three last.1;
     }
 
 placed : (bytes : List ℕ) (m : Shown) → TextPieces bytes m → Placed bytes m
@@ -103,7 +103,7 @@ placed bytes m p =
     let first : get_or p.b1 0 0 ≡ separator bytes = rw (← ten) (sym (byte_at 10 bytes)) in
     let eleven : drop 11 bytes ≡ p.b2 = further 10 1 bytes p.b1 p.b2 ten (ap (drop 1) split) in
     let clock_at = clock_place p.b2 p.t p.b3 p.clock_read in
-    let nineteen : drop 19 bytes ≡ p.b3 = further 11 8 bytes p.b2 p.b3 eleven clock_at.behind in
+    let nineteen : drop 19 bytes ≡ p.b3 = further 11 8 bytes p.b2 p.b3 eleven clock_at.after in
     let seventeen : drop 17 bytes ≡ drop 6 p.b2 = further 11 6 bytes p.b2 (drop 6 p.b2) eleven refl in
     let fraction = same_fraction p.b3 p.fraction p.n p.b4 p.z [] p.fraction_read p.fraction_is p.offset_read in
     record {
@@ -171,18 +171,18 @@ module _ (bytes : List ℕ) (m : Shown) (q : Placed bytes m) where
       no_time_trails bytes _ (separator bytes) q.p.b2 (q.date ∙ ap (λ (s : List ℕ). Ok ((Ok (OfMonth (pos q.p.d.0) q.month q.p.d.2), Extended), s)) q.first) (no_time (separator bytes) q.p.b2 other)
 
   module _ (is_t : (separator bytes == 84) ≡ true) where
-    behind_t : byte time_designator q.p.b1 ≡ Some (tt, q.p.b2)
-    behind_t = rw q.first (designated (separator bytes) q.p.b2 is_t)
+    after_t : byte time_designator q.p.b1 ≡ Some (tt, q.p.b2)
+    after_t = rw q.first (designated (separator bytes) q.p.b2 is_t)
 
     -- a fraction that fills its second
     full_second : 1_000_000_000 ≤ nanos → value_read (whole bytes) ≡ Err trailing
     full_second full =
-        let refused = refused_time q.p.b1 q.p.b2 q.p.b4 q.p.t q.p.b3 q.p.n q.fraction behind_t q.p.clock_read q.ranges.hour q.ranges.minute q.ranges.second full in
+        let refused = refused_time q.p.b1 q.p.b2 q.p.b4 q.p.t q.p.b3 q.p.n q.fraction after_t q.p.clock_read q.ranges.hour q.ranges.minute q.ranges.second full in
         no_time_trails bytes _ (separator bytes) q.p.b2 (q.date ∙ ap (λ (s : List ℕ). Ok ((Ok (OfMonth (pos q.p.d.0) q.month q.p.d.2), Extended), s)) q.first) (rw q.first at refused)
 
     module _ (small : nanos < 1_000_000_000) where
       time_read : time Extended true q.p.b1 ≡ Some ((time_of q.p.t.0 q.p.t.1 q.p.t.2 nanos, Extended), q.p.b4)
-      time_read = same_time q.p.b1 q.p.b2 q.p.b4 q.p.t q.p.b3 q.p.n q.fraction behind_t q.p.clock_read q.ranges.hour q.ranges.minute q.ranges.second small
+      time_read = same_time q.p.b1 q.p.b2 q.p.b4 q.p.t q.p.b3 q.p.n q.fraction after_t q.p.clock_read q.ranges.hour q.ranges.minute q.ranges.second small
 
       -- a small `z`
       small_zone : q.p.b4 ≡ 122 ∷ [] → value_read (whole bytes) ≡ Err trailing
@@ -230,7 +230,7 @@ module _ (bytes : List ℕ) (m : Shown) (q : Placed bytes m) where
 
   last_is : 0 < length q.p.b4 → last_byte bytes ≡ last_byte q.p.b4
   last_is some =
-      let place : drop (19 + q.fraction.place) bytes ≡ q.p.b4 = further 19 q.fraction.place bytes q.p.b3 q.p.b4 q.at q.fraction.behind in
+      let place : drop (19 + q.fraction.place) bytes ≡ q.p.b4 = further 19 q.fraction.place bytes q.p.b3 q.p.b4 q.at q.fraction.after in
       last_of_rest (19 + q.fraction.place) bytes (rw place some) ∙ ap last_byte place
 
   module _ (is_t : (separator bytes == 84) ≡ true) (fits : fills_second ds ≡ false) (o : SameOffset q.p.b4 q.p.seconds) where

@@ -34,7 +34,7 @@ named_parts leap (Ok d) (Err e) o = refl
 named_parts leap (Err e) t o = refl
 
 -- the offset first, as RFC 3339 has it
-pub offset_first : (leap : Bool) (d : Result ℕ ComponentRange) (t : Result ℕ ComponentRange) (o : Result ℤ ComponentRange) → result_ok (value_read (then_read (resolved o []) (λ offset rest. then_read (end rest) (λ _ behind. then_read (resolved d behind) (λ date after. then_read (resolved t after) (λ time last. resolved (leap_checked leap (record { wall = wall_clock date time; offset = offset })) last)))))) ≡ of_parts leap d t o
+pub offset_first : (leap : Bool) (d : Result ℕ ComponentRange) (t : Result ℕ ComponentRange) (o : Result ℤ ComponentRange) → result_ok (value_read (then_read (resolved o []) (λ offset rest. then_read (end rest) (λ _ later. then_read (resolved d later) (λ date after. then_read (resolved t after) (λ time last. resolved (leap_checked leap (record { wall = wall_clock date time; offset = offset })) last)))))) ≡ of_parts leap d t o
 offset_first leap (Ok d) (Ok t) (Ok o) = checked_read (leap_checked leap (shown d t o)) []
 offset_first leap (Ok d) (Ok t) (Err e) = refl
 offset_first leap (Ok d) (Err e) (Ok o) = refl
@@ -44,7 +44,7 @@ offset_first leap (Err e) (Ok t) (Err f) = refl
 offset_first leap (Err e) (Err g) (Err f) = refl
 
 -- the offset last, as RFC 2822 has it
-pub offset_last : (leap : Bool) (d : Result ℕ ComponentRange) (t : Result ℕ ComponentRange) (o : Result ℤ ComponentRange) → result_ok (value_read (then_read (end []) (λ _ behind. then_read (resolved d behind) (λ date after. then_read (resolved t after) (λ time more. then_read (resolved o more) (λ offset last. resolved (leap_checked leap (record { wall = wall_clock date time; offset = offset })) last)))))) ≡ of_parts leap d t o
+pub offset_last : (leap : Bool) (d : Result ℕ ComponentRange) (t : Result ℕ ComponentRange) (o : Result ℤ ComponentRange) → result_ok (value_read (then_read (end []) (λ _ later. then_read (resolved d later) (λ date after. then_read (resolved t after) (λ time more. then_read (resolved o more) (λ offset last. resolved (leap_checked leap (record { wall = wall_clock date time; offset = offset })) last)))))) ≡ of_parts leap d t o
 offset_last leap (Ok d) (Ok t) (Ok o) = checked_read (leap_checked leap (shown d t o)) []
 offset_last leap (Ok d) (Ok t) (Err e) = refl
 offset_last leap (Ok d) (Err e) o = refl

@@ -28,11 +28,11 @@ unfolding skip_of
 any_place [] rest e = absurd (cc)
 any_place (c ∷ cs) rest e = ap (λ (t : List ℕ). c ∷ t) (ap (λ (x : Unit {0} × List ℕ). x.1) (same (tt, cs) (tt, rest) e))
 
--- a rest behind a rest
+-- a rest after a rest
 pub further : (n m : ℕ) (bytes between rest : List ℕ) → drop n bytes ≡ between → drop m between ≡ rest → drop (n + m) bytes ≡ rest
 further n m bytes between rest e f = sym (drop-drop m n bytes) ∙ ap (drop m) e ∙ f
 
--- the byte at a place is the first one behind it
+-- the byte at a place is the first one after it
 pub byte_at : (n : ℕ) (bytes : List ℕ) → get_or bytes n 0 ≡ get_or (drop n bytes) 0 0
 byte_at zero bytes = refl
 byte_at (suc n) [] = refl

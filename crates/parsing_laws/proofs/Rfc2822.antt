@@ -7,7 +7,7 @@ use Rattle.calendar_count.specs.Month.{month_number}
 use Rattle.calendar_count.specs.declared.component_range.ComponentRange.{ComponentRange}
 use Rattle.parsing_values.specs.NamedDate.{in_range, named_date, by_ordinal, by_day, year_of}
 use Rattle.parsing_values.specs.NamedMoment.{named_moment, dated_moment, named_wall}
-use Rattle.parsing_values.specs.NamedTime.{named_time, named_offset, hour_of, finer_parts, seconds_behind}
+use Rattle.parsing_values.specs.NamedTime.{named_time, named_offset, hour_of, finer_parts, seconds_after}
 use Rattle.parsing_combinator.specs.Fault.{Fault}
 use Rattle.parsing_combinator.specs.Readings.{then_read, value_read}
 use Rattle.parsing_record.specs.Whole.{whole, names, all_read, moment_named}
@@ -50,7 +50,7 @@ time_named h m None = refl
 time_named h m (Some n) = refl
 
 staged_parts : (w : Rfc2822Parts) (hour minute : Option ℤ) → result_ok (moment_named (put_rfc2822 w (holding hour minute))) ≡ of_parts (leaps w) (date w) (time w) (offset w)
-unfolding named_moment dated_moment named_wall named_date by_ordinal by_day year_of named_offset seconds_behind
+unfolding named_moment dated_moment named_wall named_date by_ordinal by_day year_of named_offset seconds_after
 staged_parts w hour minute =
     rw (no_more w.second, time_named w.hour w.minute w.second, same_date w.year (month_number w.month) w.day w.month refl (month_in_range w.month), same_offset w.zone.is_named w.zone.is_negative w.zone.hours w.zone.minutes) (named_parts (leaps w) (date w) (time w) (offset w))
 

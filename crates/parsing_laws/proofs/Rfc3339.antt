@@ -7,7 +7,7 @@ use Rattle.calendar_count.specs.declared.component_range.ComponentRange.{Compone
 use Rattle.datetime_wall.specs.Wall.{Shown}
 use Rattle.parsing_values.specs.NamedDate.{named_date, by_ordinal, by_day, year_of}
 use Rattle.parsing_values.specs.NamedMoment.{named_moment, dated_moment, named_wall}
-use Rattle.parsing_values.specs.NamedTime.{named_time, named_offset, hour_of, finer_parts, seconds_behind}
+use Rattle.parsing_values.specs.NamedTime.{named_time, named_offset, hour_of, finer_parts, seconds_after}
 use Rattle.parsing_combinator.specs.Fault.{Fault}
 use Rattle.parsing_combinator.specs.Readings.{Reading, then_read, resolved, end, value_read}
 use Rattle.parsing_record.specs.Whole.{whole, names, all_read, moment_named}
@@ -48,7 +48,7 @@ unfolding moment_of
 direct_rest w c cs = trailing_by (offset w) c cs _
 
 staged_parts : (w : Rfc3339Parts) (hour minute : Option ℤ) → Numbered w.month → result_ok (moment_named (put_rfc3339 w (holding hour minute))) ≡ of_parts (leaps w) (date w) (time w) (offset w)
-unfolding named_moment dated_moment named_wall named_date by_ordinal by_day year_of named_time named_offset hour_of finer_parts seconds_behind
+unfolding named_moment dated_moment named_wall named_date by_ordinal by_day year_of named_time named_offset hour_of finer_parts seconds_after
 staged_parts w hour minute m =
     rw (m.counted, same_date w.year w.month w.day m.is m.number m.in_range, no_more w.subsecond, same_offset w.zone.is_named w.zone.is_negative w.zone.hours w.zone.minutes) (named_parts (leaps w) (date w) (time w) (offset w))
 

@@ -101,7 +101,7 @@ pub record TextPieces (bytes : List ℕ) (m : Shown) : Type 0 where
   pub checked : leap_checked (t.2 == 60) (shown day time seconds) ≡ Ok m
 
 -- the pieces of the numbers
-record FrontPieces (bytes : List ℕ) (w : Rfc3339Parts) (rest : List ℕ) : Type 0 where
+record PrefixPieces (bytes : List ℕ) (w : Rfc3339Parts) (rest : List ℕ) : Type 0 where
   d : ℕ × ℕ × ℕ
   t : ℕ × ℕ × ℕ
   n : Option ℕ
@@ -117,9 +117,9 @@ record FrontPieces (bytes : List ℕ) (w : Rfc3339Parts) (rest : List ℕ) : Typ
   offset_read : offset false b4 ≡ Ok (z, rest)
   is : made d t n z ≡ w
 
-front_pieces : (bytes : List ℕ) (w : Rfc3339Parts) (rest : List ℕ) → rfc3339 false bytes ≡ Ok (w, rest) → FrontPieces bytes w rest
+prefix_pieces : (bytes : List ℕ) (w : Rfc3339Parts) (rest : List ℕ) → rfc3339 false bytes ≡ Ok (w, rest) → PrefixPieces bytes w rest
 unfolding rfc3339
-front_pieces b0 w rest h =
+prefix_pieces b0 w rest h =
     due_part (date false b0) _ (w, rest) h (λ d b1 e1 k1.
     due_piece _ (any_byte b1) _ (w, rest) k1 (λ x b2 e2 k2.
     due_part (clock false b2) _ (w, rest) k2 (λ t b3 e3 k3.
@@ -149,7 +149,7 @@ named_parts w rest m last h =
     due_value (leap_time_of w.hour w.minute w.second (unwrap_or w.subsecond 0)) [] (λ time. resolved (leap_checked (w.second == 60) (shown day time seconds))) (m, last) h4 (λ time ht h5.
     record { seconds = seconds; day = day; time = time; none = none; offset_named = ho; date_named = hd; time_named = ht; checked = last_value (leap_checked (w.second == 60) (shown day time seconds)) [] (m, last) h5 }))))
 
-joined : (bytes : List ℕ) (m : Shown) (w : Rfc3339Parts) (rest : List ℕ) → FrontPieces bytes w rest → NamedParts w rest m → TextPieces bytes m
+joined : (bytes : List ℕ) (m : Shown) (w : Rfc3339Parts) (rest : List ℕ) → PrefixPieces bytes w rest → NamedParts w rest m → TextPieces bytes m
 joined bytes m w rest f v =
     record {
       d = f.d;
@@ -181,4 +181,4 @@ unfolding direct moment
 text_pieces b0 m h =
     due_whole (moment b0) m h (λ last h0.
     due_part (rfc3339 false b0) moment_of (m, last) h0 (λ w rest hw h1.
-    joined b0 m w rest (front_pieces b0 w rest hw) (named_parts w rest m last h1)))
+    joined b0 m w rest (prefix_pieces b0 w rest hw) (named_parts w rest m last h1)))

@@ -55,7 +55,7 @@ two_last (a ∷ b ∷ []) v e =
     record { some = omega arith; large = grind (arith, nat_tests) }
 two_last (a ∷ b ∷ c ∷ cs) v e = absurd (let left = ap (λ (x : ℕ × List ℕ). x.1) (passed_value (leb 2 (digit_count (a ∷ b ∷ c ∷ cs))) (digits_value 10 (a ∷ b ∷ []), c ∷ cs) (v, []) e) in cc)
 
--- the same, behind other pieces
+-- the same, after other pieces
 ends_later : (n : ℕ) (bytes rest : List ℕ) → drop n bytes ≡ rest → EndsInDigits rest → EndsInDigits bytes
 ends_later n bytes rest e h =
     let some : 0 < length (drop n bytes) = rw e h.some in

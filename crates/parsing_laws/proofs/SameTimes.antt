@@ -9,7 +9,7 @@ use Rattle.std.proofs.lemmas.Int.Digits.{digits_value-lt}
 use Rattle.std.proofs.Math.Nat.{one-le-pow, mul-lt-mul_of_pos_right}
 use Rattle.std.proofs.lemmas.Nat.{div_below}
 use Rattle.std.proofs.lemmas.Bool.{cases_Bool}
-use Rattle.parsing_combinator.proofs.Decimal.{count_front}
+use Rattle.parsing_combinator.proofs.Decimal.{count_prefix}
 use Rattle.parsing_combinator.proofs.FractionDigits.{all_digits}
 use Rattle.parsing_combinator.specs.Pieces.{digits, digit_count, digit_run, fraction, nanoseconds_of, byte, skip_of, byte_of}
 use Rattle.parsing_combinator.specs.declared.zone.Zone.{Zone}
@@ -22,12 +22,12 @@ use Rattle.parsing_iso8601.specs.Times.{time_of, subsecond_of, time, designator,
 use Rattle.parsing_iso8601.proofs.Pieces.{same, passed, not_passed, fraction_run}
 use Rattle.parsing_iso8601.proofs.FastTimes.{time_of_pieces, number_of, before_colon}
 use Rattle.parsing_iso8601.proofs.Rounding.{rounded}
-use Rattle.parsing_laws.specs.TwoFormats.{digits_behind, rounds_up}
+use Rattle.parsing_laws.specs.TwoFormats.{digits_after, rounds_up}
 use Rattle.parsing_laws.proofs.Inversion.{due_piece, same_end}
 use Rattle.parsing_laws.proofs.Places.{byte_place, further}
 use Rattle.parsing_laws.proofs.RfcPieces.{clock_pieces}
 
--- another byte than `T` begins no time of day behind a date
+-- another byte than `T` begins no time of day after a date
 pub no_time : (c : ℕ) (cs : List ℕ) → (c == 84) ≡ false → time Extended true (c ∷ cs) ≡ None
 unfolding time designator skip_of
 no_time c cs other = rw other refl
@@ -51,9 +51,9 @@ pub record SameFraction (bytes : List ℕ) (n : ℕ) (rest : List ℕ) : Type 0 
   pub run : Option (List ℕ)
   pub read : fraction_digits bytes ≡ Some (run, rest)
   pub value : cut_of run ≡ n
-  pub digits : digits_behind (byte dot bytes) ≡ run_of run
+  pub digits : digits_after (byte dot bytes) ≡ run_of run
   pub place : ℕ
-  pub behind : drop place bytes ≡ rest
+  pub after : drop place bytes ≡ rest
 
 run_is : (bytes run rest : List ℕ) → digit_run bytes ≡ Some (run, rest) → take (digit_count bytes) bytes ≡ run
 unfolding digit_run
@@ -64,7 +64,7 @@ unfolding digit_run
 run_rest bytes run rest e = ap (λ (x : List ℕ × List ℕ). x.1) (not_passed (digit_count bytes == 0) (take (digit_count bytes) bytes, drop (digit_count bytes) bytes) (run, rest) e)
 
 run_digits : (bytes run rest : List ℕ) → digit_run bytes ≡ Some (run, rest) → digit_count run ≡ length run
-run_digits bytes run rest e = let is = run_is bytes run rest e in rw (← is) (count_front bytes (digit_count bytes) (omega arith))
+run_digits bytes run rest e = let is = run_is bytes run rest e in rw (← is) (count_prefix bytes (digit_count bytes) (omega arith))
 
 quotient_below : (v p q : ℕ) → 0 < p → 0 < q → v < p → v * q / p < q
 quotient_below v p q some more less = div_below (v * q) p q some (let product : v * q < p * q = mul-lt-mul_of_pos_right less more in omega (arith, product))
@@ -89,12 +89,12 @@ unfolding decimal_mark skip_of
 zone_unmarked [] z last h = refl
 zone_unmarked (c ∷ cs) z last h = rw (zone_first c cs z last h) refl
 
-point_marks : (bytes behind : List ℕ) → byte dot bytes ≡ Some (tt, behind) → decimal_mark bytes ≡ Some (tt, behind)
+point_marks : (bytes after : List ℕ) → byte dot bytes ≡ Some (tt, after) → decimal_mark bytes ≡ Some (tt, after)
 unfolding decimal_mark skip_of
-point_marks [] behind e = absurd (cc)
-point_marks (c ∷ cs) behind e =
+point_marks [] after e = absurd (cc)
+point_marks (c ∷ cs) after e =
     let is : (c == 46) ≡ true = passed (c == 46) _ _ e in
-    let left : cs ≡ behind = ap (λ (x : Unit {0} × List ℕ). x.1) (same (tt, cs) (tt, behind) (rw is at e)) in
+    let left : cs ≡ after = ap (λ (x : Unit {0} × List ℕ). x.1) (same (tt, cs) (tt, after) (rw is at e)) in
     let t : ((c == 46) || (c == 44)) ≡ true = grind (arith, nat_tests) in
     rw t (ap (λ (s : List ℕ). Some (tt, s)) left)
 
@@ -104,13 +104,13 @@ without_point bytes o n rest none point h is =
     let e : (None, bytes) ≡ (o, rest) = same_end (None, bytes) (o, rest) (rw point at h) in
     let value : 0 ≡ n = ap (λ (x : Option ℕ × List ℕ). unwrap_or x.0 0) e ∙ is in
     let left : bytes ≡ rest = ap (λ (x : Option ℕ × List ℕ). x.1) e in
-    record { below = rw (← value) (lit< tt); run = None; read = rw none (ap (λ (s : List ℕ). Some (None, s)) left); value = value; digits = rw point refl; place = 0; behind = left }
+    record { below = rw (← value) (lit< tt); run = None; read = rw none (ap (λ (s : List ℕ). Some (None, s)) left); value = value; digits = rw point refl; place = 0; after = left }
 
-with_point : (bytes behind : List ℕ) (n : ℕ) (rest : List ℕ) → byte dot bytes ≡ Some (tt, behind) → fraction behind ≡ Some (n, rest) → SameFraction bytes n rest
+with_point : (bytes after : List ℕ) (n : ℕ) (rest : List ℕ) → byte dot bytes ≡ Some (tt, after) → fraction after ≡ Some (n, rest) → SameFraction bytes n rest
 unfolding fraction_digits due_digits
-with_point bytes behind n rest point h =
-    fraction_run behind n rest h (λ run e is.
-    record { below = rw (← is) (below_second run (run_digits behind run rest e)); run = Some run; read = rw (point_marks bytes behind point) (rw e refl); value = is; digits = rw point (run_is behind run rest e); place = 1 + digit_count behind; behind = further 1 (digit_count behind) bytes behind rest (byte_place dot bytes behind point) (run_rest behind run rest e) })
+with_point bytes after n rest point h =
+    fraction_run after n rest h (λ run e is.
+    record { below = rw (← is) (below_second run (run_digits after run rest e)); run = Some run; read = rw (point_marks bytes after point) (rw e refl); value = is; digits = rw point (run_is after run rest e); place = 1 + digit_count after; after = further 1 (digit_count after) bytes after rest (byte_place dot bytes after point) (run_rest after run rest e) })
 
 fraction_by : (bytes : List ℕ) (o : Option ℕ) (n : ℕ) (rest : List ℕ) (z : Zone) (last : List ℕ) (point : Option (Unit {0} × List ℕ)) → byte dot bytes ≡ point → subsecond bytes ≡ Ok (o, rest) → unwrap_or o 0 ≡ n → offset false rest ≡ Ok (z, last) → SameFraction bytes n rest
 unfolding subsecond due_fraction
@@ -119,10 +119,10 @@ fraction_by bytes o n rest z last None e h is zone =
     let left : bytes ≡ rest = ap (λ (x : Option ℕ × List ℕ). x.1) none in
     without_point bytes o n rest (zone_unmarked bytes z last (rw left zone)) e h is
 fraction_by bytes o n rest z last (Some x) e h is zone =
-    due_piece _ (fraction x.1) _ (o, rest) (rw e at h) (λ v behind p k.
-    let there : (Some v, behind) ≡ (o, rest) = same_end (Some v, behind) (o, rest) k in
+    due_piece _ (fraction x.1) _ (o, rest) (rw e at h) (λ v after p k.
+    let there : (Some v, after) ≡ (o, rest) = same_end (Some v, after) (o, rest) k in
     let value : v ≡ n = ap (λ (y : Option ℕ × List ℕ). unwrap_or y.0 0) there ∙ is in
-    let left : behind ≡ rest = ap (λ (y : Option ℕ × List ℕ). y.1) there in
+    let left : after ≡ rest = ap (λ (y : Option ℕ × List ℕ). y.1) there in
     with_point bytes x.1 n rest e (rw (← value, ← left) p))
 
 pub same_fraction : (bytes : List ℕ) (o : Option ℕ) (n : ℕ) (rest : List ℕ) (z : Zone) (last : List ℕ) → subsecond bytes ≡ Ok (o, rest) → unwrap_or o 0 ≡ n → offset false rest ≡ Ok (z, last) → SameFraction bytes n rest

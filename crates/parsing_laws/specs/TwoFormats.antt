@@ -1,4 +1,4 @@
--- Texts of RFC 3339 as ISO 8601 reads them, with an assumed offset or none. The date has ten bytes, the time to the second ends behind byte 18, and the zone is last.
+-- Texts of RFC 3339 as ISO 8601 reads them, with an assumed offset or none. The date has ten bytes, the time to the second ends after byte 18, and the zone is last.
 use Rattle.std.specs.Prelude.{◌≡◌, ℕ, ◌-◌, ◌*◌, ◌%◌, ◌^◌, ◌==◌, ◌&&◌, Bool, true, false, not, List, [], length, get_or, take, drop, Option, Some, None, nat_le, if◌then◌else◌, Ok, IfSome, pos, ◌+ℤ◌}
 use Rattle.std.specs.Result.{IsErr}
 use Rattle.std.specs.Str.Parse.{digits_value}
@@ -22,13 +22,13 @@ last_byte bytes = get_or bytes (length bytes - 1) 0
 abbrev pub second_of : List ℕ → ℕ
 second_of bytes = digits_value 10 (take 2 (drop 17 bytes))
 
-abbrev pub digits_behind : Option (Unit {0} × List ℕ) → List ℕ
-digits_behind None = []
-digits_behind (Some x) = take (digit_count x.1) x.1
+abbrev pub digits_after : Option (Unit {0} × List ℕ) → List ℕ
+digits_after None = []
+digits_after (Some x) = take (digit_count x.1) x.1
 
--- the digits of the fraction, behind a point that may follow the second
+-- the digits of the fraction, after a point that may follow the second
 unfoldable pub fraction_of : List ℕ → List ℕ
-fraction_of bytes = digits_behind (byte dot (drop 19 bytes))
+fraction_of bytes = digits_after (byte dot (drop 19 bytes))
 
 -- what is left of the last whole nanosecond is at least its half
 unfoldable pub rounds_up : List ℕ → Bool

@@ -9,7 +9,7 @@ use Rattle.parsing_record.specs.Reads.{each_reads}
 use Rattle.parsing_record.specs.Record.{Record}
 use Rattle.parsing_record.specs.Whole.{whole, names, moment_named}
 
--- items, one behind the other, as versions 1 and 2 and strftime write them
+-- items, one after the other, as versions 1 and 2 and strftime write them
 abbrev pub reads_in_turn : List Tree → Counted
 reads_in_turn items = all_of (each_reads reads_component (listed items))
 

@@ -1,4 +1,4 @@
-//! Reading by items, one behind the other.
+//! Reading by items, one after the other.
 ghost use Rattle.description_items.specs.Tree.{trees};
 ghost use Rattle.parsing_parsable.specs.Moment.{moment_by, reads_in_turn};
 
@@ -8,7 +8,7 @@ use description_items::BorrowedFormatItem;
 use parsing_combinator::Parse;
 use parsing_record::{ItemTally, Parsed};
 
-/// Items, one behind the other, as a text of versions 1 and 2 and of strftime spells them.
+/// Items, one after the other, as a text of versions 1 and 2 and of strftime spells them.
 #[derive(Clone, Copy)]
 pub struct Items<'a>(
     /// The items, in the order in which they are read.

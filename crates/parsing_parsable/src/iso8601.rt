@@ -77,7 +77,7 @@ fn set_parts(parts: &Iso8601Parts, parsed: &mut Parsed)
     }
 }
 
-/// Reads a date, a time of day and an offset of ISO 8601, each of which may be missing, at the front of the bytes into
+/// Reads a date, a time of day and an offset of ISO 8601, each of which may be missing, at the start of the bytes into
 /// the record, and returns the rest.
 ///
 /// A refusal changes nothing. What the text does not say stays as it was; a second 60 may stand for a leap second

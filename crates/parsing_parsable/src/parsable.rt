@@ -41,7 +41,7 @@ pub trait Parsable {
     // format with a reading of its own.
     ghost moment: { Self → List ℕ → Result Shown Fault };
 
-    /// Reads the front of the bytes into the record, and returns the rest. A refusal leaves the record as it was.
+    /// Reads the prefix of the bytes into the record, and returns the rest. A refusal leaves the record as it was.
     fn parse_into<'a>(&self, input: &'a [u8], parsed: &mut Parsed) -> Result<&'a [u8], Parse>
         ensures reads { ReadsInto result parsed.old parsed.new
             (reading self.now parsed.old input.now).0 }

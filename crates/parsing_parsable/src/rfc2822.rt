@@ -39,7 +39,7 @@ fn set_parts(parts: &Rfc2822Parts, parsed: &mut Parsed)
     parsed.permit_leap_second();
 }
 
-/// Reads a date-time of RFC 2822, section 3.3, at the front of the bytes into the record, and returns the rest.
+/// Reads a date-time of RFC 2822, section 3.3, at the start of the bytes into the record, and returns the rest.
 ///
 /// A refusal changes nothing. What the text does not say stays as it was; a second 60 may stand for a leap second
 /// afterwards.

@@ -38,16 +38,16 @@ abbrev pub digit : List ℕ → List ℕ → List ℕ → List ℕ → List ℕ 
 digit fl fh fm bl bh bm back_at lane place most =
     cond (nat_lt (get_or fm lane 0) 128) (takes fl fh fm lane place most && nat_le 128 (get_or bm lane 0)) (nat_le back_at place && takes bl bh bm lane (place - back_at) most)
 
-pub digit_is : (front back : Window) (back_at lane place most : ℕ) → digit front.low front.high front.taken.lanes back.low back.high back.taken.lanes back_at lane place most ≡ true → TakesDigit front back back_at lane place most
-digit_is front back back_at lane place most e = record {
+pub digit_is : (prefix back : Window) (back_at lane place most : ℕ) → digit prefix.low prefix.high prefix.taken.lanes back.low back.high back.taken.lanes back_at lane place most ≡ true → TakesDigit prefix back back_at lane place most
+digit_is prefix back back_at lane place most e = record {
   here = λ small.
-      let both : (takes front.low front.high front.taken.lanes lane place most && nat_le 128 (get_or back.taken.lanes lane 0)) ≡ true = grind (arith, nat_tests, e, small) in
+      let both : (takes prefix.low prefix.high prefix.taken.lanes lane place most && nat_le 128 (get_or back.taken.lanes lane 0)) ≡ true = grind (arith, nat_tests, e, small) in
       let free : nat_le 128 (get_or back.taken.lanes lane 0) ≡ true = (both_are _ _ both).1 in
-      record { takes = takes_is front lane place most (both_are _ _ both).0; alone = grind (arith, nat_tests, free) };
+      record { takes = takes_is prefix lane place most (both_are _ _ both).0; alone = grind (arith, nat_tests, free) };
   there = λ large.
       let both : (nat_le back_at place && takes back.low back.high back.taken.lanes lane (place - back_at) most) ≡ true = grind (arith, nat_tests, e, large) in
-      let behind : nat_le back_at place ≡ true = (both_are _ _ both).0 in
-      let le : back_at ≤ place = grind (arith, nat_tests, behind) in
-      let from : TakesFrom back front lane (place - back_at) most = record { takes = takes_is back lane (place - back_at) most (both_are _ _ both).1; alone = large } in
+      let after : nat_le back_at place ≡ true = (both_are _ _ both).0 in
+      let le : back_at ≤ place = grind (arith, nat_tests, after) in
+      let from : TakesFrom back prefix lane (place - back_at) most = record { takes = takes_is back lane (place - back_at) most (both_are _ _ both).1; alone = large } in
       (le, from);
 }

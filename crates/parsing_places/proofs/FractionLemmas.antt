@@ -24,7 +24,7 @@ same_all (x ∷ xs) (y ∷ ys) n h =
     let rest : xs ≡ ys = same_all xs ys (omega (arith, n)) (λ k lt. h (suc k) (omega (arith, lt))) in
     cc
 
--- digits in front are counted
+-- digits before are counted
 counted : (xs : List ℕ) (n : ℕ) → n ≤ length xs → ((k : ℕ) → k < n → is_ascii_digit (get_or xs k 0) ≡ true) → n ≤ digit_count xs
 counted xs zero le h = omega arith
 counted [] (suc n) le h = absurd (omega (arith, le))
@@ -74,18 +74,18 @@ fraction_in bytes f count first last few within n small low high same zeros is e
     let long : length (take 9 f) ≡ 9 = length-take-le 9 f (omega (arith, n)) in
     let run : List ℕ = take count bytes in
     let run_long : length run ≡ count = length-take-le count bytes within in
-    let front : take count (take 9 f) ≡ run = same_all (take count (take 9 f)) run (length-take-le count (take 9 f) (omega (arith, long, few)) ∙ sym run_long)
+    let prefix : take count (take 9 f) ≡ run = same_all (take count (take 9 f)) run (length-take-le count (take 9 f) (omega (arith, long, few)) ∙ sym run_long)
     (λ k lt. let lt' : k < count = omega (arith, lt, length-take-le count (take 9 f) (omega (arith, long, few))) in
     get_or-take count (take 9 f) k 0 lt' ∙ get_or-take 9 f k 0 (omega (arith, lt', few)) ∙ same k lt' ∙ sym (get_or-take count bytes k 0 lt')) in
-    let behind_long : length (drop count (take 9 f)) ≡ 9 - count = omega (arith, length-drop count (take 9 f), long) in
-    let behind : drop count (take 9 f) ≡ replicate (9 - count) 48 = same_all (drop count (take 9 f)) (replicate (9 - count) 48) (behind_long ∙ sym (length-replicate (9 - count) 48))
-    (λ k lt. let lt' : k < 9 - count = omega (arith, lt, behind_long) in
+    let after_long : length (drop count (take 9 f)) ≡ 9 - count = omega (arith, length-drop count (take 9 f), long) in
+    let after : drop count (take 9 f) ≡ replicate (9 - count) 48 = same_all (drop count (take 9 f)) (replicate (9 - count) 48) (after_long ∙ sym (length-replicate (9 - count) 48))
+    (λ k lt. let lt' : k < 9 - count = omega (arith, lt, after_long) in
     get_or-drop count (take 9 f) k 0 ∙ get_or-take 9 f (count + k) 0 (omega (arith, lt')) ∙ zeros (count + k) (omega arith) (omega (arith, lt')) ∙ sym (get_or-replicate (9 - count) k 48 0 lt')) in
-    let split : take 9 f ≡ run ++ replicate (9 - count) 48 = sym (take-append-drop count (take 9 f)) ∙ rw (front, behind) refl in
+    let split : take 9 f ≡ run ++ replicate (9 - count) 48 = sym (take-append-drop count (take 9 f)) ∙ rw (prefix, after) refl in
     let value : digits_value 10 (run ++ replicate (9 - count) 48) ≡ digits_value 10 run * 10 ^ (9 - count) = value_append 0 run (replicate (9 - count) 48) ∙ zeros_after (digits_value 10 run) (9 - count) in
     let nanos : digits_value 10 run * 10 ^ (9 - count) ≡ nanoseconds_of run = ap (λ (m : ℕ). digits_value 10 run * 10 ^ (9 - m)) (sym run_long) ∙ short_fraction run (omega (arith, run_long, few)) in
     let digit : (k : ℕ) → k < 9 → is_ascii_digit (get_or (take 9 f) k 0) ≡ true = (λ k lt. rw (get_or-take 9 f k 0 lt) (elim (cases_lt k count) [
-      | inl front ↦ rw (same k front) (is_digit (get_or bytes k 0) (low k front) (high k front))
+      | inl prefix ↦ rw (same k prefix) (is_digit (get_or bytes k 0) (low k prefix) (high k prefix))
       | inr back ↦ rw (zeros k back lt) refl
     ])) in
     let all : 9 ≤ digit_count (take 9 f) = counted (take 9 f) 9 (omega (arith, long)) digit in

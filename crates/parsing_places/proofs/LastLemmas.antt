@@ -21,13 +21,13 @@ module _ (last : LastBytes) (moves : List ℕ) (count : ℕ) (near : count + las
   slid_place k lt = slid k (omega (arith, lt, near)) ∙ last.before (16 - last.length - count + k) (omega (arith, lt, near))
 
   pub slid_none : (k : ℕ) → count ≤ k → k < 16 → 128 ≤ get_or moves k 0
-  slid_none k le lt = rw (slid k lt) (last.behind (16 - last.length - count + k) (omega (arith, le, near)) (omega (arith, lt, near)))
+  slid_none k le lt = rw (slid k lt) (last.after (16 - last.length - count + k) (omega (arith, le, near)) (omega (arith, lt, near)))
 
   pub slid_moves : are_moves moves ≡ true
   slid_moves = moves_all moves (λ k lt high.
       let small : k < 16 = omega (arith, lt, n) in
       elim (cases_lt k count) [
-        | inl front ↦ absurd (omega (arith, high, slid_place k front, front, near))
+        | inl prefix ↦ absurd (omega (arith, high, slid_place k prefix, prefix, near))
         | inr back ↦ slid_none k back small
       ])
 

@@ -42,15 +42,15 @@ module _ (w : Windows) (text v n : List ℕ) (h : Taken w text v) where
 
   pub nothing_taken : (j : ℕ) → j < 8 → SpareTwo w (2 * j) → PairedAt v n j → get_or n (2 * j) 0 ≡ 0
   nothing_taken j lt spared paired =
-      let first = h.none (2 * j) (omega (arith, lt)) (record { front_free = spared.first_front; back_free = spared.first_back }) in
-      let second = h.none (2 * j + 1) (omega (arith, lt)) (record { front_free = spared.second_front; back_free = spared.second_back }) in
+      let first = h.none (2 * j) (omega (arith, lt)) (record { prefix_free = spared.first_prefix; back_free = spared.first_back }) in
+      let second = h.none (2 * j + 1) (omega (arith, lt)) (record { prefix_free = spared.second_prefix; back_free = spared.second_back }) in
       omega (arith, paired (omega (arith, first)) (omega (arith, second)), first, second)
 
   pub sign_taken : (place : ℕ) → ((k : ℕ) → get_or text k 0 < 256) → TakeSign w place → PairedAt v n 6 → SignAt text place (get_or n 12 0)
   sign_taken place small s paired =
-      let there : w.back_at + (place - w.back_at) ≡ place = omega (arith, s.behind) in
+      let there : w.back_at + (place - w.back_at) ≡ place = omega (arith, s.after) in
       let twelve = h.none 12 (lit< tt) s.alone in
-      let thirteen : get_or v 13 0 ≡ above (get_or text place 0) 43 = rw (there, s.low) at (h.raw 13 (place - w.back_at) (lit< tt) s.front_free s.inside s.is_there) in
+      let thirteen : get_or v 13 0 ≡ above (get_or text place 0) 43 = rw (there, s.low) at (h.raw 13 (place - w.back_at) (lit< tt) s.prefix_free s.inside s.is_there) in
       let within : above (get_or text place 0) 43 ≤ 2 = omega (arith, rw (there, s.low) at (h.back_lies (place - w.back_at) s.inside), s.high) in
       let byte = sign_byte (get_or text place 0) (small _) within in
       let sum : get_or n 12 0 ≡ get_or v 12 0 * 10 + get_or v 13 0 = paired (omega (arith, twelve)) (omega (arith, thirteen, within)) in
@@ -68,21 +68,21 @@ pub byte_within : (w : Windows) (text v : List ℕ) (place low most : ℕ) → T
 byte_within w text v place low most h small lets sum = elim (cases_lt place 16) [
   | inl near ↦
       let same : 0 + place ≡ place = omega arith in
-      rw same at (in_window w.front text 0 place low most small h.front_lies (lets.here near) sum)
+      rw same at (in_window w.prefix text 0 place low most small h.prefix_lies (lets.here near) sum)
   | inr far ↦
       let there = lets.there far in
       let same : w.back_at + (place - w.back_at) ≡ place = omega (arith, there.0) in
       rw same at (in_window w.back text w.back_at (place - w.back_at) low most small h.back_lies there.1 sum)
 ]
 
--- ---- a text with zeros behind it
+-- ---- a text with zeros after it
 
 not_past : (text : List ℕ) (place : ℕ) → 48 ≤ get_or text place 0 → place < length text
 not_past text place low = elim (cases_lt place (length text)) [ inl lt ↦ lt | inr le ↦ absurd (omega (arith, low, get_or_past text place 0 le)) ]
 
 pub of_padded : (w : Windows) (text bytes v : List ℕ) → ((k : ℕ) → get_or bytes k 0 ≡ get_or text k 0) → w.back_at ≡ 0 → Taken w bytes v → Taken w text v
-of_padded w text bytes v same front h = record {
-  front_lies = λ k lt. rw (same (0 + k)) at (h.front_lies k lt);
+of_padded w text bytes v same prefix h = record {
+  prefix_lies = λ k lt. rw (same (0 + k)) at (h.prefix_lies k lt);
   back_lies = λ k lt. rw (same (w.back_at + k)) at (h.back_lies k lt);
   taken = λ lane place most lt few takes.
       let d = h.taken lane place most lt few takes in

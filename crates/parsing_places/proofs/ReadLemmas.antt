@@ -51,13 +51,13 @@ digit_in one text at a t lane place most seen lt few takes =
 pub same_lane : (t v text : List ℕ) (lane place most : ℕ) → get_or v lane 0 ≡ get_or t lane 0 → IsDigitAt t lane text place most → IsDigitAt v lane text place most
 same_lane t v text lane place most e d = record { room = d.room; digit = d.digit; value = e ∙ d.value; few = omega (arith, e, d.few) }
 
-pub digit_taken : (front back : Window) (text : List ℕ) (back_at : ℕ) (fa ft ba bt v : List ℕ) (lane place most : ℕ) → Seen front text 0 fa ft → Seen back text back_at ba bt → ((k : ℕ) → k < 16 → get_or v k 0 ≡ bit_or (get_or ft k 0) (get_or bt k 0)) → lane < 16 → most ≤ 9 → TakesDigit front back back_at lane place most → IsDigitAt v lane text place most
-digit_taken front back text back_at fa ft ba bt v lane place most f b joined lt few takes = elim (cases_lt (get_or front.taken.lanes lane 0) 128) [
+pub digit_taken : (prefix back : Window) (text : List ℕ) (back_at : ℕ) (fa ft ba bt v : List ℕ) (lane place most : ℕ) → Seen prefix text 0 fa ft → Seen back text back_at ba bt → ((k : ℕ) → k < 16 → get_or v k 0 ≡ bit_or (get_or ft k 0) (get_or bt k 0)) → lane < 16 → most ≤ 9 → TakesDigit prefix back back_at lane place most → IsDigitAt v lane text place most
+digit_taken prefix back text back_at fa ft ba bt v lane place most f b joined lt few takes = elim (cases_lt (get_or prefix.taken.lanes lane 0) 128) [
   | inl small ↦
       let from = takes.here small in
       let nothing : get_or bt lane 0 ≡ 0 = b.none lane lt from.alone in
       let same : 0 + place ≡ place = omega arith in
-      same_lane ft v text lane place most (joined lane lt ∙ rw nothing (or_zero (get_or ft lane 0))) (rw same at (digit_in front text 0 fa ft lane place most f lt few from.takes))
+      same_lane ft v text lane place most (joined lane lt ∙ rw nothing (or_zero (get_or ft lane 0))) (rw same at (digit_in prefix text 0 fa ft lane place most f lt few from.takes))
   | inr large ↦
       let there = takes.there large in
       let from = there.1 in

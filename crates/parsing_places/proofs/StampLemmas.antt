@@ -16,11 +16,11 @@ use Rattle.parsing_places.proofs.SumLemmas.{minus_is, sign_of}
 said : (text : List ℕ) (place number most : ℕ) → Pair text place number most → SaysTwo text place number
 said text place number most p = record { pair = p.pair; number_is = p.written }
 
-module _ (shape : NamedShape) (text v n : List ℕ) (h : HaveDigits shape.front shape.back shape.back_at text v) (paired : Paired v n) (small : (k : ℕ) → get_or text k 0 < 256) where
-  two_at : (j place most : ℕ) → j < 8 → most ≤ 9 → TakesPair shape.front shape.back shape.back_at (2 * j) place most → Pair text place (get_or n (2 * j) 0) most
-  two_at j place most lt few takes = two_taken (record { front = shape.front; back = shape.back; back_at = shape.back_at }) text v n h j place most lt few takes (paired j lt)
+module _ (shape : NamedShape) (text v n : List ℕ) (h : HaveDigits shape.prefix shape.back shape.back_at text v) (paired : Paired v n) (small : (k : ℕ) → get_or text k 0 < 256) where
+  two_at : (j place most : ℕ) → j < 8 → most ≤ 9 → TakesPair shape.prefix shape.back shape.back_at (2 * j) place most → Pair text place (get_or n (2 * j) 0) most
+  two_at j place most lt few takes = two_taken (record { prefix = shape.prefix; back = shape.back; back_at = shape.back_at }) text v n h j place most lt few takes (paired j lt)
 
-  day_of : (has_tens : Bool) → (has_tens ≡ true → TakesDigit shape.front shape.back shape.back_at 2 (shape.day - 1) 9) → (has_tens ≡ false → TakesNone shape.front shape.back 2) → SaysDay has_tens text shape.day (get_or n 2 0)
+  day_of : (has_tens : Bool) → (has_tens ≡ true → TakesDigit shape.prefix shape.back shape.back_at 2 (shape.day - 1) 9) → (has_tens ≡ false → TakesNone shape.prefix shape.back 2) → SaysDay has_tens text shape.day (get_or n 2 0)
   day_of true tens none =
       let first = h.taken 2 (shape.day - 1) 9 (lit< tt) (lit≤ tt) (tens refl) in
       let second = h.taken 3 shape.day 9 (lit< tt) (lit≤ tt) shape.ones in
@@ -53,7 +53,7 @@ module _ (shape : NamedShape) (text v n : List ℕ) (h : HaveDigits shape.front 
       let offset_hour = two_at 4 (shape.sign + 1) 9 (lit< tt) (lit≤ tt) shape.offset_hour in
       let offset_minute = two_at 5 (shape.sign + 3) 5 (lit< tt) (lit≤ tt) shape.offset_minute in
       let second = two_at 7 shape.second 5 (lit< tt) (lit≤ tt) shape.second_is in
-      let windows : Windows = record { front = shape.front; back = shape.back; back_at = shape.back_at } in
+      let windows : Windows = record { prefix = shape.prefix; back = shape.back; back_at = shape.back_at } in
       let sign = sign_taken windows text v n h shape.sign small shape.sign_is (paired 6 (lit< tt)) in
       let no_month = nothing_taken windows text v n h 0 (lit< tt) shape.no_month (paired 0 (lit< tt)) in
       record {
@@ -64,7 +64,7 @@ module _ (shape : NamedShape) (text v n : List ℕ) (h : HaveDigits shape.front 
         offset_minute = get_or n 10 0;
         second = get_or n 14 0;
         sign = get_or n 12 0;
-        front_lies = h.front_lies;
+        prefix_lies = h.prefix_lies;
         back_lies = h.back_lies;
         day_is = day_of shape.has_tens shape.tens shape.no_tens;
         hour_is = said _ _ _ _ hour;
@@ -98,7 +98,7 @@ stamp_says shape text days minutes offset seconds year negative o h long century
       hour = h.hour;
       minute = h.minute;
       long = long;
-      front = h.front_lies;
+      prefix = h.prefix_lies;
       back = h.back_lies;
       century = century;
       last_two = last_two;

@@ -49,21 +49,21 @@ one_there text place lt d =
     digits_one (drop place text) ∙ rw (long, first_at text place, is_digit (get_or text place 0) d.low d.high, drop-drop 1 place text) refl
 
 module _ (shape : Shape) (tail : Tail) (text v f n : List ℕ) (h : HaveLanes shape tail text v f) (paired : Paired v n) (small : (k : ℕ) → get_or text k 0 < 256) where
-  front_pair : (j place most : ℕ) → j < 8 → most ≤ 9 → 128 ≤ get_or tail.window.taken.lanes (2 * j) 0 → 128 ≤ get_or tail.window.taken.lanes (2 * j + 1) 0 → TakesPair shape.front shape.back shape.back_at (2 * j) place most → Pair text place (get_or n (2 * j) 0) most
-  front_pair j place most lt few free free' takes =
-      let first = h.front (2 * j) place most (omega (arith, lt)) few free takes.first in
-      let second = h.front (2 * j + 1) (place + 1) 9 (omega (arith, lt)) (lit≤ tt) free' takes.second in
+  prefix_pair : (j place most : ℕ) → j < 8 → most ≤ 9 → 128 ≤ get_or tail.window.taken.lanes (2 * j) 0 → 128 ≤ get_or tail.window.taken.lanes (2 * j + 1) 0 → TakesPair shape.prefix shape.back shape.back_at (2 * j) place most → Pair text place (get_or n (2 * j) 0) most
+  prefix_pair j place most lt few free free' takes =
+      let first = h.prefix (2 * j) place most (omega (arith, lt)) few free takes.first in
+      let second = h.prefix (2 * j + 1) (place + 1) 9 (omega (arith, lt)) (lit≤ tt) free' takes.second in
       pair_read v n text (2 * j) place most first second (paired j lt (omega (arith, first.few, few)) second.few)
 
   pub record OffsetRead (has_offset : List ℕ → ℕ → ℕ → ℕ → Type 0) (place minutes sign : ℕ) : Type 0 where
     has : has_offset text place minutes sign
     few : sign ≤ 2
 
-  first_free : (lane : ℕ) → lane < 16 → TakesNothing shape.front shape.back lane → IsFree shape lane
-  first_free lane lt nothing = record { lt = lt; front = nothing.first_front; back = nothing.first_back }
+  first_free : (lane : ℕ) → lane < 16 → TakesNothing shape.prefix shape.back lane → IsFree shape lane
+  first_free lane lt nothing = record { lt = lt; prefix = nothing.first_prefix; back = nothing.first_back }
 
-  second_free : (lane : ℕ) → lane + 1 < 16 → TakesNothing shape.front shape.back lane → IsFree shape (lane + 1)
-  second_free lane lt nothing = record { lt = lt; front = nothing.second_front; back = nothing.second_back }
+  second_free : (lane : ℕ) → lane + 1 < 16 → TakesNothing shape.prefix shape.back lane → IsFree shape (lane + 1)
+  second_free lane lt nothing = record { lt = lt; prefix = nothing.second_prefix; back = nothing.second_back }
 
   nothing_there : (j : ℕ) → j < 8 → get_or v (2 * j) 0 ≡ 0 → get_or v (2 * j + 1) 0 ≡ 0 → get_or n (2 * j) 0 ≡ 0
   nothing_there j lt a b = omega (arith, paired j lt (omega (arith, a)) (omega (arith, b)), a, b)
@@ -72,22 +72,22 @@ module _ (shape : Shape) (tail : Tail) (text v f n : List ℕ) (h : HaveLanes sh
     written : WritesNumber text number value
     few : value ≤ most * 10 + 9
 
-  number_by : (tens : Bool) (j place most : ℕ) → j < 8 → most ≤ 9 → 128 ≤ get_or tail.window.taken.lanes (2 * j) 0 → 128 ≤ get_or tail.window.taken.lanes (2 * j + 1) 0 → TakesNumber shape.front shape.back shape.back_at (2 * j) (record { has_tens = tens; place = place }) most → NumberRead (record { has_tens = tens; place = place }) (get_or n (2 * j) 0) most
+  number_by : (tens : Bool) (j place most : ℕ) → j < 8 → most ≤ 9 → 128 ≤ get_or tail.window.taken.lanes (2 * j) 0 → 128 ≤ get_or tail.window.taken.lanes (2 * j + 1) 0 → TakesNumber shape.prefix shape.back shape.back_at (2 * j) (record { has_tens = tens; place = place }) most → NumberRead (record { has_tens = tens; place = place }) (get_or n (2 * j) 0) most
   number_by true j place most lt few free free' takes =
-      let behind : place - 1 + 1 ≡ place = omega (arith, takes.behind refl) in
-      let first = h.front (2 * j) (place - 1) most (omega (arith, lt)) few free (takes.tens refl) in
-      let second = h.front (2 * j + 1) place 9 (omega (arith, lt)) (lit≤ tt) free' takes.ones in
-      let pair = pair_read v n text (2 * j) (place - 1) most first (rw behind second) (paired j lt (omega (arith, first.few, few)) second.few) in
+      let after : place - 1 + 1 ≡ place = omega (arith, takes.after refl) in
+      let first = h.prefix (2 * j) (place - 1) most (omega (arith, lt)) few free (takes.tens refl) in
+      let second = h.prefix (2 * j + 1) place 9 (omega (arith, lt)) (lit≤ tt) free' takes.ones in
+      let pair = pair_read v n text (2 * j) (place - 1) most first (rw after second) (paired j lt (omega (arith, first.few, few)) second.few) in
       record { written = record { two = λ _. pair.written; one = λ e. absurd cc }; few = pair.few }
   number_by false j place most lt few free free' takes =
       let none = takes.no_tens refl in
-      let first = h.none (2 * j) (record { lt = omega (arith, lt); front = none.front_free; back = none.back_free }) free in
-      let second = h.front (2 * j + 1) place 9 (omega (arith, lt)) (lit≤ tt) free' takes.ones in
+      let first = h.none (2 * j) (record { lt = omega (arith, lt); prefix = none.prefix_free; back = none.back_free }) free in
+      let second = h.prefix (2 * j + 1) place 9 (omega (arith, lt)) (lit≤ tt) free' takes.ones in
       let sum = paired j lt (omega (arith, first)) second.few in
       let is : get_or n (2 * j) 0 ≡ get_or text place 0 - 48 = omega (arith, sum, first, second.value) in
       record { written = record { two = λ e. absurd cc; one = λ _. rw is (one_there text place second.room second.digit) }; few = omega (arith, sum, first, second.few) }
 
-  number_read : (number : Number) (j most : ℕ) → j < 8 → most ≤ 9 → 128 ≤ get_or tail.window.taken.lanes (2 * j) 0 → 128 ≤ get_or tail.window.taken.lanes (2 * j + 1) 0 → TakesNumber shape.front shape.back shape.back_at (2 * j) number most → NumberRead number (get_or n (2 * j) 0) most
+  number_read : (number : Number) (j most : ℕ) → j < 8 → most ≤ 9 → 128 ≤ get_or tail.window.taken.lanes (2 * j) 0 → 128 ≤ get_or tail.window.taken.lanes (2 * j + 1) 0 → TakesNumber shape.prefix shape.back shape.back_at (2 * j) number most → NumberRead number (get_or n (2 * j) 0) most
   number_read number j most lt few free free' takes = number_by number.has_tens j number.place most lt few free free' takes
 
   record SecondRead (has_second : Bool) (value : ℕ) : Type 0 where
@@ -95,9 +95,9 @@ module _ (shape : Shape) (tail : Tail) (text v f n : List ℕ) (h : HaveLanes sh
     none : has_second ≡ false → value ≡ 0
     few : value ≤ 59
 
-  second_by : (has_second : Bool) → (has_second ≡ true → TakesPair shape.front shape.back shape.back_at 14 shape.second 5) → (has_second ≡ false → TakesNothing shape.front shape.back 14) → SecondRead has_second (get_or n 14 0)
+  second_by : (has_second : Bool) → (has_second ≡ true → TakesPair shape.prefix shape.back shape.back_at 14 shape.second 5) → (has_second ≡ false → TakesNothing shape.prefix shape.back 14) → SecondRead has_second (get_or n 14 0)
   second_by true takes none =
-      let pair = front_pair 7 shape.second 5 (lit< tt) (lit≤ tt) tail.second_free tail.last_free (takes refl) in
+      let pair = prefix_pair 7 shape.second 5 (lit< tt) (lit≤ tt) tail.second_free tail.last_free (takes refl) in
       record { written = λ _. pair.written; none = λ e. absurd cc; few = pair.few }
   second_by false takes none =
       let first = h.none 14 (first_free 14 (lit< tt) (none refl)) tail.second_free in
@@ -105,12 +105,12 @@ module _ (shape : Shape) (tail : Tail) (text v f n : List ℕ) (h : HaveLanes sh
       let zero = nothing_there 7 (lit< tt) first second in
       record { written = λ e. absurd cc; none = λ _. zero; few = omega (arith, zero) }
 
-  pub front_read : HasNumbers shape text (get_or n 0 0) (get_or n 2 0) (get_or n 4 0) (get_or n 6 0) (get_or n 14 0)
-  front_read =
+  pub prefix_read : HasNumbers shape text (get_or n 0 0) (get_or n 2 0) (get_or n 4 0) (get_or n 6 0) (get_or n 14 0)
+  prefix_read =
       let high = number_read shape.high 0 5 (lit< tt) (lit≤ tt) (tail.first_free 0 (lit< tt)) (tail.first_free 1 (lit< tt)) shape.high_is in
       let low = number_read shape.low 1 9 (lit< tt) (lit≤ tt) (tail.first_free 2 (lit< tt)) (tail.first_free 3 (lit< tt)) shape.low_is in
-      let hour = front_pair 2 shape.hour 9 (lit< tt) (lit≤ tt) (tail.first_free 4 (lit< tt)) (tail.first_free 5 (lit< tt)) shape.hour_is in
-      let minute = front_pair 3 shape.minute 5 (lit< tt) (lit≤ tt) (tail.first_free 6 (lit< tt)) (tail.first_free 7 (lit< tt)) shape.minute_is in
+      let hour = prefix_pair 2 shape.hour 9 (lit< tt) (lit≤ tt) (tail.first_free 4 (lit< tt)) (tail.first_free 5 (lit< tt)) shape.hour_is in
+      let minute = prefix_pair 3 shape.minute 5 (lit< tt) (lit≤ tt) (tail.first_free 6 (lit< tt)) (tail.first_free 7 (lit< tt)) shape.minute_is in
       let second = second_by shape.has_second shape.second_is shape.no_second in
       record {
         high_is = high.written;
@@ -129,7 +129,7 @@ module _ (shape : Shape) (tail : Tail) (text v f n : List ℕ) (h : HaveLanes sh
   long : 16 ≤ length text
   long = omega (arith, h.has_shape.room)
 
-  back_pair : (lane place most : ℕ) (j : ℕ) → 2 * j ≡ lane → j < 8 → most ≤ 9 → TakesNothing shape.front shape.back lane → Takes tail.window lane place most → Takes tail.window (lane + 1) (place + 1) 9 → Pair text (length text - 16 + place) (get_or n lane 0) most
+  back_pair : (lane place most : ℕ) (j : ℕ) → 2 * j ≡ lane → j < 8 → most ≤ 9 → TakesNothing shape.prefix shape.back lane → Takes tail.window lane place most → Takes tail.window (lane + 1) (place + 1) 9 → Pair text (length text - 16 + place) (get_or n lane 0) most
   back_pair lane place most j same lt few nothing tens ones =
       let next : length text - 16 + (place + 1) ≡ length text - 16 + place + 1 = omega arith in
       let first = h.back lane place most (first_free lane (omega (arith, same, lt)) nothing) few tens in
@@ -260,7 +260,7 @@ module _ (shape : Shape) (tail : Tail) (text v f n : List ℕ) (h : HaveLanes sh
         second = get_or n 14 0;
         sign = get_or n 12 0;
         has_shape = h.has_shape;
-        numbers = front_read;
+        numbers = prefix_read;
         days_are = d;
         minutes_are = m;
         sign_few = offset_read.few;

@@ -8,7 +8,7 @@ use Rattle.parsing_places.specs.declared.tail.Tail.{Tail}
 use Rattle.parsing_places.proofs.ReadLemmas.{Seen, or_zero, zero_or, digit_in, digit_taken, same_lane, none_taken, window_lies}
 
 module _ (shape : Shape) (tail : Tail) (text fa ft ba bt w la lt v lf f : List ℕ)
-    (front : Seen shape.front text 0 fa ft) (back : Seen shape.back text shape.back_at ba bt)
+    (prefix : Seen shape.prefix text 0 fa ft) (back : Seen shape.back text shape.back_at ba bt)
     (last : Seen tail.window text (length text - 16) la lt) (digits : Seen (digits_of tail) text (length text - 16) la lf)
     (joined : (k : ℕ) → k < 16 → get_or w k 0 ≡ bit_or (get_or ft k 0) (get_or bt k 0))
     (all : (k : ℕ) → k < 16 → get_or v k 0 ≡ bit_or (get_or w k 0) (get_or lt k 0))
@@ -16,11 +16,11 @@ module _ (shape : Shape) (tail : Tail) (text fa ft ba bt w la lt v lf f : List �
   -- a lane that the shape leaves free is that of the tail
   of_tail : (lane : ℕ) → IsFree shape lane → get_or v lane 0 ≡ get_or lt lane 0
   of_tail lane free =
-      let nothing : get_or w lane 0 ≡ 0 = none_taken _ _ _ (joined lane free.lt) (front.none lane free.lt free.front) (back.none lane free.lt free.back) in
+      let nothing : get_or w lane 0 ≡ 0 = none_taken _ _ _ (joined lane free.lt) (prefix.none lane free.lt free.prefix) (back.none lane free.lt free.back) in
       all lane free.lt ∙ rw nothing (zero_or (get_or lt lane 0))
 
-  of_front : (lane : ℕ) → lane < 16 → 128 ≤ get_or tail.window.taken.lanes lane 0 → get_or v lane 0 ≡ get_or w lane 0
-  of_front lane small free = all lane small ∙ rw (last.none lane small free) (or_zero (get_or w lane 0))
+  of_prefix : (lane : ℕ) → lane < 16 → 128 ≤ get_or tail.window.taken.lanes lane 0 → get_or v lane 0 ≡ get_or w lane 0
+  of_prefix lane small free = all lane small ∙ rw (last.none lane small free) (or_zero (get_or w lane 0))
 
   text_digit : (lane place : ℕ) → lane < 16 → Takes (digits_of tail) lane place 9 → IsTextDigit f lane text (length text - 16 + place)
   text_digit lane place small takes =
@@ -29,9 +29,9 @@ module _ (shape : Shape) (tail : Tail) (text fa ft ba bt w la lt v lf f : List �
 
   pub have_lanes : shape.back_at + 16 ≤ length text → HaveLanes shape tail text v f
   have_lanes room = record {
-    has_shape = record { room = room; front = window_lies _ _ _ _ _ front; back = window_lies _ _ _ _ _ back };
+    has_shape = record { room = room; prefix = window_lies _ _ _ _ _ prefix; back = window_lies _ _ _ _ _ back };
     lies = window_lies _ _ _ _ _ last;
-    front = λ lane place most small few free takes. same_lane w v text lane place most (of_front lane small free) (digit_taken shape.front shape.back text shape.back_at fa ft ba bt w lane place most front back joined small few takes);
+    prefix = λ lane place most small few free takes. same_lane w v text lane place most (of_prefix lane small free) (digit_taken shape.prefix shape.back text shape.back_at fa ft ba bt w lane place most prefix back joined small few takes);
     back = λ lane place most free few takes. same_lane lt v text lane (length text - 16 + place) most (of_tail lane free) (digit_in tail.window text (length text - 16) la lt lane place most last free.lt few takes);
     raw = λ lane place free inside is. of_tail lane free ∙ rw is at (last.taken lane free.lt (omega (arith, is, inside))) ∙ last.above_is place inside;
     none = λ lane free nothing. of_tail lane free ∙ last.none lane free.lt nothing;

@@ -8,12 +8,12 @@ use Rattle.parsing_places.specs.declared.named.NamedShape.{NamedShape}
 use Rattle.parsing_places.specs.declared.shape.Window.{Window}
 
 -- lanes v have the digits of a text
-pub record HaveDigits (front back : Window) (back_at : ℕ) (text v : List ℕ) : Type 0 where
-  pub front_lies : LieIn front text 0
+pub record HaveDigits (prefix back : Window) (back_at : ℕ) (text v : List ℕ) : Type 0 where
+  pub prefix_lies : LieIn prefix text 0
   pub back_lies : LieIn back text back_at
-  pub taken : (lane place most : ℕ) → lane < 16 → most ≤ 9 → TakesDigit front back back_at lane place most → IsDigitAt v lane text place most
-  pub none : (lane : ℕ) → lane < 16 → TakesNone front back lane → get_or v lane 0 ≡ 0
-  pub raw : (lane place : ℕ) → lane < 16 → 128 ≤ get_or front.taken.lanes lane 0 → place < 16 → get_or back.taken.lanes lane 0 ≡ place → get_or v lane 0 ≡ above (get_or text (back_at + place) 0) (get_or back.low place 0)
+  pub taken : (lane place most : ℕ) → lane < 16 → most ≤ 9 → TakesDigit prefix back back_at lane place most → IsDigitAt v lane text place most
+  pub none : (lane : ℕ) → lane < 16 → TakesNone prefix back lane → get_or v lane 0 ≡ 0
+  pub raw : (lane place : ℕ) → lane < 16 → 128 ≤ get_or prefix.taken.lanes lane 0 → place < 16 → get_or back.taken.lanes lane 0 ≡ place → get_or v lane 0 ≡ above (get_or text (back_at + place) 0) (get_or back.low place 0)
 
 -- the numbers of a text in sums
 pub record HasStampSums (shape : NamedShape) (text : List ℕ) (days minutes offset seconds : ℕ) : Type 0 where
@@ -24,7 +24,7 @@ pub record HasStampSums (shape : NamedShape) (text : List ℕ) (days minutes off
   pub offset_minute : ℕ
   pub second : ℕ
   pub sign : ℕ
-  pub front_lies : LieIn shape.front text 0
+  pub prefix_lies : LieIn shape.prefix text 0
   pub back_lies : LieIn shape.back text shape.back_at
   pub day_is : SaysDay shape.has_tens text shape.day day
   pub hour_is : SaysTwo text shape.hour hour

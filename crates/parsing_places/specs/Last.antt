@@ -1,4 +1,4 @@
--- What the last bytes of a text have behind a fraction of a second.
+-- What the last bytes of a text have after a fraction of a second.
 use Rattle.std.specs.Prelude.{◌≡◌, ◌≤◌, ◌<◌, ◌+◌, ◌-◌, ℕ, List, get_or}
 use Rattle.parsing_places.specs.Lanes.{above}
 use Rattle.parsing_places.specs.Numbers.{IsDigitAt, LieIn}
@@ -11,7 +11,7 @@ pub record HaveFraction (text : List ℕ) (place count : ℕ) (digits : List ℕ
   pub each : (k : ℕ) → k < count → IsDigitAt digits k text (place + k) 9
   pub zeros : (k : ℕ) → count ≤ k → k < 16 → get_or digits k 0 ≡ 0
 
--- a text up to an end has so many digits of a fraction, and what has to stand behind it: lanes v take that, and others the digits
+-- a text up to an end has so many digits of a fraction, and what has to stand after it: lanes v take that, and others the digits
 pub record HaveLast (last : LastBytes) (text : List ℕ) (end count : ℕ) (v digits : List ℕ) : Type 0 where
   pub lies : LieIn last.window text (end - 16)
   pub taken : (lane place most : ℕ) → lane < 16 → most ≤ 9 → Takes last.window lane place most → IsDigitAt v lane text (end - 16 + place) most

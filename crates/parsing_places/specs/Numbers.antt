@@ -25,7 +25,7 @@ LieIn window text at = (k : ℕ) → k < 16 → above (get_or text (at + k) 0) (
 -- a text has a shape
 pub record HasShape (shape : Shape) (text : List ℕ) : Type 0 where
   pub room : shape.back_at + 16 ≤ length text
-  pub front : LieIn shape.front text 0
+  pub prefix : LieIn shape.prefix text 0
   pub back : LieIn shape.back text shape.back_at
 
 -- one digit at a place does

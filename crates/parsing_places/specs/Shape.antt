@@ -17,20 +17,20 @@ pub record TakesFrom (one other : Window) (lane place most : ℕ) : Type 0 where
   pub alone : 128 ≤ get_or other.taken.lanes lane 0
 
 -- the same of a place of a text, where the second window begins at one
-pub record TakesDigit (front back : Window) (back_at lane place most : ℕ) : Type 0 where
-  pub here : get_or front.taken.lanes lane 0 < 128 → TakesFrom front back lane place most
-  pub there : 128 ≤ get_or front.taken.lanes lane 0 → (back_at ≤ place) × TakesFrom back front lane (place - back_at) most
+pub record TakesDigit (prefix back : Window) (back_at lane place most : ℕ) : Type 0 where
+  pub here : get_or prefix.taken.lanes lane 0 < 128 → TakesFrom prefix back lane place most
+  pub there : 128 ≤ get_or prefix.taken.lanes lane 0 → (back_at ≤ place) × TakesFrom back prefix lane (place - back_at) most
 
 -- two lanes take two digits, the first of them at most so large
-pub record TakesPair (front back : Window) (back_at lane place most : ℕ) : Type 0 where
-  pub first : TakesDigit front back back_at lane place most
-  pub second : TakesDigit front back back_at (lane + 1) (place + 1) 9
+pub record TakesPair (prefix back : Window) (back_at lane place most : ℕ) : Type 0 where
+  pub first : TakesDigit prefix back back_at lane place most
+  pub second : TakesDigit prefix back back_at (lane + 1) (place + 1) 9
 
 -- two lanes take nothing
-pub record TakesNothing (front back : Window) (lane : ℕ) : Type 0 where
-  pub first_front : 128 ≤ get_or front.taken.lanes lane 0
+pub record TakesNothing (prefix back : Window) (lane : ℕ) : Type 0 where
+  pub first_prefix : 128 ≤ get_or prefix.taken.lanes lane 0
   pub first_back : 128 ≤ get_or back.taken.lanes lane 0
-  pub second_front : 128 ≤ get_or front.taken.lanes (lane + 1) 0
+  pub second_prefix : 128 ≤ get_or prefix.taken.lanes (lane + 1) 0
   pub second_back : 128 ≤ get_or back.taken.lanes (lane + 1) 0
 
 -- one digit alone can stand at a place
@@ -51,23 +51,23 @@ abbrev pub with_moves : Window → Moves → Window
 with_moves window moves = record { low = window.low; high = window.high; taken = moves }
 
 -- no window takes a lane
-pub record TakesNone (front back : Window) (lane : ℕ) : Type 0 where
-  pub front_free : 128 ≤ get_or front.taken.lanes lane 0
+pub record TakesNone (prefix back : Window) (lane : ℕ) : Type 0 where
+  pub prefix_free : 128 ≤ get_or prefix.taken.lanes lane 0
   pub back_free : 128 ≤ get_or back.taken.lanes lane 0
 
 -- lane 13 takes a sign, of the second window, and lane 12 nothing
-pub record TakesSign (front back : Window) (back_at place : ℕ) : Type 0 where
-  pub alone : TakesNone front back 12
-  pub front_free : 128 ≤ get_or front.taken.lanes 13 0
-  pub behind : back_at ≤ place
+pub record TakesSign (prefix back : Window) (back_at place : ℕ) : Type 0 where
+  pub alone : TakesNone prefix back 12
+  pub prefix_free : 128 ≤ get_or prefix.taken.lanes 13 0
+  pub after : back_at ≤ place
   pub inside : place - back_at < 16
   pub is_there : get_or back.taken.lanes 13 0 ≡ place - back_at
   pub low : get_or back.low (place - back_at) 0 ≡ 43
   pub high : get_or back.high (place - back_at) 0 ≤ 2
 
 -- two lanes take a number of one digit or two, its tens at most so large
-pub record TakesNumber (front back : Window) (back_at lane : ℕ) (number : Number) (most : ℕ) : Type 0 where
-  pub tens : number.has_tens ≡ true → TakesDigit front back back_at lane (number.place - 1) most
-  pub no_tens : number.has_tens ≡ false → TakesNone front back lane
-  pub ones : TakesDigit front back back_at (lane + 1) number.place 9
-  pub behind : number.has_tens ≡ true → 1 ≤ number.place
+pub record TakesNumber (prefix back : Window) (back_at lane : ℕ) (number : Number) (most : ℕ) : Type 0 where
+  pub tens : number.has_tens ≡ true → TakesDigit prefix back back_at lane (number.place - 1) most
+  pub no_tens : number.has_tens ≡ false → TakesNone prefix back lane
+  pub ones : TakesDigit prefix back back_at (lane + 1) number.place 9
+  pub after : number.has_tens ≡ true → 1 ≤ number.place

@@ -21,7 +21,7 @@ pub record SaysDay (has_tens : Bool) (text : List ℕ) (place day : ℕ) : Type 
   pub ones : HasDigit text place
   pub day_is : day ≡ tens * 10 + (get_or text place 0 - 48)
 
--- a sign with two hours and two minutes behind it, all under the sign
+-- a sign with two hours and two minutes after it, all under the sign
 pub record SaysPlainOffset (text : List ℕ) (place : ℕ) (minutes : ℤ) : Type 0 where
   pub hour : ℕ
   pub minute : ℕ
@@ -35,7 +35,7 @@ pub record SaysStamp (shape : NamedShape) (text : List ℕ) (year day minute_of_
   pub hour : ℕ
   pub minute : ℕ
   pub long : length text ≡ shape.length
-  pub front : LieIn shape.front text 0
+  pub prefix : LieIn shape.prefix text 0
   pub back : LieIn shape.back text shape.back_at
   pub century : HasPair text shape.year
   pub last_two : HasPair text (shape.year + 2)

@@ -4,7 +4,7 @@ use Rattle.parsing_places.specs.End.{SaysOffset, HasFraction, width_of}
 use Rattle.parsing_places.specs.Numbers.{HasShape, HasNumbers}
 use Rattle.parsing_places.specs.declared.shape.Shape.{Shape}
 
--- a text has a shape, and behind it maybe a fraction, then an offset, with these numbers
+-- a text has a shape, and after it maybe a fraction, then an offset, with these numbers
 pub record Names (shape : Shape) (text : List ℕ) (high low minute_of_day second : ℕ) (offset : ℤ) (fraction : ℕ) : Type 0 where
   pub hour : ℕ
   pub minute : ℕ

@@ -21,7 +21,7 @@ pub record IsTextDigit (f : List ℕ) (lane : ℕ) (text : List ℕ) (place : �
 -- no window of the shape takes a lane
 pub record IsFree (shape : Shape) (lane : ℕ) : Type 0 where
   pub lt : lane < 16
-  pub front : 128 ≤ get_or shape.front.taken.lanes lane 0
+  pub prefix : 128 ≤ get_or shape.prefix.taken.lanes lane 0
   pub back : 128 ≤ get_or shape.back.taken.lanes lane 0
 
 -- the window of the fraction's digits
@@ -32,7 +32,7 @@ digits_of tail = with_moves tail.window tail.digits
 pub record HaveLanes (shape : Shape) (tail : Tail) (text v f : List ℕ) : Type 0 where
   pub has_shape : HasShape shape text
   pub lies : LieIn tail.window text (length text - 16)
-  pub front : (lane place most : ℕ) → lane < 16 → most ≤ 9 → 128 ≤ get_or tail.window.taken.lanes lane 0 → TakesDigit shape.front shape.back shape.back_at lane place most → IsDigitAt v lane text place most
+  pub prefix : (lane place most : ℕ) → lane < 16 → most ≤ 9 → 128 ≤ get_or tail.window.taken.lanes lane 0 → TakesDigit shape.prefix shape.back shape.back_at lane place most → IsDigitAt v lane text place most
   pub back : (lane place most : ℕ) → IsFree shape lane → most ≤ 9 → Takes tail.window lane place most → IsDigitAt v lane text (length text - 16 + place) most
   pub raw : (lane place : ℕ) → IsFree shape lane → place < 16 → get_or tail.window.taken.lanes lane 0 ≡ place → get_or v lane 0 ≡ above (get_or text (length text - 16 + place) 0) (get_or tail.window.low place 0)
   pub none : (lane : ℕ) → IsFree shape lane → 128 ≤ get_or tail.window.taken.lanes lane 0 → get_or v lane 0 ≡ 0

@@ -12,14 +12,14 @@ const TWICE: usize = 32;
 /// The last sixteen bytes of a text that has a fraction of a second of any number of digits, and then parts of fixed widths.
 #[derive(Clone, Copy)]
 pub struct LastBytes {
-    /// The bounds of what stands behind the fraction; its lanes take an offset.
+    /// The bounds of what stands after the fraction; its lanes take an offset.
     pub window: Window,
-    /// How many bytes stand behind the fraction.
+    /// How many bytes stand after the fraction.
     pub length: usize,
     // The places before them, one after the other, and then lanes that take nothing.
     places: [u8; TWICE],
     ghost few: { length ≤ 16 },
     ghost zeros: { (k : ℕ) → k + length < 16 → get_or window.low k 0 ≡ 48 },
     ghost before: { (k : ℕ) → k + length < 16 → get_or places k 0 ≡ k },
-    ghost behind: { (k : ℕ) → 16 ≤ k + length → k < 32 → 128 ≤ get_or places k 0 },
+    ghost after: { (k : ℕ) → 16 ≤ k + length → k < 32 → 128 ≤ get_or places k 0 },
 }

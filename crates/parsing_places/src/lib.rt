@@ -1,6 +1,6 @@
 //! The numbers of a text that stand at known places, all read at once.
 //!
-//! A shape says where the parts of a text stand, as those of `1985-04-12T23:20:50`, behind which a fraction of a second and an
+//! A shape says where the parts of a text stand, as those of `1985-04-12T23:20:50`, after which a fraction of a second and an
 //! offset may follow, as in `1985-04-12T23:20:50.52+05:30`. `read` tests each byte of such a text against the lowest and the
 //! highest that its place lets, in one step, takes the digits of all numbers by moving bytes, and gives the fields that they
 //! name. It knows no format: which texts a shape stands for is said where the shape is.

@@ -12,7 +12,7 @@ use crate::shape::Window;
 #[derive(Clone, Copy)]
 pub struct NamedShape {
     /// The first sixteen bytes.
-    pub front: Window,
+    pub prefix: Window,
     /// The last sixteen bytes, from `back_at` on.
     pub back: Window,
     /// How many bytes the text has.
@@ -32,15 +32,15 @@ pub struct NamedShape {
     /// Where the sign of the offset stands, right before its hour and minute.
     pub sign: usize,
     ghost long: { length ≡ back_at + 16 },
-    ghost year_is: { LetsYear front year },
-    ghost no_month: { TakesNothing front back 0 },
-    ghost tens: { has_tens ≡ true → TakesDigit front back back_at 2 (day - 1) 9 },
-    ghost no_tens: { has_tens ≡ false → TakesNone front back 2 },
-    ghost ones: { TakesDigit front back back_at 3 day 9 },
-    ghost hour_is: { TakesPair front back back_at 4 hour 9 },
-    ghost minute_is: { TakesPair front back back_at 6 minute 5 },
-    ghost offset_hour: { TakesPair front back back_at 8 (sign + 1) 9 },
-    ghost offset_minute: { TakesPair front back back_at 10 (sign + 3) 5 },
-    ghost sign_is: { TakesSign front back back_at sign },
-    ghost second_is: { TakesPair front back back_at 14 second 5 },
+    ghost year_is: { LetsYear prefix year },
+    ghost no_month: { TakesNothing prefix back 0 },
+    ghost tens: { has_tens ≡ true → TakesDigit prefix back back_at 2 (day - 1) 9 },
+    ghost no_tens: { has_tens ≡ false → TakesNone prefix back 2 },
+    ghost ones: { TakesDigit prefix back back_at 3 day 9 },
+    ghost hour_is: { TakesPair prefix back back_at 4 hour 9 },
+    ghost minute_is: { TakesPair prefix back back_at 6 minute 5 },
+    ghost offset_hour: { TakesPair prefix back back_at 8 (sign + 1) 9 },
+    ghost offset_minute: { TakesPair prefix back back_at 10 (sign + 3) 5 },
+    ghost sign_is: { TakesSign prefix back back_at sign },
+    ghost second_is: { TakesPair prefix back back_at 14 second 5 },
 }

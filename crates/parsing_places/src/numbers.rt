@@ -5,13 +5,13 @@ use parsing_fields::{Fields, Fraction, Year, has_day};
 
 /// The numbers of a date-time in a year of four digits, before its day is one of a month.
 ///
-/// What the two numbers of the date behind its year are, the format says: a month and a day, or a week and a day of it, or the
+/// What the two numbers of the date after its year are, the format says: a month and a day, or a week and a day of it, or the
 /// hundreds of a day of the year and the rest.
 #[derive(Clone, Copy)]
 pub struct Numbers {
     /// 0 to 9999.
     pub year: Year,
-    /// The first number of the date behind its year.
+    /// The first number of the date after its year.
     pub high: u8,
     /// The second one.
     pub low: u8,

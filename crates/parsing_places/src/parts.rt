@@ -17,7 +17,7 @@ fn lanes_of(shape: &Shape, tail: &Tail, text: &[u8]) -> (bool, u8x16, u8x16)
     requires { shape.now.back_at + LANES ≤ length text.now }
     ensures { result.0 ≡ true → HaveLanes shape.now tail.now text.now result.1 result.2 }
 {
-    let first = all_above(sixteen_from(text, 0), u8x16::from_array(shape.front.low));
+    let first = all_above(sixteen_from(text, 0), u8x16::from_array(shape.prefix.low));
     let second = all_above(
         sixteen_from(text, shape.back_at),
         u8x16::from_array(shape.back.low),
@@ -28,14 +28,14 @@ fn lanes_of(shape: &Shape, tail: &Tail, text: &[u8]) -> (bool, u8x16, u8x16)
     );
     let fits = are_at_most(
         first,
-        u8x16::from_array(shape.front.high),
+        u8x16::from_array(shape.prefix.high),
         second,
         u8x16::from_array(shape.back.high),
         last,
         u8x16::from_array(tail.window.high),
     );
-    let front = joined(shape.front.taken.of(first), shape.back.taken.of(second));
-    let digits = joined(front, tail.window.taken.of(last));
+    let prefix = joined(shape.prefix.taken.of(first), shape.back.taken.of(second));
+    let digits = joined(prefix, tail.window.taken.of(last));
     let fraction = as_text(tail.digits.of(last));
     (fits, digits, fraction)
 }

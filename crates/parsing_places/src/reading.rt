@@ -49,7 +49,7 @@ fn read_with(shape: &Shape, tail: &Tail, text: &[u8]) -> Option<Numbers>
     })
 }
 
-/// The numbers that a text of a shape names, with at most nine digits of a fraction behind a second, and an offset behind:
+/// The numbers that a text of a shape names, with at most nine digits of a fraction after a second, and an offset after:
 /// `None` says nothing of the text.
 ///
 /// It finds them where the numbers of the time and of the offset are in range, with hours of the offset below 24, and where no

@@ -26,23 +26,23 @@ pub struct Number {
 
 /// Where the numbers of a text stand, by places counted from 0 on.
 ///
-/// A date and a time of day, to the minute or the second, stand in its front; behind a second a fraction may follow, and then an
-/// offset. Two windows see the front. Their lanes take two digits each, in this order: the two numbers of the date behind its
+/// A date and a time of day, to the minute or the second, stand in its prefix; after a second a fraction may follow, and then an
+/// offset. Two windows see the prefix. Their lanes take two digits each, in this order: the two numbers of the date after its
 /// year, as month and day, then hour and minute, then nothing for the offset's hour and minute and its sign, which the end of a
 /// text has, and the second.
 #[derive(Clone, Copy)]
 pub struct Shape {
     /// The first sixteen bytes.
-    pub front: Window,
+    pub prefix: Window,
     /// Sixteen bytes from `back_at` on.
     pub back: Window,
-    /// How many bytes the front has.
+    /// How many bytes the prefix has.
     pub length: usize,
     /// Where the second window begins.
     pub back_at: usize,
     /// Where the four digits of the year stand, within the first window.
     pub year: usize,
-    /// Where the first number of the date behind its year stands.
+    /// Where the first number of the date after its year stands.
     pub high: Number,
     /// Where the second one does.
     pub low: Number,
@@ -57,14 +57,14 @@ pub struct Shape {
     ghost near: { back_at ≤ 32 },
     ghost long: { length ≤ back_at + 16 },
     ghost within: { 0 < back_at → back_at + 16 ≤ length },
-    ghost year_is: { LetsYear front year },
-    ghost high_is: { TakesNumber front back back_at 0 high 5 },
-    ghost low_is: { TakesNumber front back back_at 2 low 9 },
-    ghost hour_is: { TakesPair front back back_at 4 hour 9 },
-    ghost minute_is: { TakesPair front back back_at 6 minute 5 },
-    ghost offset_hour: { TakesNothing front back 8 },
-    ghost offset_minute: { TakesNothing front back 10 },
-    ghost sign: { TakesNothing front back 12 },
-    ghost second_is: { has_second ≡ true → TakesPair front back back_at 14 second 5 },
-    ghost no_second: { has_second ≡ false → TakesNothing front back 14 },
+    ghost year_is: { LetsYear prefix year },
+    ghost high_is: { TakesNumber prefix back back_at 0 high 5 },
+    ghost low_is: { TakesNumber prefix back back_at 2 low 9 },
+    ghost hour_is: { TakesPair prefix back back_at 4 hour 9 },
+    ghost minute_is: { TakesPair prefix back back_at 6 minute 5 },
+    ghost offset_hour: { TakesNothing prefix back 8 },
+    ghost offset_minute: { TakesNothing prefix back 10 },
+    ghost sign: { TakesNothing prefix back 12 },
+    ghost second_is: { has_second ≡ true → TakesPair prefix back back_at 14 second 5 },
+    ghost no_second: { has_second ≡ false → TakesNothing prefix back 14 },
 }

@@ -12,16 +12,21 @@ use std::simd::prelude::*;
 
 /// Whether a text lies within two windows, and the digits that lanes take.
 #[inline(always)]
-pub(crate) fn digits_of(front: &Window, back: &Window, back_at: usize, text: &[u8]) -> (bool, u8x16)
+pub(crate) fn digits_of(
+    prefix: &Window,
+    back: &Window,
+    back_at: usize,
+    text: &[u8],
+) -> (bool, u8x16)
     requires { back_at + LANES ≤ length text.now }
-    ensures { result.0 ≡ true → HaveDigits front.now back.now back_at text.now result.1 }
+    ensures { result.0 ≡ true → HaveDigits prefix.now back.now back_at text.now result.1 }
 {
-    let first = all_above(sixteen_from(text, 0), u8x16::from_array(front.low));
+    let first = all_above(sixteen_from(text, 0), u8x16::from_array(prefix.low));
     let second = all_above(sixteen_from(text, back_at), u8x16::from_array(back.low));
-    let first_high = u8x16::from_array(front.high);
+    let first_high = u8x16::from_array(prefix.high);
     let second_high = u8x16::from_array(back.high);
     let fits = are_at_most(first, first_high, second, second_high, second, second_high);
-    let digits = joined(front.taken.of(first), back.taken.of(second));
+    let digits = joined(prefix.taken.of(first), back.taken.of(second));
     (fits, digits)
 }
 
@@ -31,7 +36,7 @@ fn totals(shape: &NamedShape, text: &[u8]) -> Option<(u32, u32, u32, u32)>
     requires { length text.now ≡ shape.now.length }
     ensures { IfSome result (λ v. HasStampSums shape.now text.now v.0 v.1 v.2 v.3) }
 {
-    let (fits, digits) = digits_of(&shape.front, &shape.back, shape.back_at, text);
+    let (fits, digits) = digits_of(&shape.prefix, &shape.back, shape.back_at, text);
     if !fits {
         return None;
     }

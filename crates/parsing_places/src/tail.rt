@@ -1,4 +1,4 @@
-//! What follows the front of a text: maybe a fraction of a second, then an offset.
+//! What follows the prefix of a text: maybe a fraction of a second, then an offset.
 ghost use Rattle.std.specs.Prelude.{◌≡◌, ◌≤◌, ◌<◌, ◌-◌, ℕ, get_or};
 ghost use Rattle.parsing_places.specs.Shape.{with_moves};
 ghost use Rattle.parsing_places.specs.Tail.{LetsByte, TakesSigned, TakesZulu, TakesFraction, offset_at};

@@ -8,10 +8,10 @@ use crate::shape::Window;
 use crate::stamp::digits_of;
 use std::simd::prelude::*;
 
-/// Sixteen bytes at the front of a text, and sixteen from a place on.
+/// Sixteen bytes at the start of a text, and sixteen from a place on.
 #[derive(Clone, Copy)]
 pub struct Windows {
-    pub front: Window,
+    pub prefix: Window,
     pub back: Window,
     /// Where the second window begins.
     pub back_at: usize,
@@ -70,7 +70,7 @@ impl Windows {
         ensures { result ≡ true → LetsAt self.now place low most }
     {
         if place < LANES {
-            return self.front.lets(place, low, most);
+            return self.prefix.lets(place, low, most);
         }
         place >= self.back_at && self.back.lets(place - self.back_at, low, most)
     }
@@ -78,15 +78,15 @@ impl Windows {
     // Whether a lane takes a digit at a place of a text, at most so large.
     fn takes_digit(&self, lane: usize, place: usize, most: u8) -> bool
         requires { lane < LANES }
-        ensures { result ≡ true → TakesDigit self.now.front self.now.back self.now.back_at lane place most }
+        ensures { result ≡ true → TakesDigit self.now.prefix self.now.back self.now.back_at lane place most }
     {
-        if self.front.taken.spares(lane) {
+        if self.prefix.taken.spares(lane) {
             return place >= self.back_at
                 && self
                     .back
-                    .takes_alone(&self.front, lane, place - self.back_at, most);
+                    .takes_alone(&self.prefix, lane, place - self.back_at, most);
         }
-        self.front.takes_alone(&self.back, lane, place, most)
+        self.prefix.takes_alone(&self.back, lane, place, most)
     }
 
     /// Whether a lane takes a digit at a place of a text.
@@ -111,7 +111,7 @@ impl Windows {
         requires { lane < LANES }
         ensures { result ≡ true → SpareOne self.now lane }
     {
-        self.front.taken.spares(lane) && self.back.taken.spares(lane)
+        self.prefix.taken.spares(lane) && self.back.taken.spares(lane)
     }
 
     /// Whether two lanes take nothing.
@@ -130,12 +130,12 @@ impl Windows {
             return false;
         }
         self.spare_one(12)
-            && self.front.taken.spares(13)
+            && self.prefix.taken.spares(13)
             && usize::from(self.back.taken.lanes[13]) == place - self.back_at
     }
 }
 
-// The bytes of a text that is shorter than a window, and zeros behind them.
+// The bytes of a text that is shorter than a window, and zeros after them.
 fn padded(text: &[u8]) -> [u8; LANES]
     requires { length text.now < LANES }
     ensures { (k : ℕ) → get_or result k 0 ≡ get_or text.now k 0 }
@@ -153,14 +153,14 @@ impl Windows {
     #[inline(never)]
     fn digits_of_few(&self, text: &[u8]) -> (bool, u8x16)
         requires few { length text.now < LANES }
-        requires front { self.now.back_at ≡ 0 }
+        requires prefix { self.now.back_at ≡ 0 }
         ensures { result.0 ≡ true → Taken self.now text.now result.1 }
     {
-        digits_of(&self.front, &self.back, self.back_at, &padded(text))
+        digits_of(&self.prefix, &self.back, self.back_at, &padded(text))
     }
 
     /// Whether a text lies within both windows, and the digits that lanes take of it. It may be shorter than a window that
-    /// begins at its front.
+    /// begins at its prefix.
     #[inline(always)]
     pub fn digits_of(&self, text: &[u8]) -> (bool, u8x16)
         requires { 0 < self.now.back_at → self.now.back_at + LANES ≤ length text.now }
@@ -169,6 +169,6 @@ impl Windows {
         if text.len() < LANES {
             return self.digits_of_few(text);
         }
-        digits_of(&self.front, &self.back, self.back_at, text)
+        digits_of(&self.prefix, &self.back, self.back_at, text)
     }
 }

@@ -27,9 +27,9 @@ use Rattle.parsing_record.specs.Whole.{whole, names, moment_named, offset_named,
 use Rattle.parsing_plan.proofs.Walk.{was_read}
 use Rattle.parsing_plan.specs.declared.layout.Layout.{Layout}
 use Rattle.parsing_components.specs.Slot.{Values}
-use Rattle.parsing_plan.specs.Layout.{HasText, Says, read_or, with_values, IsFront, HasNoClock}
+use Rattle.parsing_plan.specs.Layout.{HasText, Says, read_or, with_values, IsPrefix, HasNoClock}
 use Rattle.parsing_plan.specs.Parts.{SaysDate, SaysClock, SaysFraction, SaysOffset}
-use Rattle.parsing_plan.specs.Plan.{IsLayoutOf, IsSplitOf, NamesFront, beginning}
+use Rattle.parsing_plan.specs.Plan.{IsLayoutOf, IsSplitOf, NamesPrefix, beginning}
 
 -- ---- the record
 
@@ -100,22 +100,22 @@ moment_there l line assumed year month day minute second fraction offset d t n o
     let in_fraction : unwrap_or r.subsecond 0 ≡ fraction = ap (λ (x : Option ℕ). unwrap_or (read_or l.subsecond (Some n.nanosecond) x) 0) (none_before assumed) ∙ n.fraction_is in
     ap (λ (x : Record). moment_named x) same ∙ dated l v w r (day_of_fields f) (time_of_fields f) fraction (pos 60 *ℤ f.offset) (bare_or assumed (read_or l.subsecond (Some n.nanosecond) (beginning assumed).subsecond)) in_fraction in_day in_time in_offset ∙ ap (λ (x : Shown). Ok x) (moment_is f)
 
--- a front that is all of the line is read as a whole
+-- a prefix that is all of the line is read as a whole
 pub whole_is : (m : Meaning) (defaults : Option Record) (line : List ℕ) (r : Record) → m (starting defaults) line ≡ Ok (r, []) → whole m defaults line ≡ Ok r
 unfolding whole
 whole_is m defaults line r e = rw e refl
 
-pub whole_named : (m : Meaning) (defaults : Option Record) (line rest : List ℕ) (assumed : Option ℤ) (moment : Shown) → rest ≡ [] → starting defaults ≡ beginning assumed → NamesFront m (beginning assumed) line rest moment → names moment_named (whole m defaults line) ≡ Ok moment
-whole_named m defaults line rest assumed moment nothing start front =
-    let all : m (starting defaults) line ≡ Ok (front.set, []) = rw (start, ← nothing) front.reads in
-    rw (whole_is m defaults line front.set all) front.names
+pub whole_named : (m : Meaning) (defaults : Option Record) (line rest : List ℕ) (assumed : Option ℤ) (moment : Shown) → rest ≡ [] → starting defaults ≡ beginning assumed → NamesPrefix m (beginning assumed) line rest moment → names moment_named (whole m defaults line) ≡ Ok moment
+whole_named m defaults line rest assumed moment nothing start prefix =
+    let all : m (starting defaults) line ≡ Ok (prefix.set, []) = rw (start, ← nothing) prefix.reads in
+    rw (whole_is m defaults line prefix.set all) prefix.names
 
-pub if_whole_named : (m : Meaning) (defaults : Option Record) (line rest : List ℕ) (assumed : Option ℤ) (o : Option Fields) → rest ≡ [] → starting defaults ≡ beginning assumed → IfSome o (λ f. NamesFront m (beginning assumed) line rest (moment_of f)) → IfSome o (λ f. names moment_named (whole m defaults line) ≡ Ok (moment_of f))
-if_whole_named m defaults line rest assumed None nothing start front = tt
-if_whole_named m defaults line rest assumed (Some f) nothing start front = whole_named m defaults line rest assumed (moment_of f) nothing start front
+pub if_whole_named : (m : Meaning) (defaults : Option Record) (line rest : List ℕ) (assumed : Option ℤ) (o : Option Fields) → rest ≡ [] → starting defaults ≡ beginning assumed → IfSome o (λ f. NamesPrefix m (beginning assumed) line rest (moment_of f)) → IfSome o (λ f. names moment_named (whole m defaults line) ≡ Ok (moment_of f))
+if_whole_named m defaults line rest assumed None nothing start prefix = tt
+if_whole_named m defaults line rest assumed (Some f) nothing start prefix = whole_named m defaults line rest assumed (moment_of f) nothing start prefix
 
 pub line_read : (l : Layout) (line : List ℕ) (assumed : Option ℤ) (year month day minute second fraction : ℕ) (offset : ℤ) → HasText l line → l.length ≤ length line → SaysDate l line year month day → SaysClock l line minute second → SaysFraction l line fraction → SaysOffset l line assumed offset
-    → (f : Fields) → fraction < 1_000_000_000 → HaveNumbers f year month day minute second fraction offset → (m : Meaning) → IsLayoutOf m l → NamesFront m (beginning assumed) line (drop l.length line) (moment_of f)
+    → (f : Fields) → fraction < 1_000_000_000 → HaveNumbers f year month day minute second fraction offset → (m : Meaning) → IsLayoutOf m l → NamesPrefix m (beginning assumed) line (drop l.length line) (moment_of f)
 line_read l line assumed year month day minute second fraction offset text long d t s o f bound n m plan =
     let v : Values = values_of l line assumed year month day minute second fraction offset d t s o in
     record {
@@ -126,42 +126,42 @@ line_read l line assumed year month day minute second fraction offset text long 
 
 -- ---- the line with a fraction
 
--- the places of a date and a time of day are in front, those of an offset behind
-both_filled : (front back : Layout) (v : Values) (r : Record) (n : ℕ) → IsFront front → HasNoClock back → IsSome front.year → IsSome front.month → IsSome front.day → IsSome front.hour → IsSome front.minute → IsSome front.second → with_values back v (record (with_values front v r) { subsecond = Some n }) ≡ filled back v (read_or front.weekday (Some v.weekday) r.weekday) (record r { subsecond = Some n })
-both_filled front back v r n none clock a b c d e f =
-    rw (none.no_offset.no_hour, none.no_offset.no_minute, clock.no_year, clock.no_month, clock.no_weekday, clock.no_day, clock.no_hour, clock.no_minute, clock.no_second, clock.no_subsecond, read_here front.year (Some (pos v.year)) r.year a, read_here front.month (Some v.month) r.month b, read_here front.day (Some v.day) r.day c, read_here front.hour (Some v.hour) r.hour_24 d, read_here front.minute (Some v.minute) r.minute e, read_here front.second (Some v.second) r.second f) refl
+-- the places of a date and a time of day are before it, those of an offset after
+both_filled : (prefix back : Layout) (v : Values) (r : Record) (n : ℕ) → IsPrefix prefix → HasNoClock back → IsSome prefix.year → IsSome prefix.month → IsSome prefix.day → IsSome prefix.hour → IsSome prefix.minute → IsSome prefix.second → with_values back v (record (with_values prefix v r) { subsecond = Some n }) ≡ filled back v (read_or prefix.weekday (Some v.weekday) r.weekday) (record r { subsecond = Some n })
+both_filled prefix back v r n none clock a b c d e f =
+    rw (none.no_offset.no_hour, none.no_offset.no_minute, clock.no_year, clock.no_month, clock.no_weekday, clock.no_day, clock.no_hour, clock.no_minute, clock.no_second, clock.no_subsecond, read_here prefix.year (Some (pos v.year)) r.year a, read_here prefix.month (Some v.month) r.month b, read_here prefix.day (Some v.day) r.day c, read_here prefix.hour (Some v.hour) r.hour_24 d, read_here prefix.minute (Some v.minute) r.minute e, read_here prefix.second (Some v.second) r.second f) refl
 
-split_values : (front back : Layout) (line rest : List ℕ) (assumed : Option ℤ) (year month day minute second : ℕ) (offset : ℤ) → SaysDate front line year month day → SaysClock front line minute second → SaysOffset back rest assumed offset → Values
-split_values front back line rest assumed year month day minute second offset d t o = record { year = year; month = d.name; weekday = d.weekday; day = day; hour = t.hour; minute = t.minute; second = second; nanosecond = 0; is_negative = o.values.is_negative; offset_hour = o.values.offset_hour; offset_minute = o.values.offset_minute }
+split_values : (prefix back : Layout) (line rest : List ℕ) (assumed : Option ℤ) (year month day minute second : ℕ) (offset : ℤ) → SaysDate prefix line year month day → SaysClock prefix line minute second → SaysOffset back rest assumed offset → Values
+split_values prefix back line rest assumed year month day minute second offset d t o = record { year = year; month = d.name; weekday = d.weekday; day = day; hour = t.hour; minute = t.minute; second = second; nanosecond = 0; is_negative = o.values.is_negative; offset_hour = o.values.offset_hour; offset_minute = o.values.offset_minute }
 
-front_says : (front : Layout) (line rest : List ℕ) (assumed : Option ℤ) (back : Layout) (year month day minute second : ℕ) (offset : ℤ) (d : SaysDate front line year month day) (t : SaysClock front line minute second) (o : SaysOffset back rest assumed offset) → IsFront front → HasText front line → Says front line (split_values front back line rest assumed year month day minute second offset d t o)
+prefix_says : (prefix : Layout) (line rest : List ℕ) (assumed : Option ℤ) (back : Layout) (year month day minute second : ℕ) (offset : ℤ) (d : SaysDate prefix line year month day) (t : SaysClock prefix line minute second) (o : SaysOffset back rest assumed offset) → IsPrefix prefix → HasText prefix line → Says prefix line (split_values prefix back line rest assumed year month day minute second offset d t o)
 unfolding split_values
-front_says front line rest assumed back year month day minute second offset d t o none text = record { text = text; year = d.year_says; month = d.month_says; weekday = d.weekday_says; day = d.day_says; hour = t.hour_says; minute = t.minute_says; second = t.second_says; subsecond = rw none.no_subsecond tt; offset_hour = rw none.no_offset.no_hour tt; offset_minute = rw none.no_offset.no_minute tt }
+prefix_says prefix line rest assumed back year month day minute second offset d t o none text = record { text = text; year = d.year_says; month = d.month_says; weekday = d.weekday_says; day = d.day_says; hour = t.hour_says; minute = t.minute_says; second = t.second_says; subsecond = rw none.no_subsecond tt; offset_hour = rw none.no_offset.no_hour tt; offset_minute = rw none.no_offset.no_minute tt }
 
-back_says : (front : Layout) (line rest : List ℕ) (assumed : Option ℤ) (back : Layout) (year month day minute second : ℕ) (offset : ℤ) (d : SaysDate front line year month day) (t : SaysClock front line minute second) (o : SaysOffset back rest assumed offset) → HasNoClock back → HasText back rest → Says back rest (split_values front back line rest assumed year month day minute second offset d t o)
+back_says : (prefix : Layout) (line rest : List ℕ) (assumed : Option ℤ) (back : Layout) (year month day minute second : ℕ) (offset : ℤ) (d : SaysDate prefix line year month day) (t : SaysClock prefix line minute second) (o : SaysOffset back rest assumed offset) → HasNoClock back → HasText back rest → Says back rest (split_values prefix back line rest assumed year month day minute second offset d t o)
 unfolding split_values
-back_says front line rest assumed back year month day minute second offset d t o none text = record { text = text; year = rw none.no_year tt; month = rw none.no_month tt; weekday = rw none.no_weekday tt; day = rw none.no_day tt; hour = rw none.no_hour tt; minute = rw none.no_minute tt; second = rw none.no_second tt; subsecond = rw none.no_subsecond tt; offset_hour = o.hour_says; offset_minute = o.minute_says }
+back_says prefix line rest assumed back year month day minute second offset d t o none text = record { text = text; year = rw none.no_year tt; month = rw none.no_month tt; weekday = rw none.no_weekday tt; day = rw none.no_day tt; hour = rw none.no_hour tt; minute = rw none.no_minute tt; second = rw none.no_second tt; subsecond = rw none.no_subsecond tt; offset_hour = o.hour_says; offset_minute = o.minute_says }
 
-split_moment : (front : Layout) (line rest : List ℕ) (assumed : Option ℤ) (back : Layout) (year month day minute second nanosecond : ℕ) (offset : ℤ) (d : SaysDate front line year month day) (t : SaysClock front line minute second) (o : SaysOffset back rest assumed offset) (f : Fields) → IsFront front → HasNoClock back → nanosecond < 1_000_000_000 → HaveNumbers f year month day minute second nanosecond offset
-    → moment_named (with_values back (split_values front back line rest assumed year month day minute second offset d t o) (record (with_values front (split_values front back line rest assumed year month day minute second offset d t o) (beginning assumed)) { subsecond = Some nanosecond })) ≡ Ok (moment_of f)
+split_moment : (prefix : Layout) (line rest : List ℕ) (assumed : Option ℤ) (back : Layout) (year month day minute second nanosecond : ℕ) (offset : ℤ) (d : SaysDate prefix line year month day) (t : SaysClock prefix line minute second) (o : SaysOffset back rest assumed offset) (f : Fields) → IsPrefix prefix → HasNoClock back → nanosecond < 1_000_000_000 → HaveNumbers f year month day minute second nanosecond offset
+    → moment_named (with_values back (split_values prefix back line rest assumed year month day minute second offset d t o) (record (with_values prefix (split_values prefix back line rest assumed year month day minute second offset d t o) (beginning assumed)) { subsecond = Some nanosecond })) ≡ Ok (moment_of f)
 unfolding split_values
-split_moment front line rest assumed back year month day minute second nanosecond offset d t o f none clock bound n =
-    let v : Values = split_values front back line rest assumed year month day minute second offset d t o in
+split_moment prefix line rest assumed back year month day minute second nanosecond offset d t o f none clock bound n =
+    let v : Values = split_values prefix back line rest assumed year month day minute second offset d t o in
     let r : Record = record (beginning assumed) { subsecond = Some nanosecond } in
-    let w : Option Weekday = read_or front.weekday (Some v.weekday) (beginning assumed).weekday in
-    let same = both_filled front back v (beginning assumed) nanosecond none clock d.year_there d.month_there d.day_there t.hour_there t.minute_there t.second_there in
+    let w : Option Weekday = read_or prefix.weekday (Some v.weekday) (beginning assumed).weekday in
+    let same = both_filled prefix back v (beginning assumed) nanosecond none clock d.year_there d.month_there d.day_there t.hour_there t.minute_there t.second_there in
     let in_day : calendar_date_of (pos year) (month_number d.name) day ≡ Ok (day_of_fields f) = rw d.number_is (calendar_date (pos year) month day (day_of_fields f) (fields_date f year month day minute second nanosecond offset n)) in
     let numbers : HaveNumbers f year month day (t.hour * 60 + t.minute) second nanosecond offset = rw t.minute_is at n in
     let in_time : time_of t.hour t.minute second nanosecond ≡ Ok (time_of_fields f) = fields_time f year month day t.hour t.minute second nanosecond offset numbers t.within_a_day t.within_an_hour bound in
     let in_offset : offset_named (filled back v w r) ≡ Ok (pos 60 *ℤ f.offset) = rw n.same_offset o.offset_is in
     ap (λ (x : Record). moment_named x) same ∙ dated back v w r (day_of_fields f) (time_of_fields f) nanosecond (pos 60 *ℤ f.offset) (bare_fraction assumed nanosecond) refl in_day in_time in_offset ∙ ap (λ (x : Shown). Ok x) (moment_is f)
 
-pub split_read : (front back : Layout) (line rest : List ℕ) (assumed : Option ℤ) (year month day minute second nanosecond : ℕ) (offset : ℤ) → IsFront front → HasNoClock back → front.length ≤ length line → HasText front line → taken (fraction_between 1 32) (drop front.length line) ≡ Some (nanosecond, rest) → nanosecond < 1_000_000_000 → back.length ≤ length rest → HasText back rest → SaysDate front line year month day → SaysClock front line minute second → SaysOffset back rest assumed offset
-    → (f : Fields) → HaveNumbers f year month day minute second nanosecond offset → (m : Meaning) → IsSplitOf m front back → NamesFront m (beginning assumed) line (drop back.length rest) (moment_of f)
-split_read front back line rest assumed year month day minute second nanosecond offset none clock fits text fraction bound long back_text d t o f n m plan =
-    let v : Values = split_values front back line rest assumed year month day minute second offset d t o in
+pub split_read : (prefix back : Layout) (line rest : List ℕ) (assumed : Option ℤ) (year month day minute second nanosecond : ℕ) (offset : ℤ) → IsPrefix prefix → HasNoClock back → prefix.length ≤ length line → HasText prefix line → taken (fraction_between 1 32) (drop prefix.length line) ≡ Some (nanosecond, rest) → nanosecond < 1_000_000_000 → back.length ≤ length rest → HasText back rest → SaysDate prefix line year month day → SaysClock prefix line minute second → SaysOffset back rest assumed offset
+    → (f : Fields) → HaveNumbers f year month day minute second nanosecond offset → (m : Meaning) → IsSplitOf m prefix back → NamesPrefix m (beginning assumed) line (drop back.length rest) (moment_of f)
+split_read prefix back line rest assumed year month day minute second nanosecond offset none clock fits text fraction bound long back_text d t o f n m plan =
+    let v : Values = split_values prefix back line rest assumed year month day minute second offset d t o in
     record {
-      set = with_values back v (record (with_values front v (beginning assumed)) { subsecond = Some nanosecond });
-      reads = was_read (m (beginning assumed) line) _ (plan line v nanosecond rest fits (front_says front line rest assumed back year month day minute second offset d t o none text) fraction long (back_says front line rest assumed back year month day minute second offset d t o clock back_text) (beginning assumed));
-      names = split_moment front line rest assumed back year month day minute second nanosecond offset d t o f none clock bound n;
+      set = with_values back v (record (with_values prefix v (beginning assumed)) { subsecond = Some nanosecond });
+      reads = was_read (m (beginning assumed) line) _ (plan line v nanosecond rest fits (prefix_says prefix line rest assumed back year month day minute second offset d t o none text) fraction long (back_says prefix line rest assumed back year month day minute second offset d t o clock back_text) (beginning assumed));
+      names = split_moment prefix line rest assumed back year month day minute second nanosecond offset d t o f none clock bound n;
     }

@@ -100,8 +100,8 @@ named_there : (place first second third number : ℕ) (line rest : List ℕ) (mo
 unfolding slot_piece
 named_there place first second third number line rest month e name is =
     let here : taken (named true short_months) (drop place line) ≡ Some (month, rest) = taken_named true short_months (drop place line) apart_months ∙ ap (found true short_months) e ∙ name rest in
-    let behind : rest ≡ drop (place + 3) line = sym (ap (drop 3) e) ∙ drop-drop 3 place line in
-    record { month = month; number_is = sym is; says = rw (here, behind) refl }
+    let after : rest ≡ drop (place + 3) line = sym (ap (drop 3) e) ∙ drop-drop 3 place line in
+    record { month = month; number_is = sym is; says = rw (here, after) refl }
 
 three_there : (line : List ℕ) (place : ℕ) → place + 3 ≤ length line → drop place line ≡ get_or line place 0 ∷ get_or line (place + 1) 0 ∷ get_or line (place + 2) 0 ∷ drop (place + 3) line
 three_there line place room =
@@ -134,8 +134,8 @@ weekday_there : (place first second third : ℕ) (line rest : List ℕ) (weekday
 unfolding slot_piece
 weekday_there place first second third line rest weekday e name =
     let here : taken (named true short_weekdays) (drop place line) ≡ Some (weekday, rest) = taken_named true short_weekdays (drop place line) apart_weekdays ∙ ap (found true short_weekdays) e ∙ name rest in
-    let behind : rest ≡ drop (place + 3) line = sym (ap (drop 3) e) ∙ drop-drop 3 place line in
-    record { weekday = weekday; says = rw (here, behind) refl }
+    let after : rest ≡ drop (place + 3) line = sym (ap (drop 3) e) ∙ drop-drop 3 place line in
+    record { weekday = weekday; says = rw (here, after) refl }
 
 pub weekday_named : (place : ℕ) (line : List ℕ) (weekday : Weekday) → place + 3 ≤ length line → IsWeekdayNameOf weekday (get_or line place 0) (get_or line (place + 1) 0) (get_or line (place + 2) 0) → SaysWeekday (Some place) line
 weekday_named place line weekday room name = weekday_there place (get_or line place 0) (get_or line (place + 1) 0) (get_or line (place + 2) 0) line (drop (place + 3) line) weekday (three_there line place room) name
@@ -160,8 +160,8 @@ pub offset_written : (line : List ℕ) (hour minute hours minutes : ℕ) (is_neg
 unfolding slot_piece
 offset_written line hour minute hours minutes is_negative offset lt sign minus in_hours in_minutes is =
     let c : ℕ = get_or line hour 0 in
-    let behind : hour + 1 + 2 ≡ hour + 3 = omega arith in
-    let here : taken (offset_hour padding.Zero true) (drop hour line) ≡ Some ((is_negative, hours), drop (hour + 3) line) = rw (drop_more line hour 0 lt, minus, ← behind) (signed_hours c hours hour (drop (hour + 1) line) (drop (hour + 1 + 2) line) line sign in_hours) in
+    let after : hour + 1 + 2 ≡ hour + 3 = omega arith in
+    let here : taken (offset_hour padding.Zero true) (drop hour line) ≡ Some ((is_negative, hours), drop (hour + 3) line) = rw (drop_more line hour 0 lt, minus, ← after) (signed_hours c hours hour (drop (hour + 1) line) (drop (hour + 1 + 2) line) line sign in_hours) in
     let ranges = offset_ranges is_negative hours minutes (pos 60 *ℤ offset) is in
     record {
       is_negative = is_negative;
@@ -177,7 +177,7 @@ offset_written line hour minute hours minutes is_negative offset lt sign minus i
 count_short : (count m : ℕ) → count ≤ m → min count m ≡ count
 count_short count m le = omega (arith, le)
 
--- so many digits, behind which there is none
+-- so many digits, after which there is none
 pub digits_end : (line : List ℕ) (place count nanosecond : ℕ) → 0 < count → count ≤ 32 → digits 1 (drop (place + count) line) ≡ None → WriteFraction (drop (place + count - count) line) count nanosecond → taken (fraction_between 1 32) (drop place line) ≡ Some (nanosecond, drop (place + count) line)
 digits_end line place count nanosecond some few ends w =
     let at : place + count - count ≡ place = omega arith in

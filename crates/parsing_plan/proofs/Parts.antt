@@ -10,7 +10,7 @@ use Rattle.calendar_count.specs.declared.month.Month.TheVariants as month
 use Rattle.calendar_count.specs.declared.weekday.Weekday.TheVariants as weekday
 use Rattle.parsing_combinator.specs.Pieces.{digits}
 use Rattle.parsing_values.specs.Resolution.{signed_offset_of}
-use Rattle.parsing_values.specs.NamedTime.{named_offset, seconds_behind}
+use Rattle.parsing_values.specs.NamedTime.{named_offset, seconds_after}
 use Rattle.parsing_components.specs.Ranged.{under}
 use Rattle.parsing_components.specs.Read as read
 use Rattle.parsing_record.specs.Parts.{under_sign}
@@ -66,7 +66,7 @@ clock_says l line at_hour at_minute at_second hour minute second minute_of_day h
 -- ---- offsets
 
 sign_named : (b : Bool) (hours minutes : ℕ) (second : Option ℤ) (offset : ℤ) → second ≡ None → signed_offset_of b hours minutes ≡ Ok offset → named_offset (record { hour = Some (under b hours); minute = under_sign b (Some (pos minutes)); second = under_sign b second }) ≡ Ok offset
-unfolding named_offset seconds_behind signed_offset_of
+unfolding named_offset seconds_after signed_offset_of
 sign_named true hours minutes second offset none e = rw (none, e) refl
 sign_named false hours minutes second offset none e = rw (none, e) refl
 
@@ -139,7 +139,7 @@ whole_named whole few =
     rw (few_hours hours (hours_few whole few), few_minutes minutes (minutes_few whole), no_sign minutes, no_sign hours, same_sign hours minutes (not_below whole) (not_above whole), sum_whole whole) refl
 
 pub assumed_is : (offset whole : ℤ) → whole ≡ int_div offset (pos 60) → unsigned_abs whole ≤ 1559 → offset_named (beginning (Some offset)) ≡ Ok (pos 60 *ℤ whole)
-unfolding named_offset seconds_behind
+unfolding named_offset seconds_after
 assumed_is offset whole w few =
     let there : offset_of (int_div (int_div offset (pos 60)) (pos 60)) (int_rem (int_div offset (pos 60)) (pos 60)) (pos 0) ≡ Ok (pos 60 *ℤ whole) = rw (← w) (whole_named whole few) in
     rw (nested offset, there) refl

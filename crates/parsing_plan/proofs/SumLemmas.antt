@@ -22,7 +22,7 @@ use Rattle.parsing_plan.specs.Sums.{HasSums, HasOffsetSums}
 use Rattle.parsing_plan.specs.Windows.{TakesOffset, SpareOffset, Apart}
 use Rattle.parsing_plan.specs.declared.plan.Back.{Back}
 use Rattle.parsing_plan.specs.declared.plan.OffsetPlaces.{OffsetPlaces}
-use Rattle.parsing_plan.specs.declared.plan.Front.{Front}
+use Rattle.parsing_plan.specs.declared.plan.Prefix.{Prefix}
 use Rattle.parsing_plan.specs.declared.sums.Sums.{Sums}
 
 -- a byte above 0 stands within a text
@@ -49,9 +49,9 @@ none_there line place e =
 pub none_past : (line : List ℕ) (place : ℕ) → length line ≤ place → digits 1 (drop place line) ≡ None
 none_past line place le = none_there line place (rw (get_or_past line place 0 le) refl)
 
--- ---- the front of a line
+-- ---- the prefix of a line
 
-module _ (plan : Front) (line v n : List ℕ) (h : Taken plan.windows line v) (small : (k : ℕ) → get_or line k 0 < 256) (long : plan.layout.length ≤ length line) where
+module _ (plan : Prefix) (line v n : List ℕ) (h : Taken plan.windows line v) (small : (k : ℕ) → get_or line k 0 < 256) (long : plan.layout.length ≤ length line) where
   digit_there : (place : ℕ) → LetsAt plan.windows place 48 9 → HasDigit line place
   digit_there place lets =
       let b = byte_within plan.windows line v place 48 9 h small lets (lit< tt) in
@@ -113,7 +113,7 @@ module _ (plan : Front) (line v n : List ℕ) (h : Taken plan.windows line v) (s
           seconds_are = seconds;
         }
 
-  -- ---- an offset in front
+  -- ---- an offset before
 
   module _ (paired : Paired v n) where
     sign_in : (o : Option OffsetPlaces) → ForNone o (SpareTwo plan.windows 12) → ForSome o (λ p. TakesOffset plan.windows plan.layout p.hour p.minute) → get_or n 12 0 ≤ 2
@@ -122,11 +122,11 @@ module _ (plan : Front) (line v n : List ℕ) (h : Taken plan.windows line v) (s
         let s = sign_taken plan.windows line v n h p.hour small (some p refl).sign (paired 6 (lit< tt)) in
         omega (arith, s.is, s.high)
 
-    pub front_sums : (s : Sums) → s.day ≡ get_or n 0 0 + 64 * get_or n 2 0 → s.minute ≡ 60 * get_or n 4 0 + get_or n 6 0 → s.second ≡ get_or n 12 0 + 64 * get_or n 14 0 → HasSums plan line s
-    front_sums s days minutes seconds = sums_there (paired 0 (lit< tt)) (paired 1 (lit< tt)) (paired 2 (lit< tt)) (paired 3 (lit< tt)) (paired 7 (lit< tt)) s days minutes seconds (sign_in plan.offset plan.no_sign plan.offset_is)
+    pub prefix_sums : (s : Sums) → s.day ≡ get_or n 0 0 + 64 * get_or n 2 0 → s.minute ≡ 60 * get_or n 4 0 + get_or n 6 0 → s.second ≡ get_or n 12 0 + 64 * get_or n 14 0 → HasSums plan line s
+    prefix_sums s days minutes seconds = sums_there (paired 0 (lit< tt)) (paired 1 (lit< tt)) (paired 2 (lit< tt)) (paired 3 (lit< tt)) (paired 7 (lit< tt)) s days minutes seconds (sign_in plan.offset plan.no_sign plan.offset_is)
 
-    pub front_offset : (s : Sums) → s.offset ≡ 60 * get_or n 8 0 + get_or n 10 0 → s.second ≡ get_or n 12 0 + 64 * get_or n 14 0 → (p : OffsetPlaces) → plan.offset ≡ Some p → HasOffsetSums plan.layout line p.hour p.minute s
-    front_offset s offset seconds p is =
+    pub prefix_offset : (s : Sums) → s.offset ≡ 60 * get_or n 8 0 + get_or n 10 0 → s.second ≡ get_or n 12 0 + 64 * get_or n 14 0 → (p : OffsetPlaces) → plan.offset ≡ Some p → HasOffsetSums plan.layout line p.hour p.minute s
+    prefix_offset s offset seconds p is =
         let t = plan.offset_is p is in
         let sign = sign_taken plan.windows line v n h p.hour small t.sign (paired 6 (lit< tt)) in
         let hour = two_taken plan.windows line v n h 4 (p.hour + 1) 9 (lit< tt) (lit≤ tt) t.hour_digits (paired 4 (lit< tt)) in
@@ -148,11 +148,11 @@ module _ (plan : Front) (line v n : List ℕ) (h : Taken plan.windows line v) (s
 
 -- ---- the last bytes of a line
 
--- a number behind a place
-written_behind : (line : List ℕ) (at place n m : ℕ) → m ≡ at + place → WritesAt 2 line m n → WritesAt 2 (drop at line) place n
-written_behind line at place n m is w =
-    let behind : at + place + 2 ≡ at + (place + 2) = omega arith in
-    rw (drop-drop place at line, drop-drop (place + 2) at line) (rw (is, behind) at w)
+-- a number after a place
+written_after : (line : List ℕ) (at place n m : ℕ) → m ≡ at + place → WritesAt 2 line m n → WritesAt 2 (drop at line) place n
+written_after line at place n m is w =
+    let after : at + place + 2 ≡ at + (place + 2) = omega arith in
+    rw (drop-drop place at line, drop-drop (place + 2) at line) (rw (is, after) at w)
 
 module _ (back : Back) (line : List ℕ) (end count : ℕ) (v t f : List ℕ) (h : HaveLast back.last line end count t f) (small : (k : ℕ) → get_or line k 0 < 256) (long : 16 ≤ end) (within : end ≤ length line) where
   few : back.layout.length ≤ 16
@@ -178,9 +178,9 @@ module _ (back : Back) (line : List ℕ) (end count : ℕ) (v t f : List ℕ) (h
   apart_byte : (c low most : ℕ) → Apart low most → low ≤ c → c ≤ low + most → is_ascii_digit c ≡ false
   apart_byte c low most apart a b = let no_digit = apart.no_digit in grind (arith, nat_tests, no_digit)
 
-  pub none_behind : 0 < back.layout.length → digits 1 (drop (end - back.layout.length) line) ≡ None
+  pub none_after : 0 < back.layout.length → digits 1 (drop (end - back.layout.length) line) ≡ None
   unfolding at
-  none_behind some =
+  none_after some =
       let low : ℕ = get_or back.last.window.low (16 - back.layout.length) 0 in
       let most : ℕ = get_or back.last.window.high (16 - back.layout.length) 0 in
       let same : 16 - back.layout.length + 0 ≡ 16 - back.layout.length = omega arith in
@@ -213,15 +213,15 @@ module _ (back : Back) (line : List ℕ) (end count : ℕ) (v t f : List ℕ) (h
 
   -- ---- all of a line with a fraction
 
-  module _ (plan : Front) (w n : List ℕ) (front : Taken plan.windows line v) (longer : plan.layout.length ≤ length line) (spare : SpareOffset plan.windows)
+  module _ (plan : Prefix) (w n : List ℕ) (prefix : Taken plan.windows line v) (longer : plan.layout.length ≤ length line) (spare : SpareOffset plan.windows)
       (joined : (k : ℕ) → k < 16 → get_or w k 0 ≡ bit_or (get_or v k 0) (get_or t k 0)) (paired : Paired w n) where
-    of_front : (k : ℕ) → k < 16 → 128 ≤ get_or back.last.window.taken.lanes k 0 → get_or w k 0 ≡ get_or v k 0
-    of_front k lt free = joined k lt ∙ rw (h.none k lt free) (or_zero (get_or v k 0))
+    of_prefix : (k : ℕ) → k < 16 → 128 ≤ get_or back.last.window.taken.lanes k 0 → get_or w k 0 ≡ get_or v k 0
+    of_prefix k lt free = joined k lt ∙ rw (h.none k lt free) (or_zero (get_or v k 0))
 
-    front_paired : (j : ℕ) → j < 8 → 128 ≤ get_or back.last.window.taken.lanes (2 * j) 0 → 128 ≤ get_or back.last.window.taken.lanes (2 * j + 1) 0 → PairedAt v n j
-    front_paired j lt first second a b =
-        let x = of_front (2 * j) (omega (arith, lt)) first in
-        let y = of_front (2 * j + 1) (omega (arith, lt)) second in
+    prefix_paired : (j : ℕ) → j < 8 → 128 ≤ get_or back.last.window.taken.lanes (2 * j) 0 → 128 ≤ get_or back.last.window.taken.lanes (2 * j + 1) 0 → PairedAt v n j
+    prefix_paired j lt first second a b =
+        let x = of_prefix (2 * j) (omega (arith, lt)) first in
+        let y = of_prefix (2 * j + 1) (omega (arith, lt)) second in
         omega (arith, x, y, paired j lt (omega (arith, x, a)) (omega (arith, y, b)))
 
     of_last : (k : ℕ) → k < 16 → get_or v k 0 ≡ 0 → get_or w k 0 ≡ get_or t k 0
@@ -229,8 +229,8 @@ module _ (back : Back) (line : List ℕ) (end count : ℕ) (v t f : List ℕ) (h
 
     last_paired : (j : ℕ) → j < 8 → SpareTwo plan.windows (2 * j) → get_or t (2 * j) 0 ≤ 9 → get_or t (2 * j + 1) 0 ≤ 9 → get_or n (2 * j) 0 ≡ get_or t (2 * j) 0 * 10 + get_or t (2 * j + 1) 0
     last_paired j lt free a b =
-        let x = of_last (2 * j) (omega (arith, lt)) (front.none (2 * j) (omega (arith, lt)) (record { front_free = free.first_front; back_free = free.first_back })) in
-        let y = of_last (2 * j + 1) (omega (arith, lt)) (front.none (2 * j + 1) (omega (arith, lt)) (record { front_free = free.second_front; back_free = free.second_back })) in
+        let x = of_last (2 * j) (omega (arith, lt)) (prefix.none (2 * j) (omega (arith, lt)) (record { prefix_free = free.first_prefix; back_free = free.first_back })) in
+        let y = of_last (2 * j + 1) (omega (arith, lt)) (prefix.none (2 * j + 1) (omega (arith, lt)) (record { prefix_free = free.second_prefix; back_free = free.second_back })) in
         omega (arith, x, y, paired j lt (omega (arith, x, a)) (omega (arith, y, b)))
 
     sign_value : (o : Option OffsetPlaces) → back.offset ≡ o → get_or n 12 0 ≡ get_or t 13 0
@@ -251,12 +251,12 @@ module _ (back : Back) (line : List ℕ) (end count : ℕ) (v t f : List ℕ) (h
     pub split_sums : (s : Sums) → s.day ≡ get_or n 0 0 + 64 * get_or n 2 0 → s.minute ≡ 60 * get_or n 4 0 + get_or n 6 0 → s.second ≡ get_or n 12 0 + 64 * get_or n 14 0 → HasSums plan line s
     split_sums s days minutes seconds =
         let free = back.no_clock in
-        sums_there plan line v n front small longer
-        (front_paired 0 (lit< tt) (free.front 0 (lit< tt)) (free.front 1 (lit< tt)))
-        (front_paired 1 (lit< tt) (free.front 2 (lit< tt)) (free.front 3 (lit< tt)))
-        (front_paired 2 (lit< tt) (free.front 4 (lit< tt)) (free.front 5 (lit< tt)))
-        (front_paired 3 (lit< tt) (free.front 6 (lit< tt)) (free.front 7 (lit< tt)))
-        (front_paired 7 (lit< tt) free.tens free.ones)
+        sums_there plan line v n prefix small longer
+        (prefix_paired 0 (lit< tt) (free.prefix 0 (lit< tt)) (free.prefix 1 (lit< tt)))
+        (prefix_paired 1 (lit< tt) (free.prefix 2 (lit< tt)) (free.prefix 3 (lit< tt)))
+        (prefix_paired 2 (lit< tt) (free.prefix 4 (lit< tt)) (free.prefix 5 (lit< tt)))
+        (prefix_paired 3 (lit< tt) (free.prefix 6 (lit< tt)) (free.prefix 7 (lit< tt)))
+        (prefix_paired 7 (lit< tt) free.tens free.ones)
         s days minutes seconds (sign_few back.offset refl)
 
     pub split_offset : (s : Sums) → s.offset ≡ 60 * get_or n 8 0 + get_or n 10 0 → s.second ≡ get_or n 12 0 + 64 * get_or n 14 0 → (p : OffsetPlaces) → back.offset ≡ Some p → HasOffsetSums back.layout (drop (end - back.layout.length) line) p.hour p.minute s
@@ -283,8 +283,8 @@ module _ (back : Back) (line : List ℕ) (end count : ℕ) (v t f : List ℕ) (h
           sign_low = sign.low;
           sign_high = sign.high;
           sign_is = omega (arith, seconds, n12, sign.is, sign.high);
-          hour_is = written_behind line (end - back.layout.length) (p.hour + 1) (get_or n 8 0) _ refl hour.written;
-          minute_is = written_behind line (end - back.layout.length) p.minute (get_or n 10 0) _ refl minute.written;
+          hour_is = written_after line (end - back.layout.length) (p.hour + 1) (get_or n 8 0) _ refl hour.written;
+          minute_is = written_after line (end - back.layout.length) p.minute (get_or n 10 0) _ refl minute.written;
           minute_few = minute.few;
           offset_are = offset;
         }

@@ -91,14 +91,14 @@ pub record ReadsUnix (line : List ℕ) (finer nanoseconds : ℕ) : Type 0 where
   pub scaled_is : number * 10 ^ (9 - finer) ≡ nanoseconds
 
 -- ten digits of seconds, and then those of a fraction
-seconds_read : (line behind : List ℕ) (finer second fraction : ℕ) → finer ≤ 6 → 10 + finer ≡ length line → digits 10 line ≡ Some (second, behind) → WriteFraction (drop 10 line) finer fraction → ReadsUnix line finer (second * second_nanos + fraction)
+seconds_read : (line later : List ℕ) (finer second fraction : ℕ) → finer ≤ 6 → 10 + finer ≡ length line → digits 10 line ≡ Some (second, later) → WriteFraction (drop 10 line) finer fraction → ReadsUnix line finer (second * second_nanos + fraction)
 unfolding digits
-seconds_read line behind finer second fraction few long ten w =
+seconds_read line later finer second fraction few long ten w =
     let run : List ℕ = take finer (drop 10 line) in
-    let after : behind ≡ drop 10 line = sym (digits_read 10 line second behind ten).after in
+    let after : later ≡ drop 10 line = sym (digits_read 10 line second later ten).after in
     let there : leb finer (digit_count (drop 10 line)) ≡ true = let enough = w.enough in grind (arith, nat_tests) in
     let nothing : drop finer (drop 10 line) ≡ [] = drop_all finer (drop 10 line) (omega (arith, length-drop 10 line)) in
-    let finer_read : digits finer behind ≡ Some (digits_value 10 run, []) = rw after (rw (there, nothing) refl) in
+    let finer_read : digits finer later ≡ Some (digits_value 10 run, []) = rw after (rw (there, nothing) refl) in
     let run_long : length run ≡ finer = length-take-le finer (drop 10 line) (omega (arith, length-drop 10 line)) in
     let value : digits_value 10 run * 10 ^ (9 - finer) ≡ fraction = ap (λ (n : ℕ). digits_value 10 run * 10 ^ (9 - n)) (sym run_long) ∙ short_fraction run (omega arith) ∙ sym w.value in
     let power : 10 ^ finer * 10 ^ (9 - finer) ≡ second_nanos = sym (pow-add 10 finer (9 - finer)) ∙ ap (λ (n : ℕ). 10 ^ n) (let e : finer + (9 - finer) ≡ 9 = omega arith in e) in
@@ -108,21 +108,21 @@ seconds_read line behind finer second fraction few long ten w =
       scaled_is = scaled second (10 ^ finer) (digits_value 10 run) (10 ^ (9 - finer)) second_nanos power ∙ ap (λ (n : ℕ). second * second_nanos + n) value;
     }
 
-pub ten_read : (line rest behind : List ℕ) (first last : ℕ) → digits 1 line ≡ Some (first, rest) → digits 9 rest ≡ Some (last, behind) → digits 10 line ≡ Some (first * 1_000_000_000 + last, behind)
-ten_read line rest behind first last one nine = digits_add 1 9 line ∙ rw one (rw nine refl)
+pub ten_read : (line rest later : List ℕ) (first last : ℕ) → digits 1 line ≡ Some (first, rest) → digits 9 rest ≡ Some (last, later) → digits 10 line ≡ Some (first * 1_000_000_000 + last, later)
+ten_read line rest later first last one nine = digits_add 1 9 line ∙ rw one (rw nine refl)
 
-unix_line : (line behind : List ℕ) (finer second fraction : ℕ) (m : Meaning) (defaults : Option Record) (assumed : Option ℤ) (f : Fields) → finer ≤ 6 → 10 + finer ≡ length line → second < 10_000_000_000 → fraction < 1_000_000_000 → digits 10 line ≡ Some (second, behind) → WriteFraction (drop 10 line) finer fraction → moment_of f ≡ record { wall = pos (second * second_nanos + fraction); offset = pos 0 } → IsUnixOf m finer → starting defaults ≡ beginning assumed → names moment_named (whole m defaults line) ≡ Ok (moment_of f)
-unix_line line behind finer second fraction m defaults assumed f few long below small ten w is reads_it start =
-    let r = seconds_read line behind finer second fraction few long ten w in
+unix_line : (line later : List ℕ) (finer second fraction : ℕ) (m : Meaning) (defaults : Option Record) (assumed : Option ℤ) (f : Fields) → finer ≤ 6 → 10 + finer ≡ length line → second < 10_000_000_000 → fraction < 1_000_000_000 → digits 10 line ≡ Some (second, later) → WriteFraction (drop 10 line) finer fraction → moment_of f ≡ record { wall = pos (second * second_nanos + fraction); offset = pos 0 } → IsUnixOf m finer → starting defaults ≡ beginning assumed → names moment_named (whole m defaults line) ≡ Ok (moment_of f)
+unix_line line later finer second fraction m defaults assumed f few long below small ten w is reads_it start =
+    let r = seconds_read line later finer second fraction few long ten w in
     let n : ℕ = second * second_nanos + fraction in
     let within : n ≤ 20_000_000_000_000_000_000 = omega arith in
     let read = was_read (m (starting defaults) line) _ (reads_it line r.number r.all (rw r.scaled_is within) (starting defaults)) in
     let all : m (starting defaults) line ≡ Ok (record (beginning assumed) { unix_timestamp_nanos = Some (pos n) }, []) = rw (← start, ← r.scaled_is) read in
     rw (whole_is m defaults line (record (beginning assumed) { unix_timestamp_nanos = Some (pos n) }) all, is) (unix_named assumed n (in_calendar n within))
 
-pub unix_lines : (line behind : List ℕ) (finer second fraction : ℕ) (m : Meaning) (defaults : Option Record) (assumed : Option ℤ) (o : Option Fields) → finer ≤ 6 → 10 + finer ≡ length line → second < 10_000_000_000 → fraction < 1_000_000_000 → digits 10 line ≡ Some (second, behind) → WriteFraction (drop 10 line) finer fraction → IfSome o (λ f. moment_of f ≡ record { wall = pos (second * second_nanos + fraction); offset = pos 0 }) → IsUnixOf m finer → starting defaults ≡ beginning assumed → IfSome o (λ f. names moment_named (whole m defaults line) ≡ Ok (moment_of f))
-unix_lines line behind finer second fraction m defaults assumed None few long below small ten w is reads_it start = tt
-unix_lines line behind finer second fraction m defaults assumed (Some f) few long below small ten w is reads_it start = unix_line line behind finer second fraction m defaults assumed f few long below small ten w is reads_it start
+pub unix_lines : (line later : List ℕ) (finer second fraction : ℕ) (m : Meaning) (defaults : Option Record) (assumed : Option ℤ) (o : Option Fields) → finer ≤ 6 → 10 + finer ≡ length line → second < 10_000_000_000 → fraction < 1_000_000_000 → digits 10 line ≡ Some (second, later) → WriteFraction (drop 10 line) finer fraction → IfSome o (λ f. moment_of f ≡ record { wall = pos (second * second_nanos + fraction); offset = pos 0 }) → IsUnixOf m finer → starting defaults ≡ beginning assumed → IfSome o (λ f. names moment_named (whole m defaults line) ≡ Ok (moment_of f))
+unix_lines line later finer second fraction m defaults assumed None few long below small ten w is reads_it start = tt
+unix_lines line later finer second fraction m defaults assumed (Some f) few long below small ten w is reads_it start = unix_line line later finer second fraction m defaults assumed f few long below small ten w is reads_it start
 
 -- no digits of a fraction
 pub no_fraction_written : (bytes : List ℕ) → WriteFraction bytes 0 0

@@ -9,7 +9,7 @@ use Rattle.parsing_record.specs.Record.{Record}
 use Rattle.parsing_plan.specs.declared.layout.Layout.{Layout}
 use Rattle.parsing_components.specs.Slot.{Values}
 use Rattle.parsing_plan.specs.Layout.{with_values}
-use Rattle.parsing_plan.specs.declared.plan.Front.{Front}
+use Rattle.parsing_plan.specs.declared.plan.Prefix.{Prefix}
 use Rattle.parsing_plan.specs.declared.plan.Places.{Places}
 use Rattle.parsing_plan.specs.declared.plan.Plan.{Plan}
 use Rattle.parsing_plan.specs.declared.plan.Back.{Back}
@@ -50,12 +50,12 @@ was_read (Ok x) y e = ap (λ (z : Record × List ℕ). Ok z) (let same : x ≡ y
 was_read (Err f) y e = absurd cc
 
 -- a fraction between two layouts
-pub leads_to_split : (language : Language) (all left ts : List Tree) (t : Tree) (front back : Layout) → LeadsTo language all left front → left ≡ t ∷ ts → IsFractionOf (reading language t) → IsLayoutOf (reading_of_all language (listed ts)) back → IsSplitOf (reading_of_all language (listed all)) front back
-leads_to_split language all left ts t front back leads cut fraction others line v nanosecond rest fits says read long says_back r = ap result_ok (
+pub leads_to_split : (language : Language) (all left ts : List Tree) (t : Tree) (prefix back : Layout) → LeadsTo language all left prefix → left ≡ t ∷ ts → IsFractionOf (reading language t) → IsLayoutOf (reading_of_all language (listed ts)) back → IsSplitOf (reading_of_all language (listed all)) prefix back
+leads_to_split language all left ts t prefix back leads cut fraction others line v nanosecond rest fits says read long says_back r = ap result_ok (
     leads line v fits says r
-    ∙ ap (λ (xs : List Tree). reading_of_all language (listed xs) (with_values front v r) (drop front.length line)) cut
-    ∙ first_read language t ts (with_values front v r) (record (with_values front v r) { subsecond = Some nanosecond }) (drop front.length line) rest (fraction (with_values front v r) (drop front.length line) nanosecond rest read)
-    ∙ was_read (reading_of_all language (listed ts) (record (with_values front v r) { subsecond = Some nanosecond }) rest) _ (others rest v long says_back (record (with_values front v r) { subsecond = Some nanosecond })))
+    ∙ ap (λ (xs : List Tree). reading_of_all language (listed xs) (with_values prefix v r) (drop prefix.length line)) cut
+    ∙ first_read language t ts (with_values prefix v r) (record (with_values prefix v r) { subsecond = Some nanosecond }) (drop prefix.length line) rest (fraction (with_values prefix v r) (drop prefix.length line) nanosecond rest read)
+    ∙ was_read (reading_of_all language (listed ts) (record (with_values prefix v r) { subsecond = Some nanosecond }) rest) _ (others rest v long says_back (record (with_values prefix v r) { subsecond = Some nanosecond })))
 
 same_inside : {A : Type 0} (x y : A) → Some x ≡ Some y → x ≡ y
 same_inside x y e = let same : x ≡ y = cc in same
@@ -65,22 +65,22 @@ none_and_some None x e none = cc
 none_and_some (Some y) x e none = cc
 
 -- a plan of a layout, and a plan of two with a fraction between them
-pub whole_plan : (language : Language) (all left : List Tree) (layout : Layout) (plan : Places) → LeadsTo language all left layout → left ≡ [] → plan.front.layout ≡ layout → plan.back ≡ None → ArePlacesOf (reading_of_all language (listed all)) plan
+pub whole_plan : (language : Language) (all left : List Tree) (layout : Layout) (plan : Places) → LeadsTo language all left layout → left ≡ [] → plan.prefix.layout ≡ layout → plan.back ≡ None → ArePlacesOf (reading_of_all language (listed all)) plan
 whole_plan language all left layout plan leads end is none = (λ e. rw is (leads_to_end language all left layout leads end), λ back e. absurd (none_and_some plan.back back e none))
 
 -- a plan with a back
-split_plan : (m : Meaning) (plan : Places) (back : Back) (front behind : Layout) → plan.front.layout ≡ front → plan.back ≡ Some back → back.layout ≡ behind → IsSplitOf m front behind → ArePlacesOf m plan
-split_plan m plan back front behind ahead some after split = (
+split_plan : (m : Meaning) (plan : Places) (back : Back) (prefix later : Layout) → plan.prefix.layout ≡ prefix → plan.back ≡ Some back → back.layout ≡ later → IsSplitOf m prefix later → ArePlacesOf m plan
+split_plan m plan back prefix later ahead some after split = (
   (λ e. absurd (none_and_some plan.back back some e)),
   (λ x e.
-      let same : x.layout ≡ behind = ap (λ (b : Back). b.layout) (same_inside x back (sym e ∙ some)) ∙ after in
+      let same : x.layout ≡ later = ap (λ (b : Back). b.layout) (same_inside x back (sym e ∙ some)) ∙ after in
       rw (ahead, same) split),
 )
 
-pub split_plans : (language : Language) (all left ts others : List Tree) (t : Tree) (front behind : Layout) (first : Front) (back : Back) (o : Option Places) → LeadsTo language all left front → left ≡ t ∷ ts → IsFractionOf (reading language t) → LeadsTo language ts others behind → others ≡ [] → first.layout ≡ front → back.layout ≡ behind → IfSome o (λ plan. plan.front ≡ first) → IfSome o (λ plan. plan.back ≡ Some back) → IfSome o (ArePlacesOf (reading_of_all language (listed all)))
-split_plans language all left ts others t front behind first back None leads cut fraction more end in_front in_back is some = tt
-split_plans language all left ts others t front behind first back (Some plan) leads cut fraction more end in_front in_back is some =
-    split_plan (reading_of_all language (listed all)) plan back front behind (ap (λ (f : Front). f.layout) is ∙ in_front) some in_back (leads_to_split language all left ts t front behind leads cut fraction (leads_to_end language ts others behind more end))
+pub split_plans : (language : Language) (all left ts others : List Tree) (t : Tree) (prefix later : Layout) (first : Prefix) (back : Back) (o : Option Places) → LeadsTo language all left prefix → left ≡ t ∷ ts → IsFractionOf (reading language t) → LeadsTo language ts others later → others ≡ [] → first.layout ≡ prefix → back.layout ≡ later → IfSome o (λ plan. plan.prefix ≡ first) → IfSome o (λ plan. plan.back ≡ Some back) → IfSome o (ArePlacesOf (reading_of_all language (listed all)))
+split_plans language all left ts others t prefix later first back None leads cut fraction more end before in_back is some = tt
+split_plans language all left ts others t prefix later first back (Some plan) leads cut fraction more end before in_back is some =
+    split_plan (reading_of_all language (listed all)) plan back prefix later (ap (λ (f : Prefix). f.layout) is ∙ before) some in_back (leads_to_split language all left ts t prefix later leads cut fraction (leads_to_end language ts others later more end))
 
 -- an item that holds others reads what they read, one after the other
 compound_plan : (language : Language) (ts : List Tree) (plan : Plan) → IsPlanOf (reading_of_all language (listed ts)) plan → IsPlanOf (reading language (Compound (listed ts))) plan

@@ -90,7 +90,7 @@ pub record HasNoOffset (l : Layout) : Type 0 where
   pub no_minute : l.offset_minute ≡ None
 
 -- a layout has no place for a fraction of a second, nor for an offset
-pub record IsFront (l : Layout) : Type 0 where
+pub record IsPrefix (l : Layout) : Type 0 where
   pub no_offset : HasNoOffset l
   pub no_subsecond : l.subsecond ≡ None
 

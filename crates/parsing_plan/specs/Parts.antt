@@ -26,7 +26,7 @@ abbrev pub WritesDay : Bool → List ℕ → ℕ → ℕ → Type 0
 WritesDay true line place number = taken (spaced_between 2 2) (drop place line) ≡ Some (number, drop (place + 2) line)
 WritesDay false line place number = WritesAt 2 line place number
 
--- a digit stands behind a place, and a byte from a space to a digit at it
+-- a digit stands after a place, and a byte from a space to a digit at it
 pub record HasSpaced (line : List ℕ) (place : ℕ) : Type 0 where
   pub room : place + 2 ≤ length line
   pub first_low : 32 ≤ get_or line place 0
@@ -96,7 +96,7 @@ pub record SaysFraction (l : Layout) (line : List ℕ) (fraction : ℕ) : Type 0
   pub says : SaysAt (slot.Subsecond l.subsecond_digits) l.subsecond line (read.Subsecond nanosecond)
   pub fraction_is : unwrap_or (read_or l.subsecond (Some nanosecond) None) 0 ≡ fraction
 
--- hours behind a sign and minutes, each at a place, are an offset of so many minutes
+-- hours after a sign and minutes, each at a place, are an offset of so many minutes
 pub record WritesOffset (line : List ℕ) (hour_place minute_place : ℕ) (offset : ℤ) : Type 0 where
   pub is_negative : Bool
   pub hours : ℕ

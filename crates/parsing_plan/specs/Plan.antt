@@ -15,25 +15,25 @@ use Rattle.parsing_plan.specs.declared.plan.Places.{Places}
 use Rattle.parsing_plan.specs.declared.plan.Plan.{Plan}
 pub use Rattle.parsing_plan.specs.Beginning.{beginning}
 
--- a line that has the layout at its front is read by these items, which set the values of the slots
+-- a line that has the layout at its prefix is read by these items, which set the values of the slots
 abbrev pub IsLayoutOf : Meaning → Layout → Type 0
 IsLayoutOf m l = (line : List ℕ) (v : Values) → l.length ≤ length line → Says l line v → (r : Record) → result_ok (m r line) ≡ Some (with_values l v r, drop l.length line)
 
 -- the same of a layout, then the digits of a fraction, then another layout
 abbrev pub IsSplitOf : Meaning → Layout → Layout → Type 0
-IsSplitOf m front back = (line : List ℕ) (v : Values) (nanosecond : ℕ) (rest : List ℕ) → front.length ≤ length line → Says front line v → taken (fraction_between 1 32) (drop front.length line) ≡ Some (nanosecond, rest) → back.length ≤ length rest → Says back rest v
-    → (r : Record) → result_ok (m r line) ≡ Some (with_values back v (record (with_values front v r) { subsecond = Some nanosecond }), drop back.length rest)
+IsSplitOf m prefix back = (line : List ℕ) (v : Values) (nanosecond : ℕ) (rest : List ℕ) → prefix.length ≤ length line → Says prefix line v → taken (fraction_between 1 32) (drop prefix.length line) ≡ Some (nanosecond, rest) → back.length ≤ length rest → Says back rest v
+    → (r : Record) → result_ok (m r line) ≡ Some (with_values back v (record (with_values prefix v r) { subsecond = Some nanosecond }), drop back.length rest)
 
 -- the items read as the places say
 abbrev pub ArePlacesOf : Meaning → Places → Type 0
-ArePlacesOf m places = ForNone places.back (IsLayoutOf m places.front.layout) × ForSome places.back (λ back. IsSplitOf m places.front.layout back.layout)
+ArePlacesOf m places = ForNone places.back (IsLayoutOf m places.prefix.layout) × ForSome places.back (λ back. IsSplitOf m places.prefix.layout back.layout)
 
 -- the items read as the plan says
 abbrev pub IsPlanOf : Meaning → Plan → Type 0
 IsPlanOf m plan = ForSome plan.places (ArePlacesOf m) × ForSome plan.unix (λ unix. IsUnixOf m unix.finer)
 
--- the items read a front of the line from a record, leave this rest, and the record that they set names this moment
-pub record NamesFront (m : Meaning) (r : Record) (line rest : List ℕ) (moment : Shown) : Type 0 where
+-- the items read a prefix of the line from a record, leave this rest, and the record that they set names this moment
+pub record NamesPrefix (m : Meaning) (r : Record) (line rest : List ℕ) (moment : Shown) : Type 0 where
   pub set : Record
   pub reads : m r line ≡ Ok (set, rest)
   pub names : moment_named set ≡ Ok moment

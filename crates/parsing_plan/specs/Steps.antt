@@ -51,6 +51,6 @@ pub record ReadsBetween (m : Meaning) (old new : Layout) (line : List ℕ) (v : 
 abbrev pub IsStep : Meaning → Layout → Layout → Type 0
 IsStep m old new = (line : List ℕ) (v : Values) → new.length ≤ length line → Says new line v → ReadsBetween m old new line v
 
--- behind a line's front that has the layout, the items that are left go on reading
+-- after a line's prefix that has the layout, the items that are left go on reading
 abbrev pub LeadsTo : Language → List Tree → List Tree → Layout → Type 0
 LeadsTo language all left l = (line : List ℕ) (v : Values) → l.length ≤ length line → Says l line v → (r : Record) → reading_of_all language (listed all) r line ≡ reading_of_all language (listed left) (with_values l v r) (drop l.length line)

@@ -4,27 +4,27 @@ use Rattle.parsing_combinator.specs.Places.{HasPair}
 use Rattle.parsing_plan.specs.Layout.{HasText}
 use Rattle.parsing_plan.specs.Parts.{WritesAt, HasSpaced}
 use Rattle.parsing_plan.specs.declared.layout.Layout.{Layout}
-use Rattle.parsing_plan.specs.declared.plan.Front.{Front}
+use Rattle.parsing_plan.specs.declared.plan.Prefix.{Prefix}
 use Rattle.parsing_plan.specs.declared.sums.Sums.{Sums}
 
--- those that stand at the places of a front
-pub record HasSums (front : Front) (line : List ℕ) (sums : Sums) : Type 0 where
+-- those that stand at the places of a prefix
+pub record HasSums (prefix : Prefix) (line : List ℕ) (sums : Sums) : Type 0 where
   pub month : ℕ
   pub day : ℕ
   pub hour : ℕ
   pub minute : ℕ
   pub second : ℕ
   pub sign : ℕ
-  pub text : HasText front.layout line
-  pub century : HasPair line front.year
-  pub last_two : HasPair line (front.year + 2)
-  pub month_is : front.layout.month_is_named ≡ false → WritesAt 2 line front.month month
-  pub day_is : front.layout.day_is_spaced ≡ false → WritesAt 2 line front.day day
-  pub spaced : front.layout.day_is_spaced ≡ true → HasSpaced line front.day
-  pub ones_are : front.layout.day_is_spaced ≡ true → day ≡ get_or line (front.day + 1) 0 - 48
-  pub hour_is : WritesAt 2 line front.hour hour
-  pub minute_is : WritesAt 2 line front.minute minute
-  pub second_is : WritesAt 2 line front.second second
+  pub text : HasText prefix.layout line
+  pub century : HasPair line prefix.year
+  pub last_two : HasPair line (prefix.year + 2)
+  pub month_is : prefix.layout.month_is_named ≡ false → WritesAt 2 line prefix.month month
+  pub day_is : prefix.layout.day_is_spaced ≡ false → WritesAt 2 line prefix.day day
+  pub spaced : prefix.layout.day_is_spaced ≡ true → HasSpaced line prefix.day
+  pub ones_are : prefix.layout.day_is_spaced ≡ true → day ≡ get_or line (prefix.day + 1) 0 - 48
+  pub hour_is : WritesAt 2 line prefix.hour hour
+  pub minute_is : WritesAt 2 line prefix.minute minute
+  pub second_is : WritesAt 2 line prefix.second second
   pub month_few : month ≤ 59
   pub day_few : day ≤ 99
   pub minute_few : minute ≤ 59

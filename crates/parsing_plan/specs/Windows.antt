@@ -47,7 +47,7 @@ BeginsApart last length = 0 < length → Apart (get_or last.low (16 - length) 0)
 
 -- they take no number of a date or a time of day, and no sign
 pub record SparesClock (last : Window) : Type 0 where
-  pub front : (k : ℕ) → k < 8 → 128 ≤ get_or last.taken.lanes k 0
+  pub prefix : (k : ℕ) → k < 8 → 128 ≤ get_or last.taken.lanes k 0
   pub tens : 128 ≤ get_or last.taken.lanes 14 0
   pub ones : 128 ≤ get_or last.taken.lanes 15 0
 

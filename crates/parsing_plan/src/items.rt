@@ -21,7 +21,7 @@ pub(crate) enum Step<'a> {
     Part(Slot),
     /// One digit or more of a fraction of a second.
     Fraction,
-    /// Unix time with so many digits of a fraction behind the ten of its seconds.
+    /// Unix time with so many digits of a fraction after the ten of its seconds.
     Unix(usize),
 }
 
@@ -52,7 +52,7 @@ fn step_of<N: Node>(node: &N) -> Option<Step<'_>>
     }
 }
 
-// The layout with a step behind it.
+// The layout with a step after it.
 fn with_step(layout: Layout, step: Step<'_>) -> Option<Layout>
     ensures { IfSome result (λ l. (m : Meaning) → IsStepOf m step.entry → IsStep m layout l) }
 {
@@ -63,7 +63,7 @@ fn with_step(layout: Layout, step: Step<'_>) -> Option<Layout>
     }
 }
 
-// The layout with an item behind it.
+// The layout with an item after it.
 fn with_item<N: Node>(layout: Layout, item: &N) -> Option<Layout>
     ensures { IfSome result (IsStep (reading N.language (N.tree item.now)) layout) }
 {
@@ -71,7 +71,7 @@ fn with_item<N: Node>(layout: Layout, item: &N) -> Option<Layout>
     with_step(layout, step)
 }
 
-/// The layout of as many items at the front as have one, and how many they are.
+/// The layout of as many items at the start as have one, and how many they are.
 pub(crate) fn lead<N: Node>(items: &[N]) -> (Layout, usize)
     ensures leads { LeadsTo N.language (map N.tree items.now)
         (map N.tree (drop result.1 items.now)) result.0 }

@@ -10,10 +10,10 @@ use parsing_components::Slot;
 /// The most bytes of a layout.
 pub(crate) const LENGTH: usize = 32;
 
-/// What stands at each place of the front of a line: a byte of a literal, or a slot, if any.
+/// What stands at each place of the prefix of a line: a byte of a literal, or a slot, if any.
 #[derive(Clone, Copy)]
 pub(crate) struct Layout {
-    /// The bytes of the front.
+    /// The bytes of the prefix.
     pub(crate) length: usize,
     pub(crate) year: Option<usize>,
     pub(crate) month: Option<usize>,
@@ -151,7 +151,7 @@ impl Layout {
         })
     }
 
-    /// The layout with a slot behind it: `None` where it has that slot, or is too long.
+    /// The layout with a slot after it: `None` where it has that slot, or is too long.
     pub(crate) fn with_slot(self, slot: Slot) -> Option<Layout>
         ensures value { IfSome result (λ l. l ≡ with_slot self slot) }
         ensures free { IfSome result (λ _. place_of self slot ≡ None) }
@@ -169,7 +169,7 @@ impl Layout {
         }
     }
 
-    // The layout with a byte of a literal behind it.
+    // The layout with a byte of a literal after it.
     fn with_byte(self, byte: u8) -> Option<Layout>
         ensures value { IfSome result (λ l. l ≡ with_byte self byte) }
         ensures room { IfSome result (λ _. self.length < length self.text) }
@@ -187,7 +187,7 @@ impl Layout {
         Some(longer)
     }
 
-    /// The layout with a literal behind it: `None` where it is too long.
+    /// The layout with a literal after it: `None` where it is too long.
     pub(crate) fn with_text(self, text: &[u8]) -> Option<Layout>
         ensures { IfSome result (IsTextStep text.now self) }
     {

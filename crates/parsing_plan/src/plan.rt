@@ -2,7 +2,7 @@
 ghost use Rattle.std.specs.Prelude.{◌≡◌, ◌≤◌, ◌<◌, ◌+◌, true, false, Some};
 ghost use Rattle.std.specs.Option.{ForSome, ForNone};
 ghost use Rattle.parsing_places.specs.Windows.{LetsAt, TakeTwo, TakeOne, SpareTwo, SpareOne};
-ghost use Rattle.parsing_plan.specs.Layout.{HasNoOffset, HasNoClock, IsFront, HasRoom};
+ghost use Rattle.parsing_plan.specs.Layout.{HasNoOffset, HasNoClock, IsPrefix, HasRoom};
 ghost use Rattle.parsing_plan.specs.Windows.{LetText, LetYear, TakesOffset, SpareOffset, LetLastText, BeginsApart, SparesClock, SparesSign, TakesLastOffset};
 
 mod calls;
@@ -11,7 +11,7 @@ use crate::layout::Layout;
 use crate::unix::UnixTime;
 use parsing_places::{LastBytes, Windows};
 
-/// The places of an offset's hours, behind which its sign stands, and of its minutes.
+/// The places of an offset's hours, after which its sign stands, and of its minutes.
 #[derive(Clone, Copy)]
 pub(crate) struct OffsetPlaces {
     pub(crate) hour: usize,
@@ -36,9 +36,9 @@ pub(crate) struct Back {
         (λ places. TakesLastOffset last.window layout places.hour places.minute) },
 }
 
-/// Where each component stands at the front of a line, for items that all have fixed widths.
+/// Where each component stands at the start of a line, for items that all have fixed widths.
 #[derive(Clone, Copy)]
-pub(crate) struct Front {
+pub(crate) struct Prefix {
     pub(crate) layout: Layout,
     /// The bytes at its places, and the lanes that take its numbers.
     pub(crate) windows: Windows,
@@ -81,11 +81,11 @@ pub(crate) struct Front {
 /// second.
 #[derive(Clone, Copy)]
 pub(crate) struct Places {
-    pub(crate) front: Front,
-    /// What follows a fraction of a second behind the front, where there is one.
+    pub(crate) prefix: Prefix,
+    /// What follows a fraction of a second after the prefix, where there is one.
     pub(crate) back: Option<Back>,
-    ghost one_fraction: { ForSome back (λ _. IsFront front.layout) },
-    ghost one_offset: { ForSome back (λ _. SpareOffset front.windows) },
+    ghost one_fraction: { ForSome back (λ _. IsPrefix prefix.layout) },
+    ghost one_offset: { ForSome back (λ _. SpareOffset prefix.windows) },
 }
 
 /// How lines of a description are read by places: each component where it stands, or Unix time alone.

@@ -1,4 +1,4 @@
-//! The fields of a front of a line, by the places of its parts.
+//! The fields of a prefix of a line, by the places of its parts.
 ghost use Rattle.std.specs.Prelude.{◌≡◌, ◌<◌, ◌≤◌, ◌+◌, ◌-◌, ◌*◌, ◌*ℤ◌, pos, Ok, Some, None, true, false, drop, get_or, length, unsigned_abs, IfSome, Option, List, ℕ};
 ghost use Rattle.std.specs.Option.{ForSome, ForNone};
 ghost use Rattle.calendar_count.specs.Calendar.{IsDay};
@@ -6,22 +6,22 @@ ghost use Rattle.parsing_combinator.specs.Pieces.{digits};
 ghost use Rattle.parsing_fields.specs.Moment.{moment_of};
 ghost use Rattle.parsing_record.specs.Meaning.{Meaning};
 ghost use Rattle.parsing_record.specs.Whole.{offset_named};
-ghost use Rattle.parsing_plan.specs.Layout.{HasNoOffset, IsFront};
+ghost use Rattle.parsing_plan.specs.Layout.{HasNoOffset, IsPrefix};
 ghost use Rattle.parsing_plan.specs.Parts.{HasName, IsWeekday, WritesAt, WritesDay, WritesOffset, SaysMonth, SaysWeekday, SaysDate, SaysClock, SaysFraction, SaysOffset, HasSpaced};
 ghost use Rattle.parsing_plan.specs.Beginning.{beginning};
 ghost use Rattle.parsing_plan.specs.Sums.{HasSums, HasOffsetSums};
 ghost use Rattle.parsing_plan.specs.Windows.{SpareOffset};
 ghost use Rattle.parsing_plan.specs.declared.layout.Layout.{Layout};
-ghost use Rattle.parsing_plan.specs.Plan.{IsLayoutOf, IsSplitOf, NamesFront};
+ghost use Rattle.parsing_plan.specs.Plan.{IsLayoutOf, IsSplitOf, NamesPrefix};
 
-use crate::plan::{Back, Front, OffsetPlaces};
+use crate::plan::{Back, OffsetPlaces, Prefix};
 use crate::sums::{Sums, split_sums_of, sums_of};
 use calendar::{Month, UtcOffset};
 use parsing_fields::{Fields, Fraction, Year, has_day};
 use parsing_places::{LANES, signed};
 
 // `Oct`, `Feb`, `Dec`, `Jul`, `Nov`, `Jan`, `Jun`, `May`, `Sep`, `Aug`, `Mar`, `Apr`, in one number each, the first letter
-// lowest, behind the number of its month. The highest bits of a product of the letters say where in the table they would
+// lowest, after the number of its month. The highest bits of a product of the letters say where in the table they would
 // stand, so that no jump depends on the month.
 static MONTHS: [u32; 16] = [
     0,
@@ -83,21 +83,21 @@ fn month_of_number(line: &[u8], place: usize, number: u8) -> Option<u8>
 
 // The number of the month of a line, whose number stands there where it has no name.
 #[inline(always)]
-fn month_of(front: &Front, line: &[u8], number: u8) -> Option<u8>
-    requires long { front.now.layout.length ≤ length line.now }
-    requires digits { front.now.layout.month_is_named ≡ false
-        → WritesAt 2 line.now front.now.month number }
-    ensures says { IfSome result (SaysMonth front.now.layout.month_is_named line.now front.now.month) }
+fn month_of(prefix: &Prefix, line: &[u8], number: u8) -> Option<u8>
+    requires long { prefix.now.layout.length ≤ length line.now }
+    requires digits { prefix.now.layout.month_is_named ≡ false
+        → WritesAt 2 line.now prefix.now.month number }
+    ensures says { IfSome result (SaysMonth prefix.now.layout.month_is_named line.now prefix.now.month) }
     ensures bound { IfSome result (λ n. (1 ≤ n) × (n ≤ 12)) }
 {
-    if front.layout.month_is_named {
-        month_name_at(line, front.month)
+    if prefix.layout.month_is_named {
+        month_name_at(line, prefix.month)
     } else {
-        month_of_number(line, front.month, number)
+        month_of_number(line, prefix.month, number)
     }
 }
 
-// The day behind a byte that may be a space, and the ones at the next place. Of a space the low half is 0, and of a digit its
+// The day after a byte that may be a space, and the ones at the next place. Of a space the low half is 0, and of a digit its
 // number.
 #[inline(always)]
 fn spaced_day(line: &[u8], place: usize, ones: u8) -> Option<u8>
@@ -114,22 +114,22 @@ fn spaced_day(line: &[u8], place: usize, ones: u8) -> Option<u8>
 
 // The number of the day of a line, or of its ones where its tens may be a space.
 #[inline(always)]
-fn day_of(front: &Front, line: &[u8], number: u8) -> Option<u8>
-    requires digits { front.now.layout.day_is_spaced ≡ false
-        → WritesAt 2 line.now front.now.day number }
-    requires spaced { front.now.layout.day_is_spaced ≡ true → HasSpaced line.now front.now.day }
-    requires ones { front.now.layout.day_is_spaced ≡ true
-        → number ≡ get_or line.now (front.now.day + 1) 0 - 48 }
-    ensures { IfSome result (WritesDay front.now.layout.day_is_spaced line.now front.now.day) }
+fn day_of(prefix: &Prefix, line: &[u8], number: u8) -> Option<u8>
+    requires digits { prefix.now.layout.day_is_spaced ≡ false
+        → WritesAt 2 line.now prefix.now.day number }
+    requires spaced { prefix.now.layout.day_is_spaced ≡ true → HasSpaced line.now prefix.now.day }
+    requires ones { prefix.now.layout.day_is_spaced ≡ true
+        → number ≡ get_or line.now (prefix.now.day + 1) 0 - 48 }
+    ensures { IfSome result (WritesDay prefix.now.layout.day_is_spaced line.now prefix.now.day) }
 {
-    if front.layout.day_is_spaced {
-        spaced_day(line, front.day, number)
+    if prefix.layout.day_is_spaced {
+        spaced_day(line, prefix.day, number)
     } else {
         Some(number)
     }
 }
 
-// `Fri`, `Tue`, `Sat`, `Mon`, `Sun`, `Wed`, `Thu`, as in `MONTHS`, with nothing behind them; the last entry is none.
+// `Fri`, `Tue`, `Sat`, `Mon`, `Sun`, `Wed`, `Thu`, as in `MONTHS`, with nothing after them; the last entry is none.
 static WEEKDAYS: [u32; 8] = [
     0x6972_4600,
     0x6575_5400,
@@ -175,21 +175,21 @@ fn has_day_of_month(year: Year, month: u8, day: u8) -> bool
     has_day(year, month, day)
 }
 
-// The year, the month and the day of a line that begins with the layout of a front.
+// The year, the month and the day of a line that begins with the layout of a prefix.
 #[inline(always)]
-pub(crate) fn date(front: &Front, line: &[u8], sums: Sums) -> Option<(Year, u8, u8)>
-    requires long { front.now.layout.length ≤ length line.now }
-    requires sums { HasSums front.now line.now sums }
-    ensures says { IfSome result (λ d. SaysDate front.now.layout line.now d.0 d.1 d.2) }
+pub(crate) fn date(prefix: &Prefix, line: &[u8], sums: Sums) -> Option<(Year, u8, u8)>
+    requires long { prefix.now.layout.length ≤ length line.now }
+    requires sums { HasSums prefix.now line.now sums }
+    ensures says { IfSome result (λ d. SaysDate prefix.now.layout line.now d.0 d.1 d.2) }
     ensures day { IfSome result (λ d. IsDay (pos d.0) d.1 d.2) }
     ensures year { IfSome result (λ d. d.0 ≤ 9999) }
 {
-    if !has_weekday(front.layout.weekday, line) {
+    if !has_weekday(prefix.layout.weekday, line) {
         return None;
     }
-    let month = month_of(front, line, (sums.day % 64) as u8)?;
-    let day = day_of(front, line, (sums.day / 64) as u8)?;
-    let year = Year::of_digits(line, front.year);
+    let month = month_of(prefix, line, (sums.day % 64) as u8)?;
+    let day = day_of(prefix, line, (sums.day / 64) as u8)?;
+    let year = Year::of_digits(line, prefix.year);
     if !has_day_of_month(year, month, day) {
         return None;
     }
@@ -198,9 +198,9 @@ pub(crate) fn date(front: &Front, line: &[u8], sums: Sums) -> Option<(Year, u8, 
 
 // The minute of the day, and the second.
 #[inline(always)]
-pub(crate) fn clock(front: &Front, line: &[u8], sums: Sums) -> Option<(u16, u8)>
-    requires { HasSums front.now line.now sums }
-    ensures says { IfSome result (λ t. SaysClock front.now.layout line.now t.0 t.1) }
+pub(crate) fn clock(prefix: &Prefix, line: &[u8], sums: Sums) -> Option<(u16, u8)>
+    requires { HasSums prefix.now line.now sums }
+    ensures says { IfSome result (λ t. SaysClock prefix.now.layout line.now t.0 t.1) }
     ensures minute { IfSome result (λ t. t.0 < 1440) }
     ensures second { IfSome result (λ t. t.1 < 60) }
 {
@@ -256,15 +256,15 @@ pub(crate) fn offset(
 
 // The fraction of a second, of which the digits are there, where it has a place.
 #[inline(always)]
-pub(crate) fn fraction(front: &Front, line: &[u8]) -> Option<Fraction>
-    requires { front.now.layout.length ≤ length line.now }
-    ensures says { IfSome result (SaysFraction front.now.layout line.now) }
+pub(crate) fn fraction(prefix: &Prefix, line: &[u8]) -> Option<Fraction>
+    requires { prefix.now.layout.length ≤ length line.now }
+    ensures says { IfSome result (SaysFraction prefix.now.layout line.now) }
     ensures bound { IfSome result (λ f. f < 1_000_000_000) }
 {
-    match front.layout.subsecond {
+    match prefix.layout.subsecond {
         None => Some(Fraction::new(0)),
         Some(place) => {
-            let digits = front.layout.subsecond_digits;
+            let digits = prefix.layout.subsecond_digits;
             Fraction::of_digits(line, place + digits, digits)
         }
     }
@@ -274,29 +274,29 @@ pub(crate) fn fraction(front: &Front, line: &[u8]) -> Option<Fraction>
 // to an end.
 #[inline(always)]
 pub(crate) fn split_fields(
-    front: &Front,
+    prefix: &Prefix,
     back: &Back,
     line: &[u8],
     end: usize,
     count: usize,
     assumed: Option<UtcOffset>,
 ) -> Option<Fields>
-    requires one_fraction { IsFront front.now.layout }
-    requires one_offset { SpareOffset front.now.windows }
-    requires all { front.now.layout.length + count + back.now.layout.length ≡ end }
+    requires one_fraction { IsPrefix prefix.now.layout }
+    requires one_offset { SpareOffset prefix.now.windows }
+    requires all { prefix.now.layout.length + count + back.now.layout.length ≡ end }
     requires long { LANES ≤ end }
     requires within { end ≤ length line.now }
     requires some { 0 < count }
     requires few { count ≤ 9 }
     requires near { count + back.now.layout.length ≤ LANES }
     requires ends { back.now.layout.length ≡ 0 → digits 1 (drop end line.now) ≡ None }
-    ensures { (m : Meaning) → IsSplitOf m front.now.layout back.now.layout
-        → IfSome result (λ f. NamesFront m (beginning assumed) line.now
+    ensures { (m : Meaning) → IsSplitOf m prefix.now.layout back.now.layout
+        → IfSome result (λ f. NamesPrefix m (beginning assumed) line.now
         (drop end line.now) (moment_of f)) }
 {
-    let (sums, fraction) = split_sums_of(front, back, line, end, count)?;
-    let (year, month, day) = date(front, line, sums)?;
-    let (minute, second) = clock(front, line, sums)?;
+    let (sums, fraction) = split_sums_of(prefix, back, line, end, count)?;
+    let (year, month, day) = date(prefix, line, sums)?;
+    let (minute, second) = clock(prefix, line, sums)?;
     let offset = offset(back.offset, sums, assumed)?;
     Some(Fields::of_numbers(year, month, day, minute, second, fraction, offset))
 }
@@ -304,19 +304,19 @@ pub(crate) fn split_fields(
 // The fields of a line that begins with a layout.
 #[inline(always)]
 pub(crate) fn layout_fields(
-    front: &Front,
+    prefix: &Prefix,
     line: &[u8],
     assumed: Option<UtcOffset>,
 ) -> Option<Fields>
-    requires { front.now.layout.length ≤ length line.now }
-    ensures { (m : Meaning) → IsLayoutOf m front.now.layout
-        → IfSome result (λ f. NamesFront m (beginning assumed) line.now
-        (drop front.now.layout.length line.now) (moment_of f)) }
+    requires { prefix.now.layout.length ≤ length line.now }
+    ensures { (m : Meaning) → IsLayoutOf m prefix.now.layout
+        → IfSome result (λ f. NamesPrefix m (beginning assumed) line.now
+        (drop prefix.now.layout.length line.now) (moment_of f)) }
 {
-    let sums = sums_of(front, line)?;
-    let (year, month, day) = date(front, line, sums)?;
-    let (minute, second) = clock(front, line, sums)?;
-    let fraction = fraction(front, line)?;
-    let offset = offset(front.offset, sums, assumed)?;
+    let sums = sums_of(prefix, line)?;
+    let (year, month, day) = date(prefix, line, sums)?;
+    let (minute, second) = clock(prefix, line, sums)?;
+    let fraction = fraction(prefix, line)?;
+    let offset = offset(prefix.offset, sums, assumed)?;
     Some(Fields::of_numbers(year, month, day, minute, second, fraction, offset))
 }

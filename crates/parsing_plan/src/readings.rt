@@ -1,4 +1,4 @@
-//! Readings of lines and of their fronts.
+//! Readings of lines and of their prefixes.
 ghost use Rattle.std.specs.Prelude.{◌≡◌, ◌<◌, ◌≤◌, ◌+◌, Ok, None, true, drop, length, IfSome, Option};
 ghost use Rattle.parsing_combinator.specs.Pieces.{digits};
 ghost use Rattle.parsing_combinator.specs.Tame.{EndsWith};
@@ -6,12 +6,12 @@ ghost use Rattle.parsing_fields.specs.Moment.{moment_of};
 ghost use Rattle.parsing_record.specs.Meaning.{Meaning};
 ghost use Rattle.parsing_record.specs.Record.{Record};
 ghost use Rattle.parsing_record.specs.Whole.{whole, names, moment_named, starting};
-ghost use Rattle.parsing_plan.specs.Layout.{IsFront};
+ghost use Rattle.parsing_plan.specs.Layout.{IsPrefix};
 ghost use Rattle.parsing_plan.specs.Windows.{SpareOffset};
 ghost use Rattle.parsing_plan.specs.Beginning.{beginning};
-ghost use Rattle.parsing_plan.specs.Plan.{ArePlacesOf, IsPlanOf, IsSplitOf, NamesFront};
+ghost use Rattle.parsing_plan.specs.Plan.{ArePlacesOf, IsPlanOf, IsSplitOf, NamesPrefix};
 
-use crate::plan::{Back, Front, Places, Plan};
+use crate::plan::{Back, Places, Plan, Prefix};
 use crate::read::{clock, date, fraction, layout_fields, offset, split_fields};
 use crate::sums::sums_of;
 use calendar::UtcOffset;
@@ -34,18 +34,23 @@ fn from(bytes: &[u8], place: usize) -> &[u8]
 
 // The fields of a line that has a fraction of a second: its digits are all that the rest of its length leaves.
 #[inline(always)]
-fn read_split(front: &Front, back: &Back, line: &[u8], assumed: Option<UtcOffset>) -> Option<Fields>
-    requires one_fraction { IsFront front.now.layout }
-    requires one_offset { SpareOffset front.now.windows }
+fn read_split(
+    prefix: &Prefix,
+    back: &Back,
+    line: &[u8],
+    assumed: Option<UtcOffset>,
+) -> Option<Fields>
+    requires one_fraction { IsPrefix prefix.now.layout }
+    requires one_offset { SpareOffset prefix.now.windows }
     ensures { (m : Meaning) (defaults : Option Record)
-        → IsSplitOf m front.now.layout back.now.layout → starting defaults ≡ beginning assumed
+        → IsSplitOf m prefix.now.layout back.now.layout → starting defaults ≡ beginning assumed
         → IfSome result (λ f. names moment_named (whole m defaults line.now) ≡ Ok (moment_of f)) }
 {
     let end = line.len();
-    if end < LANES || end <= front.layout.length {
+    if end < LANES || end <= prefix.layout.length {
         return None;
     }
-    let left = end - front.layout.length;
+    let left = end - prefix.layout.length;
     if left > LANES || left <= back.layout.length {
         return None;
     }
@@ -53,7 +58,7 @@ fn read_split(front: &Front, back: &Back, line: &[u8], assumed: Option<UtcOffset
     if count > MOST_DIGITS {
         return None;
     }
-    split_fields(front, back, line, end, count, assumed)
+    split_fields(prefix, back, line, end, count, assumed)
 }
 
 // How many digits stand at a place, up to ten.
@@ -71,33 +76,33 @@ fn digits_at(line: &[u8], place: usize) -> usize
     MOST_DIGITS + 1
 }
 
-// The fields of a front of a line that has a fraction of a second, and what stands behind the front.
+// The fields of a prefix of a line that has a fraction of a second, and what stands after the prefix.
 #[inline(always)]
-fn read_split_front<'l>(
-    front: &Front,
+fn read_split_prefix<'l>(
+    prefix: &Prefix,
     back: &Back,
     line: &'l [u8],
     assumed: Option<UtcOffset>,
 ) -> Option<(Fields, &'l [u8])>
-    requires one_fraction { IsFront front.now.layout }
-    requires one_offset { SpareOffset front.now.windows }
-    ensures front { (m : Meaning) → IsSplitOf m front.now.layout back.now.layout → IfSome result
-        (λ x. NamesFront m (beginning assumed) line.now x.1.now (moment_of x.0)) }
+    requires one_fraction { IsPrefix prefix.now.layout }
+    requires one_offset { SpareOffset prefix.now.windows }
+    ensures prefix { (m : Meaning) → IsSplitOf m prefix.now.layout back.now.layout → IfSome result
+        (λ x. NamesPrefix m (beginning assumed) line.now x.1.now (moment_of x.0)) }
     ensures end { IfSome result (λ x. EndsWith line.now x.1.now) }
 {
-    if line.len() < front.layout.length {
+    if line.len() < prefix.layout.length {
         return None;
     }
-    let count = digits_at(line, front.layout.length);
+    let count = digits_at(line, prefix.layout.length);
     if count < 1 || count > MOST_DIGITS || count > LANES - back.layout.length {
         return None;
     }
-    let place = front.layout.length + count;
+    let place = prefix.layout.length + count;
     if line.len() - place < back.layout.length || place + back.layout.length < LANES {
         return None;
     }
     let end = place + back.layout.length;
-    let fields = split_fields(front, back, line, end, count, assumed)?;
+    let fields = split_fields(prefix, back, line, end, count, assumed)?;
     Some((fields, from(line, end)))
 }
 
@@ -111,40 +116,40 @@ impl Places {
             (λ f. names moment_named (whole m defaults line.now) ≡ Ok (moment_of f)) }
     {
         if let Some(back) = &self.back {
-            return read_split(&self.front, back, line, assumed);
+            return read_split(&self.prefix, back, line, assumed);
         }
-        let front = &self.front;
-        if line.len() != front.layout.length {
+        let prefix = &self.prefix;
+        if line.len() != prefix.layout.length {
             return None;
         }
         // As in `layout_fields`: fields that a call hands on would take some twenty instructions a line.
-        let sums = sums_of(front, line)?;
-        let (year, month, day) = date(front, line, sums)?;
-        let (minute, second) = clock(front, line, sums)?;
-        let fraction = fraction(front, line)?;
-        let offset = offset(front.offset, sums, assumed)?;
+        let sums = sums_of(prefix, line)?;
+        let (year, month, day) = date(prefix, line, sums)?;
+        let (minute, second) = clock(prefix, line, sums)?;
+        let fraction = fraction(prefix, line)?;
+        let offset = offset(prefix.offset, sums, assumed)?;
         Some(Fields::of_numbers(year, month, day, minute, second, fraction, offset))
     }
 
-    // The fields of a front of a line, and what stands behind the front.
+    // The fields of a prefix of a line, and what stands after the prefix.
     #[inline(always)]
-    fn read_front<'l>(
+    fn read_prefix<'l>(
         &self,
         line: &'l [u8],
         assumed: Option<UtcOffset>,
     ) -> Option<(Fields, &'l [u8])>
-        ensures front { (m : Meaning) → ArePlacesOf m self.now → IfSome result
-            (λ x. NamesFront m (beginning assumed) line.now x.1.now (moment_of x.0)) }
+        ensures prefix { (m : Meaning) → ArePlacesOf m self.now → IfSome result
+            (λ x. NamesPrefix m (beginning assumed) line.now x.1.now (moment_of x.0)) }
         ensures end { IfSome result (λ x. EndsWith line.now x.1.now) }
     {
         if let Some(back) = &self.back {
-            return read_split_front(&self.front, back, line, assumed);
+            return read_split_prefix(&self.prefix, back, line, assumed);
         }
-        let length = self.front.layout.length;
+        let length = self.prefix.layout.length;
         if line.len() < length {
             return None;
         }
-        let fields = layout_fields(&self.front, line, assumed)?;
+        let fields = layout_fields(&self.prefix, line, assumed)?;
         Some((fields, from(line, length)))
     }
 }
@@ -168,22 +173,22 @@ impl Plan {
         None
     }
 
-    /// The fields of a front of a line that the plan finds, with an offset assumed or none, and what stands behind that
-    /// front: the items of the plan read it, and what they set names the moment of the fields. `None` says nothing of the
+    /// The fields of a prefix of a line that the plan finds, with an offset assumed or none, and what stands after that
+    /// prefix: the items of the plan read it, and what they set names the moment of the fields. `None` says nothing of the
     /// line.
     #[inline(always)]
-    pub fn read_front<'l>(
+    pub fn read_prefix<'l>(
         &self,
         line: &'l [u8],
         assumed: Option<UtcOffset>,
     ) -> Option<(Fields, &'l [u8])>
-        ensures front { (m : Meaning) → IsPlanOf m self.now → IfSome result
-            (λ x. NamesFront m (beginning assumed) line.now x.1.now (moment_of x.0)) }
+        ensures prefix { (m : Meaning) → IsPlanOf m self.now → IfSome result
+            (λ x. NamesPrefix m (beginning assumed) line.now x.1.now (moment_of x.0)) }
         ensures end { IfSome result (λ x. EndsWith line.now x.1.now) }
     {
         let Some(places) = &self.places else {
             return None;
         };
-        places.read_front(line, assumed)
+        places.read_prefix(line, assumed)
     }
 }

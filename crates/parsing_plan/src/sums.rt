@@ -7,7 +7,7 @@ ghost use Rattle.parsing_plan.specs.Layout.{HasText};
 ghost use Rattle.parsing_plan.specs.Sums.{HasSums, HasOffsetSums};
 ghost use Rattle.parsing_plan.specs.Windows.{SpareOffset};
 
-use crate::plan::{Back, Front};
+use crate::plan::{Back, Prefix};
 use parsing_fields::Fraction;
 use parsing_places::{LANES, fraction_of, joined, paired, sums};
 
@@ -24,15 +24,15 @@ pub(crate) struct Sums {
     pub(crate) second: u32,
 }
 
-/// The numbers of a line that begins with the layout of a front.
+/// The numbers of a line that begins with the layout of a prefix.
 #[inline(always)]
-pub(crate) fn sums_of(front: &Front, line: &[u8]) -> Option<Sums>
-    requires { front.now.layout.length ≤ length line.now }
-    ensures sums { IfSome result (HasSums front.now line.now) }
-    ensures offset { IfSome result (λ s. ForSome front.now.offset
-        (λ p. HasOffsetSums front.now.layout line.now p.hour p.minute s)) }
+pub(crate) fn sums_of(prefix: &Prefix, line: &[u8]) -> Option<Sums>
+    requires { prefix.now.layout.length ≤ length line.now }
+    ensures sums { IfSome result (HasSums prefix.now line.now) }
+    ensures offset { IfSome result (λ s. ForSome prefix.now.offset
+        (λ p. HasOffsetSums prefix.now.layout line.now p.hour p.minute s)) }
 {
-    let (fits, digits) = front.windows.digits_of(line);
+    let (fits, digits) = prefix.windows.digits_of(line);
     if !fits {
         return None;
     }
@@ -45,23 +45,23 @@ pub(crate) fn sums_of(front: &Front, line: &[u8]) -> Option<Sums>
     })
 }
 
-/// The numbers of a line that begins with the layout of a front, then so many digits of a fraction, and what stands behind
+/// The numbers of a line that begins with the layout of a prefix, then so many digits of a fraction, and what stands after
 /// it, up to an end; and the fraction.
 #[inline(always)]
 pub(crate) fn split_sums_of(
-    front: &Front,
+    prefix: &Prefix,
     back: &Back,
     line: &[u8],
     end: usize,
     count: usize,
 ) -> Option<(Sums, Fraction)>
-    requires longer { front.now.layout.length ≤ length line.now }
-    requires one_offset { SpareOffset front.now.windows }
+    requires longer { prefix.now.layout.length ≤ length line.now }
+    requires one_offset { SpareOffset prefix.now.windows }
     requires long { LANES ≤ end }
     requires within { end ≤ length line.now }
     requires few { count ≤ 9 }
     requires near { count + back.now.layout.length ≤ LANES }
-    ensures sums { IfSome result (λ x. HasSums front.now line.now x.0) }
+    ensures sums { IfSome result (λ x. HasSums prefix.now line.now x.0) }
     ensures offset { IfSome result (λ x. ForSome back.now.offset
         (λ p. HasOffsetSums back.now.layout (drop (end - back.now.layout.length) line.now)
         p.hour p.minute x.0)) }
@@ -73,7 +73,7 @@ pub(crate) fn split_sums_of(
         WriteFraction (drop (end - back.now.layout.length - count) line.now) count x.1) }
     ensures bound { IfSome result (λ x. x.1 < 1_000_000_000) }
 {
-    let (fits, digits) = front.windows.digits_of(line);
+    let (fits, digits) = prefix.windows.digits_of(line);
     let (ends, last, fraction) = back.last.read(line, end, count);
     if !fits || !ends {
         return None;

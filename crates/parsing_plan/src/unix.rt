@@ -15,7 +15,7 @@ use parsing_fields::{Fields, Fraction};
 // The digits of the seconds, those of the years 2001 to 2286.
 const SECOND_DIGITS: usize = 10;
 
-/// Unix time alone: ten digits of seconds, and so many digits of a fraction behind them.
+/// Unix time alone: ten digits of seconds, and so many digits of a fraction after them.
 #[derive(Clone, Copy)]
 pub(crate) struct UnixTime {
     pub(crate) finer: usize,
@@ -40,9 +40,9 @@ pub(crate) fn finer_digits(component: &Component) -> Option<usize>
     }
 }
 
-// The fraction that the digits behind the seconds write, which may be none.
+// The fraction that the digits after the seconds write, which may be none.
 #[inline(always)]
-fn fraction_behind(line: &[u8], finer: usize) -> Option<Fraction>
+fn fraction_after(line: &[u8], finer: usize) -> Option<Fraction>
     requires long { SECOND_DIGITS + finer ≡ length line.now }
     requires few { finer ≤ 6 }
     ensures writes { IfSome result (WriteFraction (drop SECOND_DIGITS line.now) finer) }
@@ -68,9 +68,9 @@ impl UnixTime {
             return None;
         }
         let (first, rest) = one_digit(line)?;
-        let (last, _behind) = nine_digits(rest)?;
+        let (last, _after) = nine_digits(rest)?;
         let second = u64::from(first) * 1_000_000_000 + u64::from(last);
-        let fraction = fraction_behind(line, self.finer)?;
+        let fraction = fraction_after(line, self.finer)?;
         Fields::of_unix(second, fraction)
     }
 }

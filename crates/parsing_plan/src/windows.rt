@@ -75,8 +75,8 @@ impl Made {
 
     fn let_year(&mut self, place: Option<usize>) {
         if let Some(place) = place {
-            for behind in 0..4 {
-                self.lets(place.wrapping_add(behind), b'0', 9);
+            for after in 0..4 {
+                self.lets(place.wrapping_add(after), b'0', 9);
             }
         }
     }
@@ -142,10 +142,10 @@ pub(crate) fn windows_of(layout: &Layout) -> Option<Windows>
     let mut first = made.moves(0, &NOTHING);
     first[SIGN] = 128;
     let last = made.moves(back_at, &first);
-    let front = made.window(0, first)?;
+    let prefix = made.window(0, first)?;
     let back = made.window(back_at, last)?;
     Some(Windows {
-        front,
+        prefix,
         back,
         back_at,
     })

@@ -31,7 +31,7 @@ literally text bytes = if bytes_eq (take (length text) bytes) text then Ok (tt, 
 abbrev pub unchanged : Reading (Unit {0}) → Meaning
 unchanged reading r bytes = then_read (reading bytes) (λ _ rest. Ok (r, rest))
 
--- behind what was read the next one; a refusal is that of all
+-- after what was read the next one; a refusal is that of all
 abbrev pub then_counted : Answer → ℕ → Counted → Answer × ℕ
 then_counted (Ok x) n next = more n (next x.0 x.1)
 then_counted (Err f) n next = (Err f, n)

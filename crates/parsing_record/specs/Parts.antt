@@ -12,7 +12,7 @@ date_parts r = record { year = record { year = r.year; century = r.year_century;
 abbrev pub time_parts : Record → TimeParts
 time_parts r = record { hour_24 = r.hour_24; hour_12 = r.hour_12; hour_12_is_pm = r.hour_12_is_pm; minute = r.minute; second = r.second; subsecond = r.subsecond }
 
--- minutes and seconds count against the offset where its hour was read behind a minus
+-- minutes and seconds count against the offset where its hour was read after a minus
 abbrev pub under_sign : Bool → Option ℤ → Option ℤ
 under_sign is_negative n = if is_negative then option_map neg_ℤ n else n
 

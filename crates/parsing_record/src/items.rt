@@ -31,9 +31,9 @@ impl Parsed {
         }
     }
 
-    /// Reads the component at the front of the bytes into the record, and returns the bytes after it.
+    /// Reads the component at the start of the bytes into the record, and returns the bytes after it.
     ///
-    /// The longest front of its shape is read. `InvalidComponent` where there is none or its number is out of range;
+    /// The longest prefix of its shape is read. `InvalidComponent` where there is none or its number is out of range;
     /// an `End` that prohibits trailing input refuses it as `UnexpectedTrailingCharacters`. A refusal changes
     /// nothing.
     #[inline(always)]
@@ -48,9 +48,9 @@ impl Parsed {
         read_component(component, input, &mut self.fields)
     }
 
-    /// Reads the component at the front of the bytes as version 3 does, and returns the bytes after it.
+    /// Reads the component at the start of the bytes as version 3 does, and returns the bytes after it.
     ///
-    /// It differs for ignored bytes alone: no character may go on behind them.
+    /// It differs for ignored bytes alone: no character may go on after them.
     #[inline(always)]
     pub fn parse_component_v3<'a>(
         &mut self,
@@ -63,7 +63,7 @@ impl Parsed {
         read_component_v3(component, input, &mut self.fields)
     }
 
-    /// Reads by the item at the front of the bytes into the record, and returns the bytes after what was read. A
+    /// Reads by the item at the start of the bytes into the record, and returns the bytes after what was read. A
     /// refusal changes nothing.
     ///
     /// Where an optional item can't be read nothing is read. Of alternatives the first that can be read counts, and
@@ -99,7 +99,7 @@ impl Parsed {
         answer
     }
 
-    /// Reads by the items, each behind what the one before it read, and returns the bytes after them. The first
+    /// Reads by the items, each after what the one before it read, and returns the bytes after them. The first
     /// refusal counts, and changes nothing.
     pub fn parse_items<'a>(
         &mut self,

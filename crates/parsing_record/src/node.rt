@@ -40,7 +40,7 @@ pub trait Node: Sized {
     fn step(&self) -> NodeStep<'_, Self>
         ensures { step_tree tree result ≡ tree self.now };
 
-    /// Reads a component at the front of the bytes into the record, as its language does, and returns the bytes after it.
+    /// Reads a component at the start of the bytes into the record, as its language does, and returns the bytes after it.
     fn read_component<'a>(
         component: Component,
         input: &'a [u8],

@@ -52,7 +52,7 @@ impl Parsed {
         Some(self.fields.offset_minute?.unsigned_abs())
     }
 
-    /// The minutes of the offset under their sign, -59 to 59: what was set, negated behind an hour that was read with
+    /// The minutes of the offset under their sign, -59 to 59: what was set, negated after an hour that was read with
     /// a minus.
     pub fn offset_minute_signed(&self) -> Option<i8>
         ensures value { result ≡ under_sign self.now.offset_is_negative self.now.offset_minute }
@@ -117,7 +117,7 @@ impl Parsed {
         Some(self.fields.offset_second?.unsigned_abs())
     }
 
-    /// The seconds of the offset under their sign, -59 to 59: what was set, negated behind an hour that was read with
+    /// The seconds of the offset under their sign, -59 to 59: what was set, negated after an hour that was read with
     /// a minus.
     pub fn offset_second_signed(&self) -> Option<i8>
         ensures value { result ≡ under_sign self.now.offset_is_negative self.now.offset_second }

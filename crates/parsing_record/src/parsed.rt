@@ -76,7 +76,7 @@ impl Parsed {
         self.fields.leap_second_is_permitted = true;
     }
 
-    /// Keeps whether the offset's minutes and seconds count against it, as an hour behind a minus says.
+    /// Keeps whether the offset's minutes and seconds count against it, as an hour after a minus says.
     pub fn remember_offset_sign(&mut self, is_negative: bool)
         ensures { self.new ≡ record self.old { offset_is_negative = is_negative } }
     {

@@ -38,7 +38,7 @@ impl Parsed {
 
     // The offset of an hour and a minute.
     #[inline(always)]
-    #[tactic(auto, unfolding(parsing_values::specs::NamedTime::named_offset, parsing_values::specs::NamedTime::seconds_behind))]
+    #[tactic(auto, unfolding(parsing_values::specs::NamedTime::named_offset, parsing_values::specs::NamedTime::seconds_after))]
     fn usual_offset(&self) -> Option<UtcOffset>
         ensures { IfSome result (λ o. named_offset (offset_parts self.now) ≡ Ok o) }
     {

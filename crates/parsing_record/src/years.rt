@@ -50,7 +50,7 @@ impl Parsed {
         self.fields.year_century
     }
 
-    /// Whether the century is behind a minus, which -0 has too. The last two digits then lead backwards.
+    /// Whether the century is after a minus, which -0 has too. The last two digits then lead backwards.
     pub fn year_century_is_negative(&self) -> Option<bool>
         ensures { result
             ≡ option_map (λ _. self.now.year_century_is_negative) self.now.year_century }
@@ -161,7 +161,7 @@ impl Parsed {
         self.fields.iso_year_century
     }
 
-    /// Whether the century of that year is behind a minus, which -0 has too. The last two digits then lead backwards.
+    /// Whether the century of that year is after a minus, which -0 has too. The last two digits then lead backwards.
     pub fn iso_year_century_is_negative(&self) -> Option<bool>
         ensures { result
             ≡ option_map (λ _. self.now.iso_year_century_is_negative) self.now.iso_year_century }

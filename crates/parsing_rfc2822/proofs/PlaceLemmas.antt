@@ -29,7 +29,7 @@ use Rattle.parsing_rfc2822.specs.Skips.{rest_or, byte_where}
 use Rattle.parsing_rfc2822.specs.WhiteSpace.{comments_and_white_space, folding_white_space}
 use Rattle.parsing_rfc2822.proofs.WhiteSpaceLemmas.{none_at, none_of_nothing, none_there, one_space_there, folding_space_there}
 use Rattle.parsing_rfc2822.specs.Names.{weekday, weekday_of, month, zone_of, zone_name}
-use Rattle.parsing_rfc2822.specs.Places.{HasWeekday, HasMonth, HasShape, HasOffset, HasName, BeginsDay, IsFront, ReadsMonth, ReadsZone}
+use Rattle.parsing_rfc2822.specs.Places.{HasWeekday, HasMonth, HasShape, HasOffset, HasName, BeginsDay, IsPrefix, ReadsMonth, ReadsZone}
 use Rattle.parsing_rfc2822.specs.Reading.{comma, spaced_colon, one_or_two_digits, named_day, optional_weekday, day, full_year, year, month_and_year, hour_and_minute, due_second, second, clock, signed_zone, named_zone, zone, spaced_zone, rfc2822}
 use Rattle.parsing_rfc2822.specs.declared.parts.Rfc2822Parts.{Rfc2822Parts}
 use Rattle.parsing_rfc2822.specs.Direct.{direct, moment, moment_of}
@@ -78,9 +78,9 @@ lowest_named = 48 ∷ 32 ∷ 65 ∷ 65 ∷ 65 ∷ 32 ∷ 49 ∷ 48 ∷ 48 ∷ 48
 abbrev pub highest_named : List ℕ
 highest_named = 57 ∷ 32 ∷ 122 ∷ 122 ∷ 122 ∷ 32 ∷ 57 ∷ 57 ∷ 57 ∷ 57 ∷ 32 ∷ 50 ∷ 57 ∷ 58 ∷ 53 ∷ 57 ∷ 58 ∷ 53 ∷ 57 ∷ 32 ∷ 122 ∷ 122 ∷ 122 ∷ []
 
--- bounds of a text are bounds of its front
-of_front : (low high text : List ℕ) (k : ℕ) → k < 20 → IsBetween low high text k → IsBetween (take 20 low) (take 20 high) text k
-of_front low high text k lt h = rw (get_or-take 20 low k 0 lt, get_or-take 20 high k 0 lt) h
+-- bounds of a text are bounds of its prefix
+of_prefix : (low high text : List ℕ) (k : ℕ) → k < 20 → IsBetween low high text k → IsBetween (take 20 low) (take 20 high) text k
+of_prefix low high text k lt h = rw (get_or-take 20 low k 0 lt, get_or-take 20 high k 0 lt) h
 
 pair_of : (text : List ℕ) (place a b c d : ℕ) → place + 2 ≤ length text → 48 ≤ a → b ≤ 57 → 48 ≤ c → d ≤ 57 → (a ≤ get_or text place 0) × (get_or text place 0 ≤ b) → (c ≤ get_or text (place + 1) 0) × (get_or text (place + 1) 0 ≤ d) → HasPair text place
 pair_of text place a b c d room la hb lc hd first second =
@@ -108,7 +108,7 @@ shape_by text room at =
     }
 
 pub shape_with_name : (text : List ℕ) → length text ≡ 23 → LieBetween lowest_named highest_named text → HasShape text
-shape_with_name text long within = shape_by text (omega arith) (λ k lt. of_front lowest_named highest_named text k lt (within k (omega arith)))
+shape_with_name text long within = shape_by text (omega arith) (λ k lt. of_prefix lowest_named highest_named text k lt (within k (omega arith)))
 
 pub name_there : (text : List ℕ) → length text ≡ 23 → LieBetween lowest_named highest_named text → HasName text
 name_there text long within =
@@ -121,9 +121,9 @@ day_reads : (b0 b3 b4 b5 b6 : List ℕ) (w : Weekday) (d : ℕ) → comments_and
 unfolding day optional_weekday named_day
 day_reads b0 b3 b4 b5 b6 w d e0 e1 e2 e3 e4 = rw (e0, e1, e2, e3, e4) refl
 
--- a day begins behind a weekday
-pub begins_behind : (input : List ℕ) → 6 ≤ length input → HasWeekday input → BeginsDay input (drop 5 input)
-begins_behind input long w =
+-- a day begins after a weekday
+pub begins_after : (input : List ℕ) → 6 ≤ length input → HasWeekday input → BeginsDay input (drop 5 input)
+begins_after input long w =
     record {
       weekday_is = Some w.weekday_is;
       reads = λ number rest h e.
@@ -164,8 +164,8 @@ begins_alone input long =
     }
 
 -- a day of one digit
-pub front_of_one : (input date : List ℕ) → 2 ≤ length date → BeginsDay input date → IsFront input 0 date
-front_of_one input date long b =
+pub prefix_of_one : (input date : List ℕ) → 2 ≤ length date → BeginsDay input date → IsPrefix input 0 date
+prefix_of_one input date long b =
     record {
       few = omega arith;
       weekday_is = b.weekday_is;
@@ -175,8 +175,8 @@ front_of_one input date long b =
     }
 
 -- and one of two
-pub front_of_two : (input date : List ℕ) → 2 ≤ length date → BeginsDay input date → HasDigit date 0 → IsFront input (get_or date 0 0 - 48) (drop 1 date)
-front_of_two input date long b tens =
+pub prefix_of_two : (input date : List ℕ) → 2 ≤ length date → BeginsDay input date → HasDigit date 0 → IsPrefix input (get_or date 0 0 - 48) (drop 1 date)
+prefix_of_two input date long b tens =
     let digit = get_or-drop 1 date 0 0 in
     record {
       few = omega (arith, tens.low, tens.high);
@@ -219,10 +219,10 @@ clock_read text h m n s i =
 
 -- ---- the zone
 
--- behind a space, with nothing behind it
-zone_behind : (b0 b1 : List ℕ) (z : Zone) → comments_and_white_space b0 ≡ Some b1 → zone false b1 ≡ Ok (z, []) → spaced_zone false b0 ≡ Ok (z, [])
+-- after a space, with nothing after it
+zone_after : (b0 b1 : List ℕ) (z : Zone) → comments_and_white_space b0 ≡ Some b1 → zone false b1 ≡ Ok (z, []) → spaced_zone false b0 ≡ Ok (z, [])
 unfolding spaced_zone
-zone_behind b0 b1 z e f = rw (e, f, none_of_nothing) refl
+zone_after b0 b1 z e f = rw (e, f, none_of_nothing) refl
 
 reads_zone : (result : Option ℤ) (text : List ℕ) (z : Zone) → spaced_zone false (drop 19 text) ≡ Ok (z, []) → IfSome result (λ o. signed_offset_of z.is_negative z.hours z.minutes ≡ Ok (pos 60 *ℤ o)) → IfSome result (ReadsZone text)
 reads_zone None text z e is = tt
@@ -244,7 +244,7 @@ zone_there text result hours minutes s o sign h m is =
     let nothing : drop 25 text ≡ [] = drop_all 25 text (omega (arith, o.long)) in
     let space = space_at text 19 (omega (arith, o.long)) s.before_zone (least_sign mark sign) in
     let read = digits_read (drop 20 text) (drop 21 text) (drop 23 text) mark hours minutes (sign_there text 20 (omega (arith, o.long)) sign) h (rw nothing at m) in
-    reads_zone result text (in_digits mark hours minutes) (zone_behind (drop 19 text) (drop 20 text) (in_digits mark hours minutes) space read) is
+    reads_zone result text (in_digits mark hours minutes) (zone_after (drop 19 text) (drop 20 text) (in_digits mark hours minutes) space read) is
 
 abbrev by_name : ℕ → Zone
 by_name hours = record { is_named = true; is_negative = true; hours = hours; minutes = 0 }
@@ -259,7 +259,7 @@ no_sign c rest h =
     let other : ((c == plus) || (c == hyphen)) ≡ false = grind (arith, nat_tests) in
     rw other refl
 
--- three letters with nothing behind them
+-- three letters with nothing after them
 letters_read : (bytes : List ℕ) (hours : ℕ) → length bytes ≡ 3 → zone_of bytes ≡ Some hours → zone_name bytes ≡ Some (hours, [])
 unfolding zone_name
 letters_read bytes hours long e =
@@ -271,7 +271,7 @@ name_gives text hours o s n named is =
     let space = space_at text 19 (omega (arith, n.long)) s.before_zone (omega (arith, n.letter)) in
     let unsigned : sign (drop 20 text) ≡ None = rw (drop_more text 20 0 (omega (arith, n.long))) (no_sign (get_or text 20 0) (drop 21 text) n.letter) in
     let read = name_read (drop 20 text) hours unsigned (letters_read (drop 20 text) hours (omega (arith, length-drop 20 text, n.long)) named) in
-    record { zone_is = by_name hours; reads = zone_behind (drop 19 text) (drop 20 text) (by_name hours) space read; minutes_are = is }
+    record { zone_is = by_name hours; reads = zone_after (drop 19 text) (drop 20 text) (by_name hours) space read; minutes_are = is }
 
 -- ---- the moment
 

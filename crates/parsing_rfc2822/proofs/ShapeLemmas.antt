@@ -15,14 +15,14 @@ use Rattle.parsing_places.specs.Stamp.{SaysStamp}
 use Rattle.parsing_places.specs.declared.named.NamedShape.{NamedShape}
 use Rattle.parsing_places.proofs.YearLemmas.{byte_in}
 use Rattle.parsing_rfc2822.specs.Direct.{direct}
-use Rattle.parsing_rfc2822.specs.Places.{HasMonth, HasShape, HasOffset, IsFront, ReadsZone}
+use Rattle.parsing_rfc2822.specs.Places.{HasMonth, HasShape, HasOffset, IsPrefix, ReadsZone}
 use Rattle.parsing_rfc2822.specs.Shape.{IsShape}
 use Rattle.parsing_rfc2822.proofs.PlaceLemmas.{month_there_read, zone_there, fields_read}
 
 letter_in : (b : ℕ) → b < 256 → above b 65 ≤ 57 → 41 ≤ b
 letter_in b small few = omega (arith, small, few)
 
--- two digits behind a place, as what is left behind it has them
+-- two digits after a place, as what is left after it has them
 later : (text : List ℕ) (place k number : ℕ) → digits 2 (drop (place + k) text) ≡ Some (number, drop (place + k + 2) text) → digits 2 (drop k (drop place text)) ≡ Some (number, drop (k + 2) (drop place text))
 later text place k number e =
     let same : place + k + 2 ≡ place + (k + 2) = omega arith in
@@ -37,19 +37,19 @@ module _ (shape : NamedShape) (text : List ℕ) (year ones minute_of_day second 
 
   pub shape_there : HasShape text
   shape_there =
-      let letter : 41 ≤ get_or text 2 0 = letter_in (get_or text 2 0) (small 2) (omega (arith, rw x.lowest_letter at (s.front 2 (lit< tt)), x.highest_letter)) in
+      let letter : 41 ≤ get_or text 2 0 = letter_in (get_or text 2 0) (small 2) (omega (arith, rw x.lowest_letter at (s.prefix 2 (lit< tt)), x.highest_letter)) in
       record {
         room = omega (arith, long);
         last_of_day = rw x.day_is at s.day_is.ones;
-        before_month = byte_in shape.front text 0 1 32 small s.front x.before_month (lit< tt);
+        before_month = byte_in shape.prefix text 0 1 32 small s.prefix x.before_month (lit< tt);
         letter = letter;
-        before_year = byte_in shape.front text 0 5 32 small s.front x.before_year (lit< tt);
+        before_year = byte_in shape.prefix text 0 5 32 small s.prefix x.before_year (lit< tt);
         century = rw x.year_is at s.century;
         last_two = rw x.year_is at s.last_two;
-        before_clock = byte_in shape.front text 0 10 32 small s.front x.before_clock (lit< tt);
+        before_clock = byte_in shape.prefix text 0 10 32 small s.prefix x.before_clock (lit< tt);
         clock = record {
           hour = rw x.hour_is at s.hour_is.pair;
-          first_colon = byte_in shape.front text 0 13 58 small s.front x.first_colon (lit< tt);
+          first_colon = byte_in shape.prefix text 0 13 58 small s.prefix x.first_colon (lit< tt);
           minute = rw x.minute_is at s.minute_is.pair;
           second_colon = byte_in shape.back text 9 7 58 small back x.second_colon (lit< tt);
           second = rw x.second_is at s.second_is.pair;
@@ -85,13 +85,13 @@ module _ (shape : NamedShape) (text : List ℕ) (year ones minute_of_day second 
 
 -- the fields of a text whose day has these tens
 pub stamp_read : (shape : NamedShape) (input text : List ℕ) (f : Fields) (year tens ones minute_of_day second number : ℕ) (offset : ℤ) → ((k : ℕ) → get_or text k 0 < 256) → IsShape shape → SaysStamp shape text year ones minute_of_day second offset
-    → IsFront input tens text → HasMonth (drop 1 text) number → 1900 ≤ year → HaveNumbers f year number (tens * 10 + ones) minute_of_day second 0 offset → direct input ≡ Ok (Moment.moment_of f)
-stamp_read shape input text f year tens ones minute_of_day second number offset small x s front month enough numbers =
+    → IsPrefix input tens text → HasMonth (drop 1 text) number → 1900 ≤ year → HaveNumbers f year number (tens * 10 + ones) minute_of_day second 0 offset → direct input ≡ Ok (Moment.moment_of f)
+stamp_read shape input text f year tens ones minute_of_day second number offset small x s prefix month enough numbers =
     let there = shape_there shape text year ones minute_of_day second offset small x s in
     let last = ones_are shape text year ones minute_of_day second offset small x s in
-    let day_read = rw (← last) at (front.reads there.last_of_day there.before_month) in
+    let day_read = rw (← last) at (prefix.reads there.last_of_day there.before_month) in
     let minutes : minute_of_day ≡ s.hour * 60 + s.minute = omega (arith, s.minutes_are) in
-    fields_read f input text (front.weekday_is, tens * 10 + ones) year number s.hour s.minute second offset there day_read
+    fields_read f input text (prefix.weekday_is, tens * 10 + ones) year number s.hour s.minute second offset there day_read
     (month_there_read text number year there month (rw x.year_is at s.year_is) enough)
     (clock_there shape text year ones minute_of_day second offset small x s)
     (zone_said shape text year ones minute_of_day second offset small x s)

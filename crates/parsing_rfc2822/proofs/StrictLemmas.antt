@@ -179,6 +179,6 @@ pub strict_is_in_range : (bytes : List ℕ) (w : Rfc2822Parts) (rest : List ℕ)
 strict_is_in_range bytes w rest = narrows_iff AreInRange (rfc2822 true bytes) (rfc2822 false bytes) (rfc2822_narrows bytes) w rest
 
 -- what a function returns that gives the strict reading
-pub front_in_range : (is_strict : Bool) (result : Result (Rfc2822Parts × Bor (List ℕ)) ParseFromDescription) (bytes : List ℕ) → Gives (λ x. (x.0, x.1.now)) reading_fault result (rfc2822 is_strict bytes) → is_strict ≡ true → IfOk result (λ x. AreInRange x.0)
-front_in_range true result bytes given e = strict_passes AreInRange (λ w. w) result (rfc2822 true bytes) (rfc2822 false bytes) given (rfc2822_narrows bytes)
-front_in_range false result bytes given e = absurd cc
+pub prefix_in_range : (is_strict : Bool) (result : Result (Rfc2822Parts × Bor (List ℕ)) ParseFromDescription) (bytes : List ℕ) → Gives (λ x. (x.0, x.1.now)) reading_fault result (rfc2822 is_strict bytes) → is_strict ≡ true → IfOk result (λ x. AreInRange x.0)
+prefix_in_range true result bytes given e = strict_passes AreInRange (λ w. w) result (rfc2822 true bytes) (rfc2822 false bytes) given (rfc2822_narrows bytes)
+prefix_in_range false result bytes given e = absurd cc

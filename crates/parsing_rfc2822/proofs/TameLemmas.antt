@@ -16,7 +16,7 @@ use Rattle.parsing_combinator.specs.ShortName.{HasShortName}
 use Rattle.parsing_combinator.specs.Tame.{EndsWith, Leaves, IsTame}
 use Rattle.parsing_combinator.specs.declared.fault.Parse.{Parse}
 use Rattle.parsing_combinator.specs.declared.fault.ParseFromDescription.{ParseFromDescription}
-use Rattle.parsing_combinator.proofs.lemmas.Tame.{joined, dropped, whole_end, digits_leaves, byte_leaves, skip_leaves, kept_leaves, piece_tame, further, then_tame, require_tame, resolved_tame, end_tame, entered_tame, front_ends, front_short, value_given_short}
+use Rattle.parsing_combinator.proofs.lemmas.Tame.{joined, dropped, whole_end, digits_leaves, byte_leaves, skip_leaves, kept_leaves, piece_tame, further, then_tame, require_tame, resolved_tame, end_tame, entered_tame, prefix_ends, prefix_short, value_given_short}
 use Rattle.parsing_values.specs.Resolution.{date_of, leap_time_of, signed_offset_of}
 use Rattle.parsing_rfc2822.specs.Skips.{optional, past, byte_where}
 use Rattle.parsing_rfc2822.specs.WhiteSpace.{folding_white_space, comments_and_white_space}
@@ -70,14 +70,14 @@ zone_leaves : (bytes : List ℕ) → Leaves bytes (zone_name bytes)
 unfolding zone_name
 zone_leaves bytes = if_leaves (nat_le 3 (length bytes)) bytes (named zone_of bytes) (short_zone bytes) (named_leaves zone_of bytes) (short_zone_leaves bytes)
 
-behind_colon : (bytes between : List ℕ) (o : Option (List ℕ)) → EndsWith bytes between → Ends between o → Ends bytes (option_map (optional comments_and_white_space) o)
-behind_colon bytes between None h k = tt
-behind_colon bytes between (Some rest) h k = joined bytes rest (optional comments_and_white_space rest) (joined bytes between rest h k) (optional_ends comments_and_white_space spacing_ends rest)
+after_colon : (bytes between : List ℕ) (o : Option (List ℕ)) → EndsWith bytes between → Ends between o → Ends bytes (option_map (optional comments_and_white_space) o)
+after_colon bytes between None h k = tt
+after_colon bytes between (Some rest) h k = joined bytes rest (optional comments_and_white_space rest) (joined bytes between rest h k) (optional_ends comments_and_white_space spacing_ends rest)
 
 colon_ends : IsEnding spaced_colon
 unfolding spaced_colon
 colon_ends bytes =
-    behind_colon bytes (optional comments_and_white_space bytes) (byte_where (λ c. c == colon) (optional comments_and_white_space bytes)) (optional_ends comments_and_white_space spacing_ends bytes) (byte_ends _ (optional comments_and_white_space bytes))
+    after_colon bytes (optional comments_and_white_space bytes) (byte_where (λ c. c == colon) (optional comments_and_white_space bytes)) (optional_ends comments_and_white_space spacing_ends bytes) (byte_ends _ (optional comments_and_white_space bytes))
 
 -- ---- readings
 
@@ -119,7 +119,7 @@ unfolding month_and_year
 month_and_year_tame b0 =
     then_tame b0 _ _ (piece_tame literal b0 (past comments_and_white_space b0) (past_leaves comments_and_white_space spacing_ends b0) tt) (λ before b1.
     then_tame b1 _ _ (piece_tame (component (codes "month")) b1 (month b1) (month_leaves b1) (lit< tt)) (λ m b2.
-    then_tame b2 _ _ (piece_tame literal b2 (past comments_and_white_space b2) (past_leaves comments_and_white_space spacing_ends b2) tt) (λ behind b3.
+    then_tame b2 _ _ (piece_tame literal b2 (past comments_and_white_space b2) (past_leaves comments_and_white_space spacing_ends b2) tt) (λ after b3.
     then_tame b3 _ _ (year_tame b3) (λ y b4. whole_end b4))))
 
 hour_and_minute_tame : (is_strict : Bool) → IsTame (hour_and_minute is_strict)
@@ -193,9 +193,9 @@ pub given_short : (result : Result Shown Parse) (bytes : List ℕ) → Gives (λ
 unfolding direct
 given_short result bytes given = value_given_short (λ d. d) result bytes (moment bytes) given (moment_tame bytes)
 
--- the same of what stands at the front
+-- the same of what stands at the start
 pub given_end : (is_strict : Bool) (result : Result (Rfc2822Parts × Bor (List ℕ)) ParseFromDescription) (bytes : List ℕ) → Gives (λ x. (x.0, x.1.now)) reading_fault result (rfc2822 is_strict bytes) → IfOk result (λ x. EndsWith bytes x.1.now)
-given_end is_strict result bytes given = front_ends (λ w. w) result bytes (rfc2822 is_strict bytes) given (rfc2822_tame is_strict bytes)
+given_end is_strict result bytes given = prefix_ends (λ w. w) result bytes (rfc2822 is_strict bytes) given (rfc2822_tame is_strict bytes)
 
-pub given_front_short : (is_strict : Bool) (result : Result (Rfc2822Parts × Bor (List ℕ)) ParseFromDescription) (bytes : List ℕ) → Gives (λ x. (x.0, x.1.now)) reading_fault result (rfc2822 is_strict bytes) → IfErr result (λ e. HasShortName (reading_fault e))
-given_front_short is_strict result bytes given = front_short (λ w. w) result bytes (rfc2822 is_strict bytes) given (rfc2822_tame is_strict bytes)
+pub given_prefix_short : (is_strict : Bool) (result : Result (Rfc2822Parts × Bor (List ℕ)) ParseFromDescription) (bytes : List ℕ) → Gives (λ x. (x.0, x.1.now)) reading_fault result (rfc2822 is_strict bytes) → IfErr result (λ e. HasShortName (reading_fault e))
+given_prefix_short is_strict result bytes given = prefix_short (λ w. w) result bytes (rfc2822 is_strict bytes) given (rfc2822_tame is_strict bytes)

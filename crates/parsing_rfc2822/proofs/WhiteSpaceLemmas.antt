@@ -1,4 +1,4 @@
--- Each front of white space and each comment has at least one byte, so that loops over them come to their end.
+-- Each prefix of white space and each comment has at least one byte, so that loops over them come to their end.
 use Rattle.std.proofs.Common.{◌≡◌, ℕ, zero, suc, ◌-◌, ◌<◌, ◌≤◌, Bool, true, false, cond, List, [], ◌∷◌, length, Option, Some, None, refl, ap, ◌∙◌, arith, ◌==◌}
 use Rattle.std.proofs.lemmas.Bool.Decides.{nat_tests}
 use Rattle.std.proofs.Common.{eqb, get_or, take, drop}

@@ -10,7 +10,7 @@ use Rattle.parsing_values.specs.StandIn.{leap_checked}
 use Rattle.parsing_rfc2822.specs.declared.parts.Rfc2822Parts.{Rfc2822Parts}
 use Rattle.parsing_rfc2822.specs.Reading.{rfc2822}
 
--- the moment of the numbers: nothing behind them; the ranges of the date, of the time and of the offset; the test of a leap second
+-- the moment of the numbers: nothing after them; the ranges of the date, of the time and of the offset; the test of a leap second
 --
 -- The weekday has no effect.
 unfoldable pub moment_of : Rfc2822Parts → Reading Shown

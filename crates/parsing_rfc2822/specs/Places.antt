@@ -15,7 +15,7 @@ abbrev pub number_of_four : List ℕ → ℕ
 number_of_four text =
     slice_index text 0 + slice_index text 1 * 256 + slice_index text 2 * 65_536 + slice_index text 3 * 16_777_216
 
--- a weekday's name, a comma and a space stand at the front
+-- a weekday's name, a comma and a space stand at the start
 pub record HasWeekday (text : List ℕ) : Type 0 where
   pub weekday_is : Weekday
   pub named : weekday text ≡ Some (weekday_is, drop 3 text)
@@ -23,7 +23,7 @@ pub record HasWeekday (text : List ℕ) : Type 0 where
   pub comma_there : get_or text 3 0 ≡ comma
   pub space_there : get_or text 4 0 ≡ space
 
--- the name of the month with a number stands behind one byte
+-- the name of the month with a number stands after one byte
 pub record HasMonth (text : List ℕ) (number : ℕ) : Type 0 where
   pub month_is : Month
   pub named : month (drop 1 text) ≡ Some (month_is, drop 4 text)
@@ -59,18 +59,18 @@ pub record BeginsDay (input date : List ℕ) : Type 0 where
   pub reads : (number : ℕ) (rest : List ℕ) → HasDigit date 0 → one_or_two_digits date ≡ Some (number, rest) → day false input ≡ Ok ((weekday_is, number), rest)
 
 -- with what stands before it, the text has a day, of which these are the tens
-pub record IsFront (input : List ℕ) (tens : ℕ) (text : List ℕ) : Type 0 where
+pub record IsPrefix (input : List ℕ) (tens : ℕ) (text : List ℕ) : Type 0 where
   pub few : tens ≤ 9
   pub weekday_is : Option Weekday
   pub reads : HasDigit text 0 → get_or text 1 0 ≡ space → day false input ≡ Ok ((weekday_is, tens * 10 + (get_or text 0 0 - 48)), drop 1 text)
 
--- behind the day the month with a number is read, and this year
+-- after the day the month with a number is read, and this year
 pub record ReadsMonth (text : List ℕ) (year number : ℕ) : Type 0 where
   pub month_is : Month
   pub reads : month_and_year (drop 1 text) ≡ Ok ((month_is, year), drop 11 text)
   pub number_is : month_number month_is ≡ number
 
--- behind the clock a zone of so many minutes is read, and nothing is left
+-- after the clock a zone of so many minutes is read, and nothing is left
 pub record ReadsZone (text : List ℕ) (minutes : ℤ) : Type 0 where
   pub zone_is : Zone
   pub reads : spaced_zone false (drop 19 text) ≡ Ok (zone_is, [])

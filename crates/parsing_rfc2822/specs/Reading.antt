@@ -33,7 +33,7 @@ first_or None other = other
 unfoldable pub one_or_two_digits : Piece ℕ
 one_or_two_digits bytes = first_or (digits 2 bytes) (digits 1 bytes)
 
--- the comma behind a weekday
+-- the comma after a weekday
 unfoldable pub named_day : Weekday → Reading (Option Weekday)
 named_day w = do
   byte comma or literal
@@ -66,7 +66,7 @@ short_year = do
   past comments_and_white_space or literal
   give (if nat_lt year 50 then year + 2000 else year + 1900)
 
--- a year with what has to stand behind it
+-- a year with what has to stand after it
 unfoldable pub year : Reading ℕ
 year = if_there (digits 4) full_year short_year
 
@@ -106,7 +106,7 @@ clock is_strict = do
   second ← second is_strict
   give (t.0, t.1, second)
 
--- hours and minutes behind a sign, both under it
+-- hours and minutes after a sign, both under it
 unfoldable pub signed_zone : Bool → ℕ → Reading Zone
 signed_zone is_strict s = do
   hours ← digits 2 or component (codes "offset hour")

@@ -15,11 +15,11 @@ pub record IsShape (shape : NamedShape) : Type 0 where
   pub minute_is : shape.minute ≡ 14
   pub second_is : shape.second ≡ 17
   pub sign_is : shape.sign ≡ 20
-  pub before_month : LetsByte shape.front 1 space
-  pub lowest_letter : get_or shape.front.low 2 0 ≡ 65
-  pub highest_letter : get_or shape.front.high 2 0 ≤ 57
-  pub before_year : LetsByte shape.front 5 space
-  pub before_clock : LetsByte shape.front 10 space
-  pub first_colon : LetsByte shape.front 13 colon
+  pub before_month : LetsByte shape.prefix 1 space
+  pub lowest_letter : get_or shape.prefix.low 2 0 ≡ 65
+  pub highest_letter : get_or shape.prefix.high 2 0 ≤ 57
+  pub before_year : LetsByte shape.prefix 5 space
+  pub before_clock : LetsByte shape.prefix 10 space
+  pub first_colon : LetsByte shape.prefix 13 colon
   pub second_colon : LetsByte shape.back 7 colon
   pub before_zone : LetsByte shape.back 10 space

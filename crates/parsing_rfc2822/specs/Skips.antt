@@ -1,4 +1,4 @@
--- Skips: each passes a front of the bytes, where they have such a front, and tells the rest.
+-- Skips: each passes a prefix of the bytes, where they have such a prefix, and tells the rest.
 use Rattle.std.specs.Prelude.{ℕ, zero, suc, ◌==◌, Bool, List, [], ◌∷◌, length, drop, Option, Some, None, option_map, if◌then◌else◌}
 use Rattle.std.specs.List.{prefix_len}
 use Rattle.parsing_combinator.specs.Pieces.{Piece}
@@ -19,12 +19,12 @@ past_all p bytes = drop (prefix_len p bytes) bytes
 unfoldable pub past_some : (ℕ → Bool) → Skip
 past_some p bytes = if prefix_len p bytes == 0 then None else Some (drop (prefix_len p bytes) bytes)
 
--- a second front behind the first
+-- a second prefix after the first
 abbrev pub then_skip : Option (List ℕ) → Skip → Option (List ℕ)
 then_skip None second = None
 then_skip (Some rest) second = second rest
 
--- the first front, or else the other
+-- the first prefix, or else the other
 abbrev pub either : Option (List ℕ) → Option (List ℕ) → Option (List ℕ)
 either (Some rest) other = Some rest
 either None other = other
@@ -33,7 +33,7 @@ abbrev pub rest_or : Option (List ℕ) → List ℕ → List ℕ
 rest_or (Some rest) bytes = rest
 rest_or None bytes = bytes
 
--- a front that may be absent
+-- a prefix that may be absent
 abbrev pub optional : Skip → List ℕ → List ℕ
 optional skip bytes = rest_or (skip bytes) bytes
 
@@ -41,12 +41,12 @@ abbrev pub more_or : Option (List ℕ) → (List ℕ → List ℕ) → List ℕ 
 more_or None more bytes = bytes
 more_or (Some rest) more bytes = more rest
 
--- at most n fronts, as many as there are
+-- at most n prefixes, as many as there are
 unfoldable pub up_to : ℕ → Skip → List ℕ → List ℕ
 up_to zero skip bytes = bytes
 up_to (suc n) skip bytes = more_or (skip bytes) (up_to n skip) bytes
 
--- as many fronts as there are
+-- as many prefixes as there are
 unfoldable pub many : Skip → List ℕ → List ℕ
 many skip bytes = up_to (length bytes) skip bytes
 

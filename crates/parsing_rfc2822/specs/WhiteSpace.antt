@@ -48,7 +48,7 @@ refused_if_there None bytes = Some bytes
 unfoldable pub unless_line_end : Skip
 unless_line_end bytes = refused_if_there (line_end bytes) bytes
 
--- blanks and folded lines, where each line end behind them is one of a folded line
+-- blanks and folded lines, where each line end after them is one of a folded line
 unfoldable pub folded_blanks : Skip
 folded_blanks bytes = then_skip (past_some is_blank bytes) (λ rest. unless_line_end (many folded_line rest))
 
@@ -68,7 +68,7 @@ is_comment_text c =
 unfoldable pub is_quotable : ℕ → Bool
 is_quotable c = is_between 1 9 c || (is_between 11 12 c || is_between 14 127 c)
 
--- what stands in the obsolete text behind a backslash, where it does not end the comment
+-- what stands in the obsolete text after a backslash, where it does not end the comment
 unfoldable pub is_obsolete_text : ℕ → Bool
 is_obsolete_text c = not (c == right_parenthesis) && (c == 0 || is_quotable c)
 
@@ -79,7 +79,7 @@ past_line_ends bytes = past_all (λ c. c == carriage_return) (past_all (λ c. c 
 unfoldable pub obsolete_byte : Skip
 obsolete_byte bytes = option_map past_line_ends (byte_where is_obsolete_text bytes)
 
--- the obsolete text behind a backslash; it may be empty
+-- the obsolete text after a backslash; it may be empty
 unfoldable pub past_obsolete_text : List ℕ → List ℕ
 past_obsolete_text bytes = many obsolete_byte (past_line_ends bytes)
 

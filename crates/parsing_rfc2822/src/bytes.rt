@@ -1,4 +1,4 @@
-//! Functions that pass bytes at the front, where they are there.
+//! Functions that pass bytes at the start, where they are there.
 ghost use Rattle.std.specs.Prelude.{◌≡◌, ◌<◌, ◌≤◌, ◌==◌, IfSome, length, option_map};
 ghost use Rattle.std.specs.List.{prefix_len};
 ghost use Rattle.parsing_rfc2822.specs.Skips as Skips;

@@ -83,7 +83,7 @@ fn obsolete_byte(bytes: &[u8]) -> Option<&[u8]>
     Some(past_line_ends(rest))
 }
 
-// The obsolete text behind a backslash: it may be empty.
+// The obsolete text after a backslash: it may be empty.
 #[tactic(auto, using(crate::proofs::WhiteSpaceLemmas::obsolete_step, crate::proofs::WhiteSpaceLemmas::obsolete_end), unfolding(crate::specs::WhiteSpace::past_obsolete_text))]
 fn past_obsolete_text(bytes: &[u8]) -> &[u8]
     ensures skips { result.now ≡ White.past_obsolete_text bytes.now }

@@ -54,7 +54,7 @@ fn folded_lines(bytes: &[u8]) -> &[u8]
     rest
 }
 
-// Blanks and folded lines, where each line end behind them is one of a folded line.
+// Blanks and folded lines, where each line end after them is one of a folded line.
 #[tactic(auto, unfolding(crate::specs::WhiteSpace::folded_blanks, crate::specs::WhiteSpace::unless_line_end))]
 fn folded_blanks(bytes: &[u8]) -> Option<&[u8]>
     ensures skips { option_map (λ r. r.now) result ≡ White.folded_blanks bytes.now }

@@ -27,7 +27,7 @@ static WEEKDAYS: [u32; 8] = [
     0x2c6e_6f6d,
 ];
 
-/// Whether a weekday, a comma and a space stand at the front.
+/// Whether a weekday, a comma and a space stand at the start.
 #[inline(always)]
 pub(crate) fn has_weekday(text: &[u8]) -> bool
     requires { 5 ≤ length text.now }
@@ -62,7 +62,7 @@ static MONTHS: [u32; 16] = [
     0x7270_6124,
 ];
 
-/// The number of the month that stands behind a space.
+/// The number of the month that stands after a space.
 #[inline(always)]
 pub(crate) fn month_number(text: &[u8]) -> Option<u8>
     requires long { 4 ≤ length text.now }

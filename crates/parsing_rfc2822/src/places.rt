@@ -6,7 +6,7 @@ ghost use Rattle.std.specs.Prelude.{◌≡◌, ◌≤◌, ◌+◌, IfSome, Ok, t
 ghost use Rattle.calendar_count.specs.declared.weekday.Weekday.{Weekday};
 ghost use Rattle.parsing_fields.specs.Moment.{moment_of};
 ghost use Rattle.parsing_rfc2822.specs.Direct.{direct};
-ghost use Rattle.parsing_rfc2822.specs.Places.{HasShape, HasName, BeginsDay, IsFront, ReadsMonth, ReadsZone};
+ghost use Rattle.parsing_rfc2822.specs.Places.{HasShape, HasName, BeginsDay, IsPrefix, ReadsMonth, ReadsZone};
 ghost use Rattle.parsing_rfc2822.specs.Reading as Reading;
 
 use crate::letters::{has_weekday, month_number};
@@ -36,10 +36,10 @@ fn has_name(text: &[u8]) -> bool
     are_between(text, &LOWEST_NAMED, &HIGHEST_NAMED)
 }
 
-// What stands behind a weekday, or all of a text without one, where that has so many bytes or one more: the day begins
+// What stands after a weekday, or all of a text without one, where that has so many bytes or one more: the day begins
 // there.
 #[inline(always)]
-fn behind_weekday(input: &[u8], left: usize) -> Option<&[u8]>
+fn after_weekday(input: &[u8], left: usize) -> Option<&[u8]>
     requires low { 23 ≤ left }
     requires high { left ≤ 25 }
     ensures begins { IfSome result (λ date. BeginsDay input.now date.now) }
@@ -55,15 +55,15 @@ fn behind_weekday(input: &[u8], left: usize) -> Option<&[u8]>
     Some(&input[5..])
 }
 
-// The tens of the day, none where it has one digit, and what stands behind them, so many bytes.
+// The tens of the day, none where it has one digit, and what stands after them, so many bytes.
 #[inline(always)]
 fn tens_of_day(input: &[u8], left: usize) -> Option<(u8, &[u8])>
     requires low { 23 ≤ left }
     requires high { left ≤ 25 }
-    ensures front { IfSome result (λ x. IsFront input.now x.0 x.1.now) }
+    ensures prefix { IfSome result (λ x. IsPrefix input.now x.0 x.1.now) }
     ensures long { IfSome result (λ x. length x.1.now ≡ left) }
 {
-    let date = behind_weekday(input, left)?;
+    let date = after_weekday(input, left)?;
     if date.len() == left {
         return Some((0, date));
     }
@@ -102,7 +102,7 @@ fn year_and_month(text: &[u8]) -> Option<(Year, u8)>
 
 // The fields of a text, where its day and its offset were read.
 #[inline(always)]
-fn fields_behind(day: u8, offset: i16, text: &[u8]) -> Option<Fields>
+fn fields_after(day: u8, offset: i16, text: &[u8]) -> Option<Fields>
     requires shape { HasShape text.now }
     requires zone { ReadsZone text.now offset }
     requires bound { unsigned_abs offset ≤ 1559 }
@@ -121,7 +121,7 @@ fn fields_behind(day: u8, offset: i16, text: &[u8]) -> Option<Fields>
 fn read_by_shape(tens: u8, text: &[u8]) -> Option<Fields>
     requires tens { tens ≤ 9 }
     requires long { length text.now ≡ 25 }
-    ensures { IfSome result (λ fields. (input : List ℕ) → IsFront input tens text.now
+    ensures { IfSome result (λ fields. (input : List ℕ) → IsPrefix input tens text.now
         → direct input ≡ Ok (moment_of fields)) }
 {
     let (year, ones, minute, second, offset) = read_stamp(&shape(), text)?;
@@ -156,7 +156,7 @@ fn read_with_name(input: &[u8]) -> Option<Fields>
         return None;
     }
     let offset = named_offset(text)?;
-    fields_behind(tens * 10 + (text[0] - b'0'), offset, text)
+    fields_after(tens * 10 + (text[0] - b'0'), offset, text)
 }
 
 // The fields of a text of another shape than one with a weekday, single spaces and an offset in digits. A call of its own, so

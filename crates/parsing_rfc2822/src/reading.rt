@@ -26,7 +26,7 @@ fn one_or_two_digits(bytes: &[u8]) -> Option<(u8, &[u8])>
     one_digit(bytes)
 }
 
-// The comma behind a weekday.
+// The comma after a weekday.
 #[tactic(auto, unfolding(crate::specs::Reading::named_day))]
 #[inline(always)]
 fn named_day(day: Weekday, bytes: &[u8]) -> Result<(Option<Weekday>, &[u8]), ParseFromDescription>
@@ -166,7 +166,7 @@ fn clock(
     Ok(((hour, minute, second), rest))
 }
 
-// Hours and minutes behind a sign, both under it.
+// Hours and minutes after a sign, both under it.
 #[tactic(auto, unfolding(crate::specs::Reading::signed_zone))]
 #[inline(always)]
 fn signed_zone(
@@ -266,10 +266,10 @@ fn parts(is_strict: bool, bytes: &[u8]) -> Result<(Rfc2822Parts, &[u8]), ParseFr
     Ok((parts, rest))
 }
 
-/// What is written at the front of the bytes, and the rest: RFC 2822, section 3.3, with the obsolete years and zones.
+/// What is written at the start of the bytes, and the rest: RFC 2822, section 3.3, with the obsolete years and zones.
 ///
 /// A strict reading refuses each number out of range where it stands. Each fault names the part that can't be read; one
-/// of a zone is the offset hour's, or behind a sign that of its minutes.
+/// of a zone is the offset hour's, or after a sign that of its minutes.
 #[inline(always)]
 pub fn parse_prefix(
     is_strict: bool,

@@ -9,7 +9,7 @@ pub(crate) fn shape() -> NamedShape
     ensures { IsShape result }
 {
     NamedShape {
-        front: Window {
+        prefix: Window {
             low: *b"0 AAA 0000 00:00",
             high: [9, 0, 57, 57, 57, 0, 9, 9, 9, 9, 0, 2, 9, 0, 5, 9],
             taken: Moves {

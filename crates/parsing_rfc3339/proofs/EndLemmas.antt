@@ -74,7 +74,7 @@ pub no_fraction : (bytes : List ℕ) → FollowsFraction bytes → ReadsNanoseco
 unfolding subsecond
 no_fraction bytes f = (None, rw f.1 refl, refl)
 
--- so many digits, behind which there is none
+-- so many digits, after which there is none
 digits_are : (bytes : List ℕ) (count n : ℕ) → 0 < count → WriteFraction bytes count n → digits 1 (drop count bytes) ≡ None → fraction bytes ≡ Some (n, drop count bytes)
 unfolding fraction digit_run
 digits_are bytes count n some w none =
@@ -83,9 +83,9 @@ digits_are bytes count n some w none =
     let there : (count == 0) ≡ false = grind (arith, nat_tests) in
     rw (is, there, w.value) refl
 
-point_read : (bytes rest behind : List ℕ) (n : ℕ) → byte dot bytes ≡ Some (tt, rest) → fraction rest ≡ Some (n, behind) → ReadsNanosecond bytes n behind
+point_read : (bytes rest after : List ℕ) (n : ℕ) → byte dot bytes ≡ Some (tt, rest) → fraction rest ≡ Some (n, after) → ReadsNanosecond bytes n after
 unfolding subsecond due_fraction
-point_read bytes rest behind n there read = (Some n, rw (there, read) refl, refl)
+point_read bytes rest after n there read = (Some n, rw (there, read) refl, refl)
 
 pub fraction_there : (text : List ℕ) (place end : ℕ) (o : Option ℕ) → place < length text → place + 1 < end → get_or text place 0 ≡ dot → FollowsFraction (drop end text) → IfSome o (WriteFraction (drop (place + 1) text) (end - (place + 1))) → IfSome o (λ n. ReadsNanosecond (drop place text) n (drop end text))
 fraction_there text place end None lt some point f w = tt

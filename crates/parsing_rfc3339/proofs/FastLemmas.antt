@@ -52,7 +52,7 @@ pub parts_read : (f : Fields) (input : List ℕ) (w : Rfc3339Parts) (o : ℤ) �
 parts_read f input w o read in_zone have hour minute bound =
     rw (← moment_is f, have.same_offset) (all_resolved input w (pos 60 *ℤ o) (day_of_fields f) (time_of_fields f) read in_zone (fields_date f _ _ _ _ _ _ _ have) (fields_time f _ _ _ _ _ _ _ _ have hour minute bound))
 
--- `05:30`, and nothing behind it
+-- `05:30`, and nothing after it
 pub record AreHoursAndMinutes (bytes : List ℕ) (hours minutes : ℕ) : Type 0 where
   pub hour_digits : digits 2 bytes ≡ Some (hours, drop 2 bytes)
   pub colon_there : byte colon (drop 2 bytes) ≡ Some (tt, drop 3 bytes)
@@ -63,7 +63,7 @@ pub signed_read : (bytes rest : List ℕ) (mark hours minutes : ℕ) → sign by
 unfolding signed_offset
 signed_read bytes rest mark hours minutes there r le = rw (there, r.hour_digits, le-leb hours 23 le, r.colon_there, r.minute_digits) refl
 
--- a text without four digits in front has no year
+-- a text without four digits before has no year
 pub no_year : (bytes : List ℕ) → digits 4 bytes ≡ None → direct bytes ≡ Err (component (codes "year"))
 unfolding direct moment rfc3339 date
 no_year bytes e = rw e refl

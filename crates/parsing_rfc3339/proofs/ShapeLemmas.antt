@@ -92,9 +92,9 @@ nothing_written bytes count n e w = w.value ∙ rw e refl
 pub fraction_said : (text : List ℕ) (place end count n : ℕ) → HasFraction text place end count n → FollowsFraction (drop end text) → ReadsNanosecond (drop place text) n (drop end text)
 fraction_said text place end count n h follows = elim (cases_lt 0 count) [
   | inl some ↦
-      let behind : end - count ≡ place + 1 = omega (arith, h.some some) in
+      let after : end - count ≡ place + 1 = omega (arith, h.some some) in
       let back : count ≡ end - (place + 1) = omega (arith, h.some some) in
-      let w : WriteFraction (drop (place + 1) text) count n = rw behind at h.writes in
+      let w : WriteFraction (drop (place + 1) text) count n = rw after at h.writes in
       let w' : WriteFraction (drop (place + 1) text) (end - (place + 1)) n = rw back at w in
       fraction_there text place end (Some n) (omega (arith, h.some some, h.room)) (omega (arith, h.some some, some)) (h.point some) follows w'
   | inr none ↦
@@ -125,7 +125,7 @@ read_directly shape text f small x h =
     let fraction = fraction_said text 19 says.end says.count said.fraction (rw x.long at says.fraction_is) follows in
     let minutes : said.minute ≡ says.hour * 60 + says.minute = omega (arith, says.minutes_are) in
     fields_read f text (drop 10 text) (drop 11 text) (drop 19 text) (drop says.end text) (said.year, said.high, said.low) (says.hour, says.minute, said.second) said.fraction said.offset
-    (date_said text said.year said.high said.low (omega (arith, room)) (byte_in shape.front text 0 4 45 small lies.front x.first_hyphen (lit< tt)) (byte_in shape.front text 0 7 45 small lies.front x.second_hyphen (lit< tt)) year month day some)
+    (date_said text said.year said.high said.low (omega (arith, room)) (byte_in shape.prefix text 0 4 45 small lies.prefix x.first_hyphen (lit< tt)) (byte_in shape.prefix text 0 7 45 small lies.prefix x.second_hyphen (lit< tt)) year month day some)
     (any_there text 10 (omega (arith, room)))
-    (clock_said text says.hour says.minute said.second room (byte_in shape.front text 0 13 58 small lies.front x.first_colon (lit< tt)) (byte_in shape.back text 3 13 58 small back x.second_colon (lit< tt)) hour minute second)
+    (clock_said text says.hour says.minute said.second room (byte_in shape.prefix text 0 13 58 small lies.prefix x.first_colon (lit< tt)) (byte_in shape.back text 3 13 58 small back x.second_colon (lit< tt)) hour minute second)
     fraction (all_offset text says.end said.offset offset_there) (rw minutes at h.numbers) (omega (arith, says.hour_few)) n.minute_few says.fraction_few

@@ -112,6 +112,6 @@ pub strict_is_in_range : (bytes : List ℕ) (w : Rfc3339Parts) (rest : List ℕ)
 strict_is_in_range bytes w rest = narrows_iff AreInRange (rfc3339 true bytes) (rfc3339 false bytes) (rfc3339_narrows bytes) w rest
 
 -- what a function returns that gives the strict reading
-pub front_in_range : (is_strict : Bool) (result : Result (Rfc3339Parts × Bor (List ℕ)) ParseFromDescription) (bytes : List ℕ) → Gives (λ x. (x.0, x.1.now)) reading_fault result (rfc3339 is_strict bytes) → is_strict ≡ true → IfOk result (λ x. AreInRange x.0)
-front_in_range true result bytes given e = strict_passes AreInRange (λ w. w) result (rfc3339 true bytes) (rfc3339 false bytes) given (rfc3339_narrows bytes)
-front_in_range false result bytes given e = absurd cc
+pub prefix_in_range : (is_strict : Bool) (result : Result (Rfc3339Parts × Bor (List ℕ)) ParseFromDescription) (bytes : List ℕ) → Gives (λ x. (x.0, x.1.now)) reading_fault result (rfc3339 is_strict bytes) → is_strict ≡ true → IfOk result (λ x. AreInRange x.0)
+prefix_in_range true result bytes given e = strict_passes AreInRange (λ w. w) result (rfc3339 true bytes) (rfc3339 false bytes) given (rfc3339_narrows bytes)
+prefix_in_range false result bytes given e = absurd cc

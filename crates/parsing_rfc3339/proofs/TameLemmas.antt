@@ -13,7 +13,7 @@ use Rattle.parsing_combinator.specs.ShortName.{HasShortName}
 use Rattle.parsing_combinator.specs.Tame.{EndsWith, IsTame}
 use Rattle.parsing_combinator.specs.declared.fault.Parse.{Parse}
 use Rattle.parsing_combinator.specs.declared.fault.ParseFromDescription.{ParseFromDescription}
-use Rattle.parsing_combinator.proofs.lemmas.Tame.{digits_leaves, byte_leaves, skip_leaves, fraction_leaves, whole_end, piece_tame, then_tame, require_tame, resolved_tame, end_tame, entered_tame, front_ends, front_short, value_given_short}
+use Rattle.parsing_combinator.proofs.lemmas.Tame.{digits_leaves, byte_leaves, skip_leaves, fraction_leaves, whole_end, piece_tame, then_tame, require_tame, resolved_tame, end_tame, entered_tame, prefix_ends, prefix_short, value_given_short}
 use Rattle.parsing_values.specs.Resolution.{date_of, leap_time_of, signed_offset_of}
 use Rattle.parsing_rfc3339.specs.declared.parts.Rfc3339Parts.{Rfc3339Parts}
 use Rattle.parsing_rfc3339.specs.Reading.{date, clock, due_fraction, subsecond, zulu, signed_offset, offset, rfc3339}
@@ -89,9 +89,9 @@ pub given_short : (result : Result Shown Parse) (bytes : List ℕ) → Gives (λ
 unfolding direct
 given_short result bytes given = value_given_short (λ d. d) result bytes (moment bytes) given (moment_tame bytes)
 
--- the same of what stands at the front
+-- the same of what stands at the start
 pub given_end : (is_strict : Bool) (result : Result (Rfc3339Parts × Bor (List ℕ)) ParseFromDescription) (bytes : List ℕ) → Gives (λ x. (x.0, x.1.now)) reading_fault result (rfc3339 is_strict bytes) → IfOk result (λ x. EndsWith bytes x.1.now)
-given_end is_strict result bytes given = front_ends (λ w. w) result bytes (rfc3339 is_strict bytes) given (rfc3339_tame is_strict bytes)
+given_end is_strict result bytes given = prefix_ends (λ w. w) result bytes (rfc3339 is_strict bytes) given (rfc3339_tame is_strict bytes)
 
-pub given_front_short : (is_strict : Bool) (result : Result (Rfc3339Parts × Bor (List ℕ)) ParseFromDescription) (bytes : List ℕ) → Gives (λ x. (x.0, x.1.now)) reading_fault result (rfc3339 is_strict bytes) → IfErr result (λ e. HasShortName (reading_fault e))
-given_front_short is_strict result bytes given = front_short (λ w. w) result bytes (rfc3339 is_strict bytes) given (rfc3339_tame is_strict bytes)
+pub given_prefix_short : (is_strict : Bool) (result : Result (Rfc3339Parts × Bor (List ℕ)) ParseFromDescription) (bytes : List ℕ) → Gives (λ x. (x.0, x.1.now)) reading_fault result (rfc3339 is_strict bytes) → IfErr result (λ e. HasShortName (reading_fault e))
+given_prefix_short is_strict result bytes given = prefix_short (λ w. w) result bytes (rfc3339 is_strict bytes) given (rfc3339_tame is_strict bytes)

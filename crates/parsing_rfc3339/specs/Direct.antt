@@ -9,7 +9,7 @@ use Rattle.parsing_values.specs.StandIn.{leap_checked}
 use Rattle.parsing_rfc3339.specs.declared.parts.Rfc3339Parts.{Rfc3339Parts}
 use Rattle.parsing_rfc3339.specs.Reading.{rfc3339}
 
--- the moment of the numbers: the range of the offset; nothing behind them; the ranges of the date and of the time; the test of a leap second
+-- the moment of the numbers: the range of the offset; nothing after them; the ranges of the date and of the time; the test of a leap second
 unfoldable pub moment_of : Rfc3339Parts → Reading Shown
 moment_of w = do
   offset ← resolved (signed_offset_of w.zone.is_negative w.zone.hours w.zone.minutes)

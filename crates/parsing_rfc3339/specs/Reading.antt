@@ -34,7 +34,7 @@ clock is_strict = do
   require (within is_strict 0 60 second) (component (codes "second"))
   give (hour, minute, second)
 
--- behind a point at least one digit is due
+-- after a point at least one digit is due
 unfoldable pub due_fraction : Reading (Option ℕ)
 due_fraction = do
   nanosecond ← fraction or component (codes "subsecond")

@@ -16,7 +16,7 @@ pub record IsShape (shape : Shape) : Type 0 where
   pub second_there : shape.has_second ≡ true
   pub second_is : shape.second ≡ 17
   pub colon_there : shape.has_colon ≡ true
-  pub first_hyphen : LetsByte shape.front 4 hyphen
-  pub second_hyphen : LetsByte shape.front 7 hyphen
-  pub first_colon : LetsByte shape.front 13 colon
+  pub first_hyphen : LetsByte shape.prefix 4 hyphen
+  pub second_hyphen : LetsByte shape.prefix 7 hyphen
+  pub first_colon : LetsByte shape.prefix 13 colon
   pub second_colon : LetsByte shape.back 13 colon

@@ -150,7 +150,7 @@ fn parts(is_strict: bool, bytes: &[u8]) -> Result<(Rfc3339Parts, &[u8]), ParseFr
     Ok((parts, rest))
 }
 
-/// The numbers at the front of the bytes, and the rest, piece by piece: RFC 3339, section 5.6.
+/// The numbers at the start of the bytes, and the rest, piece by piece: RFC 3339, section 5.6.
 ///
 /// A strict reading refuses each number out of range where it stands. Each fault names the part that can't be read.
 #[inline(always)]

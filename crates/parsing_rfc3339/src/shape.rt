@@ -9,7 +9,7 @@ pub(crate) fn shape() -> Shape
     ensures { IsShape result }
 {
     Shape {
-        front: Window {
+        prefix: Window {
             low: *b"0000-00-00\x0000:00",
             high: [9, 9, 9, 9, 0, 1, 9, 0, 3, 9, 255, 2, 9, 0, 5, 9],
             taken: Moves {

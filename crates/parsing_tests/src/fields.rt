@@ -111,7 +111,7 @@ fn fields_of_formats(rt: HostRuntime) {
 // `20210102T030405`, the basic form of ISO 8601.
 fn basic() -> Shape {
     Shape {
-        front: Window {
+        prefix: Window {
             low: *b"00000000T000000\x00",
             high: [9, 9, 9, 9, 1, 9, 3, 9, 0, 2, 9, 5, 9, 5, 9, 255],
             taken: Moves {
@@ -179,7 +179,7 @@ fn fields_of_a_shape(rt: HostRuntime) {
 fn windows() -> [bool; 12] {
     let shape = basic();
     let windows = Windows {
-        front: shape.front,
+        prefix: shape.prefix,
         back: shape.back,
         back_at: 0,
     };
@@ -187,8 +187,8 @@ fn windows() -> [bool; 12] {
         Moves::checked([16; 16]).is_none(),
         Moves::checked([15; 16]).is_some(),
         shape.back.taken.spares(0),
-        shape.front.lets(8, b'T', 0),
-        shape.front.takes(0, 4, 1),
+        shape.prefix.lets(8, b'T', 0),
+        shape.prefix.takes(0, 4, 1),
         windows.lets(8, b'T', 0),
         windows.take_one(3, 7),
         windows.take_two(4, 9, 2),
@@ -235,7 +235,7 @@ fn years_as_digits(rt: HostRuntime) {
 // `01/May/2024:10:00:01 +0200`, as web servers write it.
 fn logged() -> NamedShape {
     NamedShape {
-        front: Window {
+        prefix: Window {
             low: *b"00/AAA/0000:00:0",
             high: [3, 9, 0, 57, 57, 57, 0, 9, 9, 9, 9, 0, 2, 9, 0, 5],
             taken: Moves {

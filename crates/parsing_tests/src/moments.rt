@@ -280,11 +280,11 @@ fn leap_at_the_end() -> MomentParts {
 
 fn the_calendar_ends() -> Option<[bool; 3]> {
     let wall = wall_clock(Ok(Date::MAX), Time::from_hms(23, 59, 59))?;
-    let behind = wall.assume_offset(UtcOffset::from_hms(-1, 0, 0).ok()?);
+    let after = wall.assume_offset(UtcOffset::from_hms(-1, 0, 0).ok()?);
     let year = refused(ComponentName::Year);
     let (shown, in_utc) = (instants(&last(), &ahead(-1)), instants(&last(), &NO_OFFSET));
     Some([
-        shown == (Ok(behind), Err(year), Err(TOO_LITTLE)),
+        shown == (Ok(after), Err(year), Err(TOO_LITTLE)),
         in_utc == (Err(TOO_LITTLE), Ok(wall.as_utc()), Err(TOO_LITTLE)),
         instants(&leap_at_the_end(), &ahead(-1))
             == (Err(refused_second()), Err(year), Err(TOO_LITTLE)),

@@ -236,7 +236,7 @@ fn is_size(value: u8) -> bool {
     (set, past, got) == ([Some(()); 2], [None; 2], [Some(value); 2])
 }
 
-// The same of nanoseconds since 1970.
+// Whether nanoseconds since 1970 are kept and given back, and those out of range are refused.
 fn is_unix_time(nanoseconds: i128) -> bool {
     let mut parsed = Parsed::new();
     let set = parsed.set_unix_timestamp_nanos(nanoseconds);

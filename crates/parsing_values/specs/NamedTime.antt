@@ -38,12 +38,12 @@ named_time leap_second_is_permitted p = named_by (do
   finer ← finer_parts p.minute p.second p.subsecond
   Some (permitted_time_of leap_second_is_permitted hour finer.0 finer.1 finer.2))
 
--- the offset in seconds: its hour has to be there, and its seconds count only behind minutes
-unfoldable pub seconds_behind : Option ℤ → Option ℤ → ℤ
-seconds_behind None second = pos 0
-seconds_behind (Some minute) second = unwrap_or second (pos 0)
+-- the offset in seconds: its hour has to be there, and its seconds count only after minutes
+unfoldable pub seconds_after : Option ℤ → Option ℤ → ℤ
+seconds_after None second = pos 0
+seconds_after (Some minute) second = unwrap_or second (pos 0)
 
 unfoldable pub named_offset : OffsetParts → Result ℤ Fault
 named_offset p = named_by (do
   hour ← p.hour
-  Some (offset_of hour (unwrap_or p.minute (pos 0)) (seconds_behind p.minute p.second)))
+  Some (offset_of hour (unwrap_or p.minute (pos 0)) (seconds_after p.minute p.second)))

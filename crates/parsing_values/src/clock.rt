@@ -39,7 +39,7 @@ fn finer(minute: Option<u8>, second: Option<u8>, subsecond: Option<u32>) -> Opti
 }
 
 /// The time of day that the parts name: what is finer than the last part that is there is 0.
-/// `InsufficientInformation` where the hour is not there, or a part behind which a finer one is.
+/// `InsufficientInformation` where the hour is not there, or a part after which a finer one is.
 #[tactic(auto, unfolding(crate::specs::NamedTime::named_time))]
 pub fn time(leap_second_is_permitted: bool, parts: &TimeParts) -> Result<Time, TryFromParsed>
     ensures { Gives (λ t. t) resolution_fault result
@@ -55,8 +55,8 @@ pub fn time(leap_second_is_permitted: bool, parts: &TimeParts) -> Result<Time, T
     Ok(resolve::permitted_time(leap_second_is_permitted, hour, minute, second, nanosecond)?)
 }
 
-/// The offset that the parts name: its hour has to be there, and seconds count only behind minutes.
-#[tactic(auto, unfolding(crate::specs::NamedTime::named_offset, crate::specs::NamedTime::seconds_behind))]
+/// The offset that the parts name: its hour has to be there, and seconds count only after minutes.
+#[tactic(auto, unfolding(crate::specs::NamedTime::named_offset, crate::specs::NamedTime::seconds_after))]
 pub fn offset(parts: &OffsetParts) -> Result<UtcOffset, TryFromParsed>
     ensures { Gives (λ o. o) resolution_fault result (named_offset parts.now) }
 {

@@ -51,7 +51,7 @@ fn offset_or_utc(offset: &OffsetParts) -> Result<UtcOffset, TryFromParsed>
     clock::offset(offset)
 }
 
-// The same in UTC.
+// The moment by date, time of day and offset, in UTC.
 #[tactic(auto, unfolding(crate::specs::NamedMoment::dated_utc))]
 fn dated_utc(parts: &MomentParts, offset: &OffsetParts) -> Result<UtcDateTime, TryFromParsed>
     ensures { Gives (λ i. i) resolution_fault result (dated_utc parts.now offset.now) }
@@ -87,7 +87,7 @@ fn unix_instant(nanoseconds: i128) -> Result<Timestamp, ComponentRange>
     Timestamp::from_nanoseconds(nanoseconds)
 }
 
-// The same, a subsecond that is there replacing the nanosecond of the second.
+// The instant of Unix nanoseconds, with a subsecond that is there in place of the nanosecond of their second.
 #[tactic(auto, unfolding(crate::specs::NamedMoment::unix_subsecond))]
 fn unix_subsecond(nanoseconds: i128, subsecond: Option<u32>) -> Result<Timestamp, ComponentRange>
     ensures { result ≡ unix_subsecond nanoseconds subsecond }

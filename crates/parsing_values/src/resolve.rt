@@ -41,7 +41,7 @@ pub fn permitted_time(
     Time::from_hms_nano(hour, minute, second, nanosecond)
 }
 
-/// The same, where it is permitted.
+/// The time of day with these parts, where second 60 is permitted: it stands for the last nanosecond of its minute.
 #[inline(always)]
 pub fn leap_time(hour: u8, minute: u8, second: u8, nanosecond: u32) -> Result<Time, ComponentRange>
     ensures { result ≡ leap_time_of hour minute second nanosecond }

@@ -17,7 +17,7 @@ pub fn unescape(text: &str, bytes: &mut Vec<u8>) -> Told {
     bytes.extend_from_slice(rest.as_bytes())
 }
 
-// The byte that stands behind a backslash, and what follows.
+// The byte that stands after a backslash, and what follows.
 fn escaped(text: &str) -> Option<(u8, &str)> {
     let (letter, rest) = text.split_at_checked(1)?;
     match letter {

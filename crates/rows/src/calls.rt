@@ -40,7 +40,7 @@ fn tell_record(told: &mut String, answer: &Result<Parsed, Parse>) -> Told {
 }
 
 // The fields after the reading, and how many bytes are left, or the fault.
-fn tell_front(told: &mut String, parsed: &Parsed, answer: Result<&[u8], Parse>) -> Told {
+fn tell_prefix(told: &mut String, parsed: &Parsed, answer: Result<&[u8], Parse>) -> Told {
     tell_fields(told, parsed)?;
     match answer {
         Ok(rest) => tell(told, format_args!("{} left", rest.len())),
@@ -48,13 +48,13 @@ fn tell_front(told: &mut String, parsed: &Parsed, answer: Result<&[u8], Parse>) 
     }
 }
 
-// What the reading of a front answers, from a record.
+// What the reading of a prefix answers, from a record.
 fn tell_into<P: Parsable>(told: &mut String, reader: &P, input: &[u8], mut parsed: Parsed) -> Told {
     let answer = reader.parse_into(input, &mut parsed);
-    tell_front(told, &parsed, answer)
+    tell_prefix(told, &parsed, answer)
 }
 
-// The same, behind how many items were tried.
+// What the reading of a prefix answers, from a record, after how many items were tried.
 fn tell_counted<P: Parsable>(
     told: &mut String,
     reader: &P,
@@ -63,10 +63,10 @@ fn tell_counted<P: Parsable>(
 ) -> Told {
     let (answer, count) = reader.parse_into_counted(input, &mut parsed);
     tell(told, format_args!("{count} tried"))?;
-    tell_front(told, &parsed, answer)
+    tell_prefix(told, &parsed, answer)
 }
 
-/// What a call answers: a value, a record's fields, or a fault. Behind a `+` stands what the reading begins with.
+/// What a call answers: a value, a record's fields, or a fault. After a `+` stands what the reading begins with.
 pub fn tell_call<P: Parsable>(told: &mut String, reader: &P, call: &str, input: &[u8]) -> Told {
     let Some((call, words)) = call.split_once('+') else {
         return tell_answer(told, reader, call, input, None);
@@ -77,7 +77,7 @@ pub fn tell_call<P: Parsable>(told: &mut String, reader: &P, call: &str, input: 
     }
 }
 
-// The same, with what the reading begins with.
+// What a call of a reader answers, with what the reading begins with.
 fn tell_answer<P: Parsable>(
     told: &mut String,
     reader: &P,
@@ -94,7 +94,7 @@ fn tell_answer<P: Parsable>(
     }
 }
 
-// The same for the calls that answer a value.
+// What a call of a reader answers that gives a value.
 fn tell_value_of<P: Parsable>(
     told: &mut String,
     reader: &P,

@@ -59,8 +59,8 @@ pub fn tell_count(told: &mut String, count: Option<u64>) -> Told {
     }
 }
 
-/// Of how many fronts of the text, without itself, this holds.
-pub fn count_fronts(call: &str, input: &[u8]) -> Option<u64> {
+/// Of how many prefixes of the text, without itself, this holds.
+pub fn count_prefixes(call: &str, input: &[u8]) -> Option<u64> {
     let mut count = 0u64;
     for end in 0..input.len() {
         count = count.wrapping_add(u64::from(holds(call, &input[..end])?));
@@ -77,7 +77,7 @@ pub fn count_changes(call: &str, input: &mut [u8], bytes: (u8, u8)) -> Option<u6
     Some(count)
 }
 
-// The same for one place.
+// Of how many texts this holds that have one of these bytes in this place.
 fn count_at(call: &str, input: &mut [u8], place: usize, bytes: (u8, u8)) -> Option<u64>
     requires { place < length input.old }
 {

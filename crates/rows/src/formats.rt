@@ -14,7 +14,7 @@ fn tell_printed<T: Display, E: Display>(told: &mut String, answer: &Result<T, E>
     }
 }
 
-// What a front says and how many bytes are left, or why there is none.
+// What a prefix says and how many bytes are left, or why there is none.
 fn tell_parts<T: Debug, E: Display>(told: &mut String, answer: &Result<(T, &[u8]), E>) -> Told {
     match answer {
         Ok((parts, rest)) => write!(told, "{parts:?}, {} left", rest.len()),
@@ -34,7 +34,7 @@ pub fn tell_rfc3339(told: &mut String, call: &str, input: &[u8]) -> Told {
     }
 }
 
-/// `strict` and `lax` are what a front says.
+/// `strict` and `lax` are what a prefix says.
 pub fn tell_rfc2822(told: &mut String, call: &str, input: &[u8]) -> Told {
     match call {
         "read" => tell_printed(told, &Rfc2822.read_direct(input)),
@@ -45,7 +45,7 @@ pub fn tell_rfc2822(told: &mut String, call: &str, input: &[u8]) -> Told {
     }
 }
 
-/// `parts` are what a front says.
+/// `parts` are what a prefix says.
 pub fn tell_iso8601(told: &mut String, call: &str, input: &[u8]) -> Told {
     match call {
         "read" => tell_printed(told, &Iso8601.parse_offset_date_time(input, None)),

@@ -1,4 +1,4 @@
-//! `rows`: reads rows from standard input, and writes each with what is answered behind its last ` => `.
+//! `rows`: reads rows from standard input, and writes each with what is answered after its last ` => `.
 //!
 //! A blank line and one that begins with `#` are written as they are, and a line that has no ` => ` as `? LINE`. What
 //! the rows below a heading are says the heading; where a row can't be answered, `?` is.

@@ -3,13 +3,13 @@
 //! - `23`, `s`: a description, in each of these versions or by the letters of `strftime` (`versions`);
 //! - `rfc3339`, `rfc2822`, `iso8601`: a format (`formats`);
 //! - `white`, `piece`: what these formats are read by (`pieces`);
-//! - `fronts`, `changes`, `crossed`: texts that are cut or changed (`changes`).
+//! - `prefixes`, `changes`, `crossed`: texts that are cut or changed (`changes`).
 //!
 //! The input of a description is text as it stands. Any other input is bytes: `\n`, `\r`, `\t`, `\\` and `\xHH` are
 //! one byte each.
 
 use crate::bytes::unescape;
-use crate::changes::{count_changes, count_fronts, tell_count};
+use crate::changes::{count_changes, count_prefixes, tell_count};
 use crate::telling::{Told, tell_no_call};
 use crate::versions::{Asked, tell_each};
 use crate::{formats, pieces};
@@ -54,7 +54,7 @@ fn tell_unescaped(alloc: Global, told: &mut String, word: &str, call: &str, inpu
     tell_bytes(told, word, call, bytes.as_mut_slice())
 }
 
-// The same for these bytes.
+// What a reading answers for these bytes.
 fn tell_bytes(told: &mut String, word: &str, call: &str, input: &mut [u8]) -> Told {
     match word {
         "rfc3339" => formats::tell_rfc3339(told, call, input),
@@ -62,7 +62,7 @@ fn tell_bytes(told: &mut String, word: &str, call: &str, input: &mut [u8]) -> To
         "iso8601" => formats::tell_iso8601(told, call, input),
         "white" => pieces::tell_white_space(told, call, input),
         "piece" => pieces::tell_piece(told, call, input),
-        "fronts" => tell_count(told, count_fronts(call, input)),
+        "fronts" => tell_count(told, count_prefixes(call, input)),
         "changes" => tell_count(told, count_changes(call, input, (0, 255))),
         "crossed" => tell_count(told, count_changes(call, input, (b'x', b'x'))),
         _ => tell_no_call(told),

@@ -56,7 +56,7 @@ fn time_fields(parsed: &Parsed) -> [(&'static str, Option<i128>); 12] {
     ]
 }
 
-/// Tells one thing more, behind a comma where others stand.
+/// Tells one thing more, after a comma where others stand.
 pub fn tell(told: &mut String, more: impl Display + Drop) -> Told {
     let comma = if told.is_empty() { "" } else { ", " };
     write!(told, "{comma}{more}")

@@ -3,7 +3,7 @@
 //! - Words are parted by blanks. A word with a blank in it, or an empty one, stands in single quotes.
 //! - The stream has `\n`, `\r`, `\t`, `\\` and `\xHH` for bytes that aren't plain text. It ends in a line feed that isn't
 //!   written; where `\c` ends the row's stream it has none.
-//! - The answer is written so too. Where the program ends early, its sentence and its status stand behind what it wrote.
+//! - The answer is written so too. Where the program ends early, its sentence and its status stand after what it wrote.
 //!
 //! It is answered with reads and writes of at most 1000 bytes, and of at most 1 to 26: an answer that differs then is
 //! written with its size.
@@ -157,7 +157,7 @@ fn run_on<'a, R: ByteReader, W: ByteWriter>(
     run_words(alloc, words, reader, writer)
 }
 
-// The same of the program for dates in lines.
+// Runs the program for dates in lines.
 fn run_lines_on<'a, R: ByteReader, W: ByteWriter>(
     alloc: Global,
     words: &[&'a str],

@@ -6,11 +6,11 @@
 //! - `parse TEXT`: the text is read by version 1's own call.
 //! - `component 23 TEXT`: the component that a name and its modifiers mean.
 //! - `named 23 WORD NAME`: whether the word is this name.
-//! - `literal 12 TEXT`: the text that stands for itself in front, and the byte index behind it.
-//! - `escape TEXT`: what the escape in front stands for, and what follows it.
-//! - `modifiers TEXT`: each key and value behind its byte index, and what follows them.
+//! - `literal 12 TEXT`: the text that stands for itself before, and the byte index after it.
+//! - `escape TEXT`: what the escape before stands for, and what follows it.
+//! - `modifiers TEXT`: each key and value after its byte index, and what follows them.
 //!
-//! A text stands as it is. Behind a `\` before the call, `\t`, `\r` and `\n` in the text and in what is told are a tab,
+//! A text stands as it is. After a `\` before the call, `\t`, `\r` and `\n` in the text and in what is told are a tab,
 //! a carriage return and a line feed, and `\\` is a backslash.
 
 use crate::bytes::{tell_bytes, unescape};

@@ -1,5 +1,5 @@
 //! Rows of descriptions in several versions: each is a digit, or `s` for the letters of `strftime`. All of them tell
-//! alike; where they do not, the row shows the first that differs from the one before, with ` (in N)` behind it.
+//! alike; where they do not, the row shows the first that differs from the one before, with ` (in N)` after it.
 
 use crate::calls::tell_call;
 use crate::telling::{Told, tell_debug, tell_display, tell_fault, tell_no_call, tells_other};
@@ -69,7 +69,7 @@ fn tell_in(alloc: Global, told: &mut String, version: char, asked: Asked<'_>, te
     }
 }
 
-// The same by the letters of `strftime`.
+// What a text spells by the letters of `strftime`.
 fn tell_letters(alloc: Global, told: &mut String, asked: Asked<'_>, text: &str) -> Told {
     match parse_strftime_borrowed(alloc, text) {
         Ok(items) => tell_items(told, items.as_slice(), asked),

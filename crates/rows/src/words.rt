@@ -65,27 +65,27 @@ fn tell_named(told: &mut String, version: DescriptionVersion, text: &str) -> Tol
     }
 }
 
-// The text that stands for itself, and the byte index behind it. A text that is empty has none.
+// The text that stands for itself, and the byte index after it. A text that is empty has none.
 fn tell_literal(told: &mut String, version: DescriptionVersion, text: &str) -> Told {
     if text.is_empty() {
         return tell_no_call(told);
     }
-    let (front, rest) = literal(version, whole_of(text));
-    write!(told, "{front} up to {}", rest.index)
+    let (prefix, rest) = literal(version, whole_of(text));
+    write!(told, "{prefix} up to {}", rest.index)
 }
 
-/// What the escape in front stands for, and what follows it. A text that begins otherwise has none.
+/// What the escape before stands for, and what follows it. A text that begins otherwise has none.
 pub fn tell_escape(told: &mut String, text: &str) -> Told {
     if !begins(text, b'\\') {
         return tell_no_call(told);
     }
     match escape(whole_of(text)) {
-        Ok((front, rest)) => write!(told, "{front} then {}", rest.text),
+        Ok((prefix, rest)) => write!(told, "{prefix} then {}", rest.text),
         Err(fault) => write!(told, "{fault}"),
     }
 }
 
-/// Each key and value behind its byte index, and what follows them.
+/// Each key and value after its byte index, and what follows them.
 pub fn tell_modifiers(alloc: Global, told: &mut String, text: &str) -> Told {
     match modifiers_of(alloc, whole_of(text)) {
         Ok((all, rest)) => tell_all(told, all.as_slice(), rest.text),

@@ -65,11 +65,11 @@ pub struct Handle {
 }
 
 extern "C" {
-    /// Answers each line of the input as the words say, each answer followed by a line feed, into the front of the output.
+    /// Answers each line of the input as the words say, each answer followed by a line feed, into the start of the output.
     ///
     /// # Safety
     ///
-    /// No pointer is null, also where its length is 0, and as many bytes as the length says lie behind each; the output and
+    /// No pointer is null, also where its length is 0, and as many bytes as the length says lie after each; the output and
     /// `written` overlap with nothing else; while the call runs nobody else writes what it reads, or uses what it writes.
     pub fn instants_answer_lines(
         words: *const c_void,

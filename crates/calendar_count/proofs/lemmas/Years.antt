@@ -23,7 +23,7 @@ weekdays_after = views.weekdays_so_far-is
 pub years_since : (y : ℤ) → IsYear y → y +ℤ pos greatest_year ≡ pos (unsigned_abs (y +ℤ pos greatest_year))
 years_since = views.years_since-is
 
--- a later year begins behind the year
+-- a later year begins after the year
 pub years_apart : (y : ℤ) (n m : ℕ) → y +ℤ pos greatest_year ≡ pos n → n < m → days_before_year n + days_in_year y ≤ days_before_year m
 years_apart = counts.days_before_year-lt
 

@@ -16,7 +16,7 @@ early words (program.Words fault) P write read refused = (refused tt).0
 early words (program.New fault) P write read refused = (refused tt).0
 early words program.Memory P write read refused = tt
 
--- so is want of memory that is told in its place
+-- so is lack of memory that is told in its place
 told_so : (words : List (List ℕ)) (fault told : ProgramFault) → ((told ≡ fault) ⊎ (told ≡ program.Memory)) → IsRefusedAs words fault → IsRefusedAs words told
 told_so words fault told (inl e) h = subst (IsRefusedAs words) (sym e) h
 told_so words fault told (inr e) h = subst (IsRefusedAs words) (sym e) tt

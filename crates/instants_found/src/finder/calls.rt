@@ -1,7 +1,7 @@
 //! The calls of a finder.
 ghost use Rattle.std.specs.Prelude.{◌≡◌, ◌<◌, ◌≤◌, ◌+◌, length, map, min, take, false, None, All, IfOk, IfSome, IfNone};
-ghost use Rattle.instants_fronts.specs.declared.given.Given.{Given};
-ghost use Rattle.instants_fronts.specs.DateSource.{grammar_in};
+ghost use Rattle.instants_prefixes.specs.declared.given.Given.{Given};
+ghost use Rattle.instants_prefixes.specs.DateSource.{grammar_in};
 ghost use Rattle.instants_sources.specs.Grammar.{grammar_of};
 ghost use Rattle.instants_found.specs.Found.{found};
 ghost use Rattle.instants_found.specs.Doubts.{doubt_of, first_read};
@@ -21,7 +21,7 @@ use crate::lanes::LANES;
 use crate::marks::Marks;
 use crate::starts::starts;
 use instants_edges::is_edge;
-use instants_fronts::{DateSource, Given};
+use instants_prefixes::{DateSource, Given};
 use instants_sources::Source;
 use std::alloc::{AllocError, Global};
 
@@ -118,15 +118,15 @@ impl<'a> Finder<'a> {
         let mut at = from;
         let mut left = marks;
         while left != 0 {
-            let behind = left.trailing_zeros();
-            if behind as usize >= to - at {
+            let after = left.trailing_zeros();
+            if after as usize >= to - at {
                 return None;
             }
-            let start = at + behind as usize;
+            let start = at + after as usize;
             if self.can_start(line, start) {
                 return Some(start);
             }
-            left = (left >> behind) >> 1u32;
+            left = (left >> after) >> 1u32;
             at = start + 1;
         }
         None
@@ -151,7 +151,7 @@ impl<'a> Finder<'a> {
         self.by_marks(line, from, start + LANES, bits >> (from - start) as u32)
     }
 
-    // The only place of those behind one at which a date of four bytes can begin, where these have no room for keys.
+    // The only place of those after one at which a date of four bytes can begin, where these have no room for keys.
     #[inline(always)]
     fn by_last_four(&self, line: &[u8], from: usize) -> Option<usize>
         requires some { 4 ≤ length line.now }
@@ -218,7 +218,7 @@ impl<'a> Finder<'a> {
         self.by_blocks(marks, line, from)
     }
 
-    /// How many bytes at the front of a line are passed over, since no date begins at them: `None` where none begins in the
+    /// How many bytes at the start of a line are passed over, since no date begins at them: `None` where none begins in the
     /// whole line, or at its places up to the limit. `Some` says nothing of what stands after them, and not that they are all such
     /// bytes.
     #[inline(always)]

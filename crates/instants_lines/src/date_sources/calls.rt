@@ -4,8 +4,8 @@ ghost use Rattle.std.specs.Option.{ok_or};
 ghost use Rattle.instants_answers.specs.Text.{FitsLine};
 ghost use Rattle.instants_found.specs.Starts.{HasNoDate};
 ghost use Rattle.instants_found.specs.Within.{IsWithin};
-ghost use Rattle.instants_fronts.specs.DateSource.{grammar_in};
-ghost use Rattle.instants_fronts.specs.declared.given.Given.{Given};
+ghost use Rattle.instants_prefixes.specs.DateSource.{grammar_in};
+ghost use Rattle.instants_prefixes.specs.declared.given.Given.{Given};
 ghost use Rattle.instants_sources.specs.Named.{named};
 ghost use Rattle.instants_timeline.specs.Place.{place_text, shown_or_refused};
 ghost use Rattle.instants_timeline.specs.Refusal.{year};
@@ -20,7 +20,7 @@ use crate::lacking::Lacking;
 use datetime_types::OffsetDateTime;
 use instants_answers::Answer;
 use instants_found::{Doubted, Finder, Finding};
-use instants_fronts::{DateSource, Given};
+use instants_prefixes::{DateSource, Given};
 use instants_sources::Named;
 use instants_timeline::{Timeline, answer_by, answer_named, shown_at};
 use std::alloc::{AllocError, Global};
@@ -86,7 +86,7 @@ impl<'a> DateSources<'a> {
         self.finder.find(given, line)
     }
 
-    /// How many bytes at the front of a line are passed over, since no date begins at them: `None` where none begins at all.
+    /// How many bytes at the start of a line are passed over, since no date begins at them: `None` where none begins at all.
     #[inline(always)]
     pub(crate) fn undated_len(&self, line: &[u8]) -> Option<usize>
         ensures none { IfNone result

@@ -4,10 +4,10 @@ ghost use Rattle.std.specs.Io.KnownBytes.{Appends};
 ghost use Rattle.base.specs.Bytes.{tab, line_feed};
 ghost use Rattle.instants_found.specs.Starts.{HasNoDate};
 ghost use Rattle.instants_found.specs.declared.found.Finding.TheVariants.{Doubtful, There};
-ghost use Rattle.instants_stream.specs.Told.{AppendsFront};
+ghost use Rattle.instants_stream.specs.Known.{AppendsPrefix};
 ghost use Rattle.instants_lines.specs.Showing.{search_in};
 ghost use Rattle.instants_lines.specs.Dates.{date_in, doubt, replaced};
-ghost use Rattle.instants_lines.specs.Going.{below, beginning, given_below, key_of_line, key_below, keyed, label_front};
+ghost use Rattle.instants_lines.specs.Going.{below, beginning, given_below, key_of_line, key_below, keyed, label_prefix};
 ghost use Rattle.instants_lines.specs.Located.{located};
 ghost use Rattle.instants_lines.specs.Writing.{going_of};
 ghost use Rattle.instants_lines_words.specs.declared.mode.Mode.{Mode};
@@ -15,11 +15,13 @@ ghost use Rattle.instants_lines_words.specs.declared.mode.Mode.{Mode};
 use crate::date_sources::DateSources;
 use crate::line_writer::LineWriter;
 use crate::located::write_finding;
-use crate::parts::{tabbed, write_after, write_behind, write_both, write_labelled, write_three};
+use crate::parts::{
+    tabbed, write_both, write_keyed, write_keyed_by_tab, write_labelled, write_three,
+};
 use instants_answers::{Answer, rfc3339_line};
 use instants_found::{Finding, Found};
-use instants_fronts::{Given, Years};
 use instants_lines_words::Mode;
+use instants_prefixes::{Given, Years};
 use instants_stream::{ByteWriter, DeviceFailed};
 
 impl<'a, 'b> LineWriter<'a, 'b> {
@@ -84,18 +86,18 @@ impl<'a, 'b> LineWriter<'a, 'b> {
         };
     }
 
-    // Writes a line without a date behind the key that it takes and a tab.
+    // Writes a line without a date after the key that it takes and a tab.
     #[inline(always)]
     fn write_undated<W: ByteWriter>(&self, line: &[u8], writer: &mut W) -> Result<(), DeviceFailed>
         requires { W.failed writer.old ≡ false }
         ensures written { OnOk result (Appends (W.held writer.old) (W.held writer.new)
-            (((going_of self.now).key ++ tab ∷ (label_front (going_of self.now).label ++ line.now)) ++ line_feed ∷ [])) }
+            (((going_of self.now).key ++ tab ∷ (label_prefix (going_of self.now).label ++ line.now)) ++ line_feed ∷ [])) }
         ensures ok { OnOk result (W.failed writer.new ≡ W.failed writer.old) }
-        ensures front { OnErr result (AppendsFront (W.held writer.old) (W.held writer.new)
-            (((going_of self.now).key ++ tab ∷ (label_front (going_of self.now).label ++ line.now)) ++ line_feed ∷ [])) }
+        ensures prefix { OnErr result (AppendsPrefix (W.held writer.old) (W.held writer.new)
+            (((going_of self.now).key ++ tab ∷ (label_prefix (going_of self.now).label ++ line.now)) ++ line_feed ∷ [])) }
         ensures err { OnErr result (W.failed writer.new ≡ true) }
     {
-        write_after(writer, &self.tabbed, self.label, line)
+        write_keyed(writer, &self.tabbed, self.label, line)
     }
 
     // The key of a line by what is found in it, which is kept for the lines below.
@@ -123,7 +125,7 @@ impl<'a, 'b> LineWriter<'a, 'b> {
         }
     }
 
-    // Writes a line after the key of its date. The key is made where it is written from, with the tab behind it.
+    // Writes a line after the key of its date. The key is made where it is written from, with the tab after it.
     #[inline(always)]
     fn write_dated<W: ByteWriter>(
         &mut self,
@@ -137,7 +139,7 @@ impl<'a, 'b> LineWriter<'a, 'b> {
             (keyed (going_of self.old) line.now ++ line_feed ∷ [])) }
         ensures next { OnOk result (going_of self.new ≡ below (going_of self.old) line.now) }
         ensures ok { OnOk result (W.failed writer.new ≡ W.failed writer.old) }
-        ensures front { OnErr result (AppendsFront (W.held writer.old) (W.held writer.new)
+        ensures prefix { OnErr result (AppendsPrefix (W.held writer.old) (W.held writer.new)
             (keyed (going_of self.old) line.now ++ line_feed ∷ [])) }
         ensures err { OnErr result (W.failed writer.new ≡ true) }
     {
@@ -146,7 +148,7 @@ impl<'a, 'b> LineWriter<'a, 'b> {
         self.keep_year(date);
         self.keep(key);
         key.push(b'\t');
-        write_after(writer, &key, label, line)
+        write_keyed(writer, &key, label, line)
     }
 
     // Writes a line whose date is in doubt after the key that says so.
@@ -163,13 +165,13 @@ impl<'a, 'b> LineWriter<'a, 'b> {
             (keyed (going_of self.old) line.now ++ line_feed ∷ [])) }
         ensures next { OnOk result (going_of self.new ≡ below (going_of self.old) line.now) }
         ensures ok { OnOk result (W.failed writer.new ≡ W.failed writer.old) }
-        ensures front { OnErr result (AppendsFront (W.held writer.old) (W.held writer.new)
+        ensures prefix { OnErr result (AppendsPrefix (W.held writer.old) (W.held writer.new)
             (keyed (going_of self.old) line.now ++ line_feed ∷ [])) }
         ensures err { OnErr result (W.failed writer.new ≡ true) }
     {
         let label = self.label;
         let key = self.take_key(line, Some(Finding::Doubtful));
-        write_behind(writer, &key, label, line)
+        write_keyed_by_tab(writer, &key, label, line)
     }
 
     // Writes a line after its key and a tab, where no date begins before a place. A call of its own, so that lines in which
@@ -189,7 +191,7 @@ impl<'a, 'b> LineWriter<'a, 'b> {
             (keyed (going_of self.old) line.now ++ line_feed ∷ [])) }
         ensures next { OnOk result (going_of self.new ≡ below (going_of self.old) line.now) }
         ensures ok { OnOk result (W.failed writer.new ≡ W.failed writer.old) }
-        ensures front { OnErr result (AppendsFront (W.held writer.old) (W.held writer.new)
+        ensures prefix { OnErr result (AppendsPrefix (W.held writer.old) (W.held writer.new)
             (keyed (going_of self.old) line.now ++ line_feed ∷ [])) }
         ensures err { OnErr result (W.failed writer.new ≡ true) }
     {
@@ -214,7 +216,7 @@ impl<'a, 'b> LineWriter<'a, 'b> {
             (keyed (going_of self.old) line.now ++ line_feed ∷ [])) }
         ensures next { OnOk result (going_of self.new ≡ below (going_of self.old) line.now) }
         ensures ok { OnOk result (W.failed writer.new ≡ W.failed writer.old) }
-        ensures front { OnErr result (AppendsFront (W.held writer.old) (W.held writer.new)
+        ensures prefix { OnErr result (AppendsPrefix (W.held writer.old) (W.held writer.new)
             (keyed (going_of self.old) line.now ++ line_feed ∷ [])) }
         ensures err { OnErr result (W.failed writer.new ≡ true) }
     {
@@ -229,23 +231,23 @@ impl<'a, 'b> LineWriter<'a, 'b> {
     #[inline(never)]
     pub(crate) fn begin_keyed<W: ByteWriter>(
         &mut self,
-        front: &[u8],
+        prefix: &[u8],
         writer: &mut W,
     ) -> Result<(), DeviceFailed>
         requires { W.failed writer.old ≡ false }
         ensures written { OnOk result (Appends (W.held writer.old) (W.held writer.new)
-            (keyed (going_of self.old) front.now)) }
-        ensures next { OnOk result (going_of self.new ≡ below (going_of self.old) front.now) }
+            (keyed (going_of self.old) prefix.now)) }
+        ensures next { OnOk result (going_of self.new ≡ below (going_of self.old) prefix.now) }
         ensures ok { OnOk result (W.failed writer.new ≡ W.failed writer.old) }
-        ensures front { OnErr result (AppendsFront (W.held writer.old) (W.held writer.new)
-            (keyed (going_of self.old) front.now)) }
+        ensures prefix { OnErr result (AppendsPrefix (W.held writer.old) (W.held writer.new)
+            (keyed (going_of self.old) prefix.now)) }
         ensures err { OnErr result (W.failed writer.new ≡ true) }
     {
         let label = self.label;
-        let finding = self.dates.date_in(&self.given, front);
-        let key = self.take_key(front, finding);
+        let finding = self.dates.date_in(&self.given, prefix);
+        let key = self.take_key(prefix, finding);
         write_both(writer, key.as_bytes(), b"\t")?;
-        write_labelled(writer, label, front)
+        write_labelled(writer, label, prefix)
     }
 
     // Writes a line with the date-time in place of this date of it, or as it is where the date's year is not written.
@@ -263,7 +265,7 @@ impl<'a, 'b> LineWriter<'a, 'b> {
         ensures written { OnOk result (Appends (W.held writer.old) (W.held writer.new)
             (replaced (going_of self.now).search line.now)) }
         ensures ok { OnOk result (W.failed writer.new ≡ W.failed writer.old) }
-        ensures front { OnErr result (AppendsFront (W.held writer.old) (W.held writer.new)
+        ensures prefix { OnErr result (AppendsPrefix (W.held writer.old) (W.held writer.new)
             (replaced (going_of self.now).search line.now)) }
         ensures err { OnErr result (W.failed writer.new ≡ true) }
     {
@@ -292,7 +294,7 @@ impl<'a, 'b> LineWriter<'a, 'b> {
             (replaced (going_of self.old).search line.now)) }
         ensures next { OnOk result (going_of self.new ≡ below (going_of self.old) line.now) }
         ensures ok { OnOk result (W.failed writer.new ≡ W.failed writer.old) }
-        ensures front { OnErr result (AppendsFront (W.held writer.old) (W.held writer.new)
+        ensures prefix { OnErr result (AppendsPrefix (W.held writer.old) (W.held writer.new)
             (replaced (going_of self.old).search line.now)) }
         ensures err { OnErr result (W.failed writer.new ≡ true) }
     {
@@ -319,7 +321,7 @@ impl<'a, 'b> LineWriter<'a, 'b> {
             (replaced (going_of self.old).search line.now ++ line_feed ∷ [])) }
         ensures next { OnOk result (going_of self.new ≡ below (going_of self.old) line.now) }
         ensures ok { OnOk result (W.failed writer.new ≡ W.failed writer.old) }
-        ensures front { OnErr result (AppendsFront (W.held writer.old) (W.held writer.new)
+        ensures prefix { OnErr result (AppendsPrefix (W.held writer.old) (W.held writer.new)
             (replaced (going_of self.old).search line.now ++ line_feed ∷ [])) }
         ensures err { OnErr result (W.failed writer.new ≡ true) }
     {
@@ -342,7 +344,7 @@ impl<'a, 'b> LineWriter<'a, 'b> {
             (located (going_of self.old).search line.now)) }
         ensures next { OnOk result (going_of self.new ≡ below (going_of self.old) line.now) }
         ensures ok { OnOk result (W.failed writer.new ≡ W.failed writer.old) }
-        ensures front { OnErr result (AppendsFront (W.held writer.old) (W.held writer.new)
+        ensures prefix { OnErr result (AppendsPrefix (W.held writer.old) (W.held writer.new)
             (located (going_of self.old).search line.now)) }
         ensures err { OnErr result (W.failed writer.new ≡ true) }
     {
@@ -366,7 +368,7 @@ impl<'a, 'b> LineWriter<'a, 'b> {
             (located (going_of self.old).search line.now ++ line_feed ∷ [])) }
         ensures next { OnOk result (going_of self.new ≡ below (going_of self.old) line.now) }
         ensures ok { OnOk result (W.failed writer.new ≡ W.failed writer.old) }
-        ensures front { OnErr result (AppendsFront (W.held writer.old) (W.held writer.new)
+        ensures prefix { OnErr result (AppendsPrefix (W.held writer.old) (W.held writer.new)
             (located (going_of self.old).search line.now ++ line_feed ∷ [])) }
         ensures err { OnErr result (W.failed writer.new ≡ true) }
     {

@@ -48,14 +48,14 @@ impl WritesLines for LineWriter<'_, '_> {
     #[inline(never)]
     fn begin_line<W: ByteWriter>(
         &mut self,
-        front: &[u8],
+        prefix: &[u8],
         writer: &mut W,
     ) -> Result<(), DeviceFailed> {
         match self.mode {
-            Mode::Key | Mode::Carry => self.begin_keyed(front, writer),
-            Mode::Replace => self.write_replaced(front, writer),
+            Mode::Key | Mode::Carry => self.begin_keyed(prefix, writer),
+            Mode::Replace => self.write_replaced(prefix, writer),
             Mode::Explain => Ok(()),
-            Mode::Locate => self.write_located(front, writer),
+            Mode::Locate => self.write_located(prefix, writer),
         }
     }
 

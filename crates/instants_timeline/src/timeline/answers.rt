@@ -36,7 +36,7 @@ impl Timeline<'_> {
         }
     }
 
-    // The same, of the few moments that have to be counted.
+    // Writes the moment that fields name, one of the few whose day has to be counted.
     #[cold]
     #[inline(never)]
     fn write_counted(&self, fields: Fields, storage: &mut Answer)
@@ -48,7 +48,7 @@ impl Timeline<'_> {
         self.write_shown(fields.moment(), storage);
     }
 
-    // The same of the moment that fields name: nearly all are written with no day counted.
+    // Writes the moment that fields name: nearly all are written with no day counted.
     #[inline(always)]
     fn write_moved(&self, fields: Fields, storage: &mut Answer)
         ensures bytes { storage.new ≡
@@ -61,7 +61,7 @@ impl Timeline<'_> {
         }
     }
 
-    // The same of the moment that fields name, if they were found. Whether they were.
+    // Writes the moment that fields name, if they were found. Whether they were.
     #[inline(always)]
     pub(super) fn write_found(&self, found: Option<Fields>, storage: &mut Answer) -> bool
         ensures { result ≡ true →
@@ -84,7 +84,7 @@ impl Timeline<'_> {
         self.write_found(fast_rfc2822(line), storage)
     }
 
-    // The same of RFC 3339.
+    // Writes the answer to a line of RFC 3339, if the fast way finds one: `false` says nothing of the line.
     #[inline(never)]
     fn write_rfc3339(&self, line: &[u8], storage: &mut Answer) -> bool
         ensures { result ≡ true → IsAnswerOf (setting_of self.now)
@@ -94,7 +94,7 @@ impl Timeline<'_> {
         self.write_found(fast_rfc3339(line), storage)
     }
 
-    // The same of ISO 8601.
+    // Writes the answer to a line of ISO 8601, if the fast way finds one: `false` says nothing of the line.
     #[inline(never)]
     fn write_iso8601(&self, line: &[u8], storage: &mut Answer) -> bool
         ensures { result ≡ true → IsAnswerOf (setting_of self.now)
@@ -104,7 +104,7 @@ impl Timeline<'_> {
         self.write_found(fast_iso8601(line), storage)
     }
 
-    // The same of a description that has a plan.
+    // Writes the answer to a line by the plan of a description, if that finds one: `false` says nothing of the line.
     #[inline(never)]
     fn write_planned(&self, source: &Source, line: &[u8], storage: &mut Answer) -> bool
         ensures { result ≡ true → IsAnswerOf (setting_of self.now)
@@ -129,7 +129,7 @@ impl Timeline<'_> {
         }
     }
 
-    // The same, where no way is a call of its own.
+    // Writes the answer to a line by a source's fast way, compiled into the caller: `false` says nothing of the line.
     #[inline(always)]
     fn write_likely(&self, source: &Source, line: &[u8], storage: &mut Answer) -> bool
         ensures { result ≡ true → IsAnswerOf (setting_of self.now)
@@ -190,7 +190,8 @@ impl Timeline<'_> {
         false
     }
 
-    // The same, where the sources before a place name no moment. Mostly the first bytes rule out all behind it.
+    // Writes the answer to a line by the sources from a place on, where those before it name no moment. Whether one does. Mostly
+    // the first bytes rule all of them out.
     #[inline(always)]
     fn write_from(&self, place: usize, line: &[u8], storage: &mut Answer) -> bool
         requires { NamesFrom (setting_of self.now) line.now place }
@@ -222,7 +223,7 @@ impl Timeline<'_> {
         }
     }
 
-    // The same, read the exact way.
+    // Writes the first source's fault, read the exact way, where no source names a moment.
     #[cold]
     #[inline(never)]
     fn write_by_first(&self, line: &[u8], storage: &mut Answer)
@@ -238,10 +239,10 @@ impl Timeline<'_> {
         }
     }
 
-    // Writes the answer to a line that the first source's first bytes rule out: the likely source is the first behind it that
+    // Writes the answer to a line that the first source's first bytes rule out: the likely source is the first after it that
     // they do not.
     #[inline(never)]
-    pub(super) fn write_behind(&self, line: &[u8], storage: &mut Answer)
+    pub(super) fn write_after(&self, line: &[u8], storage: &mut Answer)
         requires { NamesFrom (setting_of self.now) line.now 1 }
         ensures bytes { storage.new ≡ answer_to (setting_of self.now) line.now }
         ensures room { length storage.new ≤ 63 }
@@ -265,7 +266,7 @@ impl Timeline<'_> {
         ensures never_long { storage.new ≢ codes "! long" }
     {
         if self.has_others() && self.first().cannot_match(line) {
-            self.write_behind(line, storage);
+            self.write_after(line, storage);
         } else {
             self.write_exact(0, line, storage);
         }
@@ -309,7 +310,8 @@ impl Timeline<'_> {
         }
     }
 
-    // The same at the first place, where the source there is RFC 3339: most lines with a fault of their own come this way.
+    // Writes the answer to a line of which the fast way of RFC 3339, the first source, says nothing: most lines with a fault of
+    // their own come this way.
     #[cold]
     #[inline(never)]
     pub(super) fn write_exact_rfc3339(&self, line: &[u8], storage: &mut Answer)

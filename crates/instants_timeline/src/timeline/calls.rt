@@ -31,7 +31,7 @@ impl<'a> Timeline<'a> {
     /// A timeline of these sources, in the order in which they are tried, shown at the target offset.
     ///
     /// The target and the assumed offset have whole minutes, within 23:59. Descriptions are read in order: the first
-    /// one that is refused is the error, with its place counted from 1, or want of memory is.
+    /// one that is refused is the error, with its place counted from 1, or lack of memory is.
     pub fn new(
         alloc: Global,
         sources: &[SourceText<'a>],
@@ -89,7 +89,7 @@ impl<'a> Timeline<'a> {
         &self.sources.as_slice()[place..]
     }
 
-    // Whether there are sources behind the first one.
+    // Whether there are sources after the first one.
     pub(crate) fn has_others(&self) -> bool {
         self.sources.len() > 1
     }

@@ -18,7 +18,7 @@ pub(crate) trait AnswerWay {
         ensures never_long { storage.new ≢ codes "! long" };
 }
 
-/// Where RFC 3339 is tried first. One byte tells it from nearly all lines of the sources behind it.
+/// Where RFC 3339 is tried first. One byte tells it from nearly all lines of the sources after it.
 #[derive(Drop)]
 pub(crate) struct Rfc3339Way;
 
@@ -27,7 +27,7 @@ impl AnswerWay for Rfc3339Way {
     fn write_answer(&self, timeline: &Timeline, line: &[u8], storage: &mut Answer) {
         if let Source::Rfc3339 = timeline.first() {
             if is_no_rfc3339(line) {
-                timeline.write_behind(line, storage);
+                timeline.write_after(line, storage);
                 return;
             }
             if !timeline.write_found(fast_rfc3339(line), storage) {

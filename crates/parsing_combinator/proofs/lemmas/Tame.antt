@@ -24,8 +24,8 @@ joined bytes between rest one other = (one.0 ++ other.0, one.1 ∙ ap (λ t. one
 pub dropped : (k : ℕ) (bytes : List ℕ) → EndsWith bytes (drop k bytes)
 dropped k bytes = (take k bytes, sym (take-append-drop k bytes))
 
-pub behind_one : (c : ℕ) (rest : List ℕ) → EndsWith (c ∷ rest) rest
-behind_one c rest = (c ∷ [], refl)
+pub after_one : (c : ℕ) (rest : List ℕ) → EndsWith (c ∷ rest) rest
+after_one c rest = (c ∷ [], refl)
 
 -- ---- pieces
 
@@ -42,7 +42,7 @@ unfolding digits
 digits_leaves n bytes = cut_leaves (nat_le n (digit_count bytes)) _ n bytes
 
 one_leaves : {A : Type 0} (b : Bool) (x : A) (c : ℕ) (rest : List ℕ) → Leaves (c ∷ rest) (cond b (Some (x, rest)) None)
-one_leaves true x c rest = behind_one c rest
+one_leaves true x c rest = after_one c rest
 one_leaves false x c rest = tt
 
 pub byte_leaves : (p : ℕ → Bool) (bytes : List ℕ) → Leaves bytes (byte_of p bytes)
@@ -73,7 +73,7 @@ pub piece_tame : {A : Type 0} (f : Fault) (bytes : List ℕ) (o : Option (A × L
 piece_tame f bytes None h short = short
 piece_tame f bytes (Some x) h short = h
 
--- behind what was read comes what is read of the rest
+-- after what was read comes what is read of the rest
 pub further : {B : Type 0} (bytes between : List ℕ) (r : Result (B × List ℕ) Fault) → EndsWith bytes between → Tame between r → Tame bytes r
 further bytes between (Ok x) h t = joined bytes between x.1 h t
 further bytes between (Err f) h t = t
@@ -100,14 +100,14 @@ entered_tame bytes (Some x) due other h k m = further bytes x.1 (due x.0 x.1) h 
 
 -- ---- what a function returns
 
--- that reads the front of the bytes
-pub front_ends : {X Y : Type 0} (view : X → Y) (result : Result (X × Bor (List ℕ)) ParseFromDescription) (bytes : List ℕ) (read : Result (Y × List ℕ) Fault) → Gives (λ x. (view x.0, x.1.now)) reading_fault result read → Tame bytes read → IfOk result (λ x. EndsWith bytes x.1.now)
-front_ends view (Ok x) bytes read given t = rw given at t
-front_ends view (Err e) bytes read given t = tt
+-- that reads the prefix of the bytes
+pub prefix_ends : {X Y : Type 0} (view : X → Y) (result : Result (X × Bor (List ℕ)) ParseFromDescription) (bytes : List ℕ) (read : Result (Y × List ℕ) Fault) → Gives (λ x. (view x.0, x.1.now)) reading_fault result read → Tame bytes read → IfOk result (λ x. EndsWith bytes x.1.now)
+prefix_ends view (Ok x) bytes read given t = rw given at t
+prefix_ends view (Err e) bytes read given t = tt
 
-pub front_short : {X Y : Type 0} (view : X → Y) (result : Result (X × Bor (List ℕ)) ParseFromDescription) (bytes : List ℕ) (read : Result (Y × List ℕ) Fault) → Gives (λ x. (view x.0, x.1.now)) reading_fault result read → Tame bytes read → IfErr result (λ e. HasShortName (reading_fault e))
-front_short view (Ok x) bytes read given t = tt
-front_short view (Err e) bytes read given t = rw given at t
+pub prefix_short : {X Y : Type 0} (view : X → Y) (result : Result (X × Bor (List ℕ)) ParseFromDescription) (bytes : List ℕ) (read : Result (Y × List ℕ) Fault) → Gives (λ x. (view x.0, x.1.now)) reading_fault result read → Tame bytes read → IfErr result (λ e. HasShortName (reading_fault e))
+prefix_short view (Ok x) bytes read given t = tt
+prefix_short view (Err e) bytes read given t = rw given at t
 
 value_short : {A : Type 0} (bytes : List ℕ) (r : Result (A × List ℕ) Fault) → Tame bytes r → IfErr (value_read r) HasShortName
 value_short bytes (Ok x) h = tt

@@ -13,24 +13,24 @@ use Rattle.parsing_combinator.specs.Readings.{piece_or}
 use Rattle.parsing_combinator.specs.ShortName.{HasShortName}
 use Rattle.parsing_combinator.specs.Tame.{EndsWith, Leaves, Tame, IsTame}
 use Rattle.parsing_combinator.proofs.lemmas.Tame.{dropped}
-use Rattle.parsing_combinator.specs.Shape.{Shape, greatest, or_before, front, taken}
+use Rattle.parsing_combinator.specs.Shape.{Shape, greatest, or_before, prefix, taken}
 use Rattle.parsing_combinator.specs.Names.{named, period, short_months, long_months, short_weekdays, long_weekdays}
 use Rattle.parsing_components.specs.Ranged.{kept, says}
 use Rattle.parsing_components.specs.Component.{fraction_of, ignored, offset_piece, time_piece, year_piece, date_piece, component_name, time_name, at_end, begins_character, if_whole, reads_modern, reads_component, reads_component_v3}
 use Rattle.parsing_components.specs.Read.{Read}
 use Rattle.parsing_components.specs.Read as read
 
-front_leaves : {A : Type 0} (k : ℕ) (bytes : List ℕ) (o : Option A) → Leaves bytes (option_map (λ x. (x, drop k bytes)) o)
-front_leaves k bytes None = tt
-front_leaves k bytes (Some x) = dropped k bytes
+prefix_leaves : {A : Type 0} (k : ℕ) (bytes : List ℕ) (o : Option A) → Leaves bytes (option_map (λ x. (x, drop k bytes)) o)
+prefix_leaves k bytes None = tt
+prefix_leaves k bytes (Some x) = dropped k bytes
 
 or_leaves : {A : Type 0} (bytes : List ℕ) (one other : Option (A × List ℕ)) → Leaves bytes one → Leaves bytes other → Leaves bytes (or_before one other)
 or_leaves bytes None other h k = k
 or_leaves bytes (Some x) other h k = h
 
-greatest_leaves : {A : Type 0} (shape : Shape A) (bytes : List ℕ) (n : ℕ) → Leaves bytes (greatest (front shape bytes) n)
-greatest_leaves shape bytes zero = front_leaves 0 bytes (shape (take 0 bytes))
-greatest_leaves shape bytes (suc n) = or_leaves bytes (front shape bytes (suc n)) (greatest (front shape bytes) n) (front_leaves (suc n) bytes (shape (take (suc n) bytes))) (greatest_leaves shape bytes n)
+greatest_leaves : {A : Type 0} (shape : Shape A) (bytes : List ℕ) (n : ℕ) → Leaves bytes (greatest (prefix shape bytes) n)
+greatest_leaves shape bytes zero = prefix_leaves 0 bytes (shape (take 0 bytes))
+greatest_leaves shape bytes (suc n) = or_leaves bytes (prefix shape bytes (suc n)) (greatest (prefix shape bytes) n) (prefix_leaves (suc n) bytes (shape (take (suc n) bytes))) (greatest_leaves shape bytes n)
 
 taken_leaves : {A : Type 0} (shape : Shape A) (bytes : List ℕ) → Leaves bytes (taken shape bytes)
 unfolding taken

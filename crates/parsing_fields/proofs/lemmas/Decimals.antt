@@ -26,13 +26,13 @@ pub decimal_count : (width n : ℕ) → digit_count (decimal width n) ≡ width
 unfolding decimal
 decimal_count zero n = refl
 decimal_count (suc width) n =
-    let front = decimal width (n / 10) in
+    let prefix = decimal width (n / 10) in
     let digit = as_digit (n % 10) (omega arith) in
     let one : digit_count ((48 + n % 10) ∷ []) ≡ 1 = rw digit.0 refl in
     let counted = decimal_count width (n / 10) in
     let long = decimal_length width (n / 10) in
-    let same : eqb (digit_count front) (length front) ≡ true = grind (arith, nat_tests) in
-    prefix_len-append is_ascii_digit front ((48 + n % 10) ∷ []) ∙ rw same (omega (arith, one, long))
+    let same : eqb (digit_count prefix) (length prefix) ≡ true = grind (arith, nat_tests) in
+    prefix_len-append is_ascii_digit prefix ((48 + n % 10) ∷ []) ∙ rw same (omega (arith, one, long))
 
 below : (n p q : ℕ) → q ≡ p * 10 → n < q → n / 10 < p
 below n p q e h = omega arith
@@ -42,8 +42,8 @@ unfolding decimal
 decimal_value zero n h = let one : 10 ^ 0 ≡ 1 = refl in omega (arith, h, one)
 decimal_value (suc width) n h =
     let digit = as_digit (n % 10) (omega arith) in
-    let front = decimal_value width (n / 10) (below n (10 ^ width) (10 ^ suc width) (power_next width) h) in
-    digits_value_push 10 (decimal width (n / 10)) (48 + n % 10) ∙ omega (arith, digit.1, front)
+    let prefix = decimal_value width (n / 10) (below n (10 ^ width) (10 ^ suc width) (power_next width) h) in
+    digits_value_push 10 (decimal width (n / 10)) (48 + n % 10) ∙ omega (arith, digit.1, prefix)
 
 -- digits are bytes
 pub digits_fit : (bytes : List ℕ) → digit_count bytes ≡ length bytes → (k : ℕ) → get_or bytes k 0 < 256

@@ -38,7 +38,7 @@ fn begin_with_zeros(window: &Window, length: usize) -> bool
 fn places_before(length: usize) -> [u8; TWICE]
     requires { length ≤ LANES }
     ensures before { (k : ℕ) → k + length < LANES → get_or result k 0 ≡ k }
-    ensures behind { (k : ℕ) → LANES ≤ k + length → k < TWICE → 128 ≤ get_or result k 0 }
+    ensures after { (k : ℕ) → LANES ≤ k + length → k < TWICE → 128 ≤ get_or result k 0 }
 {
     let mut places = [128; TWICE];
     for place in 0..LANES - length {
@@ -48,7 +48,7 @@ fn places_before(length: usize) -> [u8; TWICE]
 }
 
 impl LastBytes {
-    /// Those of a window, of which so many bytes stand behind the fraction: the lowest byte before them has to be `0`.
+    /// Those of a window, of which so many bytes stand after the fraction: the lowest byte before them has to be `0`.
     pub fn of(window: Window, length: usize) -> Option<LastBytes>
         ensures window { IfSome result (λ l. l.window ≡ window) }
         ensures length { IfSome result (λ l. l.length ≡ length) }
@@ -63,7 +63,7 @@ impl LastBytes {
         })
     }
 
-    // So many bytes before the last ones, and zeros behind them.
+    // So many bytes before the last ones, and zeros after them.
     #[inline(always)]
     fn bytes_before(&self, bytes: u8x16, count: usize) -> u8x16
         requires { count + self.now.length ≤ LANES }
@@ -75,7 +75,7 @@ impl LastBytes {
         bytes.swizzle_dyn(moves)
     }
 
-    /// Whether a text up to an end has what has to stand behind a fraction of so many digits, the lanes that take it, and the
+    /// Whether a text up to an end has what has to stand after a fraction of so many digits, the lanes that take it, and the
     /// digits of the fraction.
     #[inline(always)]
     pub fn read(&self, text: &[u8], end: usize, count: usize) -> (bool, u8x16, u8x16)

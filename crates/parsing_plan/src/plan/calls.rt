@@ -6,13 +6,13 @@ ghost use Rattle.description_tree.specs.Description.{v3_tree};
 ghost use Rattle.parsing_components.specs.Component.{reads_component, reads_component_v3};
 ghost use Rattle.parsing_record.specs.Reads.{reading, reading_of_all};
 ghost use Rattle.parsing_places.specs.Windows.{LetsAt, TakeTwo, TakeOne, SpareTwo, SpareOne};
-ghost use Rattle.parsing_plan.specs.Layout.{HasNoOffset, HasNoClock, IsFront, HasRoom};
+ghost use Rattle.parsing_plan.specs.Layout.{HasNoOffset, HasNoClock, IsPrefix, HasRoom};
 ghost use Rattle.parsing_plan.specs.Windows.{LetText, LetYear, TakesOffset, SpareOffset, LetLastText, BeginsApart, SparesClock, SparesSign, TakesLastOffset};
 ghost use Rattle.parsing_plan.specs.Plan.{ArePlacesOf, IsPlanOf};
 
 use crate::items::{is_fraction, lead, unix_of};
 use crate::layout::{LENGTH, Layout};
-use crate::plan::{Back, Front, OffsetPlaces, Places, Plan};
+use crate::plan::{Back, OffsetPlaces, Places, Plan, Prefix};
 use crate::windows::{last_window_of, windows_of};
 use description_items::BorrowedFormatItem;
 use description_tree::FormatDescriptionV3;
@@ -66,7 +66,7 @@ fn takes_last_offset(last: &Window, layout: &Layout, hour: usize, minute: usize)
         && last.takes(11, first + minute + 1, 9)
 }
 
-// The places of an offset behind a fraction, or that there is none: `None` where it has hours or minutes alone, or the window
+// The places of an offset after a fraction, or that there is none: `None` where it has hours or minutes alone, or the window
 // doesn't take it.
 fn last_offset_of(layout: &Layout, last: &Window) -> Option<Option<OffsetPlaces>>
     requires { layout.now.length ≤ LANES }
@@ -118,7 +118,7 @@ fn has_weekday_room(layout: &Layout) -> bool
     }
 }
 
-// Whether the windows take a day, or its ones, where it may have a space in front.
+// Whether the windows take a day, or its ones, where it may have a space before.
 fn is_day(layout: &Layout, windows: &Windows, place: usize) -> bool
     ensures digits { result ≡ true
         → layout.now.day_is_spaced ≡ false → TakeTwo windows.now 2 place 9 }
@@ -195,7 +195,7 @@ fn let_last_text(last: &Window, layout: &Layout) -> bool
     true
 }
 
-// Whether no digit can stand behind a fraction, where so many bytes do.
+// Whether no digit can stand after a fraction, where so many bytes do.
 fn begins_apart(last: &Window, length: usize) -> bool
     requires { length ≤ LANES }
     ensures { result ≡ true → BeginsApart last.now length }
@@ -228,8 +228,8 @@ fn spare_offset(windows: &Windows) -> bool
 }
 
 // Whether a layout has no place for a fraction of a second, nor for an offset.
-fn is_front(layout: &Layout) -> bool
-    ensures { result ≡ true → IsFront layout.now }
+fn is_prefix(layout: &Layout) -> bool
+    ensures { result ≡ true → IsPrefix layout.now }
 {
     layout.subsecond.is_none() && layout.offset_hour.is_none() && layout.offset_minute.is_none()
 }
@@ -265,7 +265,7 @@ fn has_no_clock(layout: &Layout) -> bool
     layout.second.is_none() && layout.subsecond.is_none()
 }
 
-// The layout behind a fraction, where it has no place for a date and a time of day.
+// The layout after a fraction, where it has no place for a date and a time of day.
 fn back_of(layout: Layout) -> Option<Back>
     ensures { IfSome result (λ back. back.layout ≡ layout) }
 {
@@ -294,20 +294,20 @@ fn places_of<N: Node>(items: &[N]) -> Option<Places>
         (ArePlacesOf (reading_of_all N.language (listed (map N.tree items.now)))) }
 {
     let (layout, count) = lead(items);
-    let front = Front::of_layout(layout)?;
+    let prefix = Prefix::of_layout(layout)?;
     if count == items.len() {
-        return Some(Places::of_front(front));
+        return Some(Places::of_prefix(prefix));
     }
     if !is_fraction(&items[count]) {
         return None;
     }
     let rest = &items[count + 1..];
-    let (behind, others) = lead(rest);
+    let (after, others) = lead(rest);
     if others < rest.len() {
         return None;
     }
-    let back = back_of(behind)?;
-    Places::with_back(front, back)
+    let back = back_of(after)?;
+    Places::with_back(prefix, back)
 }
 
 // The plan of items that are read one after the other.
@@ -352,33 +352,33 @@ impl Plan {
 }
 
 impl Places {
-    // The places of a front alone.
-    fn of_front(front: Front) -> Places
-        ensures front { result.front ≡ front }
+    // The places of a prefix alone.
+    fn of_prefix(prefix: Prefix) -> Places
+        ensures prefix { result.prefix ≡ prefix }
         ensures back { result.back ≡ None }
     {
-        Places { front, back: None }
+        Places { prefix, back: None }
     }
 
-    // The places with a layout behind a fraction, where there is but one offset.
-    fn with_back(front: Front, back: Back) -> Option<Places>
-        ensures front { IfSome result (λ places. places.front ≡ front) }
+    // The places with a layout after a fraction, where there is but one offset.
+    fn with_back(prefix: Prefix, back: Back) -> Option<Places>
+        ensures prefix { IfSome result (λ places. places.prefix ≡ prefix) }
         ensures back { IfSome result (λ places. places.back ≡ Some back) }
     {
-        if !is_front(&front.layout) || !spare_offset(&front.windows) {
+        if !is_prefix(&prefix.layout) || !spare_offset(&prefix.windows) {
             return None;
         }
         Some(Places {
-            front,
+            prefix,
             back: Some(back),
         })
     }
 }
 
-impl Front {
+impl Prefix {
     // The places of a layout that has places for all of a date and a time of day.
-    fn of_layout(layout: Layout) -> Option<Front>
-        ensures { IfSome result (λ front. front.layout ≡ layout) }
+    fn of_layout(layout: Layout) -> Option<Prefix>
+        ensures { IfSome result (λ prefix. prefix.layout ≡ layout) }
     {
         let (year, month, day) = (layout.year?, layout.month?, layout.day?);
         let (hour, minute, second) = (layout.hour?, layout.minute?, layout.second?);
@@ -397,7 +397,7 @@ impl Front {
             return None;
         }
         let offset = offset_of(&layout, &windows)?;
-        Some(Front {
+        Some(Prefix {
             layout,
             windows,
             year,

@@ -4,7 +4,7 @@ use Rattle.std.specs.Prelude.{option_map}
 use Rattle.std.specs.List.{prefix_len}
 use Rattle.base.specs.Bytes.{carriage_return, line_feed, backslash}
 use Rattle.parsing_combinator.specs.Tame.{EndsWith, Leaves}
-use Rattle.parsing_combinator.proofs.lemmas.Tame.{whole_end, joined, dropped, behind_one}
+use Rattle.parsing_combinator.proofs.lemmas.Tame.{whole_end, joined, dropped, after_one}
 use Rattle.parsing_rfc2822.specs.Skips.{Skip, byte_where, past_all, past_some, then_skip, either, rest_or, optional, more_or, up_to, many, past}
 use Rattle.parsing_rfc2822.specs.WhiteSpace.{left_parenthesis, right_parenthesis, is_blank, is_white, goes_on, unless, lone_white, line_end, folded_line, refused_if_there, unless_line_end, folded_blanks, folding_white_space, is_comment_text, is_quotable, is_obsolete_text, past_line_ends, obsolete_byte, past_obsolete_text, past_quoted, quoted_pair, content_by, comment, white_or_comment, comments_and_white_space}
 
@@ -17,7 +17,7 @@ abbrev pub IsEnding : Skip → Type 0
 IsEnding skip = (bytes : List ℕ) → Ends bytes (skip bytes)
 
 one_ends : (b : Bool) (c : ℕ) (rest : List ℕ) → Ends (c ∷ rest) (cond b (Some rest) None)
-one_ends true c rest = behind_one c rest
+one_ends true c rest = after_one c rest
 one_ends false c rest = tt
 
 pub byte_ends : (p : ℕ → Bool) → IsEnding (byte_where p)

@@ -14,12 +14,12 @@ use Rattle.calendar_count.specs.declared.component_range.ComponentRange.{Compone
 use Rattle.calendar_count.proofs.lemmas.TheDay.{the_day-unnamed}
 use Rattle.parsing_values.specs.Resolution.{date_of, permitted_time_of, leap_time_of, signed_offset_of}
 
--- what stands behind a test that refuses
+-- what stands after a test that refuses
 pub past : {A E : Type 0} (b : Bool) (e : E) (r : Result A E) (x : A) → cond b (Err e) r ≡ Ok x → (b ≡ false) × (r ≡ Ok x)
 past true e r x h = absurd (cc)
 past false e r x h = (refl, h)
 
--- a test passed, and what stands behind it is there
+-- a test passed, and what stands after it is there
 pub in_both : {A E : Type 0} (b : Bool) (r : Result A E) (e : E) (x : A) → cond b r (Err e) ≡ Ok x → (b ≡ true) × (r ≡ Ok x)
 in_both true r e x h = (refl, h)
 in_both false r e x h = absurd (cc)

@@ -6,14 +6,14 @@ use Rattle.description_tree.specs.Reserved.{reserved, reserved_in_turn, greatest
 use Rattle.description_tree.proofs.reserved.+bytes.Goals as goal
 
 -- the node at an index is the first of those from there on
-front : (nodes : List FormatDescriptionV3Inner) (i : ℕ) (node : FormatDescriptionV3Inner) → i < length nodes → node ≡ get_or nodes i node → drop i nodes ≡ node ∷ drop (i + 1) nodes
-front nodes i node h is = rw (add-one, drop-cons nodes i node, ← is) refl
+prefix : (nodes : List FormatDescriptionV3Inner) (i : ℕ) (node : FormatDescriptionV3Inner) → i < length nodes → node ≡ get_or nodes i node → drop i nodes ≡ node ∷ drop (i + 1) nodes
+prefix nodes i node h is = rw (add-one, drop-cons nodes i node, ← is) refl
 
 sum_on : (nodes : List FormatDescriptionV3Inner) (i : ℕ) (node : FormatDescriptionV3Inner) → i < length nodes → node ≡ get_or nodes i node → reserved_in_turn (listed (inner_trees (drop i nodes))) ≡ reserved (inner_tree node) + reserved_in_turn (listed (inner_trees (drop (i + 1) nodes)))
-sum_on nodes i node h is = rw (front nodes i node h is) refl
+sum_on nodes i node h is = rw (prefix nodes i node h is) refl
 
 greatest_on : (nodes : List FormatDescriptionV3Inner) (i : ℕ) (node : FormatDescriptionV3Inner) → i < length nodes → node ≡ get_or nodes i node → greatest_reserved (listed (inner_trees (drop i nodes))) ≡ max (reserved (inner_tree node)) (greatest_reserved (listed (inner_trees (drop (i + 1) nodes))))
-greatest_on nodes i node h is = rw (front nodes i node h is) refl
+greatest_on nodes i node h is = rw (prefix nodes i node h is) refl
 
 pub greatest_reserved-loop-node-preserved : goal.greatest_reserved-loop-node-preserved
 greatest_reserved-loop-node-preserved t c = omega (arith, c.loop-node.invariant, greatest_on c.args.nodes.now c.loop-node.node-index c.node-item.result c.loop-node-test.true c.node-item.is, c.in_ok-reserved.ensures.some, c.max-greatest.ensures)

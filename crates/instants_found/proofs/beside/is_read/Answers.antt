@@ -7,4 +7,4 @@ use Rattle.instants_found.proofs.beside.is_read.Goals as goal
 pub returns-then-not-has_unix_time : goal.returns-then-not-has_unix_time
 returns-then-not-has_unix_time c =
     rw (sym c.may_say.ensures, c.if-may_say.true, sym c.has_unix_time.ensures)
-    (plain_read (is_edge c.args.line.now (c.args.start + c.args.front.now.all)) (not c.has_unix_time.result) (ap not c.if-not-has_unix_time.true))
+    (plain_read (is_edge c.args.line.now (c.args.start + c.args.prefix.now.all)) (not c.has_unix_time.result) (ap not c.if-not-has_unix_time.true))

@@ -1,7 +1,7 @@
 use Rattle.std.proofs.Common.{◌+◌, drop, refl, sym, ap, ◌∙◌}
 use Rattle.std.specs.Prelude.{not}
 use Rattle.instants_edges.specs.Offset.{has_another_offset}
-use Rattle.instants_fronts.specs.DateSource.{grammar_in}
+use Rattle.instants_prefixes.specs.DateSource.{grammar_in}
 use Rattle.instants_found.proofs.Needless.{no_offset}
 use Rattle.instants_found.proofs.beside.says_another_offset.Goals.{then-is_none-via-then-is_none, then-is_none-via-else-is_none+then-not-has_another_offset}
 use Rattle.instants_found.proofs.beside.says_another_offset.Goals as goal
@@ -10,7 +10,7 @@ pub returns-then-is_none : goal.returns-then-is_none
 returns-then-is_none c =
     elim c.then-is_none.branch [
       | then-is_none-via-then-is_none w ↦
-          no_offset (has_another_offset c.args.line.now (c.args.start + c.args.front.now.ends) c.args.given.now.offset) c.args.given.now (grammar_in c.args.source.now) (drop c.args.start c.args.line.now) c.args.front.now (c.is_none.ensures ∙ ap not w.if-is_none.true)
+          no_offset (has_another_offset c.args.line.now (c.args.start + c.args.prefix.now.ends) c.args.given.now.offset) c.args.given.now (grammar_in c.args.source.now) (drop c.args.start c.args.line.now) c.args.prefix.now (c.is_none.ensures ∙ ap not w.if-is_none.true)
           c.requires.read
       | then-is_none-via-else-is_none+then-not-has_another_offset w ↦ rw (sym w.has_another_offset.ensures, w.if-not-has_another_offset.true) refl
     ]

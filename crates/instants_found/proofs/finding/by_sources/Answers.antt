@@ -1,6 +1,6 @@
 use Rattle.std.proofs.Common.{map, drop, ◌≡◌, ◌+◌, ◌∷◌, Bool, true, false, Some, None, sym, ap, ◌∙◌, arith}
 use Rattle.std.specs.Prelude.{if◌then◌else◌}
-use Rattle.instants_fronts.specs.DateSource.{grammar_in}
+use Rattle.instants_prefixes.specs.DateSource.{grammar_in}
 use Rattle.instants_found.specs.Beside.{stands_whole}
 use Rattle.instants_found.specs.Candidate.{as_candidate, candidate_with, longest}
 use Rattle.instants_found.specs.Found.{finding}
@@ -23,7 +23,7 @@ loop-number-preserved-in_default c =
     let line = c.args.line.now in
     let start = c.args.start in
     let source = c.index-sources-number.result in
-    let none = none_there given line start c.loop-number.number (grammar_in source) (unread given line start (grammar_in source) (rw c.after-bytes.ensures at c.in_default.ensures.front)) in
+    let none = none_there given line start c.loop-number.number (grammar_in source) (unread given line start (grammar_in source) (rw c.after-bytes.ensures at c.in_default.ensures.prefix)) in
     none_read given line start c.args.sources.now c.loop-number.number source (omega arith) c.index-sources-number.is c.loop-number.invariant none
 
 pub loop-number-preserved : goal.loop-number-preserved
@@ -32,8 +32,8 @@ loop-number-preserved c =
     let line = c.args.line.now in
     let start = c.args.start in
     let source = c.index-sources-number.result in
-    let front = c.in-Some.front in
-    let none = none_there given line start c.loop-number.number (grammar_in source) (refused given line start (grammar_in source) front (rw c.after-bytes.ensures at c.in-Some.ensures.front) (sym c.is_read.ensures ∙ c.if-not-is_read.true)) in
+    let prefix = c.in-Some.prefix in
+    let none = none_there given line start c.loop-number.number (grammar_in source) (refused given line start (grammar_in source) prefix (rw c.after-bytes.ensures at c.in-Some.ensures.prefix) (sym c.is_read.ensures ∙ c.if-not-is_read.true)) in
     none_read given line start c.args.sources.now c.loop-number.number source (omega arith) c.index-sources-number.is c.loop-number.invariant none
 
 pub returns-then-others_may_read-clause-found : goal.returns-then-others_may_read-clause-found
@@ -44,10 +44,10 @@ returns-then-others_may_read-clause-found c =
     let sources = c.args.sources.now in
     let number = c.loop-number.number in
     let source = c.index-sources-number.result in
-    let front = c.in-Some.front in
-    let one = as_candidate given line start number (grammar_in source) front in
-    let there = some_there given line start number (grammar_in source) front (accepted given line start (grammar_in source) front (rw c.after-bytes.ensures at c.in-Some.ensures.front) (sym c.is_read.ensures ∙ c.if-not-is_read.false)) in
-    ap Some c.with_others.ensures.found ∙ ap (λ (b : Bool). Some (finding (longest (candidate_with line start number front b ∷ from_number given line start sources (number + 1))))) c.stands_whole-is_whole.ensures
+    let prefix = c.in-Some.prefix in
+    let one = as_candidate given line start number (grammar_in source) prefix in
+    let there = some_there given line start number (grammar_in source) prefix (accepted given line start (grammar_in source) prefix (rw c.after-bytes.ensures at c.in-Some.ensures.prefix) (sym c.is_read.ensures ∙ c.if-not-is_read.false)) in
+    ap Some c.with_others.ensures.found ∙ ap (λ (b : Bool). Some (finding (longest (candidate_with line start number prefix b ∷ from_number given line start sources (number + 1))))) c.stands_whole-is_whole.ensures
     ∙ sym (first_read given line start sources number source (omega arith) c.index-sources-number.is one c.loop-number.invariant there)
 
 pub returns-then-not-is_whole-clause-found : goal.returns-then-not-is_whole-clause-found
@@ -57,11 +57,11 @@ returns-then-not-is_whole-clause-found c =
     let start = c.args.start in
     let number = c.loop-number.number in
     let source = c.index-sources-number.result in
-    let front = c.in-Some.front in
-    let one = as_candidate given line start number (grammar_in source) front in
-    let there = some_there given line start number (grammar_in source) front (accepted given line start (grammar_in source) front (rw c.after-bytes.ensures at c.in-Some.ensures.front) (sym c.is_read.ensures ∙ c.if-not-is_read.false)) in
+    let prefix = c.in-Some.prefix in
+    let one = as_candidate given line start number (grammar_in source) prefix in
+    let there = some_there given line start number (grammar_in source) prefix (accepted given line start (grammar_in source) prefix (rw c.after-bytes.ensures at c.in-Some.ensures.prefix) (sym c.is_read.ensures ∙ c.if-not-is_read.false)) in
     let others = no_candidates given line start (number + 1) (map grammar_in (drop (number + 1) c.args.sources.now)) (rw c.after-bytes.ensures at (c.others_may_read.ensures c.if-others_may_read.false)) in
-    let whole : stands_whole given (grammar_in source) line start front ≡ false = sym c.stands_whole-is_whole.ensures ∙ c.if-not-is_whole.true in
+    let whole : stands_whole given (grammar_in source) line start prefix ≡ false = sym c.stands_whole-is_whole.ensures ∙ c.if-not-is_whole.true in
     ap (λ (b : Bool). Some (finding (if b then Some one else None))) (sym whole) ∙ sym (last_read given line start c.args.sources.now number source (omega arith) c.index-sources-number.is one others c.loop-number.invariant there)
 
 pub returns-in-loop-number-clause-found : goal.returns-in-loop-number-clause-found
@@ -71,11 +71,11 @@ returns-in-loop-number-clause-found c =
     let start = c.args.start in
     let number = c.loop-number.number in
     let source = c.index-sources-number.result in
-    let front = c.in-Some.front in
-    let one = as_candidate given line start number (grammar_in source) front in
-    let there = some_there given line start number (grammar_in source) front (accepted given line start (grammar_in source) front (rw c.after-bytes.ensures at c.in-Some.ensures.front) (sym c.is_read.ensures ∙ c.if-not-is_read.false)) in
+    let prefix = c.in-Some.prefix in
+    let one = as_candidate given line start number (grammar_in source) prefix in
+    let there = some_there given line start number (grammar_in source) prefix (accepted given line start (grammar_in source) prefix (rw c.after-bytes.ensures at c.in-Some.ensures.prefix) (sym c.is_read.ensures ∙ c.if-not-is_read.false)) in
     let others = no_candidates given line start (number + 1) (map grammar_in (drop (number + 1) c.args.sources.now)) (rw c.after-bytes.ensures at (c.others_may_read.ensures c.if-others_may_read.false)) in
-    let whole : stands_whole given (grammar_in source) line start front ≡ true = sym c.stands_whole-is_whole.ensures ∙ c.if-not-is_whole.false in
+    let whole : stands_whole given (grammar_in source) line start prefix ≡ true = sym c.stands_whole-is_whole.ensures ∙ c.if-not-is_whole.false in
     ap (λ (d : Found). Some (There d)) c.found_at.ensures
     ∙ ap (λ (b : Bool). Some (finding (if b then Some one else None))) (sym whole) ∙ sym (last_read given line start c.args.sources.now number source (omega arith) c.index-sources-number.is one others c.loop-number.invariant there)
 

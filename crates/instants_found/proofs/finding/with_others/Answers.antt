@@ -1,6 +1,6 @@
 use Rattle.std.proofs.Common.{◌+◌, length, sym, ap, ◌∙◌, arith}
 use Rattle.std.specs.Prelude.{None}
-use Rattle.instants_fronts.specs.DateSource.{grammar_in}
+use Rattle.instants_prefixes.specs.DateSource.{grammar_in}
 use Rattle.instants_found.specs.Found.{finding}
 use Rattle.instants_found.specs.Within.{LiesWithin}
 use Rattle.instants_found.specs.declared.candidate.Candidate.{Candidate}
@@ -14,11 +14,11 @@ use Rattle.instants_found.proofs.finding.with_others.Goals as goal
 pub loop-number-init : goal.loop-number-init
 loop-number-init c =
     let line = c.args.line.now in
-    let one = candidate_with line c.args.start c.args.number c.args.front c.args.is_whole in
+    let one = candidate_with line c.args.start c.args.number c.args.prefix c.args.is_whole in
     let P : Candidate → Type 0 = λ date. LiesWithin (length line) (length c.args.sources.now) date.date in
     rw (c.longer-longest.ensures, c.candidate_with-one.ensures) (record {
       gives = longest_first one (from_number c.args.given.now line c.args.start c.args.sources.now (c.args.number + 1));
-      within = kept_holds P None one tt (lies_within line c.args.start c.args.number (length c.args.sources.now) c.args.front c.requires.start c.requires.number c.requires.front);
+      within = kept_holds P None one tt (lies_within line c.args.start c.args.number (length c.args.sources.now) c.args.prefix c.requires.start c.requires.number c.requires.prefix);
     })
 
 pub loop-number-preserved-then-lacks_byte : goal.loop-number-preserved-then-lacks_byte

@@ -4,6 +4,6 @@ use Rattle.instants_found.proofs.laws.doubts.Goals as goal
 
 pub returns : goal.returns
 returns c = record {
-  whole = λ given grammar line start front. whole_if given grammar line start front;
+  whole = λ given grammar line start prefix. whole_if given grammar line start prefix;
   some = λ limit given sources line e. has_doubt limit given sources line e;
 }

@@ -1,8 +1,8 @@
 use Rattle.std.proofs.Common.{◌≡◌, [], map, take, sym, ap, ◌∙◌, subst, append-nil}
 use Rattle.std.proofs.KnownBytes.{Appends-kept}
 use Rattle.std.specs.Io.KnownBytes.{Appends}
-use Rattle.instants_stream.specs.Told.{AppendsFront}
-use Rattle.instants_stream.proofs.Told.{on_ok, on_err, AppendsFront-stays}
+use Rattle.instants_stream.specs.Known.{AppendsPrefix}
+use Rattle.instants_stream.proofs.Known.{on_ok, on_err, AppendsPrefix-stays}
 use Rattle.instants_guess.specs.Candidate.{trial_of}
 use Rattle.instants_guess.specs.Ranked.{guess_said}
 use Rattle.instants_guess.specs.Text.{guessed, text_of}
@@ -17,10 +17,10 @@ written g c = text_is _ _ _ _ c.count_lines.ensures (ap (map guess_said) c.as_mu
 pub returns-then-is_err : goal.returns-then-is_err
 returns-then-is_err g c =
     let sample = c.in-Ok.ensures in
-    let front = on_err c.write_text.result c.is_err.result c.is_err.ensures.value c.if-is_err.true c.write_text.ensures.front in
+    let prefix = on_err c.write_text.result c.is_err.result c.is_err.ensures.value c.if-is_err.true c.write_text.ensures.prefix in
     let is = written g (goal.at.returns-then-is_err g c).After-write_text in
     record {
-      front = read_into _ _ c.read_sample.new.buffer c.in-Ok.len (λ text. AppendsFront (g.W.ByteWriter.held c.args.writer.now) (g.W.ByteWriter.held c.write_text.new.writer) (guessed (map trial_of c.args.candidates.now) text)) sample.read sample.within (c.read_sample.auto.buffer ∙ c.requires.buffer) sample.whole (subst (AppendsFront _ _) is front);
+      prefix = read_into _ _ c.read_sample.new.buffer c.in-Ok.len (λ text. AppendsPrefix (g.W.ByteWriter.held c.args.writer.now) (g.W.ByteWriter.held c.write_text.new.writer) (guessed (map trial_of c.args.candidates.now) text)) sample.read sample.within (c.read_sample.auto.buffer ∙ c.requires.buffer) sample.whole (subst (AppendsPrefix _ _) is prefix);
       reader_works = sample.ok;
       writer_failed = on_err c.write_text.result c.is_err.result c.is_err.ensures.value c.if-is_err.true c.write_text.ensures.err;
     }
@@ -45,7 +45,7 @@ returns-in-Err g c =
     let is = written g (goal.at.returns-in-Err g c).After-write_text in
     let text = text_of c.count_lines.result (map guess_said c.as_mut_slice.result.now) in
     record {
-      front = read_into _ _ c.read_sample.new.buffer c.in-Ok.len (λ text. AppendsFront (g.W.ByteWriter.held c.args.writer.now) (g.W.ByteWriter.held c.flush.new.self) (guessed (map trial_of c.args.candidates.now) text)) sample.read sample.within (c.read_sample.auto.buffer ∙ c.requires.buffer) sample.whole (subst (AppendsFront _ _) is (AppendsFront-stays _ _ _ text [] text (sym (append-nil text)) all c.in-Err.ensures.kept));
+      prefix = read_into _ _ c.read_sample.new.buffer c.in-Ok.len (λ text. AppendsPrefix (g.W.ByteWriter.held c.args.writer.now) (g.W.ByteWriter.held c.flush.new.self) (guessed (map trial_of c.args.candidates.now) text)) sample.read sample.within (c.read_sample.auto.buffer ∙ c.requires.buffer) sample.whole (subst (AppendsPrefix _ _) is (AppendsPrefix-stays _ _ _ text [] text (sym (append-nil text)) all c.in-Err.ensures.kept));
       reader_works = sample.ok;
       writer_failed = c.in-Err.ensures.err;
     }

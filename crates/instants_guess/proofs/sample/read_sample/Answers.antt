@@ -5,25 +5,25 @@ use Rattle.std.proofs.lemmas.Grind.{common_steps}
 use Rattle.std.proofs.Math.Seq.{take-append-add}
 use Rattle.std.proofs.lemmas.List.{take-append-le, length-take-le}
 use Rattle.std.proofs.lemmas.Result.{err_from_is_err_and}
-use Rattle.instants_stream.proofs.Ends.{ConsumesOrUntold-stays}
+use Rattle.instants_stream.proofs.Ends.{ConsumesOrUnknown-stays}
 use Rattle.instants_stream.proofs.Pending.{size_kept}
 use Rattle.instants_guess.proofs.sample.read_sample.Goals as goal
 use borrow.Rule.Slice.PartMut.{put_mid}
 
 pieces : (buffer into : List ℕ) (filled count k : ℕ) → filled ≤ length buffer → count ≤ length into → take (filled + count) (put_mid filled k buffer into) ≡ take filled buffer ++ take count into
 pieces buffer into filled count k fits within =
-    let behind = drop k (drop filled buffer) in
+    let after = drop k (drop filled buffer) in
     let size : length (take filled buffer) ≡ filled = length-take-le filled buffer fits in
-    let front = take-append-add (take filled buffer) (into ++ behind) count in
-    subst (λ n. take (n + count) (put_mid filled k buffer into) ≡ take filled buffer ++ take count (into ++ behind)) size front
-    ∙ ap (λ l. take filled buffer ++ l) (take-append-le count into behind within)
+    let prefix = take-append-add (take filled buffer) (into ++ after) count in
+    subst (λ n. take (n + count) (put_mid filled k buffer into) ≡ take filled buffer ++ take count (into ++ after)) size prefix
+    ∙ ap (λ l. take filled buffer ++ l) (take-append-le count into after within)
 
 pub returns-in_err-count-clause-consumed : goal.returns-in_err-count-clause-consumed
 returns-in_err-count-clause-consumed g c =
     let p = err_from_is_err_and c.from_residual.result c.from_residual.ensures.1 in
     let i = c.loop-filled.invariant in
-    let front = take c.loop-filled.filled c.loop-filled.buffer in
-    rw p.1 (front, simp length-take (omega (arith, i.size)), ConsumesOrUntold-stays _ _ _ _ i.read c.in_err-count.ensures.kept)
+    let prefix = take c.loop-filled.filled c.loop-filled.buffer in
+    rw p.1 (prefix, simp length-take (omega (arith, i.size)), ConsumesOrUnknown-stays _ _ _ _ i.read c.in_err-count.ensures.kept)
 
 pub loop-filled-preserved : goal.loop-filled-preserved
 loop-filled-preserved g c =

@@ -2,7 +2,7 @@ use Rattle.std.proofs.Common.{◌≡◌, ◌≤◌, false, length, take}
 use Rattle.std.specs.Io.KnownBytes.{Consumes}
 use Rattle.instants_guess.proofs.sample.read_sample.Given as goal
 
--- what was read stands at the front of the buffer
+-- what was read stands at the start of the buffer
 abbrev pub invariant-loop-filled : goal.invariant-loop-filled
 invariant-loop-filled g l = record {
   within : l.filled ≤ length l.fn.buffer;

@@ -12,5 +12,5 @@ returns-then-guess-eq0-clause-written g c =
 pub returns-clause-written : goal.returns-clause-written
 returns-clause-written g c = rw (line_alone c.args.all (guess_said c.args.guess.now) c.if-guess-eq0.false) c.write_line.ensures.written
 
-pub returns-clause-front : goal.returns-clause-front
-returns-clause-front g c = rw (line_alone c.args.all (guess_said c.args.guess.now) c.if-guess-eq0.false) c.write_line.ensures.front
+pub returns-clause-prefix : goal.returns-clause-prefix
+returns-clause-prefix g c = rw (line_alone c.args.all (guess_said c.args.guess.now) c.if-guess-eq0.false) c.write_line.ensures.prefix

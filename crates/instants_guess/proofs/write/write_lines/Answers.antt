@@ -2,19 +2,19 @@ use Rattle.std.proofs.Common.{sym, subst}
 use Rattle.std.proofs.KnownBytes.{Appends-nil, Appends-trans}
 use Rattle.std.proofs.lemmas.Result.{err_from_is_err_and}
 use Rattle.std.specs.Io.KnownBytes.{Appends}
-use Rattle.instants_stream.specs.Told.{AppendsFront}
-use Rattle.instants_stream.proofs.Told.{AppendsFront-after, AppendsFront-more}
+use Rattle.instants_stream.specs.Known.{AppendsPrefix}
+use Rattle.instants_stream.proofs.Known.{AppendsPrefix-after, AppendsPrefix-more}
 use Rattle.instants_guess.proofs.Written.{lines_none, lines_more, lines_last}
 use Rattle.instants_guess.proofs.write.write_lines.Goals as goal
 
 pub loop-guess-init : goal.loop-guess-init
 loop-guess-init g c = (subst (Appends _ _) (sym (lines_none c.args.all)) (Appends-nil _), c.requires)
 
-pub returns-in_err-write_guess-clause-front : goal.returns-in_err-write_guess-clause-front
-returns-in_err-write_guess-clause-front g c =
+pub returns-in_err-write_guess-clause-prefix : goal.returns-in_err-write_guess-clause-prefix
+returns-in_err-write_guess-clause-prefix g c =
     let p = err_from_is_err_and c.from_residual.result c.from_residual.ensures.1 in
-    let front = AppendsFront-after _ _ _ _ _ c.loop-guess.invariant.0 c.in_err-write_guess.ensures.front in
-    rw p.1 (subst (AppendsFront _ _) (sym (lines_last c.args.all c.args.guesses.now c.loop-guess.guess-index _ c.loop-guess-test.true)) (AppendsFront-more _ _ _ _ front))
+    let prefix = AppendsPrefix-after _ _ _ _ _ c.loop-guess.invariant.0 c.in_err-write_guess.ensures.prefix in
+    rw p.1 (subst (AppendsPrefix _ _) (sym (lines_last c.args.all c.args.guesses.now c.loop-guess.guess-index _ c.loop-guess-test.true)) (AppendsPrefix-more _ _ _ _ prefix))
 
 pub loop-guess-preserved : goal.loop-guess-preserved
 loop-guess-preserved g c =

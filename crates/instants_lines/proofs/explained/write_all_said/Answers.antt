@@ -1,8 +1,8 @@
 use Rattle.std.proofs.Common.{◌≡◌, ◌+◌, ◌++◌, refl, sym, ap, ◌∙◌, arith}
 use Rattle.std.proofs.KnownBytes.{Appends-nil, Appends-trans}
 use Rattle.std.proofs.lemmas.Result.{err_from_is_err_and}
-use Rattle.instants_stream.specs.Told.{AppendsFront}
-use Rattle.instants_stream.proofs.Told.{AppendsFront-after, AppendsFront-more}
+use Rattle.instants_stream.specs.Known.{AppendsPrefix}
+use Rattle.instants_stream.proofs.Known.{AppendsPrefix-after, AppendsPrefix-more}
 use Rattle.instants_lines.specs.Showing.{setting_in}
 use Rattle.instants_lines.specs.Explained.{all_said}
 use Rattle.instants_lines.proofs.Sayings.{said_before, says, says_more}
@@ -21,14 +21,14 @@ loop-place-preserved g c =
       works = c.in_ok-write_said.ensures.ok ∙ i.works;
     }
 
-pub returns-in_err-write_said-clause-front : goal.returns-in_err-write_said-clause-front
-returns-in_err-write_said-clause-front g c =
+pub returns-in_err-write_said-clause-prefix : goal.returns-in_err-write_said-clause-prefix
+returns-in_err-write_said-clause-prefix g c =
     let p = err_from_is_err_and c.from_residual.result c.from_residual.ensures.1 in
     let setting = setting_in c.args.dates.now in
     let sources = c.sources-sources.result.now in
     let place = c.loop-place.place in
     let all = says_more setting c.args.line.now sources (place + 1) in
-    let wrote : AppendsFront (g.W.ByteWriter.held c.args.writer.now) (g.W.ByteWriter.held c.write_said.new.writer) (said_before setting c.args.line.now sources (place + 1)) =
-    rw (says setting c.args.line.now sources place c.index-sources-place.result (omega arith) c.index-sources-place.is) (AppendsFront-after _ _ _ _ _ c.loop-place.invariant.written c.in_err-write_said.ensures.front) in
+    let wrote : AppendsPrefix (g.W.ByteWriter.held c.args.writer.now) (g.W.ByteWriter.held c.write_said.new.writer) (said_before setting c.args.line.now sources (place + 1)) =
+    rw (says setting c.args.line.now sources place c.index-sources-place.result (omega arith) c.index-sources-place.is) (AppendsPrefix-after _ _ _ _ _ c.loop-place.invariant.written c.in_err-write_said.ensures.prefix) in
     let whole : all_said setting c.args.line.now 1 setting.sources ≡ said_before setting c.args.line.now sources (place + 1) ++ all.0 = ap (all_said setting c.args.line.now 1) (sym c.sources-sources.ensures) ∙ all.1 in
-    rw (p.1, whole) (AppendsFront-more _ _ _ all.0 wrote)
+    rw (p.1, whole) (AppendsPrefix-more _ _ _ all.0 wrote)

@@ -1,13 +1,13 @@
 use Rattle.std.proofs.lemmas.Result.{err_from_is_err_and}
 use Rattle.instants_stream.proofs.Gathering.{OnErr-map}
-use Rattle.instants_stream.proofs.Told.{AppendsFront-after, AppendsFront-more}
+use Rattle.instants_stream.proofs.Known.{AppendsPrefix-after, AppendsPrefix-more}
 use Rattle.instants_lines.proofs.parts.write_fed.Goals as goal
 
-pub returns-in_err-write_all-clause-front : goal.returns-in_err-write_all-clause-front
-returns-in_err-write_all-clause-front g c =
+pub returns-in_err-write_all-clause-prefix : goal.returns-in_err-write_all-clause-prefix
+returns-in_err-write_all-clause-prefix g c =
     let p = err_from_is_err_and c.from_residual.result c.from_residual.ensures.1 in
-    rw p.1 (AppendsFront-more _ _ _ _ c.in_err-write_all.ensures.front)
+    rw p.1 (AppendsPrefix-more _ _ _ _ c.in_err-write_all.ensures.prefix)
 
-pub returns-clause-front : goal.returns-clause-front
-returns-clause-front g c =
-    OnErr-map c.write_front.result (λ front. AppendsFront-after _ _ _ _ _ c.in_ok-write_all.ensures.written front) c.write_front.ensures.front
+pub returns-clause-prefix : goal.returns-clause-prefix
+returns-clause-prefix g c =
+    OnErr-map c.write_prefix.result (λ prefix. AppendsPrefix-after _ _ _ _ _ c.in_ok-write_all.ensures.written prefix) c.write_prefix.ensures.prefix

@@ -14,7 +14,7 @@ loop-word-preserved c =
     let first = sym left ∙ c.in-Some.ensures.cases.0 in
     let cut = drop-map (λ word. word.now) at words ∙ ap (map (λ word. word.now)) first in
     let more = ap length first in
-    let rest : drop (at + (1 + count)) all ≡ drop count (map (λ word. word.now) c.in-Some.behind.now) = sym (drop-drop (1 + count) at all) ∙ ap (drop (1 + count)) cut ∙ sym (drop-drop count 1 (c.in-Some.word.now.now ∷ map (λ word. word.now) c.in-Some.behind.now)) in
+    let rest : drop (at + (1 + count)) all ≡ drop count (map (λ word. word.now) c.in-Some.after.now) = sym (drop-drop (1 + count) at all) ∙ ap (drop (1 + count)) cut ∙ sym (drop-drop count 1 (c.in-Some.word.now.now ∷ map (λ word. word.now) c.in-Some.after.now)) in
     record {
       within = omega (arith, more, length-drop at words, c.in_ok-at.ensures.within, c.loop-word.invariant.within);
       added =

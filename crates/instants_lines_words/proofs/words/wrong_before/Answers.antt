@@ -4,7 +4,7 @@ use Rattle.instants_words.specs.declared.fault.WordsFault.TheVariants as words
 use Rattle.instants_lines_words.specs.Spelled.{spelled_out}
 use Rattle.instants_lines_words.specs.Wrong.{Wrong, NoSource}
 use Rattle.instants_lines_words.proofs.Spelling.{spelled_none, spelled_some}
-use Rattle.instants_lines_words.proofs.Told as told
+use Rattle.instants_lines_words.proofs.Reported as reported
 use Rattle.instants_lines_words.proofs.words.wrong_before.Goals as goal
 
 pub returns-then-is_empty-clause-some : goal.returns-then-is_empty-clause-some
@@ -13,7 +13,7 @@ returns-then-is_empty-clause-some c =
     let sources = map (λ word. word.now) parted.sources.now in
     let bare : length parted.sources.now ≡ 0 = grind (arith, c.is_empty.ensures, c.if-is_empty.true) in
     let none : length sources ≡ 0 = rw (length-map parted.sources.now (λ word. word.now)) bare in
-    (words.Usage, told.no_source parted.target.now parted.assumed.now parted.limit.now (spelled_out sources) (ap length (spelled_none sources none)), (λ behind. refl))
+    (words.Usage, reported.no_source parted.target.now parted.assumed.now parted.limit.now (spelled_out sources) (ap length (spelled_none sources none)), (λ after. refl))
 
 pub returns-in-Some-clause-some : goal.returns-in-Some-clause-some
 returns-in-Some-clause-some c =
@@ -21,8 +21,8 @@ returns-in-Some-clause-some c =
     let sources = map (λ word. word.now) parted.sources.now in
     let bare : 0 < length parted.sources.now = grind (arith, c.is_empty.ensures, c.if-is_empty.false) in
     let some : 0 < length sources = rw (length-map parted.sources.now (λ word. word.now)) bare in
-    let both = λ (behind : Wrong). told.wrong_before parted.target.now parted.assumed.now parted.limit.now (spelled_out sources) behind c.in-Some.fault (spelled_some sources some) c.in-Some.ensures.some in
-    (c.in-Some.fault, (both NoSource).0, (λ behind. c.told_setting.ensures ∙ (both behind).1))
+    let both = λ (after : Wrong). reported.wrong_before parted.target.now parted.assumed.now parted.limit.now (spelled_out sources) after c.in-Some.fault (spelled_some sources some) c.in-Some.ensures.some in
+    (c.in-Some.fault, (both NoSource).0, (λ after. c.reported_setting.ensures ∙ (both after).1))
 
 pub returns-in-None-clause-none : goal.returns-in-None-clause-none
 returns-in-None-clause-none c =

@@ -24,4 +24,4 @@ returns-clause-written c =
     let count = c.loop-rest.count in
     let none : length c.loop-rest.rest.now ≡ 0 = grind (arith, nat_tests, c.loop-rest-test.ensures) in
     let all = c.loop-rest.invariant.due ∙ ap (λ l. take count room ++ map entry l) (no_line_of c.loop-rest.rest.now none) ∙ append-nil (take count room) in
-    sym (take-append-drop count room) ∙ ap (λ l. l ++ drop count room) (sym all) ∙ ap (λ l. map entry (lines c.args.input.now) ++ l) c.loop-rest.invariant.behind
+    sym (take-append-drop count room) ∙ ap (λ l. l ++ drop count room) (sym all) ∙ ap (λ l. map entry (lines c.args.input.now) ++ l) c.loop-rest.invariant.after

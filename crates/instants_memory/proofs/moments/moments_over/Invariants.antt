@@ -12,7 +12,7 @@ invariant-loop-rest l =
       within : l.count ≤ length l.room;
       counted : length (lines l.input) ≡ l.count + length (lines l.rest);
       due : map entry (lines l.input) ≡ take l.count l.room ++ map entry (lines l.rest);
-      behind : drop l.count l.room ≡ drop l.count l.fn.room;
+      after : drop l.count l.room ≡ drop l.count l.fn.room;
     }
 
 abbrev pub decreases-loop-rest : goal.decreases-loop-rest

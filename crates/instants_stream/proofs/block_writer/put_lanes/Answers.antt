@@ -4,8 +4,8 @@ use Rattle.std.proofs.lemmas.List.{take_all}
 use Rattle.std.proofs.lemmas.Simd.{take_more_put_chunk}
 use Rattle.instants_stream.proofs.block_writer.put_lanes.Goals as goal
 
-pub returns-clause-front : goal.returns-clause-front
-returns-clause-front c =
+pub returns-clause-prefix : goal.returns-clause-prefix
+returns-clause-prefix c =
     let bytes = c.args.bytes.now in
     let block = c.args.block.now in
     let all : chunk 0 64 bytes ≡ bytes = take_all 64 bytes (omega arith) in

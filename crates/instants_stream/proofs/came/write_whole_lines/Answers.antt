@@ -4,11 +4,11 @@ use Rattle.std.proofs.lemmas.List.{drop-drop, take_all}
 use Rattle.std.proofs.lemmas.Result.{err_from_is_err_and}
 use Rattle.instants_stream.specs.Lines.{HasNoLineFeed, whole_lines}
 use Rattle.instants_stream.specs.Steps.{written}
-use Rattle.instants_stream.specs.Told.{AppendsFront}
+use Rattle.instants_stream.specs.Known.{AppendsPrefix}
 use Rattle.instants_stream.proofs.Lines.{whole_lines_none, last_part_of_none}
-use Rattle.instants_stream.proofs.Written.{written-none, behind-none, written-next, behind-next, written-begins}
-use Rattle.instants_stream.proofs.Told.{AppendsFront-after, AppendsFront-more}
-use Rattle.instants_stream.proofs.WholeLines.{whole_lines-front, next_ended, next_lines, rest_is_last, lines_are_all}
+use Rattle.instants_stream.proofs.Written.{written-none, after-none, written-next, after-next, written-begins}
+use Rattle.instants_stream.proofs.Known.{AppendsPrefix-after, AppendsPrefix-more}
+use Rattle.instants_stream.proofs.WholeLines.{whole_lines-prefix, next_ended, next_lines, rest_is_last, lines_are_all}
 use Rattle.instants_stream.proofs.came.write_whole_lines.Goals as goal
 
 pub loop-len-init : goal.loop-len-init
@@ -21,14 +21,14 @@ loop-len-init g c =
       rest_is = rw start refl;
       ended = rw start last_part_of_none;
       written = rw (start, whole_lines_none, written-none g.S.WritesLines.State steps c.args.limit (g.S.WritesLines.state c.args.steps.now)) (Appends-nil _);
-      stands = rw (start, whole_lines_none, behind-none g.S.WritesLines.State steps c.args.limit (g.S.WritesLines.state c.args.steps.now)) refl;
+      stands = rw (start, whole_lines_none, after-none g.S.WritesLines.State steps c.args.limit (g.S.WritesLines.state c.args.steps.now)) refl;
       inside = c.line_end-len.ensures.within;
       before = c.line_end-len.ensures.before;
       line_feed = c.line_end-len.ensures.line_feed;
       works = refl;
     }
 
--- what is found in the rest is found behind the lines that are done
+-- what is found in the rest is found after the lines that are done
 record Found (bytes rest : List ℕ) (start len : ℕ) : Type 0 where
   is : rest ≡ drop start bytes
   short : len < length rest
@@ -52,30 +52,30 @@ loop-len-preserved g c =
     let i = c.loop-len.invariant in
     let bytes = c.args.bytes.now in
     let rest = c.loop-len.rest.now in
-    let behind = c.behind_line-rest.result.now in
+    let after = c.after_line-rest.result.now in
     let start = length bytes - length rest in
     let len = c.loop-len.len in
     let short : len < length rest = search rules in
     let f = of_rest bytes rest start len i.rest_is short (i.line_feed short) i.before in
-    let shorter : length behind ≡ length rest - (len + 1) = ap length c.behind_line-rest.ensures ∙ length-drop (len + 1) rest in
-    let next_start : length bytes - length behind ≡ start + (len + 1) = omega (arith, i.within, f.short, shorter) in
+    let shorter : length after ≡ length rest - (len + 1) = ap length c.after_line-rest.ensures ∙ length-drop (len + 1) rest in
+    let next_start : length bytes - length after ≡ start + (len + 1) = omega (arith, i.within, f.short, shorter) in
     let wrote = rw f.line at c.in_ok-write_any.ensures.written in
     let goes = rw f.line at c.in_ok-write_any.ensures.state in
     let lines = next_lines bytes start len i.ended f.within f.line_feed f.free in
     record {
       within = omega (arith, i.within, shorter);
-      rest_is = c.behind_line-rest.ensures ∙ ap (drop (len + 1)) i.rest_is ∙ drop-drop (len + 1) start bytes ∙ ap (λ (n : ℕ). drop n bytes) (sym next_start);
+      rest_is = c.after_line-rest.ensures ∙ ap (drop (len + 1)) i.rest_is ∙ drop-drop (len + 1) start bytes ∙ ap (λ (n : ℕ). drop n bytes) (sym next_start);
       ended = rw next_start (next_ended bytes start len i.ended f.within f.line_feed f.free);
       written = rw (next_start, lines, written-next g.S.WritesLines.State g.S.WritesLines.steps c.args.limit (g.S.WritesLines.state c.args.steps.now) (g.S.WritesLines.state c.loop-len.steps) (whole_lines (take start bytes)) _ i.stands) (Appends-trans _ _ _ _ _ i.written wrote);
-      stands = rw (next_start, lines, behind-next g.S.WritesLines.State g.S.WritesLines.steps c.args.limit (g.S.WritesLines.state c.args.steps.now) (g.S.WritesLines.state c.loop-len.steps) (whole_lines (take start bytes)) _ i.stands) goes;
+      stands = rw (next_start, lines, after-next g.S.WritesLines.State g.S.WritesLines.steps c.args.limit (g.S.WritesLines.state c.args.steps.now) (g.S.WritesLines.state c.loop-len.steps) (whole_lines (take start bytes)) _ i.stands) goes;
       inside = c.line_end-len-in-loop-len.ensures.within;
       before = c.line_end-len-in-loop-len.ensures.before;
       line_feed = c.line_end-len-in-loop-len.ensures.line_feed;
       works = c.in_ok-write_any.ensures.ok ∙ i.works;
     }
 
-pub returns-in_err-write_any-clause-front : goal.returns-in_err-write_any-clause-front
-returns-in_err-write_any-clause-front g c =
+pub returns-in_err-write_any-clause-prefix : goal.returns-in_err-write_any-clause-prefix
+returns-in_err-write_any-clause-prefix g c =
     let p = err_from_is_err_and c.from_residual.result c.from_residual.ensures.1 in
     let i = c.loop-len.invariant in
     let bytes = c.args.bytes.now in
@@ -84,13 +84,13 @@ returns-in_err-write_any-clause-front g c =
     let len = c.loop-len.len in
     let short : len < length rest = search rules in
     let f = of_rest bytes rest start len i.rest_is short (i.line_feed short) i.before in
-    let wrote = rw f.line at c.in_err-write_any.ensures.front in
+    let wrote = rw f.line at c.in_err-write_any.ensures.prefix in
     let lines = next_lines bytes start len i.ended f.within f.line_feed f.free in
     let some = whole_lines (take (start + (len + 1)) bytes) in
-    let said : AppendsFront (g.W.ByteWriter.held c.args.writer.now) (g.W.ByteWriter.held c.write_any.new.writer) (written g.S.WritesLines.steps c.args.limit (g.S.WritesLines.state c.args.steps.now) some) =
-    rw (lines, written-next g.S.WritesLines.State g.S.WritesLines.steps c.args.limit (g.S.WritesLines.state c.args.steps.now) (g.S.WritesLines.state c.loop-len.steps) (whole_lines (take start bytes)) _ i.stands) (AppendsFront-after _ _ _ _ _ i.written wrote) in
-    let begins = written-begins g.S.WritesLines.State g.S.WritesLines.steps c.args.limit (g.S.WritesLines.state c.args.steps.now) (whole_lines bytes) some (whole_lines (drop (start + (len + 1)) bytes)) (whole_lines-front bytes (start + (len + 1)) (next_ended bytes start len i.ended f.within f.line_feed f.free)) in
-    rw (p.1, begins.1) (AppendsFront-more _ _ _ begins.0 said)
+    let said : AppendsPrefix (g.W.ByteWriter.held c.args.writer.now) (g.W.ByteWriter.held c.write_any.new.writer) (written g.S.WritesLines.steps c.args.limit (g.S.WritesLines.state c.args.steps.now) some) =
+    rw (lines, written-next g.S.WritesLines.State g.S.WritesLines.steps c.args.limit (g.S.WritesLines.state c.args.steps.now) (g.S.WritesLines.state c.loop-len.steps) (whole_lines (take start bytes)) _ i.stands) (AppendsPrefix-after _ _ _ _ _ i.written wrote) in
+    let begins = written-begins g.S.WritesLines.State g.S.WritesLines.steps c.args.limit (g.S.WritesLines.state c.args.steps.now) (whole_lines bytes) some (whole_lines (drop (start + (len + 1)) bytes)) (whole_lines-prefix bytes (start + (len + 1)) (next_ended bytes start len i.ended f.within f.line_feed f.free)) in
+    rw (p.1, begins.1) (AppendsPrefix-more _ _ _ begins.0 said)
 
 -- no line feed is left
 free : (bytes rest : List ℕ) (start len : ℕ) → rest ≡ drop start bytes → length rest ≤ len → HasNoLineFeed (take len rest) → HasNoLineFeed (drop start bytes)

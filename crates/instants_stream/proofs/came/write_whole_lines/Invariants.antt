@@ -2,7 +2,7 @@ use Rattle.std.proofs.Common.{◌≡◌, ◌-◌, ◌<◌, ◌≤◌, [], length
 use Rattle.std.specs.Prelude.{slice_index}
 use Rattle.std.specs.Io.KnownBytes.{Appends}
 use Rattle.instants_stream.specs.Lines.{HasNoLineFeed, whole_lines, last_part}
-use Rattle.instants_stream.specs.Steps.{written, behind}
+use Rattle.instants_stream.specs.Steps.{written, after}
 use Rattle.instants_stream.proofs.came.write_whole_lines.Given as goal
 
 -- the lines before the rest are done, and the rest's first line is found
@@ -17,7 +17,7 @@ invariant-loop-len g l =
       rest_is : l.rest ≡ drop start l.bytes;
       ended : last_part (take start l.bytes) ≡ [];
       written : Appends (held l.fn.writer) (held l.writer) (written steps l.limit (state l.fn.steps) (whole_lines (take start l.bytes)));
-      stands : state l.steps ≡ behind steps l.limit (state l.fn.steps) (whole_lines (take start l.bytes));
+      stands : state l.steps ≡ after steps l.limit (state l.fn.steps) (whole_lines (take start l.bytes));
       inside : l.len ≤ length l.rest;
       before : HasNoLineFeed (take l.len l.rest);
       line_feed : l.len < length l.rest → slice_index l.rest l.len ≡ 10;

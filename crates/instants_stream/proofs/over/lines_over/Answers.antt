@@ -3,11 +3,11 @@ use Rattle.std.proofs.lemmas.List.{take_rest}
 use Rattle.instants_stream.specs.Lines.{HasNoLineFeed}
 use Rattle.instants_stream.specs.Answers.{answered, output}
 use Rattle.instants_stream.proofs.NextAnswer.{due_next, due_last, due_none}
-use Rattle.instants_stream.proofs.Pieces.{more_due, is_longer, is_cut, all_len, all_written, behind_later}
+use Rattle.instants_stream.proofs.Pieces.{more_due, is_longer, is_cut, all_len, all_written, after_later}
 use Rattle.instants_stream.proofs.over.lines_over.Goals as goal
 use Rattle.instants_stream.proofs.over.lines_over.Goals.{After-write_answered, After-write_answered-then-start-input}
 
--- what is due, once the answer to a line is known: what is written, that answer, and the answers to the bytes behind the line
+-- what is due, once the answer to a line is known: what is written, that answer, and the answers to the bytes after the line
 line_due : (g : _) (c : After-write_answered g) → output (g.A.AnswersLines.answer c.args.answers.now) c.args.limit c.args.input.now
     ≡ take c.loop-len.end c.loop-len.room ++ (c.write_answered.new.storage ++ output (g.A.AnswersLines.answer c.args.answers.now) c.args.limit (drop (c.loop-len.start + (c.in-Some.len + 1)) c.args.input.now))
 line_due g c =
@@ -52,8 +52,8 @@ loop-len-preserved g c =
     record {
       start = let h = simp length-drop at within in omega arith;
       within = omega (arith, put.within, c.put.auto.room);
-      due = more_due (output answer c.args.limit input) old word (output answer c.args.limit (drop (start + (len + 1)) input)) c.loop-len.end i.within due c.in-Ok.next c.put.new.room put.front;
-      behind = put.behind ∙ rw put.end (behind_later old c.args.room.now c.loop-len.end (length word) i.behind);
+      due = more_due (output answer c.args.limit input) old word (output answer c.args.limit (drop (start + (len + 1)) input)) c.loop-len.end i.within due c.in-Ok.next c.put.new.room put.prefix;
+      after = put.after ∙ rw put.end (after_later old c.args.room.now c.loop-len.end (length word) i.after);
     }
 
 pub returns-in_default-put-clause-longer : goal.returns-in_default-put-clause-longer
@@ -85,8 +85,8 @@ returns-in-Ok-put-clause-len g c =
     let new = c.put-then-start-input.new.room in
     let due = last_due g (goal.at.returns-in-Ok-put-clause-len g c).After-write_answered-then-start-input in
     let put = c.in-Ok-put.ensures in
-    let is_all = more_due (output answer c.args.limit input) old c.write_answered-then-start-input.new.storage [] c.loop-len.end i.within due c.in-Ok-put.next new put.front ∙ append-nil (take c.in-Ok-put.next new) in
-    all_len (output answer c.args.limit input) old new c.in-Ok-put.next (omega (arith, put.within, c.put-then-start-input.auto.room)) is_all put.behind
+    let is_all = more_due (output answer c.args.limit input) old c.write_answered-then-start-input.new.storage [] c.loop-len.end i.within due c.in-Ok-put.next new put.prefix ∙ append-nil (take c.in-Ok-put.next new) in
+    all_len (output answer c.args.limit input) old new c.in-Ok-put.next (omega (arith, put.within, c.put-then-start-input.auto.room)) is_all put.after
 
 pub returns-in-Ok-put-clause-written : goal.returns-in-Ok-put-clause-written
 returns-in-Ok-put-clause-written g c =
@@ -98,9 +98,9 @@ returns-in-Ok-put-clause-written g c =
     let word = c.write_answered-then-start-input.new.storage in
     let due = last_due g (goal.at.returns-in-Ok-put-clause-written g c).After-write_answered-then-start-input in
     let put = c.in-Ok-put.ensures in
-    let is_all = more_due (output answer c.args.limit input) old word [] c.loop-len.end i.within due c.in-Ok-put.next new put.front ∙ append-nil (take c.in-Ok-put.next new) in
-    let behind = put.behind ∙ rw put.end (behind_later old c.args.room.now c.loop-len.end (length word) i.behind) in
-    all_written (output answer c.args.limit input) c.args.room.now new c.in-Ok-put.next (omega (arith, put.within, c.put-then-start-input.auto.room)) is_all behind
+    let is_all = more_due (output answer c.args.limit input) old word [] c.loop-len.end i.within due c.in-Ok-put.next new put.prefix ∙ append-nil (take c.in-Ok-put.next new) in
+    let after = put.after ∙ rw put.end (after_later old c.args.room.now c.loop-len.end (length word) i.after) in
+    all_written (output answer c.args.limit input) c.args.room.now new c.in-Ok-put.next (omega (arith, put.within, c.put-then-start-input.auto.room)) is_all after
 
 pub returns-else-start-input-clause-len : goal.returns-else-start-input-clause-len
 returns-else-start-input-clause-len g c =
@@ -116,4 +116,4 @@ returns-else-start-input-clause-written g c =
     let answer = g.A.AnswersLines.answer c.args.answers.now in
     let old = c.loop-len.room in
     let is_all = due_none answer c.args.limit c.args.input.now c.loop-len.start (take c.loop-len.end old) [] i.due (omega (arith, c.if-start-input.false)) in
-    all_written (output answer c.args.limit c.args.input.now) c.args.room.now old c.loop-len.end i.within is_all i.behind
+    all_written (output answer c.args.limit c.args.input.now) c.args.room.now old c.loop-len.end i.within is_all i.after

@@ -10,7 +10,7 @@ invariant-loop-len g l =
       start : l.start ≤ length l.input;
       within : l.end ≤ length l.room;
       due : output answer l.limit l.input ≡ take l.end l.room ++ output answer l.limit (drop l.start l.input);
-      behind : drop l.end l.room ≡ drop l.end l.fn.room;
+      after : drop l.end l.room ≡ drop l.end l.fn.room;
     }
 
 abbrev pub decreases-loop-len : goal.decreases-loop-len

@@ -3,8 +3,8 @@ use Rattle.std.specs.Io.KnownBytes.{IsAtEnd}
 use Rattle.std.proofs.lemmas.Grind.{common_steps}
 use Rattle.instants_stream.specs.Lines.{last_part}
 use Rattle.instants_stream.specs.Came.{kept}
-use Rattle.instants_stream.proofs.Told.{on_ok, on_err}
-use Rattle.instants_stream.proofs.Ends.{ConsumesOrUntold-stays, failed_to_write}
+use Rattle.instants_stream.proofs.Known.{on_ok, on_err}
+use Rattle.instants_stream.proofs.Ends.{ConsumesOrUnknown-stays, failed_to_write}
 use Rattle.instants_stream.proofs.Progress.{Progress, begins, handed_on, pauses, line_is_free, fails_to_hand_on, fails_at_end, through, more_came, more_fails, fails_at_flush, done}
 use Rattle.instants_stream.proofs.Pending.{pending, length-pending, pending_more, pending_rest, pending_moved, pending_kept, pending_same, size_kept}
 use Rattle.instants_stream.proofs.run.write_lines.Goals as goal
@@ -41,7 +41,7 @@ returns-in_default-write_came-clause-ran g c =
     let count = c.in-Ok.count in
     let fits : filled ≤ length buffer = omega arith in
     let more = pending_more buffer into start filled count (length buffer - filled) i.ordered fits c.in-Ok.ensures.within in
-    let wrote = rw more at c.in_default-write_came.ensures.front in
+    let wrote = rw more at c.in_default-write_came.ensures.prefix in
     let handed = on_ok c.hand_on.result c.is_err.result c.is_err.ensures.value c.if-is_err.false c.hand_on.ensures.held in
     failed_to_write (more_fails _ _ _ _ (g.S.WritesLines.state c.loop-limit.steps) _ _ _ _ _ _ _ (handed_on _ _ _ _ _ _ _ _ _ _ _ i.progress _ handed) _ _ c.in-Ok.ensures.moved wrote)
     (c.in-Ok.ensures.ok ∙ i.reader_works) c.in_default-write_came.ensures.err
@@ -141,7 +141,7 @@ returns-in_default-clause-ran g c =
     let progress = handed_on _ _ _ _ _ _ _ _ _ _ _ c.loop-limit.invariant.progress _ held in
     record {
       read = progress.bytes;
-      consumed = ConsumesOrUntold-stays _ _ _ _ progress.read c.in_default.ensures.kept;
+      consumed = ConsumesOrUnknown-stays _ _ _ _ progress.read c.in_default.ensures.kept;
       written = progress.written;
       reader_failed = c.in_default.ensures.err;
       writer_works = search rules;
@@ -165,7 +165,7 @@ paused g c none =
 pub returns-then-is_err-2-clause-ran : goal.returns-then-is_err-2-clause-ran
 returns-then-is_err-2-clause-ran g c =
     let (progress, ends) = paused g (goal.at.returns-then-is_err-2-clause-ran g c).In-Ok c.if-count-eq0.true in
-    let wrote = on_err c.write_end.result c.is_err-2.result c.is_err-2.ensures.value c.if-is_err-2.true c.write_end.ensures.front in
+    let wrote = on_err c.write_end.result c.is_err-2.result c.is_err-2.ensures.value c.if-is_err-2.true c.write_end.ensures.prefix in
     failed_to_write (fails_at_end _ _ _ _ _ _ _ _ _ _ _ _ progress ends wrote) (c.in-Ok.ensures.ok ∙ c.loop-limit.invariant.reader_works) (search rules)
 
 -- the flush failed

@@ -1,6 +1,6 @@
 use Rattle.std.proofs.Common.{◌≡◌, ◌+◌, ◌-◌, ◌≤◌, List, length, map, drop}
 use Rattle.instants_words.specs.Sources.{SourceSaid, sources_said}
-use Rattle.instants_words.proofs.SourceLemmas.{behind}
+use Rattle.instants_words.proofs.SourceLemmas.{after}
 use Rattle.instants_words.proofs.sources.count.Given as goal
 
 abbrev pub invariant-loop-at : goal.invariant-loop-at
@@ -8,7 +8,7 @@ invariant-loop-at l = record {
   within : l.at ≤ length l.words;
   fewer : l.count ≤ l.at;
   said : (before : List SourceSaid) × (length before ≡ l.count)
-      × (sources_said 1 (map (λ word. word.now) l.words) ≡ behind before (sources_said (l.count + 1) (drop l.at (map (λ word. word.now) l.words))));
+      × (sources_said 1 (map (λ word. word.now) l.words) ≡ after before (sources_said (l.count + 1) (drop l.at (map (λ word. word.now) l.words))));
 }
 
 abbrev pub decreases-loop-at : goal.decreases-loop-at

@@ -1,19 +1,19 @@
 use Rattle.std.proofs.Common.{◌+◌, None, [], ◌∷◌, ◌++◌, length, refl, length-append, arith}
 use Rattle.instants_words.specs.Sources.{sources_said}
 use Rattle.instants_words.specs.TextWords.{words_in, words_left}
-use Rattle.instants_words.proofs.TextLemmas.{few_words, shorter, said_next, said_no_source, behind_nothing, none_left}
+use Rattle.instants_words.proofs.TextLemmas.{few_words, shorter, said_next, said_no_source, after_nothing, none_left}
 use Rattle.instants_words.proofs.text_words.fault_in_sources.Goals as goal
 
 pub loop-count-init : goal.loop-count-init
-loop-count-init c = record { few = omega arith; said = ([], refl, behind_nothing (sources_said 1 (words_in c.args.text.now))) }
+loop-count-init c = record { few = omega arith; said = ([], refl, after_nothing (sources_said 1 (words_in c.args.text.now))) }
 
 pub loop-count-preserved : goal.loop-count-preserved
 loop-count-preserved c =
     let said = c.loop-count.invariant.said in
-    let (one, next) = c.in-Some-behind_source.ensures.some in
+    let (one, next) = c.in-Some-after_source.ensures.some in
     let few = rw c.in-Some.is at c.loop-count.invariant.few in
     record {
-      few = omega (arith, few, shorter (words_in c.in-Some.words.now) one (words_left c.in-Some-behind_source.rest) next);
+      few = omega (arith, few, shorter (words_in c.in-Some.words.now) one (words_left c.in-Some-after_source.rest) next);
       said = (said.0 ++ one ∷ [], omega (arith, said.1, length-append said.0 (one ∷ [])), said_next _ (words_in c.in-Some.words.now) _ said.0 (c.loop-count.count + 1) one (rw c.in-Some.is at said.2) next);
     }
 

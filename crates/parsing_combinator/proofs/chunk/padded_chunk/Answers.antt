@@ -6,9 +6,9 @@ pub overflow_add-result : goal.overflow_add-result
 overflow_add-result c =
     let is = padded_is c.args.bytes.now c.args.count c.requires.few c.requires.within (λ (k : ℕ). omega (arith, c.type_inv.bytes k)) in
     let below = padded_below c.args.bytes.now c.args.count c.requires.few c.requires.within (λ (k : ℕ). omega (arith, c.type_inv.bytes k)) in
-    rw (c.first_bytes.ensures, c.zeros_behind.ensures, c.requires.chunk, is) below
+    rw (c.first_bytes.ensures, c.zeros_after.ensures, c.requires.chunk, is) below
 
 pub returns : goal.returns
 returns c =
     let is = padded_is c.args.bytes.now c.args.count c.requires.few c.requires.within (λ (k : ℕ). omega (arith, c.type_inv.bytes k)) in
-    rw (c.first_bytes.ensures, c.zeros_behind.ensures, c.requires.chunk) is
+    rw (c.first_bytes.ensures, c.zeros_after.ensures, c.requires.chunk) is

@@ -3,7 +3,7 @@ use Rattle.std.specs.Prelude.{IfOk}
 use Rattle.description_items.specs.Tree.{Part}
 use Rattle.parsing_components.specs.Component.{reads_component, reads_component_v3}
 use Rattle.parsing_record.specs.Reads.{reading}
-use Rattle.parsing_first_bytes.proofs.Fronts.{part_width}
+use Rattle.parsing_first_bytes.proofs.Prefixes.{part_width}
 use Rattle.parsing_first_bytes.proofs.Years.{each_width}
 use Rattle.parsing_first_bytes.proofs.items.width_of_node.Goals as goal
 

@@ -9,7 +9,7 @@ returns c = λ e.
     let shape = c.args.shape.now in
     let tail = c.args.tail.now in
     let text = c.args.text.now in
-    let front : Seen shape.front text 0 c.all_above-first.result c.of.result = record {
+    let prefix : Seen shape.prefix text 0 c.all_above-first.result c.of.result = record {
       room = omega (arith, c.requires);
       bytes = c.sixteen_from.ensures.small;
       above_is = λ k lt. rw (c.sixteen_from.ensures.bytes k lt) at (c.all_above-first.ensures k lt);
@@ -41,4 +41,4 @@ returns c = λ e.
       taken = c.of-4.ensures.taken;
       none = c.of-4.ensures.none;
     } in
-    have_lanes shape tail text c.all_above-first.result c.of.result c.all_above-second.result c.of-2.result c.joined-front.result c.all_above-last.result c.of-3.result c.joined-digits.result c.of-4.result c.as_text-fraction.result front back last digits c.joined-front.ensures c.joined-digits.ensures c.as_text-fraction.ensures c.requires
+    have_lanes shape tail text c.all_above-first.result c.of.result c.all_above-second.result c.of-2.result c.joined-prefix.result c.all_above-last.result c.of-3.result c.joined-digits.result c.of-4.result c.as_text-fraction.result prefix back last digits c.joined-prefix.ensures c.joined-digits.ensures c.as_text-fraction.ensures c.requires

@@ -4,7 +4,7 @@ use Rattle.parsing_places.proofs.stamp.digits_of.Goals as goal
 
 pub returns : goal.returns
 returns c = λ e.
-    let front : Seen c.args.front.now c.args.text.now 0 c.all_above-first.result c.of.result = record {
+    let prefix : Seen c.args.prefix.now c.args.text.now 0 c.all_above-first.result c.of.result = record {
       room = omega (arith, c.requires);
       bytes = c.sixteen_from.ensures.small;
       above_is = λ k lt. rw (c.sixteen_from.ensures.bytes k lt) at (c.all_above-first.ensures k lt);
@@ -21,9 +21,9 @@ returns c = λ e.
       none = c.of-2.ensures.none;
     } in
     record {
-      front_lies = window_lies _ _ _ _ _ front;
+      prefix_lies = window_lies _ _ _ _ _ prefix;
       back_lies = window_lies _ _ _ _ _ back;
-      taken = λ lane place most lt few takes. digit_taken _ _ _ _ _ _ _ _ c.joined-digits.result lane place most front back c.joined-digits.ensures lt few takes;
-      none = λ lane lt free. none_taken _ _ _ (c.joined-digits.ensures lane lt) (c.of.ensures.none lane lt free.front_free) (c.of-2.ensures.none lane lt free.back_free);
+      taken = λ lane place most lt few takes. digit_taken _ _ _ _ _ _ _ _ c.joined-digits.result lane place most prefix back c.joined-digits.ensures lt few takes;
+      none = λ lane lt free. none_taken _ _ _ (c.joined-digits.ensures lane lt) (c.of.ensures.none lane lt free.prefix_free) (c.of-2.ensures.none lane lt free.back_free);
       raw = λ lane place lt free inside is. raw_taken _ _ _ _ _ _ c.joined-digits.result lane place (c.joined-digits.ensures lane lt) (c.of.ensures.none lane lt free) back lt inside is;
     }

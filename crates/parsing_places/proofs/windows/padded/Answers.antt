@@ -11,9 +11,9 @@ loop-place-preserved c =
     let byte = get_or c.args.text.now at 0 in (
       length-set bytes at byte ∙ c.loop-place.invariant.0,
       (λ k lt. elim (cases_lt k at) [
-        | inl front ↦
-            let other : k ≢ at = λ e. (omega (arith, front, e)) in
-            get_or-set_other bytes at k byte 0 other ∙ c.loop-place.invariant.1 k front
+        | inl prefix ↦
+            let other : k ≢ at = λ e. (omega (arith, prefix, e)) in
+            get_or-set_other bytes at k byte 0 other ∙ c.loop-place.invariant.1 k prefix
         | inr le ↦
             let here : k ≡ at = omega (arith, le, lt) in
             get_or-set_at bytes at k byte 0 here (omega (arith, c.loop-place.invariant.0, c.loop-place-test.true, c.requires)) ∙ ap (λ j. get_or c.args.text.now j 0) (sym here)

@@ -1,13 +1,13 @@
 use Rattle.std.proofs.Common.{arith}
-use Rattle.parsing_plan.proofs.SumLemmas.{front_sums, front_offset}
+use Rattle.parsing_plan.proofs.SumLemmas.{prefix_sums, prefix_offset}
 use Rattle.parsing_plan.proofs.sums.sums_of.Goals as goal
 
 pub returns-clause-sums : goal.returns-clause-sums
 returns-clause-sums c =
     let s = c.sums-day.ensures in
-    front_sums c.args.front.now c.args.line.now c.digits_of-fits.result.1 c.paired.result (c.digits_of-fits.ensures c.if-not-fits.false) (λ k. (omega (arith, c.type_inv.line k))) c.requires c.paired.ensures _ s.first s.second s.fourth
+    prefix_sums c.args.prefix.now c.args.line.now c.digits_of-fits.result.1 c.paired.result (c.digits_of-fits.ensures c.if-not-fits.false) (λ k. (omega (arith, c.type_inv.line k))) c.requires c.paired.ensures _ s.first s.second s.fourth
 
 pub returns-clause-offset : goal.returns-clause-offset
 returns-clause-offset c = λ places is.
     let s = c.sums-day.ensures in
-    front_offset c.args.front.now c.args.line.now c.digits_of-fits.result.1 c.paired.result (c.digits_of-fits.ensures c.if-not-fits.false) (λ k. (omega (arith, c.type_inv.line k))) c.requires c.paired.ensures _ s.third s.fourth places is
+    prefix_offset c.args.prefix.now c.args.line.now c.digits_of-fits.result.1 c.paired.result (c.digits_of-fits.ensures c.if-not-fits.false) (λ k. (omega (arith, c.type_inv.line k))) c.requires c.paired.ensures _ s.third s.fourth places is

@@ -39,4 +39,4 @@ returns c =
     let s = c.in_ok-year in
     let o = s.offset in
     let same : to_z w16 (of_z w16 o) ≡ o = omega (arith, ints) in
-    λ input front. stamp_read c.shape.result input text c.of_numbers.result s.year c.args.tens s.ones s.minute s.second c.in_ok-month.month o (λ k. (omega (arith, c.type_inv.text k))) c.shape.ensures s.ensures.says front (rw (take_rest text 1) at c.in_ok-month.ensures) (not_before _ _ _ c.is_before.ensures c.if-is_before.false c.new.ensures) (rw (same, c.new-fraction.ensures) at c.of_numbers.ensures)
+    λ input prefix. stamp_read c.shape.result input text c.of_numbers.result s.year c.args.tens s.ones s.minute s.second c.in_ok-month.month o (λ k. (omega (arith, c.type_inv.text k))) c.shape.ensures s.ensures.says prefix (rw (take_rest text 1) at c.in_ok-month.ensures) (not_before _ _ _ c.is_before.ensures c.if-is_before.false c.new.ensures) (rw (same, c.new-fraction.ensures) at c.of_numbers.ensures)

@@ -2,4 +2,4 @@ use Rattle.parsing_fields.proofs.lemmas.Moments.{of_fields}
 use Rattle.parsing_rfc2822.proofs.places.read_with_offset.Goals as goal
 
 pub returns : goal.returns
-returns c = of_fields _ _ c.read_by_shape.result c.read_by_shape.ensures (λ f read. read c.args.input.now c.in_ok-tens.ensures.front)
+returns c = of_fields _ _ c.read_by_shape.result c.read_by_shape.ensures (λ f read. read c.args.input.now c.in_ok-tens.ensures.prefix)

@@ -14,7 +14,7 @@ loop-duration-init g c =
       can = rw c.into_iter-duration-iterator.ensures.into_iter_gives c.requires.can;
       ends = rw c.into_iter-duration-iterator.ensures.into_iter_gives c.requires.finite;
       sum = refl;
-      fronts = λ n. rw (take-nil n) (omega (arith, ints), omega (arith, ints));
+      prefixes = λ n. rw (take-nil n) (omega (arith, ints), omega (arith, ints));
     }
 
 pub returns-in_default-clause-none : goal.returns-in_default-clause-none

@@ -8,5 +8,5 @@ invariant-loop-duration g l =
       can : (goal.iterator-loop-duration g).can_next l.duration-iterator;
       ends : (goal.iterator-loop-duration g).is_finite l.duration-iterator;
       sum : l.sum ≡ total l.yielded;
-      fronts : HasPartialSums l.yielded;
+      prefixes : HasPartialSums l.yielded;
     }

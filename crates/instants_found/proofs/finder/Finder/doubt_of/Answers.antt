@@ -1,5 +1,5 @@
 use Rattle.std.proofs.Common.{◌≡◌, get_or, List, subst, ◌∙◌}
-use Rattle.instants_fronts.specs.declared.date_source.DateSource.{DateSource}
+use Rattle.instants_prefixes.specs.declared.date_source.DateSource.{DateSource}
 use Rattle.instants_found.specs.Finder.{limit_of}
 use Rattle.instants_found.proofs.DoubtOf.{no_source, no_place, doubt_here}
 use Rattle.instants_found.proofs.finder.Finder.doubt_of.Goals as goal

@@ -1,6 +1,6 @@
 use Rattle.std.proofs.Common.{◌≡◌, ℕ, length, min, arith, Option, None, Some}
 use Rattle.std.specs.Prelude.{IfNone}
-use Rattle.instants_fronts.specs.declared.given.Given.{Given}
+use Rattle.instants_prefixes.specs.declared.given.Given.{Given}
 use Rattle.instants_found.specs.Found.{found}
 use Rattle.instants_found.specs.Finder.{sources_of, limit_of}
 use Rattle.instants_found.specs.Starts.{HasNoDate}

@@ -1,5 +1,5 @@
 use Rattle.std.proofs.Common.{◌≡◌, map}
-use Rattle.instants_fronts.specs.DateSource.{grammar_in}
+use Rattle.instants_prefixes.specs.DateSource.{grammar_in}
 use Rattle.instants_sources.specs.Grammar.{grammar_of}
 use Rattle.instants_found.proofs.finder.calls.date_sources.Given as goal
 

@@ -13,16 +13,16 @@ loop-rest-preserved c =
     let i = c.loop-rest.invariant in
     let trial = trial_of c.args.self.now in
     let line = c.first_line.result.0.now in
-    let behind = lines c.first_line.result.1.now in
+    let after = lines c.first_line.result.1.now in
     let before = c.loop-rest.tally in
     let here : c.find.result ≡ found most (given_for trial.lacks) trial.sources line =
     c.find.ensures.found ∙ (ap (λ n. found n c.given_for-given.result trial.sources line) c.args.self.now.wide ∙ ap (λ given. found most given trial.sources line) c.given_for-given.ensures) in
-    let split : findings trial (lines c.loop-rest.rest.now) ≡ c.find.result ∷ findings trial behind =
-    ap (findings trial) c.first_line.ensures.lines ∙ (findings_more trial line behind ∙ ap (λ one. one ∷ findings trial behind) (sym here)) in
+    let split : findings trial (lines c.loop-rest.rest.now) ≡ c.find.result ∷ findings trial after =
+    ap (findings trial) c.first_line.ensures.lines ∙ (findings_more trial line after ∙ ap (λ one. one ∷ findings trial after) (sym here)) in
     let dated : c.counted-tally.result.dated ≤ before.dated + 1 = rw c.counted-tally.ensures (counted_dated before c.find.result) in
     let doubtful : c.counted-tally.result.doubtful ≤ before.doubtful + 1 = rw c.counted-tally.ensures (counted_doubtful before c.find.result) in
     record {
-      all = i.all ∙ (ap (λ all. joined before (tally_of all)) split ∙ (joined_more before c.find.result (findings trial behind) ∙ ap (λ t. joined t (tally_of (findings trial behind))) (sym c.counted-tally.ensures)));
+      all = i.all ∙ (ap (λ all. joined before (tally_of all)) split ∙ (joined_more before c.find.result (findings trial after) ∙ ap (λ t. joined t (tally_of (findings trial after))) (sym c.counted-tally.ensures)));
       dated = omega (arith, dated, i.dated, c.first_line.ensures.some);
       doubtful = omega (arith, doubtful, i.doubtful, c.first_line.ensures.some);
     }

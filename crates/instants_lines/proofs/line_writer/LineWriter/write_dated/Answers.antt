@@ -3,7 +3,7 @@ use Rattle.std.proofs.lemmas.List.{length-append}
 use Rattle.base.specs.Bytes.{tab, line_feed}
 use Rattle.instants_found.specs.declared.found.Finding.TheVariants.{There}
 use Rattle.instants_stream.proofs.Gathering.{OnOk-map}
-use Rattle.instants_lines.specs.Going.{Going, given_below, key_below, key_of_line, keyed, label_front}
+use Rattle.instants_lines.specs.Going.{Going, given_below, key_below, key_of_line, keyed, label_prefix}
 use Rattle.instants_lines.specs.Writing.{going_of}
 use Rattle.instants_lines.proofs.Keyed.{dated, below_found, key_and_tab}
 use Rattle.instants_lines.proofs.line_writer.LineWriter.write_dated.Goals as goal
@@ -14,15 +14,15 @@ returns-clause-written g c =
     let line = c.args.line.now in
     let key : c.answer_named-key.result ≡ key_of_line old line = dated old line c.args.date.now c.answer_named-key.result (sym c.requires.found) c.answer_named-key.ensures.bytes in
     let tabbed : c.push.new.self ≡ key_of_line old line ++ tab ∷ [] = c.push.ensures ∙ ap (λ (k : List ℕ). k ++ tab ∷ []) key in
-    rw (key_and_tab (key_of_line old line) c.push.new.self (label_front old.label) line tabbed) c.write_after.ensures.written
+    rw (key_and_tab (key_of_line old line) c.push.new.self (label_prefix old.label) line tabbed) c.write_keyed.ensures.written
 
-pub returns-clause-front : goal.returns-clause-front
-returns-clause-front g c =
+pub returns-clause-prefix : goal.returns-clause-prefix
+returns-clause-prefix g c =
     let old = going_of c.args.self.now in
     let line = c.args.line.now in
     let key : c.answer_named-key.result ≡ key_of_line old line = dated old line c.args.date.now c.answer_named-key.result (sym c.requires.found) c.answer_named-key.ensures.bytes in
     let tabbed : c.push.new.self ≡ key_of_line old line ++ tab ∷ [] = c.push.ensures ∙ ap (λ (k : List ℕ). k ++ tab ∷ []) key in
-    rw (key_and_tab (key_of_line old line) c.push.new.self (label_front old.label) line tabbed) c.write_after.ensures.front
+    rw (key_and_tab (key_of_line old line) c.push.new.self (label_prefix old.label) line tabbed) c.write_keyed.ensures.prefix
 
 pub returns-clause-next : goal.returns-clause-next
 returns-clause-next g c =
@@ -36,4 +36,4 @@ returns-clause-next g c =
     ∙ ap (λ (g : Going). record g { key = key_below g.mode g.key c.answer_named-key.result }) c.keep_year.ensures
     ∙ ap (λ (k : List ℕ). record old { search = record old.search { given = given_below old.search.given (Some (There date)) }; key = key_below old.mode old.key k }) key
     ∙ below_found old line (Some (There date)) found in
-    OnOk-map c.write_after.result (λ _. next) c.write_after.ensures.ok
+    OnOk-map c.write_keyed.result (λ _. next) c.write_keyed.ensures.ok

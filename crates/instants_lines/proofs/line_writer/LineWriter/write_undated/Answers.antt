@@ -1,7 +1,7 @@
 use Rattle.std.proofs.Common.{◌≡◌, ◌≤◌, ◌+◌, [], ◌∷◌, ◌++◌, append_assoc, length, option_map, sym, ◌∙◌, ap, List, ℕ, arith}
 use Rattle.std.proofs.lemmas.List.{length-append}
 use Rattle.base.specs.Bytes.{tab, line_feed}
-use Rattle.instants_lines.specs.Going.{label_front}
+use Rattle.instants_lines.specs.Going.{label_prefix}
 use Rattle.instants_lines.specs.Writing.{going_of}
 use Rattle.instants_lines.proofs.Keyed.{key_and_tab}
 use Rattle.instants_lines.proofs.line_writer.LineWriter.write_undated.Goals as goal
@@ -12,13 +12,13 @@ room key tabbed is few =
     let long : length (key ++ tab ∷ []) ≡ length key + 1 = length-append key (tab ∷ []) in
     rw is (omega (arith, long, few))
 
-pub write_after-requires-clause-room : goal.write_after-requires-clause-room
-write_after-requires-clause-room g c = room c.args.self.now.key c.args.self.now.tabbed c.args.self.now.tabbed_is c.args.self.now.room
+pub write_keyed-requires-clause-room : goal.write_keyed-requires-clause-room
+write_keyed-requires-clause-room g c = room c.args.self.now.key c.args.self.now.tabbed c.args.self.now.tabbed_is c.args.self.now.room
 
 pub returns-clause-written : goal.returns-clause-written
 returns-clause-written g c =
-    rw (key_and_tab c.args.self.now.key c.args.self.now.tabbed (label_front (going_of c.args.self.now).label) c.args.line.now c.args.self.now.tabbed_is) c.write_after.ensures.written
+    rw (key_and_tab c.args.self.now.key c.args.self.now.tabbed (label_prefix (going_of c.args.self.now).label) c.args.line.now c.args.self.now.tabbed_is) c.write_keyed.ensures.written
 
-pub returns-clause-front : goal.returns-clause-front
-returns-clause-front g c =
-    rw (key_and_tab c.args.self.now.key c.args.self.now.tabbed (label_front (going_of c.args.self.now).label) c.args.line.now c.args.self.now.tabbed_is) c.write_after.ensures.front
+pub returns-clause-prefix : goal.returns-clause-prefix
+returns-clause-prefix g c =
+    rw (key_and_tab c.args.self.now.key c.args.self.now.tabbed (label_prefix (going_of c.args.self.now).label) c.args.line.now c.args.self.now.tabbed_is) c.write_keyed.ensures.prefix

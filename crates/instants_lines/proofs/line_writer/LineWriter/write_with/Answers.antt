@@ -14,12 +14,12 @@ returns-in_default-clause-written g c =
     let same = unwritten (search_in c.args.self.now.dates.now c.args.self.now.given) c.args.line.now c.args.date.now year c.requires.found (rw c.moment.ensures at shown) in
     rw same c.write_all.ensures.written
 
-pub returns-in_default-clause-front : goal.returns-in_default-clause-front
+pub returns-in_default-clause-prefix : goal.returns-in_default-clause-prefix
 unfolding place_of_date
-returns-in_default-clause-front g c =
+returns-in_default-clause-prefix g c =
     let shown = sym c.in_default.ensures.shown in
     let same = unwritten (search_in c.args.self.now.dates.now c.args.self.now.given) c.args.line.now c.args.date.now year c.requires.found (rw c.moment.ensures at shown) in
-    rw same c.write_all.ensures.front
+    rw same c.write_all.ensures.prefix
 
 pub returns-clause-written : goal.returns-clause-written
 unfolding place_of_date
@@ -34,9 +34,9 @@ returns-clause-written g c =
     same ∙ ap (λ (t : List ℕ). take c.args.date.now.start line ++ (t ++ drop end line)) (sym text) ∙ ap (λ (b : List ℕ). take c.args.date.now.start line ++ (c.as_bytes.result.now ++ b)) back in
     rw parts c.write_three.ensures.written
 
-pub returns-clause-front : goal.returns-clause-front
+pub returns-clause-prefix : goal.returns-clause-prefix
 unfolding place_of_date
-returns-clause-front g c =
+returns-clause-prefix g c =
     let shown = sym c.in-Some.ensures.shown in
     let same = written (search_in c.args.self.now.dates.now c.args.self.now.given) c.args.line.now c.args.date.now c.in-Some.moment c.requires.found (rw c.moment.ensures at shown) in
     let line = c.args.line.now in
@@ -45,4 +45,4 @@ returns-clause-front g c =
     let text : c.as_bytes.result.now ≡ moment_text c.in-Some.moment = c.as_bytes.ensures.bytes ∙ c.rfc3339_line-text.ensures.line in
     let parts : replaced (search_in c.args.self.now.dates.now c.args.self.now.given) line ≡ take c.args.date.now.start line ++ (c.as_bytes.result.now ++ take (length line - end) (drop end line)) =
     same ∙ ap (λ (t : List ℕ). take c.args.date.now.start line ++ (t ++ drop end line)) (sym text) ∙ ap (λ (b : List ℕ). take c.args.date.now.start line ++ (c.as_bytes.result.now ++ b)) back in
-    rw parts c.write_three.ensures.front
+    rw parts c.write_three.ensures.prefix

@@ -1,7 +1,7 @@
 use Rattle.std.proofs.Common.{◌≡◌, arith}
 use Rattle.std.specs.Io.KnownBytes.{Keeps}
 use Rattle.std.proofs.KnownBytes.{Keeps-trans}
-use Rattle.instants_stream.specs.Told.{StaysOrUntold}
+use Rattle.instants_stream.specs.Known.{StaysOrUnknown}
 use Rattle.instants_stream.specs.Gathering.{held_by, held_below}
 use Rattle.instants_stream.proofs.Gathering.{gathered-below, done_below, OnOk-map, OnErr-map}
 use Rattle.instants_stream.proofs.block_writer.BlockWriterByteWriter.hand_on.Goals as goal
@@ -34,4 +34,4 @@ returns-clause-all g c =
 pub returns-clause-kept : goal.returns-clause-kept
 returns-clause-kept g c =
     let (all, none) = written g (goal.at.returns-clause-kept g c).After-hand_on in
-    OnErr-map c.hand_on.result (λ kept. done_below StaysOrUntold (λ _. tt) _ _ _ c.if-self-gt0.self.block.items c.if-self-gt0.self.start _ all none kept) c.hand_on.ensures.kept
+    OnErr-map c.hand_on.result (λ kept. done_below StaysOrUnknown (λ _. tt) _ _ _ c.if-self-gt0.self.block.items c.if-self-gt0.self.start _ all none kept) c.hand_on.ensures.kept

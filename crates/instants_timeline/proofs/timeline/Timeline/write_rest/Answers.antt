@@ -4,5 +4,5 @@ use Rattle.instants_timeline.specs.Settings.{setting_of}
 use Rattle.instants_timeline.proofs.FirstNamed.{names_from_next}
 use Rattle.instants_timeline.proofs.timeline.Timeline.write_rest.Goals as goal
 
-pub write_behind-requires : goal.write_behind-requires
-write_behind-requires c = names_from_next (setting_of c.args.self.now) c.args.line.now 0 (grammar_of c.first.result.now) refl c.first.ensures (c.cannot_match.ensures c.if-cannot_match.true c.args.self.now.assumed)
+pub write_after-requires : goal.write_after-requires
+write_after-requires c = names_from_next (setting_of c.args.self.now) c.args.line.now 0 (grammar_of c.first.result.now) refl c.first.ensures (c.cannot_match.ensures c.if-cannot_match.true c.args.self.now.assumed)

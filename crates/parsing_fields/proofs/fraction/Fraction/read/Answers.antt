@@ -46,33 +46,33 @@ invariant_of-result-2 c =
     let bytes = c.args.bytes.now in
     let all : c.in_ok-first.count ≡ 8 = omega (arith, c.in_ok-first.ensures.few, c.in-Some.ensures.eight) in
     let chunk : IsDigitChunk bytes c.in_ok-first.first 8 = rw all at c.in_ok-first.ensures in
-    let one : digits 1 (drop 8 bytes) ≡ Some (c.in-Some.last, c.in-Some.behind.now) = rw (take_rest bytes c.in_ok-first.count, all) at (sym c.in-Some.ensures.cut) in
-    let none = no_digit c.one_digit.result c.in-Some.behind.now c.one_digit.ensures.cut (sym c.is_some.ensures ∙ c.if-is_some.false) in
-    are_along c.in_ok-first.first c.from-last-2.ensures (nine_read bytes c.in_ok-first.first c.in-Some.last c.in-Some.behind.now chunk (λ (k : ℕ). omega (arith, c.type_inv.bytes k)) one c.in-Some.ensures.bound none).are
+    let one : digits 1 (drop 8 bytes) ≡ Some (c.in-Some.last, c.in-Some.after.now) = rw (take_rest bytes c.in_ok-first.count, all) at (sym c.in-Some.ensures.cut) in
+    let none = no_digit c.one_digit.result c.in-Some.after.now c.one_digit.ensures.cut (sym c.is_some.ensures ∙ c.if-is_some.false) in
+    are_along c.in_ok-first.first c.from-last-2.ensures (nine_read bytes c.in_ok-first.first c.in-Some.last c.in-Some.after.now chunk (λ (k : ℕ). omega (arith, c.type_inv.bytes k)) one c.in-Some.ensures.bound none).are
 
 pub returns-clause-fraction : goal.returns-clause-fraction
 returns-clause-fraction c =
     let bytes = c.args.bytes.now in
     let all : c.in_ok-first.count ≡ 8 = omega (arith, c.in_ok-first.ensures.few, c.in-Some.ensures.eight) in
     let chunk : IsDigitChunk bytes c.in_ok-first.first 8 = rw all at c.in_ok-first.ensures in
-    let one : digits 1 (drop 8 bytes) ≡ Some (c.in-Some.last, c.in-Some.behind.now) = rw (take_rest bytes c.in_ok-first.count, all) at (sym c.in-Some.ensures.cut) in
-    let none = no_digit c.one_digit.result c.in-Some.behind.now c.one_digit.ensures.cut (sym c.is_some.ensures ∙ c.if-is_some.false) in
-    reads_along bytes c.in-Some.behind.now c.in_ok-first.first c.from-last-2.ensures (nine_read bytes c.in_ok-first.first c.in-Some.last c.in-Some.behind.now chunk (λ (k : ℕ). omega (arith, c.type_inv.bytes k)) one c.in-Some.ensures.bound none).reads
+    let one : digits 1 (drop 8 bytes) ≡ Some (c.in-Some.last, c.in-Some.after.now) = rw (take_rest bytes c.in_ok-first.count, all) at (sym c.in-Some.ensures.cut) in
+    let none = no_digit c.one_digit.result c.in-Some.after.now c.one_digit.ensures.cut (sym c.is_some.ensures ∙ c.if-is_some.false) in
+    reads_along bytes c.in-Some.after.now c.in_ok-first.first c.from-last-2.ensures (nine_read bytes c.in_ok-first.first c.in-Some.last c.in-Some.after.now chunk (λ (k : ℕ). omega (arith, c.type_inv.bytes k)) one c.in-Some.ensures.bound none).reads
 
 pub returns-clause-bound : goal.returns-clause-bound
 returns-clause-bound c =
     let bytes = c.args.bytes.now in
     let all : c.in_ok-first.count ≡ 8 = omega (arith, c.in_ok-first.ensures.few, c.in-Some.ensures.eight) in
     let chunk : IsDigitChunk bytes c.in_ok-first.first 8 = rw all at c.in_ok-first.ensures in
-    let one : digits 1 (drop 8 bytes) ≡ Some (c.in-Some.last, c.in-Some.behind.now) = rw (take_rest bytes c.in_ok-first.count, all) at (sym c.in-Some.ensures.cut) in
-    let none = no_digit c.one_digit.result c.in-Some.behind.now c.one_digit.ensures.cut (sym c.is_some.ensures ∙ c.if-is_some.false) in
-    digits_below c.in_ok-first.first c.from-last-2.result (are_along c.in_ok-first.first c.from-last-2.ensures (nine_read bytes c.in_ok-first.first c.in-Some.last c.in-Some.behind.now chunk (λ (k : ℕ). omega (arith, c.type_inv.bytes k)) one c.in-Some.ensures.bound none).are)
+    let one : digits 1 (drop 8 bytes) ≡ Some (c.in-Some.last, c.in-Some.after.now) = rw (take_rest bytes c.in_ok-first.count, all) at (sym c.in-Some.ensures.cut) in
+    let none = no_digit c.one_digit.result c.in-Some.after.now c.one_digit.ensures.cut (sym c.is_some.ensures ∙ c.if-is_some.false) in
+    digits_below c.in_ok-first.first c.from-last-2.result (are_along c.in_ok-first.first c.from-last-2.ensures (nine_read bytes c.in_ok-first.first c.in-Some.last c.in-Some.after.now chunk (λ (k : ℕ). omega (arith, c.type_inv.bytes k)) one c.in-Some.ensures.bound none).are)
 
 pub returns-clause-at_most_nine : goal.returns-clause-at_most_nine
 returns-clause-at_most_nine c =
     let bytes = c.args.bytes.now in
     let all : c.in_ok-first.count ≡ 8 = omega (arith, c.in_ok-first.ensures.few, c.in-Some.ensures.eight) in
     let chunk : IsDigitChunk bytes c.in_ok-first.first 8 = rw all at c.in_ok-first.ensures in
-    let one : digits 1 (drop 8 bytes) ≡ Some (c.in-Some.last, c.in-Some.behind.now) = rw (take_rest bytes c.in_ok-first.count, all) at (sym c.in-Some.ensures.cut) in
-    let none = no_digit c.one_digit.result c.in-Some.behind.now c.one_digit.ensures.cut (sym c.is_some.ensures ∙ c.if-is_some.false) in
-    (nine_read bytes c.in_ok-first.first c.in-Some.last c.in-Some.behind.now chunk (λ (k : ℕ). omega (arith, c.type_inv.bytes k)) one c.in-Some.ensures.bound none).at_most_nine
+    let one : digits 1 (drop 8 bytes) ≡ Some (c.in-Some.last, c.in-Some.after.now) = rw (take_rest bytes c.in_ok-first.count, all) at (sym c.in-Some.ensures.cut) in
+    let none = no_digit c.one_digit.result c.in-Some.after.now c.one_digit.ensures.cut (sym c.is_some.ensures ∙ c.if-is_some.false) in
+    (nine_read bytes c.in_ok-first.first c.in-Some.last c.in-Some.after.now chunk (λ (k : ℕ). omega (arith, c.type_inv.bytes k)) one c.in-Some.ensures.bound none).at_most_nine

@@ -6,5 +6,5 @@ invariant_of-result c = record {
   few = omega (arith, c.if-length-gt-LANES.false);
   zeros = c.begin_with_zeros.ensures c.if-not-begin_with_zeros.false;
   before = c.places_before.ensures.before;
-  behind = c.places_before.ensures.behind;
+  after = c.places_before.ensures.after;
 }

@@ -17,10 +17,10 @@ returns-in-Some c = λ m defaults plan start. c.read_split.ensures m defaults (p
 
 pub returns : goal.returns
 returns c = λ m defaults is_plan start.
-    let plan = c.args.self.now.front in
+    let plan = c.args.self.now.prefix in
     let line = c.args.line.now in
     let few : unsigned_abs c.in_ok-offset.offset ≤ 1559 = c.in_ok-offset.ensures.bound in
     let back : to_z w16 (of_z w16 c.in_ok-offset.offset) ≡ c.in_ok-offset.offset = omega (arith, ints) in
     let offset = c.in_ok-offset.ensures.says plan.layout line plan.no_offset c.in_ok-sums.ensures.offset in
-    let front = line_read plan.layout line c.args.assumed c.in_ok-year.year c.in_ok-year.month c.in_ok-year.day c.in_ok-minute.minute c.in_ok-minute.second c.in_ok-fraction.fraction c.in_ok-offset.offset c.in_ok-sums.ensures.sums.text (omega arith) c.in_ok-year.ensures.says c.in_ok-minute.ensures.says c.in_ok-fraction.ensures.says offset c.of_numbers.result c.in_ok-fraction.ensures.bound (rw back at c.of_numbers.ensures) m (is_plan.0 c.in_default.is) in
-    whole_named m defaults line (drop plan.layout.length line) c.args.assumed (moment_of c.of_numbers.result) (drop_all plan.layout.length line (omega arith)) start front
+    let prefix = line_read plan.layout line c.args.assumed c.in_ok-year.year c.in_ok-year.month c.in_ok-year.day c.in_ok-minute.minute c.in_ok-minute.second c.in_ok-fraction.fraction c.in_ok-offset.offset c.in_ok-sums.ensures.sums.text (omega arith) c.in_ok-year.ensures.says c.in_ok-minute.ensures.says c.in_ok-fraction.ensures.says offset c.of_numbers.result c.in_ok-fraction.ensures.bound (rw back at c.of_numbers.ensures) m (is_plan.0 c.in_default.is) in
+    whole_named m defaults line (drop plan.layout.length line) c.args.assumed (moment_of c.of_numbers.result) (drop_all plan.layout.length line (omega arith)) start prefix

@@ -5,8 +5,8 @@ use Rattle.instants_timeline.specs.Settings.{setting_of}
 use Rattle.instants_timeline.proofs.FirstNamed.{answered_at, answer_found, names_from_next}
 use Rattle.instants_timeline.proofs.timeline.fast_ways.Rfc3339WayAnswerWay.write_answer.Goals as goal
 
-pub write_behind-requires : goal.write_behind-requires
-write_behind-requires c =
+pub write_after-requires : goal.write_after-requires
+write_after-requires c =
     let setting = setting_of c.args.timeline.now in
     let first : setting.sources ≡ grammar.Rfc3339 ∷ drop 1 setting.sources = rw c.in-Rfc3339.is at c.first.ensures in
     names_from_next setting c.args.line.now 0 grammar.Rfc3339 refl first (c.is_no_rfc3339.ensures c.if-is_no_rfc3339.true setting.assumed)

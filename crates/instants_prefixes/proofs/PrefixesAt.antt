@@ -1,0 +1,142 @@
+-- The prefix at a place: what is read there, and where it lies.
+use Rattle.std.proofs.Common.{◌≡◌, ◌+◌, ◌-◌, ◌≤◌, ℕ, Bool, true, false, List, [], ◌∷◌, length, take, drop, Option, Some, None, Ok, Err, refl, sym, ap, ◌∙◌, arith, length-drop}
+use Rattle.std.specs.Prelude.{if◌then◌else◌, ◌==◌}
+use Rattle.std.specs.Char.{is_ascii_alphabetic, is_ascii_whitespace}
+use Rattle.std.specs.List.{prefix_len}
+use Rattle.std.proofs.lemmas.List.{length-take}
+use Rattle.std.proofs.lemmas.List.Sums.{prefix_len-le-length}
+use Rattle.base.specs.Bytes.{space, lower_z}
+use Rattle.datetime_wall.specs.Wall.{Shown}
+use Rattle.description_items.specs.Tree.{Tree, listed}
+use Rattle.parsing_components.specs.Component.{reads_component, reads_component_v3}
+use Rattle.parsing_record.specs.Meaning.{Answer}
+use Rattle.parsing_record.specs.Record.{empty}
+use Rattle.parsing_record.specs.Reads.{Language, reading_of_all}
+use Rattle.instants_sources.specs.Grammar.{Grammar, Items, V3, Rfc2822, Rfc3339, Iso8601}
+use Rattle.instants_edges.specs.Pieces.{blanks, trimmed_length, zone_length}
+use Rattle.instants_edges.specs.Text.{iso_text, mail_text, is_stop, is_ut, is_letter_alone, is_letter}
+use Rattle.instants_prefixes.specs.DateSource.{IsWithin}
+use Rattle.instants_prefixes.specs.Ends.{LeavesRest}
+use Rattle.instants_prefixes.specs.Prefix.{prefix_at, prefix_in, with_lengths}
+use Rattle.instants_prefixes.specs.Given.{Given, moment_of}
+use Rattle.instants_prefixes.specs.Lengths.{Lengths, lengths, lengths_by, whole, length_by, items_of, before_first, up_to_last, with_text}
+use Rattle.instants_prefixes.specs.Reading.{text_for, reading_of, may_begin, prefix_named, prefix_of, if_likely, is_likely}
+use Rattle.instants_prefixes.specs.declared.prefix.Prefix.{Prefix}
+use Rattle.instants_prefixes.proofs.Extents.{read_within}
+
+-- ---- what is read
+
+pub prefix_at_is : (given : Given) (grammar : Grammar) (bytes text : List ℕ) (o : Option (Shown × List ℕ)) → text ≡ text_for grammar bytes → o ≡ prefix_named given grammar text → prefix_at given grammar bytes ≡ prefix_in grammar text o
+unfolding prefix_at
+prefix_at_is given grammar bytes text o is named = rw (sym is, sym named) refl
+
+likely_rest : (b : Bool) (moment m : Shown) (left rest : List ℕ) → (if◌then◌else◌ {A = Option (Shown × List ℕ)} b (Some (moment, left)) None) ≡ Some (m, rest) → left ≡ rest
+likely_rest true moment m left rest e = let both : ◌≡◌ {A = Shown × List ℕ} (moment, left) (m, rest) = cc in ap (λ (x : Shown × List ℕ). x.1) both
+likely_rest false moment m left rest e = absurd cc
+
+named_rest : (grammar : Grammar) (o : Option Shown) (left rest : List ℕ) (m : Shown) → if_likely grammar o left ≡ Some (m, rest) → left ≡ rest
+named_rest grammar None left rest m e = absurd cc
+named_rest grammar (Some moment) left rest m e = likely_rest (is_likely grammar moment) moment m left rest e
+
+read_leaves : (given : Given) (grammar : Grammar) (text rest : List ℕ) (m : Shown) (a : Answer) → reading_of grammar empty text ≡ a → prefix_of given grammar a ≡ Some (m, rest) → LeavesRest grammar text rest
+read_leaves given grammar text rest m (Ok read) is e = (read.0, is ∙ ap (λ left. Ok (read.0, left)) (named_rest grammar (moment_of given given.years read.0) read.1 rest m e))
+read_leaves given grammar text rest m (Err f) is e = absurd cc
+
+begun_leaves : (b : Bool) (given : Given) (grammar : Grammar) (text : List ℕ) (m : Shown) (rest : List ℕ) → (if b then prefix_of given grammar (reading_of grammar empty text) else None) ≡ Some (m, rest) → LeavesRest grammar text rest
+begun_leaves true given grammar text m rest e = read_leaves given grammar text rest m (reading_of grammar empty text) refl e
+begun_leaves false given grammar text m rest e = absurd cc
+
+-- a prefix that is named was read
+pub named_leaves : (given : Given) (grammar : Grammar) (text : List ℕ) (m : Shown) (rest : List ℕ) → prefix_named given grammar text ≡ Some (m, rest) → LeavesRest grammar text rest
+unfolding prefix_named
+named_leaves given grammar text m rest e = begun_leaves (may_begin grammar text) given grammar text m rest e
+
+-- ---- where it lies
+
+blanks_within : (bytes : List ℕ) → blanks bytes ≤ length bytes
+unfolding blanks
+blanks_within bytes = prefix_len-le-length is_ascii_whitespace bytes
+
+trimmed_within : (bytes : List ℕ) → trimmed_length bytes ≤ length bytes
+unfolding trimmed_length
+trimmed_within bytes = omega arith
+
+letters_within : (b c : Bool) (first : ℕ) (others : List ℕ) → (if b then (if c then 0 else 1 + prefix_len is_ascii_alphabetic others) else prefix_len is_ascii_alphabetic (first ∷ others)) ≤ length (first ∷ others)
+letters_within true true first others = omega arith
+letters_within true false first others = omega (arith, prefix_len-le-length is_ascii_alphabetic others)
+letters_within false c first others = prefix_len-le-length is_ascii_alphabetic (first ∷ others)
+
+zone_within : (bytes : List ℕ) → zone_length bytes ≤ length bytes
+unfolding zone_length
+zone_within [] = omega arith
+zone_within (first ∷ others) = letters_within (first == space) (prefix_len is_ascii_alphabetic others == 0) first others
+
+-- the lengths lie within the text
+record AreWithin (text : List ℕ) (long : Lengths) : Type 0 where
+  begins : long.begins ≤ length text
+  ends : long.ends ≤ length text
+  zone : long.zone ≤ length text
+
+by_within : (language : Language) (text : List ℕ) (items : List Tree) → AreWithin text (lengths_by language text items)
+by_within language text items =
+    let read : (xs : List Tree) → length_by language text xs ≤ length text = λ xs. read_within text (reading_of_all language (listed xs) empty text) in
+    let start = length_by language text (before_first items) in
+    let up_to = length_by language text (up_to_last items) in
+    let written = length_by language text (with_text items) in
+    let ends = trimmed_length (take up_to text) in
+    let ends_here : ends ≤ length text = omega (arith, trimmed_within (take up_to text), length-take up_to text) in
+    record {
+      begins = omega (arith, read (before_first items), blanks_within (drop start text), length-drop start text);
+      ends = ends_here;
+      zone = omega (arith, ends_here, zone_within (drop ends (take written text)), length-drop ends (take written text), length-take written text);
+    }
+
+whole_within : (text : List ℕ) (n : ℕ) → AreWithin text (whole (trimmed_length (take n text)))
+whole_within text n = let here = trimmed_within (take n text) in let long = length-take n text in record { begins = omega arith; ends = omega (arith, here, long); zone = omega (arith, here, long) }
+
+lengths_within : (grammar : Grammar) (text rest : List ℕ) → AreWithin text (lengths grammar text rest)
+unfolding lengths
+lengths_within (Items items) text rest = by_within reads_component text items
+lengths_within (V3 tree) text rest = by_within reads_component_v3 text (items_of tree)
+lengths_within Rfc2822 text rest = whole_within text (length text - length rest)
+lengths_within Rfc3339 text rest = whole_within text (length text - length rest)
+lengths_within Iso8601 text rest = whole_within text (length text - length rest)
+
+if_iso : (b : Bool) (byte : ℕ) (after others : List ℕ) → length after ≤ length others → length (if b then [] else byte ∷ after) ≤ length (byte ∷ others)
+if_iso true byte after others le = omega arith
+if_iso false byte after others le = omega (arith, le)
+
+iso_within : (bytes : List ℕ) → length (iso_text bytes) ≤ length bytes
+unfolding iso_text
+iso_within [] = omega arith
+iso_within (byte ∷ after) = if_iso (is_stop byte after) byte (iso_text after) after (iso_within after)
+
+if_mail : (a b c d : Bool) (byte : ℕ) (after others : List ℕ) → length after ≤ length others → length (if a then byte ∷ take 1 others else if b then (if c then byte ∷ [] else []) else if d then [] else byte ∷ after) ≤ length (byte ∷ others)
+if_mail true b c d byte after others le = omega (arith, length-take 1 others)
+if_mail false true true d byte after others le = omega arith
+if_mail false true false d byte after others le = omega arith
+if_mail false false c true byte after others le = omega arith
+if_mail false false c false byte after others le = omega (arith, le)
+
+mail_within : (before : ℕ) (bytes : List ℕ) → length (mail_text before bytes) ≤ length bytes
+unfolding mail_text
+mail_within before [] = omega arith
+mail_within before (byte ∷ after) = if_mail (is_ut before byte after) (is_letter_alone before byte after) (is_letter lower_z byte) (byte == 40) byte (mail_text byte after) after (mail_within byte after)
+
+-- a source is given no more than the bytes within the window
+pub text_within : (grammar : Grammar) (bytes : List ℕ) → length (text_for grammar bytes) ≤ length (take 256 bytes)
+unfolding text_for
+text_within (Items items) bytes = omega arith
+text_within (V3 tree) bytes = omega arith
+text_within Rfc2822 bytes = mail_within 0 (take 256 bytes)
+text_within Rfc3339 bytes = omega arith
+text_within Iso8601 bytes = iso_within (take 256 bytes)
+
+pub prefix_within : (grammar : Grammar) (text : List ℕ) (moment : Shown) (rest : List ℕ) → IsWithin text (with_lengths text moment rest (lengths grammar text rest))
+prefix_within grammar text moment rest =
+    let here = lengths_within grammar text rest in
+    record { begins = here.begins; ends = here.ends; zone = here.zone; all = omega (arith, trimmed_within (take (length text - length rest) text), length-take (length text - length rest) text) }
+
+-- the prefix lies within the bytes, and within the window
+pub within_bytes : (text bytes : List ℕ) (prefix : Prefix) → length text ≤ length bytes → IsWithin text prefix → IsWithin bytes prefix
+within_bytes text bytes prefix le h = record { begins = omega (arith, h.begins); ends = omega (arith, h.ends); zone = omega (arith, h.zone); all = omega (arith, h.all) }

@@ -1,0 +1,105 @@
+-- What a source never names, and nobody gives: such a source finds no date in any line.
+use Rattle.std.specs.Prelude.{Bool, ◌&&◌, ◌||◌, not, true, false, Option, None, Some, if◌then◌else◌}
+use Rattle.std.specs.Option.{is_none}
+use Rattle.description_items.specs.declared.component.Component.{Component}
+use Rattle.description_items.specs.declared.component.Component.TheVariants as component
+use Rattle.description_items.specs.Modern.{modern}
+use Rattle.description_items.specs.Tree.{listed}
+use Rattle.instants_sources.specs.Grammar.{Grammar, Items, V3, Rfc2822, Rfc3339, Iso8601}
+use Rattle.instants_prefixes.specs.Given.{Given, Years, Unknown, In, Near}
+use Rattle.instants_prefixes.specs.Has.{has, any_has}
+use Rattle.instants_prefixes.specs.Reading.{is_unix_time}
+pub use Rattle.instants_prefixes.specs.declared.lacks.Lack.{Lack}
+pub use Rattle.instants_prefixes.specs.declared.lacks.Lack.TheVariants.{Century, Year, Day, Hour, Offset}
+
+abbrev pub is_year : Component → Bool
+is_year (component.CalendarYearFullExtendedRange m) = true
+is_year (component.CalendarYearFullStandardRange m) = true
+is_year (component.IsoYearFullExtendedRange m) = true
+is_year (component.IsoYearFullStandardRange m) = true
+is_year _ = false
+
+abbrev pub is_century : Component → Bool
+is_century (component.CalendarYearCenturyExtendedRange m) = true
+is_century (component.CalendarYearCenturyStandardRange m) = true
+is_century (component.IsoYearCenturyExtendedRange m) = true
+is_century (component.IsoYearCenturyStandardRange m) = true
+is_century _ = false
+
+abbrev pub is_last_two : Component → Bool
+is_last_two (component.CalendarYearLastTwo m) = true
+is_last_two (component.IsoYearLastTwo m) = true
+is_last_two _ = false
+
+abbrev pub is_month : Component → Bool
+is_month (component.MonthShort m) = true
+is_month (component.MonthLong m) = true
+is_month (component.MonthNumerical m) = true
+is_month _ = false
+
+abbrev pub is_day : Component → Bool
+is_day (component.Day m) = true
+is_day _ = false
+
+abbrev pub is_ordinal : Component → Bool
+is_ordinal (component.Ordinal m) = true
+is_ordinal _ = false
+
+abbrev pub is_week : Component → Bool
+is_week (component.WeekNumberIso m) = true
+is_week (component.WeekNumberSunday m) = true
+is_week (component.WeekNumberMonday m) = true
+is_week _ = false
+
+abbrev pub is_weekday : Component → Bool
+is_weekday (component.WeekdayShort m) = true
+is_weekday (component.WeekdayLong m) = true
+is_weekday (component.WeekdaySunday m) = true
+is_weekday (component.WeekdayMonday m) = true
+is_weekday _ = false
+
+abbrev pub is_hour : Component → Bool
+is_hour (component.Hour12 m) = true
+is_hour (component.Hour24 m) = true
+is_hour _ = false
+
+abbrev pub is_offset_hour : Component → Bool
+is_offset_hour (component.OffsetHour m) = true
+is_offset_hour _ = false
+
+-- such a component stands in a source, or an older form that says the same; the well-known formats have all that a moment needs
+abbrev pub stands : (Component → Bool) → Grammar → Bool
+stands kind (Items items) = any_has (λ c. kind (modern c)) (listed items)
+stands kind (V3 tree) = has (λ c. kind (modern c)) tree
+stands kind Rfc2822 = true
+stands kind Rfc3339 = true
+stands kind Iso8601 = true
+
+abbrev pub is_known : Years → Bool
+is_known Unknown = false
+is_known (In year) = true
+is_known (Near above) = true
+
+-- a year by all of its digits, by its century and its last two, or given
+abbrev pub has_year : Given → Grammar → Bool
+has_year given grammar = stands is_year grammar || (stands is_century grammar && stands is_last_two grammar) || is_known given.years
+
+abbrev pub has_day : Grammar → Bool
+has_day grammar = (stands is_month grammar && stands is_day grammar) || stands is_ordinal grammar || (stands is_week grammar && stands is_weekday grammar)
+
+-- an hour, or a time of day that is given
+abbrev pub has_hour : Given → Grammar → Bool
+has_hour given grammar = stands is_hour grammar || not (is_none given.time)
+
+abbrev pub has_offset : Given → Grammar → Bool
+has_offset given grammar = stands is_offset_hour grammar || not (is_none given.offset)
+
+-- what a source lacks to name a moment, the first of these
+unfoldable pub lack : Given → Grammar → Option Lack
+lack given grammar =
+    if stands is_unix_time grammar then None
+    else if not (has_year given grammar) then Some (if stands is_last_two grammar then Century else Year)
+    else if not (has_day grammar) then Some Day
+    else if not (has_hour given grammar) then Some Hour
+    else if not (has_offset given grammar) then Some Offset
+    else None

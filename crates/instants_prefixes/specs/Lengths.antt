@@ -1,0 +1,81 @@
+-- Where in the prefix that a source reads its date begins and ends.
+use Rattle.std.specs.Prelude.{ℕ, ◌+◌, ◌-◌, not, nat_lt, Bool, true, false, List, [], ◌∷◌, length, take, drop, Ok, Err}
+use Rattle.std.specs.List.{prefix_len, suffix_len}
+use Rattle.description_items.specs.declared.component.Component.{Component}
+use Rattle.description_items.specs.declared.component.Component.TheVariants as component
+use Rattle.description_items.specs.Tree.{Tree, Trees, Literal, Compound, none, also, listed}
+use Rattle.parsing_components.specs.Component.{reads_component, reads_component_v3}
+use Rattle.parsing_record.specs.Meaning.{Answer}
+use Rattle.parsing_record.specs.Record.{empty}
+use Rattle.parsing_record.specs.Reads.{Language, reading_of_all}
+use Rattle.instants_sources.specs.Grammar.{Grammar, Items, V3, Rfc2822, Rfc3339, Iso8601}
+use Rattle.instants_edges.specs.Pieces.{blanks, trimmed_length, zone_length}
+use Rattle.instants_prefixes.specs.Reading.{has}
+
+-- a component says something of a date, unless it ignores bytes or is an end
+abbrev pub is_saying : Component → Bool
+is_saying (component.Ignore m) = false
+is_saying (component.End m) = false
+is_saying _ = true
+
+abbrev pub is_silent : Tree → Bool
+is_silent t = not (has is_saying t)
+
+abbrev pub is_text : Tree → Bool
+is_text (Literal text) = true
+is_text _ = false
+
+-- the items before the first that says something
+abbrev pub before_first : List Tree → List Tree
+before_first items = take (prefix_len is_silent items) items
+
+-- the items up to the last that does
+abbrev pub up_to_last : List Tree → List Tree
+up_to_last items = take (length items - suffix_len is_silent items) items
+
+-- those, and the text after them
+abbrev pub with_text : List Tree → List Tree
+with_text items = take (length (up_to_last items) + prefix_len is_text (drop (length (up_to_last items)) items)) items
+
+-- how many bytes were read
+abbrev pub length_read : List ℕ → Answer → ℕ
+length_read text (Ok read) = length text - length read.1
+length_read text (Err fault) = 0
+
+abbrev pub length_by : Language → List ℕ → List Tree → ℕ
+length_by language text items = length_read text (reading_of_all language (listed items) empty text)
+
+-- lengths from the place at which a date is read: where it begins and ends to say something, and where the word of a zone in the text of its description ends; and whether text stands before it in its description
+pub record Lengths : Type 0 where
+  pub begins : ℕ
+  pub ends : ℕ
+  pub zone : ℕ
+  pub is_chosen : Bool
+
+abbrev pub lengths_by : Language → List ℕ → List Tree → Lengths
+lengths_by language text items =
+    let begins = length_by language text (before_first items) in
+    let ends = trimmed_length (take (length_by language text (up_to_last items)) text) in
+    let written = length_by language text (with_text items) in
+    record { begins = begins + blanks (drop begins text); ends = ends; zone = ends + zone_length (drop ends (take written text)); is_chosen = nat_lt 0 begins }
+
+-- the whole prefix, without white space at its end
+abbrev pub whole : ℕ → Lengths
+whole long = record { begins = 0; ends = long; zone = long; is_chosen = false }
+
+abbrev pub children : Trees → List Tree
+children none = []
+children (also t ts) = t ∷ children ts
+
+-- a tree of version 3 is its items one after another, or one item
+abbrev pub items_of : Tree → List Tree
+items_of (Compound ts) = children ts
+items_of t = t ∷ []
+
+-- the lengths at the start of a text that is read, by what stands after the prefix
+unfoldable pub lengths : Grammar → List ℕ → List ℕ → Lengths
+lengths (Items items) text rest = lengths_by reads_component text items
+lengths (V3 tree) text rest = lengths_by reads_component_v3 text (items_of tree)
+lengths Rfc2822 text rest = whole (trimmed_length (take (length text - length rest) text))
+lengths Rfc3339 text rest = whole (trimmed_length (take (length text - length rest) text))
+lengths Iso8601 text rest = whole (trimmed_length (take (length text - length rest) text))

@@ -1,0 +1,13 @@
+pub mod Has
+pub mod Given
+pub mod Reading
+pub mod Lengths
+pub mod Prefix
+pub mod Contents
+pub mod InRange
+pub mod Named
+pub mod Ends
+pub mod Answered
+pub mod DateSource
+pub mod NoPrefix
+pub mod Lacks

@@ -1,0 +1,87 @@
+-- What a source reads at the start of bytes, and the moment that it names.
+use Rattle.std.specs.Prelude.{ℕ, ◌^◌, ◌&&◌, ◌||◌, not, nat_le, nat_lt, Bool, true, false, List, take, get_or, Option, None, Some, Ok, Err, unsigned_abs, if◌then◌else◌}
+use Rattle.std.specs.Char.{is_ascii_alphanumeric}
+use Rattle.datetime_wall.specs.Wall.{Shown, instant}
+use Rattle.description_items.specs.declared.component.Component.{Component}
+use Rattle.description_items.specs.declared.component.Component.TheVariants as component
+use Rattle.description_items.specs.Tree.{listed}
+use Rattle.parsing_components.specs.Component.{reads_component_v3}
+use Rattle.parsing_record.specs.Meaning.{Answer, Meaning, meaning}
+use Rattle.parsing_record.specs.Reads.{reads}
+use Rattle.parsing_record.specs.Record.{empty}
+use Rattle.parsing_parsable.specs.Staged.{reads_rfc2822, reads_rfc3339, reads_iso8601}
+use Rattle.parsing_parsable.specs.Moment.{reads_in_turn}
+use Rattle.instants_sources.specs.Grammar.{Grammar, Items, V3, Rfc2822, Rfc3339, Iso8601}
+use Rattle.instants_edges.specs.Text.{iso_text, mail_text}
+use Rattle.instants_prefixes.specs.Given.{Given, moment_of}
+pub use Rattle.instants_prefixes.specs.Has.{has, any_has}
+
+-- a date lies within so many bytes
+abbrev pub window : ℕ
+window = 256
+
+-- what a source is given of the bytes from a place on
+unfoldable pub text_for : Grammar → List ℕ → List ℕ
+text_for (Items items) bytes = take window bytes
+text_for (V3 tree) bytes = take window bytes
+text_for Rfc2822 bytes = mail_text 0 (take window bytes)
+text_for Rfc3339 bytes = take window bytes
+text_for Iso8601 bytes = iso_text (take window bytes)
+
+-- what a source reads into a record
+abbrev pub reading_of : Grammar → Meaning
+reading_of (Items items) = meaning (reads_in_turn items)
+reading_of (V3 tree) = meaning (reads reads_component_v3 tree)
+reading_of Rfc2822 = reads_rfc2822
+reading_of Rfc3339 = reads_rfc3339
+reading_of Iso8601 = reads_iso8601
+
+-- a date of RFC 2822 begins with its weekday or its day, and not with the white space or the comments that may stand before it
+abbrev pub may_begin : Grammar → List ℕ → Bool
+may_begin (Items items) text = true
+may_begin (V3 tree) text = true
+may_begin Rfc2822 text = is_ascii_alphanumeric (get_or text 0 0)
+may_begin Rfc3339 text = true
+may_begin Iso8601 text = true
+
+-- ---- which components stand in a source
+
+-- one stands in a description; the well-known formats have none
+abbrev pub stands_in : (Component → Bool) → Grammar → Bool
+stands_in kind (Items items) = any_has kind (listed items)
+stands_in kind (V3 tree) = has kind tree
+stands_in kind Rfc2822 = false
+stands_in kind Rfc3339 = false
+stands_in kind Iso8601 = false
+
+abbrev pub is_unix_time : Component → Bool
+is_unix_time (component.UnixTimestampSecond m) = true
+is_unix_time (component.UnixTimestampMillisecond m) = true
+is_unix_time (component.UnixTimestampMicrosecond m) = true
+is_unix_time (component.UnixTimestampNanosecond m) = true
+is_unix_time _ = false
+
+-- a source reads numbers of Unix time
+abbrev pub has_unix_time : Grammar → Bool
+has_unix_time grammar = stands_in is_unix_time grammar
+
+-- ---- the moment
+
+-- a number of Unix time inside a line has nine or ten digits of seconds, which are 1973 to 2286 and the like before 1970: shorter and longer numbers count other things
+abbrev pub is_likely : Grammar → Shown → Bool
+is_likely grammar moment = not (has_unix_time grammar) || (nat_le (10 ^ 17) (unsigned_abs (instant moment)) && nat_lt (unsigned_abs (instant moment)) (10 ^ 19))
+
+-- a moment that is likely, and what stands after its prefix
+abbrev pub if_likely : Grammar → Option Shown → List ℕ → Option (Shown × List ℕ)
+if_likely grammar None rest = None
+if_likely grammar (Some moment) rest = if is_likely grammar moment then Some (moment, rest) else None
+
+abbrev pub prefix_of : Given → Grammar → Answer → Option (Shown × List ℕ)
+prefix_of given grammar (Ok read) = if_likely grammar (moment_of given given.years read.0) read.1
+prefix_of given grammar (Err fault) = None
+
+-- the moment that a prefix of a text names by a source, and what stands after that prefix: what is given takes the place of what the prefix lacks
+--
+-- There is at most one such prefix: each reading takes what it can, and tries no shorter prefix where the longer one names no moment.
+unfoldable pub prefix_named : Given → Grammar → List ℕ → Option (Shown × List ℕ)
+prefix_named given grammar text = if may_begin grammar text then prefix_of given grammar (reading_of grammar empty text) else None

@@ -1,0 +1,149 @@
+//! The moments of records, with what is given in place of what was not read.
+ghost use Rattle.std.specs.Prelude.{◌≡◌, pos, ◌+ℤ◌, ◌-ℤ◌};
+ghost use Rattle.calendar_count.specs.Range.{IsYear};
+ghost use Rattle.instants_prefixes.specs.Given as Gift;
+ghost use Rattle.instants_prefixes.specs.InRange.{year_in_range, time_in_range};
+
+use crate::given::{Given, Years};
+use calendar::UtcOffset;
+use datetime_types::{OffsetDateTime, WallClock};
+use parsing_record::Parsed;
+
+const MINUTES_OF_DAY: u16 = 1440;
+
+const GREATEST_YEAR: i32 = 999_999;
+
+// Whether no part of a time of day was read.
+fn has_no_time(parsed: &Parsed) -> bool
+    ensures { result ≡ Gift.has_no_time parsed.now }
+{
+    let has_no_hour = parsed.hour_24().is_none()
+        && parsed.hour_12().is_none()
+        && parsed.hour_12_is_pm().is_none();
+    let has_no_minute = parsed.minute().is_none()
+        && parsed.second().is_none()
+        && parsed.subsecond().is_none();
+    has_no_hour && has_no_minute
+}
+
+// Whether no part of a year was read.
+fn has_no_year(parsed: &Parsed) -> bool
+    ensures { result ≡ Gift.has_no_year parsed.now }
+{
+    let has_none = parsed.year().is_none()
+        && parsed.year_century().is_none()
+        && parsed.year_last_two().is_none();
+    let has_none_of_weeks = parsed.iso_year().is_none()
+        && parsed.iso_year_century().is_none()
+        && parsed.iso_year_last_two().is_none();
+    has_none && has_none_of_weeks
+}
+
+// A time of day where none was read; one that no day has is none.
+fn give_time(parsed: &mut Parsed, time: Option<u16>)
+    ensures { parsed.new ≡ Gift.with_time (time_in_range time) parsed.old }
+{
+    let Some(minutes) = time else {
+        return;
+    };
+    if minutes < MINUTES_OF_DAY && has_no_time(parsed) {
+        parsed.set_hour_24((minutes / 60) as u8);
+        parsed.set_minute((minutes % 60) as u8);
+    }
+}
+
+// A year where none was read; one that the calendar does not have is none.
+fn give_year(parsed: &mut Parsed, year: Option<i32>)
+    ensures { parsed.new ≡ Gift.with_year (year_in_range year) parsed.old }
+{
+    let Some(year) = year else {
+        return;
+    };
+    if year >= -GREATEST_YEAR && year <= GREATEST_YEAR && has_no_year(parsed) {
+        parsed.set_year(year);
+    }
+}
+
+// An offset where no hour of one was read.
+fn give_offset(parsed: &mut Parsed, offset: Option<UtcOffset>)
+    ensures { parsed.new ≡ Gift.with_offset parsed.old.offset_hour offset parsed.old }
+{
+    let Some(offset) = offset else {
+        return;
+    };
+    if parsed.offset_hour().is_none() {
+        parsed.set_offset_hour(offset.whole_hours());
+        parsed.set_offset_minute_signed(offset.minutes_past_hour());
+    }
+}
+
+// The moment of a record, with a year given or none.
+#[inline(never)]
+fn moment_in(given: &Given, year: Option<i32>, read: &Parsed) -> Option<OffsetDateTime>
+    ensures { result ≡ Gift.moment_in given.now year read.now }
+{
+    let mut parsed = *read;
+    give_time(&mut parsed, given.time);
+    give_year(&mut parsed, year);
+    give_offset(&mut parsed, given.offset);
+    parsed.offset_date_time().ok()
+}
+
+// How far two moments lie from one another, in nanoseconds.
+fn distance(one: OffsetDateTime, other: OffsetDateTime) -> u128
+    ensures { result ≡ Gift.distance one other }
+{
+    one.unix_timestamp_nanos()
+        .abs_diff(other.unix_timestamp_nanos())
+}
+
+// Of two moments the one that is nearer to another, the first of equals.
+fn nearer(
+    above: OffsetDateTime,
+    one: Option<OffsetDateTime>,
+    other: Option<OffsetDateTime>,
+) -> Option<OffsetDateTime>
+    ensures { result ≡ Gift.nearer above one other }
+{
+    let (Some(first), Some(second)) = (one, other) else {
+        return one.or(other);
+    };
+    if distance(above, first) <= distance(above, second) {
+        Some(first)
+    } else {
+        Some(second)
+    }
+}
+
+// The years before and after one.
+fn years_beside(year: i32) -> (i32, i32)
+    requires { IsYear year }
+    ensures before { result.0 ≡ year -ℤ pos 1 }
+    ensures after { result.1 ≡ year +ℤ pos 1 }
+{
+    (year - 1, year + 1)
+}
+
+// Of the three years round that of a moment the one that brings the moment of a record nearest to it.
+fn moment_near(given: &Given, above: OffsetDateTime, read: &Parsed) -> Option<OffsetDateTime>
+    ensures { result ≡ Gift.moment_of given.now (Gift.Near above) read.now }
+{
+    let year = above.year();
+    let beside = years_beside(year);
+    let before = moment_in(given, Some(beside.0), read);
+    let same = moment_in(given, Some(year), read);
+    let after = moment_in(given, Some(beside.1), read);
+    nearer(above, nearer(above, before, same), after)
+}
+
+/// The moment of a record, with what is given in place of what was not read.
+#[tactic(auto, unfolding(crate::specs::Given::moment_of))]
+pub(crate) fn moment_of(given: &Given, read: &Parsed) -> Option<OffsetDateTime>
+    ensures { result ≡ Gift.moment_of given.now given.now.years read.now }
+{
+    match given.years {
+        Years::Unknown => moment_in(given, None, read),
+        Years::In(year) => moment_in(given, Some(year), read),
+        Years::Near(above) => moment_near(given, above, read),
+    }
+}

@@ -1,0 +1,73 @@
+//! Which kinds of components stand in a source.
+ghost use Rattle.std.specs.Prelude.{◌≡◌, map};
+ghost use Rattle.description_items.specs.Tree.{listed};
+ghost use Rattle.instants_sources.specs.Grammar.{grammar_of};
+ghost use Rattle.instants_prefixes.specs.Contents.{is_of, AreContents};
+ghost use Rattle.instants_prefixes.specs.Has.{has, any_has};
+ghost use Rattle.instants_prefixes.specs.Reading.{stands_in};
+
+use crate::kind::{Kind, is_of};
+use instants_sources::Source;
+use parsing_record::{Node, NodeStep};
+
+/// Which kinds of components stand in a source. The well-known formats have none.
+#[derive(Clone, Copy)]
+pub(crate) struct Contents {
+    /// Unix time.
+    pub(crate) has_unix_time: bool,
+    /// An hour of an offset, or Unix time.
+    pub(crate) is_placed: bool,
+    /// A part of an offset.
+    pub(crate) has_offset_part: bool,
+}
+
+/// Whether a component of a kind stands in a node.
+#[cycle(stands)]
+pub(crate) fn stands_in_node<N: Node>(node: &N, kind: Kind) -> bool
+    ensures stands { result ≡ has (is_of kind) (N.tree node.now) }
+{
+    match node.step() {
+        NodeStep::Literal(_) => false,
+        NodeStep::Component(component) => is_of(kind, component),
+        NodeStep::Compound(nodes) => stands_in_any(nodes, kind),
+        NodeStep::Optional(_, node) => stands_in_node(node, kind),
+        NodeStep::First(nodes) => stands_in_any(nodes, kind),
+    }
+}
+
+/// Whether one stands in one of the nodes.
+#[cycle(stands)]
+pub(crate) fn stands_in_any<N: Node>(nodes: &[N], kind: Kind) -> bool
+    ensures stands { result ≡ any_has (is_of kind) (listed (map N.tree nodes.now)) }
+{
+    for node in nodes {
+        if stands_in_node(node, kind) {
+            return true;
+        }
+    }
+    false
+}
+
+// Whether one stands in a source.
+fn stands_in_source(source: &Source<'_>, kind: Kind) -> bool
+    ensures { result ≡ stands_in (is_of kind) (grammar_of source.now) }
+{
+    match source {
+        Source::Items(described) => stands_in_any(described.items(), kind),
+        Source::V3(described) => stands_in_node(described.tree().inner(), kind),
+        _ => false,
+    }
+}
+
+impl Contents {
+    /// The kinds that stand in a source.
+    pub(crate) fn of(source: &Source<'_>) -> Contents
+        ensures { AreContents (grammar_of source.now) result }
+    {
+        Contents {
+            has_unix_time: stands_in_source(source, Kind::UnixTime),
+            is_placed: stands_in_source(source, Kind::Placing),
+            has_offset_part: stands_in_source(source, Kind::OffsetPart),
+        }
+    }
+}

@@ -1,0 +1,117 @@
+//! Sources of dates inside lines.
+ghost use Rattle.std.specs.Prelude.{◌≡◌};
+ghost use Rattle.instants_sources.specs.Grammar.{grammar_of};
+ghost use Rattle.instants_prefixes.specs.Contents.{AreContents};
+ghost use Rattle.instants_prefixes.specs.Ends.{AreEnds, items_in};
+
+use crate::contents::Contents;
+use crate::ends::Ends;
+use crate::given::Given;
+use crate::lacks::{Lack, lack_of};
+use crate::lengths::{prefix_of, prefix_of_nodes};
+use crate::named::{assumed, has_offset, prefix_named};
+use crate::prefix::Prefix;
+use crate::window::{near, text_for};
+use instants_sources::{Named, Source};
+
+/// A source that reads dates inside lines, with what is found of it once.
+#[derive(Drop)]
+pub struct DateSource<'a> {
+    source: Source<'a>,
+    contents: Contents,
+    ends: Ends,
+    ghost has: { AreContents (grammar_of source) contents },
+    ghost begins: { AreEnds (items_in (grammar_of source)) ends },
+}
+
+impl<'a> DateSource<'a> {
+    ghost use Rattle.std.specs.Prelude.{◌≤◌, length, IfSome};
+    ghost use Rattle.std.specs.Option.{is_none};
+    ghost use Rattle.instants_prefixes.specs.DateSource.{grammar_in, IsWithin};
+    ghost use Rattle.instants_prefixes.specs.Prefix.{prefix_at};
+    ghost use Rattle.instants_prefixes.specs.Lacks.{lack};
+    ghost use Rattle.instants_prefixes.specs.Reading.{text_for, prefix_named, has_unix_time};
+
+    /// The source, with what is found of it.
+    pub fn new(source: Source<'a>) -> DateSource<'a>
+        ensures { grammar_in result ≡ grammar_of source.entry }
+    {
+        DateSource {
+            contents: Contents::of(&source),
+            ends: Ends::of(&source),
+            source,
+        }
+    }
+
+    /// The source.
+    #[inline(always)]
+    pub fn source(&self) -> &Source<'a>
+        ensures { grammar_of result.now ≡ grammar_in self.now }
+    {
+        &self.source
+    }
+
+    /// Whether it reads numbers of Unix time.
+    #[inline(always)]
+    pub fn has_unix_time(&self) -> bool
+        ensures { result ≡ has_unix_time (grammar_in self.now) }
+    {
+        self.contents.has_unix_time
+    }
+
+    // The prefix of bytes that the source reads as a date, with what is given where the date lacks it.
+    #[inline(never)]
+    fn read_any(&self, bytes: &[u8], given: &Given) -> Option<Prefix>
+        ensures prefix { result ≡ prefix_at given.now (grammar_in self.now) bytes.now }
+        ensures within { IfSome result (IsWithin bytes.now) }
+    {
+        let text = text_for(&self.source, bytes);
+        match prefix_named(&self.source, self.contents, text, given) {
+            Some((moment, rest)) => Some(prefix_of(&self.source, &self.ends, text, moment, rest)),
+            None => None,
+        }
+    }
+
+    /// The prefix of bytes that the source reads as a date, with what is given where the date lacks it. It lies within the
+    /// first 256 bytes. Where a plan reads a description's items, the prefix is made here.
+    #[inline(never)]
+    pub fn read(&self, bytes: &[u8], given: &Given) -> Option<Prefix>
+        ensures prefix { result ≡ prefix_at given.now (grammar_in self.now) bytes.now }
+        ensures within { IfSome result (IsWithin bytes.now) }
+    {
+        let Source::Items(described) = &self.source else {
+            return self.read_any(bytes, given);
+        };
+        if self.contents.has_unix_time || !has_offset(self.contents, given) {
+            return self.read_any(bytes, given);
+        }
+        let text = near(bytes);
+        let Some((fields, rest)) = described.read_prefix(text, assumed(self.contents, given)) else {
+            return if described.cannot_match(text) {
+                None
+            } else {
+                self.read_any(bytes, given)
+            };
+        };
+        let moment = Named::of_fields(fields);
+        Some(prefix_of_nodes(described.items(), &self.ends, text, moment, rest))
+    }
+
+    /// What the source lacks to name a moment with what is given: such a source finds no date in any line.
+    pub fn lack(&self, given: &Given) -> Option<Lack>
+        ensures { result ≡ lack given.now (grammar_in self.now) }
+    {
+        lack_of(&self.source, given)
+    }
+
+    /// Whether no prefix of bytes names a moment without a part of what is given, so that the date needs it.
+    pub fn needs(&self, bytes: &[u8], without: &Given) -> bool
+        ensures { result
+            ≡ is_none
+            (prefix_named without.now (grammar_in self.now)
+            (text_for (grammar_in self.now) bytes.now)) }
+    {
+        let text = text_for(&self.source, bytes);
+        prefix_named(&self.source, self.contents, text, without).is_none()
+    }
+}

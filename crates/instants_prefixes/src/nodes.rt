@@ -1,0 +1,87 @@
+//! Reading by nodes at the start of a description.
+ghost use Rattle.std.specs.Prelude.{◌≡◌, map, Ok};
+ghost use Rattle.description_items.specs.Tree.{listed};
+ghost use Rattle.parsing_record.specs.Meaning.{optionally, first_of};
+ghost use Rattle.parsing_record.specs.Reads.{reads, reading, reading_of_all, each_reads};
+ghost use Rattle.parsing_record.specs.Record.{empty};
+ghost use Rattle.instants_prefixes.specs.Answered.{Answered};
+ghost use Rattle.instants_prefixes.specs.Lengths.{length_by};
+
+use parsing_record::{Node, NodeStep, Parsed};
+
+// Reads by one node: `None` where it is refused, and then the record holds anything.
+#[tactic(auto, unfolding(parsing_record::specs::Reads::reads, parsing_record::specs::Meaning::optionally))]
+#[cycle(reading)]
+fn read_node<'a, N: Node>(node: &N, input: &'a [u8], parsed: &mut Parsed) -> Option<&'a [u8]>
+    ensures answer { Answered result parsed.new
+        (reading N.language (N.tree node.now) parsed.old input.now) }
+{
+    match node.step() {
+        NodeStep::Literal(text) => Parsed::parse_literal(input, text).ok(),
+        NodeStep::Component(component) => N::read_component(component, input, parsed).ok(),
+        NodeStep::Compound(nodes) => read_nodes(nodes, input, parsed),
+        NodeStep::Optional(_, node) => read_optional(node, input, parsed),
+        NodeStep::First(nodes) => read_first(nodes, input, parsed),
+    }
+}
+
+// Reads by the node, or leaves everything as it was.
+#[tactic(auto, unfolding(parsing_record::specs::Meaning::optionally))]
+#[cycle(reading)]
+fn read_optional<'a, N: Node>(node: &N, input: &'a [u8], parsed: &mut Parsed) -> Option<&'a [u8]>
+    ensures answer { Answered result parsed.new
+        (optionally (reads N.language (N.tree node.now)) parsed.old input.now).0 }
+{
+    let before = *parsed;
+    match read_node(node, input, parsed) {
+        Some(rest) => Some(rest),
+        None => {
+            *parsed = before;
+            Some(input)
+        }
+    }
+}
+
+// Reads by each node in turn.
+#[cycle(reading)]
+fn read_nodes<'a, N: Node>(nodes: &[N], input: &'a [u8], parsed: &mut Parsed) -> Option<&'a [u8]>
+    ensures answer { Answered result parsed.new
+        (reading_of_all N.language (listed (map N.tree nodes.now)) parsed.old input.now) }
+{
+    let mut rest = input;
+    for node in nodes {
+        let Some(next) = read_node(node, rest, parsed) else {
+            return None;
+        };
+        rest = next;
+    }
+    Some(rest)
+}
+
+// Reads by the first node that reads.
+#[cycle(reading)]
+fn read_first<'a, N: Node>(nodes: &[N], input: &'a [u8], parsed: &mut Parsed) -> Option<&'a [u8]>
+    ensures answer { Answered result parsed.new
+        (first_of
+        (each_reads N.language (listed (map N.tree nodes.now))) parsed.old
+        input.now).0 }
+{
+    let before = *parsed;
+    for node in nodes {
+        if let Some(rest) = read_node(node, input, parsed) {
+            return Some(rest);
+        }
+        *parsed = before;
+    }
+    if nodes.is_empty() { Some(input) } else { None }
+}
+
+/// How many bytes of a text the nodes read, one after the other.
+pub(crate) fn length_read<N: Node>(nodes: &[N], text: &[u8]) -> usize
+    ensures { result ≡ length_by N.language text.now (map N.tree nodes.now) }
+{
+    match read_nodes(nodes, text, &mut Parsed::new()) {
+        Some(rest) => text.len().saturating_sub(rest.len()),
+        None => 0,
+    }
+}

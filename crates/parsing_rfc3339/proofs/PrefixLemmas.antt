@@ -1,0 +1,195 @@
+-- What is read of all of some bytes is read of their prefix, whatever stands after them.
+use Rattle.std.proofs.Common.{◌≡◌, ◌<◌, ◌≤◌, ◌==◌, ◌||◌, ℕ, Bool, true, false, cond, eqb, List, [], ◌∷◌, ◌++◌, length, take, drop, Option, Some, None, Result, Ok, Err, refl, arith}
+use Rattle.std.specs.Prelude.{codes, nat_le}
+use Rattle.std.specs.Char.{is_ascii_digit}
+use Rattle.std.proofs.lemmas.Bool.Decides.{nat_tests}
+use Rattle.std.proofs.lemmas.List.{take-append-le, drop-append-le, take-append-drop, drop_all}
+use Rattle.std.proofs.lemmas.List.Folds.{prefix_len-append}
+use Rattle.std.proofs.lemmas.List.Sums.{prefix_len-le-length}
+use Rattle.base.specs.Bytes.{hyphen, dot, upper_z, lower_z}
+use Rattle.parsing_combinator.specs.Fault.{Fault, component}
+use Rattle.parsing_combinator.specs.Pieces.{digits, digit_count, digit_run, byte_of, skip_of, fraction}
+use Rattle.parsing_combinator.specs.Readings.{Reading, piece_or, then_read, give, require, within, entered}
+use Rattle.parsing_combinator.specs.declared.zone.Zone.{Zone}
+use Rattle.parsing_rfc3339.specs.declared.parts.Rfc3339Parts.{Rfc3339Parts}
+use Rattle.parsing_rfc3339.specs.Reading.{date, clock, due_fraction, subsecond, zulu, signed_offset, offset, rfc3339}
+
+-- what a piece cuts off bytes it cuts off those with more after them
+abbrev PieceOn : {A : Type 0} → List ℕ → Option (A × List ℕ) → Option (A × List ℕ) → Type 0
+PieceOn b None q = Unit {0}
+PieceOn b (Some x) q = q ≡ Some (x.0, x.1 ++ b)
+
+-- the same of a reading
+abbrev GoesOn : {A : Type 0} → List ℕ → Result (A × List ℕ) Fault → Result (A × List ℕ) Fault → Type 0
+GoesOn b (Err f) q = Unit {0}
+GoesOn b (Ok x) q = q ≡ Ok (x.0, x.1 ++ b)
+
+then_on : {A B : Type 0} (b : List ℕ) (p q : Result (A × List ℕ) Fault) (f : A → Reading B) → GoesOn b p q → ((v : A) (r : List ℕ) → GoesOn b (f v r) (f v (r ++ b))) → GoesOn b (then_read p f) (then_read q f)
+then_on b (Ok x) q f h k = rw h (k x.0 x.1)
+then_on b (Err e) q f h k = tt
+
+piece_on : {A : Type 0} (b : List ℕ) (fault : Fault) (p q : Option (A × List ℕ)) → PieceOn b p q → GoesOn b (piece_or fault p) (piece_or fault q)
+piece_on b fault (Some x) q h = rw h refl
+piece_on b fault None q h = tt
+
+require_on : (c : Bool) (fault : Fault) (a b : List ℕ) → GoesOn b (require c fault a) (require c fault (a ++ b))
+require_on true fault a b = refl
+require_on false fault a b = tt
+
+-- a last test, and a value
+last_on : {B : Type 0} (c : Bool) (fault : Fault) (v : B) (a b : List ℕ) → GoesOn b (then_read (require c fault a) (λ _. give v)) (then_read (require c fault (a ++ b)) (λ _. give v))
+last_on true fault v a b = refl
+last_on false fault v a b = tt
+
+skip_on : (p : ℕ → Bool) (a b : List ℕ) → PieceOn b (skip_of p a) (skip_of p (a ++ b))
+unfolding skip_of
+skip_on p [] b = tt
+skip_on p (x ∷ xs) b =
+    elim (p x) as (λ t. PieceOn {A = Unit {0}} b (cond t (Some (tt, xs)) None) (cond t (Some (tt, xs ++ b)) None)) [
+      | true ↦ refl
+      | false ↦ tt
+    ]
+
+byte_on : (p : ℕ → Bool) (a b : List ℕ) → PieceOn b (byte_of p a) (byte_of p (a ++ b))
+unfolding byte_of
+byte_on p [] b = tt
+byte_on p (x ∷ xs) b =
+    elim (p x) as (λ t. PieceOn b (cond t (Some (x, xs)) None) (cond t (Some (x, xs ++ b)) None)) [
+      | true ↦ refl
+      | false ↦ tt
+    ]
+
+no_fewer : (a b : List ℕ) → digit_count a ≤ digit_count (a ++ b)
+no_fewer a b =
+    let counted = prefix_len-append {X = ℕ} is_ascii_digit a b in
+    elim (eqb (digit_count a) (length a)) as (λ t. eqb (digit_count a) (length a) ≡ t → digit_count a ≤ digit_count (a ++ b)) [
+      | true ↦ λ e. let n = rw e at counted in omega (arith, n, prefix_len-le-length is_ascii_digit a)
+      | false ↦ λ e. let n = rw e at counted in omega (arith, n)
+    ] refl
+
+digits_on : (n : ℕ) (a b : List ℕ) → PieceOn b (digits n a) (digits n (a ++ b))
+unfolding digits
+digits_on n a b =
+    elim (nat_le n (digit_count a)) as (λ t. nat_le n (digit_count a) ≡ t → PieceOn b (digits n a) (digits n (a ++ b))) [
+      | true ↦ λ e.
+          let enough : nat_le n (digit_count (a ++ b)) ≡ true = grind (arith, nat_tests, e, no_fewer a b) in
+          let room : n ≤ length a = grind (arith, nat_tests, e, prefix_len-le-length is_ascii_digit a) in
+          rw (e, enough, take-append-le n a b room, drop-append-le n a b room) refl
+      | false ↦ λ e. rw e tt
+    ] refl
+
+-- a fraction that does not end the bytes
+fraction_on : (a b : List ℕ) → digit_count a < length a → PieceOn b (fraction a) (fraction (a ++ b))
+unfolding fraction digit_run
+fraction_on a b lt =
+    let other : eqb (digit_count a) (length a) ≡ false = grind (arith, nat_tests, lt) in
+    let counted = prefix_len-append {X = ℕ} is_ascii_digit a b in
+    let same : digit_count (a ++ b) ≡ digit_count a = rw other at counted in
+    elim (digit_count a == 0) as (λ t. (digit_count a == 0) ≡ t → PieceOn b (fraction a) (fraction (a ++ b))) [
+      | true ↦ λ e. rw e tt
+      | false ↦ λ e. rw (same, e, take-append-le (digit_count a) a b (omega (arith, lt)), drop-append-le (digit_count a) a b (omega (arith, lt))) refl
+    ] refl
+
+date_on : (is : Bool) (a b : List ℕ) → GoesOn b (date is a) (date is (a ++ b))
+unfolding date
+date_on is a b =
+    then_on b _ _ _ (piece_on b _ _ _ (digits_on 4 a b)) (λ year a1.
+    then_on b _ _ _ (piece_on b _ _ _ (skip_on _ a1 b)) (λ skipped a2.
+    then_on b _ _ _ (piece_on b _ _ _ (digits_on 2 a2 b)) (λ month a3.
+    then_on b _ _ _ (require_on _ _ a3 b) (λ some a4.
+    then_on b _ _ _ (piece_on b _ _ _ (skip_on _ a4 b)) (λ again a5.
+    then_on b _ _ _ (piece_on b _ _ _ (digits_on 2 a5 b)) (λ day a6.
+    last_on (within is 1 31 day) (component (codes "day")) (year, month, day) a6 b))))))
+
+clock_on : (is : Bool) (a b : List ℕ) → GoesOn b (clock is a) (clock is (a ++ b))
+unfolding clock
+clock_on is a b =
+    then_on b _ _ _ (piece_on b _ _ _ (digits_on 2 a b)) (λ hour a1.
+    then_on b _ _ _ (require_on _ _ a1 b) (λ some a2.
+    then_on b _ _ _ (piece_on b _ _ _ (skip_on _ a2 b)) (λ skipped a3.
+    then_on b _ _ _ (piece_on b _ _ _ (digits_on 2 a3 b)) (λ minute a4.
+    then_on b _ _ _ (require_on _ _ a4 b) (λ more a5.
+    then_on b _ _ _ (piece_on b _ _ _ (skip_on _ a5 b)) (λ again a6.
+    then_on b _ _ _ (piece_on b _ _ _ (digits_on 2 a6 b)) (λ second a7.
+    last_on (within is 0 60 second) (component (codes "second")) (hour, minute, second) a7 b)))))))
+
+signed_on : (is : Bool) (a b : List ℕ) → GoesOn b (signed_offset is a) (signed_offset is (a ++ b))
+unfolding signed_offset
+signed_on is a b =
+    then_on b _ _ _ (piece_on b _ _ _ (byte_on _ a b)) (λ s a1.
+    then_on b _ _ _ (piece_on b _ _ _ (digits_on 2 a1 b)) (λ hour a2.
+    then_on b _ _ _ (require_on _ _ a2 b) (λ some a3.
+    then_on b _ _ _ (piece_on b _ _ _ (skip_on _ a3 b)) (λ skipped a4.
+    then_on b _ _ _ (piece_on b _ _ _ (digits_on 2 a4 b)) (λ minute a5.
+    last_on (within is 0 59 minute) (component (codes "offset minute")) (record { is_named = false; is_negative = s == hyphen; hours = hour; minutes = minute }) a5 b)))))
+
+-- an offset is due
+no_offset : (is : Bool) → offset is [] ≡ Err (component (codes "offset hour"))
+unfolding offset zulu signed_offset byte_of skip_of
+no_offset is = refl
+
+abbrev zulu_zone : Zone
+zulu_zone = record { is_named = true; is_negative = false; hours = 0; minutes = 0 }
+
+offset_on : (is : Bool) (a b : List ℕ) → GoesOn b (offset is a) (offset is (a ++ b))
+unfolding offset zulu skip_of
+offset_on is [] b = rw (no_offset is) tt
+offset_on is (x ∷ xs) b =
+    elim ((x == upper_z) || (x == lower_z)) as (λ t. GoesOn b (entered {A = Unit {0}} (cond t (Some (tt, xs)) None) (λ _. give zulu_zone) (signed_offset is) (x ∷ xs)) (entered {A = Unit {0}} (cond t (Some (tt, xs ++ b)) None) (λ _. give zulu_zone) (signed_offset is) (x ∷ (xs ++ b)))) [
+      | true ↦ refl
+      | false ↦ signed_on is (x ∷ xs) b
+    ]
+
+-- an offset, and what the numbers make
+abbrev zoned : Bool → (Zone → Rfc3339Parts) → Reading Rfc3339Parts
+zoned is make bytes = then_read (offset is bytes) (λ z. give (make z))
+
+zoned_on : (is : Bool) (make : Zone → Rfc3339Parts) (a b : List ℕ) → GoesOn b (zoned is make a) (zoned is make (a ++ b))
+zoned_on is make a b = then_on b _ _ _ (offset_on is a b) (λ z r. refl)
+
+-- maybe a fraction before it
+abbrev ending : Bool → (Option ℕ → Zone → Rfc3339Parts) → Reading Rfc3339Parts
+ending is make bytes = then_read (subsecond bytes) (λ n. zoned is (make n))
+
+-- where digits end the bytes, no offset is there
+at_end : (is : Bool) (make : Option ℕ → Zone → Rfc3339Parts) (xs b : List ℕ) (q : Result (Rfc3339Parts × List ℕ) Fault) → digit_count xs ≡ length xs → GoesOn b (then_read (due_fraction xs) (λ n. zoned is (make n))) q
+unfolding due_fraction fraction digit_run
+at_end is make xs b q all =
+    let gone : drop (digit_count xs) xs ≡ [] = drop_all (digit_count xs) xs (omega (arith, all)) in
+    elim (digit_count xs == 0) as (λ t. (digit_count xs == 0) ≡ t → GoesOn b (then_read (due_fraction xs) (λ n. zoned is (make n))) q) [
+      | true ↦ λ e. rw e tt
+      | false ↦ λ e. rw (e, gone, no_offset is) tt
+    ] refl
+
+fraction_ending : (is : Bool) (make : Option ℕ → Zone → Rfc3339Parts) (xs b : List ℕ) → GoesOn b (then_read (due_fraction xs) (λ n. zoned is (make n))) (then_read (due_fraction (xs ++ b)) (λ n. zoned is (make n)))
+unfolding due_fraction
+fraction_ending is make xs b =
+    elim (eqb (digit_count xs) (length xs)) as (λ t. eqb (digit_count xs) (length xs) ≡ t → GoesOn b (then_read (due_fraction xs) (λ n. zoned is (make n))) (then_read (due_fraction (xs ++ b)) (λ n. zoned is (make n)))) [
+      | true ↦ λ e. at_end is make xs b _ (grind (arith, nat_tests, e))
+      | false ↦ λ e.
+          let fewer : digit_count xs < length xs = grind (arith, nat_tests, e, prefix_len-le-length is_ascii_digit xs) in
+          then_on b _ _ _ (then_on b _ _ _ (piece_on b _ _ _ (fraction_on xs b fewer)) (λ n r. refl)) (λ n r. zoned_on is (make n) r b)
+    ] refl
+
+ending_on : (is : Bool) (make : Option ℕ → Zone → Rfc3339Parts) (a b : List ℕ) → GoesOn b (ending is make a) (ending is make (a ++ b))
+unfolding subsecond skip_of
+ending_on is make [] b = rw (no_offset is) tt
+ending_on is make (x ∷ xs) b =
+    elim (x == dot) as (λ t. GoesOn b (then_read (entered {A = Unit {0}} (cond t (Some (tt, xs)) None) (λ _. due_fraction) (give None) (x ∷ xs)) (λ n. zoned is (make n)))
+    (then_read (entered {A = Unit {0}} (cond t (Some (tt, xs ++ b)) None) (λ _. due_fraction) (give None) (x ∷ (xs ++ b))) (λ n. zoned is (make n)))) [
+      | true ↦ fraction_ending is make xs b
+      | false ↦ zoned_on is (make None) (x ∷ xs) b
+    ]
+
+rfc3339_on : (is : Bool) (a b : List ℕ) → GoesOn b (rfc3339 is a) (rfc3339 is (a ++ b))
+unfolding rfc3339
+rfc3339_on is a b =
+    then_on b _ _ _ (date_on is a b) (λ d a1.
+    then_on b _ _ _ (piece_on b _ _ _ (skip_on _ a1 b)) (λ between a2.
+    then_on b _ _ _ (clock_on is a2 b) (λ t a3.
+    ending_on is (λ n z. record { year = d.0; month = d.1; day = d.2; hour = t.0; minute = t.1; second = t.2; subsecond = n; zone = z }) a3 b)))
+
+-- so many bytes are read whole
+pub prefix_read : (is : Bool) (bytes : List ℕ) (n : ℕ) (w : Rfc3339Parts) → rfc3339 is (take n bytes) ≡ Ok (w, []) → rfc3339 is bytes ≡ Ok (w, drop n bytes)
+prefix_read is bytes n w read = let goes = rfc3339_on is (take n bytes) (drop n bytes) in
+    rw (read, take-append-drop n bytes) at goes
