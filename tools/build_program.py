@@ -3,7 +3,7 @@
 
     tools/build_program.py CRATE..    as in tools/build_program.py description_check
 
-The build is `rt ci` over a copy of the programs' crates alone, without tests and edits: it proves them side by side, has
+The build is `rt ci` over a copy of the programs' crates alone, without tests and mutations: it proves them side by side, has
 both compilers make each program, and compares what it writes with the stored run. The longest chain of crates, which no
 number of processors makes shorter, is proved beside it by runs of its own, and each proof there gets as many processors as
 it can use; the other run takes what they leave. What is proved is kept for the repository's own `rt ci` on this machine, and

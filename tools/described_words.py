@@ -13,22 +13,31 @@ TABLES = ROOT / "crates" / "description_tables" / "src"
 LETTERS = ROOT / "crates" / "description_strftime" / "src"
 PAGE = ROOT / "docs" / "DESCRIPTIONS.md"
 EXAMPLES = ("example", "line", "answer")
-# The functions of values.rt that read a modifier's value, where they are not named after it.
-READERS = {"case_sensitive": "flag_of", "one_indexed": "flag_of"}
-REPRS = {"month": "month_repr_of", "weekday": "weekday_repr_of", "week_number": "week_repr_of", "year": "year_repr_of", "hour": "hour_repr_of"}
+# The table of values.rt that has a modifier's values.
+VALUES = {
+    "padding": "PADDINGS",
+    "case_sensitive": "FLAGS",
+    "one_indexed": "FLAGS",
+    "base": "BASES",
+    "sign": "SIGNS",
+    "range": "RANGES",
+    "case": "CASES",
+    "digits": "DIGIT_COUNTS",
+    "precision": "PRECISIONS",
+    "trailing_input": "TRAILING_INPUTS",
+}
 
 
 def named(file, kind):
     """Returns the word of each variant of a table, by the variant."""
-    rows = re.findall(rf'is_named\(version, word, "([^"]+)"\) \{{\s*Some\({kind}::(\w+)\)', (TABLES / file).read_text())
-    return {variant: word for word, variant in rows}
+    return {variant: word for word, variant in re.findall(rf'\("([^"]+)", {kind}::(\w+)\)', (TABLES / file).read_text())}
 
 
 def values_of(component, key):
     """Returns the words that a component's modifier can have."""
-    reader = REPRS[component] if key == "repr" else READERS.get(key, f"{key}_of")
-    body = re.search(rf"fn {reader}\(.*?\n}}", (TABLES / "values.rt").read_text(), re.S)[0]
-    return re.findall(r'is_named\(version, word, "([^"]+)"\)', body)
+    variant = "".join(it.capitalize() for it in component.split("_"))
+    begins = rf"Name::{variant} => &\[" if key == "repr" else rf"static {VALUES[key]}: [^=]*= \["
+    return re.findall(r'\("([^"]+)", ', re.search(rf"{begins}.*?\](?:,\n|;)", (TABLES / "values.rt").read_text(), re.S)[0])
 
 
 def modifiers():

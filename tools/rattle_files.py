@@ -292,10 +292,10 @@ def functions_of(crate):
     return found
 
 
-def changes_of(edit):
-    """Returns what an edit changes: file, old text, new text."""
+def changes_of(mutation):
+    """Returns what a mutation changes: file, old text, new text."""
     file, old, changes = None, None, []
-    for line in edit.read_text().split("\n"):
+    for line in mutation.read_text().split("\n"):
         word, _, text = line.partition(": ")
         if word == "file":
             file = text.strip()

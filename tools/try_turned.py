@@ -85,18 +85,18 @@ def main():
     with tempfile.TemporaryDirectory(prefix="small-") as folder:
         room = pathlib.Path(folder)
         crate = laid_out(room)
-        others = crate / "edits"
+        others = crate / "mutations"
         others.mkdir()
         status, said = turned(room)
-        named = re.findall(r"no edit turns (\w+)", said)
+        named = re.findall(r"no mutation turns (\w+)", said)
         report("it names the functions that no mutation turns", status == 1 and named == ["loose", "same", "again"], said)
         (others / "a_half.edit").write_text(written(("a half", "{ number }", "{ number / 2 }")))
         (others / "another.edit").write_text(written(("another number", "-> u8", "-> u16")))
         status, said = turned(room, "--check")
-        report("a mutation that applies nowhere, or more than once, is told", status == 1 and "small/edits/another.edit: stands 4 times in src/lib.rt" in said, said)
+        report("a mutation that applies nowhere, or more than once, is told", status == 1 and "small/mutations/another.edit: stands 4 times in src/lib.rt" in said, said)
         (others / "another.edit").write_text(written(("a stronger clause", "ensures { result ≤ 255 }", "ensures { result ≤ 254 }")))
         status, said = turned(room, "--check")
-        report("a clause that does not hold is refused", status == 1 and re.findall(r"no edit turns (\w+)", said) == ["same"] and "is spared" not in said, said)
+        report("a clause that does not hold is refused", status == 1 and re.findall(r"no mutation turns (\w+)", said) == ["same"] and "is spared" not in said, said)
         (others / "another.edit").write_text(written(("a weaker clause", "ensures { result ≤ 255 }", "ensures { result ≤ 256 }")))
         status, said = turned(room, "--check")
         report("a mutation that the contract lets through is told", status == 1 and "loose (src/lib.rt:" in said and "is spared" in said, said)

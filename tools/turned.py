@@ -1,14 +1,14 @@
 #!/usr/bin/env python3
-"""Says which public functions of a crate no edit turns, and whether the prover refuses those that one does.
+"""Says which public functions of a crate no mutation turns, and whether the prover refuses those that one does.
 
-    tools/turned.py CRATE..             the public functions that no edit turns
-    tools/turned.py --check CRATE..     also tries each edit on a copy: each function that it turns must be refused
+    tools/turned.py CRATE..             the public functions that no mutation turns
+    tools/turned.py --check CRATE..     also tries each mutation on a copy: each function that it turns must be refused
     tools/turned.py --changed [REV]     --check for the crates that differ from REV (none given: from the branch's remote)
 
-A crate's edits stand in two folders of files of one form: must-fail/ has those that tell most, which `rt ci` tries too,
-edits/ all others, a file for each kind of mistake. A file turns several functions of the crate, whose edited bodies call
+A crate's mutations stand in two folders of files of one form: must-fail/ has those that tell most, which `rt ci` tries too,
+mutations/ all others, a file for each kind of mistake. A file turns several functions of the crate, whose mutated bodies call
 none of the others: the prover does not try a function that calls a refused one. `rt ci` says that the crate is refused with
-the edit; this says that each of its functions is, for what it does itself. A refusal that only names what the edit took
+the mutation; this says that each of its functions is, for what it does itself. A refusal that only names what the mutation took
 away (a proof file that no longer finds a name) is set apart, since it says little of the contract.
 
 It prints what it misses, and ends with status 1 if there is any. With --jobs N it works on N crates at a time.
@@ -31,7 +31,7 @@ sys.dont_write_bytecode = True
 from program import PARTS, ROOT, crates_for
 from rattle_files import changes_of, edited, functions_of, turned_by
 
-TIERS = ("must-fail", "edits")
+TIERS = ("must-fail", "mutations")
 
 # What the prover says: of a function or an impl by its path, and where in a file.
 VERDICT = re.compile(r"(fn|impl) (\w+)::(\S+): (.*)")
@@ -41,11 +41,11 @@ LOST_NAME = re.compile(r"has no field|is not in scope|has no `|was not admitted|
 
 
 class Refusal:
-    """How the prover answers for one function under an edit."""
+    """How the prover answers for one function under a mutation."""
 
     SPARED = "spared"
     WAITS = "not tried, since it calls what is refused"
-    NAMES = "refused only for a name that the edit took away"
+    NAMES = "refused only for a name that the mutation took away"
     REFUSED = "refused"
 
 
@@ -92,7 +92,7 @@ def answer_to(told, has_note, in_proofs):
 
 
 class Copy:
-    """A copy of a crate and those below it, in which the crate's edits are tried over what has been built."""
+    """A copy of a crate and those below it, in which the crate's mutations are tried over what has been built."""
 
     def __init__(self, room, name):
         self.crate = room / "crates" / name
@@ -128,15 +128,15 @@ def tell(name, is_checked):
     crate = ROOT / "crates" / name
     functions = functions_of(crate)
     turned = set()
-    edits = [edit for tier in TIERS for edit in sorted((crate / tier).glob("*.edit"))]
+    mutations = [mutation for tier in TIERS for mutation in sorted((crate / tier).glob("*.edit"))]
     with tempfile.TemporaryDirectory(prefix="turned-") as room:
-        copy = Copy(pathlib.Path(room), name) if is_checked and edits else None
+        copy = Copy(pathlib.Path(room), name) if is_checked and mutations else None
         if copy and "logic=proved" not in copy.check({}):
-            return 1, [f"{name}: not proved without any edit"]
-        for edit in edits:
-            label = edit.relative_to(ROOT / "crates")
+            return 1, [f"{name}: not proved without any mutation"]
+        for mutation in mutations:
+            label = mutation.relative_to(ROOT / "crates")
             try:
-                texts = edited(crate, changes_of(edit))
+                texts = edited(crate, changes_of(mutation))
             except ValueError as error:
                 lines.append(f"{label}: {error}")
                 missed += 1
@@ -155,10 +155,10 @@ def tell(name, is_checked):
                 lines.append(f"{label}: the crate is not refused: {said.strip().splitlines()[-1][:160]}")
                 missed += 1
     left = [it for it in functions if it.is_public and it not in turned]
-    lines += [f"{name}/{it.file}:{it.first}: no edit turns {it.path}" for it in left]
+    lines += [f"{name}/{it.file}:{it.first}: no mutation turns {it.path}" for it in left]
     public = sum(it.is_public for it in functions)
     took = f" in {time.monotonic() - began:.0f} s" if is_checked else ""
-    lines.append(f"{name}: {len(edits)} edits turn {public - len(left)} of {public} public functions{took}")
+    lines.append(f"{name}: {len(mutations)} mutations turn {public - len(left)} of {public} public functions{took}")
     return missed + len(left), lines
 
 
