@@ -39,6 +39,7 @@ pub fn items_of<'a>(
     Ok(all)
 }
 
+// One item: text, an escape or a component.
 #[tactic(auto, unfolding(crate::specs::Reading::element_at))]
 fn element<'a>(
     alloc: Global,
@@ -61,6 +62,7 @@ fn element<'a>(
     Ok((BorrowedFormatItem::StringLiteral(prefix), rest))
 }
 
+// A component in its brackets.
 #[tactic(auto, unfolding(crate::specs::Reading::bracket_at))]
 fn bracketed<'a>(
     alloc: Global,

@@ -100,6 +100,7 @@ fn items<'a>(
     Ok((all, rest))
 }
 
+// One item, or a nested description in its brackets.
 #[tactic(auto, unfolding(crate::specs::Reading::element_at))]
 #[cycle(nested)]
 fn element<'a>(
@@ -123,6 +124,7 @@ fn element<'a>(
     Ok((FormatDescriptionV3Inner::BorrowedLiteral(prefix), rest))
 }
 
+// What stands in a bracket: a component, or a nesting.
 #[tactic(auto, unfolding(crate::specs::Reading::bracket_at))]
 #[cycle(nested)]
 fn bracketed<'a>(
@@ -198,6 +200,7 @@ pub fn first<'a>(
     Ok((FormatDescriptionV3Inner::OwnedFirst(all), rest))
 }
 
+// The nested descriptions of `first`.
 #[cycle(nested)]
 fn alternatives<'a>(
     alloc: Global,

@@ -10,6 +10,7 @@ use crate::cutting::cut;
 use crate::rest::Rest;
 use crate::version::DescriptionVersion;
 
+// Whether a byte is white space.
 fn is_space(byte: u8) -> bool
     ensures { result ≡ is_space byte }
 {
@@ -34,12 +35,14 @@ fn is_plain(version: DescriptionVersion, byte: u8) -> bool
     }
 }
 
+// How many bytes of white space are at the start.
 fn space_len(text: &[u8]) -> usize
     ensures { result ≡ prefix_len is_space text.now }
 {
     text.iter().take_while(|byte| is_space(**byte)).count()
 }
 
+// How many bytes the word at the start has.
 fn word_len(text: &[u8]) -> usize
     ensures { result ≡ prefix_len is_word_byte text.now }
 {
@@ -55,6 +58,7 @@ pub fn plain_len(version: DescriptionVersion, text: &[u8]) -> usize
         .count()
 }
 
+// How many bytes stand before the first colon.
 fn colon_len(text: &[u8]) -> usize
     ensures { result ≡ prefix_len is_no_colon text.now }
 {

@@ -70,6 +70,7 @@ fn is_twelve(repr: Option<Repr>) -> bool
     matches!(repr, Some(Repr::Twelve))
 }
 
+// The month that modifiers ask for.
 fn month(chosen: Chosen) -> Component
     ensures { result ≡ month_made chosen }
 {
@@ -81,6 +82,7 @@ fn month(chosen: Chosen) -> Component
     .modern()
 }
 
+// The weekday that modifiers ask for.
 fn weekday(chosen: Chosen) -> Component
     ensures { result ≡ weekday_made chosen }
 {
@@ -92,6 +94,7 @@ fn weekday(chosen: Chosen) -> Component
     .modern()
 }
 
+// The week that modifiers ask for.
 fn week_number(chosen: Chosen) -> Component
     ensures { result ≡ week_number_made chosen }
 {
@@ -102,6 +105,7 @@ fn week_number(chosen: Chosen) -> Component
     .modern()
 }
 
+// The year that modifiers ask for.
 fn year(version: DescriptionVersion, chosen: Chosen) -> Component
     ensures { result ≡ year_made version chosen }
 {
@@ -115,6 +119,7 @@ fn year(version: DescriptionVersion, chosen: Chosen) -> Component
     .modern()
 }
 
+// The hour that modifiers ask for.
 fn hour(chosen: Chosen) -> Component
     ensures { result ≡ hour_made chosen }
 {
@@ -125,6 +130,7 @@ fn hour(chosen: Chosen) -> Component
     .modern()
 }
 
+// The half of the day that modifiers ask for.
 fn period(chosen: Chosen) -> Component
     ensures { result ≡ period_made chosen }
 {
@@ -134,6 +140,7 @@ fn period(chosen: Chosen) -> Component
     })
 }
 
+// The hours of an offset that modifiers ask for.
 fn offset_hour(chosen: Chosen) -> Component
     ensures { result ≡ offset_hour_made chosen }
 {
@@ -143,6 +150,7 @@ fn offset_hour(chosen: Chosen) -> Component
     })
 }
 
+// The Unix time that modifiers ask for.
 fn unix_timestamp(chosen: Chosen) -> Component
     ensures { result ≡ unix_timestamp_made chosen }
 {

@@ -9,6 +9,7 @@ use parsing_fields::digit_pair;
 // Each month between hyphens, by its number: there is none before the first one.
 static MONTHS: [u8; 52] = *b"-00--01--02--03--04--05--06--07--08--09--10--11--12-";
 
+// Puts a number's two digits after the answer.
 #[inline(always)]
 #[tactic(auto, unfolding(parsing_fields::specs::Decimal::decimal))]
 pub(crate) fn push_two(answer: &mut Answer, number: u32)

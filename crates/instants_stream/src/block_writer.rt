@@ -44,6 +44,7 @@ fn put_lanes(block: &mut [u8], at: usize, bytes: &[u8; 64])
     u8x64::from_slice(bytes).copy_to_slice(&mut block[at..]);
 }
 
+// Puts 64 bytes into the block.
 #[inline(always)]
 fn put_all(block: &mut Vec<u8>, at: usize, bytes: &[u8; 64])
     requires { at + 64 ≤ vec_len block.old }

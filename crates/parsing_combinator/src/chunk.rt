@@ -137,6 +137,7 @@ fn first_bytes(count: usize) -> Chunk
     FIRST_BYTES[count]
 }
 
+// The digit zero at each of eight places after the first so many.
 #[inline(always)]
 fn zeros_after(count: usize) -> Chunk
     requires { count ≤ 8 }

@@ -18,6 +18,7 @@ use parsing_combinator::{
     digits_between, long_month, long_weekday, padded, padded_two, short_month, short_weekday,
 };
 
+// The day of the month.
 #[inline(always)]
 pub(crate) fn day<'a>(padding: Padding, bytes: &'a [u8], fields: &mut Record) -> Option<&'a [u8]>
     requires within { IsWithin fields.old }
@@ -33,6 +34,7 @@ pub(crate) fn day<'a>(padding: Padding, bytes: &'a [u8], fields: &mut Record) ->
     Some(rest)
 }
 
+// The week of ISO 8601.
 #[inline(always)]
 fn iso_week<'a>(padding: Padding, bytes: &'a [u8], fields: &mut Record) -> Option<&'a [u8]>
     requires within { IsWithin fields.old }
@@ -48,6 +50,7 @@ fn iso_week<'a>(padding: Padding, bytes: &'a [u8], fields: &mut Record) -> Optio
     Some(rest)
 }
 
+// The week of the year, where weeks begin on Sunday.
 #[inline(always)]
 fn sunday_week<'a>(padding: Padding, bytes: &'a [u8], fields: &mut Record) -> Option<&'a [u8]>
     requires within { IsWithin fields.old }
@@ -63,6 +66,7 @@ fn sunday_week<'a>(padding: Padding, bytes: &'a [u8], fields: &mut Record) -> Op
     Some(rest)
 }
 
+// The week of the year, where weeks begin on Monday.
 #[inline(always)]
 fn monday_week<'a>(padding: Padding, bytes: &'a [u8], fields: &mut Record) -> Option<&'a [u8]>
     requires within { IsWithin fields.old }
@@ -78,6 +82,7 @@ fn monday_week<'a>(padding: Padding, bytes: &'a [u8], fields: &mut Record) -> Op
     Some(rest)
 }
 
+// The day of the year.
 #[inline(always)]
 fn ordinal<'a>(padding: Padding, bytes: &'a [u8], fields: &mut Record) -> Option<&'a [u8]>
     requires within { IsWithin fields.old }
@@ -93,6 +98,7 @@ fn ordinal<'a>(padding: Padding, bytes: &'a [u8], fields: &mut Record) -> Option
     Some(rest)
 }
 
+// The first three letters of a month's name.
 #[inline(always)]
 pub(crate) fn month_short<'a>(
     case_sensitive: bool,
@@ -109,6 +115,7 @@ pub(crate) fn month_short<'a>(
     Some(rest)
 }
 
+// The first three letters of a weekday's name.
 #[inline(always)]
 pub(crate) fn weekday_short<'a>(
     case_sensitive: bool,
@@ -126,6 +133,7 @@ pub(crate) fn weekday_short<'a>(
     Some(rest)
 }
 
+// A month's whole name.
 #[inline(always)]
 fn month_long<'a>(case_sensitive: bool, bytes: &'a [u8], fields: &mut Record) -> Option<&'a [u8]>
     requires within { IsWithin fields.old }
@@ -138,6 +146,7 @@ fn month_long<'a>(case_sensitive: bool, bytes: &'a [u8], fields: &mut Record) ->
     Some(rest)
 }
 
+// A weekday's whole name.
 #[inline(always)]
 fn weekday_long<'a>(case_sensitive: bool, bytes: &'a [u8], fields: &mut Record) -> Option<&'a [u8]>
     requires within { IsWithin fields.old }
@@ -150,6 +159,7 @@ fn weekday_long<'a>(case_sensitive: bool, bytes: &'a [u8], fields: &mut Record) 
     Some(rest)
 }
 
+// The number of a month.
 #[inline(always)]
 #[tactic(auto, using(crate::proofs::Entries::month_entry, crate::proofs::Entries::no_month))]
 pub(crate) fn month_number<'a>(
@@ -205,6 +215,7 @@ fn after_monday(n: u32) -> Option<Weekday>
     }
 }
 
+// The weekday of a number that counts from Sunday.
 #[inline(always)]
 #[tactic(auto, using(crate::proofs::Entries::counted_from_one, crate::proofs::Entries::counted_none))]
 fn sunday_counted(one_indexed: bool, n: u32) -> Option<Weekday>
@@ -219,6 +230,7 @@ fn sunday_counted(one_indexed: bool, n: u32) -> Option<Weekday>
     after_sunday(n - 1)
 }
 
+// The number of a weekday, counted from Sunday.
 fn sunday_number<'a>(one_indexed: bool, bytes: &'a [u8], fields: &mut Record) -> Option<&'a [u8]>
     requires within { IsWithin fields.old }
     ensures reads { Sets result fields.old fields.new
@@ -232,6 +244,7 @@ fn sunday_number<'a>(one_indexed: bool, bytes: &'a [u8], fields: &mut Record) ->
     Some(rest)
 }
 
+// The weekday of a number that counts from Monday.
 #[inline(always)]
 #[tactic(auto, using(crate::proofs::Entries::counted_from_one, crate::proofs::Entries::counted_none))]
 fn monday_counted(one_indexed: bool, n: u32) -> Option<Weekday>
@@ -246,6 +259,7 @@ fn monday_counted(one_indexed: bool, n: u32) -> Option<Weekday>
     after_monday(n - 1)
 }
 
+// The number of a weekday, counted from Monday.
 fn monday_number<'a>(one_indexed: bool, bytes: &'a [u8], fields: &mut Record) -> Option<&'a [u8]>
     requires within { IsWithin fields.old }
     ensures reads { Sets result fields.old fields.new

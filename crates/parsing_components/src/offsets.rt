@@ -13,6 +13,7 @@ use description_items::Component;
 use description_items::modifier::Padding;
 use parsing_combinator::{offset_hour, padded_two, timestamp};
 
+// The minutes of an offset.
 #[inline(always)]
 pub(crate) fn offset_minute<'a>(
     padding: Padding,
@@ -32,6 +33,7 @@ pub(crate) fn offset_minute<'a>(
     Some(rest)
 }
 
+// The seconds of an offset.
 #[inline(always)]
 fn offset_second<'a>(padding: Padding, bytes: &'a [u8], fields: &mut Record) -> Option<&'a [u8]>
     requires within { IsWithin fields.old }
@@ -47,6 +49,7 @@ fn offset_second<'a>(padding: Padding, bytes: &'a [u8], fields: &mut Record) -> 
     Some(rest)
 }
 
+// The hours of an offset, with its sign.
 #[inline(always)]
 pub(crate) fn hour_of_offset<'a>(
     padding: Padding,
@@ -90,6 +93,7 @@ fn nanoseconds(is_negative: bool, count: u128, unit: u32) -> Option<i128>
     Some(if is_negative { -count } else { count })
 }
 
+// Unix time in a unit.
 #[tactic(auto, using(crate::proofs::Timestamps::product_fits))]
 fn unix<'a>(
     mandatory: bool,
@@ -111,6 +115,7 @@ fn unix<'a>(
     Some(rest)
 }
 
+// What follows so many bytes.
 #[inline(always)]
 #[tactic(auto, unfolding(crate::specs::Component::ignored))]
 fn ignored(count: u16, bytes: &[u8]) -> Option<&[u8]>

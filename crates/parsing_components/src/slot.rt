@@ -44,6 +44,7 @@ impl Slot {
     }
 }
 
+// Whether a number is padded with zeros.
 fn is_zero(padding: Padding) -> bool
     ensures { result ≡ true → padding ≡ Padding.Zero }
 {
@@ -64,6 +65,7 @@ fn is_signed(padding: Padding, sign_is_mandatory: bool) -> bool
     is_zero(padding) && sign_is_mandatory
 }
 
+// The slot, if this holds.
 fn slot_if(holds: bool, slot: Slot) -> Option<Slot>
     ensures { IfSome result (λ s. (holds ≡ true) × (s ≡ slot)) }
 {

@@ -15,6 +15,7 @@ use description_items::Component;
 use description_items::modifier::{Padding, SubsecondDigits};
 use parsing_combinator::{fraction_between, padded_two, period};
 
+// The hour of half a day, from 1 to 12.
 #[inline(always)]
 fn hour_12<'a>(padding: Padding, bytes: &'a [u8], fields: &mut Record) -> Option<&'a [u8]>
     requires within { IsWithin fields.old }
@@ -30,6 +31,7 @@ fn hour_12<'a>(padding: Padding, bytes: &'a [u8], fields: &mut Record) -> Option
     Some(rest)
 }
 
+// The hour of a whole day.
 #[inline(always)]
 pub(crate) fn hour_24<'a>(
     padding: Padding,
@@ -49,6 +51,7 @@ pub(crate) fn hour_24<'a>(
     Some(rest)
 }
 
+// The minute.
 #[inline(always)]
 pub(crate) fn minute<'a>(padding: Padding, bytes: &'a [u8], fields: &mut Record) -> Option<&'a [u8]>
     requires within { IsWithin fields.old }
@@ -64,6 +67,7 @@ pub(crate) fn minute<'a>(padding: Padding, bytes: &'a [u8], fields: &mut Record)
     Some(rest)
 }
 
+// The second.
 #[inline(always)]
 pub(crate) fn second<'a>(padding: Padding, bytes: &'a [u8], fields: &mut Record) -> Option<&'a [u8]>
     requires within { IsWithin fields.old }
@@ -79,6 +83,7 @@ pub(crate) fn second<'a>(padding: Padding, bytes: &'a [u8], fields: &mut Record)
     Some(rest)
 }
 
+// `AM` or `PM`.
 #[inline(always)]
 fn half_of_day<'a>(
     is_uppercase: bool,
@@ -97,6 +102,7 @@ fn half_of_day<'a>(
     Some(rest)
 }
 
+// The digits of a fraction of a second.
 #[inline(always)]
 fn subsecond<'a>(digits: SubsecondDigits, bytes: &'a [u8], fields: &mut Record) -> Option<&'a [u8]>
     requires within { IsWithin fields.old }

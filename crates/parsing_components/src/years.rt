@@ -25,6 +25,7 @@ fn under(negative: bool, n: u32) -> i32
     if negative { -(n as i32) } else { n as i32 }
 }
 
+// The year, with the sign that it may have.
 #[inline(always)]
 pub(crate) fn full_year<'a>(
     padding: Padding,
@@ -44,6 +45,7 @@ pub(crate) fn full_year<'a>(
     Some(rest)
 }
 
+// The century of the year.
 #[inline(always)]
 fn year_century<'a>(
     padding: Padding,
@@ -65,6 +67,7 @@ fn year_century<'a>(
     Some(rest)
 }
 
+// The last two digits of the year.
 #[inline(always)]
 fn last_two<'a>(padding: Padding, bytes: &'a [u8], fields: &mut Record) -> Option<&'a [u8]>
     requires within { IsWithin fields.old }
@@ -77,6 +80,7 @@ fn last_two<'a>(padding: Padding, bytes: &'a [u8], fields: &mut Record) -> Optio
     Some(rest)
 }
 
+// The year of the week of ISO 8601.
 #[inline(always)]
 fn iso_full_year<'a>(
     padding: Padding,
@@ -96,6 +100,7 @@ fn iso_full_year<'a>(
     Some(rest)
 }
 
+// The century of the year of the week.
 #[inline(always)]
 fn iso_year_century<'a>(
     padding: Padding,
@@ -117,6 +122,7 @@ fn iso_year_century<'a>(
     Some(rest)
 }
 
+// The last two digits of the year of the week.
 #[inline(always)]
 fn iso_last_two<'a>(padding: Padding, bytes: &'a [u8], fields: &mut Record) -> Option<&'a [u8]>
     requires within { IsWithin fields.old }

@@ -36,6 +36,7 @@ static ZEROS_AFTER: [u64; 9] = [
     0,
 ];
 
+// The digit zero at each of eight places after the first so many.
 #[inline(always)]
 fn zeros_after(count: usize) -> u64
     requires { count ≤ 8 }

@@ -40,6 +40,7 @@ static FIRST_THURSDAYS: [u8; 400] = *b"\
     16543106532105432065421064321654310653210543206542106432165432106432165431065321\
     05432065421064321654310653210543206542106432165431065321054320654210643216543106";
 
+// The days from the first one of a year to its first Thursday.
 #[inline(always)]
 fn first_thursday(year: u16) -> u32
     requires { year ≤ 9999 }
@@ -67,6 +68,7 @@ fn of_week(year: u16, week: u8, weekday: u8) -> Option<u16>
     Some((day - 9) as u16)
 }
 
+// The month and the day of the month, where the month has that day.
 #[inline(always)]
 fn of_month(year: Year, month: u8, day: u8) -> Option<(u8, u8)>
     requires year { year ≤ 9999 }
@@ -78,6 +80,7 @@ fn of_month(year: Year, month: u8, day: u8) -> Option<(u8, u8)>
     Some((month, day))
 }
 
+// The month and the day of a day of the year, whose number is in two parts.
 #[inline(always)]
 fn of_year(year: Year, first_two: u8, last: u8) -> Option<(u8, u8)>
     requires year { year ≤ 9999 }
@@ -90,6 +93,7 @@ fn of_year(year: Year, first_two: u8, last: u8) -> Option<(u8, u8)>
     Some(of_ordinal(year.number(), ordinal))
 }
 
+// The month and the day of a day of a week.
 #[inline(always)]
 fn of_weeks(year: Year, week: u8, weekday: u8) -> Option<(u8, u8)>
     requires year { year ≤ 9999 }

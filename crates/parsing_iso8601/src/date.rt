@@ -13,6 +13,7 @@ use calendar_count::{Month, Weekday};
 use parsing_combinator::ParseFromDescription::{self, InvalidComponent};
 use parsing_combinator::byte;
 
+// A month and a day of it.
 #[tactic(auto, unfolding(crate::specs::Dates::month_and_day))]
 #[inline(always)]
 fn month_and_day(kind: Kind, bytes: &[u8]) -> Result<((Month, u8), &[u8]), ParseFromDescription>
@@ -26,6 +27,7 @@ fn month_and_day(kind: Kind, bytes: &[u8]) -> Result<((Month, u8), &[u8]), Parse
     Ok(((month, day), rest))
 }
 
+// A week and a day of it.
 #[tactic(auto, unfolding(crate::specs::Dates::week_and_weekday))]
 #[inline(always)]
 fn week_and_weekday(
@@ -42,6 +44,7 @@ fn week_and_weekday(
     Ok(((week, weekday), rest))
 }
 
+// The date by its week and weekday.
 #[tactic(auto, unfolding(crate::specs::Dates::date_of_week))]
 #[inline(always)]
 fn date_of_week(

@@ -22,6 +22,7 @@ fn maybe_colon(kind: Kind, bytes: &[u8]) -> &[u8]
     }
 }
 
+// The minutes of an offset.
 #[tactic(auto, unfolding(crate::specs::Offsets::offset_minute))]
 #[inline(always)]
 fn offset_minute(bytes: &[u8]) -> Option<(u8, &[u8])>
@@ -61,6 +62,7 @@ fn under_sign(is_negative: bool, hour: u8, minute: u8) -> WrittenOffset
     }
 }
 
+// A sign, and the hours under it, with minutes where they are written.
 #[tactic(auto, unfolding(crate::specs::Offsets::signed_offset))]
 #[inline(always)]
 fn signed_offset(kind: Kind, bytes: &[u8]) -> Option<(WrittenOffset, &[u8])>

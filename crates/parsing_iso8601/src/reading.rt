@@ -108,6 +108,7 @@ fn gathered(
     Ok((Iso8601Parts { date, time, offset }, rest))
 }
 
+// The date, the time of day and the offset, each of which may be missing.
 #[tactic(auto, unfolding(crate::specs::Reading::iso8601))]
 fn parts(bytes: &[u8]) -> Result<(Iso8601Parts, &[u8]), ParseFromDescription>
     ensures gives { Gives (λ x. (x.0, x.1.now)) reading_fault result (Reading.iso8601 bytes.now) }

@@ -17,6 +17,7 @@ use parsing_combinator::{Parse, ParseFromDescription};
 use parsing_iso8601::{Iso8601Parts, WrittenDate, WrittenOffset, WrittenTime, parse_prefix};
 use parsing_record::Parsed;
 
+// Sets what a text says of the date.
 fn set_date(date: WrittenDate, parsed: &mut Parsed)
     requires { IsDateInRange date }
     ensures { parsed.new ≡ Put.put_date (Some date) parsed.old }
@@ -39,6 +40,7 @@ fn set_date(date: WrittenDate, parsed: &mut Parsed)
     }
 }
 
+// Sets what a text says of the time of day.
 fn set_time(time: WrittenTime, parsed: &mut Parsed)
     requires { IsTimeInRange time }
     ensures { parsed.new ≡ Put.put_time (Some time) parsed.old }
@@ -49,6 +51,7 @@ fn set_time(time: WrittenTime, parsed: &mut Parsed)
     parsed.set_subsecond(time.subsecond);
 }
 
+// Sets what a text says of the offset.
 fn set_offset(offset: WrittenOffset, parsed: &mut Parsed)
     requires { IsOffsetInRange offset }
     ensures { parsed.new ≡ Put.put_offset (Some offset) parsed.old }

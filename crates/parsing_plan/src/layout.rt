@@ -63,6 +63,7 @@ impl Layout {
         }
     }
 
+    // Where in the layout a slot begins.
     fn place_of(&self, slot: Slot) -> Option<usize>
         ensures { result ≡ place_of self.now slot }
     {

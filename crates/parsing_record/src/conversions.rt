@@ -15,6 +15,7 @@ use parsing_values::{
 };
 
 impl Parsed {
+    // What the record says of a date.
     #[inline(always)]
     fn date_parts(&self) -> DateParts
         ensures { result ≡ date_parts self.now }
@@ -43,6 +44,7 @@ impl Parsed {
         }
     }
 
+    // What the record says of a time of day.
     #[inline(always)]
     fn time_parts(&self) -> TimeParts
         ensures { result ≡ time_parts self.now }
@@ -70,6 +72,7 @@ impl Parsed {
         }
     }
 
+    // What the record says of a moment but its offset.
     #[inline(always)]
     fn moment_parts(&self) -> MomentParts
         ensures { result ≡ moment_parts self.now }

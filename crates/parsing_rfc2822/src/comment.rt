@@ -7,6 +7,7 @@ ghost use Rattle.parsing_rfc2822.specs.WhiteSpace as White;
 use crate::bytes::{byte, past_all};
 use crate::folding::folding_white_space;
 
+// Whether a byte is text of a comment: neither white space nor a parenthesis or a backslash.
 #[tactic(auto, unfolding(crate::specs::WhiteSpace::is_comment_text))]
 #[inline(always)]
 fn is_comment_text(byte: u8) -> bool
@@ -29,6 +30,7 @@ fn is_obsolete_text(byte: u8) -> bool
     byte != b')' && (byte == 0 || is_quotable(byte))
 }
 
+// A byte of a comment's text.
 #[tactic(auto, unfolding(crate::specs::Skips::byte_where))]
 #[inline(always)]
 fn text(bytes: &[u8]) -> Option<&[u8]>
@@ -42,6 +44,7 @@ fn text(bytes: &[u8]) -> Option<&[u8]>
     }
 }
 
+// A byte that a backslash can quote.
 #[tactic(auto, unfolding(crate::specs::Skips::byte_where))]
 fn quotable(bytes: &[u8]) -> Option<&[u8]>
     ensures skips { option_map (λ r. r.now) result ≡ Skips.byte_where White.is_quotable bytes.now }
@@ -53,6 +56,7 @@ fn quotable(bytes: &[u8]) -> Option<&[u8]>
     }
 }
 
+// A byte of obsolete text.
 #[tactic(auto, unfolding(crate::specs::Skips::byte_where))]
 fn obsolete_text(bytes: &[u8]) -> Option<&[u8]>
     ensures skips { option_map (λ r. r.now) result
@@ -74,6 +78,7 @@ fn past_line_ends(bytes: &[u8]) -> &[u8]
     past_all(b'\r', past_all(b'\n', bytes))
 }
 
+// A byte of obsolete text, and the line feeds and carriage returns after it.
 #[tactic(auto, unfolding(crate::specs::WhiteSpace::obsolete_byte))]
 fn obsolete_byte(bytes: &[u8]) -> Option<&[u8]>
     ensures skips { option_map (λ r. r.now) result ≡ White.obsolete_byte bytes.now }
@@ -136,6 +141,7 @@ fn leading_white_space(bytes: &[u8]) -> Option<&[u8]>
     }
 }
 
+// A piece of a comment: text, a quoted pair, or a comment in it.
 #[cycle(comments)]
 #[tactic(auto, unfolding(crate::specs::WhiteSpace::content))]
 fn content(levels: u8, bytes: &[u8]) -> Option<&[u8]>
@@ -154,6 +160,7 @@ fn content(levels: u8, bytes: &[u8]) -> Option<&[u8]>
     comment(levels, bytes)
 }
 
+// What stands between the parentheses of a comment.
 #[cycle(comments)]
 #[tactic(auto, using(crate::proofs::WhiteSpaceLemmas::contents_step, crate::proofs::WhiteSpaceLemmas::contents_end))]
 fn contents(levels: u8, bytes: &[u8]) -> &[u8]
@@ -167,6 +174,7 @@ fn contents(levels: u8, bytes: &[u8]) -> &[u8]
     rest
 }
 
+// Folding white space, or a comment.
 #[tactic(auto, unfolding(crate::specs::WhiteSpace::white_or_comment))]
 fn white_or_comment(bytes: &[u8]) -> Option<&[u8]>
     ensures skips { option_map (λ r. r.now) result ≡ White.white_or_comment bytes.now }
@@ -181,6 +189,7 @@ fn white_or_comment(bytes: &[u8]) -> Option<&[u8]>
     comment(31, bytes)
 }
 
+// What follows all comments and white space at the start.
 #[tactic(auto, using(crate::proofs::WhiteSpaceLemmas::white_step, crate::proofs::WhiteSpaceLemmas::white_end))]
 fn past_white_and_comments(bytes: &[u8]) -> &[u8]
     ensures skips { result.now ≡ Skips.many White.white_or_comment bytes.now }
@@ -224,6 +233,7 @@ pub fn one_space(bytes: &[u8]) -> Option<&[u8]>
     }
 }
 
+// Comments and white space, whatever they begin with.
 #[cold]
 #[tactic(auto, unfolding(crate::specs::WhiteSpace::comments_and_white_space))]
 fn any_comments_and_white_space(bytes: &[u8]) -> Option<&[u8]>

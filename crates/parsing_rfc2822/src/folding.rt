@@ -24,6 +24,7 @@ fn lone_white(bytes: &[u8]) -> Option<&[u8]>
     }
 }
 
+// A carriage return and a line feed.
 #[tactic(auto, unfolding(crate::specs::WhiteSpace::line_end))]
 fn line_end(bytes: &[u8]) -> Option<&[u8]>
     ensures skips { option_map (λ r. r.now) result ≡ White.line_end bytes.now }

@@ -19,6 +19,7 @@ fn word(text: &[u8]) -> u32
     u32::from(first) * 0x1_0000 + u32::from(second) * 0x100 + u32::from(third)
 }
 
+// The weekday of three letters.
 #[tactic(auto, using(crate::proofs::WordLemmas::weekday_by_word))]
 #[inline(always)]
 fn weekday_of(text: &[u8]) -> Option<Weekday>
@@ -52,6 +53,7 @@ pub(crate) fn weekday(bytes: &[u8]) -> Option<(Weekday, &[u8])>
     Some((weekday, rest))
 }
 
+// The month of three letters.
 #[tactic(auto, using(crate::proofs::WordLemmas::month_by_word))]
 #[inline(always)]
 fn month_of(text: &[u8]) -> Option<Month>

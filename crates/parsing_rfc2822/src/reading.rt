@@ -15,6 +15,7 @@ use calendar_count::{Month, Weekday};
 use parsing_combinator::ParseFromDescription::{self, InvalidComponent, InvalidLiteral};
 use parsing_combinator::{Zone, byte, four_digits, one_digit, sign, two_digits, within};
 
+// One digit, or two where there are two.
 #[tactic(auto, unfolding(crate::specs::Reading::one_or_two_digits))]
 #[inline(always)]
 fn one_or_two_digits(bytes: &[u8]) -> Option<(u8, &[u8])>
@@ -36,6 +37,7 @@ fn named_day(day: Weekday, bytes: &[u8]) -> Result<(Option<Weekday>, &[u8]), Par
     Ok((Some(day), past_spacing(rest)))
 }
 
+// The weekday and its comma, where they are there.
 #[tactic(auto, unfolding(crate::specs::Reading::optional_weekday))]
 #[inline(always)]
 fn optional_weekday(bytes: &[u8]) -> Result<(Option<Weekday>, &[u8]), ParseFromDescription>
@@ -48,6 +50,7 @@ fn optional_weekday(bytes: &[u8]) -> Result<(Option<Weekday>, &[u8]), ParseFromD
     }
 }
 
+// The day of the month, and the weekday before it, where there is one.
 #[tactic(auto, unfolding(crate::specs::Reading::day))]
 #[inline(always)]
 fn day(
@@ -64,6 +67,7 @@ fn day(
     Ok(((weekday, day), rest))
 }
 
+// A year of four digits, not before 1900, and the white space after it.
 #[tactic(auto, unfolding(crate::specs::Reading::full_year))]
 #[inline(always)]
 fn full_year(year: u16, bytes: &[u8]) -> Result<(u16, &[u8]), ParseFromDescription>
@@ -76,6 +80,7 @@ fn full_year(year: u16, bytes: &[u8]) -> Result<(u16, &[u8]), ParseFromDescripti
     Ok((year, rest))
 }
 
+// A year of two digits, which is one from 1950 to 2049, and the white space after it.
 #[tactic(auto, unfolding(crate::specs::Reading::short_year))]
 #[inline(always)]
 fn short_year(bytes: &[u8]) -> Result<(u16, &[u8]), ParseFromDescription>
@@ -87,6 +92,7 @@ fn short_year(bytes: &[u8]) -> Result<(u16, &[u8]), ParseFromDescription>
     Ok((u16::from(year) + century, rest))
 }
 
+// A year of four digits, or of two.
 #[tactic(auto, unfolding(crate::specs::Reading::year))]
 #[inline(always)]
 fn year(bytes: &[u8]) -> Result<(u16, &[u8]), ParseFromDescription>
@@ -98,6 +104,7 @@ fn year(bytes: &[u8]) -> Result<(u16, &[u8]), ParseFromDescription>
     }
 }
 
+// A month and a year, with white space before each and after the year.
 #[tactic(auto, unfolding(crate::specs::Reading::month_and_year))]
 #[inline(always)]
 fn month_and_year(bytes: &[u8]) -> Result<((Month, u16), &[u8]), ParseFromDescription>
@@ -110,6 +117,7 @@ fn month_and_year(bytes: &[u8]) -> Result<((Month, u16), &[u8]), ParseFromDescri
     Ok(((month, year), rest))
 }
 
+// An hour and a minute.
 #[tactic(auto, unfolding(crate::specs::Reading::hour_and_minute))]
 #[inline(always)]
 fn hour_and_minute(is_strict: bool, bytes: &[u8]) -> Result<((u8, u8), &[u8]), ParseFromDescription>
@@ -128,6 +136,7 @@ fn hour_and_minute(is_strict: bool, bytes: &[u8]) -> Result<((u8, u8), &[u8]), P
     Ok(((hour, minute), rest))
 }
 
+// The second after its colon.
 #[tactic(auto, unfolding(crate::specs::Reading::due_second))]
 #[inline(always)]
 fn due_second(is_strict: bool, bytes: &[u8]) -> Result<(Option<u8>, &[u8]), ParseFromDescription>
@@ -141,6 +150,7 @@ fn due_second(is_strict: bool, bytes: &[u8]) -> Result<(Option<u8>, &[u8]), Pars
     Ok((Some(second), rest))
 }
 
+// The second, where one is written.
 #[tactic(auto, unfolding(crate::specs::Reading::second))]
 #[inline(always)]
 fn second(is_strict: bool, bytes: &[u8]) -> Result<(Option<u8>, &[u8]), ParseFromDescription>
@@ -153,6 +163,7 @@ fn second(is_strict: bool, bytes: &[u8]) -> Result<(Option<u8>, &[u8]), ParseFro
     }
 }
 
+// The time of day.
 #[tactic(auto, unfolding(crate::specs::Reading::clock))]
 #[inline(always)]
 fn clock(
@@ -196,6 +207,7 @@ fn signed_zone(
     Ok((zone, rest))
 }
 
+// A zone by its name.
 #[tactic(auto, unfolding(crate::specs::Reading::named_zone))]
 #[inline(always)]
 fn named_zone(bytes: &[u8]) -> Result<(Zone, &[u8]), ParseFromDescription>
@@ -214,6 +226,7 @@ fn named_zone(bytes: &[u8]) -> Result<(Zone, &[u8]), ParseFromDescription>
     Ok((zone, rest))
 }
 
+// The zone: a sign with hours and minutes, or a name.
 #[tactic(auto, unfolding(crate::specs::Reading::zone))]
 #[inline(always)]
 fn zone(is_strict: bool, bytes: &[u8]) -> Result<(Zone, &[u8]), ParseFromDescription>
@@ -228,6 +241,7 @@ fn zone(is_strict: bool, bytes: &[u8]) -> Result<(Zone, &[u8]), ParseFromDescrip
     }
 }
 
+// The zone, with the white space around it.
 #[tactic(auto, unfolding(crate::specs::Reading::spaced_zone))]
 #[inline(always)]
 fn spaced_zone(is_strict: bool, bytes: &[u8]) -> Result<(Zone, &[u8]), ParseFromDescription>
@@ -241,6 +255,7 @@ fn spaced_zone(is_strict: bool, bytes: &[u8]) -> Result<(Zone, &[u8]), ParseFrom
     Ok((zone, past_spacing(rest)))
 }
 
+// All parts of a date-time, in order.
 #[tactic(auto, unfolding(crate::specs::Reading::rfc2822))]
 #[inline(always)]
 fn parts(is_strict: bool, bytes: &[u8]) -> Result<(Rfc2822Parts, &[u8]), ParseFromDescription>

@@ -11,6 +11,7 @@ use crate::parts::Rfc3339Parts;
 use parsing_combinator::ParseFromDescription::{self, InvalidComponent, InvalidLiteral};
 use parsing_combinator::{Zone, any_byte, byte, four_digits, fraction, sign, two_digits, within};
 
+// The year, the month and the day, with hyphens between them.
 #[tactic(auto, unfolding(crate::specs::Reading::date))]
 #[inline(always)]
 fn date(is_strict: bool, bytes: &[u8]) -> Result<((u16, u8, u8), &[u8]), ParseFromDescription>
@@ -30,6 +31,7 @@ fn date(is_strict: bool, bytes: &[u8]) -> Result<((u16, u8, u8), &[u8]), ParseFr
     Ok(((year, month, day), rest))
 }
 
+// The hour, the minute and the second, with colons between them.
 #[tactic(auto, unfolding(crate::specs::Reading::clock))]
 #[inline(always)]
 fn clock(is_strict: bool, bytes: &[u8]) -> Result<((u8, u8, u8), &[u8]), ParseFromDescription>
@@ -52,6 +54,7 @@ fn clock(is_strict: bool, bytes: &[u8]) -> Result<((u8, u8, u8), &[u8]), ParseFr
     Ok(((hour, minute, second), rest))
 }
 
+// The nanoseconds after a point, where one is written.
 #[tactic(auto, unfolding(crate::specs::Reading::subsecond, crate::specs::Reading::due_fraction))]
 #[inline(always)]
 fn subsecond(bytes: &[u8]) -> Result<(Option<u32>, &[u8]), ParseFromDescription>
@@ -65,6 +68,7 @@ fn subsecond(bytes: &[u8]) -> Result<(Option<u32>, &[u8]), ParseFromDescription>
     Ok((Some(nanosecond), rest))
 }
 
+// The letter `Z` in either case.
 #[tactic(auto, unfolding(crate::specs::Reading::zulu, parsing_combinator::specs::Pieces::skip_of))]
 #[inline(always)]
 fn zulu(bytes: &[u8]) -> Option<&[u8]>
@@ -76,6 +80,7 @@ fn zulu(bytes: &[u8]) -> Option<&[u8]>
     }
 }
 
+// A sign, and the hours and minutes under it.
 #[tactic(auto, unfolding(crate::specs::Reading::signed_offset))]
 #[inline(always)]
 fn signed_offset(is_strict: bool, bytes: &[u8]) -> Result<(Zone, &[u8]), ParseFromDescription>
@@ -103,6 +108,7 @@ fn signed_offset(is_strict: bool, bytes: &[u8]) -> Result<(Zone, &[u8]), ParseFr
     Ok((zone, rest))
 }
 
+// The offset: `Z`, or a sign with hours and minutes.
 #[tactic(auto, unfolding(crate::specs::Reading::offset))]
 #[inline(always)]
 fn offset(is_strict: bool, bytes: &[u8]) -> Result<(Zone, &[u8]), ParseFromDescription>
@@ -123,6 +129,7 @@ fn offset(is_strict: bool, bytes: &[u8]) -> Result<(Zone, &[u8]), ParseFromDescr
     signed_offset(is_strict, bytes)
 }
 
+// All parts of a date-time, in order.
 #[tactic(auto, unfolding(crate::specs::Reading::rfc3339))]
 #[inline(always)]
 fn parts(is_strict: bool, bytes: &[u8]) -> Result<(Rfc3339Parts, &[u8]), ParseFromDescription>

@@ -24,6 +24,7 @@ pub fn plain_date_time(
     Ok(PlainDateTime::new(date, time))
 }
 
+// Whether a second 60 stands for a leap second.
 fn is_leap(parts: &MomentParts) -> bool
     ensures { result ≡ is_leap parts.now }
 {
@@ -41,6 +42,7 @@ fn dated(parts: &MomentParts, offset: &OffsetParts) -> Result<OffsetDateTime, Tr
     Ok(moment)
 }
 
+// The offset, or that of UTC where none is there.
 #[tactic(auto, unfolding(crate::specs::NamedMoment::offset_or_utc))]
 fn offset_or_utc(offset: &OffsetParts) -> Result<UtcOffset, TryFromParsed>
     ensures { Gives (λ o. o) resolution_fault result (offset_or_utc offset.now offset.now.hour) }
@@ -66,6 +68,7 @@ fn dated_utc(parts: &MomentParts, offset: &OffsetParts) -> Result<UtcDateTime, T
     Ok(utc)
 }
 
+// The instant by date, time of day and offset.
 #[tactic(auto, unfolding(crate::specs::NamedMoment::dated_timestamp))]
 fn dated_timestamp(parts: &MomentParts, offset: &OffsetParts) -> Result<Timestamp, TryFromParsed>
     ensures { Gives (λ i. i) resolution_fault result (dated_timestamp parts.now offset.now) }
