@@ -25,7 +25,7 @@ pub struct DateSource<'a> {
 }
 
 impl<'a> DateSource<'a> {
-    ghost use Rattle.std.specs.Prelude.{◌≤◌, length, IfSome};
+    ghost use Rattle.std.specs.Prelude.{◌≡◌, ◌≤◌, ℕ, List, None, length, IfSome};
     ghost use Rattle.std.specs.Option.{is_none};
     ghost use Rattle.instants_prefixes.specs.DateSource.{grammar_in, IsWithin};
     ghost use Rattle.instants_prefixes.specs.Prefix.{prefix_at};
@@ -99,7 +99,9 @@ impl<'a> DateSource<'a> {
 
     /// What the source lacks to name a moment with what is given: such a source finds no date in any line.
     pub fn lack(&self, given: &Given) -> Option<Lack>
-        ensures { result ≡ lack given.now (grammar_in self.now) }
+        ensures value { result ≡ lack given.now (grammar_in self.now) }
+        ensures finds_nothing { IfSome result
+            (λ _. (bytes : List ℕ) → prefix_at given.now (grammar_in self.now) bytes ≡ None) }
     {
         lack_of(&self.source, given)
     }
