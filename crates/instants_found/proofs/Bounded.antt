@@ -6,7 +6,7 @@ use Rattle.instants_sources.specs.Grammar.{Grammar}
 use Rattle.instants_sources.specs.Tried.{nodes_in, tried_by}
 use Rattle.instants_sources.proofs.FewNodes.{tried_by-le}
 use Rattle.instants_prefixes.specs.Reading.{text_for, window}
-use Rattle.instants_prefixes.proofs.PrefixesAt.{text_within}
+use Rattle.instants_prefixes.proofs.Windows.{text_within}
 use Rattle.instants_found.specs.Tried.{tried_at, tried_from, nodes_of}
 
 at_most : (sources : List Grammar) (bytes : List ℕ) → tried_at sources bytes ≤ nodes_of sources

@@ -20,9 +20,6 @@ next_counted p tree xs i x lt e passes = ap (prefix_len p) (cut tree xs i x lt e
 pub stops_counted : {X : Type 0} (p : Tree → Bool) (tree : X → Tree) (xs : List X) (i : ℕ) (x : X) → i < length xs → x ≡ get_or xs i x → p (tree x) ≡ false → count_from p tree xs i ≡ 0
 stops_counted p tree xs i x lt e stops = ap (prefix_len p) (cut tree xs i x lt e) ∙ rw stops refl
 
-pub all_counted : {X : Type 0} (p : Tree → Bool) (tree : X → Tree) (xs : List X) (i : ℕ) → length xs ≤ i → count_from p tree xs i ≡ 0
-all_counted p tree xs i le = rw (drop_all i xs le) refl
-
 -- ---- at the end
 
 pub one_less : {X : Type 0} (p : Tree → Bool) (tree : X → Tree) (xs : List X) (n : ℕ) (x : X) → 0 < n → n ≤ length xs → x ≡ get_or xs (n - 1) x → p (tree x) ≡ true → suffix_len p (take n (map tree xs)) ≡ 1 + suffix_len p (take (n - 1) (map tree xs))

@@ -17,7 +17,5 @@ pub mod Planned
 pub mod NoneNamed
 pub mod Windows
 pub mod RuledOut
-pub mod NothingSaid
-pub mod Nothing
 pub mod Erased
 pub mod Unnamed

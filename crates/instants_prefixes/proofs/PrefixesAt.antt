@@ -5,7 +5,7 @@ use Rattle.std.specs.Char.{is_ascii_alphabetic, is_ascii_whitespace}
 use Rattle.std.specs.List.{prefix_len}
 use Rattle.std.proofs.lemmas.List.{length-take}
 use Rattle.std.proofs.lemmas.List.Sums.{prefix_len-le-length}
-use Rattle.base.specs.Bytes.{space, lower_z}
+use Rattle.base.specs.Bytes.{space}
 use Rattle.datetime_wall.specs.Wall.{Shown}
 use Rattle.description_items.specs.Tree.{Tree, listed}
 use Rattle.parsing_components.specs.Component.{reads_component, reads_component_v3}
@@ -14,7 +14,6 @@ use Rattle.parsing_record.specs.Record.{empty}
 use Rattle.parsing_record.specs.Reads.{Language, reading_of_all}
 use Rattle.instants_sources.specs.Grammar.{Grammar, Items, V3, Rfc2822, Rfc3339, Iso8601}
 use Rattle.instants_edges.specs.Pieces.{blanks, trimmed_length, zone_length}
-use Rattle.instants_edges.specs.Text.{iso_text, mail_text, is_stop, is_ut, is_letter_alone, is_letter}
 use Rattle.instants_prefixes.specs.DateSource.{IsWithin}
 use Rattle.instants_prefixes.specs.Ends.{LeavesRest}
 use Rattle.instants_prefixes.specs.Prefix.{prefix_at, prefix_in, with_lengths}
@@ -101,36 +100,6 @@ lengths_within (V3 tree) text rest = by_within reads_component_v3 text (items_of
 lengths_within Rfc2822 text rest = whole_within text (length text - length rest)
 lengths_within Rfc3339 text rest = whole_within text (length text - length rest)
 lengths_within Iso8601 text rest = whole_within text (length text - length rest)
-
-if_iso : (b : Bool) (byte : ℕ) (after others : List ℕ) → length after ≤ length others → length (if b then [] else byte ∷ after) ≤ length (byte ∷ others)
-if_iso true byte after others le = omega arith
-if_iso false byte after others le = omega (arith, le)
-
-iso_within : (bytes : List ℕ) → length (iso_text bytes) ≤ length bytes
-unfolding iso_text
-iso_within [] = omega arith
-iso_within (byte ∷ after) = if_iso (is_stop byte after) byte (iso_text after) after (iso_within after)
-
-if_mail : (a b c d : Bool) (byte : ℕ) (after others : List ℕ) → length after ≤ length others → length (if a then byte ∷ take 1 others else if b then (if c then byte ∷ [] else []) else if d then [] else byte ∷ after) ≤ length (byte ∷ others)
-if_mail true b c d byte after others le = omega (arith, length-take 1 others)
-if_mail false true true d byte after others le = omega arith
-if_mail false true false d byte after others le = omega arith
-if_mail false false c true byte after others le = omega arith
-if_mail false false c false byte after others le = omega (arith, le)
-
-mail_within : (before : ℕ) (bytes : List ℕ) → length (mail_text before bytes) ≤ length bytes
-unfolding mail_text
-mail_within before [] = omega arith
-mail_within before (byte ∷ after) = if_mail (is_ut before byte after) (is_letter_alone before byte after) (is_letter lower_z byte) (byte == 40) byte (mail_text byte after) after (mail_within byte after)
-
--- a source is given no more than the bytes within the window
-pub text_within : (grammar : Grammar) (bytes : List ℕ) → length (text_for grammar bytes) ≤ length (take 256 bytes)
-unfolding text_for
-text_within (Items items) bytes = omega arith
-text_within (V3 tree) bytes = omega arith
-text_within Rfc2822 bytes = mail_within 0 (take 256 bytes)
-text_within Rfc3339 bytes = omega arith
-text_within Iso8601 bytes = iso_within (take 256 bytes)
 
 pub prefix_within : (grammar : Grammar) (text : List ℕ) (moment : Shown) (rest : List ℕ) → IsWithin text (with_lengths text moment rest (lengths grammar text rest))
 prefix_within grammar text moment rest =

@@ -5,7 +5,7 @@ use Rattle.std.specs.Result.{result_ok}
 use Rattle.std.specs.Char.{is_ascii_digit}
 use Rattle.datetime_wall.specs.Wall.{Shown}
 use Rattle.description_items.specs.Modern.{modern}
-use Rattle.description_items.specs.Tree.{Tree, listed}
+use Rattle.description_items.specs.Tree.{Tree, Compound, listed}
 use Rattle.parsing_combinator.specs.Fault.{insufficient}
 use Rattle.parsing_combinator.specs.Pieces.{digits}
 use Rattle.parsing_components.specs.Component.{reads_component, reads_component_v3}
@@ -14,7 +14,7 @@ use Rattle.parsing_rfc3339.specs.Reading as rfc3339
 use Rattle.parsing_plan.specs.Plan.{NamesPrefix}
 use Rattle.parsing_record.specs.Meaning.{Answer, Meaning}
 use Rattle.parsing_record.specs.Record.{Record, empty}
-use Rattle.parsing_record.specs.Reads.{reading, reading_of_all}
+use Rattle.parsing_record.specs.Reads.{Language, reads, reading, reading_of_all}
 use Rattle.parsing_record.specs.Parts.{moment_parts, offset_parts}
 use Rattle.parsing_record.specs.Whole.{moment_named}
 use Rattle.instants_sources.specs.Grammar.{Grammar, Items, V3, Rfc3339}
@@ -23,9 +23,9 @@ use Rattle.instants_prefixes.specs.Contents.{is_offset_part, is_placing, AreCont
 use Rattle.instants_prefixes.specs.declared.contents.Contents.{Contents}
 use Rattle.instants_prefixes.specs.Given.{Given, moment_of, moment_in, completed, with_offset, with_year, with_time, has_no_year, has_no_time}
 use Rattle.instants_prefixes.specs.Named.{prefix_by, kept_if}
-use Rattle.instants_prefixes.specs.Reading.{has, any_has, if_likely, prefix_of, has_unix_time, prefix_named}
-use Rattle.instants_prefixes.proofs.Commutes.{Commutes, changed, neither_left, neither_right, tree_commutes, in_turn_commutes}
-use Rattle.instants_prefixes.proofs.Spared.{untimed, unplaced, placed, untimed_spared, unplaced_spared, hour_spared, placed_spared}
+use Rattle.instants_prefixes.specs.Reading.{has, if_likely, prefix_of, has_unix_time, prefix_named}
+use Rattle.instants_prefixes.proofs.Commutes.{Commutes, changed, neither_left, neither_right, tree_commutes}
+use Rattle.instants_prefixes.proofs.Spared.{Erased, untimed, unplaced, placed, spares, spares_v3, spares_parts}
 use Rattle.instants_prefixes.proofs.NamedAlone.{named_given, named_alone, each_year, no_year, no_offset, without_offset, completed_same}
 use Rattle.instants_prefixes.proofs.OutOfRange.{same_hour, unnamed}
 
@@ -126,49 +126,26 @@ unplaced_read given b (Err f) is none untimed = refl
 pub none_placed : (given : Given) (b : Bool) (m : Meaning) (text : List ℕ) → given.offset ≡ None → SparesPlace m → prefix_by b given (m empty text) ≡ None
 none_placed given b m text is spares = unplaced_read given b (m empty text) is (spares.unplaced empty text) (spares.untimed empty text)
 
--- ---- descriptions
-
-pub items_spare_offset : (items : List Tree) → any_has (λ c. is_offset_part (modern c)) (listed items) ≡ false → SparesOffset (reading_of_all reads_component (listed items))
-items_spare_offset items free = record {
-  placed = λ hour minute. in_turn_commutes (placed hour minute) reads_component _ (placed_spared hour minute).0 (listed items) free;
-  unplaced = in_turn_commutes unplaced reads_component _ hour_spared.0 (listed items) free;
-}
-
-pub tree_spares_offset : (tree : Tree) → has (λ c. is_offset_part (modern c)) tree ≡ false → SparesOffset (reading reads_component_v3 tree)
-tree_spares_offset tree free = record {
-  placed = λ hour minute. tree_commutes (placed hour minute) reads_component_v3 _ (placed_spared hour minute).1 tree free;
-  unplaced = tree_commutes unplaced reads_component_v3 _ hour_spared.1 tree free;
-}
-
-pub items_spare_place : (items : List Tree) → any_has (λ c. is_placing (modern c)) (listed items) ≡ false → SparesPlace (reading_of_all reads_component (listed items))
-items_spare_place items free = record {
-  unplaced = in_turn_commutes unplaced reads_component _ unplaced_spared.0 (listed items) free;
-  untimed = in_turn_commutes untimed reads_component _ untimed_spared.0 (listed items) free;
-}
-
-pub tree_spares_place : (tree : Tree) → has (λ c. is_placing (modern c)) tree ≡ false → SparesPlace (reading reads_component_v3 tree)
-tree_spares_place tree free = record {
-  unplaced = tree_commutes unplaced reads_component_v3 _ unplaced_spared.1 tree free;
-  untimed = tree_commutes untimed reads_component_v3 _ untimed_spared.1 tree free;
-}
-
 -- ---- what the kinds that stand in a description say of its reading
 
 pub record ReadsAs (m : Meaning) (contents : Contents) : Type 0 where
   pub place : contents.is_placed ≡ false → SparesPlace m
   pub offset : contents.has_offset_part ≡ false → SparesOffset m
 
+tree_reads : (language : Language) → Erased language → (tree : Tree) (contents : Contents) → has (λ c. is_placing (modern c)) tree ≡ contents.is_placed → has (λ c. is_offset_part (modern c)) tree ≡ contents.has_offset_part → ReadsAs (reading language tree) contents
+tree_reads language erased tree contents placing part =
+    let spares = spares_parts language erased in
+    record {
+      place = λ e. record { unplaced = tree_commutes unplaced language _ spares.place tree (placing ∙ e); untimed = tree_commutes untimed language _ spares.time tree (placing ∙ e) };
+      offset = λ e. record { placed = λ hour minute. tree_commutes (placed hour minute) language _ (spares.offset hour minute) tree (part ∙ e); unplaced = tree_commutes unplaced language _ spares.hour tree (part ∙ e) };
+    }
+
 pub items_read_as : (items : List Tree) (contents : Contents) → AreContents (Items items) contents → ReadsAs (reading_of_all reads_component (listed items)) contents
-items_read_as items contents are = record {
-  place = λ e. items_spare_place items (are.placing ∙ e);
-  offset = λ e. items_spare_offset items (are.offset_part ∙ e);
-}
+unfolding reads
+items_read_as items contents are = tree_reads reads_component spares (Compound (listed items)) contents are.placing are.offset_part
 
 pub tree_reads_as : (tree : Tree) (contents : Contents) → AreContents (V3 tree) contents → ReadsAs (reading reads_component_v3 tree) contents
-tree_reads_as tree contents are = record {
-  place = λ e. tree_spares_place tree (are.placing ∙ e);
-  offset = λ e. tree_spares_offset tree (are.offset_part ∙ e);
-}
+tree_reads_as tree contents are = tree_reads reads_component_v3 spares_v3 tree contents are.placing are.offset_part
 
 pub items_prefix : (given : Given) (items : List Tree) (contents : Contents) (text : List ℕ) → AreContents (Items items) contents → prefix_named given (Items items) text ≡ prefix_by contents.has_unix_time given (reading_of_all reads_component (listed items) empty text)
 unfolding prefix_named

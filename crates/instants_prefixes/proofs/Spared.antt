@@ -23,10 +23,18 @@ put_each : (u : Record → Record) (x : Result (Read × List ℕ) Fault) → Eac
 put_each u (Ok prefix) h r = ap (λ (s : Record). Ok (s, prefix.1)) (h r)
 put_each u (Err f) h r = refl
 
-pub spares : (u : Record → Record) (kind : Component → Bool) → ((c : Component) → kind c ≡ false → Can (Untouched u) (modern c)) → Spares u reads_component kind
+-- components that are not of a kind touch nothing of what a change takes away
+abbrev pub Erases : (Record → Record) → (Component → Bool) → Type 0
+Erases u kind = (c : Component) → kind c ≡ false → Can (Untouched u) c
+
+-- nor does a language
+abbrev pub Erased : Language → Type 0
+Erased language = (u : Record → Record) (kind : Component → Bool) → ((c : Component) → kind c ≡ false → Can (Untouched u) (modern c)) → Spares u language kind
+
+pub spares : Erased reads_component
 spares u kind each c other r bytes = put_each u (reads_component c bytes) (component_each (Untouched u) c (each c other) bytes) r
 
-pub spares_v3 : (u : Record → Record) (kind : Component → Bool) → ((c : Component) → kind c ≡ false → Can (Untouched u) (modern c)) → Spares u reads_component_v3 kind
+pub spares_v3 : Erased reads_component_v3
 spares_v3 u kind each c other r bytes = put_each u (reads_component_v3 c bytes) (component_each_v3 (Untouched u) c (each c other) bytes) r
 
 -- ---- Unix time
@@ -35,7 +43,7 @@ spares_v3 u kind each c other r bytes = put_each u (reads_component_v3 c bytes) 
 abbrev pub untimed : Record → Record
 untimed r = record r { unix_timestamp_nanos = None }
 
-can_untimed : (c : Component) → is_unix_time c ≡ false → Can (Untouched untimed) c
+pub can_untimed : Erases untimed is_unix_time
 can_untimed (component.UnixTimestampSecond m) e said r = absurd cc
 can_untimed (component.UnixTimestampMillisecond m) e said r = absurd cc
 can_untimed (component.UnixTimestampMicrosecond m) e said r = absurd cc
@@ -48,7 +56,7 @@ can_untimed _ e said r = refl
 abbrev pub unplaced : Record → Record
 unplaced r = record r { offset_hour = None }
 
-can_unplaced : (c : Component) → is_offset_hour c ≡ false → Can (Untouched unplaced) c
+pub can_unplaced : Erases unplaced is_offset_hour
 can_unplaced (component.OffsetHour m) e said r = absurd cc
 can_unplaced _ e said r = refl
 
@@ -60,36 +68,25 @@ no_hour _ e = refl
 abbrev pub placed : ℤ → ℤ → Record → Record
 placed hour minute r = record r { offset_hour = Some hour; offset_minute = Some minute }
 
-can_placed : (hour minute : ℤ) (c : Component) → is_offset_part c ≡ false → Can (Untouched (placed hour minute)) c
+can_placed : (hour minute : ℤ) → Erases (placed hour minute) is_offset_part
 can_placed hour minute (component.OffsetHour m) e said r = absurd cc
 can_placed hour minute (component.OffsetMinute m) e said r = absurd cc
 can_placed hour minute (component.OffsetSecond m) e said r = absurd cc
 can_placed hour minute _ e said r = refl
 
--- ---- both languages
+-- ---- each language
 
--- what holds of each language
-abbrev pub InBoth : (Language → Type 0) → Type 0
-InBoth P = P reads_component × P reads_component_v3
+-- where nothing places a moment, and where no part of an offset stands
+pub record SparesParts (language : Language) : Type 0 where
+  pub time : Spares untimed language (λ c. is_placing (modern c))
+  pub place : Spares unplaced language (λ c. is_placing (modern c))
+  pub hour : Spares unplaced language (λ c. is_offset_part (modern c))
+  pub offset : (hour minute : ℤ) → Spares (placed hour minute) language (λ c. is_offset_part (modern c))
 
--- where nothing places a moment
-pub untimed_spared : InBoth (λ language. Spares untimed language (λ c. is_placing (modern c)))
-untimed_spared =
-    let each : (c : Component) → is_placing (modern c) ≡ false → Can (Untouched untimed) (modern c) = λ c other. can_untimed (modern c) (neither_right (is_offset_hour (modern c)) (is_unix_time (modern c)) other) in
-    (spares untimed (λ c. is_placing (modern c)) each, spares_v3 untimed (λ c. is_placing (modern c)) each)
-
-pub unplaced_spared : InBoth (λ language. Spares unplaced language (λ c. is_placing (modern c)))
-unplaced_spared =
-    let each : (c : Component) → is_placing (modern c) ≡ false → Can (Untouched unplaced) (modern c) = λ c other. can_unplaced (modern c) (neither_left (is_offset_hour (modern c)) (is_unix_time (modern c)) other) in
-    (spares unplaced (λ c. is_placing (modern c)) each, spares_v3 unplaced (λ c. is_placing (modern c)) each)
-
--- where no part of an offset stands
-pub hour_spared : InBoth (λ language. Spares unplaced language (λ c. is_offset_part (modern c)))
-hour_spared =
-    let each : (c : Component) → is_offset_part (modern c) ≡ false → Can (Untouched unplaced) (modern c) = λ c other. can_unplaced (modern c) (no_hour (modern c) other) in
-    (spares unplaced (λ c. is_offset_part (modern c)) each, spares_v3 unplaced (λ c. is_offset_part (modern c)) each)
-
-pub placed_spared : (hour minute : ℤ) → InBoth (λ language. Spares (placed hour minute) language (λ c. is_offset_part (modern c)))
-placed_spared hour minute =
-    let each : (c : Component) → is_offset_part (modern c) ≡ false → Can (Untouched (placed hour minute)) (modern c) = λ c other. can_placed hour minute (modern c) other in
-    (spares (placed hour minute) (λ c. is_offset_part (modern c)) each, spares_v3 (placed hour minute) (λ c. is_offset_part (modern c)) each)
+pub spares_parts : (language : Language) → Erased language → SparesParts language
+spares_parts language spares = record {
+  time = spares untimed (λ c. is_placing (modern c)) (λ c other. can_untimed (modern c) (neither_right (is_offset_hour (modern c)) (is_unix_time (modern c)) other));
+  place = spares unplaced (λ c. is_placing (modern c)) (λ c other. can_unplaced (modern c) (neither_left (is_offset_hour (modern c)) (is_unix_time (modern c)) other));
+  hour = spares unplaced (λ c. is_offset_part (modern c)) (λ c other. can_unplaced (modern c) (no_hour (modern c) other));
+  offset = λ hour minute. spares (placed hour minute) (λ c. is_offset_part (modern c)) (λ c other. can_placed hour minute (modern c) other);
+}

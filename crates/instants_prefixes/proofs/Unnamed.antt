@@ -14,7 +14,8 @@ use Rattle.instants_prefixes.specs.Given.{Given, Years, Unknown, In, Near, momen
 use Rattle.instants_prefixes.specs.Lacks.{Lack, Century, Year, Day, Hour, Offset, stands, is_known, has_year, has_day, has_hour, has_offset, lack, is_year, is_century, is_last_two, is_month, is_day, is_ordinal, is_week, is_weekday, is_hour, is_offset_hour}
 use Rattle.instants_prefixes.specs.Reading.{reading_of, may_begin, prefix_named, prefix_of, if_likely, is_unix_time}
 use Rattle.instants_prefixes.proofs.Commutes.{neither_left, neither_right}
-use Rattle.instants_prefixes.proofs.Erased.{IsRead, unread_unix, unread_year, unread_century, unread_last_two, unread_month, unread_day, unread_ordinal, unread_week, unread_weekday, unread_hour, unread_offset}
+use Rattle.instants_prefixes.proofs.Erased.{IsRead, unread, year_erased, century_erased, last_two_erased, month_erased, day_erased, ordinal_erased, week_erased, weekday_erased, hour_erased}
+use Rattle.instants_prefixes.proofs.Spared.{can_untimed, can_unplaced}
 use Rattle.instants_prefixes.proofs.NamedAlone.{no_year}
 use Rattle.instants_prefixes.proofs.OutOfRange.{none_of_year, none_of_time, without_year, without_hour}
 use Rattle.instants_prefixes.proofs.ReadPrefixes.{unplaced_in}
@@ -142,14 +143,14 @@ unfolding ReadsUnnamed moment_of
 without_years given grammar text unix lacking r rest read =
     let parts = neither_left (stands is_year grammar || (stands is_century grammar && stands is_last_two grammar)) (is_known given.years) lacking in
     let none_known = unknown given.years (neither_right (stands is_year grammar || (stands is_century grammar && stands is_last_two grammar)) (is_known given.years) lacking) in
-    let year = unread_year grammar text r rest read (neither_left (stands is_year grammar) (stands is_century grammar && stands is_last_two grammar) parts) in
+    let year = unread _ _ year_erased refl grammar text r rest read (neither_left (stands is_year grammar) (stands is_century grammar && stands is_last_two grammar) parts) in
     let split = lost_both (stands is_century grammar) (stands is_last_two grammar) (neither_right (stands is_year grammar) (stands is_century grammar && stands is_last_two grammar) parts) in
     let civil : (r.year_century ≡ None) ⊎ (r.year_last_two ≡ None) =
-    elim split [ inl c ↦ inl (ap (λ (x : Record). x.year_century) (unread_century grammar text r rest read c)) | inr l ↦ inr (ap (λ (x : Record). x.year_last_two) (unread_last_two grammar text r rest read l)) ] in
+    elim split [ inl c ↦ inl (ap (λ (x : Record). x.year_century) (unread _ _ century_erased refl grammar text r rest read c)) | inr l ↦ inr (ap (λ (x : Record). x.year_last_two) (unread _ _ last_two_erased refl grammar text r rest read l)) ] in
     let week : (r.iso_year_century ≡ None) ⊎ (r.iso_year_last_two ≡ None) =
-    elim split [ inl c ↦ inl (ap (λ (x : Record). x.iso_year_century) (unread_century grammar text r rest read c)) | inr l ↦ inr (ap (λ (x : Record). x.iso_year_last_two) (unread_last_two grammar text r rest read l)) ] in
+    elim split [ inl c ↦ inl (ap (λ (x : Record). x.iso_year_century) (unread _ _ century_erased refl grammar text r rest read c)) | inr l ↦ inr (ap (λ (x : Record). x.iso_year_last_two) (unread _ _ last_two_erased refl grammar text r rest read l)) ] in
     ap (λ years. moment_of given years r) none_known
-    ∙ year_unread given r (unread_unix grammar text r rest read unix) (yearless (date_parts r) (ap (λ (x : Record). x.year) year) civil) (weekless (date_parts r) (ap (λ (x : Record). x.iso_year) year) week)
+    ∙ year_unread given r (ap (λ (x : Record). x.unix_timestamp_nanos) (unread _ _ can_untimed refl grammar text r rest read unix)) (yearless (date_parts r) (ap (λ (x : Record). x.year) year) civil) (weekless (date_parts r) (ap (λ (x : Record). x.iso_year) year) week)
 
 without_days : (given : Given) (grammar : Grammar) (text : List ℕ) → stands is_unix_time grammar ≡ false → has_day grammar ≡ false → ReadsUnnamed given grammar text
 unfolding ReadsUnnamed
@@ -157,32 +158,32 @@ without_days given grammar text unix lacking r rest read =
     let prefix = neither_left ((stands is_month grammar && stands is_day grammar) || stands is_ordinal grammar) (stands is_week grammar && stands is_weekday grammar) lacking in
     let weeks = lost_both (stands is_week grammar) (stands is_weekday grammar) (neither_right ((stands is_month grammar && stands is_day grammar) || stands is_ordinal grammar) (stands is_week grammar && stands is_weekday grammar) lacking) in
     let days = lost_both (stands is_month grammar) (stands is_day grammar) (neither_left (stands is_month grammar && stands is_day grammar) (stands is_ordinal grammar) prefix) in
-    let ordinal = unread_ordinal grammar text r rest read (neither_right (stands is_month grammar && stands is_day grammar) (stands is_ordinal grammar) prefix) in
-    let day : (r.month ≡ None) ⊎ (r.day ≡ None) = elim days [ inl m ↦ inl (unread_month grammar text r rest read m) | inr d ↦ inr (unread_day grammar text r rest read d) ] in
+    let ordinal = ap (λ (x : Record). x.ordinal) (unread _ _ ordinal_erased refl grammar text r rest read (neither_right (stands is_month grammar && stands is_day grammar) (stands is_ordinal grammar) prefix)) in
+    let day : (r.month ≡ None) ⊎ (r.day ≡ None) = elim days [ inl m ↦ inl (ap (λ (x : Record). x.month) (unread _ _ month_erased refl grammar text r rest read m)) | inr d ↦ inr (ap (λ (x : Record). x.day) (unread _ _ day_erased refl grammar text r rest read d)) ] in
     let week : HasNoWeek (date_parts r) =
     elim weeks [
-      | inl w ↦ let same = unread_week grammar text r rest read w in inl (ap (λ (x : Record). x.iso_week_number) same, ap (λ (x : Record). x.sunday_week_number) same, ap (λ (x : Record). x.monday_week_number) same)
-      | inr d ↦ inr (unread_weekday grammar text r rest read d)
+      | inl w ↦ let same = unread _ _ week_erased refl grammar text r rest read w in inl (ap (λ (x : Record). x.iso_week_number) same, ap (λ (x : Record). x.sunday_week_number) same, ap (λ (x : Record). x.monday_week_number) same)
+      | inr d ↦ inr (ap (λ (x : Record). x.weekday) (unread _ _ weekday_erased refl grammar text r rest read d))
     ] in
-    no_year given given.years r (λ year. without_year given.offset year given.time r (unread_unix grammar text r rest read unix) (insufficient, if_day (has_no_year r) year r ordinal day week))
+    no_year given given.years r (λ year. without_year given.offset year given.time r (ap (λ (x : Record). x.unix_timestamp_nanos) (unread _ _ can_untimed refl grammar text r rest read unix)) (insufficient, if_day (has_no_year r) year r ordinal day week))
 
 without_hours : (given : Given) (grammar : Grammar) (text : List ℕ) → stands is_unix_time grammar ≡ false → has_hour given grammar ≡ false → ReadsUnnamed given grammar text
 unfolding ReadsUnnamed
 without_hours given grammar text unix lacking r rest read =
-    let hour = unread_hour grammar text r rest read (neither_left (stands is_hour grammar) (not (is_none given.time)) lacking) in
+    let hour = unread _ _ hour_erased refl grammar text r rest read (neither_left (stands is_hour grammar) (not (is_none given.time)) lacking) in
     let none = not_some given.time (neither_right (stands is_hour grammar) (not (is_none given.time)) lacking) in
     let whole = ap (λ (x : Record). x.hour_24) hour in
     let half = ap (λ (x : Record). x.hour_12) hour in
-    let unread : (leap : Bool) → named_time leap (time_parts (with_time given.time r)) ≡ Err insufficient =
+    let no_hour : (leap : Bool) → named_time leap (time_parts (with_time given.time r)) ≡ Err insufficient =
     λ leap. ap (λ (time : Option ℕ). named_time leap (time_parts (with_time time r))) none ∙ ap (λ (x : Record). named_time leap (time_parts x)) (none_of_time r) ∙ hour_unread r whole half leap in
-    no_year given given.years r (λ year. without_hour given.offset year given.time r insufficient (unread_unix grammar text r rest read unix) unread)
+    no_year given given.years r (λ year. without_hour given.offset year given.time r insufficient (ap (λ (x : Record). x.unix_timestamp_nanos) (unread _ _ can_untimed refl grammar text r rest read unix)) no_hour)
 
 without_offsets : (given : Given) (grammar : Grammar) (text : List ℕ) → stands is_unix_time grammar ≡ false → has_offset given grammar ≡ false → ReadsUnnamed given grammar text
 unfolding ReadsUnnamed
 without_offsets given grammar text unix lacking r rest read =
-    let hour = unread_offset grammar text r rest read (neither_left (stands is_offset_hour grammar) (not (is_none given.offset)) lacking) in
+    let hour = ap (λ (x : Record). x.offset_hour) (unread _ _ can_unplaced refl grammar text r rest read (neither_left (stands is_offset_hour grammar) (not (is_none given.offset)) lacking)) in
     let none = not_some given.offset (neither_right (stands is_offset_hour grammar) (not (is_none given.offset)) lacking) in
-    no_year given given.years r (unplaced_in given r none hour (unread_unix grammar text r rest read unix))
+    no_year given given.years r (unplaced_in given r none hour (ap (λ (x : Record). x.unix_timestamp_nanos) (unread _ _ can_untimed refl grammar text r rest read unix)))
 
 -- a source that lacks something names nothing
 pub finds_nothing : (given : Given) (grammar : Grammar) (what : Lack) → lack given grammar ≡ Some what → (text : List ℕ) → prefix_named given grammar text ≡ None

@@ -2,7 +2,8 @@ use Rattle.std.proofs.Common.{◌≤◌, length, Some, None, sym, ap, subst, ◌
 use Rattle.std.proofs.lemmas.List.{length-take}
 use Rattle.instants_prefixes.specs.DateSource.{grammar_in, IsWithin}
 use Rattle.instants_prefixes.specs.declared.prefix.Prefix.{Prefix}
-use Rattle.instants_prefixes.proofs.PrefixesAt.{prefix_at_is, named_leaves, within_bytes, prefix_within, text_within}
+use Rattle.instants_prefixes.proofs.PrefixesAt.{prefix_at_is, named_leaves, within_bytes, prefix_within}
+use Rattle.instants_prefixes.proofs.Windows.{text_within}
 use Rattle.instants_prefixes.proofs.date_source.DateSource.read_any.Goals as goal
 
 pub returns-in-None-clause-prefix : goal.returns-in-None-clause-prefix
