@@ -20,31 +20,28 @@ names_something : (given : Given) (grammar : Grammar) (bytes : List ℕ) (prefix
 unfolding prefix_at
 names_something given grammar bytes prefix e = named_there grammar (text_for grammar bytes) (prefix_named given grammar (text_for grammar bytes)) prefix e
 
-no_and : (a : Bool) → false ≡ (a && false)
-no_and true = refl
-no_and false = refl
-
 is_none_of : {A : Type 0} (o : Option A) → is_some o ≡ false → o ≡ None
 is_none_of None e = refl
 is_none_of (Some x) e = absurd cc
 
+pub and_false : (b : Bool) → (b && false) ≡ false
+and_false true = refl
+and_false false = refl
+
+not_needed : (says : Bool) (given without : Given) (grammar : Grammar) (bytes : List ℕ) (prefix : Prefix) → without ≡ given → prefix_at given grammar bytes ≡ Some prefix → false ≡ (says && names_nothing without grammar bytes)
+not_needed says given without grammar bytes prefix same read = rw (same, names_something given grammar bytes prefix read) (sym (and_false says))
+
 pub no_offset : (says : Bool) (given : Given) (grammar : Grammar) (bytes : List ℕ) (prefix : Prefix) → is_some given.offset ≡ false → prefix_at given grammar bytes ≡ Some prefix
     → false ≡ (says && names_nothing (without_offset given) grammar bytes)
-no_offset says given grammar bytes prefix none read =
-    let same : without_offset given ≡ given = ap (λ o. record given { offset = o }) (sym (is_none_of given.offset none)) in
-    rw (same, names_something given grammar bytes prefix read) (no_and says)
+no_offset says given grammar bytes prefix none read = not_needed says given (without_offset given) grammar bytes prefix (ap (λ o. record given { offset = o }) (sym (is_none_of given.offset none))) read
 
 pub no_time : (says : Bool) (given : Given) (grammar : Grammar) (bytes : List ℕ) (prefix : Prefix) → is_some given.time ≡ false → prefix_at given grammar bytes ≡ Some prefix
     → false ≡ (says && names_nothing (without_time given) grammar bytes)
-no_time says given grammar bytes prefix none read =
-    let same : without_time given ≡ given = ap (λ o. record given { time = o }) (sym (is_none_of given.time none)) in
-    rw (same, names_something given grammar bytes prefix read) (no_and says)
+no_time says given grammar bytes prefix none read = not_needed says given (without_time given) grammar bytes prefix (ap (λ o. record given { time = o }) (sym (is_none_of given.time none))) read
 
 pub no_year : (says : Bool) (given : Given) (grammar : Grammar) (bytes : List ℕ) (prefix : Prefix) → given.years ≡ Unknown → prefix_at given grammar bytes ≡ Some prefix
     → false ≡ (says && names_nothing (without_year given) grammar bytes)
-no_year says given grammar bytes prefix none read =
-    let same : without_year given ≡ given = ap (λ y. record given { years = y }) (sym none) in
-    rw (same, names_something given grammar bytes prefix read) (no_and says)
+no_year says given grammar bytes prefix none read = not_needed says given (without_year given) grammar bytes prefix (ap (λ y. record given { years = y }) (sym none)) read
 
 -- ---- tests
 
@@ -59,7 +56,3 @@ pub plain_read : (edge plain : Bool) → plain ≡ true → plain ≡ (true && (
 plain_read true true e = refl
 plain_read false true e = refl
 plain_read edge false e = absurd cc
-
-pub and_false : (b : Bool) → (b && false) ≡ false
-and_false true = refl
-and_false false = refl

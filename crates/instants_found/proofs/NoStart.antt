@@ -1,18 +1,15 @@
 -- Bytes at which no date of a source begins.
-use Rattle.std.proofs.Common.{◌≡◌, ◌<◌, ◌∙◌, inl, inr, ℕ, false, eqb, List, get_or, take, None, arith}
-use Rattle.std.specs.Result.{result_ok}
+use Rattle.std.proofs.Common.{◌≡◌, ◌<◌, ◌∙◌, inl, inr, ℕ, false, List, get_or, take, arith}
 use Rattle.std.specs.Char.{is_ascii_digit}
 use Rattle.std.proofs.lemmas.List.{get_or-take}
-use Rattle.base.specs.Bytes.{hyphen}
 use Rattle.description_items.specs.Tree.{Tree, listed}
 use Rattle.parsing_components.specs.Component.{reads_component, reads_component_v3}
 use Rattle.parsing_first_bytes.specs.FirstBytes.{IsRefusedAt}
 use Rattle.parsing_record.specs.Reads.{reading, reading_of_all}
-use Rattle.parsing_record.specs.Record.{Record}
-use Rattle.instants_prefixes.specs.NoPrefix.{HasNoPrefix, begins_day, begins_part}
+use Rattle.instants_prefixes.specs.NoPrefix.{begins_day, begins_part}
 use Rattle.instants_prefixes.specs.Reading.{window, text_for}
 use Rattle.instants_prefixes.proofs.ReadPrefixes.{no_digit}
-use Rattle.instants_prefixes.proofs.NoneNamed.{items_none, tree_none, hyphen_none, day_none, part_none, nothing_rfc2822, nothing_iso8601}
+use Rattle.instants_prefixes.proofs.NoneNamed.{items_none, tree_none, day_none, part_none, nothing_rfc2822, nothing_iso8601}
 use Rattle.instants_prefixes.proofs.Windows.{first_of_text}
 use Rattle.instants_sources.specs.Grammar.{Items, V3, Rfc2822, Rfc3339, Iso8601}
 use Rattle.instants_found.specs.Starts.{CannotBegin}
@@ -46,17 +43,3 @@ part_cannot byte none = λ bytes at given.
       | inl nothing ↦ rw nothing (nothing_iso8601 given)
       | inr first ↦ part_none (text_for Iso8601 bytes) (rw (first ∙ at) none) given
     ]
-
--- ---- prefixes that the first bytes rule out
-
-pub items_no_prefix : (items : List Tree) (bytes : List ℕ) → ((r : Record) → result_ok (reading_of_all reads_component (listed items) r (take window bytes)) ≡ None) → HasNoPrefix bytes (Items items)
-unfolding text_for
-items_no_prefix items bytes refused = λ given. items_none items (take window bytes) refused given
-
-pub tree_no_prefix : (tree : Tree) (bytes : List ℕ) → ((r : Record) → result_ok (reading reads_component_v3 tree r (take window bytes)) ≡ None) → HasNoPrefix bytes (V3 tree)
-unfolding text_for
-tree_no_prefix tree bytes refused = λ given. tree_none tree (take window bytes) refused given
-
-pub year_no_prefix : (bytes : List ℕ) → eqb (get_or bytes 4 0) hyphen ≡ false → HasNoPrefix bytes Rfc3339
-unfolding text_for
-year_no_prefix bytes other = λ given. hyphen_none (take window bytes) (rw (first_bytes bytes 4 (omega arith)) other) given

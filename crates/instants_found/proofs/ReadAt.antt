@@ -37,11 +37,6 @@ pub some_there : (given : Given) (line : List ℕ) (start number : ℕ) (grammar
 unfolding candidate read_at
 some_there given line start number grammar prefix e = some_of given line start number grammar (prefix_at given grammar (drop start line)) prefix e
 
--- the prefix that was read
-pub read_prefix : (grammar : Grammar) (line : List ℕ) (start : ℕ) (prefix : Prefix) (b : Bool) (other : Prefix) → Some prefix ≡ (if b then Some other else None) → prefix ≡ other
-read_prefix grammar line start prefix true other e = cc
-read_prefix grammar line start prefix false other e = absurd cc
-
 -- its date lies within the line
 pub lies_within : (line : List ℕ) (start number sources : ℕ) (prefix : Prefix) → start < length line → number < sources → IsWithin (drop start line) prefix → LiesWithin (length line) sources (found_at start number prefix)
 lies_within line start number sources prefix within few here =

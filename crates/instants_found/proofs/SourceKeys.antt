@@ -9,11 +9,11 @@ use Rattle.parsing_components.specs.Component.{reads_component, reads_component_
 use Rattle.parsing_first_bytes.specs.FirstBytes.{AreOf, rule_out}
 use Rattle.parsing_first_bytes.specs.declared.first_bytes.FirstBytes.{FirstBytes}
 use Rattle.parsing_record.specs.Reads.{reading, reading_of_all}
-use Rattle.instants_prefixes.specs.Reading.{window}
+use Rattle.instants_prefixes.specs.Reading.{window, text_for}
 use Rattle.instants_sources.specs.Grammar.{Items, V3, Rfc3339}
 use Rattle.instants_found.specs.Keys.{IsKeyOf, RuleOutShort, NeedsKey, NeedsFour}
 use Rattle.instants_found.specs.declared.key.Key.{Key}
-use Rattle.instants_found.proofs.NoStart.{items_no_prefix, tree_no_prefix, year_no_prefix}
+use Rattle.instants_prefixes.proofs.RuledOut.{items_due, tree_due, hyphen_due}
 
 pub if_some : {T : Type 0} (P Q : T → Type 0) (o : Option T) → ((x : T) → P x → Q x) → IfSome o P → IfSome o Q
 if_some P Q (Some x) f h = f x h
@@ -33,22 +33,26 @@ cut f bytes =
 
 module _ (items : List Tree) (f : FirstBytes) (are : AreOf (reading_of_all reads_component (listed items)) f) where
   pub items_key : (key : Key) → IsKeyOf f key → NeedsKey key (Items items)
-  items_key key is = λ bytes few none. items_no_prefix items bytes (are (take window bytes) (cut f bytes ∙ is bytes few none))
+  unfolding text_for
+  items_key key is = λ bytes few none. items_due items bytes (take window bytes) refl (are (take window bytes) (cut f bytes ∙ is bytes few none))
 
   pub items_four : RuleOutShort f → NeedsFour (Items items)
-  items_four is = λ bytes short. items_no_prefix items bytes (are (take window bytes) (cut f bytes ∙ is bytes short))
+  unfolding text_for
+  items_four is = λ bytes short. items_due items bytes (take window bytes) refl (are (take window bytes) (cut f bytes ∙ is bytes short))
 
 module _ (tree : Tree) (f : FirstBytes) (are : AreOf (reading reads_component_v3 tree) f) where
   pub tree_key : (key : Key) → IsKeyOf f key → NeedsKey key (V3 tree)
-  tree_key key is = λ bytes few none. tree_no_prefix tree bytes (are (take window bytes) (cut f bytes ∙ is bytes few none))
+  unfolding text_for
+  tree_key key is = λ bytes few none. tree_due tree bytes (take window bytes) refl (are (take window bytes) (cut f bytes ∙ is bytes few none))
 
   pub tree_four : RuleOutShort f → NeedsFour (V3 tree)
-  tree_four is = λ bytes short. tree_no_prefix tree bytes (are (take window bytes) (cut f bytes ∙ is bytes short))
+  unfolding text_for
+  tree_four is = λ bytes short. tree_due tree bytes (take window bytes) refl (are (take window bytes) (cut f bytes ∙ is bytes short))
 
 -- ---- RFC 3339
 
 pub year_key : NeedsKey (record { place = 4; byte = hyphen }) Rfc3339
-year_key = λ bytes few none. year_no_prefix bytes none
+year_key = λ bytes few none. hyphen_due bytes none
 
 pub year_four : NeedsFour Rfc3339
-year_four = λ bytes short. let past : get_or bytes 4 0 ≡ 0 = get_or_past bytes 4 0 (omega (arith, short)) in year_no_prefix bytes (rw past refl)
+year_four = λ bytes short. let past : get_or bytes 4 0 ≡ 0 = get_or_past bytes 4 0 (omega (arith, short)) in hyphen_due bytes (rw past refl)
