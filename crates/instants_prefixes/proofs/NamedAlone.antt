@@ -119,9 +119,6 @@ complete offset year time r has =
 
 -- ---- Unix time
 
-unix_time : (given : Option ℕ) (r : Record) → (with_time given r).unix_timestamp_nanos ≡ r.unix_timestamp_nanos
-unix_time given r = elim (has_no_time r) as (λ b. (if b then record r { hour_24 = option_map (λ minutes. minutes / 60) given; minute = option_map (λ minutes. minutes % 60) given } else r).unix_timestamp_nanos ≡ r.unix_timestamp_nanos) [ true ↦ refl | false ↦ refl ]
-
 abbrev pub SameUnix : Record → Record → Type 0
 SameUnix one other = (one.unix_timestamp_nanos ≡ other.unix_timestamp_nanos) × (one.subsecond ≡ other.subsecond)
 

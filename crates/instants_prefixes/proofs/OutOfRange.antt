@@ -66,30 +66,23 @@ if_year : (b : Bool) (year : Option ℤ) (one other : Record) → date_parts one
 if_year true year one other e = ap (λ (p : DateParts). record p { year = record p.year { year = year } }) e
 if_year false year one other e = e
 
-if_timed : (b : Bool) (time : Option ℕ) (r : Record) → date_parts (if b then record r { hour_24 = option_map (λ minutes. minutes / 60) time; minute = option_map (λ minutes. minutes % 60) time } else r) ≡ date_parts r
-if_timed true time r = refl
-if_timed false time r = refl
-
-if_timed_year : (b : Bool) (time : Option ℕ) (r : Record) → has_no_year (if b then record r { hour_24 = option_map (λ minutes. minutes / 60) time; minute = option_map (λ minutes. minutes % 60) time } else r) ≡ has_no_year r
-if_timed_year true time r = refl
-if_timed_year false time r = refl
+-- what is the same of two records is so of either
+if_same : {A : Type 0} (part : Record → A) (b : Bool) (one other : Record) → part one ≡ part other → part (if b then one else other) ≡ part other
+if_same part true one other e = e
+if_same part false one other e = refl
 
 timed_year : (time : Option ℕ) (r : Record) → has_no_year (with_time time r) ≡ has_no_year r
-timed_year time r = if_timed_year (has_no_time r) time r
+timed_year time r = if_same has_no_year (has_no_time r) (record r { hour_24 = option_map (λ minutes. minutes / 60) time; minute = option_map (λ minutes. minutes % 60) time }) r refl
 
 date_same : (offset year : Option ℤ) (time : Option ℕ) (r : Record) → date_parts (completed offset year time r) ≡ date_parts (with_year year r)
 date_same offset year time r =
     offset_date r.offset_hour offset (with_year year (with_time time r))
     ∙ ap (λ (b : Bool). date_parts (if b then record (with_time time r) { year = year } else with_time time r)) (timed_year time r)
-    ∙ if_year (has_no_year r) year (with_time time r) r (if_timed (has_no_time r) time r)
-
-if_dated : (b : Bool) (year : Option ℤ) (r : Record) → time_parts (if b then record r { year = year } else r) ≡ time_parts r
-if_dated true year r = refl
-if_dated false year r = refl
+    ∙ if_year (has_no_year r) year (with_time time r) r (if_same date_parts (has_no_time r) (record r { hour_24 = option_map (λ minutes. minutes / 60) time; minute = option_map (λ minutes. minutes % 60) time }) r refl)
 
 time_same : (offset year : Option ℤ) (time : Option ℕ) (r : Record) → time_parts (completed offset year time r) ≡ time_parts (with_time time r)
 time_same offset year time r =
-    offset_time r.offset_hour offset (with_year year (with_time time r)) ∙ if_dated (has_no_year (with_time time r)) year (with_time time r)
+    offset_time r.offset_hour offset (with_year year (with_time time r)) ∙ if_same time_parts (has_no_year (with_time time r)) (record (with_time time r) { year = year }) (with_time time r) refl
 
 -- ---- what names nothing
 
@@ -259,17 +252,10 @@ in_range_alone offset year time r =
           ∙ sym (by_unix (completed offset (year_in_range year) (time_in_range time) r) r n (completed_same offset (year_in_range year) (time_in_range time) r) e))
     ] refl
 
-if_dated_offset : (b : Bool) (year : Option ℤ) (r : Record) → (if b then record r { year = year } else r).offset_hour ≡ r.offset_hour
-if_dated_offset true year r = refl
-if_dated_offset false year r = refl
-
-if_timed_offset : (b : Bool) (time : Option ℕ) (r : Record) → (if b then record r { hour_24 = option_map (λ minutes. minutes / 60) time; minute = option_map (λ minutes. minutes % 60) time } else r).offset_hour ≡ r.offset_hour
-if_timed_offset true time r = refl
-if_timed_offset false time r = refl
-
 -- the hour of an offset is as it was read
 pub same_hour : (year : Option ℤ) (time : Option ℕ) (r : Record) → (with_year year (with_time time r)).offset_hour ≡ r.offset_hour
-same_hour year time r = if_dated_offset (has_no_year (with_time time r)) year (with_time time r) ∙ if_timed_offset (has_no_time r) time r
+same_hour year time r =
+    if_same (λ x. x.offset_hour) (has_no_year (with_time time r)) (record (with_time time r) { year = year }) (with_time time r) refl ∙ if_same (λ x. x.offset_hour) (has_no_time r) (record r { hour_24 = option_map (λ minutes. minutes / 60) time; minute = option_map (λ minutes. minutes % 60) time }) r refl
 
 -- one after the other
 pub moment_by_turns : (offset year : Option ℤ) (time : Option ℕ) (r dated whole : Record) → dated ≡ with_year (year_in_range year) (with_time (time_in_range time) r) → whole ≡ with_offset dated.offset_hour offset dated → names whole ≡ names (completed offset year time r)

@@ -54,18 +54,13 @@ hour_of offset = int_div offset (pos 3600)
 abbrev minute_of : ℤ → ℤ
 minute_of offset = int_rem (int_div offset (pos 60)) (pos 60)
 
-place_time : (b : Bool) (hour minute : ℤ) (time : Option ℕ) (r : Record)
-    → (if b then record (placed hour minute r) { hour_24 = option_map (λ minutes. minutes / 60) time; minute = option_map (λ minutes. minutes % 60) time } else placed hour minute r)
-    ≡ placed hour minute (if b then record r { hour_24 = option_map (λ minutes. minutes / 60) time; minute = option_map (λ minutes. minutes % 60) time } else r)
-place_time true hour minute time r = refl
-place_time false hour minute time r = refl
-
-place_year : (b : Bool) (hour minute : ℤ) (year : Option ℤ) (r : Record) → (if b then record (placed hour minute r) { year = year } else placed hour minute r) ≡ placed hour minute (if b then record r { year = year } else r)
-place_year true hour minute year r = refl
-place_year false hour minute year r = refl
+if_moved : (u : Record → Record) (b : Bool) (one other : Record) → (if b then u one else u other) ≡ u (if b then one else other)
+if_moved u true one other = refl
+if_moved u false one other = refl
 
 place_both : (hour minute : ℤ) (year : Option ℤ) (time : Option ℕ) (r : Record) → with_year year (with_time time (placed hour minute r)) ≡ placed hour minute (with_year year (with_time time r))
-place_both hour minute year time r = ap (with_year year) (place_time (has_no_time r) hour minute time r) ∙ place_year (has_no_year (with_time time r)) hour minute year (with_time time r)
+place_both hour minute year time r =
+    ap (with_year year) (if_moved (placed hour minute) (has_no_time r) (record r { hour_24 = option_map (λ minutes. minutes / 60) time; minute = option_map (λ minutes. minutes % 60) time }) r) ∙ if_moved (placed hour minute) (has_no_year (with_time time r)) (record (with_time time r) { year = year }) (with_time time r)
 
 placed_named : (given : Given) (offset : ℤ) (r : Record) (moment : Shown) → given.offset ≡ Some offset → r.offset_hour ≡ None → moment_named (placed (hour_of offset) (minute_of offset) r) ≡ Ok moment → (year : Option ℤ) → moment_in given year r ≡ Some moment
 placed_named given offset r moment is none e year =
