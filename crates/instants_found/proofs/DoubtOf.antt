@@ -109,7 +109,6 @@ module _ (limit : ℕ) (given : Given) (sources : List Grammar) (line : List ℕ
 
   at_first : IsFirstPlace given sources line (min limit (length line)) → found limit given sources line ≡ Some Doubtful → HasDoubt limit given sources line
   at_first it e =
-      let before = it.before in
       let here = found_here limit given sources line it.place it.date it.before it.least (sym it.has) in
       let both : Some it.date ≡ Some Doubtful = here ∙ e in
       let doubtful : it.date ≡ Doubtful = cc in
@@ -120,7 +119,7 @@ module _ (limit : ℕ) (given : Given) (sources : List Grammar) (line : List ℕ
       let P : Option Candidate → Type 0 = λ o. IsBestOf given line it.place 0 sources o in
       let never : NoneWhole given line it.place 0 sources = subst P none (best_of given line it.place 0 sources) in
       let long = length-take limit line in
-      doubt_there it.place read.number read.date (first_is given sources line (take limit line) it.place it.date (omega (arith, before, long)) it.least it.has) read.here (not_whole read.date.is_whole (never read.date read.number read.here))
+      doubt_there it.place read.number read.date (first_is given sources line (take limit line) it.place it.date (omega (arith, it.before, long)) it.least it.has) read.here (not_whole read.date.is_whole (never read.date read.number read.here))
 
   pub has_doubt : found limit given sources line ≡ Some Doubtful → HasDoubt limit given sources line
   has_doubt e =

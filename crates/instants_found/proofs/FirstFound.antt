@@ -34,9 +34,7 @@ module _ (given : Given) (sources : List Grammar) (line : List ℕ) where
   none_read : (place number : ℕ) (date : Candidate) → at_place given sources line place ≡ None → IsReadAt given sources line place number date → ⊥
   unfolding at_place
   none_read place number date none read =
-      let edge = read.edge in
-      let bare = rw edge at none in
-      never_read given line place 0 sources number date (read_there place number date read) (nothing_there (candidates given line place 0 sources) bare)
+      never_read given line place 0 sources number date (read_there place number date read) (nothing_there (candidates given line place 0 sources) (rw read.edge at none))
 
   -- what is found at a place that is no place inside a word
   pub edge_there : (place : ℕ) (date : Finding) → at_place given sources line place ≡ Some date → (is_edge line place ≡ true) × (of_candidates (candidates given line place 0 sources) ≡ Some date)
@@ -114,12 +112,11 @@ module _ (given : Given) (sources : List Grammar) (line : List ℕ) where
 
   at_first : (limit : ℕ) → IsFirstPlace (min limit (length line)) → IsFound limit given sources line (found limit given sources line)
   at_first limit it =
-      let before = it.before in
       let there = found_here limit given sources line it.place it.date it.before it.least (sym it.has) in
       let edge = edge_there it.place it.date it.has in
       let (one, others, are, is) = something_there (candidates given line it.place 0 sources) it.date edge.1 in
       let P : Option Finding → Type 0 = λ f. IsFound limit given sources line f in
-      subst P there (of_place limit it.place it.date (omega (arith, before)) (omega (arith, before)) edge.0 (none_before it.place (omega (arith, before)) it.least)
+      subst P there (of_place limit it.place it.date (omega (arith, it.before)) (omega (arith, it.before)) edge.0 (none_before it.place (omega (arith, it.before)) it.least)
       (some_read given line it.place 0 sources one others are) (longest (candidates given line it.place 0 sources)) (best_of given line it.place 0 sources) is)
 
   nowhere : (limit : ℕ) → NothingBefore given sources line (min limit (length line)) → IsFound limit given sources line (found limit given sources line)
@@ -127,8 +124,7 @@ module _ (given : Given) (sources : List Grammar) (line : List ℕ) where
       let none = found_nothing limit given sources line nothing in
       let P : Option Finding → Type 0 = λ f. IsFound limit given sources line f in
       let before : NoneBefore given sources line limit = λ earlier number date lt read.
-      let within = read.within in
-      none_read earlier number date (nothing earlier (omega (arith, lt, within))) read in
+      none_read earlier number date (nothing earlier (omega (arith, lt, read.within))) read in
       subst P (sym none) before
 
   pub is_found : (limit : ℕ) → IsFound limit given sources line (found limit given sources line)

@@ -172,9 +172,7 @@ pub found_near : (limit : ℕ) (given : Given) (sources : List Grammar) (line : 
 found_near limit given sources line date e =
     let P : Option Finding → Type 0 = λ o. IsFound limit given sources line o in
     let (one, long, is) = subst P e (is_found given sources line limit) in
-    let here = long.here in
-    let near = long.near in
-    let lies = lies_near given line long.place long.number here.grammar one here.reads in
+    let lies = lies_near given line long.place long.number long.here.grammar one long.here.reads in
     let start : one.date.start ≡ date.start = ap (λ (d : Found). d.start) is in
     let end : one.date.end ≡ date.end = ap (λ (d : Found). d.end) is in
-    (omega (arith, near, lies.begins, start), omega (arith, near, lies.ends, end))
+    (omega (arith, long.near, lies.begins, start), omega (arith, long.near, lies.ends, end))

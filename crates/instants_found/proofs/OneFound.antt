@@ -31,12 +31,7 @@ module _ (limit : ℕ) (given : Given) (sources : List Grammar) (line : List ℕ
   moved one other number date same read = let P : ℕ → Type 0 = λ place. IsReadAt given sources line place number date in subst P same read
 
   same_date : (place one other : ℕ) (date dated : Candidate) → one ≡ other → IsReadAt given sources line place one date → IsReadAt given sources line place other dated → date ≡ dated
-  same_date place one other date dated same here there =
-      let source = here.source in
-      let reads = here.reads in
-      let source_there = there.source in
-      let reads_there = there.reads in
-      cc
+  same_date place one other date dated same here there = cc (same, here.source, here.reads, there.source, there.reads)
 
   one_longest : (date dated : Candidate) → IsLongest limit given sources line date → IsLongest limit given sources line dated → date ≡ dated
   one_longest date dated one other =

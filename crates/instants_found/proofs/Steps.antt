@@ -88,9 +88,7 @@ GiveAll given line start sources number = from_number given line start sources n
 
 module _ (given : Given) (line : List ℕ) (start : ℕ) (sources : List DateSource) (number : ℕ) (source : DateSource) (within : number < length sources) (is : source ≡ get_or sources number source) where
   pub none_read : GiveAll given line start sources number → None ≡ candidate given line start number (grammar_in source) → GiveAll given line start sources (number + 1)
-  none_read give e =
-      let step = rw (← e) at (source_step given line start sources number source within is) in
-      sym step ∙ give
+  none_read give e = sym (rw (← e) at (source_step given line start sources number source within is)) ∙ give
 
   pub first_read : (one : Candidate) → GiveAll given line start sources number → Some one ≡ candidate given line start number (grammar_in source)
       → of_candidates (candidates given line start 0 (map grammar_in sources)) ≡ Some (finding (longest (one ∷ from_number given line start sources (number + 1))))
@@ -105,10 +103,7 @@ module _ (given : Given) (line : List ℕ) (start : ℕ) (sources : List DateSou
       first_read one give e ∙ ap (λ (others : List Candidate). Some (finding (longest (one ∷ others)))) none
 
 pub no_read : (given : Given) (line : List ℕ) (start : ℕ) (sources : List DateSource) (number : ℕ) → length sources ≤ number → GiveAll given line start sources number → None ≡ of_candidates (candidates given line start 0 (map grammar_in sources))
-no_read given line start sources number past give =
-    let none = no_sources given line start sources number past in
-    let all = rw none at give in
-    ap of_candidates all
+no_read given line start sources number past give = ap of_candidates (rw (no_sources given line start sources number past) at give)
 
 -- ---- the sources after it
 
@@ -129,16 +124,11 @@ module _ (given : Given) (line : List ℕ) (start : ℕ) (sources : List DateSou
       sym (longer_of so_far one (longest (from_number given line start sources (number + 1)))) ∙ long
 
   pub longest_same : GiveLongest given line start sources all number so_far → None ≡ candidate given line start number (grammar_in source) → GiveLongest given line start sources all (number + 1) so_far
-  longest_same give e =
-      let step = rw (← e) at (source_step given line start sources number source within is) in
-      rw step at give
+  longest_same give e = rw (rw (← e) at (source_step given line start sources number source within is)) at give
 
 pub longest_end : (given : Given) (line : List ℕ) (start : ℕ) (sources : List DateSource) (all : Option Candidate) (number : ℕ) (so_far : Option Candidate) → length sources ≤ number → GiveLongest given line start sources all number so_far → so_far ≡ all
 unfolding longest
-longest_end given line start sources all number so_far past give =
-    let none = no_sources given line start sources number past in
-    let long = rw none at give in
-    sym (best_none so_far) ∙ long
+longest_end given line start sources all number so_far past give = sym (best_none so_far) ∙ rw (no_sources given line start sources number past) at give
 
 -- ---- places
 
