@@ -15,33 +15,36 @@ use Rattle.parsing_record.specs.Parts.{time_parts, offset_parts, moment_parts}
 use Rattle.parsing_record.specs.Whole.{moment_named, date_named, offset_named}
 use Rattle.instants_prefixes.specs.Given.{Given, Years, Unknown, In, Near, with_offset, has_no_year, has_no_time, with_year, with_time, completed, moment_in, distance, nearer, moment_of}
 
-pub both_true : (a b : Bool) → (a && b) ≡ true → (a ≡ true) × (b ≡ true)
+both_true : (a b : Bool) → (a && b) ≡ true → (a ≡ true) × (b ≡ true)
 both_true true b e = (refl, e)
 both_true false b e = absurd cc
 
-pub none_is : {A : Type 0} (o : Option A) → is_none o ≡ true → o ≡ None
-none_is None e = refl
-none_is (Some x) e = absurd cc
+pub three_none : {A B C : Type 0} (a : Option A) (b : Option B) (c : Option C) → ((is_none a && is_none b) && is_none c) ≡ true → (a ≡ None) × (b ≡ None) × (c ≡ None)
+three_none None None None e = (refl, refl, refl)
+three_none None None (Some z) e = absurd cc
+three_none None (Some y) c e = absurd cc
+three_none (Some x) b c e = absurd cc
+
+-- a record without any part of a year, and one without any part of a time of day
+pub years_none : (r : Record) → has_no_year r ≡ true → ((r.year ≡ None) × (r.year_century ≡ None) × (r.year_last_two ≡ None)) × ((r.iso_year ≡ None) × (r.iso_year_century ≡ None) × (r.iso_year_last_two ≡ None))
+years_none r e =
+    let both = both_true ((is_none r.year && is_none r.year_century) && is_none r.year_last_two) ((is_none r.iso_year && is_none r.iso_year_century) && is_none r.iso_year_last_two) e in
+    (three_none r.year r.year_century r.year_last_two both.0, three_none r.iso_year r.iso_year_century r.iso_year_last_two both.1)
+
+pub times_none : (r : Record) → has_no_time r ≡ true → ((r.hour_24 ≡ None) × (r.hour_12 ≡ None) × (r.hour_12_is_pm ≡ None)) × ((r.minute ≡ None) × (r.second ≡ None) × (r.subsecond ≡ None))
+times_none r e =
+    let both = both_true ((is_none r.hour_24 && is_none r.hour_12) && is_none r.hour_12_is_pm) ((is_none r.minute && is_none r.second) && is_none r.subsecond) e in
+    (three_none r.hour_24 r.hour_12 r.hour_12_is_pm both.0, three_none r.minute r.second r.subsecond both.1)
 
 -- ---- what lacks a part names nothing
 
 pub no_date : (r : Record) → has_no_year r ≡ true → date_named r ≡ Err insufficient
 unfolding named_date by_ordinal by_day by_iso_week by_sunday_week by_monday_week year_of split_year
-no_date r e =
-    let both = both_true ((is_none r.year && is_none r.year_century) && is_none r.year_last_two) ((is_none r.iso_year && is_none r.iso_year_century) && is_none r.iso_year_last_two) e in
-    let civil = both_true (is_none r.year && is_none r.year_century) (is_none r.year_last_two) both.0 in
-    let civil_whole = both_true (is_none r.year) (is_none r.year_century) civil.0 in
-    let week = both_true (is_none r.iso_year && is_none r.iso_year_century) (is_none r.iso_year_last_two) both.1 in
-    let week_whole = both_true (is_none r.iso_year) (is_none r.iso_year_century) week.0 in
-    rw (none_is r.year civil_whole.0, none_is r.year_century civil_whole.1, none_is r.iso_year week_whole.0, none_is r.iso_year_century week_whole.1) refl
+no_date r e = let (civil, week) = years_none r e in rw (civil.0, civil.1, week.0, week.1) refl
 
 pub no_time : (r : Record) → has_no_time r ≡ true → (leap : Bool) → named_time leap (time_parts r) ≡ Err insufficient
 unfolding named_time hour_of half_day_hour
-no_time r e leap =
-    let both = both_true ((is_none r.hour_24 && is_none r.hour_12) && is_none r.hour_12_is_pm) ((is_none r.minute && is_none r.second) && is_none r.subsecond) e in
-    let hour = both_true (is_none r.hour_24 && is_none r.hour_12) (is_none r.hour_12_is_pm) both.0 in
-    let whole = both_true (is_none r.hour_24) (is_none r.hour_12) hour.0 in
-    rw (none_is r.hour_24 whole.0, none_is r.hour_12 whole.1) refl
+no_time r e leap = let hours = (times_none r e).0 in rw (hours.0, hours.1) refl
 
 pub no_offset : (r : Record) → r.offset_hour ≡ None → offset_named r ≡ Err insufficient
 unfolding named_offset

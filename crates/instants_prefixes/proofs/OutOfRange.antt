@@ -1,7 +1,7 @@
 -- A year that the calendar does not have, and a time that no day has, name as little as none.
-use Rattle.std.proofs.Common.{◌≡◌, ◌&&◌, ◌/◌, ◌%◌, ℕ, ℤ, Bool, true, false, Option, Some, None, Result, Ok, Err, refl, sym, ap, ◌∙◌, arith}
+use Rattle.std.proofs.Common.{◌≡◌, ◌/◌, ◌%◌, ℕ, ℤ, Bool, true, false, Option, Some, None, Result, Ok, Err, refl, sym, ap, ◌∙◌, arith}
 use Rattle.std.specs.Prelude.{option_map, nat_lt, if◌then◌else◌}
-use Rattle.std.specs.Option.{is_none, option_or}
+use Rattle.std.specs.Option.{option_or}
 use Rattle.std.specs.Result.{result_ok}
 use Rattle.std.proofs.lemmas.Bool.Decides.{nat_tests}
 use Rattle.calendar_clock.specs.Time.{time_of}
@@ -22,7 +22,7 @@ use Rattle.parsing_record.specs.Parts.{date_parts, time_parts, offset_parts, mom
 use Rattle.parsing_record.specs.Whole.{moment_named}
 use Rattle.instants_prefixes.specs.Given.{with_offset, has_no_year, has_no_time, with_year, with_time, completed}
 use Rattle.instants_prefixes.specs.InRange.{year_in_range, time_in_range}
-use Rattle.instants_prefixes.proofs.NamedAlone.{Refused, both_true, none_is, no_date, no_time, without_date, without_time, by_unix, completed_same, complete_time, complete_year}
+use Rattle.instants_prefixes.proofs.NamedAlone.{Refused, years_none, times_none, no_date, no_time, without_date, without_time, by_unix, completed_same, complete_time, complete_year}
 
 -- ---- none given
 
@@ -30,23 +30,15 @@ pub none_of_time : (r : Record) → with_time None r ≡ r
 none_of_time r =
     elim (has_no_time r) as (λ b. has_no_time r ≡ b → with_time None r ≡ r) [
       | true ↦ λ e.
-          let both = both_true ((is_none r.hour_24 && is_none r.hour_12) && is_none r.hour_12_is_pm) ((is_none r.minute && is_none r.second) && is_none r.subsecond) e in
-          let hours = both_true (is_none r.hour_24 && is_none r.hour_12) (is_none r.hour_12_is_pm) both.0 in
-          let hour = both_true (is_none r.hour_24) (is_none r.hour_12) hours.0 in
-          let minutes = both_true (is_none r.minute && is_none r.second) (is_none r.subsecond) both.1 in
-          let minute = both_true (is_none r.minute) (is_none r.second) minutes.0 in
-          rw e (ap (λ (h : Option ℕ). record r { hour_24 = h; minute = None }) (sym (none_is r.hour_24 hour.0)) ∙ ap (λ (m : Option ℕ). record r { minute = m }) (sym (none_is r.minute minute.0)))
+          let (hours, minutes) = times_none r e in
+          rw e (ap (λ (h : Option ℕ). record r { hour_24 = h; minute = None }) (sym hours.0) ∙ ap (λ (m : Option ℕ). record r { minute = m }) (sym minutes.0))
       | false ↦ λ e. complete_time None r e
     ] refl
 
 pub none_of_year : (r : Record) → with_year None r ≡ r
 none_of_year r =
     elim (has_no_year r) as (λ b. has_no_year r ≡ b → with_year None r ≡ r) [
-      | true ↦ λ e.
-          let both = both_true ((is_none r.year && is_none r.year_century) && is_none r.year_last_two) ((is_none r.iso_year && is_none r.iso_year_century) && is_none r.iso_year_last_two) e in
-          let civil = both_true (is_none r.year && is_none r.year_century) (is_none r.year_last_two) both.0 in
-          let year = both_true (is_none r.year) (is_none r.year_century) civil.0 in
-          rw e (ap (λ (y : Option ℤ). record r { year = y }) (sym (none_is r.year year.0)))
+      | true ↦ λ e. rw e (ap (λ (y : Option ℤ). record r { year = y }) (sym (years_none r e).0.0))
       | false ↦ λ e. complete_year None r e
     ] refl
 
@@ -171,11 +163,7 @@ no_such_hour t minute out false = let late : nat_lt 23 (t / 60) ≡ true = grind
 
 no_such_time : (r : Record) (t : ℕ) → has_no_time r ≡ true → nat_lt t 1440 ≡ false → (leap : Bool) → named_time leap (time_parts (with_time (Some t) r)) ≡ Err (range (out_of_range Hour))
 unfolding named_time hour_of finer_parts
-no_such_time r t e out leap =
-    let both = both_true ((is_none r.hour_24 && is_none r.hour_12) && is_none r.hour_12_is_pm) ((is_none r.minute && is_none r.second) && is_none r.subsecond) e in
-    let minutes = both_true (is_none r.minute && is_none r.second) (is_none r.subsecond) both.1 in
-    let minute = both_true (is_none r.minute) (is_none r.second) minutes.0 in
-    rw (e, none_is r.second minute.1, none_is r.subsecond minutes.1, no_such_hour t (t % 60) out leap) refl
+no_such_time r t e out leap = let minutes = (times_none r e).1 in rw (e, minutes.1, minutes.2, no_such_hour t (t % 60) out leap) refl
 
 -- ---- the moment
 
@@ -200,10 +188,8 @@ without_hour offset year time r f unix e =
 
 dated_out : (r : Record) (year : ℤ) → has_no_year r ≡ true → is_year year ≡ false → Fails (named_date (date_parts (with_year (Some year) r)))
 dated_out r year e out =
-    let both = both_true ((is_none r.year && is_none r.year_century) && is_none r.year_last_two) ((is_none r.iso_year && is_none r.iso_year_century) && is_none r.iso_year_last_two) e in
-    let week = both_true (is_none r.iso_year && is_none r.iso_year_century) (is_none r.iso_year_last_two) both.1 in
-    let week_whole = both_true (is_none r.iso_year) (is_none r.iso_year_century) week.0 in
-    rw e (no_such_date (date_parts (record r { year = Some year })) year (record { out = out; is = refl; iso = none_is r.iso_year week_whole.0; century = none_is r.iso_year_century week_whole.1 }))
+    let week = (years_none r e).1 in
+    rw e (no_such_date (date_parts (record r { year = Some year })) year (record { out = out; is = refl; iso = week.0; century = week.1 }))
 
 undated : (r : Record) → has_no_year r ≡ true → Fails (named_date (date_parts (with_year None r)))
 undated r e = (insufficient, ap (λ (x : Record). named_date (date_parts x)) (none_of_year r) ∙ no_date r e)
