@@ -16,6 +16,7 @@ ghost use Rattle.instants_found.specs.declared.found.Finding.TheVariants.{Doubtf
 
 /// What is found, and nothing else, is the longest date that stands whole at the least place of the line at which a source reads
 /// one, or that it is in doubt. Where nothing is found no source reads a date at any of the first places.
+#[tactic(auto, using(crate::proofs::FirstFound::is_found, crate::proofs::OneFound::only_found))]
 pub fn longest_date()
     ensures is { (limit : ℕ) (given : Given) (sources : List Grammar) (line : List ℕ)
         → IsFound limit given sources line (found limit given sources line) }
@@ -26,6 +27,7 @@ pub fn longest_date()
 {}
 
 /// The date that is found begins and ends within the window after the last place at which a date may begin.
+#[tactic(auto, using(crate::proofs::NearFound::found_near))]
 pub fn lies_near()
     ensures { (limit : ℕ) (given : Given) (sources : List Grammar) (line : List ℕ) (date : Found)
         → found limit given sources line ≡ Some (There date)
@@ -33,6 +35,7 @@ pub fn lies_near()
 {}
 
 /// Bytes far after the last place at which a date may begin change nothing in what is found.
+#[tactic(auto, using(crate::proofs::NearFound::near_found))]
 pub fn looks_near()
     ensures { (limit : ℕ) (given : Given) (sources : List Grammar) (line rest : List ℕ)
         → limit + window + 64 ≤ length line
@@ -41,6 +44,7 @@ pub fn looks_near()
 
 /// A date stands whole exactly where there is no reason against it. Where the date of a line is in doubt some source reads a date
 /// there that is.
+#[tactic(auto, using(crate::proofs::Doubts::whole_if, crate::proofs::DoubtOf::has_doubt))]
 pub fn doubts()
     ensures whole { (given : Given) (grammar : Grammar) (line : List ℕ) (start : ℕ) (prefix : Prefix)
         → stands_whole given grammar line start prefix ≡ is_none (why given grammar line start prefix) }
@@ -50,6 +54,7 @@ pub fn doubts()
 
 /// Finding tries at most so many items as places are looked at, times the nodes of the sources, and each item is given no more
 /// bytes than the window has.
+#[tactic(auto, using(crate::proofs::Bounded::few_tried, crate::proofs::Bounded::few_bytes))]
 pub fn cost()
     ensures bounded { (sources : List Grammar) (line : List ℕ) (limit : ℕ)
         → tried_from sources line limit ≤ length (take limit line) * nodes_of sources }
