@@ -1,14 +1,11 @@
 -- Words that stand in one text, and what is wrong with them.
-use Rattle.std.proofs.Common.{◌≡◌, ℕ, Result, Ok, Err, List, refl}
+use Rattle.std.proofs.Common.{◌≡◌, ℕ, Result, Ok, Err, List}
 use Rattle.std.specs.Prelude.{IsOk}
 use Rattle.instants_stream.specs.Lines.{parts}
 use Rattle.instants_words.specs.declared.fault.WordsFault.{WordsFault}
-use Rattle.instants_words.specs.declared.fault.WordsFault.TheVariants.{Usage, Target, Assumed, Limit, Source, Memory}
 use Rattle.instants_words.specs.declared.words.Words.{Words}
 use Rattle.instants_words.specs.TextWords.{words_in}
 use Rattle.instants_words.specs.Words.{words_said}
-use Rattle.instants_timeline.specs.ProgramText.{status_of}
-use Rattle.instants_timeline.specs.declared.program_fault.ProgramFault.TheVariants as program
 
 -- what is wrong with the words of a text is wrong with those between line feeds
 pub told : (text bytes : List ℕ) (fault : WordsFault) → text ≡ bytes → words_said (words_in text) ≡ Err fault → words_said (parts bytes) ≡ Err fault
@@ -32,12 +29,3 @@ no_fault text bytes fault same ok e = accepted_is_no_fault (words_said (words_in
 pub accepted : (text bytes : List ℕ) → text ≡ bytes → IsOk (words_said (words_in text)) → IsOk (words_said (parts bytes))
 unfolding parts words_in
 accepted text bytes same ok = rw (← same) ok
-
--- wrong words have status 2
-pub wrong_status : (fault : WordsFault) → (fault ≡ Memory → ⊥) → status_of (program.Words fault) ≡ 2
-wrong_status Usage h = refl
-wrong_status Target h = refl
-wrong_status Assumed h = refl
-wrong_status Limit h = refl
-wrong_status (Source place) h = refl
-wrong_status Memory h = absurd (h refl)

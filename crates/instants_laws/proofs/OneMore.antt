@@ -8,6 +8,7 @@ use Rattle.instants_sources.specs.Grammar.{Grammar}
 use Rattle.instants_sources.specs.Named.{named}
 use Rattle.instants_stream.specs.Answers.{answered, answer_or_long}
 use Rattle.instants_laws.specs.Appended.{with_source}
+use Rattle.instants_timeline.proofs.FirstNamed.{ok_of}
 use Rattle.instants_timeline.specs.Place.{Setting, or_named, first_named, shown_or_refused, place_of, place_text, answer_to}
 
 -- the moment, or else the other one
@@ -33,10 +34,6 @@ appended_ok assumed [] grammar line = or_none (named assumed grammar line)
 appended_ok assumed (first ∷ others) grammar line =
     ap (λ o. result_ok (or_named (named assumed first line) o)) (appended_ok assumed others grammar line)
     ∙ or_same (named assumed first line) (result_ok (first_named assumed others line)) (result_ok (named assumed grammar line))
-
-ok_of : (r : Result Shown Fault) (m : Shown) → result_ok r ≡ Some m → r ≡ Ok m
-ok_of (Ok n) m e = cc
-ok_of (Err f) m e = absurd cc
 
 pub kept_moment : (assumed : Option ℤ) (grammars : List Grammar) (grammar : Grammar) (line : List ℕ) (m : Shown)
     → first_named assumed grammars line ≡ Ok m → first_named assumed (grammars ++ grammar ∷ []) line ≡ Ok m

@@ -29,11 +29,15 @@ pub shown_at_target : (setting : Setting) (line : List ℕ) (a : Shown) → plac
 unfolding place_of
 shown_at_target setting line a h = placed_as setting.target (first_named setting.assumed setting.sources line) a h
 
--- at one offset a difference of instants is one of wall clocks
+-- at one offset instants are as far apart as wall clocks
+instants_apart : (a b : Shown) → a.offset ≡ b.offset → instant a -ℤ instant b ≡ a.wall -ℤ b.wall
+instants_apart a b e =
+    let apart : (x y o : ℤ) → (x -ℤ o *ℤ pos second_nanos) -ℤ (y -ℤ o *ℤ pos second_nanos) ≡ x -ℤ y = λ x y o. omega (arith, signed) in
+    ap (λ o. (a.wall -ℤ o *ℤ pos second_nanos) -ℤ instant b) e ∙ apart a.wall b.wall b.offset
+
+-- so that leads from one wall clock to the other
 pub moved_by_difference : (a b : Shown) → a.offset ≡ b.offset → b.wall +ℤ (instant a -ℤ instant b) ≡ a.wall
-moved_by_difference a b e =
-    let apart : (x y o : ℤ) → y +ℤ ((x -ℤ o *ℤ pos second_nanos) -ℤ (y -ℤ o *ℤ pos second_nanos)) ≡ x = λ x y o. omega (arith, signed) in
-    ap (λ o. b.wall +ℤ ((a.wall -ℤ o *ℤ pos second_nanos) -ℤ instant b)) e ∙ apart a.wall b.wall b.offset
+moved_by_difference a b e = omega (arith, signed, instants_apart a b e)
 
 made : ℤ → ℤ → Shown
 made wall offset = record { wall = wall; offset = offset }
@@ -65,12 +69,6 @@ walls_apart a b of_a of_b =
     let low : least_duration ≤ℤ (first_wall_clock -ℤ last_wall_clock) = le_z_yes tt in
     let high : (last_wall_clock -ℤ first_wall_clock) ≤ℤ greatest_duration = le_z_yes tt in
     (≤ℤ-trans _ _ _ low apart.0, ≤ℤ-trans _ _ _ apart.1 high)
-
--- at one offset instants are as far apart as wall clocks
-instants_apart : (a b : Shown) → a.offset ≡ b.offset → instant a -ℤ instant b ≡ a.wall -ℤ b.wall
-instants_apart a b e =
-    let apart : (x y o : ℤ) → (x -ℤ o *ℤ pos second_nanos) -ℤ (y -ℤ o *ℤ pos second_nanos) ≡ x -ℤ y = λ x y o. omega (arith, signed) in
-    ap (λ o. (a.wall -ℤ o *ℤ pos second_nanos) -ℤ instant b) e ∙ apart a.wall b.wall b.offset
 
 -- the instants of moments at one offset are a duration apart
 pub difference_is_duration : (a b : Shown) → a.offset ≡ b.offset → IsWallClock a.wall → IsWallClock b.wall → IsDuration (instant a -ℤ instant b)

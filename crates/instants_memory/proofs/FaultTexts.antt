@@ -1,5 +1,5 @@
 -- The texts of faults, by their numbers.
-use Rattle.std.proofs.Common.{◌≡◌, ◌==◌, ◌≢◌, ℕ, suc, ◌+◌, ◌≤◌, Bool, true, false, cond, List, [], ◌∷◌, ◌++◌, length, refl, ap, arith}
+use Rattle.std.proofs.Common.{◌≡◌, ◌==◌, ◌≢◌, ℕ, suc, ◌+◌, ◌≤◌, Bool, true, false, cond, List, [], ◌∷◌, ◌++◌, length, ap, arith}
 use Rattle.std.specs.Prelude.{codes, nat_lt}
 use Rattle.std.proofs.lemmas.Bool.Decides.{nat_tests}
 use Rattle.std.specs.Str.{bytes_eq}
@@ -47,23 +47,3 @@ component_is name h = rw (component_text (name_number name) (few_names name)) (a
 
 pub range_is : (name : List ℕ) → name_number name ≢ 0 → fault_text (500 + name_number name) ≡ codes "! range " ++ name
 range_is name h = rw (range_text (name_number name) (few_names name)) (ap (λ n. codes "! range " ++ n) (named name h))
-
-pub literal_is : fault_text 100 ≡ codes "! literal"
-unfolding fault_text
-literal_is = refl
-
-pub trailing_is : fault_text 300 ≡ codes "! trailing"
-unfolding fault_text
-trailing_is = refl
-
-pub insufficient_is : fault_text 400 ≡ codes "! insufficient"
-unfolding fault_text
-insufficient_is = refl
-
-pub year_is : fault_text 600 ≡ codes "! year"
-unfolding fault_text
-year_is = refl
-
-pub long_is : fault_text 700 ≡ codes "! long"
-unfolding fault_text
-long_is = refl

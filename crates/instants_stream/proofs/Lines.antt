@@ -1,6 +1,6 @@
 -- Lemmas on the parts of bytes between line feeds.
-use Rattle.std.proofs.Common.{◌≡◌, ◌==◌, ℕ, suc, ◌+◌, ◌<◌, ◌⊎◌, Bool, true, false, cond, List, [], ◌∷◌, ◌++◌, length, refl, ap, ◌∙◌, inl, inr, arith, append_assoc, append-nil}
-use Rattle.std.specs.List.{slice_split, onto_first}
+use Rattle.std.proofs.Common.{◌≡◌, ◌==◌, ℕ, suc, ◌+◌, ◌<◌, ◌⊎◌, true, false, cond, List, [], ◌∷◌, ◌++◌, length, refl, ap, ◌∙◌, inl, inr, arith, append_assoc, append-nil}
+use Rattle.std.specs.List.{onto_first}
 use Rattle.std.proofs.lemmas.List.Splits.{slice_split_none, slice_split_at, length-slice_split}
 use Rattle.std.proofs.lemmas.List.Elements.{All-nil, All-cons}
 use Rattle.std.proofs.lemmas.List.Concat.{flat_map-append}
@@ -37,26 +37,30 @@ join_byte x [] qs = refl
 join_byte x (p ∷ []) qs = refl
 join_byte x (p ∷ r ∷ ps) qs = refl
 
-module _ (p : ℕ → Bool) where
-  split_append : (s t : List ℕ) → slice_split p (s ++ t) ≡ but_last (slice_split p s) ++ glue (last (slice_split p s)) (slice_split p t)
-  split_append [] t = refl
-  split_append (x ∷ s) t =
-      let nonempty : 0 < length (slice_split p s) = omega (arith, length-slice_split p s) in
-      let whole = split_append s t in
-      rw whole (elim (p x) as (λ v. cond v ([] ∷ (but_last (slice_split p s) ++ glue (last (slice_split p s)) (slice_split p t))) (onto_first x (but_last (slice_split p s) ++ glue (last (slice_split p s)) (slice_split p t))) ≡ but_last (cond v ([] ∷ slice_split p s) (onto_first x (slice_split p s))) ++ glue (last (cond v ([] ∷ slice_split p s) (onto_first x (slice_split p s)))) (slice_split p t)) [
-        | true ↦ join_part (slice_split p s) (slice_split p t) nonempty
-        | false ↦ join_byte x (slice_split p s) (slice_split p t)
-      ])
+pub parts_nonempty : (s : List ℕ) → 0 < length (parts s)
+unfolding parts
+parts_nonempty s = omega (arith, length-slice_split (λ b. b == 10) s)
+
+-- the parts of joined bytes: the last part of the first goes before the first part of the second
+pub parts_joined : (s t : List ℕ) → parts (s ++ t) ≡ but_last (parts s) ++ glue (last (parts s)) (parts t)
+unfolding parts
+parts_joined [] t = refl
+parts_joined (x ∷ s) t =
+    let whole = parts_joined s t in
+    rw whole (elim (x == 10) as (λ v. cond v ([] ∷ (but_last (parts s) ++ glue (last (parts s)) (parts t))) (onto_first x (but_last (parts s) ++ glue (last (parts s)) (parts t))) ≡ but_last (cond v ([] ∷ parts s) (onto_first x (parts s))) ++ glue (last (cond v ([] ∷ parts s) (onto_first x (parts s)))) (parts t)) [
+      | true ↦ join_part (parts s) (parts t) (parts_nonempty s)
+      | false ↦ join_byte x (parts s) (parts t)
+    ])
 
 -- the parts after a piece with no line feed
 parts-piece : (s piece : List ℕ) → HasNoLineFeed piece → parts (s ++ piece) ≡ but_last (parts s) ++ (last (parts s) ++ piece) ∷ []
 unfolding parts
-parts-piece s piece h = split_append (λ b. b == 10) s piece ∙ rw (slice_split_none (λ (b : ℕ). b == 10) piece h, glue-cons) refl
+parts-piece s piece h = parts_joined s piece ∙ rw (slice_split_none (λ (b : ℕ). b == 10) piece h, glue-cons) refl
 
 -- the parts after such a piece and a line feed
 parts-line : (s piece : List ℕ) → HasNoLineFeed piece → parts (s ++ (piece ++ 10 ∷ [])) ≡ but_last (parts s) ++ (last (parts s) ++ piece) ∷ [] ∷ []
 unfolding parts
-parts-line s piece h = split_append (λ b. b == 10) s (piece ++ 10 ∷ []) ∙ rw (slice_split_at (λ (b : ℕ). b == 10) piece 10 [] h refl, glue-cons) refl
+parts-line s piece h = parts_joined s (piece ++ 10 ∷ []) ∙ rw (slice_split_at (λ (b : ℕ). b == 10) piece 10 [] h refl, glue-cons) refl
 
 pub whole_lines-piece : (s piece : List ℕ) → HasNoLineFeed piece → whole_lines (s ++ piece) ≡ whole_lines s
 unfolding whole_lines
@@ -76,8 +80,8 @@ last_part-line s piece h = rw (parts-line s piece h, last-append) refl
 
 -- where nothing stands after the last line feed, the lines of joined bytes are the lines of each
 parts-append : (s t : List ℕ) → last_part s ≡ [] → parts (s ++ t) ≡ but_last (parts s) ++ parts t
-unfolding parts last_part
-parts-append s t h = split_append (λ b. b == 10) s t ∙ ap (λ (l : List ℕ). but_last (slice_split (λ b. b == 10) s) ++ glue l (slice_split (λ b. b == 10) t)) h
+unfolding last_part
+parts-append s t h = parts_joined s t ∙ ap (λ (l : List ℕ). but_last (parts s) ++ glue l (parts t)) h
 
 pub but_last-append_nonempty : (ps qs : List (List ℕ)) → 0 < length qs → but_last (ps ++ qs) ≡ ps ++ but_last qs
 but_last-append_nonempty ps [] h = absurd (omega arith)
@@ -86,10 +90,6 @@ but_last-append_nonempty ps (q ∷ qs) h = but_last-append ps q qs
 pub last-append_nonempty : (ps qs : List (List ℕ)) → 0 < length qs → last (ps ++ qs) ≡ last qs
 last-append_nonempty ps [] h = absurd (omega arith)
 last-append_nonempty ps (q ∷ qs) h = last-append ps q qs
-
-pub parts_nonempty : (s : List ℕ) → 0 < length (parts s)
-unfolding parts
-parts_nonempty s = omega (arith, length-slice_split (λ b. b == 10) s)
 
 pub last_part-append : (s t : List ℕ) → last_part s ≡ [] → last_part (s ++ t) ≡ last_part t
 unfolding last_part
@@ -122,15 +122,10 @@ pub last_part_of_none : last_part [] ≡ []
 unfolding last_part parts
 last_part_of_none = refl
 
--- the parts of joined bytes: the last part of the first goes before the first part of the second
-pub parts_joined : (s t : List ℕ) → parts (s ++ t) ≡ but_last (parts s) ++ glue (last (parts s)) (parts t)
-unfolding parts
-parts_joined s t = split_append (λ b. b == 10) s t
-
 -- after bytes with no line feed
 pub parts_glued : (line t : List ℕ) → HasNoLineFeed line → parts (line ++ t) ≡ glue line (parts t)
 unfolding parts
-parts_glued line t free = rw (split_append (λ (b : ℕ). b == 10) line t, slice_split_none (λ (b : ℕ). b == 10) line free) refl
+parts_glued line t free = rw (parts_joined line t, slice_split_none (λ (b : ℕ). b == 10) line free) refl
 
 -- how many bytes the parts and the line feeds between them are
 abbrev pub weight : List (List ℕ) → ℕ
@@ -156,32 +151,22 @@ last_after : (ps : List (List ℕ)) → 0 < length ps → last ([] ∷ ps) ≡ l
 last_after [] h = absurd (omega arith)
 last_after (p ∷ ps) h = refl
 
-weight-split : (p : ℕ → Bool) (s : List ℕ) → weight (slice_split p s) ≡ length s
-weight-split p [] = refl
-weight-split p (x ∷ s) =
-    let nonempty : 0 < length (slice_split p s) = omega (arith, length-slice_split p s) in
-    elim (p x) as (λ v. weight (cond v ([] ∷ slice_split p s) (onto_first x (slice_split p s))) ≡ suc (length s)) [
-      | true ↦ weight_part (slice_split p s) nonempty ∙ ap suc (weight-split p s)
-      | false ↦ weight_byte x (slice_split p s) nonempty ∙ ap suc (weight-split p s)
-    ]
-
 pub weight-parts : (s : List ℕ) → weight (parts s) ≡ length s
 unfolding parts
-weight-parts s = weight-split (λ b. b == 10) s
-
-last_is_free : (s : List ℕ) → HasNoLineFeed (last (slice_split (λ b. b == 10) s))
-last_is_free [] = All-nil (λ (b : ℕ). (b == 10) ≡ false)
-last_is_free (x ∷ s) =
-    let nonempty : 0 < length (slice_split (λ b. b == 10) s) = omega (arith, length-slice_split (λ b. b == 10) s) in
-    elim (x == 10) as (λ v. (x == 10) ≡ v → HasNoLineFeed (last (cond v ([] ∷ slice_split (λ b. b == 10) s) (onto_first x (slice_split (λ b. b == 10) s))))) [
-      | true ↦ λ e. rw (last_after (slice_split (λ (b : ℕ). b == 10) s) nonempty) (last_is_free s)
-      | false ↦ λ e. last_byte x (slice_split (λ b. b == 10) s) e (last_is_free s)
-    ] refl
+weight-parts [] = refl
+weight-parts (x ∷ s) = elim (x == 10) as (λ v. weight (cond v ([] ∷ parts s) (onto_first x (parts s))) ≡ suc (length s)) [
+  | true ↦ weight_part (parts s) (parts_nonempty s) ∙ ap suc (weight-parts s)
+  | false ↦ weight_byte x (parts s) (parts_nonempty s) ∙ ap suc (weight-parts s)
+]
 
 -- no line feed stands after the last line feed
 pub last_part_free : (s : List ℕ) → HasNoLineFeed (last_part s)
 unfolding last_part parts
-last_part_free s = last_is_free s
+last_part_free [] = All-nil (λ (b : ℕ). (b == 10) ≡ false)
+last_part_free (x ∷ s) = elim (x == 10) as (λ v. (x == 10) ≡ v → HasNoLineFeed (last (cond v ([] ∷ parts s) (onto_first x (parts s))))) [
+  | true ↦ λ e. rw (last_after (parts s) (parts_nonempty s)) (last_part_free s)
+  | false ↦ λ e. last_byte x (parts s) e (last_part_free s)
+] refl
 
 pub glue_some : (l : List ℕ) (ps : List (List ℕ)) → 0 < length ps → 0 < length (glue l ps)
 glue_some l [] h = absurd (omega arith)

@@ -7,7 +7,7 @@ use Rattle.instants_stream.specs.Steps.{Steps, passed, state_within, opened, wri
 use Rattle.instants_stream.specs.Came.{came_said, came_state, came_begun, kept, GoesOn}
 use Rattle.instants_stream.proofs.Lines.{glue, glue-cons, parts_joined, parts_glued, parts_nonempty, but_last-append_nonempty, last-append_nonempty, glue_some}
 use Rattle.instants_stream.proofs.WholeLines.{no_lines, all_last, first_line, last_of_others}
-use Rattle.instants_stream.proofs.Written.{owed_of-none, state_of-none, owed_of-cons, after-cons, line_said-more, line_next-more, part_said-more, part_said-short, part_said-long, part_state-more, longer-more}
+use Rattle.instants_stream.proofs.Written.{owed_of-none, state_of-none, owed_of-cons, line_said-more, line_next-more, part_said-more, part_said-short, part_said-long, part_state-more, still}
 
 -- the lines and the last part of joined bytes: the last part of the first goes before the first part of the second
 pub whole_lines-joined : (bytes more : List ℕ) → whole_lines (bytes ++ more) ≡ whole_lines bytes ++ but_last (glue (last_part bytes) (parts more))
@@ -26,30 +26,21 @@ module _ (State : Type 0) (steps : Steps State) (limit : ℕ) where
     abbrev inside : State
     inside = state_within steps limit state gone
 
-    long_said : (ps : List (List ℕ)) → 0 < length ps → owed_of steps limit state (but_last (glue gone ps)) (last (glue gone ps)) ≡ opened steps limit state gone ++ came_said steps limit true inside (but_last ps) (last ps)
+    long : (ps : List (List ℕ)) → 0 < length ps
+        → (owed_of steps limit state (but_last (glue gone ps)) (last (glue gone ps)) ≡ opened steps limit state gone ++ came_said steps limit true inside (but_last ps) (last ps))
+        × (state_of steps limit state (but_last (glue gone ps)) (last (glue gone ps)) ≡ came_state steps limit true inside (but_last ps) (last ps))
+        × (nat_lt limit (length (last (glue gone ps))) ≡ came_begun limit true (but_last ps) (last ps)) × (came_begun limit true (but_last ps) (last ps) ≡ false → last (glue gone ps) ≡ last ps)
     unfolding written after
-    long_said [] some = absurd (omega arith)
-    long_said (q ∷ []) some = rw (glue-cons gone q []) (part_said-more State steps limit state gone q over)
-    long_said (q ∷ r ∷ ps) some =
-        rw (glue-cons gone q (r ∷ ps), owed_of-cons State steps limit state (gone ++ q) (but_last (r ∷ ps)) (last (r ∷ ps)), line_said-more State steps limit state gone q over, line_next-more State steps limit state gone q over)
-        (append_assoc (opened steps limit state gone) (passed (steps.hands_on inside) q ++ steps.ended inside) (owed_of steps limit inside (but_last (r ∷ ps)) (last (r ∷ ps))))
-
-    long_state : (ps : List (List ℕ)) → 0 < length ps → state_of steps limit state (but_last (glue gone ps)) (last (glue gone ps)) ≡ came_state steps limit true inside (but_last ps) (last ps)
-    unfolding after
-    long_state [] some = absurd (omega arith)
-    long_state (q ∷ []) some = rw (glue-cons gone q []) (part_state-more State steps limit state gone q over)
-    long_state (q ∷ r ∷ ps) some =
-        rw (glue-cons gone q (r ∷ ps), after-cons State steps limit state (gone ++ q) (but_last (r ∷ ps)), line_next-more State steps limit state gone q over) refl
-
-    long_begun : (ps : List (List ℕ)) → 0 < length ps → nat_lt limit (length (last (glue gone ps))) ≡ came_begun limit true (but_last ps) (last ps)
-    long_begun [] some = absurd (omega arith)
-    long_begun (q ∷ []) some = rw (glue-cons gone q []) (longer-more State steps limit state gone q over)
-    long_begun (q ∷ r ∷ ps) some = rw (glue-cons gone q (r ∷ ps)) refl
-
-    long_last : (ps : List (List ℕ)) → 0 < length ps → came_begun limit true (but_last ps) (last ps) ≡ false → last (glue gone ps) ≡ last ps
-    long_last [] some e = absurd (omega arith)
-    long_last (q ∷ []) some e = absurd cc
-    long_last (q ∷ r ∷ ps) some e = rw (glue-cons gone q (r ∷ ps)) refl
+    long [] some = absurd (omega arith)
+    long (q ∷ []) some =
+        rw (glue-cons gone q []) (part_said-more State steps limit state gone q over, part_state-more State steps limit state gone q over, still State steps limit state gone q over, λ e. absurd cc)
+    long (q ∷ r ∷ ps) some = (
+      rw (glue-cons gone q (r ∷ ps), owed_of-cons State steps limit state (gone ++ q) (but_last (r ∷ ps)) (last (r ∷ ps)), line_said-more State steps limit state gone q over, line_next-more State steps limit state gone q over)
+          (append_assoc (opened steps limit state gone) (passed (steps.hands_on inside) q ++ steps.ended inside) (owed_of steps limit inside (but_last (r ∷ ps)) (last (r ∷ ps)))),
+      rw (glue-cons gone q (r ∷ ps)) (ap (λ (s : State). state_of steps limit s (but_last (r ∷ ps)) (last (r ∷ ps))) (line_next-more State steps limit state gone q over)),
+      rw (glue-cons gone q (r ∷ ps)) refl,
+      λ e. rw (glue-cons gone q (r ∷ ps)) refl,
+    )
 
   -- More bytes come after a part, of which all bytes are kept unless it is begun.
   module _ (state : State) (gone line more : List ℕ) (free : HasNoLineFeed gone) where
@@ -59,29 +50,15 @@ module _ (State : Type 0) (steps : Steps State) (limit : ℕ) where
     over : true ≡ nat_lt limit (length gone) → limit < length gone
     over e = grind (arith, nat_tests)
 
-    pub more_said : (is_begun : Bool) → is_begun ≡ nat_lt limit (length gone) → line ≡ kept is_begun gone
-        → owed_of steps limit state (but_last ps) (last ps) ≡ part_said steps limit state gone ++ came_said steps limit is_begun (part_state steps limit state gone) (whole_lines (line ++ more)) (last_part (line ++ more))
+    -- what is written for them, the state after them, whether a line is begun then, and its bytes
+    pub more_is : (is_begun : Bool) → is_begun ≡ nat_lt limit (length gone) → line ≡ kept is_begun gone
+        → (owed_of steps limit state (but_last ps) (last ps) ≡ part_said steps limit state gone ++ came_said steps limit is_begun (part_state steps limit state gone) (whole_lines (line ++ more)) (last_part (line ++ more)))
+        × (state_of steps limit state (but_last ps) (last ps) ≡ came_state steps limit is_begun (part_state steps limit state gone) (whole_lines (line ++ more)) (last_part (line ++ more)))
+        × (nat_lt limit (length (last ps)) ≡ came_begun limit is_begun (whole_lines (line ++ more)) (last_part (line ++ more)))
+        × (came_begun limit is_begun (whole_lines (line ++ more)) (last_part (line ++ more)) ≡ false → last ps ≡ last_part (line ++ more))
     unfolding whole_lines last_part
-    more_said false e is = rw (part_said-short State steps limit state gone (sym e), ← e, is, parts_glued gone more free) refl
-    more_said true e is = rw (part_said-long State steps limit state gone (sym e), ← e, is) (long_said state gone (over e) (parts more) (parts_nonempty more))
-
-    pub more_state : (is_begun : Bool) → is_begun ≡ nat_lt limit (length gone) → line ≡ kept is_begun gone
-        → state_of steps limit state (but_last ps) (last ps) ≡ came_state steps limit is_begun (part_state steps limit state gone) (whole_lines (line ++ more)) (last_part (line ++ more))
-    unfolding whole_lines last_part
-    more_state false e is = rw (← e, is, parts_glued gone more free) refl
-    more_state true e is = rw (← e, is) (long_state state gone (over e) (parts more) (parts_nonempty more))
-
-    pub more_begun : (is_begun : Bool) → is_begun ≡ nat_lt limit (length gone) → line ≡ kept is_begun gone
-        → nat_lt limit (length (last ps)) ≡ came_begun limit is_begun (whole_lines (line ++ more)) (last_part (line ++ more))
-    unfolding whole_lines last_part
-    more_begun false e is = rw (is, parts_glued gone more free) refl
-    more_begun true e is = rw is (long_begun state gone (over e) (parts more) (parts_nonempty more))
-
-    pub more_last : (is_begun : Bool) → is_begun ≡ nat_lt limit (length gone) → line ≡ kept is_begun gone
-        → came_begun limit is_begun (whole_lines (line ++ more)) (last_part (line ++ more)) ≡ false → last ps ≡ last_part (line ++ more)
-    unfolding whole_lines last_part
-    more_last false e is h = rw (is, parts_glued gone more free) refl
-    more_last true e is h = rw is (long_last state gone (over e) (parts more) (parts_nonempty more) (rw is at h))
+    more_is false e is = rw (part_said-short State steps limit state gone (sym e), ← e, is, parts_glued gone more free) (refl, refl, refl, λ h. refl)
+    more_is true e is = rw (part_said-long State steps limit state gone (sym e), ← e, is) (long state gone (over e) (parts more) (parts_nonempty more))
 
 -- A line that is begun is gone on with.
 module _ (State : Type 0) (steps : Steps State) (state : State) (bytes : List ℕ) (len : ℕ) (free : HasNoLineFeed (take len bytes)) where

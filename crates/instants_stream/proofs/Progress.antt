@@ -10,7 +10,7 @@ use Rattle.instants_stream.specs.Came.{came_said, came_state, came_begun, kept, 
 use Rattle.instants_stream.specs.Known.{StaysOrUnknown, AppendsPrefix}
 use Rattle.instants_stream.proofs.Lines.{last_part_of_none, last_part_free}
 use Rattle.instants_stream.proofs.Written.{is_no_longer, owed_of-none, state_of-none, after-append, owed_of-append}
-use Rattle.instants_stream.proofs.MoreCame.{whole_lines-joined, last_part-joined, more_said, more_state, more_begun, more_last}
+use Rattle.instants_stream.proofs.MoreCame.{whole_lines-joined, last_part-joined, more_is}
 use Rattle.instants_stream.proofs.Known.{AppendsPrefix-after, AppendsPrefix-more, AppendsPrefix-stays}
 
 -- A run has read these bytes and written what is owed for them. Of the unfinished line it holds all bytes, or none once it is begun.
@@ -149,20 +149,20 @@ module _ (State : Type 0) (steps : Steps State) (first : State) (limit : ℕ) wh
       owed-more : owed steps first limit (p.bytes ++ more) ≡ owed steps first limit p.bytes ++ came_said steps limit is_begun state whole part
       unfolding owed
       owed-more =
-          rw (whole_lines-joined p.bytes more, last_part-joined p.bytes more, owed_of-append State steps limit first (whole_lines p.bytes) _ _, more_said State steps limit after_gone gone line more (last_part_free p.bytes) is_begun p.begun p.line_is)
+          rw (whole_lines-joined p.bytes more, last_part-joined p.bytes more, owed_of-append State steps limit first (whole_lines p.bytes) _ _, (more_is State steps limit after_gone gone line more (last_part_free p.bytes) is_begun p.begun p.line_is).0)
           (sym (append_assoc (written steps limit first (whole_lines p.bytes)) (part_said steps limit after_gone gone) (came_said steps limit is_begun (part_state steps limit after_gone gone) whole part))
           ∙ ap (λ (s : State). owed_of steps limit first (whole_lines p.bytes) gone ++ came_said steps limit is_begun s whole part) (sym p.stands))
 
       stands-more : state_of steps limit first (whole_lines (p.bytes ++ more)) (last_part (p.bytes ++ more)) ≡ came_state steps limit is_begun state whole part
       stands-more =
-          rw (whole_lines-joined p.bytes more, last_part-joined p.bytes more, after-append State steps limit first (whole_lines p.bytes) _, p.stands) (more_state State steps limit after_gone gone line more (last_part_free p.bytes) is_begun p.begun p.line_is)
+          rw (whole_lines-joined p.bytes more, last_part-joined p.bytes more, after-append State steps limit first (whole_lines p.bytes) _, p.stands) (more_is State steps limit after_gone gone line more (last_part_free p.bytes) is_begun p.begun p.line_is).1
 
       begun-more : nat_lt limit (length (last_part (p.bytes ++ more))) ≡ came_begun limit is_begun whole part
-      begun-more = rw (last_part-joined p.bytes more) (more_begun State steps limit after_gone gone line more (last_part_free p.bytes) is_begun p.begun p.line_is)
+      begun-more = rw (last_part-joined p.bytes more) (more_is State steps limit after_gone gone line more (last_part_free p.bytes) is_begun p.begun p.line_is).2
 
       line-more : (is_begun_next : Bool) → is_begun_next ≡ came_begun limit is_begun whole part → kept is_begun_next part ≡ kept is_begun_next (last_part (p.bytes ++ more))
       line-more true e = refl
-      line-more false e = sym (last_part-joined p.bytes more ∙ more_last State steps limit after_gone gone line more (last_part_free p.bytes) is_begun p.begun p.line_is (sym e))
+      line-more false e = sym (last_part-joined p.bytes more ∙ (more_is State steps limit after_gone gone line more (last_part_free p.bytes) is_begun p.begun p.line_is).3 (sym e))
 
       -- a write for them failed
       pub more_fails : AppendsPrefix held held_next (came_said steps limit is_begun state whole part) → Fails left_first left_next held_first held_next

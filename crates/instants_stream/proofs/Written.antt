@@ -24,30 +24,15 @@ module _ (State : Type 0) (steps : Steps State) (limit : ℕ) where
   after-append state [] ys = refl
   after-append state (x ∷ xs) ys = after-append (line_next steps limit state x) xs ys
 
-  -- of one line
-  pub written-one : (state : State) (x : List ℕ) → written steps limit state (x ∷ []) ≡ line_said steps limit state x
-  unfolding written
-  written-one state x = append-nil (line_said steps limit state x)
-
-  pub after-one : (state : State) (x : List ℕ) → after steps limit state (x ∷ []) ≡ line_next steps limit state x
-  unfolding after
-  after-one state x = refl
-
-  pub written-none : (state : State) → written steps limit state [] ≡ []
-  unfolding written
-  written-none state = refl
-
-  pub after-none : (state : State) → after steps limit state [] ≡ state
-  unfolding after
-  after-none state = refl
-
   -- one line more, in the state after those before it
   pub written-next : (first state : State) (xs : List (List ℕ)) (x : List ℕ) → state ≡ after steps limit first xs → written steps limit first (xs ++ x ∷ []) ≡ written steps limit first xs ++ line_said steps limit state x
+  unfolding written
   written-next first state xs x e =
-      written-append first xs (x ∷ []) ∙ ap (λ (l : List ℕ). written steps limit first xs ++ l) (written-one (after steps limit first xs) x) ∙ ap (λ (s : State). written steps limit first xs ++ line_said steps limit s x) (sym e)
+      written-append first xs (x ∷ []) ∙ ap (λ (l : List ℕ). written steps limit first xs ++ l) (append-nil (line_said steps limit (after steps limit first xs) x)) ∙ ap (λ (s : State). written steps limit first xs ++ line_said steps limit s x) (sym e)
 
   pub after-next : (first state : State) (xs : List (List ℕ)) (x : List ℕ) → state ≡ after steps limit first xs → after steps limit first (xs ++ x ∷ []) ≡ line_next steps limit state x
-  after-next first state xs x e = after-append first xs (x ∷ []) ∙ after-one (after steps limit first xs) x ∙ ap (λ (s : State). line_next steps limit s x) (sym e)
+  unfolding after
+  after-next first state xs x e = after-append first xs (x ∷ []) ∙ ap (λ (s : State). line_next steps limit s x) (sym e)
 
   -- what is written for lines begins with what is written for the first of them
   pub written-begins : (first : State) (all xs rest : List (List ℕ)) → all ≡ xs ++ rest → (more : List ℕ) × (written steps limit first all ≡ written steps limit first xs ++ more)
@@ -62,10 +47,6 @@ module _ (State : Type 0) (steps : Steps State) (limit : ℕ) where
   unfolding written after
   owed_of-cons state x xs part =
       append_assoc (line_said steps limit state x) (written steps limit (line_next steps limit state x) xs) (part_said steps limit (after steps limit (line_next steps limit state x) xs) part)
-
-  pub after-cons : (state : State) (x : List ℕ) (xs : List (List ℕ)) → after steps limit state (x ∷ xs) ≡ after steps limit (line_next steps limit state x) xs
-  unfolding after
-  after-cons state x xs = refl
 
   -- the output of joined streams, where nothing stands after the last line feed of the first
   pub output-append : (state : State) (s t : List ℕ) → last_part s ≡ [] → output steps state limit (s ++ t) ≡ output steps state limit s ++ output steps (after steps limit state (whole_lines s)) limit t
@@ -112,10 +93,12 @@ module _ (State : Type 0) (steps : Steps State) (limit : ℕ) where
   fits = rw last_part_of_none (is_no_longer limit 0 (omega arith))
 
   pub owed_of-none : (state : State) → owed_of steps limit state (whole_lines []) (last_part []) ≡ []
-  owed_of-none state = rw (part_said-short (after steps limit state (whole_lines [])) (last_part []) fits, whole_lines_none, written-none state) refl
+  unfolding written
+  owed_of-none state = rw (part_said-short (after steps limit state (whole_lines [])) (last_part []) fits, whole_lines_none) refl
 
   pub state_of-none : (state : State) → state_of steps limit state (whole_lines []) (last_part []) ≡ state
-  state_of-none state = rw (fits, whole_lines_none, after-none state) refl
+  unfolding after
+  state_of-none state = rw (fits, whole_lines_none) refl
 
   passed-append : (hands_on : Bool) (xs ys : List ℕ) → passed hands_on (xs ++ ys) ≡ passed hands_on xs ++ passed hands_on ys
   passed-append true xs ys = refl
@@ -126,7 +109,7 @@ module _ (State : Type 0) (steps : Steps State) (limit : ℕ) where
     abbrev inside : State
     inside = state_within steps limit state gone
 
-    still : nat_lt limit (length (gone ++ more)) ≡ true
+    pub still : nat_lt limit (length (gone ++ more)) ≡ true
     still = is_longer limit (length (gone ++ more)) (rw length-append (omega (arith, over)))
 
     state_within-more : state_within steps limit state (gone ++ more) ≡ inside
@@ -153,6 +136,3 @@ module _ (State : Type 0) (steps : Steps State) (limit : ℕ) where
 
     pub part_state-more : part_state steps limit state (gone ++ more) ≡ inside
     part_state-more = rw still state_within-more
-
-    pub longer-more : nat_lt limit (length (gone ++ more)) ≡ true
-    longer-more = still

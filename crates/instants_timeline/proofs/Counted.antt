@@ -2,7 +2,7 @@
 use Rattle.std.proofs.Common.{◌≡◌, ℕ, ◌+◌, ◌^◌, ◌<◌, ◌≤◌, List, [], ◌∷◌, true, false, Option, Result, Ok, Err, length, drop, get_or, map, refl, ap, ℤ, arith}
 use Rattle.std.specs.Prelude.{is_some}
 use Rattle.std.specs.Result.{result_ok}
-use Rattle.std.proofs.lemmas.List.{drop_more, drop_all}
+use Rattle.std.proofs.lemmas.List.{drop_all}
 use Rattle.std.proofs.lemmas.List.Sums.{sum_by-cons}
 use Rattle.datetime_wall.specs.Wall.{Shown}
 use Rattle.parsing_combinator.specs.Fault.{Fault}
@@ -12,6 +12,7 @@ use Rattle.instants_sources.specs.Tried.{nodes_in, tried_by}
 use Rattle.instants_sources.specs.declared.source.Source.{Source}
 use Rattle.instants_sources.proofs.FewNodes.{tried_by-le}
 use Rattle.instants_timeline.specs.Tried.{nodes_in_all, unless_named, tried_on}
+use Rattle.instants_timeline.proofs.FirstNamed.{sources_from}
 
 unless_le : (r : Result Shown Fault) (n : ℕ) → unless_named r n ≤ n
 unless_le (Ok m) n = omega arith
@@ -24,67 +25,40 @@ tried_on-le assumed [] line = omega arith
 tried_on-le assumed (grammar ∷ others) line =
     omega (arith, tried_by-le assumed grammar line, unless_le (named assumed grammar line) (tried_on assumed others line), tried_on-le assumed others line, sum_by-cons nodes_in grammar others)
 
--- those of the first source are among them
-tried_on-first : (assumed : Option ℤ) (grammar : Grammar) (others : List Grammar) (line : List ℕ) → tried_by assumed grammar line ≤ tried_on assumed (grammar ∷ others) line
-unfolding tried_on
-tried_on-first assumed grammar others line = omega arith
-
 named_none : (r : Result Shown Fault) (n : ℕ) → is_some (result_ok r) ≡ true → unless_named r n ≡ 0
 named_none (Ok m) n e = refl
 named_none (Err f) n e = absurd cc
-
--- a source that names a moment is the last
-tried_on-here : (assumed : Option ℤ) (grammar : Grammar) (others : List Grammar) (line : List ℕ) → is_some (result_ok (named assumed grammar line)) ≡ true
-    → tried_on assumed (grammar ∷ others) line ≡ tried_by assumed grammar line
-unfolding tried_on
-tried_on-here assumed grammar others line e = omega (arith, named_none (named assumed grammar line) (tried_on assumed others line) e)
 
 unnamed_all : (r : Result Shown Fault) (n : ℕ) → is_some (result_ok r) ≡ false → unless_named r n ≡ n
 unnamed_all (Ok m) n e = absurd cc
 unnamed_all (Err f) n e = refl
 
--- after a source that names none the others are tried
-tried_on-later : (assumed : Option ℤ) (grammar : Grammar) (others : List Grammar) (line : List ℕ) → is_some (result_ok (named assumed grammar line)) ≡ false
-    → tried_on assumed (grammar ∷ others) line ≡ tried_by assumed grammar line + tried_on assumed others line
-unfolding tried_on
-tried_on-later assumed grammar others line e = omega (arith, unnamed_all (named assumed grammar line) (tried_on assumed others line) e)
-
 -- ---- sources from an index on
-
--- the next one, and those after it
-sources_from : (sources : List Source) (i : ℕ) (x : Source) → i < length sources → x ≡ get_or sources i x → map grammar_of (drop i sources) ≡ grammar_of x ∷ map grammar_of (drop (i + 1) sources)
-sources_from sources i x lt e =
-    let there : drop i sources ≡ get_or sources i x ∷ drop (i + 1) sources = drop_more sources i x lt in
-    let cut : drop i sources ≡ x ∷ drop (i + 1) sources = rw (← e) at there in
-    ap (λ xs. map grammar_of xs) cut
 
 -- so many so far, and those of the others
 abbrev pub IsTriedSoFar : Option ℤ → List Source → List ℕ → ℕ → ℕ → Type 0
 IsTriedSoFar assumed sources line i so_far = so_far + tried_on assumed (map grammar_of (drop i sources)) line ≡ tried_on assumed (map grammar_of sources) line
 
--- those of the next one can be counted
-pub next_fits : (assumed : Option ℤ) (sources : List Source) (line : List ℕ) (i so_far : ℕ) (x : Source) → i < length sources → x ≡ get_or sources i x → IsTriedSoFar assumed sources line i so_far
-    → nodes_in_all (map grammar_of sources) < 2 ^ 128 → so_far + tried_by assumed (grammar_of x) line < 2 ^ 128
-next_fits assumed sources line i so_far x lt e before few =
-    let others = map grammar_of (drop (i + 1) sources) in
-    let cut = ap (λ grammars. tried_on assumed grammars line) (sources_from sources i x lt e) in
-    omega (arith, cut, before, few, tried_on-first assumed (grammar_of x) others line, tried_on-le assumed (map grammar_of sources) line)
+module _ (assumed : Option ℤ) (sources : List Source) (line : List ℕ) (i so_far : ℕ) (x : Source) (lt : i < length sources) (e : x ≡ get_or sources i x) (before : IsTriedSoFar assumed sources line i so_far) where
+  abbrev others : ℕ
+  others = tried_on assumed (map grammar_of (drop (i + 1) sources)) line
 
--- it names a moment, so they are all
-pub tried_here : (assumed : Option ℤ) (sources : List Source) (line : List ℕ) (i so_far : ℕ) (x : Source) → i < length sources → x ≡ get_or sources i x → IsTriedSoFar assumed sources line i so_far
-    → is_some (result_ok (named assumed (grammar_of x) line)) ≡ true → so_far + tried_by assumed (grammar_of x) line ≡ tried_on assumed (map grammar_of sources) line
-tried_here assumed sources line i so_far x lt e before is =
-    let others = map grammar_of (drop (i + 1) sources) in
-    let cut = ap (λ grammars. tried_on assumed grammars line) (sources_from sources i x lt e) in
-    omega (arith, cut, before, tried_on-here assumed (grammar_of x) others line is)
+  -- those of the next one, and those of the others unless it names a moment
+  cut : tried_on assumed (map grammar_of (drop i sources)) line ≡ tried_by assumed (grammar_of x) line + unless_named (named assumed (grammar_of x) line) others
+  unfolding tried_on
+  cut = ap (λ grammars. tried_on assumed grammars line) (sources_from sources i x lt e)
 
--- it names none, so the others follow
-pub tried_later : (assumed : Option ℤ) (sources : List Source) (line : List ℕ) (i so_far : ℕ) (x : Source) → i < length sources → x ≡ get_or sources i x → IsTriedSoFar assumed sources line i so_far
-    → is_some (result_ok (named assumed (grammar_of x) line)) ≡ false → IsTriedSoFar assumed sources line (i + 1) (so_far + tried_by assumed (grammar_of x) line)
-tried_later assumed sources line i so_far x lt e before is =
-    let others = map grammar_of (drop (i + 1) sources) in
-    let cut = ap (λ grammars. tried_on assumed grammars line) (sources_from sources i x lt e) in
-    omega (arith, cut, before, tried_on-later assumed (grammar_of x) others line is)
+  -- those of the next one can be counted
+  pub next_fits : nodes_in_all (map grammar_of sources) < 2 ^ 128 → so_far + tried_by assumed (grammar_of x) line < 2 ^ 128
+  next_fits few = omega (arith, cut, before, few, tried_on-le assumed (map grammar_of sources) line)
+
+  -- it names a moment, so they are all
+  pub tried_here : is_some (result_ok (named assumed (grammar_of x) line)) ≡ true → so_far + tried_by assumed (grammar_of x) line ≡ tried_on assumed (map grammar_of sources) line
+  tried_here is = omega (arith, cut, before, named_none (named assumed (grammar_of x) line) others is)
+
+  -- it names none, so the others follow
+  pub tried_later : is_some (result_ok (named assumed (grammar_of x) line)) ≡ false → IsTriedSoFar assumed sources line (i + 1) (so_far + tried_by assumed (grammar_of x) line)
+  tried_later is = omega (arith, cut, before, unnamed_all (named assumed (grammar_of x) line) others is)
 
 -- none follows
 pub tried_all : (assumed : Option ℤ) (sources : List Source) (line : List ℕ) (i so_far : ℕ) → length sources ≤ i → IsTriedSoFar assumed sources line i so_far → so_far ≡ tried_on assumed (map grammar_of sources) line

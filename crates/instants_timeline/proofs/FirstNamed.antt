@@ -19,7 +19,7 @@ here (Ok m) others moment e = e
 here (Err f) others moment e = absurd cc
 
 -- a source that names one
-pub first_named-here : (assumed : Option ℤ) (grammar : Grammar) (others : List Grammar) (line : List ℕ) (moment : Shown) → result_ok (named assumed grammar line) ≡ Some moment → result_ok (first_named assumed (grammar ∷ others) line) ≡ Some moment
+first_named-here : (assumed : Option ℤ) (grammar : Grammar) (others : List Grammar) (line : List ℕ) (moment : Shown) → result_ok (named assumed grammar line) ≡ Some moment → result_ok (first_named assumed (grammar ∷ others) line) ≡ Some moment
 unfolding first_named
 first_named-here assumed grammar others line moment e = here (named assumed grammar line) (result_ok (first_named assumed others line)) moment e
 
@@ -32,7 +32,7 @@ later (Ok m) others e = absurd cc
 later (Err f) others e = result_ok-ok_or others f
 
 -- a source that names none
-pub first_named-later : (assumed : Option ℤ) (grammar : Grammar) (others : List Grammar) (line : List ℕ) → result_ok (named assumed grammar line) ≡ None → result_ok (first_named assumed (grammar ∷ others) line) ≡ result_ok (first_named assumed others line)
+first_named-later : (assumed : Option ℤ) (grammar : Grammar) (others : List Grammar) (line : List ℕ) → result_ok (named assumed grammar line) ≡ None → result_ok (first_named assumed (grammar ∷ others) line) ≡ result_ok (first_named assumed others line)
 unfolding first_named
 first_named-later assumed grammar others line e = later (named assumed grammar line) (result_ok (first_named assumed others line)) e
 
@@ -52,7 +52,7 @@ pub answer_found : (setting : Setting) (found : Option Fields) (grammar : Gramma
 answer_found setting None grammar line bytes h a = absurd (let no : None ≡ Some a.moment = a.is in cc)
 answer_found setting (Some fields) grammar line bytes h a = answer_alike a (ap result_ok h ∙ a.is)
 
-ok_of : (r : Result Shown Fault) (m : Shown) → result_ok r ≡ Some m → r ≡ Ok m
+pub ok_of : (r : Result Shown Fault) (m : Shown) → result_ok r ≡ Some m → r ≡ Ok m
 ok_of (Ok x) m e = ap (λ (o : Option Shown). Ok (unwrap_or o x)) e
 ok_of (Err f) m e = absurd cc
 
@@ -91,18 +91,28 @@ answered_fault setting line bytes grammar others fault e none refused text =
     let first : first_named setting.assumed setting.sources line ≡ Err fault = rw e (fault_of_first (named setting.assumed grammar line) (result_ok (first_named setting.assumed others line)) fault (rw e at none) refused) in
     rw first text
 
--- the source at a place, before those after it
-pub source_before : (sources : List Source) (place : ℕ) (source : Source) → place < length sources → source ≡ get_or sources place source
-    → drop place (map grammar_of sources) ≡ grammar_of source ∷ map grammar_of (drop (place + 1) sources)
-source_before sources place source within is =
-    let there : drop place sources ≡ get_or sources place source ∷ drop (place + 1) sources = drop_more sources place source within in
-    let cut : drop place sources ≡ source ∷ drop (place + 1) sources = rw (← is) at there in
-    drop-map grammar_of place sources ∙ ap (map grammar_of) cut
+-- the source at a place, and those after it
+pub sources_from : (sources : List Source) (i : ℕ) (x : Source) → i < length sources → x ≡ get_or sources i x → map grammar_of (drop i sources) ≡ grammar_of x ∷ map grammar_of (drop (i + 1) sources)
+sources_from sources i x lt e =
+    let there : drop i sources ≡ get_or sources i x ∷ drop (i + 1) sources = drop_more sources i x lt in
+    let cut : drop i sources ≡ x ∷ drop (i + 1) sources = rw (← e) at there in
+    ap (map grammar_of) cut
+
+-- what is named from a place on
+module _ (assumed : Option ℤ) (sources : List Source) (line : List ℕ) (i : ℕ) (x : Source) (lt : i < length sources) (e : x ≡ get_or sources i x) where
+  cut : result_ok (first_named assumed (map grammar_of (drop i sources)) line) ≡ result_ok (first_named assumed (grammar_of x ∷ map grammar_of (drop (i + 1) sources)) line)
+  cut = ap (λ (grammars : List Grammar). result_ok (first_named assumed grammars line)) (sources_from sources i x lt e)
+
+  pub named_here : (moment : Shown) → result_ok (named assumed (grammar_of x) line) ≡ Some moment → result_ok (first_named assumed (map grammar_of (drop i sources)) line) ≡ Some moment
+  named_here moment is = cut ∙ first_named-here assumed (grammar_of x) (map grammar_of (drop (i + 1) sources)) line moment is
+
+  pub named_later : result_ok (named assumed (grammar_of x) line) ≡ None → result_ok (first_named assumed (map grammar_of (drop (i + 1) sources)) line) ≡ result_ok (first_named assumed (map grammar_of (drop i sources)) line)
+  named_later none = sym (cut ∙ first_named-later assumed (grammar_of x) (map grammar_of (drop (i + 1) sources)) line none)
 
 pub source_at : (sources : List Source) (place : ℕ) (source : Source) → place < length sources → source ≡ get_or sources place source
     → drop place (map grammar_of sources) ≡ grammar_of source ∷ drop (place + 1) (map grammar_of sources)
 source_at sources place source within is =
-    source_before sources place source within is ∙ ap (λ (rest : List Grammar). grammar_of source ∷ rest) (sym (drop-map grammar_of (place + 1) sources))
+    drop-map grammar_of place sources ∙ sources_from sources place source within is ∙ ap (λ (rest : List Grammar). grammar_of source ∷ rest) (sym (drop-map grammar_of (place + 1) sources))
 
 -- after all places there is none
 pub none_at_end : (setting : Setting) (line : List ℕ) (place : ℕ) → length setting.sources ≤ place → NamesFrom setting line place → result_ok (first_named setting.assumed setting.sources line) ≡ None

@@ -1,39 +1,9 @@
 -- `instants_answer` reads what it is lent, and hands its references on.
-use Rattle.std.proofs.Common.{◌≡◌, ℕ, List, [], ◌∷◌, ◌++◌, length, refl, sym, ap, subst, w8, Bor}
-use mir.Syntax.{named}
-use mir.Val.{Val, vptr}
-use base.Logic.{SProp, ent, emp, never, id⊢, fst∗}
-use base.Fml.{ftrue, fsep, flft}
-use prog.Wp.{WpFn}
-use types.Logic.{sem}
-use types.Kit.{‵, raw, ◌⊛◌, some, later, ◌$◌, ◌∵◌, !, qed, by, move, keep, drop, split, join, fsplit, fjoin, pick, suffices, use0, use1, await, feq_l, feq_i}
-use types.Run.{of_opd, no_more, and_then, returns, enter, addr, stop, fld, hop, from}
-use types.ByLocal.{alloc_all, pass_all, free_all, look_at, look_in_at, get, get_in, sets, lands_as, through}
-use types.Part.{agg, sub, whole}
-use contract.Monad.{fact, fact_i}
-use contract.Running.{tables}
-use contract.Lifetimes.{Lfts}
+use Rattle.instants_c.proofs.Kit.{◌≡◌, ℕ, List, [], ◌∷◌, ◌++◌, length, refl, sym, ap, subst, w8, Bor, named, Val, vptr, SProp, ent, emp, never, id⊢, fst∗, ftrue, fsep, flft, WpFn, sem, ‵, raw, ◌⊛◌, some, later, ◌$◌, ◌∵◌, !, qed, by, move, keep, drop, split, join, fsplit, fjoin, pick, suffices, use0, use1, await, feq_l}
+use Rattle.instants_c.proofs.Kit.{feq_i, of_opd, no_more, and_then, returns, enter, addr, stop, fld, hop, from, alloc_all, pass_all, free_all, look_at, look_in_at, get, get_in, sets, lands_as, through, agg, sub, whole, fact, fact_i, tables, Lfts, yes, plain, shr_slice_of, RawPtr, u8, usize, Is, shows, shared_of, hide}
+use Rattle.instants_c.proofs.Kit.{uint_Lawful, RattleType, Ptr, ptr_val, in_a_block, rawptr_vals, rawptr_Tells, MutRef, mut_vals, mut_Tells, ShrSlice, MutSlice, shr_slice_vals, mut_slice_vals, shr_slice_Tells, mut_slice_Tells, shr_slice_Lawful, mut_slice_Lawful, slice_val, nothing, heard, peeks, lent_at, Lasts, lasts}
+use Rattle.instants_c.proofs.Kit.{triple_of, calls_at, framed, Stays, stay_dropped, gave_slice, gave_ref, Goes-dropped, Goes-gave_slice, Goes-gave_ref, walk_of, proved, leaves, IsAnswered}
 use denote.Triple.Entry.{Args}
-use denote.Exit.{yes}
-use denote.Signature.{plain, shr_slice_of}
-use denote.Builtin.{RawPtr, u8, usize}
-use denote.Laws.{Is, shows}
-use denote.Memory.{shared_of}
-use denote.Opens.{hide}
-use denote.Plain.{uint_Lawful}
-use denote.RattleType.{RattleType}
-use denote.RawPtr.{Ptr, ptr_val, in_a_block, rawptr_vals, rawptr_Tells}
-use denote.Ref.{MutRef, mut_vals, mut_Tells}
-use denote.Slice.{ShrSlice, MutSlice, shr_slice_vals, mut_slice_vals, shr_slice_Tells, mut_slice_Tells, shr_slice_Lawful, mut_slice_Lawful, slice_val}
-use denote.Steps.{nothing, heard, peeks}
-use denote.Struct.Lending.{lent_at}
-use denote.Triple.Clauses.{Lasts, lasts}
-use denote.Triple.Spec.{triple_of}
-use denote.Triple.Call.{calls_at}
-use denote.Triple.Table.{framed}
-use denote.Triple.Walked.{Stays, stay_dropped, gave_slice, gave_ref, Goes-dropped, Goes-gave_slice, Goes-gave_ref, walk_of}
-use Rattle.std.proofs.raw_atomic.Walks.{proved, leaves}
-use Rattle.instants_c.specs.Answered.{IsAnswered}
 use Rattle.instants_c.specs.contracts.kept.Kept.{the_row as Kept}
 use Rattle.instants_c.specs.contracts.kept.answer as g
 use Rattle.instants_c.proofs.kept.answer.Met.{met}

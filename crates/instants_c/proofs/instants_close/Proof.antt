@@ -1,36 +1,12 @@
 -- `instants_close` makes the parts of a box of what its caller owns, and hands them on.
-use Rattle.std.proofs.Common.{◌≡◌, List, [], ◌∷◌, ◌++◌, refl, sym, ap, ◌∙◌, subst}
-use mir.Syntax.{impl, tnil, dnil}
-use mir.Val.{Val, vunit, vptr}
+use Rattle.instants_c.proofs.Kit.{◌≡◌, List, [], ◌∷◌, ◌++◌, refl, sym, ap, ◌∙◌, subst, impl, tnil, dnil, Val, vunit, vptr, SProp, ent, emp, never, id⊢, fst∗, ftrue, fsep, WpFn, sem, ‵, raw, ◌⊛◌, some, later, ◌$◌, ◌∵◌, !, qed, by, move, keep, drop, split, join, fsplit, fjoin, pick, suffices, use0, use1, await, feq_l, feq_i}
+use Rattle.instants_c.proofs.Kit.{of_opd, no_more, and_then, returns, enter, unit_lit, alloc_all, pass_all, free_all, look_at, get, sets, lands_as, agg, tables, yes, plain, RawPtr, unit, RattleType, Ptr, block_ptr, null_ptr, ptr_val, in_a_block, nothing, only, ensured, triple_of, calls_at, framed, Stays, stay_dropped}
+use Rattle.instants_c.proofs.Kit.{Goes-dropped, walk_of, handle_tells, proved_at, leaves, ghosts, dict, box_in}
 use mir.Raw.{raw as bare}
-use base.Logic.{SProp, ent, emp, never, id⊢, fst∗}
-use base.Fml.{ftrue, fsep}
-use prog.Wp.{WpFn}
-use types.Logic.{sem}
-use types.Kit.{‵, raw, ◌⊛◌, some, later, ◌$◌, ◌∵◌, !, qed, by, move, keep, drop, split, join, fsplit, fjoin, pick, suffices, use0, use1, await, feq_l, feq_i}
-use types.Run.{of_opd, no_more, and_then, returns, enter, unit_lit}
-use types.ByLocal.{alloc_all, pass_all, free_all, look_at, get, sets, lands_as}
-use types.Part.{agg}
-use contract.Running.{tables}
-use denote.Exit.{yes}
-use denote.Signature.{plain}
-use denote.Builtin.{RawPtr, unit}
-use denote.RattleType.{RattleType}
-use denote.RawPtr.{Ptr, block_ptr, null_ptr, ptr_val, in_a_block}
-use denote.Steps.{nothing, only}
-use denote.Triple.Clauses.{ensured}
-use denote.Triple.Spec.{triple_of}
-use denote.Triple.Call.{calls_at}
-use denote.Triple.Table.{framed}
-use denote.Triple.Walked.{Stays, stay_dropped, Goes-dropped, walk_of}
-use Rattle.std.proofs.alloc.Calls.{handle_tells}
-use Rattle.std.proofs.raw_atomic.Walks.{proved_at, leaves}
 use Rattle.std.specs.Box.Ownership.{box_owns}
 use Rattle.std.specs.contracts.alloc.Global.{the_row as Heap}
-use Rattle.std.specs.contracts.impls.GlobalAllocator.TheImpl.{ghosts, dict}
 use Rattle.std.proofs.alloc.Global.TheLaws as heap
 use Rattle.std_alloc.proofs.BoxSteps.Form as box
-use Rattle.std_alloc.proofs.BoxSteps.Steps.{box_in}
 use Rattle.instants_c.specs.contracts.kept.Kept.{the_row as Kept}
 use Rattle.instants_c.proofs.kept.Kept.TheLaws as kept
 use Rattle.instants_c.specs.contracts.parts.Parts as parts

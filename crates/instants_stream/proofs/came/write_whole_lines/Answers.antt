@@ -3,25 +3,25 @@ use Rattle.std.proofs.KnownBytes.{Appends-nil, Appends-trans}
 use Rattle.std.proofs.lemmas.List.{drop-drop, take_all}
 use Rattle.std.proofs.lemmas.Result.{err_from_is_err_and}
 use Rattle.instants_stream.specs.Lines.{HasNoLineFeed, whole_lines}
-use Rattle.instants_stream.specs.Steps.{written}
+use Rattle.instants_stream.specs.Steps.{written, after}
 use Rattle.instants_stream.specs.Known.{AppendsPrefix}
 use Rattle.instants_stream.proofs.Lines.{whole_lines_none, last_part_of_none}
-use Rattle.instants_stream.proofs.Written.{written-none, after-none, written-next, after-next, written-begins}
+use Rattle.instants_stream.proofs.Written.{written-next, after-next, written-begins}
 use Rattle.instants_stream.proofs.Known.{AppendsPrefix-after, AppendsPrefix-more}
 use Rattle.instants_stream.proofs.WholeLines.{whole_lines-prefix, next_ended, next_lines, rest_is_last, lines_are_all}
 use Rattle.instants_stream.proofs.came.write_whole_lines.Goals as goal
 
 pub loop-len-init : goal.loop-len-init
+unfolding written after
 loop-len-init g c =
-    let steps = g.S.WritesLines.steps in
     let n = length c.args.bytes.now in
     let start : n - n ≡ 0 = omega arith in
     record {
       within = omega arith;
       rest_is = rw start refl;
       ended = rw start last_part_of_none;
-      written = rw (start, whole_lines_none, written-none g.S.WritesLines.State steps c.args.limit (g.S.WritesLines.state c.args.steps.now)) (Appends-nil _);
-      stands = rw (start, whole_lines_none, after-none g.S.WritesLines.State steps c.args.limit (g.S.WritesLines.state c.args.steps.now)) refl;
+      written = rw (start, whole_lines_none) (Appends-nil _);
+      stands = rw (start, whole_lines_none) refl;
       inside = c.line_end-len.ensures.within;
       before = c.line_end-len.ensures.before;
       line_feed = c.line_end-len.ensures.line_feed;

@@ -1,9 +1,9 @@
-use Rattle.std.proofs.Common.{◌≡◌, ℕ, ◌+◌, ◌-◌, ◌<◌, List, [], ◌++◌, length, take, drop, refl, ◌∙◌, subst, arith, length-drop, append-nil}
+use Rattle.std.proofs.Common.{◌≡◌, ℕ, ◌+◌, ◌-◌, ◌<◌, List, [], ◌++◌, length, take, drop, ◌∙◌, subst, arith, length-drop}
 use Rattle.std.proofs.lemmas.List.{take_rest}
 use Rattle.instants_stream.specs.Lines.{HasNoLineFeed}
 use Rattle.instants_stream.specs.Answers.{answered, output}
 use Rattle.instants_stream.proofs.NextAnswer.{due_next, due_last, due_none}
-use Rattle.instants_stream.proofs.Pieces.{more_due, is_longer, is_cut, all_len, all_written, after_later}
+use Rattle.instants_stream.proofs.Pieces.{more_due, is_longer, is_cut, all_written, after_later, last_written}
 use Rattle.instants_stream.proofs.over.lines_over.Goals as goal
 use Rattle.instants_stream.proofs.over.lines_over.Goals.{After-write_answered, After-write_answered-then-start-input}
 
@@ -79,41 +79,25 @@ returns-in_default-put-2-clause-full g c =
 pub returns-in-Ok-put-clause-len : goal.returns-in-Ok-put-clause-len
 returns-in-Ok-put-clause-len g c =
     let i = c.loop-len.invariant in
-    let answer = g.A.AnswersLines.answer c.args.answers.now in
-    let input = c.args.input.now in
-    let old = c.loop-len.room in
-    let new = c.put-then-start-input.new.room in
-    let due = last_due g (goal.at.returns-in-Ok-put-clause-len g c).After-write_answered-then-start-input in
     let put = c.in-Ok-put.ensures in
-    let is_all = more_due (output answer c.args.limit input) old c.write_answered-then-start-input.new.storage [] c.loop-len.end i.within due c.in-Ok-put.next new put.prefix ∙ append-nil (take c.in-Ok-put.next new) in
-    all_len (output answer c.args.limit input) old new c.in-Ok-put.next (omega (arith, put.within, c.put-then-start-input.auto.room)) is_all put.after
+    let due = last_due g (goal.at.returns-in-Ok-put-clause-len g c).After-write_answered-then-start-input in
+    (last_written _ c.loop-len.room c.write_answered-then-start-input.new.storage c.args.room.now c.put-then-start-input.new.room c.loop-len.end c.in-Ok-put.next i.within due put.prefix put.end put.after i.after (omega (arith, put.within, c.put-then-start-input.auto.room))).0
 
 pub returns-in-Ok-put-clause-written : goal.returns-in-Ok-put-clause-written
 returns-in-Ok-put-clause-written g c =
     let i = c.loop-len.invariant in
-    let answer = g.A.AnswersLines.answer c.args.answers.now in
-    let input = c.args.input.now in
-    let old = c.loop-len.room in
-    let new = c.put-then-start-input.new.room in
-    let word = c.write_answered-then-start-input.new.storage in
-    let due = last_due g (goal.at.returns-in-Ok-put-clause-written g c).After-write_answered-then-start-input in
     let put = c.in-Ok-put.ensures in
-    let is_all = more_due (output answer c.args.limit input) old word [] c.loop-len.end i.within due c.in-Ok-put.next new put.prefix ∙ append-nil (take c.in-Ok-put.next new) in
-    let after = put.after ∙ rw put.end (after_later old c.args.room.now c.loop-len.end (length word) i.after) in
-    all_written (output answer c.args.limit input) c.args.room.now new c.in-Ok-put.next (omega (arith, put.within, c.put-then-start-input.auto.room)) is_all after
+    let due = last_due g (goal.at.returns-in-Ok-put-clause-written g c).After-write_answered-then-start-input in
+    (last_written _ c.loop-len.room c.write_answered-then-start-input.new.storage c.args.room.now c.put-then-start-input.new.room c.loop-len.end c.in-Ok-put.next i.within due put.prefix put.end put.after i.after (omega (arith, put.within, c.put-then-start-input.auto.room))).1
 
 pub returns-else-start-input-clause-len : goal.returns-else-start-input-clause-len
 returns-else-start-input-clause-len g c =
     let i = c.loop-len.invariant in
-    let answer = g.A.AnswersLines.answer c.args.answers.now in
-    let old = c.loop-len.room in
-    let is_all = due_none answer c.args.limit c.args.input.now c.loop-len.start (take c.loop-len.end old) [] i.due (omega (arith, c.if-start-input.false)) in
-    all_len (output answer c.args.limit c.args.input.now) old old c.loop-len.end i.within is_all refl
+    let is_all = due_none (g.A.AnswersLines.answer c.args.answers.now) c.args.limit c.args.input.now c.loop-len.start (take c.loop-len.end c.loop-len.room) [] i.due (omega (arith, c.if-start-input.false)) in
+    (all_written _ c.args.room.now c.loop-len.room c.loop-len.end i.within is_all i.after).0
 
 pub returns-else-start-input-clause-written : goal.returns-else-start-input-clause-written
 returns-else-start-input-clause-written g c =
     let i = c.loop-len.invariant in
-    let answer = g.A.AnswersLines.answer c.args.answers.now in
-    let old = c.loop-len.room in
-    let is_all = due_none answer c.args.limit c.args.input.now c.loop-len.start (take c.loop-len.end old) [] i.due (omega (arith, c.if-start-input.false)) in
-    all_written (output answer c.args.limit c.args.input.now) c.args.room.now old c.loop-len.end i.within is_all i.after
+    let is_all = due_none (g.A.AnswersLines.answer c.args.answers.now) c.args.limit c.args.input.now c.loop-len.start (take c.loop-len.end c.loop-len.room) [] i.due (omega (arith, c.if-start-input.false)) in
+    (all_written _ c.args.room.now c.loop-len.room c.loop-len.end i.within is_all i.after).1

@@ -1,22 +1,6 @@
 -- `forget` lets go what a handle holds.
-use Rattle.std.proofs.Common.{List, [], ◌∷◌, ◌++◌, refl, sym, subst}
-use mir.Syntax.{impl, tnil, dnil}
-use mir.Val.{Val, vunit}
-use base.Logic.{SProp, ent, emp, id⊢}
-use base.Fml.{ftrue, fsep}
-use prog.Wp.{WpFn}
-use types.Kit.{‵, raw, ◌⊛◌, ◌$◌, ◌∵◌, !, qed, by, keep, drop, use0, split, fsplit, fjoin, feq_i, suffices}
-use types.Run.{of_opd, unit_lit, returns, enter}
-use types.ByLocal.{alloc_all, pass_all, free_all, look_at, sets}
-use contract.Running.{tables}
-use denote.Exit.{yes}
-use denote.Signature.{plain}
-use denote.RattleType.{RattleType}
-use denote.Steps.{nothing}
-use denote.Triple.Walked.{Stays, stay_dropped, Goes-dropped, walk_of}
-use Rattle.std.proofs.alloc.Calls.{handle_tells}
-use Rattle.std.proofs.raw_atomic.Walks.{proved_at, leaves}
-use Rattle.std.specs.contracts.impls.GlobalAllocator.TheImpl.{dict}
+use Rattle.instants_c.proofs.Kit.{List, [], ◌∷◌, ◌++◌, refl, sym, subst, impl, tnil, dnil, Val, vunit, SProp, ent, emp, id⊢, ftrue, fsep, WpFn, ‵, raw, ◌⊛◌, ◌$◌, ◌∵◌, !, qed, by, keep, drop, use0, split, fsplit, fjoin, feq_i, suffices, of_opd, unit_lit, returns, enter, alloc_all, pass_all, free_all, look_at, sets, tables}
+use Rattle.instants_c.proofs.Kit.{yes, plain, RattleType, nothing, Stays, stay_dropped, Goes-dropped, walk_of, handle_tells, proved_at, leaves, dict}
 use Rattle.instants_c.specs.contracts.handle.Handle as handle
 use Rattle.instants_c.proofs.handle.Handle.TheLaws as laws
 use Rattle.instants_c.specs.contracts.handle.Handle.forget as f

@@ -1,31 +1,11 @@
 -- `of` keeps the pointer, and what its parts own goes with it.
-use Rattle.std.proofs.Common.{◌≡◌, List, [], ◌∷◌, ◌++◌, refl, sym, subst, Some}
-use mir.Syntax.{impl, tnil, dnil}
-use mir.Val.{Val, vptr, vstruct, vcons, vnil}
-use base.Logic.{SProp, ent, emp, id⊢}
-use base.Fml.{ftrue, fsep}
-use prog.Wp.{WpFn}
-use types.Kit.{‵, raw, ◌⊛◌, ◌$◌, ◌∵◌, !, qed, by, move, keep, drop, use0, use1, split, fsplit, fjoin, fpack, feq_i, suffices}
-use types.Part.{whole, sub, agg}
-use types.Run.{stop, fld, no_more, and_then, of_opd, returns, enter}
-use types.ByLocal.{alloc_all, pass_all, free_all, look_at, get, get_in, sets}
-use contract.Monad.{fact, fact_i}
-use contract.Running.{tables}
-use denote.Exit.{no}
-use denote.Signature.{plain}
-use denote.Builtin.{RawPtr}
-use denote.RattleType.{RattleType, Valss}
-use denote.RawPtr.{block_ptr}
-use denote.Steps.{nothing}
+use Rattle.instants_c.proofs.Kit.{◌≡◌, List, [], ◌∷◌, ◌++◌, refl, sym, subst, Some, impl, tnil, dnil, Val, vptr, vstruct, vcons, vnil, SProp, ent, emp, id⊢, ftrue, fsep, WpFn, ‵, raw, ◌⊛◌, ◌$◌, ◌∵◌, !, qed, by, move, keep, drop, use0, use1, split, fsplit, fjoin, fpack, feq_i, suffices, whole, sub, agg, stop, fld, no_more}
+use Rattle.instants_c.proofs.Kit.{and_then, of_opd, returns, enter, alloc_all, pass_all, free_all, look_at, get, get_in, sets, fact, fact_i, tables, no, plain, RawPtr, RattleType, Valss, block_ptr, nothing, Stays, stay_dropped, Goes-dropped, walk_of, proved_at, leaves, ghosts, dict, box_out}
 use denote.Struct.Struct.{within}
 use denote.Struct.Owning.{shape}
-use denote.Triple.Walked.{Stays, stay_dropped, Goes-dropped, walk_of}
-use Rattle.std.proofs.raw_atomic.Walks.{proved_at, leaves}
 use Rattle.std.specs.contracts.alloc.Global.{the_row as Heap}
-use Rattle.std.specs.contracts.impls.GlobalAllocator.TheImpl.{ghosts, dict}
 use Rattle.std.proofs.alloc.Global.TheLaws as heap
 use Rattle.std_alloc.proofs.BoxSteps.Form as box
-use Rattle.std_alloc.proofs.BoxSteps.Steps.{box_out}
 use Rattle.instants_c.specs.contracts.kept.Kept.{the_row as Kept}
 use Rattle.instants_c.proofs.kept.Kept.TheLaws as kept
 use Rattle.instants_c.specs.contracts.parts.Parts as parts
