@@ -6,7 +6,6 @@ use Rattle.std.proofs.lemmas.Bool.Decides.{nat_tests}
 use Rattle.std.proofs.lemmas.Bool.{cases_lt}
 use Rattle.std.proofs.lemmas.List.Sums.{prefix_len_is, prefix_len_stops}
 use Rattle.base.specs.Bytes.{colon}
-use Rattle.instants_edges.specs.Edge.{byte_before}
 use Rattle.instants_edges.specs.Clock.{ends_pair, ends_clock, ends_seconds, has_seconds_before, quote_place, has_clock_before, HasNoColon}
 
 -- no clock and no quotation mark comes before a place

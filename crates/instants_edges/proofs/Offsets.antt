@@ -5,11 +5,11 @@ use Rattle.std.specs.Option.{option_or}
 use Rattle.std.proofs.lemmas.Bool.Decides.{nat_tests}
 use Rattle.std.proofs.Math.Bool.{and-false}
 use Rattle.std.proofs.lemmas.List.{get_or-take, length-append, length-take, length-drop}
-use Rattle.base.specs.Bytes.{space, plus, hyphen, colon, left_bracket, upper_z}
+use Rattle.base.specs.Bytes.{space, plus, hyphen, colon, upper_z}
 use Rattle.instants_words.specs.Pieces.{number_said, clock_seconds, with_sign, offset_said}
-use Rattle.std.specs.Char.{is_ascii_digit, is_ascii_alphabetic}
+use Rattle.std.specs.Char.{is_ascii_digit}
 use Rattle.std.specs.List.{prefix_len}
-use Rattle.instants_edges.specs.Edge.{is_edge, is_parameter, escape}
+use Rattle.instants_edges.specs.Edge.{is_edge}
 use Rattle.instants_edges.specs.Text.{comma}
 use Rattle.instants_edges.specs.Offset.{by_word, within_fifteen_hours, with_colon, without_colon, of_hours, of_name, offset_here, past, fraction_length, sequence_length, offset_after}
 

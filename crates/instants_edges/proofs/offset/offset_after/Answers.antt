@@ -1,4 +1,4 @@
-use Rattle.std.proofs.Common.{◌≡◌, ◌==◌, ◌∙◌, false, None, get_or, sym, arith}
+use Rattle.std.proofs.Common.{◌≡◌, ◌∙◌, None, sym, arith}
 use Rattle.std.proofs.lemmas.Bool.Decides.{nat_tests}
 use Rattle.instants_edges.specs.Offset.{offset_here}
 use Rattle.instants_edges.proofs.Offsets.{near_is, none_of, after_space, after_hours, after_unsigned, after_here}

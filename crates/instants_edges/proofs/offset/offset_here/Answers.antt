@@ -1,4 +1,4 @@
-use Rattle.std.proofs.Common.{◌≡◌, ◌==◌, ◌∙◌, false, get_or, sym, arith}
+use Rattle.std.proofs.Common.{◌∙◌, sym, arith}
 use Rattle.std.proofs.lemmas.Bool.Decides.{nat_tests}
 use Rattle.instants_edges.proofs.Offsets.{here_signed, here_letters, here_unsigned, here_none}
 use Rattle.instants_edges.proofs.offset.offset_here.Goals as goal

@@ -1,9 +1,5 @@
-use Rattle.std.proofs.Common.{◌≡◌, ◌+◌, ◌==◌, ◌&&◌, true, false, get_or, arith}
-use Rattle.std.specs.Char.{is_ascii_alphabetic, is_ascii_alphanumeric}
+use Rattle.std.proofs.Common.{arith}
 use Rattle.std.proofs.lemmas.Bool.Decides.{nat_tests}
-use Rattle.base.specs.Bytes.{lower_z}
-use Rattle.instants_edges.specs.Edge.{byte_before}
-use Rattle.instants_edges.specs.Text.{is_letter}
 use Rattle.instants_edges.proofs.Texts.{mail_open, mail_no_letter, mail_in_word, mail_long, mail_longer, mail_z, mail_letter, mail_ut}
 use Rattle.instants_edges.proofs.text.mail_end.Goals as goal
 use Rattle.instants_edges.proofs.text.mail_end.Goals.{else-is_ut-via-then-is_ut+else-not-is_ascii_alphanumeric-2, else-is_ut-via-else-is_ut, then-not-is_ascii_alphabetic-via-then-not-is_ascii_alphabetic, then-not-is_ascii_alphabetic-via-else-not-is_ascii_alphabetic+then-is_ascii_alphanumeric}
