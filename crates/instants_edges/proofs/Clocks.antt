@@ -1,11 +1,11 @@
 -- Clocks before a place.
 use Rattle.std.proofs.Common.{◌≡◌, ℕ, zero, suc, ◌+◌, ◌-◌, ◌<◌, ◌≤◌, ◌==◌, Bool, true, false, ◌||◌, not, List, length, get_or, refl, subst, inl, inr, add-one, below_more, arith}
 use Rattle.std.specs.Prelude.{min, nat_le, ◌&&◌}
+use Rattle.std.proofs.Math.Bool.{or-true}
 use Rattle.std.proofs.lemmas.Bool.Decides.{nat_tests}
 use Rattle.std.proofs.lemmas.Bool.{cases_lt}
 use Rattle.std.proofs.lemmas.List.Sums.{prefix_len_is, prefix_len_stops}
 use Rattle.base.specs.Bytes.{colon}
-use Rattle.instants_edges.specs.Edge.{byte_before}
 use Rattle.instants_edges.specs.Clock.{ends_pair, ends_clock, ends_seconds, has_seconds_before, quote_place, has_clock_before, HasNoColon}
 
 -- no clock and no quotation mark comes before a place
@@ -19,16 +19,12 @@ seconds_more : (line : List ℕ) (at : ℕ) → has_seconds_before line (at + 1)
 unfolding has_seconds_before
 seconds_more line at = rw (add-one at) refl
 
-or_true : (b : Bool) → (b || true) ≡ true
-or_true true = refl
-or_true false = refl
-
 -- a clock before one place is before each later one
 seconds_later : (line : List ℕ) (at far : ℕ) → has_seconds_before line at ≡ true → has_seconds_before line (at + far) ≡ true
 seconds_later line at zero e = let same : at + 0 ≡ at = omega arith in rw same e
 seconds_later line at (suc far) e =
     let there : at + suc far ≡ at + far + 1 = omega arith in
-    rw (there, seconds_more line (at + far), seconds_later line at far e) (or_true (ends_seconds line (at + far)))
+    rw (there, seconds_more line (at + far), seconds_later line at far e) (or-true (ends_seconds line (at + far)))
 
 pub none_at_first : (line : List ℕ) → NoneSoFar line 0
 unfolding has_seconds_before
@@ -116,7 +112,3 @@ none_among line seen at place le is none here = λ k lt.
           let P : ℕ → Type 0 = λ n. (get_or line n 0 == colon) ≡ false in
           subst P same (here (k - at) (omega (arith, high, le, is, lt)))
     ]
-
-pub is_none : (b : Bool) → not b ≡ true → b ≡ false
-is_none true h = absurd cc
-is_none false h = refl

@@ -2,7 +2,6 @@ pub mod Prefixes
 pub mod Edges
 pub mod Texts
 pub mod Clocks
-pub mod Lanes
 pub mod Numbers
 pub mod Zones
 pub mod Offsets

@@ -1,5 +1,5 @@
 -- Numbers of two digits and of four.
-use Rattle.std.proofs.Common.{◌≡◌, ℕ, ℤ, ◌+◌, ◌-◌, ◌*◌, ◌^◌, ◌<◌, ◌≤◌, Bool, true, false, ◌&&◌, ◌||◌, List, [], ◌∷◌, length, take, drop, Option, None, Some, refl, arith}
+use Rattle.std.proofs.Common.{◌≡◌, ℕ, ℤ, ◌+◌, ◌-◌, ◌*◌, ◌^◌, ◌<◌, ◌≤◌, Bool, true, false, ◌&&◌, ◌||◌, List, [], ◌∷◌, length, take, drop, Option, None, Some, refl, ◌∙◌, arith}
 use Rattle.std.specs.Prelude.{nat_le, if◌then◌else◌}
 use Rattle.std.specs.Char.{is_ascii_digit, digit_value}
 use Rattle.std.specs.List.{list_all}
@@ -17,15 +17,7 @@ use Rattle.instants_edges.specs.Year.{year_said, year_before, year_after, differ
 pub pair_value : (tens ones : ℕ) → is_ascii_digit tens ≡ true → is_ascii_digit ones ≡ true → digits_value 10 (tens ∷ ones ∷ []) ≡ (tens - 48) * 10 + (ones - 48)
 pair_value tens ones t o = rw ((digit_is tens t).0, (digit_is ones o).0) (omega arith)
 
-pub pair_said : (tens ones : ℕ) → is_ascii_digit tens ≡ true → is_ascii_digit ones ≡ true → number_said 0 99 2 (tens ∷ ones ∷ []) ≡ Some (digits_value 10 (tens ∷ ones ∷ []))
-unfolding number_said
-pair_said tens ones t o =
-    let v = pair_value tens ones t o in
-    let few : nat_le (digits_value 10 (tens ∷ ones ∷ [])) 99 ≡ true = rw v (grind (arith, nat_tests, digit_is tens t, digit_is ones o)) in
-    let low : nat_le 0 (digits_value 10 (tens ∷ ones ∷ [])) ≡ true = grind (arith, nat_tests) in
-    rw (t, o, low, few) refl
-
-none_up_to : (tens ones greatest : ℕ) → (is_ascii_digit tens && is_ascii_digit ones) ≡ false → number_said 0 greatest 2 (tens ∷ ones ∷ []) ≡ None
+pub none_up_to : (tens ones greatest : ℕ) → (is_ascii_digit tens && is_ascii_digit ones) ≡ false → number_said 0 greatest 2 (tens ∷ ones ∷ []) ≡ None
 unfolding number_said
 none_up_to tens ones greatest e =
     elim (is_ascii_digit tens) as (λ v. is_ascii_digit tens ≡ v → number_said 0 greatest 2 (tens ∷ ones ∷ []) ≡ None) [
@@ -40,8 +32,10 @@ said_up_to tens ones greatest t o =
     let low : nat_le 0 (digits_value 10 (tens ∷ ones ∷ [])) ≡ true = grind (arith, nat_tests) in
     rw (t, o, low) refl
 
-pub no_pair : (tens ones : ℕ) → (is_ascii_digit tens && is_ascii_digit ones) ≡ false → number_said 0 99 2 (tens ∷ ones ∷ []) ≡ None
-no_pair tens ones e = none_up_to tens ones 99 e
+pub pair_said : (tens ones : ℕ) → is_ascii_digit tens ≡ true → is_ascii_digit ones ≡ true → number_said 0 99 2 (tens ∷ ones ∷ []) ≡ Some (digits_value 10 (tens ∷ ones ∷ []))
+pair_said tens ones t o =
+    let few : nat_le (digits_value 10 (tens ∷ ones ∷ [])) 99 ≡ true = rw (pair_value tens ones t o) (grind (arith, nat_tests, digit_is tens t, digit_is ones o)) in
+    said_up_to tens ones 99 t o ∙ rw few refl
 
 -- .. up to a greatest one
 abbrev pub up_to : ℕ → Option ℕ → Option ℕ
@@ -51,7 +45,7 @@ up_to greatest (Some number) = if nat_le number greatest then Some number else N
 pub pair_up_to : (tens ones greatest : ℕ) → greatest ≤ 99 → number_said 0 greatest 2 (tens ∷ ones ∷ []) ≡ up_to greatest (number_said 0 99 2 (tens ∷ ones ∷ []))
 pair_up_to tens ones greatest few =
     elim (is_ascii_digit tens && is_ascii_digit ones) as (λ v. (is_ascii_digit tens && is_ascii_digit ones) ≡ v → number_said 0 greatest 2 (tens ∷ ones ∷ []) ≡ up_to greatest (number_said 0 99 2 (tens ∷ ones ∷ []))) [
-      | false ↦ λ e. rw (no_pair tens ones e) (none_up_to tens ones greatest e)
+      | false ↦ λ e. rw (none_up_to tens ones 99 e) (none_up_to tens ones greatest e)
       | true ↦ λ e.
           let t : is_ascii_digit tens ≡ true = grind (arith, nat_tests) in
           let o : is_ascii_digit ones ≡ true = grind (arith, nat_tests) in
@@ -96,12 +90,12 @@ module _ (a b c d : ℕ) where
   year_by_pairs =
       let all = regroup (is_ascii_digit a) (is_ascii_digit b) (is_ascii_digit c) (is_ascii_digit d) in
       elim (is_ascii_digit a && is_ascii_digit b) as (λ v. (is_ascii_digit a && is_ascii_digit b) ≡ v → year_said (a ∷ b ∷ c ∷ d ∷ []) ≡ year_from (number_said 0 99 2 (a ∷ b ∷ [])) (number_said 0 99 2 (c ∷ d ∷ []))) [
-        | false ↦ λ e. rw (no_pair a b e) (not_all (a ∷ b ∷ c ∷ d ∷ []) (rw (all, e) refl))
+        | false ↦ λ e. rw (none_up_to a b 99 e) (not_all (a ∷ b ∷ c ∷ d ∷ []) (rw (all, e) refl))
         | true ↦ λ e.
             let p : is_ascii_digit a ≡ true = grind (arith, nat_tests) in
             let q : is_ascii_digit b ≡ true = grind (arith, nat_tests) in
             elim (is_ascii_digit c && is_ascii_digit d) as (λ v. (is_ascii_digit c && is_ascii_digit d) ≡ v → year_said (a ∷ b ∷ c ∷ d ∷ []) ≡ year_from (number_said 0 99 2 (a ∷ b ∷ [])) (number_said 0 99 2 (c ∷ d ∷ []))) [
-              | false ↦ λ f. rw (no_pair c d f, no_rest (number_said 0 99 2 (a ∷ b ∷ []))) (not_all (a ∷ b ∷ c ∷ d ∷ []) (rw (all, e, f) refl))
+              | false ↦ λ f. rw (none_up_to c d 99 f, no_rest (number_said 0 99 2 (a ∷ b ∷ []))) (not_all (a ∷ b ∷ c ∷ d ∷ []) (rw (all, e, f) refl))
               | true ↦ λ f.
                   let r : is_ascii_digit c ≡ true = grind (arith, nat_tests) in
                   let s : is_ascii_digit d ≡ true = grind (arith, nat_tests) in

@@ -3,12 +3,13 @@ use Rattle.std.proofs.Common.{◌≡◌, ℕ, ◌+◌, ◌<◌, ◌≤◌, ◌==
 use Rattle.std.specs.Prelude.{codes, bytes_eq, is_some, if◌then◌else◌}
 use Rattle.std.specs.Option.{option_or}
 use Rattle.std.proofs.lemmas.Bool.Decides.{nat_tests}
-use Rattle.std.proofs.lemmas.List.{get_or-take}
-use Rattle.base.specs.Bytes.{space, plus, hyphen, colon, left_bracket, upper_z}
+use Rattle.std.proofs.Math.Bool.{and-false}
+use Rattle.std.proofs.lemmas.List.{get_or-take, length-append, length-take, length-drop}
+use Rattle.base.specs.Bytes.{space, plus, hyphen, colon, upper_z}
 use Rattle.instants_words.specs.Pieces.{number_said, clock_seconds, with_sign, offset_said}
-use Rattle.std.specs.Char.{is_ascii_digit, is_ascii_alphabetic}
+use Rattle.std.specs.Char.{is_ascii_digit}
 use Rattle.std.specs.List.{prefix_len}
-use Rattle.instants_edges.specs.Edge.{is_edge, is_parameter, escape}
+use Rattle.instants_edges.specs.Edge.{is_edge}
 use Rattle.instants_edges.specs.Text.{comma}
 use Rattle.instants_edges.specs.Offset.{by_word, within_fifteen_hours, with_colon, without_colon, of_hours, of_name, offset_here, past, fraction_length, sequence_length, offset_after}
 
@@ -32,68 +33,34 @@ colon_here : (bytes : List ℕ) → 6 ≤ length bytes → get_or bytes 3 0 ≡ 
     → with_colon (take 6 bytes) ≡ clock_said (get_or bytes 0 0) (get_or bytes 1 0) (get_or bytes 2 0) (get_or bytes 4 0) (get_or bytes 5 0)
 unfolding offset_said
 colon_here (a ∷ b ∷ c ∷ d ∷ e ∷ f ∷ bytes) long colon = rw colon refl
-colon_here [] long colon = absurd (omega arith)
-colon_here (a ∷ []) long colon = absurd (omega arith)
-colon_here (a ∷ b ∷ []) long colon = absurd (omega arith)
-colon_here (a ∷ b ∷ c ∷ []) long colon = absurd (omega arith)
-colon_here (a ∷ b ∷ c ∷ d ∷ []) long colon = absurd (omega arith)
-colon_here (a ∷ b ∷ c ∷ d ∷ e ∷ []) long colon = absurd (omega arith)
-
-no_colon : (bytes : List ℕ) → 6 ≤ length bytes → (get_or bytes 3 0 == colon) ≡ false → with_colon (take 6 bytes) ≡ None
-unfolding offset_said
-no_colon (a ∷ b ∷ c ∷ d ∷ e ∷ f ∷ bytes) long other = rw other refl
-no_colon [] long other = refl
-no_colon (a ∷ []) long other = refl
-no_colon (a ∷ b ∷ []) long other = refl
-no_colon (a ∷ b ∷ c ∷ []) long other = refl
-no_colon (a ∷ b ∷ c ∷ d ∷ []) long other = refl
-no_colon (a ∷ b ∷ c ∷ d ∷ e ∷ []) long other = refl
-
-few_of_six : (bytes : List ℕ) → length bytes < 6 → with_colon (take 6 bytes) ≡ None
-unfolding offset_said
-few_of_six (a ∷ b ∷ c ∷ d ∷ e ∷ f ∷ bytes) few = absurd (omega arith)
-few_of_six [] few = refl
-few_of_six (a ∷ []) few = refl
-few_of_six (a ∷ b ∷ []) few = refl
-few_of_six (a ∷ b ∷ c ∷ []) few = refl
-few_of_six (a ∷ b ∷ c ∷ d ∷ []) few = refl
-few_of_six (a ∷ b ∷ c ∷ d ∷ e ∷ []) few = refl
+colon_here bytes long colon = absurd (omega arith)
 
 -- ---- without one
 
 digits_here : (bytes : List ℕ) → 5 ≤ length bytes → without_colon (take 5 bytes) ≡ clock_said (get_or bytes 0 0) (get_or bytes 1 0) (get_or bytes 2 0) (get_or bytes 3 0) (get_or bytes 4 0)
 unfolding offset_said
 digits_here (a ∷ b ∷ c ∷ d ∷ e ∷ bytes) long = refl
-digits_here [] long = absurd (omega arith)
-digits_here (a ∷ []) long = absurd (omega arith)
-digits_here (a ∷ b ∷ []) long = absurd (omega arith)
-digits_here (a ∷ b ∷ c ∷ []) long = absurd (omega arith)
-digits_here (a ∷ b ∷ c ∷ d ∷ []) long = absurd (omega arith)
-
-few_of_five : (bytes : List ℕ) → length bytes < 5 → without_colon (take 5 bytes) ≡ None
-unfolding offset_said
-few_of_five (a ∷ b ∷ c ∷ d ∷ e ∷ bytes) few = absurd (omega arith)
-few_of_five [] few = refl
-few_of_five (a ∷ []) few = refl
-few_of_five (a ∷ b ∷ []) few = refl
-few_of_five (a ∷ b ∷ c ∷ []) few = refl
-few_of_five (a ∷ b ∷ c ∷ d ∷ []) few = refl
+digits_here bytes long = absurd (omega arith)
 
 -- ---- hours alone
 
 hours_here : (bytes : List ℕ) → 3 ≤ length bytes → of_hours (take 3 bytes) ≡ clock_said (get_or bytes 0 0) (get_or bytes 1 0) (get_or bytes 2 0) 48 48
 unfolding offset_said
 hours_here (a ∷ b ∷ c ∷ bytes) long = refl
-hours_here [] long = absurd (omega arith)
-hours_here (a ∷ []) long = absurd (omega arith)
-hours_here (a ∷ b ∷ []) long = absurd (omega arith)
+hours_here bytes long = absurd (omega arith)
 
-few_of_three : (bytes : List ℕ) → length bytes < 3 → of_hours (take 3 bytes) ≡ None
+-- ---- what says none
+
+-- a word of another length, and one without a colon in its middle
+other_length : (word : List ℕ) → (length word ≡ 6 → ⊥) → offset_said word ≡ None
 unfolding offset_said
-few_of_three (a ∷ b ∷ c ∷ bytes) few = absurd (omega arith)
-few_of_three [] few = refl
-few_of_three (a ∷ []) few = refl
-few_of_three (a ∷ b ∷ []) few = refl
+other_length (a ∷ b ∷ c ∷ d ∷ e ∷ f ∷ []) other = absurd (other refl)
+other_length word other = refl
+
+no_colon : (word : List ℕ) → (get_or word 3 0 == colon) ≡ false → offset_said word ≡ None
+unfolding offset_said
+no_colon (a ∷ b ∷ c ∷ d ∷ e ∷ f ∷ []) other = rw other refl
+no_colon word other = refl
 
 -- ---- names
 
@@ -111,16 +78,7 @@ unsigned_here : (word : List ℕ) → (get_or word 0 0 == plus) ≡ false → (g
 unfolding offset_said
 unsigned_here (a ∷ b ∷ c ∷ d ∷ e ∷ f ∷ []) p h =
     either_none (d == colon) _ (unsigned a (clock_seconds (number_said 0 23 2 (b ∷ c ∷ [])) (number_said 0 59 2 (e ∷ f ∷ []))) p h)
-unsigned_here [] p h = refl
-unsigned_here (a ∷ []) p h = refl
-unsigned_here (a ∷ b ∷ []) p h = refl
-unsigned_here (a ∷ b ∷ c ∷ []) p h = refl
-unsigned_here (a ∷ b ∷ c ∷ d ∷ []) p h = refl
-unsigned_here (a ∷ b ∷ c ∷ d ∷ e ∷ []) p h = refl
-unsigned_here (a ∷ b ∷ c ∷ d ∷ e ∷ f ∷ g ∷ word) p h = refl
-
-first_of_take : (n : ℕ) (bytes : List ℕ) → 0 < n → get_or (take n bytes) 0 0 ≡ get_or bytes 0 0
-first_of_take n bytes some = get_or-take n bytes 0 0 some
+unsigned_here word p h = refl
 
 digits_unsigned : (bytes : List ℕ) → (get_or bytes 0 0 == plus) ≡ false → (get_or bytes 0 0 == hyphen) ≡ false → offset_said (take 3 (take 5 bytes) ++ colon ∷ drop 3 (take 5 bytes)) ≡ None
 digits_unsigned [] p h = unsigned_here (colon ∷ []) refl refl
@@ -130,14 +88,10 @@ hours_unsigned : (bytes : List ℕ) → (get_or bytes 0 0 == plus) ≡ false →
 hours_unsigned [] p h = unsigned_here (codes ":00") refl refl
 hours_unsigned (a ∷ bytes) p h = unsigned_here (take 3 (a ∷ bytes) ++ codes ":00") p h
 
-and_false : (b : Bool) → (b && false) ≡ false
-and_false true = refl
-and_false false = refl
-
 few_letters : (bytes : List ℕ) → (get_or bytes 0 0 == upper_z) ≡ false → length bytes < 3 → of_name (take 3 bytes) ≡ None
 few_letters [] z few = refl
-few_letters (a ∷ []) z few = rw (and_false (a == 85), and_false (a == 71), z) refl
-few_letters (a ∷ b ∷ []) z few = rw (and_false (b == 84), and_false (a == 85), and_false (b == 77), and_false (a == 71), z) refl
+few_letters (a ∷ []) z few = rw (and-false (a == 85), and-false (a == 71), z) refl
+few_letters (a ∷ b ∷ []) z few = rw (and-false (b == 84), and-false (a == 85), and-false (b == 77), and-false (a == 71), z) refl
 few_letters (a ∷ b ∷ c ∷ bytes) z few = absurd (omega arith)
 
 or_none : (said : Option ℤ) → option_or said None ≡ said
@@ -150,7 +104,7 @@ three_no_z (a ∷ bytes) e = rw e refl
 
 no_one : (bytes : List ℕ) → (get_or bytes 0 0 == upper_z) ≡ false → of_name (take 1 bytes) ≡ None
 no_one [] e = refl
-no_one (a ∷ bytes) e = rw (and_false (a == 85), and_false (a == 71), e) refl
+no_one (a ∷ bytes) e = rw (and-false (a == 85), and-false (a == 71), e) refl
 
 pub z_here : (bytes : List ℕ) → get_or bytes 0 0 ≡ upper_z → option_or (by_word 3 bytes of_name) (by_word 1 bytes of_name) ≡ (if is_edge bytes 1 then Some (pos 0) else None)
 z_here [] e = absurd (omega arith)
@@ -162,24 +116,25 @@ z_here (a ∷ b ∷ bytes) e =
 
 module _ (bytes : List ℕ) where
   pub by_colon_short : length bytes < 6 → by_word 6 bytes with_colon ≡ None
-  by_colon_short few = none_by_word 6 bytes with_colon (few_of_six bytes few)
+  by_colon_short few = none_by_word 6 bytes with_colon (ap within_fifteen_hours (other_length (take 6 bytes) (λ e. omega (arith, few, simp length-take at e))))
 
   pub by_colon_other : 6 ≤ length bytes → (get_or bytes 3 0 == colon) ≡ false → by_word 6 bytes with_colon ≡ None
-  by_colon_other long other = none_by_word 6 bytes with_colon (no_colon bytes long other)
+  by_colon_other long other = none_by_word 6 bytes with_colon (ap within_fifteen_hours (no_colon (take 6 bytes) (rw (get_or-take 6 bytes 3 0 (omega arith)) other)))
 
   pub by_colon_said : 6 ≤ length bytes → get_or bytes 3 0 ≡ colon → is_edge bytes 6 ≡ true
       → by_word 6 bytes with_colon ≡ clock_said (get_or bytes 0 0) (get_or bytes 1 0) (get_or bytes 2 0) (get_or bytes 4 0) (get_or bytes 5 0)
   by_colon_said long colon e = chosen (is_edge bytes 6) (with_colon (take 6 bytes)) e ∙ colon_here bytes long colon
 
   pub by_digits_short : length bytes < 5 → by_word 5 bytes without_colon ≡ None
-  by_digits_short few = none_by_word 5 bytes without_colon (few_of_five bytes few)
+  by_digits_short few = none_by_word 5 bytes without_colon
+      (ap within_fifteen_hours (other_length (take 3 (take 5 bytes) ++ colon ∷ drop 3 (take 5 bytes)) (λ e. omega (arith, few, simp (length-append, length-take, length-drop) at e))))
 
   pub by_digits_said : 5 ≤ length bytes → is_edge bytes 5 ≡ true
       → by_word 5 bytes without_colon ≡ clock_said (get_or bytes 0 0) (get_or bytes 1 0) (get_or bytes 2 0) (get_or bytes 3 0) (get_or bytes 4 0)
   by_digits_said long e = chosen (is_edge bytes 5) (without_colon (take 5 bytes)) e ∙ digits_here bytes long
 
   pub by_hours_short : length bytes < 3 → by_word 3 bytes of_hours ≡ None
-  by_hours_short few = none_by_word 3 bytes of_hours (few_of_three bytes few)
+  by_hours_short few = none_by_word 3 bytes of_hours (ap within_fifteen_hours (other_length (take 3 bytes ++ codes ":00") (λ e. omega (arith, few, simp (length-append, length-take) at e))))
 
   pub by_hours_said : 3 ≤ length bytes → is_edge bytes 3 ≡ true → by_word 3 bytes of_hours ≡ clock_said (get_or bytes 0 0) (get_or bytes 1 0) (get_or bytes 2 0) 48 48
   by_hours_said long e = chosen (is_edge bytes 3) (of_hours (take 3 bytes)) e ∙ hours_here bytes long
@@ -187,7 +142,7 @@ module _ (bytes : List ℕ) where
   -- no sign begins it
   pub by_colon_unsigned : (get_or bytes 0 0 == plus) ≡ false → (get_or bytes 0 0 == hyphen) ≡ false → by_word 6 bytes with_colon ≡ None
   by_colon_unsigned p h = none_by_word 6 bytes with_colon
-      (ap within_fifteen_hours (unsigned_here (take 6 bytes) (rw (first_of_take 6 bytes (omega arith)) p) (rw (first_of_take 6 bytes (omega arith)) h)))
+      (ap within_fifteen_hours (unsigned_here (take 6 bytes) (rw (get_or-take 6 bytes 0 0 (omega arith)) p) (rw (get_or-take 6 bytes 0 0 (omega arith)) h)))
 
   pub by_digits_unsigned : (get_or bytes 0 0 == plus) ≡ false → (get_or bytes 0 0 == hyphen) ≡ false → by_word 5 bytes without_colon ≡ None
   by_digits_unsigned p h = none_by_word 5 bytes without_colon (ap within_fifteen_hours (digits_unsigned bytes p h))
@@ -198,7 +153,7 @@ module _ (bytes : List ℕ) where
   -- no name begins it
   pub by_name_other : (n : ℕ) → 0 < n → (get_or bytes 0 0 == 85) ≡ false → (get_or bytes 0 0 == 71) ≡ false → (get_or bytes 0 0 == 90) ≡ false → by_word n bytes of_name ≡ None
   by_name_other n some u g z = none_by_word n bytes of_name
-      (no_name (take n bytes) (rw (first_of_take n bytes some) u) (rw (first_of_take n bytes some) g) (rw (first_of_take n bytes some) z))
+      (no_name (take n bytes) (rw (get_or-take n bytes 0 0 some) u) (rw (get_or-take n bytes 0 0 some) g) (rw (get_or-take n bytes 0 0 some) z))
 
   pub by_letters_short : (get_or bytes 0 0 == upper_z) ≡ false → length bytes < 3 → by_word 3 bytes of_name ≡ None
   by_letters_short z few = none_by_word 3 bytes of_name (few_letters bytes z few)

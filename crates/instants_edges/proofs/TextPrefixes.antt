@@ -1,5 +1,5 @@
 -- The texts of dates are prefixes of the bytes.
-use Rattle.std.proofs.Common.{◌≡◌, ℕ, zero, suc, ◌<◌, ◌≤◌, ◌==◌, Bool, true, false, List, [], ◌∷◌, length, take, get_or, refl, ap, arith}
+use Rattle.std.proofs.Common.{◌≡◌, ℕ, suc, ◌≤◌, ◌==◌, Bool, true, false, List, [], ◌∷◌, length, take, refl, ap, arith}
 use Rattle.std.specs.Prelude.{if◌then◌else◌}
 use Rattle.base.specs.Bytes.{lower_z}
 use Rattle.instants_edges.specs.Text.{is_stop, iso_text, mail_text, is_letter, is_letter_alone, is_ut}

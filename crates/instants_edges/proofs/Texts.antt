@@ -2,7 +2,6 @@
 use Rattle.std.proofs.Common.{◌≡◌, ℕ, ◌+◌, ◌-◌, ◌<◌, ◌≤◌, ◌==◌, true, false, ◌&&◌, List, [], ◌∷◌, ◌++◌, length, take, drop, get_or, refl, sym, ap, ◌∙◌, arith}
 use Rattle.std.specs.Char.{is_ascii_alphabetic, is_ascii_alphanumeric}
 use Rattle.std.proofs.lemmas.List.{append-nil, append_assoc, drop_more, drop_all, take_all, take_more, length-take-le, get_or-drop}
-use Rattle.std.proofs.Math.Seq.{take-add}
 use Rattle.std.proofs.lemmas.Bool.Decides.{nat_tests}
 use Rattle.base.specs.Bytes.{lower_z}
 use Rattle.instants_edges.specs.Edge.{byte_before}
@@ -21,25 +20,18 @@ IsoSoFar bytes place = iso_text bytes ≡ take place bytes ++ iso_text (drop pla
 pub iso_begins : (bytes : List ℕ) → IsoSoFar bytes 0
 iso_begins bytes = refl
 
-iso_step : (bytes : List ℕ) (place : ℕ) → place < length bytes → is_stop (get_or bytes place 0) (drop (place + 1) bytes) ≡ false
-    → iso_text (drop place bytes) ≡ get_or bytes place 0 ∷ iso_text (drop (place + 1) bytes)
-unfolding iso_text
-iso_step bytes place within e = rw (drop_more bytes place 0 within, e) refl
-
-iso_ends : (bytes : List ℕ) (place : ℕ) → place < length bytes → is_stop (get_or bytes place 0) (drop (place + 1) bytes) ≡ true → iso_text (drop place bytes) ≡ []
-unfolding iso_text
-iso_ends bytes place within e = rw (drop_more bytes place 0 within, e) refl
-
 -- .. so one more byte is there
 pub iso_more : (bytes : List ℕ) (place : ℕ) → place < length bytes → IsoSoFar bytes place → is_stop (get_or bytes place 0) (drop (place + 1) bytes) ≡ false → IsoSoFar bytes (place + 1)
+unfolding iso_text
 iso_more bytes place within so_far e =
-    rw (take_more bytes place 0 within, append_assoc (take place bytes) (get_or bytes place 0 ∷ []) (iso_text (drop (place + 1) bytes)))
-    (so_far ∙ ap (λ (rest : List ℕ). take place bytes ++ rest) (iso_step bytes place within e))
+    rw (take_more bytes place 0 within, append_assoc (take place bytes) (get_or bytes place 0 ∷ []) (iso_text (drop (place + 1) bytes))) (so_far ∙ rw (drop_more bytes place 0 within, e) refl)
 
 -- .. and a mark ends it
 pub iso_stops : (bytes : List ℕ) (place : ℕ) → place < length bytes → IsoSoFar bytes place → is_stop (get_or bytes place 0) (drop (place + 1) bytes) ≡ true → take place bytes ≡ iso_text bytes
+unfolding iso_text
 iso_stops bytes place within so_far e =
-    sym (so_far ∙ ap (λ (rest : List ℕ). take place bytes ++ rest) (iso_ends bytes place within e) ∙ append-nil (take place bytes))
+    let none : iso_text (drop place bytes) ≡ [] = rw (drop_more bytes place 0 within, e) refl in
+    sym (so_far ∙ ap (λ (rest : List ℕ). take place bytes ++ rest) none ∙ append-nil (take place bytes))
 
 pub iso_all : (bytes : List ℕ) (place : ℕ) → length bytes ≤ place → IsoSoFar bytes place → bytes ≡ iso_text bytes
 unfolding iso_text

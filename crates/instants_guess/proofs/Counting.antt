@@ -1,11 +1,10 @@
 -- What is found in lines, counted one line after another.
-use Rattle.std.proofs.Common.{◌≡◌, ℕ, ◌+◌, ◌≤◌, max, cond, List, [], ◌∷◌, count_by, Option, None, Some, IfSome, refl, arith}
+use Rattle.std.proofs.Common.{◌≡◌, ℕ, ◌+◌, ◌≤◌, max, cond, List, [], ◌∷◌, Option, None, Some, refl, arith}
 use Rattle.std.proofs.lemmas.List.Sums.{sum_by-cons}
 use Rattle.instants_found.specs.Found.{found}
-use Rattle.instants_found.specs.Within.{IsWithin}
 use Rattle.instants_found.specs.declared.found.Finding.{Finding}
 use Rattle.instants_found.specs.declared.found.Finding.TheVariants.{Doubtful, There}
-use Rattle.instants_guess.specs.Tallies.{StartsWithin, counted, findings, is_there, is_doubtful, most, places, tally_of}
+use Rattle.instants_guess.specs.Tallies.{counted, findings, is_there, is_doubtful, most, tally_of}
 use Rattle.instants_guess.specs.Trials.{Trial, given_for}
 use Rattle.instants_guess.specs.declared.tally.Tally.{Tally}
 
@@ -23,21 +22,9 @@ joined_last tally found none = rw none (same_tally _ _ _ _ _ _ (omega arith) (om
 -- of a line and others
 pub joined_more : (tally : Tally) (finding : Option Finding) (others : List (Option Finding)) → joined tally (tally_of (finding ∷ others)) ≡ joined (counted tally finding) (tally_of others)
 unfolding tally_of
-joined_more tally None others =
-    let dated : count_by is_there (None ∷ others) ≡ 0 + count_by is_there others = sum_by-cons (λ x. cond (is_there x) 1 0) None others in
-    let doubtful : count_by is_doubtful (None ∷ others) ≡ 0 + count_by is_doubtful others = sum_by-cons (λ x. cond (is_doubtful x) 1 0) None others in
-    same_tally (tally.dated + count_by is_there (None ∷ others)) (tally.dated + count_by is_there others) (tally.doubtful + count_by is_doubtful (None ∷ others)) (tally.doubtful + count_by is_doubtful others)
-    (max tally.limit (max 0 (places others))) (max tally.limit (places others)) (omega (arith, dated)) (omega (arith, doubtful)) (omega arith)
-joined_more tally (Some Doubtful) others =
-    let dated : count_by is_there (Some Doubtful ∷ others) ≡ 0 + count_by is_there others = sum_by-cons (λ x. cond (is_there x) 1 0) (Some Doubtful) others in
-    let doubtful : count_by is_doubtful (Some Doubtful ∷ others) ≡ 1 + count_by is_doubtful others = sum_by-cons (λ x. cond (is_doubtful x) 1 0) (Some Doubtful) others in
-    same_tally (tally.dated + count_by is_there (Some Doubtful ∷ others)) (tally.dated + count_by is_there others) (tally.doubtful + count_by is_doubtful (Some Doubtful ∷ others)) (tally.doubtful + 1 + count_by is_doubtful others)
-    (max tally.limit (max 0 (places others))) (max tally.limit (places others)) (omega (arith, dated)) (omega (arith, doubtful)) (omega arith)
-joined_more tally (Some (There date)) others =
-    let dated : count_by is_there (Some (There date) ∷ others) ≡ 1 + count_by is_there others = sum_by-cons (λ x. cond (is_there x) 1 0) (Some (There date)) others in
-    let doubtful : count_by is_doubtful (Some (There date) ∷ others) ≡ 0 + count_by is_doubtful others = sum_by-cons (λ x. cond (is_doubtful x) 1 0) (Some (There date)) others in
-    same_tally (tally.dated + count_by is_there (Some (There date) ∷ others)) (tally.dated + 1 + count_by is_there others) (tally.doubtful + count_by is_doubtful (Some (There date) ∷ others)) (tally.doubtful + count_by is_doubtful others)
-    (max tally.limit (max (date.start + 1) (places others))) (max (max tally.limit (date.start + 1)) (places others)) (omega (arith, dated)) (omega (arith, doubtful)) (omega arith)
+joined_more tally None others = same_tally _ _ _ _ _ _ (omega (arith, sum_by-cons (λ x. cond (is_there x) 1 0) None others)) (omega (arith, sum_by-cons (λ x. cond (is_doubtful x) 1 0) None others)) (omega arith)
+joined_more tally (Some Doubtful) others = same_tally _ _ _ _ _ _ (omega (arith, sum_by-cons (λ x. cond (is_there x) 1 0) (Some Doubtful) others)) (omega (arith, sum_by-cons (λ x. cond (is_doubtful x) 1 0) (Some Doubtful) others)) (omega arith)
+joined_more tally (Some (There date)) others = same_tally _ _ _ _ _ _ (omega (arith, sum_by-cons (λ x. cond (is_there x) 1 0) (Some (There date)) others)) (omega (arith, sum_by-cons (λ x. cond (is_doubtful x) 1 0) (Some (There date)) others)) (omega arith)
 
 -- no count grows by more than one
 pub counted_dated : (tally : Tally) (finding : Option Finding) → (counted tally finding).dated ≤ tally.dated + 1

@@ -10,7 +10,7 @@ use Rattle.description_grammar.proofs.FaultyComplete as grammar_faults
 use Rattle.description_strftime.specs.Reading as letters
 use Rattle.description_strftime.proofs.Relations as letters_faults
 use Rattle.instants_sources.specs.Grammar.{IsFaulty}
-use Rattle.instants_words.specs.Sources.{SourceSaid, V1, V2, V3, Strftime, Rfc2822, Rfc3339, Iso8601}
+use Rattle.instants_words.specs.Sources.{SourceSaid, V1, V2, V3, Strftime}
 use Rattle.instants_formats.specs.Table.{table}
 use Rattle.instants_guess.specs.Descriptions.{IsDescription, AreDescriptions}
 use Rattle.instants_guess.specs.Offers.{OfferSaid, offers}
@@ -29,9 +29,7 @@ is_read (V1 text) = is_ok (grammar.read_items One text)
 is_read (V2 text) = is_ok (grammar.read_items Two text)
 is_read (V3 text) = is_ok (grammar.read_items Three text)
 is_read (Strftime text) = is_ok (letters.read_strftime text)
-is_read Rfc2822 = true
-is_read Rfc3339 = true
-is_read Iso8601 = true
+is_read said = true
 
 refused : {A : Type 0} (read : Result A Fault) (fault : Fault) → read ≡ Err fault → is_ok read ≡ true → ⊥
 refused (Ok items) fault e h = cc
@@ -43,9 +41,7 @@ no_fault (V1 text) h fault f = refused (grammar.read_items One text) fault (gram
 no_fault (V2 text) h fault f = refused (grammar.read_items Two text) fault (grammar_faults.faulty_is_refused Two text fault f) h
 no_fault (V3 text) h fault f = refused (grammar.read_items Three text) fault (grammar_faults.faulty_is_refused Three text fault f) h
 no_fault (Strftime text) h fault f = refused (letters.read_strftime text) fault (letters_faults.faulty_is_refused text fault f) h
-no_fault Rfc2822 h fault f = f
-no_fault Rfc3339 h fault f = f
-no_fault Iso8601 h fault f = f
+no_fault said h fault f = f
 
 both : (a b : Bool) → (a && b) ≡ true → (a ≡ true) × (b ≡ true)
 both true b h = (refl, h)

@@ -13,7 +13,7 @@ use Rattle.instants_timeline.specs.Place.{Setting}
 use Rattle.instants_lines.specs.Dates.{date_in, key_or}
 use Rattle.instants_lines.specs.Going.{Going, search_below, key_of_line, key_below, keyed, label_prefix, next_in, near, lines_steps}
 use Rattle.instants_lines_words.specs.declared.mode.Mode.{Mode}
-use Rattle.instants_lines_words.specs.declared.mode.Mode.TheVariants.{Key, Carry, Replace, Explain, Locate}
+use Rattle.instants_lines_words.specs.declared.mode.Mode.TheVariants.{Carry, Explain}
 use Rattle.instants_lines.proofs.Handed.{HandsOn, handed_said, handed_next}
 use Rattle.instants_lines.proofs.Joined.{given_stays, joined}
 use Rattle.instants_lines.proofs.WithoutKeys.{IsKeyed, keyed_hands, text_of, output_is}
@@ -31,11 +31,8 @@ below_key going line key e =
     ap (λ (given : Given). record going { search = record going.search { given = given }; key = key }) (given_stays going.search.given (date_in going.search line) e)
 
 next_key : (mode : Mode) (going : Going) (line : List ℕ) → going.search.given.years ≡ Unknown → IsWithKey going (next_in mode going line)
-next_key Key going line e = (_, below_key going line (key_below going.mode going.key (key_of_line going line)) e)
-next_key Carry going line e = (_, below_key going line (key_below going.mode going.key (key_of_line going line)) e)
-next_key Replace going line e = (_, below_key going line (key_below going.mode going.key (key_of_line going line)) e)
 next_key Explain going line e = (going.key, refl)
-next_key Locate going line e = (_, below_key going line (key_below going.mode going.key (key_of_line going line)) e)
+next_key mode going line e = (_, below_key going line (key_below going.mode going.key (key_of_line going line)) e)
 
 within_key : (many : ℕ) (going : Going) (line : List ℕ) → going.search.given.years ≡ Unknown → IsWithKey going (state_within lines_steps many going line)
 unfolding state_within

@@ -2,6 +2,8 @@
 use Rattle.std.proofs.Common.{◌≡◌, ◌+◌, ◌/◌, ◌%◌, ◌==◌, ℕ, zero, suc, Bool, true, false, ◌&&◌, ◌||◌, not, List, [], ◌∷◌, ◌++◌, drop, Option, Some, None, Ok, Err, refl, ap, ◌∙◌, arith, append_assoc, ℤ, pos, unsigned_abs, int_lt, int_eq}
 use Rattle.std.specs.Prelude.{codes, if◌then◌else◌}
 use Rattle.std.specs.List.{prefix_len}
+use Rattle.std.specs.Cmp.Derive.{both_true}
+use Rattle.std.proofs.lemmas.Bool.{not-true, or_parts}
 use Rattle.std.proofs.lemmas.Bool.Decides.{nat_tests}
 use Rattle.std.proofs.lemmas.List.Elements.{All-nil, All-cons, All-append}
 use Rattle.std.proofs.lemmas.List.Folds.{list_all-append}
@@ -19,23 +21,20 @@ use Rattle.instants_lines.specs.Dates.{date_in, key_or, place_of_date}
 use Rattle.instants_lines.specs.Fields.{IsLabel, is_field, without_fields, without_key}
 use Rattle.instants_lines.specs.Going.{Going, key_of_line, key_below, label_prefix}
 use Rattle.instants_lines_words.specs.declared.mode.Mode.{Mode}
-use Rattle.instants_lines_words.specs.declared.mode.Mode.TheVariants.{Key, Carry, Replace, Explain, Locate}
+use Rattle.instants_lines_words.specs.declared.mode.Mode.TheVariants.{Carry}
 
 -- ---- keys
 
 digit : (n : ℕ) → not (digit_zero + n % 10 == tab || digit_zero + n % 10 == line_feed) ≡ true
 digit n = grind (arith, nat_tests)
 
-both : (a b : Bool) → a ≡ true → b ≡ true → (a && b) ≡ true
-both a b is is_other = rw (is, is_other) refl
-
 field_append : (some others : List ℕ) → is_field some ≡ true → is_field others ≡ true → is_field (some ++ others) ≡ true
-field_append some others is is_other = list_all-append (λ byte. not (byte == tab || byte == line_feed)) some others ∙ both (is_field some) (is_field others) is is_other
+field_append some others is is_other = list_all-append (λ byte. not (byte == tab || byte == line_feed)) some others ∙ both_true is is_other
 
 decimals : (width n : ℕ) → is_field (decimal width n) ≡ true
 unfolding decimal
 decimals zero n = refl
-decimals (suc width) n = field_append (decimal width (n / 10)) ((digit_zero + n % 10) ∷ []) (decimals width (n / 10)) (both _ true (digit n) refl)
+decimals (suc width) n = field_append (decimal width (n / 10)) ((digit_zero + n % 10) ∷ []) (decimals width (n / 10)) (both_true (digit n) refl)
 
 date_field : (d : YearMonthDay) → is_field (date_text d) ≡ true
 unfolding date_text
@@ -82,10 +81,7 @@ line_field going line is = key_field going.search.setting going.key (date_in goi
 
 pub below_field : (mode : Mode) (key above : List ℕ) → is_field key ≡ true → is_field above ≡ true → is_field (key_below mode key above) ≡ true
 below_field Carry key above is is_above = is_above
-below_field Key key above is is_above = is
-below_field Replace key above is is_above = is
-below_field Explain key above is is_above = is
-below_field Locate key above is is_above = is
+below_field mode key above is is_above = is
 
 -- ---- what a field is without
 
@@ -93,13 +89,8 @@ and_both : (a b : Bool) → (a && b) ≡ true → (a ≡ true) × (b ≡ true)
 and_both true b e = (refl, e)
 and_both false b e = absurd cc
 
-not_either : (a b : Bool) → not (a || b) ≡ true → (a ≡ false) × (b ≡ false)
-not_either true b e = absurd cc
-not_either false true e = absurd cc
-not_either false false e = (refl, refl)
-
 first_byte : (byte : ℕ) (bytes : List ℕ) → is_field (byte ∷ bytes) ≡ true → ((byte == tab) ≡ false) × ((byte == line_feed) ≡ false)
-first_byte byte bytes is = not_either (byte == tab) (byte == line_feed) (and_both (not (byte == tab || byte == line_feed)) (is_field bytes) is).0
+first_byte byte bytes is = or_parts (byte == tab) (byte == line_feed) (not-true (byte == tab || byte == line_feed) (and_both (not (byte == tab || byte == line_feed)) (is_field bytes) is).0)
 
 other_bytes : (byte : ℕ) (bytes : List ℕ) → is_field (byte ∷ bytes) ≡ true → is_field bytes ≡ true
 other_bytes byte bytes is = (and_both (not (byte == tab || byte == line_feed)) (is_field bytes) is).1

@@ -26,32 +26,24 @@ abbrev pub HandsOn : Mode → Type 0
 HandsOn mode = hands_on mode ≡ true
 
 near_of : (mode : Mode) → HandsOn mode → (limit : ℕ) → near mode limit ≡ limit + 256 + 64
-near_of Key other limit = refl
-near_of Carry other limit = refl
-near_of Replace other limit = refl
 near_of Explain other limit = absurd cc
 near_of Locate other limit = absurd cc
+near_of mode other limit = refl
 
 next_of : (mode : Mode) → HandsOn mode → (going : Going) (line : List ℕ) → next_in mode going line ≡ below going line
-next_of Key other going line = refl
-next_of Carry other going line = refl
-next_of Replace other going line = refl
 next_of Explain other going line = absurd cc
 next_of Locate other going line = absurd cc
+next_of mode other going line = refl
 
 begun_of : (mode : Mode) → HandsOn mode → (going : Going) (line : List ℕ) → begun_in mode going line ≡ text_in mode going line
-begun_of Key other going line = refl
-begun_of Carry other going line = refl
-begun_of Replace other going line = refl
 begun_of Explain other going line = absurd cc
 begun_of Locate other going line = absurd cc
+begun_of mode other going line = refl
 
 end_of : (mode : Mode) → HandsOn mode → (end : List ℕ) → end_in mode end ≡ end
-end_of Key other end = refl
-end_of Carry other end = refl
-end_of Replace other end = refl
 end_of Explain other end = absurd cc
 end_of Locate other end = absurd cc
+end_of mode other end = refl
 
 -- ---- a line with a date-time in place of its date
 

@@ -12,7 +12,7 @@ use Rattle.instants_stream.proofs.Written.{line_next-longer, line_next-short, ou
 use Rattle.instants_lines.specs.Dates.{date_in}
 use Rattle.instants_lines.specs.Going.{Going, below, given_below, years_below, key_of_line, key_below, next_in, lines_steps}
 use Rattle.instants_lines_words.specs.declared.mode.Mode.{Mode}
-use Rattle.instants_lines_words.specs.declared.mode.Mode.TheVariants.{Key, Carry, Replace, Explain, Locate}
+use Rattle.instants_lines_words.specs.declared.mode.Mode.TheVariants.{Carry, Explain}
 
 -- ---- what is kept where no year is given
 
@@ -24,11 +24,8 @@ given_stays given (Some (There date)) e =
     ap (λ (years : Years). record given { years = years }) same
 
 key_stays : (mode : Mode) → (mode ≡ Carry → ⊥) → (key above : List ℕ) → key_below mode key above ≡ key
-key_stays Key other key above = refl
 key_stays Carry other key above = absurd (other refl)
-key_stays Replace other key above = refl
-key_stays Explain other key above = refl
-key_stays Locate other key above = refl
+key_stays mode other key above = refl
 
 below_stays : (going : Going) (line : List ℕ) → (going.mode ≡ Carry → ⊥) → going.search.given.years ≡ Unknown → below going line ≡ going
 below_stays going line other e =
@@ -36,11 +33,8 @@ below_stays going line other e =
     ∙ ap (λ (key : List ℕ). record going { key = key }) (key_stays going.mode other going.key (key_of_line going line))
 
 next_stays : (mode : Mode) → (mode ≡ Carry → ⊥) → (going : Going) (line : List ℕ) → below going line ≡ going → next_in mode going line ≡ going
-next_stays Key other going line e = e
-next_stays Carry other going line e = e
-next_stays Replace other going line e = e
 next_stays Explain other going line e = refl
-next_stays Locate other going line e = e
+next_stays mode other going line e = e
 
 -- ---- lines that change nothing
 

@@ -8,7 +8,7 @@ use Rattle.instants_timeline.specs.Place.{shown_or_refused, place_text}
 use Rattle.instants_lines.specs.Dates.{date_in, doubt, key_or, place_of_date}
 use Rattle.instants_lines.specs.Going.{Going, below, given_below, key_of_line, key_below}
 use Rattle.instants_lines_words.specs.declared.mode.Mode.{Mode}
-use Rattle.instants_lines_words.specs.declared.mode.Mode.TheVariants.{Key, Carry, Replace, Explain, Locate}
+use Rattle.instants_lines_words.specs.declared.mode.Mode.TheVariants.{Carry, Replace, Locate}
 
 pub dated : (going : Going) (line : List ℕ) (date : Found) (key : List ℕ) → Some (There date) ≡ date_in going.search line → key ≡ place_text (shown_or_refused going.search.setting.target (Ok date.moment)) → key ≡ key_of_line going line
 unfolding key_of_line place_of_date
@@ -25,10 +25,7 @@ undated going line e = ap (key_or going.search.setting going.key) e
 -- the key that is taken is kept as it is
 pub below_itself : (mode : Mode) (key : List ℕ) → key_below mode key key ≡ key
 below_itself Carry key = refl
-below_itself Key key = refl
-below_itself Replace key = refl
-below_itself Explain key = refl
-below_itself Locate key = refl
+below_itself mode key = refl
 
 -- below a line by what is found in it
 pub below_found : (going : Going) (line : List ℕ) (finding : Option Finding) → finding ≡ date_in going.search line

@@ -1,5 +1,5 @@
 -- The first source that lacks something, step by step.
-use Rattle.std.proofs.Common.{◌≡◌, ◌<◌, ◌≤◌, ◌+◌, ℕ, List, [], ◌∷◌, length, get_or, drop, map, Option, None, Some, refl, sym, ap, ◌∙◌}
+use Rattle.std.proofs.Common.{◌≡◌, ◌<◌, ◌≤◌, ◌+◌, ℕ, List, [], ◌∷◌, length, get_or, drop, map, Option, None, refl, sym, ap, ◌∙◌}
 use Rattle.std.proofs.lemmas.List.{drop_more, drop_all}
 use Rattle.instants_prefixes.specs.DateSource.{grammar_in}
 use Rattle.instants_prefixes.specs.Lacks.{lack}
@@ -7,7 +7,6 @@ use Rattle.instants_prefixes.specs.declared.date_source.DateSource.{DateSource}
 use Rattle.instants_prefixes.specs.declared.given.Given.{Given}
 use Rattle.instants_prefixes.specs.declared.lacks.Lack.{Lack}
 use Rattle.instants_lines.specs.Lacking.{first_lacking, lacks_or}
-use Rattle.instants_lines.specs.declared.lacking.Lacking.{Lacking}
 
 -- of the sources from this number on the first lacks what the first of all does
 abbrev pub LacksFrom : Given → List DateSource → ℕ → Type 0
@@ -22,14 +21,10 @@ module _ (given : Given) (sources : List DateSource) (number : ℕ) where
       let cut : drop number sources ≡ source ∷ drop (number + 1) sources = rw (← is) at there in
       rw cut refl
 
-  pub lacks : (source : DateSource) (what : Lack) → number < length sources → source ≡ get_or sources number source → LacksFrom given sources number → Some what ≡ lack given (grammar_in source)
-      → Some (record { place = number + 1; lack = what }) ≡ first_lacking given 1 (map grammar_in sources)
+  -- what one source lacks, and else those after it
+  pub lacks : (source : DateSource) (what : Option Lack) → number < length sources → source ≡ get_or sources number source → LacksFrom given sources number → what ≡ lack given (grammar_in source)
+      → lacks_or (number + 1) what (first_lacking given (number + 1 + 1) (map grammar_in (drop (number + 1) sources))) ≡ first_lacking given 1 (map grammar_in sources)
   lacks source what within is so_far e =
-      ap (λ (o : Option Lack). lacks_or (number + 1) o (first_lacking given (number + 1 + 1) (map grammar_in (drop (number + 1) sources)))) e ∙ sym (step source within is) ∙ so_far
-
-  pub lacks_none : (source : DateSource) → number < length sources → source ≡ get_or sources number source → LacksFrom given sources number → None ≡ lack given (grammar_in source)
-      → LacksFrom given sources (number + 1)
-  lacks_none source within is so_far e =
       ap (λ (o : Option Lack). lacks_or (number + 1) o (first_lacking given (number + 1 + 1) (map grammar_in (drop (number + 1) sources)))) e ∙ sym (step source within is) ∙ so_far
 
   pub lacks_end : length sources ≤ number → LacksFrom given sources number → None ≡ first_lacking given 1 (map grammar_in sources)

@@ -1,3 +1,4 @@
+pub mod Turns
 pub mod Outside
 pub mod Sayings
 pub mod Digits

@@ -1,5 +1,5 @@
 -- What words ask for that are accepted, by those of `instants` that stand for them.
-use Rattle.std.proofs.Common.{◌≡◌, ℕ, List, Result, Ok, Err, refl, sym, subst, ap, ◌∙◌}
+use Rattle.std.proofs.Common.{◌≡◌, ℕ, List, Result, Ok, Err, sym, subst, ap, ◌∙◌}
 use Rattle.std.specs.Prelude.{IfSome}
 use Rattle.instants_prefixes.specs.declared.given.Given.{Given}
 use Rattle.instants_stream.specs.Steps.{by_steps}

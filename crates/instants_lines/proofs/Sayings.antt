@@ -1,5 +1,5 @@
 -- What sources say of a line, step by step.
-use Rattle.std.proofs.Common.{◌≡◌, ◌<◌, ◌≤◌, ◌+◌, ℕ, List, [], ◌∷◌, ◌++◌, length, get_or, take, drop, map, Option, None, Some, refl, sym, ◌∙◌, ap, arith, append_assoc, append-nil, length-take-le, take-append-drop}
+use Rattle.std.proofs.Common.{◌≡◌, ◌<◌, ◌≤◌, ◌+◌, ℕ, List, [], ◌∷◌, ◌++◌, length, get_or, take, drop, map, Option, None, refl, sym, ◌∙◌, ap, arith, append_assoc, append-nil, length-take-le, take-append-drop}
 use Rattle.std.specs.Option.{option_or}
 use Rattle.std.proofs.lemmas.List.{take_more, drop_more, drop_all, take_all, map-append, length-map}
 use Rattle.instants_sources.specs.Grammar.{Grammar}
@@ -24,14 +24,10 @@ answer_step setting line sources place source within is =
     rw cut refl
 
 module _ (setting : Setting) (line : List ℕ) (sources : List DateSource) (place : ℕ) where
-  pub answers : (source : DateSource) (text : List ℕ) → place < length sources → source ≡ get_or sources place source → AnswerFrom setting line sources place
-      → Some text ≡ answer_by setting line (place + 1) (grammar_in source) → Some text ≡ first_answer setting line 1 (map grammar_in sources)
-  answers source text within is so_far e =
-      ap (λ (o : Option (List ℕ)). option_or o (first_answer setting line (place + 1 + 1) (map grammar_in (drop (place + 1) sources)))) e ∙ sym (answer_step setting line sources place source within is) ∙ so_far
-
-  pub answers_none : (source : DateSource) → place < length sources → source ≡ get_or sources place source → AnswerFrom setting line sources place
-      → None ≡ answer_by setting line (place + 1) (grammar_in source) → AnswerFrom setting line sources (place + 1)
-  answers_none source within is so_far e =
+  -- what one source answers, and else those after it
+  pub answers : (source : DateSource) (one : Option (List ℕ)) → place < length sources → source ≡ get_or sources place source → AnswerFrom setting line sources place
+      → one ≡ answer_by setting line (place + 1) (grammar_in source) → option_or one (first_answer setting line (place + 1 + 1) (map grammar_in (drop (place + 1) sources))) ≡ first_answer setting line 1 (map grammar_in sources)
+  answers source one within is so_far e =
       ap (λ (o : Option (List ℕ)). option_or o (first_answer setting line (place + 1 + 1) (map grammar_in (drop (place + 1) sources)))) e ∙ sym (answer_step setting line sources place source within is) ∙ so_far
 
   pub answers_end : length sources ≤ place → AnswerFrom setting line sources place → None ≡ first_answer setting line 1 (map grammar_in sources)

@@ -1,10 +1,11 @@
 -- A line for which its one source names a moment is found as a date.
-use Rattle.std.proofs.Common.{◌≡◌, ◌<◌, ◌-◌, ◌+◌, ◌==◌, ◌&&◌, ◌||◌, ℕ, zero, suc, Bool, true, false, List, [], ◌∷◌, length, get_or, take, drop, Option, Some, None, Result, Ok, Err, refl, sym, ◌∙◌, ap, subst, inl, inr, arith}
+use Rattle.std.proofs.Common.{◌≡◌, ◌<◌, ◌-◌, ◌+◌, ◌==◌, ℕ, zero, suc, Bool, true, false, List, [], ◌∷◌, length, get_or, take, drop, Option, Some, None, Result, Ok, Err, refl, sym, ◌∙◌, ap, subst, inl, inr, arith}
 use Rattle.std.specs.Prelude.{reverse, not, min, if◌then◌else◌}
-use Rattle.std.specs.Char.{is_ascii_alphanumeric, is_ascii_digit, is_ascii_whitespace}
+use Rattle.std.specs.Char.{is_ascii_alphanumeric, is_ascii_whitespace}
 use Rattle.std.specs.List.{suffix_len}
 use Rattle.std.specs.Option.{is_none}
 use Rattle.std.specs.Result.{result_ok}
+use Rattle.std.proofs.Math.Bool.{and-false, or-true}
 use Rattle.std.proofs.lemmas.Bool.{cases_lt}
 use Rattle.std.proofs.lemmas.Bool.Decides.{nat_tests}
 use Rattle.std.proofs.lemmas.List.{get_or-reverse, get_or_past, take_all}
@@ -25,7 +26,7 @@ use Rattle.parsing_laws.specs.TwoRoads.{AgreeOn}
 use Rattle.instants_sources.specs.Grammar.{Grammar, Items, V3, Rfc2822, Rfc3339, Iso8601}
 use Rattle.instants_sources.specs.Named.{named}
 use Rattle.instants_edges.specs.Clock.{has_clock_before, has_seconds_before, quote_place}
-use Rattle.instants_edges.specs.Edge.{byte_before, ends_sequence, is_edge, is_sign, may_say}
+use Rattle.instants_edges.specs.Edge.{is_edge, is_sign, may_say}
 use Rattle.instants_edges.specs.Pieces.{trimmed_length}
 use Rattle.instants_prefixes.specs.Prefix.{with_lengths, prefix_in, prefix_at}
 use Rattle.instants_prefixes.specs.Given.{moment_of}
@@ -115,31 +116,13 @@ after_trimmed bytes =
           rw past (refl, refl, refl)
     ]
 
-falls : (w x v s z : Bool) → (((w && false) && not s) || (x && false) || ((w && false) && z) || (v && (false && z))) ≡ false
-falls true true true s z = refl
-falls true true false s z = refl
-falls true false true s z = refl
-falls true false false s z = refl
-falls false true true s z = refl
-falls false true false s z = refl
-falls false false true s z = refl
-falls false false false s z = refl
-
 edge_at_end : (line : List ℕ) → is_edge line (trimmed_length line) ≡ true
 edge_at_end line =
     let (word, point, mark) = after_trimmed line in
-    let end = trimmed_length line in
-    rw (word, point, mark)
-    (ap not (falls (is_ascii_alphanumeric (byte_before line end 1)) (is_ascii_digit (byte_before line end 2) && byte_before line end 1 == dot)
-    (not (is_ascii_digit (byte_before line end 3)) && is_ascii_digit (byte_before line end 2) && is_ascii_digit (byte_before line end 1))
-    (ends_sequence line end) (is_ascii_digit (get_or line (end + 1) 0))))
-
-or_true : (b : Bool) → (b || true) ≡ true
-or_true true = refl
-or_true false = refl
+    rw (word, point, mark) (simp and-false)
 
 says_first : (line : List ℕ) → may_say line 0 ≡ true
-says_first line = or_true (not (is_sign (get_or line 0 0)))
+says_first line = or-true (not (is_sign (get_or line 0 0)))
 
 clock_none : (line : List ℕ) → has_clock_before line 0 ≡ false
 unfolding has_clock_before has_seconds_before
@@ -148,20 +131,6 @@ clock_none line =
     rw none refl
 
 -- ---- the date at the first place
-
-no_three : (a b c : Bool) → ((a && false) || (b && false) || (c && false)) ≡ false
-no_three true true true = refl
-no_three true true false = refl
-no_three true false true = refl
-no_three true false false = refl
-no_three false true true = refl
-no_three false true false = refl
-no_three false false true = refl
-no_three false false false = refl
-
-all_three : (c : Bool) → (true && (c || not false) && not false) ≡ true
-all_three true = refl
-all_three false = refl
 
 module _ (given : Given) (grammar : Grammar) (line : List ℕ) (moment : Shown) (text : text_for grammar line ≡ line) (names_it : (other : Given) → prefix_named other grammar line ≡ Some (moment, [])) (first : (lengths grammar line []).begins ≡ 0) where
   abbrev prefix : Prefix
@@ -194,11 +163,11 @@ module _ (given : Given) (grammar : Grammar) (line : List ℕ) (moment : Shown) 
 
   unsaid : is_gainsaid given grammar line 0 prefix ≡ false
   unfolding is_gainsaid
-  unsaid = rw (named_too (without_offset given), named_too (without_time given), named_too (without_year given)) (no_three _ _ _)
+  unsaid = rw (named_too (without_offset given), named_too (without_time given), named_too (without_year given)) (simp and-false)
 
   stands : stands_whole given grammar line 0 prefix ≡ true
   unfolding stands_whole
-  stands = rw (edge, no_clock, unsaid) (all_three prefix.is_chosen)
+  stands = rw (edge, no_clock, unsaid) (simp or-true)
 
   read : is_read grammar line 0 prefix ≡ true
   read = rw (says, edge) refl

@@ -11,7 +11,7 @@ use Rattle.instants_stream.proofs.Written.{is_no_longer, written-append}
 use Rattle.instants_lines.specs.Fields.{IsLabel, is_field, without_fields}
 use Rattle.instants_lines.specs.Going.{Going, below, hands_on, key_of_line, keyed, label_prefix, text_in, next_in, near, end_in, last_end, lines_steps}
 use Rattle.instants_lines_words.specs.declared.mode.Mode.{Mode}
-use Rattle.instants_lines_words.specs.declared.mode.Mode.TheVariants.{Key, Carry, Replace, Explain, Locate}
+use Rattle.instants_lines_words.specs.declared.mode.Mode.TheVariants.{Key, Carry}
 use Rattle.instants_lines.proofs.Fields.{line_field, below_field, field_free, label_free, without_both}
 use Rattle.instants_lines.proofs.Handed.{HandsOn, handed_said, handed_next}
 
@@ -80,10 +80,7 @@ end_of mode (inr carry) = ap (λ (m : Mode). last_end m) carry
 -- lines leave the mode
 mode_next : (mode : Mode) (going : Going) (line : List ℕ) → (next_in mode going line).mode ≡ going.mode
 mode_next Key going line = refl
-mode_next Carry going line = refl
-mode_next Replace going line = refl
-mode_next Explain going line = refl
-mode_next Locate going line = refl
+mode_next mode going line = refl
 
 mode_within : (many : ℕ) (going : Going) (line : List ℕ) → (state_within lines_steps many going line).mode ≡ going.mode
 unfolding state_within

@@ -6,7 +6,6 @@ use Rattle.instants_found.specs.Doubts.{doubt_of}
 use Rattle.instants_found.specs.declared.doubt.Doubt.{Doubt}
 use Rattle.instants_found.specs.declared.doubt.Doubt.TheVariants.{After, ClockBefore, AnotherOffset, AnotherTime, AnotherYear}
 use Rattle.instants_found.specs.declared.doubt.Doubted.{Doubted}
-use Rattle.instants_found.specs.declared.found.Found.{Found}
 use Rattle.instants_found.specs.declared.found.Finding.{Finding}
 use Rattle.instants_found.specs.declared.found.Finding.TheVariants.{Doubtful, There}
 use Rattle.instants_lines.specs.Dates.{Search, date_in, doubt, key_of_date}

@@ -113,6 +113,7 @@ fn write_all_said<W: ByteWriter>(
 }
 
 // The same, and a line feed.
+#[tactic(auto, using(crate::proofs::Turns::in_turn))]
 fn write_all_said_line<W: ByteWriter>(
     dates: &DateSources<'_>,
     line: &[u8],

@@ -15,6 +15,7 @@ static LINE_FEED: [u8; 64] = *b"\n                                              
 
 /// Writes two parts.
 #[inline(always)]
+#[tactic(auto, using(crate::proofs::Turns::in_turn))]
 pub(crate) fn write_both<W: ByteWriter>(
     writer: &mut W,
     first: &[u8],
@@ -34,6 +35,7 @@ pub(crate) fn write_both<W: ByteWriter>(
 
 /// Writes three parts.
 #[inline(always)]
+#[tactic(auto, using(crate::proofs::Turns::in_turn))]
 pub(crate) fn write_three<W: ByteWriter>(
     writer: &mut W,
     first: &[u8],
@@ -54,6 +56,7 @@ pub(crate) fn write_three<W: ByteWriter>(
 
 /// Writes three parts and a line feed.
 #[inline(always)]
+#[tactic(auto, using(crate::proofs::Turns::in_turn))]
 pub(crate) fn write_parts<W: ByteWriter>(
     writer: &mut W,
     first: &[u8],
@@ -74,6 +77,7 @@ pub(crate) fn write_parts<W: ByteWriter>(
 
 // Writes a line and a line feed.
 #[inline(always)]
+#[tactic(auto, using(crate::proofs::Turns::in_turn))]
 fn write_fed<W: ByteWriter>(writer: &mut W, line: &[u8]) -> Result<(), DeviceFailed>
     requires { W.failed writer.old ≡ false }
     ensures written { OnOk result
@@ -133,6 +137,7 @@ fn write_labelled_line<W: ByteWriter>(
 
 // Writes a tab, a line after its label, and a line feed.
 #[inline(always)]
+#[tactic(auto, using(crate::proofs::Turns::in_turn))]
 fn write_tabbed<W: ByteWriter>(
     writer: &mut W,
     label: Option<&str>,

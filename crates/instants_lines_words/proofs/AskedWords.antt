@@ -21,9 +21,4 @@ pub time_five : (word : List ℕ) → length word ≡ 5 → get_or word 2 0 ≡ 
     → time_said word ≡ clock_minutes (number_said 0 23 2 (get_or word 0 0 ∷ get_or word 1 0 ∷ [])) (number_said 0 59 2 (get_or word 3 0 ∷ get_or word 4 0 ∷ []))
 unfolding time_said
 time_five (a ∷ b ∷ c ∷ d ∷ e ∷ []) five colon = rw colon refl
-time_five [] five colon = absurd (omega arith)
-time_five (a ∷ []) five colon = absurd (omega arith)
-time_five (a ∷ b ∷ []) five colon = absurd (omega arith)
-time_five (a ∷ b ∷ c ∷ []) five colon = absurd (omega arith)
-time_five (a ∷ b ∷ c ∷ d ∷ []) five colon = absurd (omega arith)
-time_five (a ∷ b ∷ c ∷ d ∷ e ∷ f ∷ word) five colon = absurd (omega arith)
+time_five word five colon = absurd (omega arith)

@@ -1,7 +1,6 @@
 -- What is wrong with words: with those before the sources, and with the first source that is wrong.
-use Rattle.std.proofs.Common.{◌≡◌, ℕ, ◌+◌, ◌<◌, true, false, Option, None, Some, Result, Ok, Err, List, [], ◌∷◌, ◌++◌, length, codes, drop, is_some, refl, sym, ap, ◌∙◌, subst, arith, ℤ}
+use Rattle.std.proofs.Common.{◌≡◌, ℕ, ◌+◌, ◌<◌, true, false, Option, None, Some, Result, Ok, Err, List, [], ◌∷◌, ◌++◌, length, codes, is_some, refl, sym, ap, ◌∙◌, subst, arith, ℤ}
 use Rattle.std.specs.Prelude.{IsOk}
-use Rattle.std.proofs.lemmas.List.{drop-drop}
 use Rattle.instants_words.specs.declared.fault.WordsFault.{WordsFault}
 use Rattle.instants_words.specs.declared.fault.WordsFault.TheVariants as words
 use Rattle.instants_words.specs.declared.words.Words.{Words}
@@ -65,11 +64,9 @@ module _ (target assumed limit : List ℕ) where
 
   good_step : (t : Option ℤ) (a : Option (Option ℤ)) (l : Option ℕ) (one : List SourceSaid) (others : Result (List SourceSaid) WordsFault)
       → IsOk (by_parts t a l (Ok one)) → ((fault : WordsFault) → others ≡ Err fault → by_parts t a l others ≡ Err fault) × (IsOk others → IsOk (by_parts t a l others))
-  good_step None a l one others good = absurd cc
-  good_step (Some t) None l one others good = absurd cc
-  good_step (Some t) (Some a) None one others good = absurd cc
   good_step (Some t) (Some a) (Some l) one (Ok all) good = ((λ fault e. absurd cc), (λ h. refl))
   good_step (Some t) (Some a) (Some l) one (Err wrong) good = ((λ fault e. ap (by_parts (Some t) (Some a) (Some l)) e), (λ h. absurd cc))
+  good_step t a l one others good = absurd cc
 
   good_before : (sources : List (List ℕ)) → 0 < length sources → IsOk (words_said (target ∷ assumed ∷ limit ∷ codes "rfc3339" ∷ []))
       → ((fault : WordsFault) → sources_said 1 sources ≡ Err fault → words_said (target ∷ assumed ∷ limit ∷ sources) ≡ Err fault) × (IsOk (sources_said 1 sources) → IsOk (words_said (target ∷ assumed ∷ limit ∷ sources)))
@@ -120,11 +117,8 @@ source_fault place (word ∷ next ∷ words) fault e =
 module _ (target assumed limit : List ℕ) where
   after_step : (t : Option ℤ) (a : Option (Option ℤ)) (l : Option ℕ) (one : List SourceSaid) (others : Result (List SourceSaid) WordsFault) (fault : WordsFault)
       → IsOk (by_parts t a l (Ok one)) → by_parts t a l others ≡ Err fault → others ≡ Err fault
-  after_step None a l one others fault good e = absurd cc
-  after_step (Some t) None l one others fault good e = absurd cc
-  after_step (Some t) (Some a) None one others fault good e = absurd cc
-  after_step (Some t) (Some a) (Some l) one (Ok all) fault good e = absurd cc
   after_step (Some t) (Some a) (Some l) one (Err wrong) fault good e = let same : wrong ≡ fault = cc in ap Err same
+  after_step t a l one others fault good e = absurd cc
 
   reported_source : (wrong : Wrong) (fault : WordsFault) (at : ℕ) → fault ≡ words.Source at → reported target assumed limit wrong fault ≡ wrong
   reported_source wrong fault at e = rw e refl

@@ -1,7 +1,8 @@
 -- Names of formats, spelled out step by step.
-use Rattle.std.proofs.Common.{◌≡◌, ◌<◌, ◌⊎◌, inl, inr, ℕ, Bool, true, false, ◌&&◌, not, Option, None, Some, List, [], ◌∷◌, ◌++◌, length, drop, is_some, option_map, codes, append-nil, cond, if◌then◌else◌, refl, sym, ap, ◌∙◌, subst, arith}
+use Rattle.std.proofs.Common.{◌≡◌, ◌<◌, ◌⊎◌, inl, inr, ℕ, Bool, true, false, Option, None, Some, List, [], ◌∷◌, ◌++◌, length, drop, is_some, option_map, codes, append-nil, cond, if◌then◌else◌, refl, sym, ap, ◌∙◌, subst, arith}
 use Rattle.std.specs.List.{find, list_all}
 use Rattle.std.specs.Str.{bytes_eq}
+use Rattle.std.proofs.lemmas.Bool.{and_parts}
 use Rattle.std.proofs.lemmas.Slice.Eq.{bytes_eq-Decides}
 use Rattle.instants_formats.specs.Format.{FormatSaid}
 use Rattle.instants_formats.specs.Named.{has_name, named_format}
@@ -69,15 +70,11 @@ language_alone word is = of_languages (λ word. IsLanguageAlone word) (refl, ref
 
 -- ---- the languages of formats
 
-both_pass : (a b : Bool) → (a && b) ≡ true → (a ≡ true) × (b ≡ true)
-both_pass true b e = (refl, e)
-both_pass false b e = absurd cc
-
 -- what all of a list pass passes the one that is found
 find_passes : {X : Type 0} (p q : X → Bool) (xs : List X) (x : X) → list_all q xs ≡ true → find p xs ≡ Some x → q x ≡ true
 find_passes p q [] x all e = absurd cc
 find_passes {X} p q (y ∷ ys) x all e =
-    let both = both_pass (q y) (list_all q ys) all in
+    let both = and_parts (q y) (list_all q ys) all in
     let Q : X → Type 0 = λ z. q z ≡ true in
     elim (p y) as (λ b. cond b (Some y) (find p ys) ≡ Some x → q x ≡ true) [
       | true ↦ λ is. let same : y ≡ x = cc in subst Q same both.0

@@ -29,24 +29,12 @@ sign_first : (word : List ℕ) (offset : ℤ) → offset_said word ≡ Some offs
 unfolding offset_said has_sign_or_digit
 sign_first (sign ∷ h ∷ i ∷ mark ∷ m ∷ n ∷ []) offset e =
     let sign_is = six (mark == colon) sign (clock_seconds (number_said 0 23 2 (h ∷ i ∷ [])) (number_said 0 59 2 (m ∷ n ∷ []))) offset e in rw sign_is refl
-sign_first [] offset e = absurd cc
-sign_first (a ∷ []) offset e = absurd cc
-sign_first (a ∷ b ∷ []) offset e = absurd cc
-sign_first (a ∷ b ∷ c ∷ []) offset e = absurd cc
-sign_first (a ∷ b ∷ c ∷ d ∷ []) offset e = absurd cc
-sign_first (a ∷ b ∷ c ∷ d ∷ f ∷ []) offset e = absurd cc
-sign_first (a ∷ b ∷ c ∷ d ∷ f ∷ g ∷ h ∷ word) offset e = absurd cc
+sign_first word offset e = absurd cc
 
 no_name : (word : List ℕ) (offset : ℤ) → offset_said word ≡ Some offset → is_utc word ≡ false
 unfolding offset_said is_utc
 no_name (sign ∷ h ∷ i ∷ mark ∷ m ∷ n ∷ []) offset e = grind arith
-no_name [] offset e = absurd cc
-no_name (a ∷ []) offset e = absurd cc
-no_name (a ∷ b ∷ []) offset e = absurd cc
-no_name (a ∷ b ∷ c ∷ []) offset e = absurd cc
-no_name (a ∷ b ∷ c ∷ d ∷ []) offset e = absurd cc
-no_name (a ∷ b ∷ c ∷ d ∷ f ∷ []) offset e = absurd cc
-no_name (a ∷ b ∷ c ∷ d ∷ f ∷ g ∷ h ∷ word) offset e = absurd cc
+no_name word offset e = absurd cc
 
 first_test : (digits short least greatest : Bool) (number limit : ℕ) → (if digits && short && least && greatest then Some number else None) ≡ Some limit → digits ≡ true
 first_test true short least greatest number limit e = refl
@@ -97,15 +85,6 @@ other_name source name others all true f l e is =
     let P : List ℕ → Type 0 = λ word. sources_said 1 (word ∷ others) ≡ Ok all in
     absurd (is_known 1 name others all f l (subst P named e))
 
-no_year : (source : List ℕ) (others : List (List ℕ)) (all : List SourceSaid) → sources_said 1 (source ∷ others) ≡ Ok all → bytes_eq source (codes "year") ≡ false
-no_year source others all e = other_name source (codes "year") others all (bytes_eq source (codes "year")) refl refl e refl
-
-no_time : (source : List ℕ) (others : List (List ℕ)) (all : List SourceSaid) → sources_said 1 (source ∷ others) ≡ Ok all → bytes_eq source (codes "time") ≡ false
-no_time source others all e = other_name source (codes "time") others all (bytes_eq source (codes "time")) refl refl e refl
-
-no_label : (source : List ℕ) (others : List (List ℕ)) (all : List SourceSaid) → sources_said 1 (source ∷ others) ≡ Ok all → bytes_eq source (codes "label") ≡ false
-no_label source others all e = other_name source (codes "label") others all (bytes_eq source (codes "label")) refl refl e refl
-
 -- sources that are accepted have no names of formats to spell out
 also_ok : (source : SourceSaid) (sources : Result (List SourceSaid) WordsFault) (all : List SourceSaid) → also source sources ≡ Ok all → (others : List SourceSaid) × (sources ≡ Ok others)
 also_ok source (Ok others) all e = (others, refl)
@@ -144,30 +123,25 @@ stays target assumed limit source others t a l et ea y n b s = rw t (rw a (rw l 
 
 known : (t : Option ℤ) (a : Option (Option ℤ)) (l : Option ℕ) (sources : Result (List SourceSaid) WordsFault) (said : Words) → by_parts t a l sources ≡ Ok said
     → (t ≡ Some said.target) × (a ≡ Some said.assumed) × (l ≡ Some said.limit) × (sources ≡ Ok said.sources)
-known None a l sources said e = absurd cc
-known (Some t) None l sources said e = absurd cc
-known (Some t) (Some a) None sources said e = absurd cc
-known (Some t) (Some a) (Some l) (Err fault) said e = absurd cc
 known (Some t) (Some a) (Some l) (Ok sources) said e =
     let same : record { target = t; assumed = a; limit = l; sources = sources } ≡ said = cc in
     (ap (λ words. Some words.target) same, ap (λ words. Some words.assumed) same, ap (λ words. Some words.limit) same, ap (λ words. Ok words.sources) same)
+known t a l sources said e = absurd cc
 
 few : (words : List (List ℕ)) (said : Words) → length words < 4 → words_said words ≡ Ok said → ⊥
 unfolding words_said
-few [] said h e = cc
-few (t ∷ []) said h e = cc
-few (t ∷ a ∷ []) said h e = cc
-few (t ∷ a ∷ l ∷ []) said h e = cc
 few (t ∷ a ∷ l ∷ source ∷ others) said h e = omega arith
+few words said h e = cc
 
 -- words that `instants` accepts stay as they are
 pub in_full : (words : List (List ℕ)) (said : Words) → words_said words ≡ Ok said → filled words ≡ words
-in_full [] said e = absurd (few [] said (omega arith) e)
-in_full (t ∷ []) said e = absurd (few (t ∷ []) said (omega arith) e)
-in_full (t ∷ a ∷ []) said e = absurd (few (t ∷ a ∷ []) said (omega arith) e)
-in_full (t ∷ a ∷ l ∷ []) said e = absurd (few (t ∷ a ∷ l ∷ []) said (omega arith) e)
 in_full (t ∷ a ∷ l ∷ source ∷ others) said e =
     let is = known (offset_said t) (assumed_said a) (limit_said l) (sources_said 1 (source ∷ others)) said (sym (parts t a l source others) ∙ e) in
     let assumed = assumed_first a said.assumed is.1 in
     stays t a l source others (setting t (sign_first t said.target is.0)) (setting a assumed.0) (setting l (digit_first l said.limit is.2))
-    (as_is t (no_name t said.target is.0)) (as_is a assumed.1) (no_year source others said.sources is.3) (no_time source others said.sources is.3) (no_label source others said.sources is.3) (spelled 1 (source ∷ others) said.sources is.3)
+    (as_is t (no_name t said.target is.0)) (as_is a assumed.1)
+    (other_name source (codes "year") others said.sources (bytes_eq source (codes "year")) refl refl is.3 refl)
+    (other_name source (codes "time") others said.sources (bytes_eq source (codes "time")) refl refl is.3 refl)
+    (other_name source (codes "label") others said.sources (bytes_eq source (codes "label")) refl refl is.3 refl)
+    (spelled 1 (source ∷ others) said.sources is.3)
+in_full words said e = absurd (few words said (omega arith) e)

@@ -310,6 +310,7 @@ impl<'a, 'b> LineWriter<'a, 'b> {
     }
 
     /// The same with a line feed.
+    #[tactic(auto, using(crate::proofs::Turns::in_turn))]
     pub(crate) fn write_replaced_line<W: ByteWriter>(
         &mut self,
         line: &[u8],
@@ -357,6 +358,7 @@ impl<'a, 'b> LineWriter<'a, 'b> {
     }
 
     /// The same with a line feed.
+    #[tactic(auto, using(crate::proofs::Turns::in_turn))]
     pub(crate) fn write_located_line<W: ByteWriter>(
         &mut self,
         line: &[u8],

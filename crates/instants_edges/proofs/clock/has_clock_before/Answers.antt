@@ -1,4 +1,4 @@
-use Rattle.std.proofs.Common.{sym, ◌∙◌}
+use Rattle.std.proofs.Common.{sym}
 use Rattle.instants_edges.proofs.Clocks.{no_colon_no_clock}
 use Rattle.instants_edges.proofs.clock.has_clock_before.Goals as goal
 

@@ -1,4 +1,4 @@
-use Rattle.std.proofs.Common.{◌≡◌, ◌==◌, ◌∙◌, false, None, get_or, sym, arith}
+use Rattle.std.proofs.Common.{◌≡◌, ◌∙◌, None, sym, arith}
 use Rattle.std.proofs.lemmas.Bool.Decides.{nat_tests}
 use Rattle.instants_edges.specs.Offset.{offset_here}
 use Rattle.instants_edges.proofs.Offsets.{near_is, none_of, after_space, after_hours, after_unsigned, after_here}
@@ -16,9 +16,8 @@ returns-then-is_sign c =
     let near = near_is c.args.bytes.now c.rest_from-plain.result.now c.rest_from-near.result.now c.sequence_length.result c.fraction_length.result
     c.sequence_length.ensures.value c.rest_from-plain.ensures c.fraction_length.ensures.value c.rest_from-near.ensures in
     let first = c.byte_at-first.ensures in
-    let space : (get_or c.rest_from-near.result.now 0 0 == 32) ≡ false = grind (arith, nat_tests) in
     let none : offset_here c.rest_from-near.result.now ≡ None = none_of (offset_here c.rest_from-near.result.now) (rw c.offset_here-here.ensures at c.if-is_none.ensures) in
-    c.by_hours.ensures ∙ sym (after_hours c.args.bytes.now c.rest_from-near.result.now near space none)
+    c.by_hours.ensures ∙ sym (after_hours c.args.bytes.now c.rest_from-near.result.now near (grind (arith, nat_tests)) none)
 
 pub returns-else-is_none : goal.returns-else-is_none
 returns-else-is_none c =
@@ -27,10 +26,7 @@ returns-else-is_none c =
     let first = c.byte_at-first.ensures in
     elim c.else-is_none.branch [
       | else-is_none-via-then-is_none+else-is_sign w ↦
-          let space : (get_or c.rest_from-near.result.now 0 0 == 32) ≡ false = grind (arith, nat_tests) in
-          let p : (get_or c.rest_from-near.result.now 0 0 == 43) ≡ false = grind (arith, nat_tests) in
-          let h : (get_or c.rest_from-near.result.now 0 0 == 45) ≡ false = grind (arith, nat_tests) in
-          c.offset_here-here.ensures ∙ sym (after_unsigned c.args.bytes.now c.rest_from-near.result.now near space p h)
+          c.offset_here-here.ensures ∙ sym (after_unsigned c.args.bytes.now c.rest_from-near.result.now near (grind (arith, nat_tests)) (grind (arith, nat_tests)) (grind (arith, nat_tests)))
       | else-is_none-via-else-is_none w ↦
           c.offset_here-here.ensures ∙ sym (after_here c.args.bytes.now c.rest_from-near.result.now near (rw c.offset_here-here.ensures at w.if-is_none.ensures))
     ]

@@ -1,8 +1,8 @@
 use Rattle.std.proofs.Common.{sym, subst}
 use Rattle.std.proofs.KnownBytes.{Appends-nil, Appends-trans}
-use Rattle.std.proofs.lemmas.Result.{err_from_is_err_and}
 use Rattle.std.specs.Io.KnownBytes.{Appends}
 use Rattle.instants_stream.specs.Known.{AppendsPrefix}
+use Rattle.instants_stream.proofs.Gathering.{on_any_err}
 use Rattle.instants_stream.proofs.Known.{AppendsPrefix-after, AppendsPrefix-more}
 use Rattle.instants_guess.proofs.Written.{lines_none, lines_more, lines_last}
 use Rattle.instants_guess.proofs.write.write_lines.Goals as goal
@@ -12,9 +12,7 @@ loop-guess-init g c = (subst (Appends _ _) (sym (lines_none c.args.all)) (Append
 
 pub returns-in_err-write_guess-clause-prefix : goal.returns-in_err-write_guess-clause-prefix
 returns-in_err-write_guess-clause-prefix g c =
-    let p = err_from_is_err_and c.from_residual.result c.from_residual.ensures.1 in
-    let prefix = AppendsPrefix-after _ _ _ _ _ c.loop-guess.invariant.0 c.in_err-write_guess.ensures.prefix in
-    rw p.1 (subst (AppendsPrefix _ _) (sym (lines_last c.args.all c.args.guesses.now c.loop-guess.guess-index _ c.loop-guess-test.true)) (AppendsPrefix-more _ _ _ _ prefix))
+    on_any_err c.from_residual.result (subst (AppendsPrefix _ _) (sym (lines_last c.args.all c.args.guesses.now c.loop-guess.guess-index _ c.loop-guess-test.true)) (AppendsPrefix-more _ _ _ _ (AppendsPrefix-after _ _ _ _ _ c.loop-guess.invariant.0 c.in_err-write_guess.ensures.prefix)))
 
 pub loop-guess-preserved : goal.loop-guess-preserved
 loop-guess-preserved g c =

@@ -1,13 +1,8 @@
-use Rattle.std.proofs.lemmas.Result.{err_from_is_err_and}
-use Rattle.instants_stream.proofs.Gathering.{OnErr-map}
-use Rattle.instants_stream.proofs.Known.{AppendsPrefix-after, AppendsPrefix-more}
+use Rattle.instants_lines.proofs.Turns.{first_fails, second_fails}
 use Rattle.instants_lines.proofs.located.write_doubted.Goals as goal
 
 pub returns-in_err-write_read-clause-prefix : goal.returns-in_err-write_read-clause-prefix
-returns-in_err-write_read-clause-prefix g c =
-    let p = err_from_is_err_and c.from_residual.result c.from_residual.ensures.1 in
-    rw p.1 (AppendsPrefix-more _ _ _ _ c.in_err-write_read.ensures.prefix)
+returns-in_err-write_read-clause-prefix g c = first_fails _ _ _ _ _ c.in_err-write_read.ensures.prefix
 
 pub returns-clause-prefix : goal.returns-clause-prefix
-returns-clause-prefix g c =
-    OnErr-map c.write_both.result (λ prefix. AppendsPrefix-after _ _ _ _ _ c.in_ok-write_read.ensures.written prefix) (rw c.reason.ensures at c.write_both.ensures.prefix)
+returns-clause-prefix g c = second_fails _ _ _ _ _ _ c.in_ok-write_read.ensures.written (rw c.reason.ensures at c.write_both.ensures.prefix)

@@ -1,4 +1,4 @@
-use Rattle.std.proofs.Common.{◌≡◌, ℕ, List, Result, None, Some, Ok, Err, map, sym, ap, ◌∙◌}
+use Rattle.std.proofs.Common.{◌≡◌, Result, None, Some, Ok, map, sym, ap, ◌∙◌}
 use Rattle.std.proofs.lemmas.Result.{err_from_is_err_and}
 use Rattle.instants_stream.specs.Ran.{IsThrough, RanAndFlushed}
 use Rattle.instants_stream.specs.declared.run.RunFault.{RunFault}
@@ -10,7 +10,6 @@ use Rattle.instants_lines.specs.Going.{Going}
 use Rattle.instants_lines.specs.Lacking.{lacking_in}
 use Rattle.instants_lines.specs.Program.{AsksFor, writing}
 use Rattle.instants_lines.specs.Showing.{search_in}
-use Rattle.instants_lines.specs.Writing.{writing_for}
 use Rattle.instants_lines.proofs.Saying.{asks_so, begun_so, ended_so, same_search, written_so}
 use Rattle.instants_lines.proofs.program.run_words.Goals as goal
 use Rattle.instants_lines.proofs.program.run_words.Goals.{In_ok-dates}

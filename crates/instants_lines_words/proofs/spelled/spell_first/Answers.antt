@@ -1,7 +1,6 @@
-use Rattle.std.proofs.Common.{◌≡◌, ◌++◌, [], ◌∷◌, map, length, is_some, false, append_assoc, refl, sym, ap, ◌∙◌, arith}
+use Rattle.std.proofs.Common.{◌≡◌, ◌++◌, [], ◌∷◌, map, append_assoc, sym, ap, ◌∙◌}
 use Rattle.std.proofs.lemmas.List.{length-map, map-append}
 use Rattle.instants_formats.specs.Named.{named_format}
-use Rattle.instants_words.specs.Sources.{language_named}
 use Rattle.instants_lines_words.specs.Spelled.{in_place, spelled_out}
 use Rattle.instants_lines_words.proofs.Spelling.{spelled_language, spelled_word, spelled_last}
 use Rattle.instants_lines_words.proofs.spelled.spell_first.Goals as goal

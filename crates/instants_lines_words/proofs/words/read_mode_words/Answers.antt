@@ -1,4 +1,4 @@
-use Rattle.std.proofs.Common.{◌≡◌, ◌<◌, None, Err, length, map, option_map, sym, ap, ◌∙◌}
+use Rattle.std.proofs.Common.{◌≡◌, None, Err, map, option_map, sym, ap, ◌∙◌}
 use Rattle.std.proofs.lemmas.List.{length-map}
 use Rattle.instants_words.specs.declared.fault.WordsFault.TheVariants as words
 use Rattle.instants_lines_words.specs.Asked.{asking_of}
@@ -33,8 +33,7 @@ returns-in-Err-clause-err c =
     let parted = c.part-parted.result in
     let is = c.part-parted.ensures in
     let sources = spelled_out (map (λ word. word.now) parted.sources.now) in
-    let some : 0 < length sources = c.in_default-wrong_before.ensures.none.0 in
-    let good = c.in_default-wrong_before.ensures.none.1 in
+    let (some, good) = c.in_default-wrong_before.ensures.none in
     wrong_asked_reported (map (λ word. word.now) c.in-Some.others.now) parted.target.now parted.assumed.now parted.limit.now parted.is_whole (option_map (λ word. word.now) parted.year) (option_map (λ word. word.now) parted.time) (option_map (λ word. word.now) parted.label) sources
     is.target is.assumed is.limit is.whole is.year is.time is.label is.sources
     (map (λ word. word.now) c.args.words.now) c.in-Some.word.now.now c.in-Some-mode_named.mode (ap (map (λ word. word.now)) c.in-Some.ensures.cases.0) (sym c.mode_named.ensures ∙ c.in-Some-mode_named.is)
@@ -45,8 +44,7 @@ returns-in-Some-wrong_source-clause-err c =
     let parted = c.part-parted.result in
     let is = c.part-parted.ensures in
     let sources = spelled_out (map (λ word. word.now) parted.sources.now) in
-    let some : 0 < length sources = c.in_default-wrong_before.ensures.none.0 in
-    let good = c.in_default-wrong_before.ensures.none.1 in
+    let (some, good) = c.in_default-wrong_before.ensures.none in
     let wrong = c.in-Some-wrong_source.ensures.some in
     let refused = wrong_after parted.target.now parted.assumed.now parted.limit.now sources some good (words.Source wrong.0) wrong.1 in
     let reported = wrong_source_reported (map (λ word. word.now) c.in-Some.others.now) parted.target.now parted.assumed.now parted.limit.now parted.is_whole (option_map (λ word. word.now) parted.year) (option_map (λ word. word.now) parted.time) (option_map (λ word. word.now) parted.label) sources
@@ -60,8 +58,7 @@ returns-in-Ok-fill-clause-ok c =
     let parted = c.part-parted.result in
     let is = c.part-parted.ensures in
     let sources = spelled_out (map (λ word. word.now) parted.sources.now) in
-    let some : 0 < length sources = c.in_default-wrong_before.ensures.none.0 in
-    let good = c.in_default-wrong_before.ensures.none.1 in
+    let (some, good) = c.in_default-wrong_before.ensures.none in
     let right = right_after parted.target.now parted.assumed.now parted.limit.now sources some good c.in_default-wrong_source.ensures.none in
     right_reported (map (λ word. word.now) c.in-Some.others.now) parted.target.now parted.assumed.now parted.limit.now parted.is_whole (option_map (λ word. word.now) parted.year) (option_map (λ word. word.now) parted.time) (option_map (λ word. word.now) parted.label) sources
     is.target is.assumed is.limit is.whole is.year is.time is.label is.sources
@@ -73,8 +70,7 @@ returns-in-Err-fill-clause-err c =
     let parted = c.part-parted.result in
     let is = c.part-parted.ensures in
     let sources = spelled_out (map (λ word. word.now) parted.sources.now) in
-    let some : 0 < length sources = c.in_default-wrong_before.ensures.none.0 in
-    let good = c.in_default-wrong_before.ensures.none.1 in
+    let (some, good) = c.in_default-wrong_before.ensures.none in
     let right = right_after parted.target.now parted.assumed.now parted.limit.now sources some good c.in_default-wrong_source.ensures.none in
     accepted (map (λ word. word.now) c.in-Some.others.now) parted.target.now parted.assumed.now parted.limit.now parted.is_whole (option_map (λ word. word.now) parted.year) (option_map (λ word. word.now) parted.time) (option_map (λ word. word.now) parted.label) sources
     is.target is.assumed is.limit is.whole is.year is.time is.label is.sources

@@ -1,10 +1,9 @@
-use Rattle.std.proofs.Common.{◌≡◌, ◌∙◌, ◌<◌, ◌∷◌, [], List, None, Some, is_some, false, length, map, drop, sym, ap, refl, subst, arith}
+use Rattle.std.proofs.Common.{◌≡◌, ◌∙◌, ◌<◌, ◌∷◌, None, length, map, sym, ap, arith}
 use Rattle.std.proofs.lemmas.List.{length-map}
 use Rattle.instants_formats.specs.Format.{format_said}
 use Rattle.instants_words.specs.FirstSource.{source_said}
-use Rattle.instants_words.specs.Sources.{language_named}
 use Rattle.instants_lines_words.specs.Spelled.{spelled_out}
-use Rattle.instants_lines_words.proofs.Spelling.{SaysFirst, first_format, first_language, first_name, first_two, no_first_language, no_first_word, none_name, some_name, spelled_none}
+use Rattle.instants_lines_words.proofs.Spelling.{SaysFirst, first_format, first_name, first_two, no_first_language, no_first_word, none_name, some_name, spelled_none}
 use Rattle.instants_lines_words.proofs.wrong_source.source_len.Goals as goal
 use Rattle.instants_lines_words.proofs.wrong_source.source_len.Goals.{then-is_format-via-then-is_format, then-is_format-via-else-is_format+then-is_some, else-is_language-via-then-is_language+else-not-is_empty, else-is_language-via-else-is_language}
 

@@ -1,7 +1,7 @@
-use Rattle.std.proofs.Common.{◌≡◌, ◌+◌, ◌-◌, ◌<◌, None, Some, [], ◌∷◌, ◌++◌, List, map, take, drop, length, append-nil, refl, sym, ap, subst, ◌∙◌, arith}
-use Rattle.std.proofs.lemmas.List.{take_all, drop-map, drop-drop, drop_all, length-map, length-drop}
+use Rattle.std.proofs.Common.{◌≡◌, ◌+◌, ◌-◌, ◌<◌, Some, [], ◌∷◌, ◌++◌, map, take, drop, length, refl, sym, ap, ◌∙◌, arith}
+use Rattle.std.proofs.lemmas.List.{take_all, drop-map, drop-drop, length-map, length-drop}
 use Rattle.instants_words.specs.FirstSource.{source_said}
-use Rattle.instants_words.specs.Sources.{SourceSaid, sources_said}
+use Rattle.instants_words.specs.Sources.{sources_said}
 use Rattle.instants_words.proofs.SourceLemmas.{after, after_one, step_none, step_some}
 use Rattle.instants_lines_words.specs.Spelled.{spelled_out}
 use Rattle.instants_lines_words.specs.Words.{wrong_source}

@@ -1,9 +1,8 @@
-use Rattle.std.proofs.Common.{◌≡◌, ◌≤◌, ◌+◌, ℕ, List, [], ◌∷◌, ◌++◌, Some, length, sym, ap, ◌∙◌, arith}
-use Rattle.std.proofs.lemmas.List.{length-append}
-use Rattle.base.specs.Bytes.{tab, line_feed}
+use Rattle.std.proofs.Common.{◌≡◌, ℕ, List, [], ◌∷◌, ◌++◌, Some, sym, ap, ◌∙◌}
+use Rattle.base.specs.Bytes.{tab}
 use Rattle.instants_found.specs.declared.found.Finding.TheVariants.{There}
 use Rattle.instants_stream.proofs.Gathering.{OnOk-map}
-use Rattle.instants_lines.specs.Going.{Going, given_below, key_below, key_of_line, keyed, label_prefix}
+use Rattle.instants_lines.specs.Going.{Going, given_below, key_below, key_of_line, label_prefix}
 use Rattle.instants_lines.specs.Writing.{going_of}
 use Rattle.instants_lines.proofs.Keyed.{dated, below_found, key_and_tab}
 use Rattle.instants_lines.proofs.line_writer.LineWriter.write_dated.Goals as goal

@@ -1,6 +1,6 @@
-use Rattle.std.proofs.Common.{◌≡◌, ◌≤◌, ◌+◌, [], ◌∷◌, ◌++◌, append_assoc, length, option_map, sym, ◌∙◌, ap, List, ℕ, arith}
+use Rattle.std.proofs.Common.{◌≡◌, ◌≤◌, ◌+◌, [], ◌∷◌, ◌++◌, length, List, ℕ, arith}
 use Rattle.std.proofs.lemmas.List.{length-append}
-use Rattle.base.specs.Bytes.{tab, line_feed}
+use Rattle.base.specs.Bytes.{tab}
 use Rattle.instants_lines.specs.Going.{label_prefix}
 use Rattle.instants_lines.specs.Writing.{going_of}
 use Rattle.instants_lines.proofs.Keyed.{key_and_tab}
