@@ -1,7 +1,46 @@
-//! What is written for a stream.
+//! What the guess of a stream's format writes, over lent bytes.
 
-use crate::support::{Devices, WHOLE, guess_is};
-use instants_stream::RunFault;
+use instants_guess::guess;
+use instants_stream::{ByteWriter, CutReader, CutWriter, RunFault};
+use instants_timeline::RunsFault;
+use std::alloc::Global;
+use std::process::Abort;
+
+// Reads and writes of at most so many bytes, and a read or a write that fails after so many, where one does.
+#[derive(Clone, Copy)]
+struct Devices {
+    most: usize,
+    read: Option<usize>,
+    write: Option<usize>,
+}
+
+// Devices that do not fail.
+const WHOLE: Devices = Devices {
+    most: 65_536,
+    read: None,
+    write: None,
+};
+
+// A guess over a stream by these devices ends so, and what is written is this.
+fn guess_is(
+    rt: &impl Abort,
+    alloc: Global,
+    stream: &[u8],
+    devices: Devices,
+    ended: Result<(), RunFault>,
+    text: &[u8],
+) {
+    let mut space = [0; 512];
+    let mut reader = CutReader::new(stream, devices.most.max(1), devices.read);
+    let mut writer = CutWriter::new(&mut space, devices.most.max(1), devices.write);
+    match guess(alloc, &mut reader, &mut writer) {
+        Ok(()) => assert_eq!(rt; ended, Ok(())),
+        Err(RunsFault::Run(fault)) => assert_eq!(rt; ended, Err(fault)),
+        Err(RunsFault::Memory) => assert!(rt; false, "out of memory"),
+    }
+    assert_eq!(rt; writer.is_flushed(), ended != Err(RunFault::Write));
+    assert_eq!(rt; writer.written(), text);
+}
 
 // A stream, and what is written for it.
 static ROWS: [(&str, &str); 8] = [
