@@ -1,11 +1,11 @@
 -- Versions 1 and 2 answer no nested item.
-use Rattle.std.proofs.Common.{◌≡◌, ℕ, List, suc, length, subst, Result, Ok, true, false, refl}
-use Rattle.std.specs.Prelude.{codes}
+use Rattle.std.proofs.Common.{◌≡◌, ℕ, List, suc, length, subst, Result, Ok, Err, true, false, refl}
+use Rattle.std.specs.Prelude.{codes, IsErr}
 use Rattle.std.proofs.lemmas.Bool.{both_ways}
 use Rattle.description_lexer.specs.Fault.{Fault}
 use Rattle.description_lexer.specs.declared.description_fault.DescriptionFault.{DescriptionFault}
 use Rattle.description_lexer.specs.declared.description_fault.DescriptionFault.TheVariants as errors
-use Rattle.description_lexer.specs.Answer.{◌>>=◌, Fails}
+use Rattle.description_lexer.specs.Answer.{◌>>=◌, Fails, Gives}
 use Rattle.description_items.specs.Tree.{Tree, Optional, First, Compound, listed}
 use Rattle.description_lexer.specs.declared.version.DescriptionVersion.{DescriptionVersion}
 use Rattle.description_lexer.specs.declared.version.DescriptionVersion.TheVariants.{Three}
@@ -32,6 +32,11 @@ pub no_first : (v : DescriptionVersion) (inside : Nester) (bracket : ℕ) (s : R
 unfolding first_at
 no_first v inside bracket s x older h =
     (none_before_three v (codes "whitespace after `first`") (λ start. many no_bracket inside (suc (length start.text)) start) (λ ts. First (listed ts)) bracket s older).ok x h
+
+-- where nothing is read, the answer is a fault
+pub is_refused : {X Y : Type 0} (view : X → Y) (answer : Result X DescriptionFault) (read : Result Y Fault) → ((y : Y) → read ≡ Ok y → ⊥) → Gives view answer read → IsErr answer
+is_refused view (Ok x) read none gives = absurd (none (view x) gives)
+is_refused view (Err e) read none gives = refl
 
 -- a reading that fails at once fails with all that would follow
 pub fails_then : {A B : Type 0} (d : DescriptionFault) (r : Result A Fault) (f : A → Result B Fault) → Fails d r → Fails d (r >>= f)
