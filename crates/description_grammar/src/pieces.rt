@@ -9,7 +9,9 @@ ghost use Rattle.description_grammar.specs.Reading.{Nester, bracket_at, element_
 use crate::components::component_from;
 use crate::texts::{doubled, text};
 use description_items::Component;
-use description_lexer::{DescriptionFault, DescriptionVersion, Rest, begins, cut, is_named, name_of};
+use description_lexer::{
+    DescriptionFault, DescriptionVersion, Rest, begins, cut, is_named, name_of,
+};
 use std::alloc::Global;
 
 /// A literal or a component and what follows it, or what follows the name of a nested item.

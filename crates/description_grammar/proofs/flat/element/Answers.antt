@@ -1,4 +1,3 @@
-use Rattle.description_tree.specs.Inner.{inner_tree}
 use Rattle.description_lexer.specs.Views.{rest_of}
 use Rattle.description_grammar.specs.Reading.{optional_at, first_at, nested_at}
 use Rattle.description_grammar.proofs.Refusals.{no_optional, no_first, is_refused}

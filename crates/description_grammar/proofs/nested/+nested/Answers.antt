@@ -1,13 +1,12 @@
-use Rattle.std.proofs.Common.{refl, arith, ◌≡◌, ◌++◌, ◌∷◌, [], rules, false, true, sym, ◌∙◌}
+use Rattle.std.proofs.Common.{refl, arith, ◌≡◌, ◌++◌, ◌∷◌, [], rules, false, true, sym}
 use Rattle.std.proofs.lemmas.Result.{err_from_is_err_and}
 use Rattle.std.proofs.lemmas.List.{map_push}
 use Rattle.description_tree.specs.Inner.{inner_tree, inner_trees}
 use Rattle.description_items.proofs.FormLists.{all_push}
 use Rattle.description_tree.specs.Forms.{is_read}
 use Rattle.description_tree.specs.declared.inner.FormatDescriptionV3Inner.{OwnedCompound}
-use Rattle.description_tree.proofs.InnerTrees.{tree-OwnedCompound, tree-OwnedFirst, tree-OwnedOptional, read-OwnedCompound, read-OwnedFirst, read-OwnedOptional}
+use Rattle.description_tree.proofs.InnerTrees.{tree-OwnedCompound, read-OwnedCompound}
 use Rattle.description_items.specs.Tree.{Compound, listed}
-use Rattle.description_lexer.specs.Version.{is_three}
 use Rattle.description_lexer.specs.Views.{rest_of}
 use Rattle.description_lexer.proofs.Many.{many_goes_on, many_fails, many_ends}
 use Rattle.description_lexer.proofs.Readings.{not_true, not_false}
@@ -67,7 +66,6 @@ items-returns t c =
       value = many_ends (is_end c.args.inner) (element_at c.args.version (nested_at c.args.version c.args.levels)) _ (inner_trees c.items.all.items) (rest_of c.items.rest) c.items.invariant.read ended;
       form = c.items.invariant.form;
     }
-
 
 pub optional-returns : goal.optional-returns
 unfolding optional_at
