@@ -1,4 +1,5 @@
 pub mod Reading
+pub mod Pieces
 pub mod Heads
 pub mod Spelling
 pub mod Faulty

@@ -1,21 +1,18 @@
 //! Descriptions of versions 1 and 2.
 
-ghost use Rattle.std.specs.Prelude.{◌≡◌, ◌<◌, false, true, IfOk, length};
-ghost use Rattle.std.specs.Str.{IsCharBoundary};
+ghost use Rattle.std.specs.Prelude.{◌≡◌, ◌<◌, false, true, Err, IfOk, IsErr, length};
 ghost use Rattle.description_lexer.specs.Answer.{Gives};
 ghost use Rattle.description_items.specs.Forms.{is_of_text, are_of_text};
 ghost use Rattle.description_items.specs.Tree.{tree_of, trees};
 ghost use Rattle.description_lexer.specs.Version.{is_three};
 ghost use Rattle.description_lexer.specs.Views.{rest_of};
-ghost use Rattle.description_grammar.specs.Reading.{bracket_at, element_at, nested_at, read_items};
+ghost use Rattle.description_grammar.specs.Reading.{element_at, nested_at, read_items};
 
-use crate::components::component_from;
 use crate::nested::{LEVELS, first, optional};
-use crate::texts::{doubled, text};
+use crate::pieces::{Piece, first_piece};
 use description_items::BorrowedFormatItem;
-use description_lexer::{
-    DescriptionFault, DescriptionVersion, Rest, begins, cut, is_named, name_of, whole_of,
-};
+use description_lexer::{DescriptionFault, DescriptionVersion, Rest, whole_of};
+use description_tree::FormatDescriptionV3Inner;
 use std::alloc::Global;
 
 /// The items of a description of version 1 or 2. Nested descriptions are read for their faults alone.
@@ -40,7 +37,6 @@ pub fn items_of<'a>(
 }
 
 // One item: text, an escape or a component.
-#[tactic(auto, unfolding(crate::specs::Reading::element_at))]
 fn element<'a>(
     alloc: Global,
     version: DescriptionVersion,
@@ -52,43 +48,25 @@ fn element<'a>(
         (element_at version (nested_at version 127) (rest_of here.entry)) }
     ensures form { IfOk result (λ x. is_of_text x.0 ≡ true) }
 {
-    if let Some((prefix, rest)) = doubled(version, here) {
-        return Ok((BorrowedFormatItem::StringLiteral(prefix), rest));
+    match first_piece(alloc, version, here)? {
+        Piece::Literal(text, rest) => Ok((BorrowedFormatItem::StringLiteral(text), rest)),
+        Piece::Part(component, rest) => Ok((BorrowedFormatItem::Component(component), rest)),
+        Piece::Optional(rest) => {
+            Err(refused(optional(alloc, version, LEVELS, here.index, rest)))
+        }
+        Piece::First(rest) => Err(refused(first(alloc, version, LEVELS, here.index, rest))),
     }
-    if begins(here.text, b'[') {
-        return bracketed(alloc, version, here);
-    }
-    let (prefix, rest) = text(version, here)?;
-    Ok((BorrowedFormatItem::StringLiteral(prefix), rest))
 }
 
-// A component in its brackets.
-#[tactic(auto, unfolding(crate::specs::Reading::bracket_at))]
-fn bracketed<'a>(
-    alloc: Global,
-    version: DescriptionVersion,
-    here: Rest<'a>,
-) -> Result<(BorrowedFormatItem<'a>, Rest<'a>), DescriptionFault<'a>>
-    requires version { is_three version ≡ false }
-    requires boundary { IsCharBoundary here.text.now 1 }
-    ensures value { Gives (λ x. (tree_of x.0, rest_of x.1)) result
-        (bracket_at version (nested_at version 127) (rest_of here.entry)) }
-    ensures form { IfOk result (λ x. is_of_text x.0 ≡ true) }
+// The fault of a nested item, which versions 1 and 2 don't have.
+fn refused<'a>(
+    nested: Result<(FormatDescriptionV3Inner<'a>, Rest<'a>), DescriptionFault<'a>>,
+) -> DescriptionFault<'a>
+    requires { IsErr nested }
+    ensures { nested.entry ≡ Err result }
 {
-    let (_, inside) = cut(here, 1);
-    let (name, rest) = name_of(here.index, inside)?;
-    if is_named(version, name.text, "optional") {
-        return match optional(alloc, version, LEVELS, here.index, rest) {
-            Err(fault) => Err(fault),
-            Ok(_) => unreachable!(),
-        };
+    match nested {
+        Err(fault) => fault,
+        Ok(_) => unreachable!(),
     }
-    if is_named(version, name.text, "first") {
-        return match first(alloc, version, LEVELS, here.index, rest) {
-            Err(fault) => Err(fault),
-            Ok(_) => unreachable!(),
-        };
-    }
-    let (component, rest) = component_from(alloc, version, here.index, name, rest)?;
-    Ok((BorrowedFormatItem::Component(component), rest))
 }

@@ -5,6 +5,7 @@
 mod components;
 mod flat;
 mod nested;
+mod pieces;
 mod texts;
 
 pub use flat::items_of;

@@ -4,18 +4,19 @@ ghost use Rattle.std.specs.Prelude.{suc, ◌≡◌, ◌<◌, true, IfOk, length}
 ghost use Rattle.std.specs.Str.{IsCharBoundary};
 ghost use Rattle.description_lexer.specs.Answer.{Answers, Gives};
 ghost use Rattle.description_lexer.specs.Fault.{fault_of};
-ghost use Rattle.description_items.specs.Tree.{Compound, listed};
+ghost use Rattle.description_items.specs.Tree.{Compound, Optional, First, listed};
 ghost use Rattle.description_tree.specs.Forms.{is_read, are_read};
 ghost use Rattle.description_tree.specs.Inner.{inner_tree, inner_trees};
 ghost use Rattle.description_lexer.specs.Many.{many};
 ghost use Rattle.description_lexer.specs.Views.{rest_of};
-ghost use Rattle.description_grammar.specs.Reading.{opened_at, unsupported_at, optional_at, first_at, bracket_at, element_at, is_end, no_bracket, nested_at, read_tree};
+ghost use Rattle.description_grammar.specs.Pieces.{closed_as};
+ghost use Rattle.description_grammar.specs.Reading.{opened_at, unsupported_at, optional_at, first_at, element_at, is_end, no_bracket, nested_at, read_tree};
 
-use crate::components::component_from;
-use crate::texts::{doubled, is_end, text};
+use crate::pieces::{Piece, first_piece};
+use crate::texts::is_end;
 use description_lexer::{
     DescriptionFault, DescriptionVersion, InvalidFormatDescription, Rest, begins, closed, cut,
-    is_named, name_of, past_space, whole_of,
+    past_space, whole_of,
 };
 use description_tree::FormatDescriptionV3Inner;
 use std::alloc::Global;
@@ -76,6 +77,49 @@ fn unsupported<'a>(bracket: usize) -> InvalidFormatDescription<'a>
     }
 }
 
+// The optional item of a nested description, and what follows its closing bracket.
+fn optional_of<'a>(
+    alloc: Global,
+    version: DescriptionVersion,
+    bracket: usize,
+    items: Vec<FormatDescriptionV3Inner<'a>>,
+    here: Rest<'a>,
+) -> Result<(FormatDescriptionV3Inner<'a>, Rest<'a>), DescriptionFault<'a>>
+    requires { are_read items.items ≡ true }
+    ensures value { Gives (λ x. (inner_tree x.0, rest_of x.1)) result
+        (closed_as version bracket (Optional true (Compound (listed (inner_trees items.entry.items)))) (rest_of here.entry)) }
+    ensures form { IfOk result (λ x. is_read x.0 ≡ true) }
+{
+    let rest = closed(bracket, here)?;
+    if !version.is_three() {
+        return Err(DescriptionFault::Description(unsupported(bracket)));
+    }
+    let item = Box::new(alloc, FormatDescriptionV3Inner::OwnedCompound(items))?;
+    Ok((
+        FormatDescriptionV3Inner::OwnedOptional { format: true, item },
+        rest,
+    ))
+}
+
+// Alternatives as one item, and what follows their closing bracket.
+fn first_of<'a>(
+    version: DescriptionVersion,
+    bracket: usize,
+    all: Vec<FormatDescriptionV3Inner<'a>>,
+    here: Rest<'a>,
+) -> Result<(FormatDescriptionV3Inner<'a>, Rest<'a>), DescriptionFault<'a>>
+    requires { are_read all.items ≡ true }
+    ensures value { Gives (λ x. (inner_tree x.0, rest_of x.1)) result
+        (closed_as version bracket (First (listed (inner_trees all.entry.items))) (rest_of here.entry)) }
+    ensures form { IfOk result (λ x. is_read x.0 ≡ true) }
+{
+    let rest = closed(bracket, here)?;
+    if !version.is_three() {
+        return Err(DescriptionFault::Description(unsupported(bracket)));
+    }
+    Ok((FormatDescriptionV3Inner::OwnedFirst(all), rest))
+}
+
 // Items up to the end, or inside a nested description to its bracket.
 #[cycle(nested)]
 fn items<'a>(
@@ -101,7 +145,6 @@ fn items<'a>(
 }
 
 // One item, or a nested description in its brackets.
-#[tactic(auto, unfolding(crate::specs::Reading::element_at))]
 #[cycle(nested)]
 fn element<'a>(
     alloc: Global,
@@ -114,40 +157,12 @@ fn element<'a>(
         (element_at version (nested_at version levels) (rest_of here.entry)) }
     ensures form { IfOk result (λ x. is_read x.0 ≡ true) }
 {
-    if let Some((prefix, rest)) = doubled(version, here) {
-        return Ok((FormatDescriptionV3Inner::BorrowedLiteral(prefix), rest));
+    match first_piece(alloc, version, here)? {
+        Piece::Literal(text, rest) => Ok((FormatDescriptionV3Inner::BorrowedLiteral(text), rest)),
+        Piece::Part(component, rest) => Ok((FormatDescriptionV3Inner::from(component), rest)),
+        Piece::Optional(rest) => optional(alloc, version, levels, here.index, rest),
+        Piece::First(rest) => first(alloc, version, levels, here.index, rest),
     }
-    if begins(here.text, b'[') {
-        return bracketed(alloc, version, levels, here);
-    }
-    let (prefix, rest) = text(version, here)?;
-    Ok((FormatDescriptionV3Inner::BorrowedLiteral(prefix), rest))
-}
-
-// What stands in a bracket: a component, or a nesting.
-#[tactic(auto, unfolding(crate::specs::Reading::bracket_at))]
-#[cycle(nested)]
-fn bracketed<'a>(
-    alloc: Global,
-    version: DescriptionVersion,
-    levels: u8,
-    here: Rest<'a>,
-) -> Result<(FormatDescriptionV3Inner<'a>, Rest<'a>), DescriptionFault<'a>>
-    requires { IsCharBoundary here.text.now 1 }
-    ensures value { Gives (λ x. (inner_tree x.0, rest_of x.1)) result
-        (bracket_at version (nested_at version levels) (rest_of here.entry)) }
-    ensures form { IfOk result (λ x. is_read x.0 ≡ true) }
-{
-    let (_, inside) = cut(here, 1);
-    let (name, rest) = name_of(here.index, inside)?;
-    if is_named(version, name.text, "optional") {
-        return optional(alloc, version, levels, here.index, rest);
-    }
-    if is_named(version, name.text, "first") {
-        return first(alloc, version, levels, here.index, rest);
-    }
-    let (component, rest) = component_from(alloc, version, here.index, name, rest)?;
-    Ok((FormatDescriptionV3Inner::from(component), rest))
 }
 
 /// An optional item after its name, and what follows it.
@@ -166,15 +181,7 @@ pub fn optional<'a>(
 {
     let start = opened("whitespace after `optional`", here)?;
     let (items, rest) = nested(alloc, version, levels, start)?;
-    let rest = closed(bracket, rest)?;
-    if !version.is_three() {
-        return Err(DescriptionFault::Description(unsupported(bracket)));
-    }
-    let item = Box::new(alloc, FormatDescriptionV3Inner::OwnedCompound(items))?;
-    Ok((
-        FormatDescriptionV3Inner::OwnedOptional { format: true, item },
-        rest,
-    ))
+    optional_of(alloc, version, bracket, items, rest)
 }
 
 /// Alternatives after their name, and what follows them.
@@ -193,11 +200,7 @@ pub fn first<'a>(
 {
     let start = opened("whitespace after `first`", here)?;
     let (all, rest) = alternatives(alloc, version, levels, start)?;
-    let rest = closed(bracket, rest)?;
-    if !version.is_three() {
-        return Err(DescriptionFault::Description(unsupported(bracket)));
-    }
-    Ok((FormatDescriptionV3Inner::OwnedFirst(all), rest))
+    first_of(version, bracket, all, rest)
 }
 
 // The nested descriptions of `first`.

@@ -9,38 +9,42 @@ impl fmt::Debug for BorrowedFormatItem<'_> {
     }
 }
 
+// A value after its name.
+fn write_named<T: fmt::Debug, W: fmt::Write>(
+    name: &str,
+    value: &T,
+    f: &mut fmt::Formatter<W>,
+) -> fmt::Result {
+    write!(f, "{name}({value:?})")
+}
+
 #[cycle(shown)]
 fn write_item<W: fmt::Write>(
     item: &BorrowedFormatItem<'_>,
     f: &mut fmt::Formatter<W>,
 ) -> fmt::Result {
     match item {
-        BorrowedFormatItem::Literal(bytes) => write!(f, "Literal({bytes:?})"),
-        BorrowedFormatItem::StringLiteral(text) => write!(f, "StringLiteral({text:?})"),
-        BorrowedFormatItem::Component(component) => write!(f, "Component({component:?})"),
-        BorrowedFormatItem::Compound(items) => {
-            f.write_str("Compound")?;
-            write_items(items, f)
-        }
+        BorrowedFormatItem::Literal(bytes) => write_named("Literal", bytes, f),
+        BorrowedFormatItem::StringLiteral(text) => write_named("StringLiteral", text, f),
+        BorrowedFormatItem::Component(component) => write_named("Component", component, f),
+        BorrowedFormatItem::Compound(items) => write_items("Compound([", items, f),
         BorrowedFormatItem::Optional(item) => {
             f.write_str("Optional(")?;
             write_item(item, f)?;
             f.write_str(")")
         }
-        BorrowedFormatItem::First(items) => {
-            f.write_str("First")?;
-            write_items(items, f)
-        }
+        BorrowedFormatItem::First(items) => write_items("First([", items, f),
     }
 }
 
-// The items between brackets, with a comma between them.
+// The items after their opening, with a comma between them.
 #[cycle(shown)]
 fn write_items<W: fmt::Write>(
+    opening: &str,
     items: &[BorrowedFormatItem<'_>],
     f: &mut fmt::Formatter<W>,
 ) -> fmt::Result {
-    f.write_str("([")?;
+    f.write_str(opening)?;
     for (index, item) in items.iter().enumerate() {
         if index > 0 {
             f.write_str(", ")?;

@@ -1,6 +1,6 @@
 //! The items of the parts of a text, one after the other.
 
-ghost use Rattle.std.specs.Prelude.{◌≡◌, ◌++◌, true, IfOk, map};
+ghost use Rattle.std.specs.Prelude.{◌≡◌, [], ◌∷◌, ◌++◌, true, IfOk, map};
 ghost use Rattle.description_items.specs.Forms.{is_of_text, are_of_text};
 ghost use Rattle.description_items.specs.Tree.{tree_of, trees};
 ghost use Rattle.description_strftime.specs.Letters.{offset, separator, part_of};
@@ -36,6 +36,20 @@ fn part_of(byte: u8) -> BorrowedFormatItem<'static>
     }
 }
 
+// One item, after the others.
+fn push_item<'a>(
+    all: &mut Vec<BorrowedFormatItem<'a>>,
+    item: BorrowedFormatItem<'a>,
+) -> Result<(), AllocError>
+    ensures items { IfOk result
+        (λ _. trees all.new.items ≡ trees all.old.items ++ tree_of item.entry ∷ []) }
+    ensures form { IfOk result (λ _. are_of_text all.old.items ≡ true
+        → is_of_text item.entry ≡ true → are_of_text all.new.items ≡ true) }
+{
+    all.push(item)?;
+    Ok(())
+}
+
 // The items of a composite's letters, after the others.
 fn push_composite(
     all: &mut Vec<BorrowedFormatItem<'_>>,
@@ -47,7 +61,7 @@ fn push_composite(
         → are_of_text all.new.items ≡ true) }
 {
     for byte in letters.as_bytes() {
-        all.push(part_of(*byte))?;
+        push_item(all, part_of(*byte))?;
     }
     Ok(())
 }
@@ -64,9 +78,14 @@ fn push_offset(all: &mut Vec<BorrowedFormatItem<'_>>) -> Result<(), AllocError>
         padding,
     };
     let minute = OffsetMinute { padding };
-    all.push(BorrowedFormatItem::Component(Component::OffsetHour(hour)))?;
-    all.push(BorrowedFormatItem::Component(Component::OffsetMinute(minute)))?;
-    Ok(())
+    push_item(
+        all,
+        BorrowedFormatItem::Component(Component::OffsetHour(hour)),
+    )?;
+    push_item(
+        all,
+        BorrowedFormatItem::Component(Component::OffsetMinute(minute)),
+    )
 }
 
 /// The items that a part stands for, after the others.
@@ -80,10 +99,7 @@ pub fn push_part<'a>(
         → is_of_text_part part.entry ≡ true → are_of_text all.new.items ≡ true) }
 {
     match part {
-        Spelled::Item(item) => {
-            all.push(item)?;
-            Ok(())
-        }
+        Spelled::Item(item) => push_item(all, item),
         Spelled::Offset => push_offset(all),
         Spelled::Composite(letters) => push_composite(all, letters),
     }

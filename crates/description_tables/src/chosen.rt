@@ -1,6 +1,6 @@
 //! What modifiers have chosen.
 
-ghost use Rattle.std.specs.Prelude.{◌≡◌};
+ghost use Rattle.std.specs.Prelude.{◌≡◌, Some, None, if◌then◌else◌};
 ghost use Rattle.description_tables.specs.Chosen.{nothing, with_value, is_chosen, is_carried};
 
 use crate::keys::Key;
@@ -55,35 +55,50 @@ pub fn nothing() -> Chosen
     }
 }
 
-/// The chosen values with one more, if the word is one of the key's.
-pub fn with_value(
+// The chosen values with what the word names for the key, if anything, in place of the earlier one.
+fn looked_up(
     version: DescriptionVersion,
     name: Name,
     mut chosen: Chosen,
     key: Key,
     word: &str,
+) -> Chosen
+    ensures { with_value version name chosen key word.now
+        ≡ (if is_chosen result key then Some result else None) }
+{
+    match key {
+        Key::Padding => chosen.padding = lookup(version, &PADDINGS, word),
+        Key::Repr => chosen.repr = lookup(version, reprs(name), word),
+        Key::CaseSensitive => chosen.case_sensitive = lookup(version, &FLAGS, word),
+        Key::OneIndexed => chosen.one_indexed = lookup(version, &FLAGS, word),
+        Key::Base => chosen.base = lookup(version, &BASES, word),
+        Key::Sign => chosen.sign = lookup(version, &SIGNS, word),
+        Key::Range => chosen.range = lookup(version, &RANGES, word),
+        Key::Case => chosen.case = lookup(version, &CASES, word),
+        Key::Digits => chosen.digits = lookup(version, &DIGIT_COUNTS, word),
+        Key::Count => chosen.count = count_of(word),
+        Key::Precision => chosen.precision = lookup(version, &PRECISIONS, word),
+        Key::TrailingInput => chosen.trailing_input = lookup(version, &TRAILING_INPUTS, word),
+    }
+    chosen
+}
+
+/// The chosen values with one more, if the word is one of the key's.
+pub fn with_value(
+    version: DescriptionVersion,
+    name: Name,
+    chosen: Chosen,
+    key: Key,
+    word: &str,
 ) -> Option<Chosen>
     ensures { result ≡ with_value version name chosen key word.now }
 {
-    match key {
-        Key::Padding => chosen.padding = Some(lookup(version, &PADDINGS, word)?),
-        Key::Repr => chosen.repr = Some(lookup(version, reprs(name), word)?),
-        Key::CaseSensitive => chosen.case_sensitive = Some(lookup(version, &FLAGS, word)?),
-        Key::OneIndexed => chosen.one_indexed = Some(lookup(version, &FLAGS, word)?),
-        Key::Base => chosen.base = Some(lookup(version, &BASES, word)?),
-        Key::Sign => chosen.sign = Some(lookup(version, &SIGNS, word)?),
-        Key::Range => chosen.range = Some(lookup(version, &RANGES, word)?),
-        Key::Case => chosen.case = Some(lookup(version, &CASES, word)?),
-        Key::Digits => chosen.digits = Some(lookup(version, &DIGIT_COUNTS, word)?),
-        Key::Count => chosen.count = Some(count_of(word)?),
-        Key::Precision => chosen.precision = Some(lookup(version, &PRECISIONS, word)?),
-        Key::TrailingInput => chosen.trailing_input = Some(lookup(
-            version,
-            &TRAILING_INPUTS,
-            word,
-        )?),
+    let chosen = looked_up(version, name, chosen, key, word);
+    if is_chosen(chosen, key) {
+        Some(chosen)
+    } else {
+        None
     }
-    Some(chosen)
 }
 
 /// Whether the key has a value already.

@@ -2,6 +2,7 @@
 
 use crate::FormatDescriptionV3;
 use crate::inner::{FormatDescriptionV3Inner as Inner, Lent};
+use description_items::Component;
 use std::fmt;
 
 impl fmt::Debug for FormatDescriptionV3<'_> {
@@ -27,22 +28,31 @@ impl fmt::Debug for Lent<'_> {
     }
 }
 
+fn write_component<W: fmt::Write>(component: Component, f: &mut fmt::Formatter<W>) -> fmt::Result {
+    write!(f, "{component:?}")
+}
+
+// A literal, by the name of its node.
+fn write_literal<W: fmt::Write>(name: &str, text: &str, f: &mut fmt::Formatter<W>) -> fmt::Result {
+    write!(f, "{name}({text:?})")
+}
+
 #[cycle(shown)]
 fn write_node<W: fmt::Write>(node: &Inner<'_>, f: &mut fmt::Formatter<W>) -> fmt::Result {
     if let Some(component) = node.component() {
-        return write!(f, "{component:?}");
+        return write_component(component, f);
     }
     match node {
-        Inner::BorrowedLiteral(text) => write!(f, "BorrowedLiteral({text:?})"),
-        Inner::OwnedLiteral(text) => write!(f, "OwnedLiteral({text:?})"),
-        Inner::BorrowedCompound(lent) => write_list("BorrowedCompound", lent.items, f),
-        Inner::OwnedCompound(items) => write_list("OwnedCompound", items, f),
+        Inner::BorrowedLiteral(text) => write_literal("BorrowedLiteral", text, f),
+        Inner::OwnedLiteral(text) => write_literal("OwnedLiteral", text, f),
+        Inner::BorrowedCompound(lent) => write_list("BorrowedCompound(", lent.items, f),
+        Inner::OwnedCompound(items) => write_list("OwnedCompound(", items, f),
         Inner::BorrowedOptional { format, item } => {
             write_optional("BorrowedOptional", *format, item, f)
         }
         Inner::OwnedOptional { format, item } => write_optional("OwnedOptional", *format, item, f),
-        Inner::BorrowedFirst(lent) => write_list("BorrowedFirst", lent.items, f),
-        Inner::OwnedFirst(items) => write_list("OwnedFirst", items, f),
+        Inner::BorrowedFirst(lent) => write_list("BorrowedFirst(", lent.items, f),
+        Inner::OwnedFirst(items) => write_list("OwnedFirst(", items, f),
         _ => unreachable!(),
     }
 }
@@ -60,14 +70,14 @@ fn write_optional<W: fmt::Write>(
     f.write_str(" }")
 }
 
-// A node that has a list, by its name.
+// A node that has a list, from its name and bracket on.
 #[cycle(shown)]
 fn write_list<W: fmt::Write>(
-    name: &str,
+    opening: &str,
     nodes: &[Inner<'_>],
     f: &mut fmt::Formatter<W>,
 ) -> fmt::Result {
-    write!(f, "{name}(")?;
+    f.write_str(opening)?;
     write_nodes(nodes, f)?;
     f.write_str(")")
 }

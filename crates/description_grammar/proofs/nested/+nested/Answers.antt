@@ -1,18 +1,18 @@
-use Rattle.std.proofs.Common.{refl, ◌≡◌, ◌++◌, ◌∷◌, [], rules, false, true, sym, ◌∙◌}
+use Rattle.std.proofs.Common.{refl, arith, ◌≡◌, ◌++◌, ◌∷◌, [], rules, false, true, sym}
 use Rattle.std.proofs.lemmas.Result.{err_from_is_err_and}
 use Rattle.std.proofs.lemmas.List.{map_push}
 use Rattle.description_tree.specs.Inner.{inner_tree, inner_trees}
 use Rattle.description_items.proofs.FormLists.{all_push}
 use Rattle.description_tree.specs.Forms.{is_read}
 use Rattle.description_tree.specs.declared.inner.FormatDescriptionV3Inner.{OwnedCompound}
-use Rattle.description_tree.proofs.InnerTrees.{tree-OwnedCompound, tree-OwnedFirst, tree-OwnedOptional, read-OwnedCompound, read-OwnedFirst, read-OwnedOptional}
+use Rattle.description_tree.proofs.InnerTrees.{tree-OwnedCompound, read-OwnedCompound}
 use Rattle.description_items.specs.Tree.{Compound, listed}
-use Rattle.description_lexer.specs.Version.{is_three}
 use Rattle.description_lexer.specs.Views.{rest_of}
 use Rattle.description_lexer.proofs.Many.{many_goes_on, many_fails, many_ends}
 use Rattle.description_lexer.proofs.Readings.{not_true, not_false}
 use Rattle.description_grammar.specs.Reading.{no_bracket, is_end, element_at, nested_at, first_at, optional_at}
 use Rattle.description_grammar.proofs.Items.{alternatives_shorten, items_shorten, nested_reads}
+use Rattle.description_grammar.proofs.Refusals.{fails_then, leads_to, enters}
 use Rattle.description_grammar.proofs.nested.+nested.Goals as goal
 
 pub alternatives-returns-in_err-items : goal.alternatives-returns-in_err-items
@@ -67,44 +67,66 @@ items-returns t c =
       form = c.items.invariant.form;
     }
 
-pub first-returns-in_err-rest : goal.first-returns-in_err-rest
-unfolding first_at
-first-returns-in_err-rest t c =
-    let p = err_from_is_err_and c.from_residual-in_err-rest.result c.from_residual-in_err-rest.ensures.1 in
-    rw (p.1, p.2) (record { value = rw (c.in_ok-start.ensures.value, c.in_ok-all.ensures.value, c.in_err-rest.ensures.value) refl; form = tt })
+pub optional-returns : goal.optional-returns
+unfolding optional_at
+optional-returns t c = record { value = rw (c.in_ok-start.ensures.value, c.in_ok-items.ensures.value) c.optional_of.ensures.value; form = c.optional_of.ensures.form }
 
-pub first-returns-then-not-is_three : goal.first-returns-then-not-is_three
-unfolding first_at
-first-returns-then-not-is_three t c =
-    let older : is_three c.args.version ≡ false = sym c.is_three.ensures.value ∙ c.if-not-is_three.true in
-    record { value = rw (c.in_ok-start.ensures.value, c.in_ok-all.ensures.value, c.in_ok-rest.ensures.value, older, c.unsupported.ensures) refl; form = tt }
+pub optional-returns-in_err-items : goal.optional-returns-in_err-items
+unfolding optional_at
+optional-returns-in_err-items t c =
+    let p = err_from_is_err_and c.from_residual-in_err-items.result c.from_residual-in_err-items.ensures.1 in
+    rw (p.1, p.2) (record { value = rw c.in_ok-start.ensures.value (fails_then c.in_err-items.field-0.0 _ _ c.in_err-items.ensures.value); form = tt })
+
+pub optional-returns-in_err-start : goal.optional-returns-in_err-start
+unfolding optional_at
+optional-returns-in_err-start t c =
+    let p = err_from_is_err_and c.from_residual.result c.from_residual.ensures.1 in
+    rw (p.1, p.2) (record { value = rw c.in_err-start.ensures.value refl; form = tt })
 
 pub first-returns : goal.first-returns
 unfolding first_at
-first-returns t c =
-    let third : is_three c.args.version ≡ true = sym c.is_three.ensures.value ∙ c.if-not-is_three.false in
-    record {
-      value = rw (c.in_ok-start.ensures.value, c.in_ok-all.ensures.value, c.in_ok-rest.ensures.value, third, tree-OwnedFirst c.in_ok-all.all) refl;
-      form = rw (read-OwnedFirst c.in_ok-all.all) c.in_ok-all.ensures.form;
-    }
+first-returns t c = record { value = rw (c.in_ok-start.ensures.value, c.in_ok-all.ensures.value) c.first_of.ensures.value; form = c.first_of.ensures.form }
 
-pub optional-returns-in_err-rest : goal.optional-returns-in_err-rest
-unfolding optional_at
-optional-returns-in_err-rest t c =
+pub first-returns-in_err-all : goal.first-returns-in_err-all
+unfolding first_at
+first-returns-in_err-all t c =
+    let p = err_from_is_err_and c.from_residual-in_err-all.result c.from_residual-in_err-all.ensures.1 in
+    rw (p.1, p.2) (record { value = rw c.in_ok-start.ensures.value (fails_then c.in_err-all.field-0.0 _ _ c.in_err-all.ensures.value); form = tt })
+
+pub first-returns-in_err-start : goal.first-returns-in_err-start
+unfolding first_at
+first-returns-in_err-start t c =
+    let p = err_from_is_err_and c.from_residual.result c.from_residual.ensures.1 in
+    rw (p.1, p.2) (record { value = rw c.in_err-start.ensures.value refl; form = tt })
+
+pub element-returns-in_err-text : goal.element-returns-in_err-text
+element-returns-in_err-text t c =
+    let p = err_from_is_err_and c.from_residual.result c.from_residual.ensures.1 in
+    rw (p.1, p.2) (record { value = c.in_err-text.ensures.value (nested_at c.args.version c.args.levels); form = tt })
+
+pub element-returns-in-First : goal.element-returns-in-First
+element-returns-in-First t c = record { value = rw (leads_to c.args.version (nested_at c.args.version c.args.levels) c.args.here.index _ _ _ c.in-First.is (c.in_ok-text.ensures.value (nested_at c.args.version c.args.levels))) c.first.ensures.value; form = c.first.ensures.form }
+
+pub element-returns-in-Optional : goal.element-returns-in-Optional
+element-returns-in-Optional t c = record { value = rw (leads_to c.args.version (nested_at c.args.version c.args.levels) c.args.here.index _ _ _ c.in-Optional.is (c.in_ok-text.ensures.value (nested_at c.args.version c.args.levels))) c.optional.ensures.value; form = c.optional.ensures.form }
+
+pub nested-returns-then-levels-eq0 : goal.nested-returns-then-levels-eq0
+unfolding nested_at
+nested-returns-then-levels-eq0 t c = record { value = rw c.if-levels-eq0.true refl; form = tt }
+
+pub nested-returns-in_err-all : goal.nested-returns-in_err-all
+nested-returns-in_err-all t c =
+    let p = err_from_is_err_and c.from_residual.result c.from_residual.ensures.1 in
+    let begun = enters c.args.version c.args.levels (rest_of c.args.here) _ (omega (arith, c.if-levels-eq0.false)) c.cut.ensures.back in
+    rw (p.1, p.2) (record { value = rw begun (fails_then c.in_err-all.field-0.0 _ _ c.in_err-all.ensures.value); form = tt })
+
+pub nested-returns-in_err-rest : goal.nested-returns-in_err-rest
+nested-returns-in_err-rest t c =
     let p = err_from_is_err_and c.from_residual-in_err-rest.result c.from_residual-in_err-rest.ensures.1 in
-    rw (p.1, p.2) (record { value = rw (c.in_ok-start.ensures.value, c.in_ok-items.ensures.value, c.in_err-rest.ensures.value) refl; form = tt })
+    let begun = enters c.args.version c.args.levels (rest_of c.args.here) _ (omega (arith, c.if-levels-eq0.false)) c.cut.ensures.back in
+    rw (p.1, p.2) (record { value = rw (begun, c.in_ok-all.ensures.value, c.in_err-rest.ensures.value) refl; form = tt })
 
-pub optional-returns-then-not-is_three : goal.optional-returns-then-not-is_three
-unfolding optional_at
-optional-returns-then-not-is_three t c =
-    let older : is_three c.args.version ≡ false = sym c.is_three.ensures.value ∙ c.if-not-is_three.true in
-    record { value = rw (c.in_ok-start.ensures.value, c.in_ok-items.ensures.value, c.in_ok-rest.ensures.value, older, c.unsupported.ensures) refl; form = tt }
-
-pub optional-returns : goal.optional-returns
-unfolding optional_at
-optional-returns t c =
-    let third : is_three c.args.version ≡ true = sym c.is_three.ensures.value ∙ c.if-not-is_three.false in
-    record {
-      value = rw (c.in_ok-start.ensures.value, c.in_ok-items.ensures.value, c.in_ok-rest.ensures.value, third, tree-OwnedOptional true c.in_ok-item.item, c.in_ok-item.ensures.ok, tree-OwnedCompound c.in_ok-items.items) refl;
-      form = rw (read-OwnedOptional true c.in_ok-item.item, c.in_ok-item.ensures.ok, read-OwnedCompound c.in_ok-items.items) c.in_ok-items.ensures.form;
-    }
+pub nested-returns : goal.nested-returns
+nested-returns t c =
+    let begun = enters c.args.version c.args.levels (rest_of c.args.here) _ (omega (arith, c.if-levels-eq0.false)) c.cut.ensures.back in
+    record { value = rw (begun, c.in_ok-all.ensures.value, c.in_ok-rest.ensures.value, c.past_space.ensures.value) refl; form = c.in_ok-all.ensures.form }

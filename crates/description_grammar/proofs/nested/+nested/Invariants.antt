@@ -8,25 +8,22 @@ use Rattle.description_grammar.specs.Reading.{is_end, no_bracket, element_at, ne
 use Rattle.description_grammar.proofs.nested.+nested.Given as goal
 
 abbrev pub decreases-nested : goal.decreases-nested
-decreases-nested l = 6 * l.levels
+decreases-nested l = 5 * l.levels
 
 abbrev pub decreases-alternatives : goal.decreases-alternatives
-decreases-alternatives l = 6 * l.levels + 1
+decreases-alternatives l = 5 * l.levels + 1
 
 abbrev pub decreases-optional : goal.decreases-optional
-decreases-optional l = 6 * l.levels + 2
+decreases-optional l = 5 * l.levels + 2
 
 abbrev pub decreases-first : goal.decreases-first
-decreases-first l = 6 * l.levels + 2
-
-abbrev pub decreases-bracketed : goal.decreases-bracketed
-decreases-bracketed l = 6 * l.levels + 3
+decreases-first l = 5 * l.levels + 2
 
 abbrev pub decreases-element : goal.decreases-element
-decreases-element l = 6 * l.levels + 4
+decreases-element l = 5 * l.levels + 3
 
 abbrev pub decreases-items : goal.decreases-items
-decreases-items l = 6 * l.levels + 5
+decreases-items l = 5 * l.levels + 4
 
 abbrev pub invariant-alternatives-others : goal.invariant-alternatives-others
 invariant-alternatives-others l = record { read : SoFar no_bracket (nested_at l.version l.levels) (many no_bracket (nested_at l.version l.levels) (suc (length l.here.text.now)) (rest_of l.here)) (inner_trees l.all.items) (rest_of l.rest); form : are_read l.all.items ≡ true }
