@@ -28,7 +28,7 @@ pub trait WallClock: Copy {
         ensures value { result ≡ wall_of self }
         ensures range { IsWallClock (wall_of self) };
 
-    /// The same with another date and time of day.
+    /// This value with another date and time of day; what else it has, such as an offset, stays.
     fn with_wall_clock(self, wall: PlainDateTime) -> Self
         ensures value { result ≡ with_wall self wall }
         ensures shown { wall_of result ≡ wall };

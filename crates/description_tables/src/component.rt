@@ -31,6 +31,7 @@ fn key_in<'a>(
     }
 }
 
+// The chosen values with one modifier more, or what is wrong with it.
 #[tactic(auto, unfolding(crate::specs::Component::with_modifier))]
 fn with_modifier<'a>(
     version: DescriptionVersion,
@@ -56,6 +57,7 @@ fn with_modifier<'a>(
     }
 }
 
+// What all modifiers choose, or what is wrong with the first that chooses nothing.
 #[tactic(auto, unfolding(crate::specs::Component::with_modifiers))]
 fn with_modifiers<'a>(
     version: DescriptionVersion,
@@ -94,6 +96,7 @@ fn combined<'a>(
     Ok(chosen)
 }
 
+// The name of a component, or what is wrong where there is none by that word.
 #[tactic(auto, unfolding(crate::specs::Component::named))]
 fn named<'a>(
     version: DescriptionVersion,

@@ -28,6 +28,7 @@ impl fmt::Debug for Lent<'_> {
     }
 }
 
+// A component, as it is shown by itself.
 fn write_component<W: fmt::Write>(component: Component, f: &mut fmt::Formatter<W>) -> fmt::Result {
     write!(f, "{component:?}")
 }
