@@ -1,4 +1,4 @@
-use Rattle.std.proofs.Common.{◌∙◌, refl, sym}
+use Rattle.std.proofs.Common.{refl, sym}
 use Rattle.instants_edges.proofs.Offsets.{z_here}
 use Rattle.instants_edges.proofs.offset.by_z.Goals as goal
 
