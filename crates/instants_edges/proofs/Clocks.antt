@@ -1,12 +1,14 @@
 -- Clocks before a place.
-use Rattle.std.proofs.Common.{◌≡◌, ℕ, zero, suc, ◌+◌, ◌-◌, ◌<◌, ◌≤◌, ◌==◌, Bool, true, false, ◌||◌, not, List, length, get_or, refl, subst, inl, inr, add-one, below_more, arith}
+use Rattle.std.proofs.Common.{◌≡◌, ℕ, zero, suc, ◌+◌, ◌-◌, ◌<◌, ◌≤◌, ◌==◌, Bool, true, false, ◌||◌, not, List, length, drop, get_or, refl, subst, inl, inr, add-one, below_more, arith}
 use Rattle.std.specs.Prelude.{min, nat_le, ◌&&◌}
 use Rattle.std.proofs.Math.Bool.{or-true}
 use Rattle.std.proofs.lemmas.Bool.Decides.{nat_tests}
 use Rattle.std.proofs.lemmas.Bool.{cases_lt}
+use Rattle.std.specs.Char.{is_ascii_digit}
+use Rattle.std.proofs.lemmas.List.{get_or-drop}
 use Rattle.std.proofs.lemmas.List.Sums.{prefix_len_is, prefix_len_stops}
 use Rattle.base.specs.Bytes.{colon}
-use Rattle.instants_edges.specs.Clock.{ends_pair, ends_clock, ends_seconds, has_seconds_before, quote_place, has_clock_before, HasNoColon}
+use Rattle.instants_edges.specs.Clock.{is_clock, ends_pair, ends_clock, ends_seconds, has_seconds_before, quote_place, has_clock_before, HasNoColon}
 
 -- no clock and no quotation mark comes before a place
 abbrev pub NoneSoFar : List ℕ → ℕ → Type 0
@@ -112,3 +114,7 @@ none_among line seen at place le is none here = λ k lt.
           let P : ℕ → Type 0 = λ n. (get_or line n 0 == colon) ≡ false in
           subst P same (here (k - at) (omega (arith, high, le, is, lt)))
     ]
+
+-- a clock at a place, by four bytes
+pub clock_at : (line : List ℕ) (place : ℕ) → is_clock (drop place line) ≡ (is_ascii_digit (get_or line place 0) && ((get_or line (place + 1) 0 == colon && is_ascii_digit (get_or line (place + 2) 0)) || (is_ascii_digit (get_or line (place + 1) 0) && get_or line (place + 2) 0 == colon && is_ascii_digit (get_or line (place + 3) 0))))
+clock_at line place = let here : place + 0 ≡ place = omega arith in simp (get_or-drop, here) refl

@@ -1,9 +1,5 @@
 -- Lemmas of std, under names that functions can name.
-use Rattle.std.proofs.lemmas.List.{get_or-drop}
 use Rattle.std.proofs.lemmas.List.Folds.{length-prefix_len}
 
 -- the length of the prefix that passes a test
 pub ruleset prefix_count = length-prefix_len
-
--- a byte of the rest from a place on
-pub ruleset drop_at = get_or-drop

@@ -9,7 +9,6 @@ use crate::bytes::{byte_at, byte_before};
 use crate::colons::lacks_colon;
 
 // Whether a clock stands at a place: one digit or two, a colon and a digit.
-#[tactic(auto, using(crate::proofs::Prefixes::drop_at))]
 fn is_clock(line: &[u8], place: usize) -> bool
     requires { place ≤ length line.now + 2 }
     ensures { result ≡ Clock.is_clock (drop place line.now) }

@@ -125,7 +125,6 @@ fn by_letters(bytes: &[u8]) -> Option<i32>
 }
 
 // The offset at the start as `Z`.
-#[tactic(auto, using(crate::proofs::Offsets::z_here))]
 fn by_z(bytes: &[u8]) -> Option<i32>
     requires { get_or bytes.now 0 0 ≡ upper_z }
     ensures { result

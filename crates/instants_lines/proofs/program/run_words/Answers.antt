@@ -1,4 +1,4 @@
-use Rattle.std.proofs.Common.{◌≡◌, Result, None, Some, Ok, map, sym, ap, ◌∙◌}
+use Rattle.std.proofs.Common.{◌≡◌, Result, None, Some, Ok, map, sym, ap, ◌∙◌, rules}
 use Rattle.std.proofs.lemmas.Result.{err_from_is_err_and}
 use Rattle.instants_stream.specs.Ran.{IsThrough, RanAndFlushed}
 use Rattle.instants_stream.specs.declared.run.RunFault.{RunFault}
@@ -69,3 +69,12 @@ pub returns-clause-names : goal.returns-clause-names
 returns-clause-names g c =
     let at = (goal.at.returns-clause-names g c).In_ok-dates in
     (_, asked_for g at, ap lacking_in (sym (searched g at)) ∙ sym c.in_default.ensures)
+
+pub returns-in_err-asked : goal.returns-in_err-asked
+returns-in_err-asked g c = search rules
+
+pub returns-in_err-timeline : goal.returns-in_err-timeline
+returns-in_err-timeline g c = search rules
+
+pub returns-in_err-dates : goal.returns-in_err-dates
+returns-in_err-dates g c = search rules

@@ -1,4 +1,4 @@
-use Rattle.std.proofs.Common.{◌≡◌, ◌+◌, ◌-◌, ◌≤◌, ◌<◌, ◌++◌, length, take, refl, ap, ◌∙◌, arith, rules}
+use Rattle.std.proofs.Common.{◌≡◌, ℕ, ◌+◌, ◌-◌, ◌≤◌, ◌<◌, Bool, true, false, List, ◌++◌, length, take, refl, ap, ◌∙◌, arith, rules}
 use Rattle.std.specs.Io.KnownBytes.{IsAtEnd}
 use Rattle.std.proofs.lemmas.Grind.{common_steps}
 use Rattle.instants_stream.specs.Lines.{last_part}
@@ -21,6 +21,21 @@ loop-limit-init g c = record {
   reader_works = c.requires.reader;
   writer_works = c.requires.writer;
 }
+
+-- nothing is kept of a line that is begun
+none_kept : (line part : List ℕ) (is_begun : Bool) → line ≡ kept is_begun part → is_begun ≡ true → length line ≡ 0
+none_kept line part true e begun = rw e refl
+none_kept line part false e begun = absurd cc
+
+pub write_came-requires-clause-writer : goal.write_came-requires-clause-writer
+write_came-requires-clause-writer g c = on_ok c.hand_on.result c.is_err.result c.is_err.ensures.value c.if-is_err.false c.hand_on.ensures.ok ∙ c.loop-limit.invariant.writer_works
+
+pub write_came-requires-clause-begun : goal.write_came-requires-clause-begun
+write_came-requires-clause-begun g c = λ begun.
+    let i = c.loop-limit.invariant in
+    let none = none_kept _ _ _ i.progress.line_is begun in
+    let size = length-pending c.loop-limit.buffer c.loop-limit.start c.loop-limit.filled (omega (arith, i.size, i.within)) in
+    omega (arith, none, size)
 
 -- no byte that was pending before the read is a line feed
 pub write_came-requires-clause-free : goal.write_came-requires-clause-free
@@ -127,6 +142,15 @@ loop-limit-preserved g c =
       writer_works = c.in-Ok-write_came.ensures.ok ∙ on_ok c.hand_on.result c.is_err.result c.is_err.ensures.value c.if-is_err.false c.hand_on.ensures.ok ∙ i.writer_works;
     }
 
+pub loop-limit-smaller-then-start-filled : goal.loop-limit-smaller-then-start-filled
+loop-limit-smaller-then-start-filled g c = c.in-Ok.ensures.ends (omega (arith, c.if-count-eq0.false))
+
+pub loop-limit-smaller-then-filled-buffer : goal.loop-limit-smaller-then-filled-buffer
+loop-limit-smaller-then-filled-buffer g c = c.in-Ok.ensures.ends (omega (arith, c.if-count-eq0.false))
+
+pub loop-limit-smaller : goal.loop-limit-smaller
+loop-limit-smaller g c = c.in-Ok.ensures.ends (omega (arith, c.if-count-eq0.false))
+
 -- handing on failed
 pub returns-then-is_err-clause-ran : goal.returns-then-is_err-clause-ran
 returns-then-is_err-clause-ran g c =
@@ -146,6 +170,9 @@ returns-in_default-clause-ran g c =
       reader_failed = c.in_default.ensures.err;
       writer_works = search rules;
     }
+
+pub returns-in_default-clause-handed_on : goal.returns-in_default-clause-handed_on
+returns-in_default-clause-handed_on g c = λ _. on_ok c.hand_on.result c.is_err.result c.is_err.ensures.value c.if-is_err.false c.hand_on.ensures.all
 
 -- the reader is at its end
 paused : (g : _) (c : In-Ok g) → c.in-Ok.count ≡ 0

@@ -1,4 +1,4 @@
-use Rattle.std.proofs.Common.{◌+◌, None, [], ◌∷◌, ◌++◌, length, refl, length-append, arith}
+use Rattle.std.proofs.Common.{◌+◌, [], ◌∷◌, ◌++◌, refl, length-append, arith}
 use Rattle.instants_words.specs.Sources.{sources_said}
 use Rattle.instants_words.specs.TextWords.{words_in, words_left}
 use Rattle.instants_words.proofs.TextLemmas.{few_words, shorter, said_next, said_no_source, after_nothing, none_left}
