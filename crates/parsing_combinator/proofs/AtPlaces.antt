@@ -34,11 +34,13 @@ pub record Pairs (w a b c d : ℕ) : Type 0 where
   pub least : 808_464_432 ≤ w
   pub first : (w - 808_464_432) * 2561 % 2 ^ 32 / 256 % 256 ≡ (a - 48) * 10 + (b - 48)
   pub second : (w - 808_464_432) * 2561 % 2 ^ 32 / 16_777_216 ≡ (c - 48) * 10 + (d - 48)
+  pub first_most : (w - 808_464_432) * 2561 % 2 ^ 32 / 256 % 256 ≤ 99
+  pub second_most : (w - 808_464_432) * 2561 % 2 ^ 32 / 16_777_216 ≤ 99
 
 pairs_of : (w x y z t : ℕ) → x ≤ 9 → y ≤ 9 → z ≤ 9 → t ≤ 9 → w ≡ x + 48 + (y + 48) * 256 + (z + 48) * 65_536 + (t + 48) * 16_777_216 → Pairs w (x + 48) (y + 48) (z + 48) (t + 48)
 pairs_of w x y z t hx hy hz ht is =
     let product : (w - 808_464_432) * 2561 % 2 ^ 32 ≡ x + (x * 10 + y) * 256 + (y * 10 + z) * 65_536 + (z * 10 + t) * 16_777_216 = omega arith in
-    record { least = omega arith; first = omega arith; second = omega arith }
+    record { least = omega arith; first = omega arith; second = omega arith; first_most = omega arith; second_most = omega arith }
 
 shifted : (a : ℕ) → 48 ≤ a → a - 48 + 48 ≡ a
 shifted a low = omega arith

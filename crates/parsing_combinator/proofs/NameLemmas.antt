@@ -1,6 +1,7 @@
 -- Names, none of which begins with an earlier one: what is taken is the first that is there.
-use Rattle.std.proofs.Common.{◌≡◌, ℕ, zero, suc, ◌<◌, ◌≤◌, ◌&&◌, Bool, true, false, not, List, [], ◌∷◌, map, length, take, drop, Some, None, refl, sym, ap, ◌∙◌, arith}
+use Rattle.std.proofs.Common.{◌≡◌, ℕ, zero, suc, ◌<◌, ◌≤◌, ◌&&◌, Bool, true, false, not, List, [], ◌∷◌, ◌++◌, cond, map, length, take, drop, Option, Some, None, refl, sym, ap, ◌∙◌, arith}
 use Rattle.std.specs.Prelude.{bytes_eq}
+use Rattle.std.specs.Option.{option_or}
 use Rattle.std.specs.Char.{to_ascii_lowercase}
 use Rattle.std.proofs.lemmas.Bool.{true≢false}
 use Rattle.std.proofs.lemmas.List.{length-take-le, length-take}
@@ -139,6 +140,16 @@ taken_named b [] bytes e = taken_same (named b []) nothing bytes (λ j le. empty
 taken_named b (entry ∷ entries) bytes e =
     found_here b (begins b entry.0 bytes) entry entries bytes refl (both_left _ _ e) (taken_named b entries bytes (both_right _ _ e))
 
+either_is : {A : Type 0} → (t : Bool) (x : A) (all first second : Option A) → all ≡ option_or first second → cond t (Some x) all ≡ option_or (cond t (Some x) first) second
+either_is true x all first second e = refl
+either_is false x all first second e = e
+
+-- of two tables the first one that has a name at the start
+found_in_two : {A : Type 0} → (b : Bool) (xs ys : List (List ℕ × A)) (bytes : List ℕ) → found b (xs ++ ys) bytes ≡ option_or (found b xs bytes) (found b ys bytes)
+unfolding found
+found_in_two b [] ys bytes = refl
+found_in_two b (entry ∷ entries) ys bytes = either_is (begins b entry.0 bytes) (entry.1, drop (length entry.0) bytes) (found b (entries ++ ys) bytes) (found b entries bytes) (found b ys bytes) (found_in_two b entries ys bytes)
+
 -- ---- the names
 
 -- a table of which no name begins with an earlier one, with the case of letters and without it
@@ -146,13 +157,13 @@ taken_table : {A : Type 0} → (entries : List (List ℕ × A)) → apart true e
 taken_table entries exact alike true bytes = taken_named true entries bytes exact
 taken_table entries exact alike false bytes = taken_named false entries bytes alike
 
-pub taken_long_month : (b : Bool) (bytes : List ℕ) → taken (named b long_months) bytes ≡ found b long_months bytes
+pub taken_long_month : (b : Bool) (bytes : List ℕ) → taken (named b long_months) bytes ≡ option_or (found b (take 6 long_months) bytes) (found b (drop 6 long_months) bytes)
 unfolding begins
-taken_long_month = taken_table long_months refl refl
+taken_long_month b bytes = taken_table long_months refl refl b bytes ∙ found_in_two b (take 6 long_months) (drop 6 long_months) bytes
 
-pub taken_short_month : (b : Bool) (bytes : List ℕ) → taken (named b short_months) bytes ≡ found b short_months bytes
+pub taken_short_month : (b : Bool) (bytes : List ℕ) → taken (named b short_months) bytes ≡ option_or (found b (take 6 short_months) bytes) (found b (drop 6 short_months) bytes)
 unfolding begins
-taken_short_month = taken_table short_months refl refl
+taken_short_month b bytes = taken_table short_months refl refl b bytes ∙ found_in_two b (take 6 short_months) (drop 6 short_months) bytes
 
 pub taken_long_weekday : (b : Bool) (bytes : List ℕ) → taken (named b long_weekdays) bytes ≡ found b long_weekdays bytes
 unfolding begins

@@ -25,7 +25,7 @@ pub use fault::{Parse, ParseFromDescription, TryFromParsed};
 pub use fractions::fraction;
 pub use names::{long_month, long_weekday, period, short_month, short_weekday};
 pub use padding::{padded, padded_four, padded_two};
-pub use places::{clock_at, four_digits_at, two_digits_at, two_pairs_at};
+pub use places::{clock_at, four_digits_at, two_pairs_at};
 pub use signed::{century, offset_hour, timestamp, year};
 pub use strict::within;
 pub use zone::Zone;

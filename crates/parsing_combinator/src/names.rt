@@ -1,5 +1,5 @@
 //! Names.
-ghost use Rattle.std.specs.Prelude.{◌≡◌, Some, None, drop, length, option_map, if◌then◌else◌};
+ghost use Rattle.std.specs.Prelude.{◌≡◌, Some, None, take, drop, length, option_map, if◌then◌else◌};
 ghost use Rattle.parsing_combinator.specs.Pieces.{cut_view};
 ghost use Rattle.parsing_combinator.specs.Shape.{taken};
 ghost use Rattle.parsing_combinator.specs.Names as Names;
@@ -26,11 +26,12 @@ fn after<'a>(name: &[u8], case_sensitive: bool, bytes: &'a [u8]) -> Option<&'a [
     if same { Some(rest) } else { None }
 }
 
-// The first name of a table that is at the start.
+// The month of the first half of a year whose name is at the start.
 #[inline(always)]
 #[tactic(auto, unfolding(crate::specs::Names::found))]
-fn first_long_month(case_sensitive: bool, bytes: &[u8]) -> Option<(Month, &[u8])>
-    ensures { cut_view result ≡ Names.found case_sensitive Names.long_months bytes.now }
+fn long_month_to_june(case_sensitive: bool, bytes: &[u8]) -> Option<(Month, &[u8])>
+    ensures { cut_view result
+        ≡ Names.found case_sensitive (take 6 Names.long_months) bytes.now }
 {
     if let Some(rest) = after(b"January", case_sensitive, bytes) {
         Some((Month::January, rest))
@@ -44,7 +45,19 @@ fn first_long_month(case_sensitive: bool, bytes: &[u8]) -> Option<(Month, &[u8])
         Some((Month::May, rest))
     } else if let Some(rest) = after(b"June", case_sensitive, bytes) {
         Some((Month::June, rest))
-    } else if let Some(rest) = after(b"July", case_sensitive, bytes) {
+    } else {
+        None
+    }
+}
+
+// The same of the second half.
+#[inline(always)]
+#[tactic(auto, unfolding(crate::specs::Names::found))]
+fn long_month_from_july(case_sensitive: bool, bytes: &[u8]) -> Option<(Month, &[u8])>
+    ensures { cut_view result
+        ≡ Names.found case_sensitive (drop 6 Names.long_months) bytes.now }
+{
+    if let Some(rest) = after(b"July", case_sensitive, bytes) {
         Some((Month::July, rest))
     } else if let Some(rest) = after(b"August", case_sensitive, bytes) {
         Some((Month::August, rest))
@@ -66,9 +79,13 @@ fn first_long_month(case_sensitive: bool, bytes: &[u8]) -> Option<(Month, &[u8])
 pub fn long_month(case_sensitive: bool, bytes: &[u8]) -> Option<(Month, &[u8])>
     ensures { cut_view result ≡ taken (Names.named case_sensitive Names.long_months) bytes.now }
 {
-    first_long_month(case_sensitive, bytes)
+    match long_month_to_june(case_sensitive, bytes) {
+        Some(month) => Some(month),
+        None => long_month_from_july(case_sensitive, bytes),
+    }
 }
 
+// The first name of a table that is at the start.
 #[inline(always)]
 #[tactic(auto, unfolding(crate::specs::Names::found))]
 fn first_long_weekday(case_sensitive: bool, bytes: &[u8]) -> Option<(Weekday, &[u8])>
@@ -101,10 +118,12 @@ pub fn long_weekday(case_sensitive: bool, bytes: &[u8]) -> Option<(Weekday, &[u8
     first_long_weekday(case_sensitive, bytes)
 }
 
+// The month of the first half of a year whose short name is at the start.
 #[inline(always)]
 #[tactic(auto, unfolding(crate::specs::Names::found))]
-fn first_short_month(case_sensitive: bool, bytes: &[u8]) -> Option<(Month, &[u8])>
-    ensures { cut_view result ≡ Names.found case_sensitive Names.short_months bytes.now }
+fn short_month_to_june(case_sensitive: bool, bytes: &[u8]) -> Option<(Month, &[u8])>
+    ensures { cut_view result
+        ≡ Names.found case_sensitive (take 6 Names.short_months) bytes.now }
 {
     if let Some(rest) = after(b"Jan", case_sensitive, bytes) {
         Some((Month::January, rest))
@@ -118,7 +137,19 @@ fn first_short_month(case_sensitive: bool, bytes: &[u8]) -> Option<(Month, &[u8]
         Some((Month::May, rest))
     } else if let Some(rest) = after(b"Jun", case_sensitive, bytes) {
         Some((Month::June, rest))
-    } else if let Some(rest) = after(b"Jul", case_sensitive, bytes) {
+    } else {
+        None
+    }
+}
+
+// The same of the second half.
+#[inline(always)]
+#[tactic(auto, unfolding(crate::specs::Names::found))]
+fn short_month_from_july(case_sensitive: bool, bytes: &[u8]) -> Option<(Month, &[u8])>
+    ensures { cut_view result
+        ≡ Names.found case_sensitive (drop 6 Names.short_months) bytes.now }
+{
+    if let Some(rest) = after(b"Jul", case_sensitive, bytes) {
         Some((Month::July, rest))
     } else if let Some(rest) = after(b"Aug", case_sensitive, bytes) {
         Some((Month::August, rest))
@@ -140,7 +171,10 @@ fn first_short_month(case_sensitive: bool, bytes: &[u8]) -> Option<(Month, &[u8]
 pub fn short_month(case_sensitive: bool, bytes: &[u8]) -> Option<(Month, &[u8])>
     ensures { cut_view result ≡ taken (Names.named case_sensitive Names.short_months) bytes.now }
 {
-    first_short_month(case_sensitive, bytes)
+    match short_month_to_june(case_sensitive, bytes) {
+        Some(month) => Some(month),
+        None => short_month_from_july(case_sensitive, bytes),
+    }
 }
 
 #[inline(always)]

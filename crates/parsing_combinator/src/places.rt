@@ -6,18 +6,6 @@ ghost use Rattle.parsing_combinator.specs.Chunks as Chunks;
 ghost use Rattle.parsing_combinator.specs.Pieces as Pieces;
 ghost use Rattle.parsing_combinator.specs.Places.{HasPair, HasClock};
 
-/// The number of the two digits at a place.
-#[inline(always)]
-pub fn two_digits_at(text: &[u8], place: usize) -> u8
-    requires { HasPair text.now place }
-    ensures digits { Pieces.digits 2 (drop place text.now)
-        ≡ Some (result, drop (place + 2) text.now) }
-    ensures bound { result ≤ 99 }
-{
-    let number = u32::from(text[place]) * 10 + u32::from(text[place + 1]);
-    (number - 528) as u8
-}
-
 /// The numbers of the two digits at a place and of the two after them.
 #[inline(always)]
 pub fn two_pairs_at(text: &[u8], place: usize) -> (u8, u8)

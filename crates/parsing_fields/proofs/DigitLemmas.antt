@@ -7,7 +7,7 @@ use Rattle.std.specs.Char.{is_ascii_digit, digit_value}
 use Rattle.std.specs.Str.Parse.{digits_value}
 use Rattle.std.proofs.lemmas.Bool.Decides.{nat_tests}
 use Rattle.std.proofs.lemmas.List.Folds.{prefix_len-append}
-use Rattle.std.proofs.lemmas.List.{append-nil, take_all}
+use Rattle.std.proofs.lemmas.List.{append-nil}
 use Rattle.std.proofs.lemmas.Nat.{le_bytes_8}
 use Rattle.parsing_combinator.specs.Pieces.{digits, digit_count, fraction, cut_view}
 use Rattle.parsing_combinator.specs.Chunks.{IsDigitChunk, padded}

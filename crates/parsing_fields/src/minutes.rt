@@ -30,7 +30,6 @@ pub fn signed_minutes(is_negative: bool, hours: u8, minutes: u8) -> Option<i16>
 }
 
 /// The minutes of such an offset: `signed_minutes` is the test.
-#[tactic(auto, unfolding(parsing_values::specs::Resolution::signed_offset_of, calendar_clock::specs::UtcOffset::offset_of))]
 #[inline(always)]
 pub fn offset_minutes(is_negative: bool, hours: u8, minutes: u8) -> i16
     requires hours { hours ≤ 25 }

@@ -312,5 +312,11 @@ row_passes form at s small is lt = record {
 pub row_fits : (form at : ℕ) (s : Bool) → form < 6 → at ≡ row_of form s → Fits s (row at)
 row_fits form at s small is = row_passes form at s small is (rw is (in_table form s small))
 
+pub near_of : (s : Bool) (r : Row) → Fits s r → r.back_at ≤ 32
+near_of s r f = omega (arith, at_most r.back_at 16 f.near)
+
+pub long_of : (s : Bool) (r : Row) → Fits s r → r.length ≤ r.back_at + 16
+long_of s r f = at_most r.length (r.back_at + 16) f.long
+
 pub within_of : (s : Bool) (r : Row) → Fits s r → 0 < r.back_at → r.back_at + 16 ≤ r.length
 within_of s r f some = far r.back_at r.length f.within some

@@ -12,7 +12,7 @@ use description_items::Component;
 use parsing_combinator::ParseFromDescription;
 
 /// What a node is, with the nodes inside it.
-#[derive(Clone, Copy)]
+#[derive(Drop)]
 pub enum NodeStep<'a, N> {
     /// Bytes as they stand.
     Literal(&'a [u8]),

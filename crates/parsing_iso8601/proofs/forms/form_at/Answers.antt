@@ -1,6 +1,6 @@
 use Rattle.std.proofs.Common.{◌∙◌, ap, refl}
 use Rattle.parsing_iso8601.specs.Forms.{first_number_at}
-use Rattle.parsing_iso8601.proofs.FormLemmas.{row, row_fits, within_of, year_of, high_of, low_of, hour_of, minute_of, second_of, nothing_of, calendar_of, ordinal_of, week_of}
+use Rattle.parsing_iso8601.proofs.FormLemmas.{row, row_fits, near_of, long_of, within_of, year_of, high_of, low_of, hour_of, minute_of, second_of, no_second_of, nothing_of, calendar_of, ordinal_of, week_of}
 use Rattle.parsing_iso8601.proofs.forms.form_at.Goals as goal
 
 pub invariant_of-result-3-clause-within : goal.invariant_of-result-3-clause-within
@@ -56,3 +56,12 @@ pub invariant_of-result-3-clause-sign : goal.invariant_of-result-3-clause-sign
 invariant_of-result-3-clause-sign c =
     let f = (row_fits c.args.form c.row_of-row.result c.args.has_second c.requires c.row_of-row.ensures.row) in
     nothing_of _ _ (row c.row_of-row.result) c.args.has_second (record { low = refl; high = refl; lanes = refl; back_low = refl; back_high = refl; back_lanes = refl }) f 12 f.sign
+
+pub invariant_of-result-3-clause-near : goal.invariant_of-result-3-clause-near
+invariant_of-result-3-clause-near c = near_of c.args.has_second (row c.row_of-row.result) (row_fits c.args.form c.row_of-row.result c.args.has_second c.requires c.row_of-row.ensures.row)
+
+pub invariant_of-result-3-clause-long : goal.invariant_of-result-3-clause-long
+invariant_of-result-3-clause-long c = long_of c.args.has_second (row c.row_of-row.result) (row_fits c.args.form c.row_of-row.result c.args.has_second c.requires c.row_of-row.ensures.row)
+
+pub invariant_of-result-3-clause-no_second : goal.invariant_of-result-3-clause-no_second
+invariant_of-result-3-clause-no_second c = no_second_of _ _ (row c.row_of-row.result) c.args.has_second (record { low = refl; high = refl; lanes = refl; back_low = refl; back_high = refl; back_lanes = refl }) (row_fits c.args.form c.row_of-row.result c.args.has_second c.requires c.row_of-row.ensures.row)
