@@ -50,7 +50,7 @@ fn long_month_to_june(case_sensitive: bool, bytes: &[u8]) -> Option<(Month, &[u8
     }
 }
 
-// The same of the second half.
+// The month of the second half of a year whose name is at the start.
 #[inline(always)]
 #[tactic(auto, unfolding(crate::specs::Names::found))]
 fn long_month_from_july(case_sensitive: bool, bytes: &[u8]) -> Option<(Month, &[u8])>
@@ -85,7 +85,7 @@ pub fn long_month(case_sensitive: bool, bytes: &[u8]) -> Option<(Month, &[u8])>
     }
 }
 
-// The first name of a table that is at the start.
+// The day of the week whose name is at the start.
 #[inline(always)]
 #[tactic(auto, unfolding(crate::specs::Names::found))]
 fn first_long_weekday(case_sensitive: bool, bytes: &[u8]) -> Option<(Weekday, &[u8])>
@@ -142,7 +142,7 @@ fn short_month_to_june(case_sensitive: bool, bytes: &[u8]) -> Option<(Month, &[u
     }
 }
 
-// The same of the second half.
+// The month of the second half of a year whose short name is at the start.
 #[inline(always)]
 #[tactic(auto, unfolding(crate::specs::Names::found))]
 fn short_month_from_july(case_sensitive: bool, bytes: &[u8]) -> Option<(Month, &[u8])>
@@ -177,6 +177,7 @@ pub fn short_month(case_sensitive: bool, bytes: &[u8]) -> Option<(Month, &[u8])>
     }
 }
 
+// The day of the week whose short name is at the start.
 #[inline(always)]
 #[tactic(auto, unfolding(crate::specs::Names::found))]
 fn first_short_weekday(case_sensitive: bool, bytes: &[u8]) -> Option<(Weekday, &[u8])>
