@@ -6,8 +6,6 @@ mod blocks;
 #[cfg(test)]
 mod devices;
 #[cfg(test)]
-mod failing_devices;
-#[cfg(test)]
 mod handing_on;
 #[cfg(test)]
 mod in_memory;

@@ -1,10 +1,66 @@
 //! Runs over readers and writers that fail, with reads and writes of every size.
 
-use crate::support::{Counting, End, Full, OUTPUT, STREAM, end_of, wanted_end, written_before};
+use crate::support::{OUTPUT, STREAM, written_before};
 use instants_answers::Answer;
 use instants_stream::{
-    AnswersLines, CutReader, CutWriter, RunFault, StdWriter, TooLittleRoom, lines_over, run_lines,
+    AnswersLines, ByteReader, ByteWriter, CutReader, CutWriter, DeviceFailed, RunFault, StdWriter,
+    TooLittleRoom, lines_over, run_lines,
 };
+use std::io::{Result as IoResult, Write};
+
+// A writer of std that takes so many bytes, one at a time, and then none.
+#[derive(Drop)]
+struct Full {
+    room: usize,
+}
+
+impl Write for Full {
+    ghost use Rattle.std.specs.Prelude.{None};
+
+    ghost contents = { λ _. None };
+
+    fn write(&mut self, from: &[u8]) -> IoResult<usize> {
+        if self.room == 0 || from.is_empty() {
+            return Ok(0);
+        }
+        self.room -= 1;
+        Ok(1)
+    }
+
+    fn flush(&mut self) -> IoResult<()> {
+        Ok(())
+    }
+}
+
+// Gives all it has, and counts the reads.
+#[derive(Drop)]
+struct Counting<'a> {
+    rest: &'a [u8],
+    reads: u8,
+}
+
+impl ByteReader for Counting<'_> {
+    ghost use Rattle.std.specs.Prelude.{None, length, false};
+
+    ghost left = { λ _. None };
+
+    ghost failed = { λ _. false };
+
+    ghost reads_left = { λ s. length s.rest.now };
+
+    fn read(&mut self, into: &mut [u8]) -> Result<usize, DeviceFailed> {
+        self.reads = self.reads.saturating_add(1);
+        let count = into.len().min(self.rest.len());
+        let (prefix, rest) = self.rest.split_at(count);
+        into[..count].copy_from_slice(prefix);
+        self.rest = rest;
+        Ok(count)
+    }
+
+    fn has_failed(&self) -> bool {
+        false
+    }
+}
 
 // Answers each long line with a date-time, and each short one with a refusal.
 #[derive(Drop)]
@@ -30,6 +86,37 @@ impl AnswersLines for ByLength {
             storage.push_bytes(b"! component year");
         }
     }
+}
+
+// How a run ended: its answer, whether exactly the output is written, whether the reader failed and whether the writer
+// did, and how often the writer was flushed.
+type End = (Result<(), RunFault>, bool, bool, bool, usize);
+
+// How a run over these devices ended.
+fn end_of(
+    answer: Result<(), RunFault>,
+    reader: &CutReader,
+    writer: &CutWriter,
+    output: &[u8],
+) -> End {
+    (
+        answer,
+        writer.written() == output,
+        reader.has_failed(),
+        writer.has_failed(),
+        writer.flushes(),
+    )
+}
+
+// How a run with this answer has to end: only the device that it names has failed, and all is flushed once before `Ok`.
+fn wanted_end(answer: Result<(), RunFault>) -> End {
+    (
+        answer,
+        true,
+        answer == Err(RunFault::Read),
+        answer == Err(RunFault::Write),
+        usize::from(answer.is_ok()),
+    )
 }
 
 // How the devices are cut, when they fail, and the limit.
@@ -192,7 +279,7 @@ fn writes_fail(rt: HostRuntime) {
 }
 
 // What a run answers whose writer takes so many bytes and then none.
-fn full(room: usize) -> Result<(), RunFault> {
+fn filled(room: usize) -> Result<(), RunFault> {
     let mut buffer = [0; 101];
     let mut reader = CutReader::new(STREAM, 5, None);
     let mut writer = StdWriter::new(Full { room });
@@ -202,10 +289,10 @@ fn full(room: usize) -> Result<(), RunFault> {
 #[test]
 fn writes_take_nothing(rt: HostRuntime) {
     for room in 0..48 {
-        assert!(rt; full(room) == Err(RunFault::Write));
+        assert!(rt; filled(room) == Err(RunFault::Write));
     }
     for room in 48..50 {
-        assert!(rt; full(room) == Ok(()));
+        assert!(rt; filled(room) == Ok(()));
     }
 }
 
