@@ -26,6 +26,21 @@ no_such_first_source word =
     if is_file_name word then codes "no such source; files are read from standard input: instants-lines .. < FILE"
     else codes "no such source; there are rfc3339, rfc2822, iso8601, v1, v2, v3, strftime, and the names of --help; an offset before the sources is +HH:MM, -HH:MM, Z or UTC"
 
+-- what is said of the word that is wrong, or of there being none
+abbrev pub said_of : Wrong → List ℕ
+said_of NoMode = codes "usage: instants-lines MODE [TARGET [ASSUMED [LIMIT]]] [year N] [time HH:MM] [label TEXT] SOURCE..."
+said_of (UnknownMode word) = codes "no such mode; there are key, carry, replace, explain, locate"
+said_of NoSource = codes "no source is named; there are rfc3339, rfc2822, iso8601, v1, v2, v3, strftime, and the names of --help"
+said_of (Target word) = codes "no target offset; it must be +HH:MM, -HH:MM, Z or UTC"
+said_of (Assumed word) = codes "no assumed offset; it must be +HH:MM, -HH:MM, Z, UTC or -"
+said_of (Limit word) = codes "no limit; it must be a number from 1 to 1048576"
+said_of (Year word) = codes "no year; it must be a number from 0 to 9999"
+said_of (Time word) = codes "no time of day; it must be HH:MM"
+said_of (Label word) = codes "no label; modes key and carry take one, without tabs and line feeds"
+said_of (Source place word) = no_such_source word
+said_of (FirstSource word) = no_such_first_source word
+said_of (NoDescription place language) = codes "needs a description in the next argument"
+
 -- the sentence for what is wrong with words, after the name of the program
 abbrev pub wrong_text : Wrong → List ℕ
 wrong_text NoMode = codes "usage: instants-lines MODE [TARGET [ASSUMED [LIMIT]]] [year N] [time HH:MM] [label TEXT] SOURCE..."

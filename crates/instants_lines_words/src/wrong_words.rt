@@ -1,6 +1,7 @@
 //! What can be wrong with the words.
 ghost use Rattle.std.specs.Prelude.{◌≡◌};
-ghost use Rattle.instants_lines_words.specs.WrongText.{is_file_name, no_such_first_source, no_such_source};
+ghost use Rattle.instants_lines_words.specs.Wrong.{wrong_of};
+ghost use Rattle.instants_lines_words.specs.WrongText.{is_file_name, no_such_first_source, no_such_source, said_of};
 
 use std::fmt;
 
@@ -36,58 +37,55 @@ pub enum WrongWords<'a> {
 impl fmt::Display for WrongWords<'_> {
     ghost use Rattle.std.specs.Prelude.{Some};
     ghost use Rattle.instants_lines_words.specs.WrongText.{wrong_text};
-    ghost use Rattle.instants_lines_words.specs.Wrong.{wrong_of};
 
     ghost output = { λ wrong. Some (wrong_text (wrong_of wrong)) };
 
     fn fmt<W: fmt::Write>(&self, f: &mut fmt::Formatter<W>) -> fmt::Result {
+        let said = said(self);
         match self {
-            WrongWords::NoMode => {
-                f.write_str(
-                    "usage: instants-lines MODE [TARGET [ASSUMED [LIMIT]]] [year N] [time HH:MM] [label TEXT] SOURCE...",
-                )
-            }
-            WrongWords::UnknownMode(word) => write!(
-                f,
-                "\"{word}\": no such mode; there are key, carry, replace, explain, locate"
-            ),
-            WrongWords::NoSource => f.write_str(
-                "no source is named; there are rfc3339, rfc2822, iso8601, v1, v2, v3, strftime, and the names of --help",
-            ),
-            WrongWords::Target(word) => write!(
-                f,
-                "\"{word}\": no target offset; it must be +HH:MM, -HH:MM, Z or UTC"
-            ),
-            WrongWords::Assumed(word) => write!(
-                f,
-                "\"{word}\": no assumed offset; it must be +HH:MM, -HH:MM, Z, UTC or -"
-            ),
-            WrongWords::Limit(word) => write!(
-                f,
-                "\"{word}\": no limit; it must be a number from 1 to 1048576"
-            ),
-            WrongWords::Year(word) => write!(
-                f,
-                "\"{word}\": no year; it must be a number from 0 to 9999"
-            ),
-            WrongWords::Time(word) => { write!(f, "\"{word}\": no time of day; it must be HH:MM") }
-            WrongWords::Label(word) => write!(
-                f,
-                "\"{word}\": no label; modes key and carry take one, without tabs and line feeds"
-            ),
+            WrongWords::NoMode | WrongWords::NoSource => f.write_str(said),
+            WrongWords::UnknownMode(word)
+            | WrongWords::Target(word)
+            | WrongWords::Assumed(word)
+            | WrongWords::Limit(word)
+            | WrongWords::Year(word)
+            | WrongWords::Time(word)
+            | WrongWords::Label(word) => write!(f, "\"{word}\": {said}"),
             WrongWords::Source { place, word } => {
-                let there_are = no_such_source(word);
-                write!(f, "source {place}: \"{word}\": {there_are}")
+                write!(f, "source {place}: \"{word}\": {said}")
             }
-            WrongWords::FirstSource(word) => {
-                let there_are = no_such_first_source(word);
-                write!(f, "source 1: \"{word}\": {there_are}")
+            WrongWords::FirstSource(word) => write!(f, "source 1: \"{word}\": {said}"),
+            WrongWords::NoDescription { place, language } => {
+                write!(f, "source {place}: \"{language}\" {said}")
             }
-            WrongWords::NoDescription { place, language } => write!(
-                f,
-                "source {place}: \"{language}\" needs a description in the next argument"
-            ),
         }
+    }
+}
+
+// What is said of the word that is wrong, or of there being none.
+fn said(wrong: &WrongWords<'_>) -> &'static str
+    ensures { result.now ≡ said_of (wrong_of wrong.now) }
+{
+    match wrong {
+        WrongWords::NoMode => {
+            "usage: instants-lines MODE [TARGET [ASSUMED [LIMIT]]] [year N] [time HH:MM] [label TEXT] SOURCE..."
+        }
+        WrongWords::UnknownMode(_) =>
+            "no such mode; there are key, carry, replace, explain, locate",
+        WrongWords::NoSource => {
+            "no source is named; there are rfc3339, rfc2822, iso8601, v1, v2, v3, strftime, and the names of --help"
+        }
+        WrongWords::Target(_) => "no target offset; it must be +HH:MM, -HH:MM, Z or UTC",
+        WrongWords::Assumed(_) => "no assumed offset; it must be +HH:MM, -HH:MM, Z, UTC or -",
+        WrongWords::Limit(_) => "no limit; it must be a number from 1 to 1048576",
+        WrongWords::Year(_) => "no year; it must be a number from 0 to 9999",
+        WrongWords::Time(_) => "no time of day; it must be HH:MM",
+        WrongWords::Label(_) => {
+            "no label; modes key and carry take one, without tabs and line feeds"
+        }
+        WrongWords::Source { word, .. } => no_such_source(word),
+        WrongWords::FirstSource(word) => no_such_first_source(word),
+        WrongWords::NoDescription { .. } => "needs a description in the next argument",
     }
 }
 
