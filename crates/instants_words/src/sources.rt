@@ -101,19 +101,12 @@ fn source<'a>(words: &[&'a str]) -> Option<(SourceText<'a>, usize)>
         ≡ source_said (map (λ word. word.now) words.now) }
     ensures taken { IfSome result (λ said. (0 < said.1) × (said.1 ≤ length words.now)) }
 {
-    let [name, after @ ..] = words else {
-        return None;
-    };
+    let (name, words) = words.split_first()?;
     if let Some(format) = format(name) {
         return Some((format, 1));
     }
-    let [description, ..] = after else {
-        return None;
-    };
-    match described(name, description) {
-        Some(text) => Some((text, 2)),
-        None => None,
-    }
+    let text = described(name, words.first()?)?;
+    Some((text, 2))
 }
 
 /// The well-known format of this name.
