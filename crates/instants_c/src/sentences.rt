@@ -1,5 +1,5 @@
 //! The sentences of faults, in lent memory.
-ghost use Rattle.std.specs.Prelude.{◌≡◌, ◌⊎◌, ◌+◌, ◌≤◌, ◌++◌, length, take, drop};
+ghost use Rattle.std.specs.Prelude.{◌≡◌, ◌⊎◌, ◌+◌, ◌≤◌, ◌++◌, length, take, drop, IfOk, IfErr};
 ghost use Rattle.std.specs.Fmt.{decimal};
 ghost use Rattle.instants_words.specs.declared.fault.WordsFault.{WordsFault};
 ghost use Rattle.instants_timeline.specs.ProgramText.{sentence, status_of};
@@ -41,29 +41,24 @@ pub(crate) fn write(alloc: Global, fault: ProgramFault, output: &mut [u8], len: 
 fn write_words_fault(wrong: WordsFault, output: &mut [u8], len: &mut usize)
     ensures { IsPut (sentence (ProgramFault.Words wrong)) output.old output.new len.new }
 {
+    match fixed_sentence(wrong) {
+        Ok(sentence) => put(output, sentence, len),
+        Err(place) => write_source_fault(place, output, len),
+    }
+}
+
+// The sentence of wrong words, or the place of a source, whose sentence has a number in it.
+fn fixed_sentence(wrong: WordsFault) -> Result<&'static [u8], usize>
+    ensures ok { IfOk result (λ text. text.now ≡ sentence (ProgramFault.Words wrong)) }
+    ensures source { IfErr result (λ place. wrong ≡ WordsFault.Source place) }
+{
     match wrong {
-        WordsFault::Usage => put(
-            output,
-            b"instants: usage: instants TARGET ASSUMED LIMIT SOURCE...",
-            len,
-        ),
-        WordsFault::Target => put(
-            output,
-            b"instants: the target offset must be +HH:MM or -HH:MM",
-            len,
-        ),
-        WordsFault::Assumed => put(
-            output,
-            b"instants: the assumed offset must be +HH:MM, -HH:MM or -",
-            len,
-        ),
-        WordsFault::Limit => put(
-            output,
-            b"instants: the limit must be a number from 1 to 1048576",
-            len,
-        ),
-        WordsFault::Source(place) => write_source_fault(place, output, len),
-        WordsFault::Memory => put(output, b"instants: out of memory", len),
+        WordsFault::Usage => Ok(b"instants: usage: instants TARGET ASSUMED LIMIT SOURCE..."),
+        WordsFault::Target => Ok(b"instants: the target offset must be +HH:MM or -HH:MM"),
+        WordsFault::Assumed => Ok(b"instants: the assumed offset must be +HH:MM, -HH:MM or -"),
+        WordsFault::Limit => Ok(b"instants: the limit must be a number from 1 to 1048576"),
+        WordsFault::Source(place) => Err(place),
+        WordsFault::Memory => Ok(b"instants: out of memory"),
     }
 }
 

@@ -1,7 +1,7 @@
 //! The numbers of faults, which never change.
-ghost use Rattle.std.specs.Prelude.{◌≡◌, ◌≤◌};
+ghost use Rattle.std.specs.Prelude.{◌≡◌, ◌≤◌, drop};
 ghost use Rattle.instants_timeline.specs.Refusal.{refusal_said};
-ghost use Rattle.instants_memory.specs.Numbers.{fault_number, name_number};
+ghost use Rattle.instants_memory.specs.Numbers.{fault_number, name_number, names, number_in};
 
 use instants_timeline::LineFault;
 
@@ -19,6 +19,16 @@ fn name_number(name: &str) -> u32
         "week" => 5,
         "week number" => 6,
         "weekday" => 7,
+        _ => time_number(name),
+    }
+}
+
+// The number of a name that is no part of a date, and 0 for a name that has none.
+fn time_number(name: &str) -> u32
+    ensures number { result ≡ number_in name.now 8 (drop 7 names) }
+    ensures bound { result ≤ 26 }
+{
+    match name {
         "hour" => 8,
         "minute" => 9,
         "second" => 10,
@@ -27,6 +37,16 @@ fn name_number(name: &str) -> u32
         "offset hour" => 13,
         "offset minute" => 14,
         "offset second" => 15,
+        _ => other_number(name),
+    }
+}
+
+// The number of a name that is no part of a date, of a time of day or of an offset, and 0 for a name that has none.
+fn other_number(name: &str) -> u32
+    ensures number { result ≡ number_in name.now 16 (drop 15 names) }
+    ensures bound { result ≤ 26 }
+{
+    match name {
         "unix_timestamp" => 16,
         "ignore" => 17,
         "separator" => 18,
