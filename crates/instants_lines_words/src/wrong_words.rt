@@ -70,7 +70,8 @@ fn said(wrong: &WrongWords<'_>) -> &'static str
         WrongWords::NoMode => {
             "usage: instants-lines MODE [TARGET [ASSUMED [LIMIT]]] [year N] [time HH:MM] [label TEXT] SOURCE..."
         }
-        WrongWords::UnknownMode(_) => "no such mode; there are key, carry, replace, explain, locate",
+        WrongWords::UnknownMode(_) =>
+            "no such mode; there are key, carry, replace, explain, locate",
         WrongWords::NoSource => {
             "no source is named; there are rfc3339, rfc2822, iso8601, v1, v2, v3, strftime, and the names of --help"
         }
