@@ -76,3 +76,26 @@ fn days_and_counts(rt: HostRuntime) {
         assert!(rt; there_and_back(count) == ((year, month, day), count));
     }
 }
+
+// The year of a count, and how many days of it are before.
+fn year_at(count: u32) -> (i32, u16)
+    requires { IsCount count }
+{
+    let (years, days) = closed::split_years(count);
+    (closed::year_after(years), days)
+}
+
+// The first and the last day, 1970-01-01 and 2000-02-29.
+fn years_at() -> [(i32, u16); 4] {
+    [
+        year_at(0),
+        year_at(730_484_633),
+        year_at(365_961_662),
+        year_at(365_972_678),
+    ]
+}
+
+#[test]
+fn years_of_counts(rt: HostRuntime) {
+    assert!(rt; years_at() == [(-999_999, 0), (999_999, 364), (1970, 0), (2000, 59)]);
+}
