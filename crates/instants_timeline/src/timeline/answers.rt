@@ -13,6 +13,7 @@ ghost use Rattle.instants_timeline.specs.Place.{first_named, place_text, shown_o
 ghost use Rattle.instants_timeline.specs.Settings.{setting_of};
 
 use crate::line_fault::LineFault;
+use crate::shown::shown_at;
 use crate::timeline::Timeline;
 use datetime_types::OffsetDateTime;
 use instants_answers::{Answer, write_fields, write_line};
@@ -30,7 +31,7 @@ impl Timeline<'_> {
         ensures room { length storage.new ≤ 63 }
         ensures never_long { storage.new ≢ codes "! long" }
     {
-        match self.shown(named) {
+        match shown_at(self.target, named) {
             Some(moment) => write_line(moment, storage),
             None => LineFault::Year.write(storage),
         }

@@ -17,10 +17,11 @@ ghost use Rattle.instants_timeline.specs.Settings.{setting_of};
 
 use crate::line_fault::LineFault;
 use crate::new_fault::NewFault;
+use crate::shown::shown_at;
 use crate::timeline::Timeline;
 use calendar::UtcOffset;
 use datetime_types::OffsetDateTime;
-use instants_answers::{Target, has_written_year};
+use instants_answers::Target;
 use instants_sources::Source;
 use instants_words::SourceText;
 use parsing_combinator::Parse;
@@ -173,22 +174,7 @@ impl<'a> Timeline<'a> {
                 Err(fault) => return Err(LineFault::from(fault)),
             },
         };
-        self.shown(named).ok_or(LineFault::Year)
-    }
-
-    // A moment as it is shown at the target, if its year there is written in four digits.
-    #[inline(always)]
-    pub(super) fn shown(&self, named: OffsetDateTime) -> Option<OffsetDateTime>
-        ensures shown { ok_or result year ≡
-            shown_or_refused (setting_of self.now).target (Ok named) }
-        ensures fits { IfSome result FitsLine }
-    {
-        let moment = named.checked_to_offset(self.target.offset())?;
-        if has_written_year(moment) {
-            Some(moment)
-        } else {
-            None
-        }
+        shown_at(self.target, named).ok_or(LineFault::Year)
     }
 }
 
