@@ -1,5 +1,5 @@
 -- What reading the words gives.
-use Rattle.std.specs.Prelude.{◌≡◌, ℕ, List, Result, Ok, Err, IsOk}
+use Rattle.std.specs.Prelude.{◌≡◌, ℕ, List, Err, IsOk}
 use Rattle.instants_lines_words.specs.Words.{mode_words_said}
 use Rattle.instants_lines_words.specs.Wrong.{wrong_of}
 use Rattle.instants_lines_words.specs.declared.words_fault.ModeWordsFault.{ModeWordsFault}

@@ -43,15 +43,15 @@ said_of (NoDescription place language) = codes "needs a description in the next 
 
 -- the sentence for what is wrong with words, after the name of the program
 abbrev pub wrong_text : Wrong → List ℕ
-wrong_text NoMode = codes "usage: instants-lines MODE [TARGET [ASSUMED [LIMIT]]] [year N] [time HH:MM] [label TEXT] SOURCE..."
-wrong_text (UnknownMode word) = codes "\"" ++ (word ++ codes "\": no such mode; there are key, carry, replace, explain, locate")
-wrong_text NoSource = codes "no source is named; there are rfc3339, rfc2822, iso8601, v1, v2, v3, strftime, and the names of --help"
-wrong_text (Target word) = codes "\"" ++ (word ++ codes "\": no target offset; it must be +HH:MM, -HH:MM, Z or UTC")
-wrong_text (Assumed word) = codes "\"" ++ (word ++ codes "\": no assumed offset; it must be +HH:MM, -HH:MM, Z, UTC or -")
-wrong_text (Limit word) = codes "\"" ++ (word ++ codes "\": no limit; it must be a number from 1 to 1048576")
-wrong_text (Year word) = codes "\"" ++ (word ++ codes "\": no year; it must be a number from 0 to 9999")
-wrong_text (Time word) = codes "\"" ++ (word ++ codes "\": no time of day; it must be HH:MM")
-wrong_text (Label word) = codes "\"" ++ (word ++ codes "\": no label; modes key and carry take one, without tabs and line feeds")
-wrong_text (Source place word) = codes "source " ++ (decimal place ++ (codes ": \"" ++ (word ++ (codes "\": " ++ no_such_source word))))
-wrong_text (FirstSource word) = codes "source 1: \"" ++ (word ++ (codes "\": " ++ no_such_first_source word))
-wrong_text (NoDescription place language) = codes "source " ++ (decimal place ++ (codes ": \"" ++ (language ++ codes "\" needs a description in the next argument")))
+wrong_text NoMode = said_of NoMode
+wrong_text (UnknownMode word) = codes "\"" ++ (word ++ (codes "\": " ++ said_of (UnknownMode word)))
+wrong_text NoSource = said_of NoSource
+wrong_text (Target word) = codes "\"" ++ (word ++ (codes "\": " ++ said_of (Target word)))
+wrong_text (Assumed word) = codes "\"" ++ (word ++ (codes "\": " ++ said_of (Assumed word)))
+wrong_text (Limit word) = codes "\"" ++ (word ++ (codes "\": " ++ said_of (Limit word)))
+wrong_text (Year word) = codes "\"" ++ (word ++ (codes "\": " ++ said_of (Year word)))
+wrong_text (Time word) = codes "\"" ++ (word ++ (codes "\": " ++ said_of (Time word)))
+wrong_text (Label word) = codes "\"" ++ (word ++ (codes "\": " ++ said_of (Label word)))
+wrong_text (Source place word) = codes "source " ++ (decimal place ++ (codes ": \"" ++ (word ++ (codes "\": " ++ said_of (Source place word)))))
+wrong_text (FirstSource word) = codes "source 1: \"" ++ (word ++ (codes "\": " ++ said_of (FirstSource word)))
+wrong_text (NoDescription place language) = codes "source " ++ (decimal place ++ (codes ": \"" ++ (language ++ (codes "\" " ++ said_of (NoDescription place language)))))
