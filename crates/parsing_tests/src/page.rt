@@ -11,8 +11,5 @@ fn page(rt: HostRuntime) -> Result<(), Fail> {
     let same = Rfc2822.parse_offset_date_time(b"Tue, 1 Jul 2003 10:52 +0200", None);
     assert!(rt; moment.is_ok() && moment == same);
     assert!(rt; Rfc3339.parse_offset_date_time(b"2003-07-01", None).is_err());
-    if let Ok(moment) = moment {
-        assert!(rt; moment.unix_timestamp() == 1_057_049_520);
-    }
     Ok(())
 }
