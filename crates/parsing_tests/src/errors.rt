@@ -27,15 +27,14 @@ pub fn all() -> [Error<'static>; 7] {
 }
 
 fn refusals_come_back() -> [bool; 7] {
-    let [conversion, component, record, bytes, text, other, invalid] = all();
     [
-        ConversionRange::try_from(conversion) == Ok(ConversionRange),
-        ComponentRange::try_from(component) == Ok(range()),
-        TryFromParsed::try_from(record) == Ok(TryFromParsed::from(range())),
-        ParseFromDescription::try_from(bytes) == Ok(UNREAD),
-        InvalidFormatDescription::try_from(text) == Ok(UNCLOSED),
-        DifferentVariant::try_from(other) == Ok(DifferentVariant),
-        InvalidVariant::try_from(invalid) == Ok(InvalidVariant),
+        ConversionRange::try_from(Error::from(ConversionRange)).is_ok(),
+        ComponentRange::try_from(Error::from(range())).is_ok(),
+        TryFromParsed::try_from(Error::from(TryFromParsed::from(range()))).is_ok(),
+        ParseFromDescription::try_from(Error::from(UNREAD)).is_ok(),
+        InvalidFormatDescription::try_from(Error::from(UNCLOSED)).is_ok(),
+        DifferentVariant::try_from(Error::from(DifferentVariant)).is_ok(),
+        InvalidVariant::try_from(Error::from(InvalidVariant)).is_ok(),
     ]
 }
 

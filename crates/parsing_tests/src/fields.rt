@@ -2,7 +2,7 @@
 
 use calendar::UtcOffset;
 use datetime_types::WallClock;
-use description::{Description, DescriptionVersion, parse_borrowed, parse_strftime_borrowed};
+use description::{Description, DescriptionVersion, parse_borrowed};
 use parsing_combinator::digit_chunk;
 use parsing_fields::{Fields, Fraction, Year, digit_pair, minute_of_day, signed_minutes};
 use parsing_places::{
@@ -204,29 +204,23 @@ fn numbers_of_a_named_shape(rt: HostRuntime) {
     assert!(rt; numbers == Some((1999, 31, 1439, 59, -210)));
 }
 
-fn plan_of_items(alloc: Global) -> Option<Plan> {
-    let items = parse_strftime_borrowed(alloc, "%d/%b/%Y:%H:%M:%S %z").ok()?;
-    Plan::of_items(&items)
-}
-
-fn plan_of_a_description(alloc: Global) -> Option<Plan> {
-    let text = "[year]-[month]-[day] [hour]:[minute]:[second] UTC";
-    match parse_borrowed(alloc, DescriptionVersion::Three, text).ok()? {
-        Description::V3(tree) => Plan::of_description(&tree),
-        Description::Items(_) => None,
+fn plan_of(description: &Description) -> Option<Plan> {
+    match description {
+        Description::Items(items) => Plan::of_items(items),
+        Description::V3(tree) => Plan::of_description(tree),
     }
 }
 
-// What a plan reads of a line.
-fn planned(plan: Option<Plan>, line: &[u8], assumed: Option<UtcOffset>) -> Option<(i64, u32)> {
-    instant(plan?.read(line, assumed))
+// What the plan of a description in this version reads of a line.
+fn planned(alloc: Global, version: DescriptionVersion, line: &[u8]) -> Option<(i64, u32)> {
+    let text = "[year]-[month]-[day] [hour]:[minute]:[second] UTC";
+    let description = parse_borrowed(alloc, version, text).ok()?;
+    instant(plan_of(&description)?.read(line, Some(UtcOffset::UTC)))
 }
 
 #[test]
 fn plans(rt: HostRuntime) {
-    let by_items = plan_of_items(rt.alloc());
-    assert!(rt; planned(by_items, b"02/Jan/2021:03:04:05 +0100", None) == WHOLE);
-    let by_description = plan_of_a_description(rt.alloc());
     let line = b"2021-01-02 02:04:05 UTC";
-    assert!(rt; planned(by_description, line, Some(UtcOffset::UTC)) == WHOLE);
+    assert!(rt; planned(rt.alloc(), DescriptionVersion::Two, line) == WHOLE);
+    assert!(rt; planned(rt.alloc(), DescriptionVersion::Three, line) == WHOLE);
 }

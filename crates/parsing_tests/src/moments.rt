@@ -7,7 +7,6 @@ use parsing_values::{
     DateParts, MomentParts, OffsetParts, TimeParts, YearParts, hour, offset, offset_date_time,
     plain_date_time, time, timestamp, utc_date_time,
 };
-use std::test::Fail;
 
 const NO_YEAR: YearParts = YearParts {
     year: None,
@@ -49,12 +48,11 @@ const LEAP_SECOND: TimeParts = TimeParts {
 };
 
 #[test]
-fn times(rt: HostRuntime) -> Result<(), Fail> {
-    let end = Time::from_hms_nano(15, 59, 59, 999_999_999)?;
+fn times(rt: HostRuntime) {
+    let end = Time::from_hms_nano(15, 59, 59, 999_999_999).expect(&rt, "a time");
     assert!(rt; hour(&AFTERNOON) == Some(23));
     assert!(rt; time(true, &LEAP_SECOND) == Ok(end));
     assert!(rt; permitted_time(true, 15, 59, 60, 0) == Ok(end));
-    Ok(())
 }
 
 // Where the hour is 0 the minutes have the sign.
@@ -83,15 +81,21 @@ const LEAP: MomentParts = MomentParts {
     unix_nanoseconds: None,
 };
 
-#[test]
-fn instants(rt: HostRuntime) -> Result<(), Fail> {
-    let day = Date::from_calendar_date(1990, Month::December, 31)?;
+// Whether each kind of instant, and the wall clock, is named on this day.
+fn are_named(day: Date) -> [bool; 4] {
     let utc = UtcDateTime::new(day, Time::MAX);
     let moment = offset_date_time(&LEAP, &WEST);
-    assert!(rt; moment.map(OffsetDateTime::unix_timestamp_nanos) == Ok(utc.unix_timestamp_nanos()));
-    assert!(rt; utc_date_time(&LEAP, &WEST) == Ok(utc));
-    assert!(rt; timestamp(&LEAP, &WEST) == Ok(utc.into()));
     let wall = plain_date_time(false, &LAST_DAY, &AFTERNOON);
-    assert!(rt; wall == Ok(PlainDateTime::new(day, Time::from_hms(23, 0, 0)?)));
-    Ok(())
+    [
+        moment.map(OffsetDateTime::unix_timestamp_nanos) == Ok(utc.unix_timestamp_nanos()),
+        utc_date_time(&LEAP, &WEST) == Ok(utc),
+        timestamp(&LEAP, &WEST) == Ok(utc.into()),
+        wall.map(PlainDateTime::date) == Ok(day),
+    ]
+}
+
+#[test]
+fn instants(rt: HostRuntime) {
+    let day = Date::from_calendar_date(1990, Month::December, 31).expect(&rt, "a day");
+    assert!(rt; are_named(day) == [true; 4]);
 }
