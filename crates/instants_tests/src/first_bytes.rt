@@ -1,88 +1,113 @@
 //! What the first bytes of a line show of a description.
 
-use description::{Description, DescriptionVersion, parse_borrowed, parse_strftime_borrowed};
+use description::{
+    BorrowedFormatItem, Description, DescriptionVersion, FormatDescriptionV3, parse_borrowed,
+    parse_strftime_borrowed,
+};
 use parsing_first_bytes::{FirstBounds, FirstBytes};
 use std::alloc::Global;
 
-// A description, a line, and whether the description can't read the line's first bytes.
-const ROWS: &str = r"strftime %d/%b => 2021-01-01 => is ruled out
-strftime %d/%b => 1/Jan => is ruled out
-strftime %d/%b =>  => is ruled out
-strftime %d/%b => GET / => is ruled out
-strftime %d/%b => 01/Jan => is not
-strftime %d/%b => 99/Oct => is not
-strftime %b %e => GET / HTTP => is ruled out
-strftime %b %e => Jun-01 => is ruled out
-strftime %b %e => 1 Jun => is ruled out
-strftime %b %e => Ju => is ruled out
-strftime %b %e => Jun  1 => is not
-strftime %b %e => dec 31 => is not
-strftime %b %e => Dxx 31 => is not
-strftime %A => July => is ruled out
-strftime %A => 1 => is ruled out
-strftime %A => Tuesday => is not
-strftime %A => wednesday => is not
-strftime %e. => /1. => is ruled out
-strftime %e. => 1/. => is ruled out
-strftime %e. => 1 => is ruled out
-strftime %e. =>  1. => is not
-strftime %e. => 31. => is not
-strftime %-d.%m => .1 => is ruled out
-strftime %-d.%m => x => is ruled out
-strftime %-d.%m => 1.01 => is not
-strftime %-d.%m => 31.01 => is not
-strftime %-d.%m => 1 => is not
-strftime %s => x => is ruled out
-strftime %s =>  => is ruled out
-strftime %s => .5 => is ruled out
-strftime %s => -1 => is not
-strftime %s => +1 => is not
-strftime %s => 1700000000 => is not
-strftime  => x => is not
-strftime  =>  => is not
-strftime %C => x => is ruled out
-strftime %C =>   => is ruled out
-strftime %C => 20 => is not
-strftime %C => -1 => is not
-strftime %u => x => is ruled out
-strftime %u =>  1 => is ruled out
-strftime %u => 1 => is not
-strftime %u => 7 => is not
-v1 [[[day] => 01 => is ruled out
-v1 [[[day] => ]01 => is ruled out
-v1 [[[day] => [01 => is not
-v1 [[[day] => [31 => is not
-v2 [year]-[month] => 01/01/2021 => is ruled out
-v2 [year]-[month] => 202 => is ruled out
-v2 [year]-[month] => 202x-01 => is ruled out
-v2 [year]-[month] => -20x-01 => is ruled out
-v2 [year]-[month] => 2021-01 => is not
-v2 [year]-[month] => -0001-01 => is not
-v2 [year]-[month] => +12345-01 => is not
-v2 at [hour] => am 12 => is ruled out
-v2 at [hour] => At 12 => is ruled out
-v2 at [hour] => at => is ruled out
-v2 at [hour] => at 12 => is not
-v2 [period] => xm => is ruled out
-v2 [period] => A1 => is ruled out
-v2 [period] => p => is ruled out
-v2 [period] => AM => is not
-v2 [period] => pm 1 => is not
-v2 [ignore count:2]x => abc => is not
-v2 [ignore count:2]x =>  => is not
-v3 [offset_hour sign:mandatory] => x1 => is ruled out
-v3 [offset_hour sign:mandatory] => +x => is ruled out
-v3 [offset_hour sign:mandatory] => +01 => is not
-v3 [offset_hour sign:mandatory] => -12 => is not
-v3 [unix_timestamp] => abc => is ruled out
-v3 [unix_timestamp] =>  1 => is ruled out
-v3 [unix_timestamp] => 12 => is not
-v3 [unix_timestamp] => -12 => is not
-v3 [hour]:[minute] => 1:00 => is ruled out
-v3 [hour]:[minute] => abc => is ruled out
-v3 [hour]:[minute] => 01:00 => is not
-v3 [optional [x]]y => y => is not
-v3 [optional [x]]y => z => is not";
+// A description by the letters of strftime, a line, and whether its first four bytes show that the description reads no
+// prefix of it, whether the bounds of its first sixteen do, and whether they or its length show that it is not read as a
+// whole.
+const LETTERS: &str = r"%d/%b => 2021-01-01 => true true true
+%d/%b => 1/Jan => true true true
+%d/%b =>  => true true true
+%d/%b => GET / => true true true
+%d/%b => 01/Jan => false false false
+%d/%b => 99/Oct => false false false
+%b %e => GET / HTTP => true false true
+%b %e => Jun-01 => true true true
+%b %e => 1 Jun => true true true
+%b %e => Ju => true true true
+%b %e => Jun  1 => false false false
+%b %e => dec 31 => false false false
+%b %e => Dxx 31 => false false false
+%A => July => true false false
+%A => 1 => true true true
+%A => Tuesday => false false false
+%A => wednesday => false false false
+%e. => /1. => true false false
+%e. => 1/. => true false false
+%e. => 1 => true true true
+%e. =>  1. => false false false
+%e. => 31. => false false false
+%-d.%m => .1 => true true true
+%-d.%m => x => true true true
+%-d.%m => 1.01 => false false false
+%-d.%m => 31.01 => false false false
+%-d.%m => 1 => false false false
+%s => x => true true true
+%s =>  => true true true
+%s => .5 => true false false
+%s => -1 => false false false
+%s => +1 => false false false
+%s => 1700000000 => false false false
+ => x => false false true
+ =>  => false false false
+%C => x => true true true
+%C =>   => true true true
+%C => 20 => false false false
+%C => -1 => false false false
+%u => x => true true true
+%u =>  1 => true true true
+%u => 1 => false false false
+%u => 7 => false false false
+%d/%b => 01/Jan/2024 => false false true
+%e.%m => /1.01.2024 is a date => true false true";
+
+// The same by a description of version 3.
+const TREES: &str = r"\[[day] => 01 => true true true
+\[[day] => ]01 => true true true
+\[[day] => [01 => false false false
+\[[day] => [31 => false false false
+[year]-[month] => 01/01/2021 => true true true
+[year]-[month] => 202 => true true true
+[year]-[month] => 202x-01 => true true true
+[year]-[month] => -20x-01 => true false false
+[year]-[month] => 2021-01 => false false false
+[year]-[month] => -0001-01 => false false false
+[year]-[month] => +12345-01 => false false false
+at [hour] => am 12 => true true true
+at [hour] => At 12 => true true true
+at [hour] => at => true true true
+at [hour] => at 12 => false false false
+[period] => xm => true false false
+[period] => A1 => true true true
+[period] => p => true true true
+[period] => AM => false false false
+[period] => pm 1 => false false true
+[ignore count:2]x => abc => false false false
+[ignore count:2]x =>  => false false false
+[offset_hour sign:mandatory] => x1 => true true true
+[offset_hour sign:mandatory] => +x => true false false
+[offset_hour sign:mandatory] => +01 => false false false
+[offset_hour sign:mandatory] => -12 => false false false
+[unix_timestamp] => abc => true true true
+[unix_timestamp] =>  1 => true true true
+[unix_timestamp] => 12 => false false false
+[unix_timestamp] => -12 => false false false
+[hour]:[minute] => 1:00 => true true true
+[hour]:[minute] => abc => true true true
+[hour]:[minute] => 01:00 => false false false
+[optional [x]]y => y => false false false
+[optional [x]]y => z => false false false
+[day]-[month] [hour]:[minute] => 01-07 10:52 => false false false
+[day]-[month] [hour]:[minute] => 01-07 10.52 => false true true
+[day]-[month] [hour]:[minute] => 01-07 10 => false true true
+[day]-[month]-[year] [hour] => 01-07-203 10 => false true true
+[day]-[month]-[year] [hour] => 01-07--2003 10 and more => false false false
+[year]-[month]-[day] => 2024-01-02 => false false false
+[year]-[month]-[day] => 2024/01/02 => false true true
+[year]-[month]-[day] => 2024-01-02T10 => false false true
+[year]-[month]-[day] => +2024/01/02 and more => false false false
+[hour] [year]:[second] => 10 2024.37 => false true true
+[hour] [year]:[second] => 10 -2024:37 => false false false
+[hour]:[minute]:[second]UTC => 10:52:37UTC => false false false
+[hour]:[minute]:[second]UTC => 10:52:37GMT => false true true
+[hour]:[minute]:[second]UTC => 10:52:3 => false true true
+[hour]:[minute]:[second]UTC => 10:52:37UTC, and more => false false true
+[hour]:[minute]:[second] => 10:52:37,123 and more => false false true";
 
 // Whether they rule a line out. They do where no line can begin as it does.
 fn rule_out(bytes: &FirstBytes, line: &[u8]) -> bool {
@@ -90,107 +115,67 @@ fn rule_out(bytes: &FirstBytes, line: &[u8]) -> bool {
     bytes.rule_out(line) || !bytes.can_stand(0, first)
 }
 
-fn by_letters(alloc: Global, text: &str, line: &[u8]) -> Option<bool> {
-    let items = parse_strftime_borrowed(alloc, text).ok()?;
-    Some(rule_out(&FirstBytes::of_items(&items), line))
+// What is shown of a line.
+fn shown(bytes: &FirstBytes, bounds: &FirstBounds, line: &[u8]) -> [bool; 3] {
+    [
+        rule_out(bytes, line),
+        bounds.rule_out(line),
+        bounds.rule_out_whole(line),
+    ]
 }
 
-fn by(description: &Description, line: &[u8]) -> bool {
+fn shown_by_items(items: &[BorrowedFormatItem<'_>], line: &[u8]) -> [bool; 3] {
+    let (bytes, bounds) = (FirstBytes::of_items(items), FirstBounds::of_items(items));
+    shown(&bytes, &bounds, line)
+}
+
+fn shown_by_tree(tree: &FormatDescriptionV3<'_>, line: &[u8]) -> [bool; 3] {
+    let bytes = FirstBytes::of_description(tree);
+    let bounds = FirstBounds::of_description(tree);
+    shown(&bytes, &bounds, line)
+}
+
+fn shown_by(description: &Description<'_>, line: &[u8]) -> [bool; 3] {
     match description {
-        Description::Items(items) => rule_out(&FirstBytes::of_items(items), line),
-        Description::V3(description) => rule_out(&FirstBytes::of_description(description), line),
+        Description::Items(items) => shown_by_items(items, line),
+        Description::V3(tree) => shown_by_tree(tree, line),
     }
 }
 
-fn by_version(alloc: Global, version: DescriptionVersion, text: &str, line: &[u8]) -> Option<bool> {
-    let description = parse_borrowed(alloc, version, text).ok()?;
-    Some(by(&description, line))
+fn by_letters(alloc: Global, text: &str, line: &str) -> Option<[bool; 3]> {
+    let items = parse_strftime_borrowed(alloc, text).ok()?;
+    Some(shown_by_items(&items, line.as_bytes()))
 }
 
-// Whether the first bytes of a line rule a description out.
-fn is_ruled_out(alloc: Global, language: &str, text: &str, line: &[u8]) -> Option<bool> {
-    match language {
-        "v1" => by_version(alloc, DescriptionVersion::One, text, line),
-        "v2" => by_version(alloc, DescriptionVersion::Two, text, line),
-        "v3" => by_version(alloc, DescriptionVersion::Three, text, line),
-        _ => by_letters(alloc, text, line),
-    }
+fn by_version(alloc: Global, text: &str, line: &str) -> Option<[bool; 3]> {
+    let description = parse_borrowed(alloc, DescriptionVersion::Three, text).ok()?;
+    Some(shown_by(&description, line.as_bytes()))
 }
 
-// Whether a row says what is so.
-fn holds(alloc: Global, row: &str) -> Option<bool> {
-    let (row, wanted) = row.rsplit_once(" => ")?;
-    let (description, line) = row.split_once(" => ")?;
-    let (language, text) = description.split_once(' ')?;
-    if is_ruled_out(alloc, language, text, line.as_bytes())? {
-        Some(wanted == "is ruled out")
-    } else {
-        Some(wanted == "is not")
+// The description and the line of a row, and what it says is shown.
+fn parts_of(row: &str) -> Option<(&str, &str, [bool; 3])> {
+    let (row, words) = row.rsplit_once(" => ")?;
+    let (text, line) = row.split_once(" => ")?;
+    let said = [
+        words.starts_with("true"),
+        words.contains(" true "),
+        words.ends_with("true"),
+    ];
+    Some((text, line, said))
+}
+
+#[test]
+fn letters(rt: HostRuntime) {
+    for row in LETTERS.lines() {
+        let (text, line, said) = parts_of(row).expect(&rt, "a row");
+        assert!(rt; by_letters(rt.alloc(), text, line) == Some(said));
     }
 }
 
 #[test]
-fn rows(rt: HostRuntime) {
-    for row in ROWS.lines() {
-        assert!(rt; holds(rt.alloc(), row) == Some(true));
-    }
-}
-
-// A description, a line, and whether its first sixteen bytes show that no prefix of it is read, and whether they or its length
-// show that it is not read as a whole.
-const BOUNDS: &str = r"v3 [day]-[month] [hour]:[minute] => 01-07 10:52 => false false
-v3 [day]-[month] [hour]:[minute] => 01-07 10.52 => true true
-v3 [day]-[month] [hour]:[minute] => 01-07 10 => true true
-v3 [day]-[month]-[year] [hour] => 01-07-203 10 => true true
-v3 [day]-[month]-[year] [hour] => 01-07--2003 10 and more => false false
-v3 [year]-[month]-[day] => 2024-01-02 => false false
-v3 [year]-[month]-[day] => 2024/01/02 => true true
-v3 [year]-[month]-[day] => 2024-01-02T10 => false true
-v3 [year]-[month]-[day] => +2024/01/02 and more => false false
-v3 [hour] [year]:[second] => 10 2024.37 => true true
-v3 [hour] [year]:[second] => 10 -2024:37 => false false
-v3 [hour]:[minute]:[second]UTC => 10:52:37UTC => false false
-v3 [hour]:[minute]:[second]UTC => 10:52:37GMT => true true
-v3 [hour]:[minute]:[second]UTC => 10:52:3 => true true
-v3 [hour]:[minute]:[second]UTC => 10:52:37UTC, and more => false true
-v3 [hour]:[minute]:[second] => 10:52:37,123 and more => false true
-strftime %d/%b => 01/Jan => false false
-strftime %d/%b => 01/Jan/2024 => false true
-strftime %d/%b => 1/Jan => true true
-strftime %e.%m => /1.01.2024 is a date => false true";
-
-fn bounds_of(alloc: Global, language: &str, text: &str) -> Option<FirstBounds> {
-    if language == "strftime" {
-        let items = parse_strftime_borrowed(alloc, text).ok()?;
-        return Some(FirstBounds::of_items(&items));
-    }
-    match parse_borrowed(alloc, DescriptionVersion::Three, text).ok()? {
-        Description::Items(items) => Some(FirstBounds::of_items(&items)),
-        Description::V3(description) => Some(FirstBounds::of_description(&description)),
-    }
-}
-
-// Whether a row says what is so.
-fn is_bounded(alloc: Global, row: &str) -> Option<bool> {
-    let (row, wanted) = row.rsplit_once(" => ")?;
-    let (description, line) = row.split_once(" => ")?;
-    let (language, text) = description.split_once(' ')?;
-    let bounds = bounds_of(alloc, language, text)?;
-    let ruled_out = match (
-        bounds.rule_out(line.as_bytes()),
-        bounds.rule_out_whole(line.as_bytes()),
-    ) {
-        (true, true) => "true true",
-        (false, true) => "false true",
-        (true, false) => "true false",
-        (false, false) => "false false",
-    };
-    Some(ruled_out == wanted)
-}
-
-#[test]
-fn bounds(rt: HostRuntime) {
-    for row in BOUNDS.lines() {
-        assert!(rt; is_bounded(rt.alloc(), row) == Some(true), "{row}");
+fn trees(rt: HostRuntime) {
+    for row in TREES.lines() {
+        let (text, line, said) = parts_of(row).expect(&rt, "a row");
+        assert!(rt; by_version(rt.alloc(), text, line) == Some(said));
     }
 }

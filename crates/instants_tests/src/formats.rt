@@ -1,45 +1,41 @@
 //! Formats by name.
 
-use instants_formats::{Lacking, format_named, formats, laws};
-use std::test::Fail;
+use instants_formats::{Format, Lacking, format_named, formats, laws};
 
-static NAMED: [(&str, &str, &str, Lacking); 4] = [
-    ("access-log", "strftime", "%d/%b/%Y:%T %z", Lacking::Nothing),
-    ("mysql", "strftime", "%F %T", Lacking::Offset),
-    ("syslog", "strftime", "%b %e %T", Lacking::YearAndOffset),
-    ("date", "strftime", "%F", Lacking::TimeAndOffset),
+static NAMED: [Format; 4] = [
+    Format {
+        name: "access-log",
+        language: "strftime",
+        description: "%d/%b/%Y:%T %z",
+        lacks: Lacking::Nothing,
+    },
+    Format {
+        name: "mysql",
+        language: "strftime",
+        description: "%F %T",
+        lacks: Lacking::Offset,
+    },
+    Format {
+        name: "syslog",
+        language: "strftime",
+        description: "%b %e %T",
+        lacks: Lacking::YearAndOffset,
+    },
+    Format {
+        name: "date",
+        language: "strftime",
+        description: "%F",
+        lacks: Lacking::TimeAndOffset,
+    },
 ];
 
-static NONE: [&str; 5] = ["", "mysq", "mysqls", "MySQL", "rfc3339"];
-
+// That each format is found by its name is a law.
 #[test]
 fn by_name(rt: HostRuntime) {
-    for row in &NAMED {
-        let found = format_named(row.0);
-        let said = found.map(|format| (
-            format.name,
-            format.language,
-            format.description,
-            format.lacks,
-        ));
-        assert_eq!(rt; said, Some((row.0, row.1, row.2, row.3)));
-    }
-}
-
-#[test]
-fn no_such_name(rt: HostRuntime) {
-    for name in &NONE {
-        assert!(rt; format_named(name).is_none());
-    }
-}
-
-#[test]
-fn all_by_name(rt: HostRuntime) {
     laws::names();
-    for format in formats() {
-        assert_eq!(rt;
-            format_named(format.name).map(|found| found.description),
-            Some(format.description)
-        );
+    for format in &NAMED {
+        assert!(rt; format_named(format.name) == Some(format));
     }
+    assert!(rt; formats().len() > NAMED.len());
+    assert!(rt; format_named("MySQL").is_none());
 }

@@ -1,45 +1,38 @@
 //! What the guess of a stream's format writes, over lent bytes.
 
+ghost use Rattle.std.specs.Prelude.{◌≡◌, false};
+
 use instants_guess::guess;
-use instants_stream::{ByteWriter, CutReader, CutWriter, RunFault};
+use instants_stream::{ByteReader, ByteWriter, CutReader, CutWriter, RunFault};
 use instants_timeline::RunsFault;
 use std::alloc::Global;
-use std::process::Abort;
 
-// Reads and writes of at most so many bytes, and a read or a write that fails after so many, where one does.
-#[derive(Clone, Copy)]
-struct Devices {
-    most: usize,
-    read: Option<usize>,
-    write: Option<usize>,
+// A guess on these devices, whatever they are: what `guess` promises of them is not needed below.
+fn guess_on<R: ByteReader, W: ByteWriter>(
+    alloc: Global,
+    reader: &mut R,
+    writer: &mut W,
+) -> Result<(), RunsFault>
+    requires reader { R.failed reader.old ≡ false }
+    requires writer { W.failed writer.old ≡ false }
+{
+    guess(alloc, reader, writer)
 }
 
-// Devices that do not fail.
-const WHOLE: Devices = Devices {
-    most: 65_536,
-    read: None,
-    write: None,
-};
-
-// A guess over a stream by these devices ends so, and what is written is this.
-fn guess_is(
-    rt: &impl Abort,
+// How a guess over a stream ends, and whether this is what is written. Reads and writes are of at most seven bytes, and
+// one that would pass so many bytes fails.
+fn guessed(
     alloc: Global,
-    stream: &[u8],
-    devices: Devices,
-    ended: Result<(), RunFault>,
-    text: &[u8],
-) {
+    stream: &str,
+    read: Option<usize>,
+    write: Option<usize>,
+    text: &str,
+) -> (Result<(), RunsFault>, bool) {
     let mut space = [0; 512];
-    let mut reader = CutReader::new(stream, devices.most.max(1), devices.read);
-    let mut writer = CutWriter::new(&mut space, devices.most.max(1), devices.write);
-    match guess(alloc, &mut reader, &mut writer) {
-        Ok(()) => assert_eq!(rt; ended, Ok(())),
-        Err(RunsFault::Run(fault)) => assert_eq!(rt; ended, Err(fault)),
-        Err(RunsFault::Memory) => assert!(rt; false, "out of memory"),
-    }
-    assert_eq!(rt; writer.is_flushed(), ended != Err(RunFault::Write));
-    assert_eq!(rt; writer.written(), text);
+    let mut reader = CutReader::new(stream.as_bytes(), 7, read);
+    let mut writer = CutWriter::new(&mut space, 7, write);
+    let ended = guess_on(alloc, &mut reader, &mut writer);
+    (ended, writer.written() == text.as_bytes())
 }
 
 // A stream, and what is written for it.
@@ -77,70 +70,16 @@ static ROWS: [(&str, &str); 8] = [
 #[test]
 fn rows(rt: HostRuntime) {
     for row in &ROWS {
-        guess_is(
-            &rt,
-            rt.alloc(),
-            row.0.as_bytes(),
-            WHOLE,
-            Ok(()),
-            row.1.as_bytes(),
-        );
+        assert!(rt; guessed(rt.alloc(), row.0, None, None, row.1) == (Ok(()), true));
     }
 }
 
-// A stream that is read in pieces, and what is written for it in pieces.
 const STREAM: &str = "2021-01-02 opened\n";
 
-const TEXT: &str = "1 of 1 lines: +00:00 +00:00 1 time 00:00 date\n";
-
-static PIECES: [usize; 3] = [1, 7, 18];
-
 #[test]
-fn in_pieces(rt: HostRuntime) {
-    for most in &PIECES {
-        let devices = Devices {
-            most: *most,
-            ..WHOLE
-        };
-        guess_is(
-            &rt,
-            rt.alloc(),
-            STREAM.as_bytes(),
-            devices,
-            Ok(()),
-            TEXT.as_bytes(),
-        );
-    }
-}
-
-#[test]
-fn a_read_fails(rt: HostRuntime) {
-    let devices = Devices {
-        read: Some(3),
-        ..WHOLE
-    };
-    guess_is(
-        &rt,
-        rt.alloc(),
-        STREAM.as_bytes(),
-        devices,
-        Err(RunFault::Read),
-        b"",
-    );
-}
-
-#[test]
-fn a_write_fails(rt: HostRuntime) {
-    let devices = Devices {
-        write: Some(4),
-        ..WHOLE
-    };
-    guess_is(
-        &rt,
-        rt.alloc(),
-        STREAM.as_bytes(),
-        devices,
-        Err(RunFault::Write),
-        b"1 of",
-    );
+fn failures(rt: HostRuntime) {
+    let no_read = guessed(rt.alloc(), STREAM, Some(3), None, "");
+    assert!(rt; no_read == (Err(RunsFault::Run(RunFault::Read)), true));
+    let no_write = guessed(rt.alloc(), STREAM, None, Some(4), "1 of");
+    assert!(rt; no_write == (Err(RunsFault::Run(RunFault::Write)), true));
 }

@@ -1,6 +1,6 @@
-//! Tests of the crates of `instants`, each by itself and several together, of formats by name, and of the guess. Rows of words and streams with their answers stand in
-//! the program `rows`; streams, devices and memory have a crate of their own, `instants_stream_tests`, and so have dates inside
-//! lines, `instants_lines_tests`.
+//! Tests of the crates of `instants`, each by itself, of formats by name, and of the guess. Rows of words and streams with
+//! their answers stand in the program `rows`; streams, devices and memory have a crate of their own,
+//! `instants_stream_tests`, and so have dates inside lines, `instants_lines_tests`.
 #![tactic(auto)]
 
 #[cfg(test)]
@@ -14,12 +14,8 @@ mod lines;
 #[cfg(test)]
 mod moved_lines;
 #[cfg(test)]
-mod ordered_lines;
-#[cfg(test)]
 mod page;
 #[cfg(test)]
 mod sources;
-#[cfg(test)]
-mod support;
 #[cfg(test)]
 mod timelines;

@@ -4,79 +4,59 @@ use calendar::UtcOffset;
 use instants_answers::{Answer, Target, is_target, write_fields};
 use instants_sources::{Named, fast_rfc3339};
 use instants_timeline::answer_named;
-use parsing_fields::{Fields, Fraction, Year};
+use parsing_fields::Fields;
 
-// A day, its minute, the offset in minutes and the target in seconds, and the line: nothing where the day at the target is
-// in another month.
-type Case = ((u16, u8, u8), u16, i16, i32, &'static [u8]);
-
-static CASES: [Case; 6] = [
+// A line, the target in seconds, and the line there: nothing where the day at the target is in another month.
+static CASES: [(&[u8], i32, &[u8]); 6] = [
     (
-        (2024, 2, 28),
-        1439,
-        0,
+        b"2024-02-28T23:59:07.9Z",
         60,
-        b"2024-02-29T00:00:07.000000090+00:01",
+        b"2024-02-29T00:00:07.900000000+00:01",
     ),
-    ((2023, 2, 28), 1439, 0, 60, b""),
-    ((2024, 2, 29), 1439, 0, 60, b""),
-    ((0, 1, 1), 0, 1, 0, b""),
-    ((1970, 1, 2), 0, 1559, 0, b""),
-    ((1970, 1, 3), 0, 1559, 0, b"1970-01-01T22:01:07.000000090Z"),
+    (b"2023-02-28T23:59:07.9Z", 60, b""),
+    (b"2024-02-29T23:59:07.9Z", 60, b""),
+    (b"0000-01-01T00:00:07.9+00:01", 0, b""),
+    (b"1970-01-01T00:00:07.9+23:59", 0, b""),
+    (
+        b"1970-01-03T00:00:07.9+23:59",
+        0,
+        b"1970-01-02T00:01:07.900000000Z",
+    ),
 ];
 
-fn is_written(case: Case) -> Option<bool> {
-    let ((year, month, day), minute, offset, target, line) = case;
-    if year > 9999 {
-        return None;
-    }
-    let fields = Fields::new(
-        Year::new(year),
-        month,
-        day,
-        minute,
-        7,
-        Fraction::new(90),
-        offset,
-    )?;
-    let target = UtcOffset::from_whole_seconds(target).ok()?;
-    if !is_target(target) {
-        return None;
-    }
+// Whether these fields have that line at a target.
+fn is_written(fields: &Fields, target: UtcOffset, line: &[u8]) -> bool {
     let mut answer = Answer::new();
-    let is_written = write_fields(&fields, Target::new(target), &mut answer);
-    Some(is_written != line.is_empty() && answer.as_bytes() == line)
+    is_target(target)
+        && write_fields(fields, Target::new(target), &mut answer) != line.is_empty()
+        && answer.as_bytes() == line
 }
 
 #[test]
 fn lines(rt: HostRuntime) {
     for row in &CASES {
-        let case = *row;
-        assert!(rt; is_written(case) == Some(true));
+        let (line, target, wanted) = *row;
+        let fields = fast_rfc3339(line).expect(&rt, "fields");
+        let target = UtcOffset::from_whole_seconds(target).expect(&rt, "an offset");
+        assert!(rt; is_written(&fields, target, wanted));
     }
 }
 
-// The Unix time of a moment that a text names, whether its fields are kept, and what is answered in UTC.
-fn told(named: &Named) -> (i64, bool, Answer) {
+// The Unix time of a moment that a text names, whether its fields are kept, and whether it is answered so in UTC.
+fn told(named: &Named, line: &[u8]) -> (i64, bool, bool) {
     let answer = answer_named(Target::new(UtcOffset::UTC), named);
     (
         named.moment().unix_timestamp(),
         named.fields().is_some(),
-        answer,
+        answer.as_bytes() == line,
     )
-}
-
-// Whether the moment is the seventh second of Unix time, with its fields or without them.
-fn is_told(named: &Named, is_kept: bool) -> bool {
-    let (second, has_fields, answer) = told(named);
-    let line = b"1970-01-01T00:00:07.000000000Z";
-    second == 7 && has_fields == is_kept && answer.as_bytes() == line.as_slice()
 }
 
 #[test]
 fn named_moments(rt: HostRuntime) {
     let fields = fast_rfc3339(b"1970-01-01T01:00:07+01:00").expect(&rt, "fields");
+    let line = b"1970-01-01T00:00:07.000000000Z";
     let kept = Named::of_fields(fields);
     let counted = Named::of_moment(fields.moment());
-    assert!(rt; is_told(&kept, true) && is_told(&counted, false));
+    assert!(rt; told(&kept, line) == (7, true, true) && told(&counted, line) == (7, false, true));
 }

@@ -1,7 +1,9 @@
-//! How refusals and records are printed, by `{:?}` and under a width, which refusals ignore.
+//! How refusals and records are printed.
 
-use calendar::{Date, Month};
-use parsing::{Error, Parse, ParseFromDescription, Parsed, TryFromParsed};
+use crate::errors::all;
+use parsing::{Parse, ParseFromDescription, Parsed, TryFromParsed};
+use std::alloc::AllocError;
+use std::fmt::{Debug, Display};
 use std::test::Fail;
 
 static FAULTS: [Parse; 4] = [
@@ -11,16 +13,25 @@ static FAULTS: [Parse; 4] = [
     Parse::TryFromParsed(TryFromParsed::InsufficientInformation),
 ];
 
+// Adds a refusal by `{:?}`, and its sentence under a width, which only two heed.
+fn tell<T: Debug + Display>(told: &mut String, refusal: &T) -> Result<(), AllocError> {
+    write!(told, "\n{refusal:?}: {refusal:>42}")
+}
+
+fn tell_all(told: &mut String) -> Result<(), AllocError> {
+    for fault in &FAULTS {
+        tell(told, fault)?;
+    }
+    for error in &all() {
+        tell(told, error)?;
+    }
+    Ok(())
+}
+
 #[test]
 fn refusals(rt: HostRuntime) -> Result<(), Fail> {
     let mut told = String::new(rt.alloc());
-    for row in &FAULTS {
-        let fault = *row;
-        write!(told, "\n{fault:?}: {fault:>99}")?;
-    }
-    let range = Date::from_calendar_date(2021, Month::February, 29);
-    let fault = Error::ComponentRange(range.err().ok_or("a day")?);
-    write!(told, "\n{fault:?}: {fault:>99}")?;
+    tell_all(&mut told)?;
     assert!(rt; told.as_str() == REFUSALS);
     Ok(())
 }
@@ -30,11 +41,17 @@ ParseFromDescription(InvalidLiteral): a character literal was not valid
 ParseFromDescription(InvalidComponent("day")): the 'day' component could not be parsed
 ParseFromDescription(UnexpectedTrailingCharacters): unexpected trailing characters; the end of input was expected
 TryFromParsed(InsufficientInformation): the `Parsed` struct did not include enough information to construct the type
-ComponentRange(ComponentRange { component: Day, is_conditional: true }): day was not in range given values of other parameters"#;
+ConversionRange(ConversionRange):     value out of range for the target type
+ComponentRange(ComponentRange { component: Day, is_conditional: true }): day was not in range given values of other parameters
+TryFromParsed(ComponentRange(ComponentRange { component: Day, is_conditional: true })): day was not in range given values of other parameters
+ParseFromDescription(InvalidComponent("offset hour")): the 'offset hour' component could not be parsed
+InvalidFormatDescription(UnclosedOpeningBracket { index: 7 }): unclosed opening bracket at byte index 7
+DifferentVariant(DifferentVariant): value was of a different variant
+InvalidVariant(InvalidVariant):              value was not a valid variant"#;
 
 #[test]
 fn records(rt: HostRuntime) -> Result<(), Fail> {
-    let parsed = Parsed::new().with_year(-5).ok_or("a year")?;
+    let parsed = Parsed::new().with_year(-5).unwrap_or_default();
     let told = format!(in rt.alloc(); "{parsed:?}")?;
     assert!(rt; told.as_str() == RECORD);
     Ok(())

@@ -42,8 +42,3 @@ pub fn time_fields(parsed: &Parsed) -> [Option<i128>; 12] {
         parsed.unix_timestamp_nanos(),
     ]
 }
-
-/// Whether two records have the same fields.
-pub fn is_same(one: &Parsed, other: &Parsed) -> bool {
-    date_fields(one) == date_fields(other) && time_fields(one) == time_fields(other)
-}
