@@ -1,9 +1,9 @@
-//! Dates inside lines that can be trusted, and where they are.
+//! Dates inside lines that can be trusted, where they are, and what takes their place.
 
 use crate::runs::next_byte;
 use std::alloc::Global;
 
-// Words parted by bars, a line, and its key, or what is said of its date, below a heading.
+// Words parted by bars, a line, and its key, what is said of its date, or the line with its date in place, below a heading.
 const ROWS: &str = "\
 # An offset that the line says, and a clock that goes on.
 key|+00:00|+00:00|100|strftime|%F %T => 2024-05-01 10:00:00+02:00 up => ! doubt
@@ -150,9 +150,24 @@ locate|+00:00|+00:00|100|strftime|%F %T => 2024-05-01 10:00:00 +0200 up => ! dou
 locate|+00:00|+00:00|100|time|00:00|strftime|%F => 2024-05-01 10:00:00 opened => ! doubt\t1\t1-10\tanother time
 locate|+00:00|+00:00|100|year|2024|strftime|%b %e %T => May  1 10:00:00 2019 up => ! doubt\t1\t1-15\tanother year
 # By several sources.
-locate|+00:00|+00:00|100|time|00:00|strftime|%F %R|rfc3339|strftime|%F => 2024-05-01 10:00:59 up => ! doubt\t1\t1-16\tgoes on\t3\t1-10\tanother time";
+locate|+00:00|+00:00|100|time|00:00|strftime|%F %R|rfc3339|strftime|%F => 2024-05-01 10:00:59 up => ! doubt\t1\t1-16\tgoes on\t3\t1-10\tanother time
+# Labels between keys and lines, names of formats, and lines that are read whole.
+key|label||rfc3339 => 2024-05-01T10:00:00Z up => 2024-05-01T10:00:00.000000000Z\t
+key|+00:00|+00:00|64|year|2023|time|12:30|label|x|strftime|%b %e => May  1 up => 2023-05-01T12:30:00.000000000Z\tx
+key|+00:00|-|64|access-log => [10/Oct/2000:13:55:36 -0700] GET => 2000-10-10T20:55:36.000000000Z
+explain|+00:00|+00:00|64|rfc3339|mysql => 2024-05-01 10:00:00 => 2\t2024-05-01T10:00:00.000000000Z
+explain|+00:00|-|8|rfc3339 => 2024-05-01T10:00:00+02:00 => ! long
+# Dates that are replaced.
+replace|+00:00|-|8|rfc3339 => 2024-05-01T10:00:00+02:00 a line longer than the limit => 2024-05-01T08:00:00.000000000Z a line longer than the limit
+replace|+00:00|+00:00|100|strftime|%e %b %Y %R => at  1 Nov 2024 10:00 up => at  2024-11-01T10:00:00.000000000Z up
+replace|+00:00|-|100|rfc2822 => Date: Sat, 02 Jan 2021 03:04:05 +0000 (Alice) fixed => Date: 2021-01-02T03:04:05.000000000Z (Alice) fixed
+replace|+00:00|+00:00|100|v3|\"time\":\"[year]-[month]-[day]T[hour]:[minute]:[second]Z\" => {\"time\":\"2024-05-01T10:00:00Z\"} => {\"time\":\"2024-05-01T10:00:00.000000000Z\"}
+replace|+00:00|-|100|v3|[unix_timestamp].[subsecond][end trailing_input:discard] => 1609556645.123 host cron: run => 2021-01-02T03:04:05.123000000Z host cron: run
+replace|+00:00|-|100|strftime|[%d/%b/%Y:%T %z] => [10/Oct/2000:13:55:36 -0700] x => [2000-10-10T20:55:36.000000000Z] x
+replace|+00:00|+02:00|100|strftime|%F %T CEST => 2024-05-01 10:00:00 CEST up => 2024-05-01T08:00:00.000000000Z up
+replace|+00:00|-|100|iso8601 => 2021-01-02T03:04:05+01: up => 2021-01-02T02:04:05.000000000Z: up";
 
-// What stands after the end of a row in what is written: a line feed, or a tab and the line.
+// What stands after the end of a row in what is written: nothing, a line feed, or a tab and the line.
 fn after_row(alloc: Global, row: &str) -> Option<u8> {
     let (row, said) = row.rsplit_once(" => ")?;
     let (words, line) = row.split_once(" => ")?;
@@ -164,7 +179,7 @@ fn dates(rt: HostRuntime) {
     for row in ROWS.lines() {
         if !row.starts_with('#') {
             let after = after_row(rt.alloc(), row);
-            assert!(rt; after == Some(b'\t') || after == Some(b'\n'), "{row}");
+            assert!(rt; matches!(after, Some(0 | b'\t' | b'\n')), "{row}");
         }
     }
 }

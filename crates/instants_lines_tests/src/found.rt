@@ -3,6 +3,7 @@
 use instants_found::{Doubt, Finder, Finding};
 use instants_prefixes::{Given, Years};
 use instants_sources::Source;
+use std::alloc::{AllocError, Global};
 use std::test::Fail;
 
 // The place of a date's first byte and that after its last one, and its Unix time.
@@ -55,17 +56,33 @@ static LINES: [(&[u8], Told, Option<(usize, usize)>); 4] = [
     ),
 ];
 
-#[test]
-fn finder(rt: HostRuntime) -> Result<(), Fail> {
-    let mut sources = Vec::new(rt.alloc());
+// Whether a row is so.
+fn is_so(finder: &Finder, row: &(&[u8], Told, Option<(usize, usize)>)) -> bool {
+    let (line, told, doubt) = *row;
+    as_told(finder.find(&NOTHING, line)) == told
+        && told_in_two(finder, line) == told
+        && going_on(finder, line) == doubt
+}
+
+fn all_are_so(finder: &Finder) -> bool {
+    for row in &LINES {
+        if !is_so(finder, row) {
+            return false;
+        }
+    }
+    finder.sources().len() == 2
+}
+
+fn sources(alloc: Global) -> Result<Vec<Source<'static>>, AllocError> {
+    let mut sources = Vec::new(alloc);
     sources.push(Source::Rfc2822)?;
     sources.push(Source::Rfc3339)?;
-    let finder = Finder::new(rt.alloc(), sources, 100)?;
-    assert!(rt; finder.sources().len() == 2);
-    for row in &LINES {
-        let (line, told, doubt) = *row;
-        assert!(rt; as_told(finder.find(&NOTHING, line)) == told);
-        assert!(rt; told_in_two(&finder, line) == told && going_on(&finder, line) == doubt);
-    }
+    Ok(sources)
+}
+
+#[test]
+fn finder(rt: HostRuntime) -> Result<(), Fail> {
+    let finder = Finder::new(rt.alloc(), sources(rt.alloc())?, 100)?;
+    assert!(rt; all_are_so(&finder));
     Ok(())
 }
