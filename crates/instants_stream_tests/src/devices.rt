@@ -32,47 +32,45 @@ fn cut_reader(rt: HostRuntime) {
     }
 }
 
-// What stands in six bytes of space after a try to write bytes, hand them on and flush them; how often they are flushed,
-// whether they are, and whether the writer has failed.
-fn written(bytes: &[u8], fail_after: Option<usize>) -> ([u8; 6], (usize, bool, bool)) {
+// What stands in six bytes of space after a try to write bytes, hand them on and flush them, and how often they are flushed.
+fn written(bytes: &[u8], fail_after: Option<usize>) -> ([u8; 6], usize) {
     let mut space = [0; 6];
-    let end;
+    let flushes;
     {
         let mut writer = CutWriter::new(&mut space, 4, fail_after);
         if writer.write_all(bytes).is_ok() && writer.hand_on().is_ok() {
             let _ = writer.flush();
         }
-        end = (writer.flushes(), writer.is_flushed(), writer.has_failed());
+        flushes = writer.flushes();
     }
-    (space, end)
+    (space, flushes)
 }
 
-// Bytes, after how many of them writes fail, what is written, and how often it is flushed.
-static WRITES: [(&[u8], Option<usize>, [u8; 6], usize); 4] = [
-    (b"abcdef", None, *b"abcdef", 1),
-    (b"abcdefg", None, *b"abcdef", 0),
-    (b"abcdef", Some(3), *b"abc\0\0\0", 0),
-    (b"abc", Some(3), *b"abc\0\0\0", 0),
+// Bytes, after how many of them writes fail, and what is written and how often it is flushed.
+static WRITES: [(&[u8], Option<usize>, ([u8; 6], usize)); 4] = [
+    (b"abcdef", None, (*b"abcdef", 1)),
+    (b"abcdefg", None, (*b"abcdef", 0)),
+    (b"abcdef", Some(3), (*b"abc\0\0\0", 0)),
+    (b"abc", Some(3), (*b"abc\0\0\0", 0)),
 ];
 
 #[test]
 fn cut_writer(rt: HostRuntime) {
     for row in &WRITES {
-        let (bytes, fail_after, space, flushes) = *row;
-        let end = (flushes, flushes == 1, flushes == 0);
-        assert!(rt; written(bytes, fail_after) == (space, end));
+        let (bytes, fail_after, wanted) = *row;
+        assert!(rt; written(bytes, fail_after) == wanted);
     }
 }
 
-// What a read gives of more bytes than it takes, and whether the reader has failed.
-fn std_read() -> (Result<usize, DeviceFailed>, [u8; 3], bool) {
+// What a read gives of more bytes than it takes.
+fn std_read() -> (Result<usize, DeviceFailed>, [u8; 3]) {
     let mut reader = StdReader::new(b"abcde".as_slice());
     let mut into = [0; 3];
     let count = reader.read(&mut into);
-    (count, into, reader.has_failed())
+    (count, into)
 }
 
 #[test]
 fn std_reader(rt: HostRuntime) {
-    assert!(rt; std_read() == (Ok(3), *b"abc", false));
+    assert!(rt; std_read() == (Ok(3), *b"abc"));
 }
