@@ -3,18 +3,14 @@
 #![tactic(auto)]
 
 #[cfg(test)]
-mod dated_lines;
-#[cfg(test)]
-mod dates_in_lines;
+mod dates;
 #[cfg(test)]
 mod edges;
 #[cfg(test)]
-mod labelled_lines;
-#[cfg(test)]
-mod located_dates;
+mod found;
 #[cfg(test)]
 mod prefixes;
 #[cfg(test)]
-mod trusted_dates;
+mod runs;
 #[cfg(test)]
 mod wrong_words;

@@ -1,10 +1,7 @@
-//! Calls that take memory: where a growth is refused they say so, and else they give what they always give.
+//! Calls that take memory: where a growth is refused they say so and write nothing, and else they give what they always give.
 
-use crate::support::run_words_on;
-use calendar::UtcOffset;
-use instants::{
-    CutReader, CutWriter, NewFault, ProgramFault, SourceText, Timeline, WordsFault, read_words,
-};
+use instants::{CutReader, CutWriter, SourceText, WordsFault, read_words, run_words};
+use instants_memory::{LINE_ROOM, answer_lines, laws};
 use std::alloc::AllocError;
 use std::test::Fail;
 
@@ -35,44 +32,44 @@ fn words(rt: HostRuntime) -> Result<(), Fail> {
             assert!(rt; read.sources.as_slice() == sources.as_slice());
             Ok(())
         }
-        Err(WordsFault::Memory) => Err(Fail::from(AllocError)),
-        Err(_) => Err(Fail::from("another fault")),
-    }
-}
-
-#[test]
-fn timelines(rt: HostRuntime) -> Result<(), Fail> {
-    let sources = [SourceText::V3(WORDS[5]), SourceText::Strftime(WORDS[7])];
-    match Timeline::new(rt.alloc(), &sources, UtcOffset::UTC, None) {
-        Ok(timeline) => {
-            let answer = timeline.answer_line(b"02/Jan/2021:03:04:07 +0000");
-            assert!(rt; answer.as_bytes() == b"2021-01-02T03:04:07.000000000Z".as_slice());
-            Ok(())
+        Err(fault) => {
+            assert!(rt; fault == WordsFault::Memory);
+            Err(Fail::from(AllocError))
         }
-        Err(NewFault::Memory) => Err(Fail::from(AllocError)),
-        Err(NewFault::Source { .. }) => Err(Fail::from("another fault")),
     }
 }
 
-// Where memory is refused no line is written.
+// The status 1 says here that memory was refused, since the devices work and the words are right.
 #[test]
 fn runs(rt: HostRuntime) -> Result<(), Fail> {
     let mut space = [0; 100];
     let mut reader = CutReader::new(STREAM, 7, None);
     let mut writer = CutWriter::new(&mut space, 7, None);
-    match run_words_on(rt.alloc(), &WORDS, &mut reader, &mut writer) {
+    match run_words(rt.alloc(), &WORDS, &mut reader, &mut writer) {
         Ok(()) => {
             assert!(rt; writer.written() == OUTPUT);
             Ok(())
         }
-        Err(
-            ProgramFault::Words(WordsFault::Memory)
-            | ProgramFault::New(NewFault::Memory)
-            | ProgramFault::Memory,
-        ) => {
-            assert!(rt; writer.written().is_empty());
+        Err(fault) => {
+            assert!(rt; fault.status() == 1 && writer.written().is_empty());
             Err(Fail::from(AllocError))
         }
-        Err(_) => Err(Fail::from("another fault")),
+    }
+}
+
+#[test]
+fn lines(rt: HostRuntime) -> Result<(), Fail> {
+    laws::one_output();
+    laws::joined_blocks();
+    let mut output = [b'.'; 2 * LINE_ROOM];
+    match answer_lines(rt.alloc(), &WORDS, STREAM, &mut output) {
+        Ok(len) => {
+            assert!(rt; len == 62 && output.starts_with(OUTPUT) && laws::line_room() == LINE_ROOM);
+            Ok(())
+        }
+        Err(fault) => {
+            assert!(rt; fault.status() == 1 && output == [b'.'; 72]);
+            Err(Fail::from(AllocError))
+        }
     }
 }

@@ -1,6 +1,12 @@
-//! Devices of std that fail once and work again, after ours: how often they are called.
+//! Devices of std that fail once and work again: how often they are called, by our devices and by runs.
 
-use instants_stream::{ByteReader, ByteWriter, DeviceFailed, StdReader, StdWriter};
+ghost use Rattle.std.specs.Prelude.{◌<◌, vec_len};
+
+use crate::streams::{ByLength, STREAM};
+use instants_stream::{
+    BlockWriter, ByteReader, ByteWriter, CutReader, CutWriter, DeviceFailed, RunFault, StdReader,
+    StdWriter, run_lines,
+};
 use std::io::{Error, ErrorKind, Read, Result as IoResult, Write};
 
 // A device of std whose call at one place fails once. It gives and takes so many bytes a call.
@@ -78,11 +84,10 @@ fn reads(rt: HostRuntime) {
     }
 }
 
-// How so many writes end that are followed by a flush: whether that works, whether the writer has failed and whether it is
-// flushed, and how many calls all were.
-fn writes_end(writes: u8, fails_at: u8) -> (bool, bool, bool, u8) {
+// How so many writes end that are followed by a flush: whether the writer is flushed, and how many calls all were.
+fn writes_end(writes: u8, fails_at: u8) -> (bool, u8) {
     let mut calls = 0;
-    let end;
+    let is_flushed;
     {
         let mut writer = StdWriter::new(Counted {
             calls: &mut calls,
@@ -94,13 +99,15 @@ fn writes_end(writes: u8, fails_at: u8) -> (bool, bool, bool, u8) {
                 let _ = writer.write(b"ab");
             }
         }
-        let is_ok = !writer.has_failed() && writer.flush().is_ok();
-        end = (is_ok, writer.has_failed(), writer.is_flushed());
+        if !writer.has_failed() && writer.hand_on().is_ok() {
+            let _ = writer.flush();
+        }
+        is_flushed = writer.is_flushed() && !writer.has_failed();
     }
-    (end.0, end.1, end.2, calls)
+    (is_flushed, calls)
 }
 
-// A write or a flush that fails is one call.
+// A write or a flush that fails is one call, and handing on is none.
 #[test]
 fn writes(rt: HostRuntime) {
     for (writes, fails_at, calls) in [
@@ -112,8 +119,67 @@ fn writes(rt: HostRuntime) {
         (12, 11, 12),
         (12, 20, 13),
     ] {
-        let works = fails_at > writes;
-        let end = (works, !works, works || writes == 0, calls);
-        assert!(rt; writes_end(writes, fails_at) == end);
+        assert!(rt; writes_end(writes, fails_at) == (fails_at > writes, calls));
     }
+}
+
+// How a run ends that gathers in a block what the device takes, a byte a call, and how often that is called.
+fn run_of_writes(block: Vec<u8>, fails_at: u8) -> (Result<(), RunFault>, u8)
+    requires { 0 < vec_len block }
+{
+    let mut calls = 0;
+    let answer;
+    {
+        let mut buffer = [0; 101];
+        let mut reader = CutReader::new(STREAM, 26, None);
+        let device = Counted {
+            calls: &mut calls,
+            fails_at,
+            moves: 1,
+        };
+        let mut writer = BlockWriter::new(block, StdWriter::new(device));
+        answer = run_lines(&ByLength, 100, &mut buffer, &mut reader, &mut writer);
+    }
+    (answer, calls)
+}
+
+// Whichever of the 48 writes and the flush fails, no call follows it, also where the block ends.
+#[test]
+fn runs_that_write(rt: HostRuntime) {
+    for size in [1, 7, 64] {
+        for at in 0..50 {
+            let block = vec![in rt.alloc(); 0; size].expect(&rt, "memory");
+            let wanted = if at < 49 {
+                (Err(RunFault::Write), at + 1)
+            } else {
+                (Ok(()), 49)
+            };
+            assert!(rt; run_of_writes(block, at) == wanted);
+        }
+    }
+}
+
+// How a run over a device ends that gives so many bytes a call, and how often that is called.
+fn run_of_reads(fails_at: u8, moves: usize) -> (Result<(), RunFault>, u8) {
+    let mut calls = 0;
+    let answer;
+    {
+        let mut buffer = [0; 101];
+        let mut space = [0; 100];
+        let mut writer = CutWriter::new(&mut space, 100, None);
+        let mut reader = StdReader::new(Counted {
+            calls: &mut calls,
+            fails_at,
+            moves,
+        });
+        answer = run_lines(&ByLength, 100, &mut buffer, &mut reader, &mut writer);
+    }
+    (answer, calls)
+}
+
+// Nothing is read after the end of the bytes, or after a read that failed.
+#[test]
+fn runs_that_read(rt: HostRuntime) {
+    assert!(rt; run_of_reads(9, 0) == (Ok(()), 1));
+    assert!(rt; run_of_reads(9, 1) == (Err(RunFault::Read), 10));
 }

@@ -1,0 +1,88 @@
+//! What a finder finds in a line, and where memory is refused for it. Further lines are those of `dates`.
+
+use instants_found::{Doubt, Finder, Finding};
+use instants_prefixes::{Given, Years};
+use instants_sources::Source;
+use std::alloc::{AllocError, Global};
+use std::test::Fail;
+
+// The place of a date's first byte and that after its last one, and its Unix time.
+type Told = Option<(usize, usize, i64)>;
+
+const NOTHING: Given = Given {
+    offset: None,
+    years: Years::Unknown,
+    time: None,
+};
+
+fn as_told(finding: Option<Finding>) -> Told {
+    match finding {
+        Some(Finding::There(date)) => {
+            let second = date.moment.moment().unix_timestamp();
+            Some((date.start, date.end, second))
+        }
+        _ => None,
+    }
+}
+
+// What is found by the two calls that `find` is made of.
+fn told_in_two(finder: &Finder, line: &[u8]) -> Told {
+    let start = finder.undated_len(line)?;
+    as_told(finder.find_from(&NOTHING, line, start))
+}
+
+// Where a date of the second source goes on in the line.
+fn going_on(finder: &Finder, line: &[u8]) -> Option<(usize, usize)> {
+    let doubted = finder.doubt_of(&NOTHING, line, 1)?;
+    match doubted.doubt {
+        Doubt::After => Some((doubted.start, doubted.end)),
+        _ => None,
+    }
+}
+
+// A line, what is found in it, and where a date goes on.
+static LINES: [(&[u8], Told, Option<(usize, usize)>); 4] = [
+    (b"up", None, None),
+    (
+        b"at 2021-01-02T03:04:05Z",
+        Some((3, 23, 1_609_556_645)),
+        None,
+    ),
+    (b"at 2021-01-02T03:04:05Zulu", None, Some((3, 23))),
+    (
+        b"2 Jan 2021 03:04:05 +0000 2021-01-02T03:04:05Z",
+        Some((0, 25, 1_609_556_645)),
+        None,
+    ),
+];
+
+// Whether a row is so.
+fn is_so(finder: &Finder, row: &(&[u8], Told, Option<(usize, usize)>)) -> bool {
+    let (line, told, doubt) = *row;
+    as_told(finder.find(&NOTHING, line)) == told
+        && told_in_two(finder, line) == told
+        && going_on(finder, line) == doubt
+}
+
+fn all_are_so(finder: &Finder) -> bool {
+    for row in &LINES {
+        if !is_so(finder, row) {
+            return false;
+        }
+    }
+    finder.sources().len() == 2
+}
+
+fn sources(alloc: Global) -> Result<Vec<Source<'static>>, AllocError> {
+    let mut sources = Vec::new(alloc);
+    sources.push(Source::Rfc2822)?;
+    sources.push(Source::Rfc3339)?;
+    Ok(sources)
+}
+
+#[test]
+fn finder(rt: HostRuntime) -> Result<(), Fail> {
+    let finder = Finder::new(rt.alloc(), sources(rt.alloc())?, 100)?;
+    assert!(rt; all_are_so(&finder));
+    Ok(())
+}
