@@ -15,14 +15,10 @@ fn lengths(year: i32) -> (bool, u16, u8, u8, u8) {
     )
 }
 
-static YEARS: [(i32, (bool, u16, u8, u8, u8)); 8] = [
+static YEARS: [(i32, (bool, u16, u8, u8, u8)); 4] = [
     (2000, (true, 366, 52, 29, 30)),
     (1900, (false, 365, 52, 28, 30)),
     (2020, (true, 366, 53, 29, 30)),
-    (2021, (false, 365, 52, 28, 30)),
-    (2015, (false, 365, 53, 28, 30)),
-    (0, (true, 366, 52, 29, 30)),
-    (-396, (true, 366, 53, 29, 30)),
     (i32::MAX, (false, 365, 52, 28, 30)),
 ];
 
@@ -60,21 +56,26 @@ fn there_and_back(count: u32) -> ((i32, u8, u8), u32)
     ((year, month, day), 0)
 }
 
-// A Julian day is the count less 363521074.
+// The first and the last day, 1970-01-01, and the day before the Julian days begin.
+fn all_there_and_back() -> [((i32, u8, u8), u32); 4] {
+    [
+        there_and_back(0),
+        there_and_back(730_484_633),
+        there_and_back(365_961_662),
+        there_and_back(363_521_073),
+    ]
+}
+
+static DAYS: [((i32, u8, u8), u32); 4] = [
+    ((-999_999, 1, 1), 0),
+    ((999_999, 12, 31), 730_484_633),
+    ((1970, 1, 1), 365_961_662),
+    ((-4713, 11, 23), 363_521_073),
+];
+
 #[test]
 fn days_and_counts(rt: HostRuntime) {
-    for (year, month, day, julian_day) in [
-        (-999_999, 1, 1, -363_521_074),
-        (-4713, 11, 24, 0),
-        (1970, 1, 1, 2_440_588),
-        (2000, 1, 1, 2_451_545),
-        (9999, 12, 31, 5_373_484),
-        (999_999, 12, 31, 366_963_559),
-    ] {
-        let count = (julian_day + 363_521_074) as u32;
-        assert!(rt; count <= 730_484_633);
-        assert!(rt; there_and_back(count) == ((year, month, day), count));
-    }
+    assert!(rt; all_there_and_back() == DAYS);
 }
 
 // The year of a count, and how many days of it are before.

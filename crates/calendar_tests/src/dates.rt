@@ -1,7 +1,6 @@
 //! Days by their views, moved, and as keys.
 use calendar::{ComponentRange, Date, Month, SignedDuration, Weekday};
-use std::alloc::{AllocError, Global};
-use std::collections::{BTreeMap, HashMap};
+use std::hash::{DefaultHasher, Hash, Hasher};
 
 // The day with this year, month and day of the month, which it has.
 pub fn date_of(year: i32, month: Month, day: u8) -> Date {
@@ -29,19 +28,15 @@ fn one_by_one(date: Date) -> (i32, Month, u8, u16) {
     (date.year(), date.month(), date.day(), date.ordinal())
 }
 
-static DAYS: [Views; 8] = [
+static DAYS: [Views; 4] = [
     (
         (-999_999, Month::January, 1),
         -363_521_074,
         0,
         (-999_999, 1),
     ),
-    ((-9999, Month::January, 1), -1_930_999, 0, (-9999, 1)),
     ((1970, Month::January, 1), 2_440_588, 3, (1970, 1)),
-    ((2000, Month::January, 1), 2_451_545, 5, (2000, 1)),
     ((2024, Month::February, 29), 2_460_370, 3, (2024, 60)),
-    ((2020, Month::December, 31), 2_459_215, 3, (2020, 366)),
-    ((9999, Month::December, 31), 5_373_484, 4, (9999, 365)),
     (
         (999_999, Month::December, 31),
         366_963_559,
@@ -71,22 +66,12 @@ fn is_named(day: Views) -> bool {
     ) == (day, told, [date; 3])
 }
 
-// The first days of all and of 1970, and the last of all, are constants.
-fn constants() -> [i32; 3] {
-    [
-        Date::MIN.to_julian_day(),
-        Date::UNIX_EPOCH.to_julian_day(),
-        Date::MAX.to_julian_day(),
-    ]
-}
-
 #[test]
 fn names_days(rt: HostRuntime) {
     for row in &DAYS {
         let day = *row;
         assert!(rt; is_named(day));
     }
-    assert!(rt; constants() == [-363_521_074, 2_440_588, 366_963_559]);
 }
 
 // The week of ISO 8601, alone and with its year and day, and the Sundays and Mondays so far.
@@ -153,105 +138,70 @@ static REPLACED: [(i32, Month, u8); 4] = [
     (2024, Month::December, 31),
 ];
 
-// The leap day by a step from either side.
-fn stepped_to() -> [Option<Date>; 2] {
-    let before = date_of(2024, Month::February, 28);
-    let after = date_of(2024, Month::March, 1);
-    [before.next_day(), after.previous_day()]
-}
-
-fn are_in_order() -> [bool; 3] {
+// The leap day by a step from either side, between these.
+fn steps() -> [bool; 4] {
     let before = date_of(2024, Month::February, 28);
     let after = date_of(2024, Month::March, 1);
     [
+        before.next_day() == Some(leap_day()),
+        after.previous_day() == Some(leap_day()),
         before < leap_day(),
         leap_day() < after,
-        Date::MIN < Date::MAX,
     ]
 }
 
 #[test]
 fn replaces_steps_and_orders(rt: HostRuntime) {
-    assert!(rt;
-        replaced() == REPLACED
-            && stepped_to() == [Some(leap_day()); 2]
-            && are_in_order() == [true; 3]
-    );
+    assert!(rt; replaced() == REPLACED);
+    assert!(rt; steps() == [true; 4]);
 }
 
-// The day so much later by each call, where the calendar has it.
-fn later(day: Date, duration: SignedDuration) -> Option<[Date; 4]> {
-    let later = day.checked_add(duration)?;
-    let mut moved = day;
-    moved += duration;
-    Some([later, day.saturating_add(duration), moved, day + duration])
+// The Julian day so much later and earlier, by each call.
+fn moved(day: Date, duration: SignedDuration) -> Option<([i32; 4], [i32; 4])> {
+    let (sum, difference) = (day.checked_add(duration)?, day.checked_sub(duration)?);
+    let (mut later, mut earlier) = (day, day);
+    later += duration;
+    earlier -= duration;
+    let later = [sum, day.saturating_add(duration), later, day + duration];
+    let earlier = [
+        difference,
+        day.saturating_sub(duration),
+        earlier,
+        day - duration,
+    ];
+    Some((
+        later.map(Date::to_julian_day),
+        earlier.map(Date::to_julian_day),
+    ))
 }
 
-// The day moved back by a duration, by each of the calls.
-fn earlier(day: Date, duration: SignedDuration) -> Option<[Date; 4]> {
-    let earlier = day.checked_sub(duration)?;
-    let mut moved = day;
-    moved -= duration;
-    Some([earlier, day.saturating_sub(duration), moved, day - duration])
-}
-
-fn is_moved(seconds: i64, sum: Date, difference: Date) -> bool {
-    let day = date_of(2021, Month::January, 1);
-    let duration = SignedDuration::seconds(seconds);
-    let given = (later(day, duration), earlier(day, duration));
-    given == (Some([sum; 4]), Some([difference; 4]))
-}
-
-fn are_moved() -> [bool; 4] {
-    let day = date_of(2021, Month::January, 1);
-    let before = date_of(2020, Month::December, 31);
-    let year_later = date_of(2022, Month::January, 1);
-    [
-        is_moved(-86_399, day, day),
-        is_moved(86_399, day, day),
-        is_moved(-86_400, before, date_of(2021, Month::January, 2)),
-        is_moved(31_536_000, year_later, date_of(2020, Month::January, 2)),
-    ]
-}
-
-fn apart() -> (SignedDuration, i64) {
-    let day = date_of(2021, Month::January, 1);
-    let before = date_of(2020, Month::December, 31);
-    (day - before, (before - day).whole_seconds())
-}
+// Seconds, and the days that they move by: parts of a day are cut.
+static MOVED: [(i64, i32); 2] = [(86_399, 0), (-86_400, -1)];
 
 #[test]
 fn moves_by_durations(rt: HostRuntime) {
-    assert!(rt; are_moved() == [true; 4] && apart() == (SignedDuration::DAY, -86_400));
+    for row in &MOVED {
+        let (seconds, days) = *row;
+        let given = moved(Date::UNIX_EPOCH, SignedDuration::seconds(seconds));
+        let (later, earlier) = (
+            2_440_588i32.wrapping_add(days),
+            2_440_588i32.wrapping_sub(days),
+        );
+        assert!(rt; given == Some(([later; 4], [earlier; 4])));
+    }
+    let eve = date_of(1969, Month::December, 31);
+    assert!(rt; Date::UNIX_EPOCH - eve == SignedDuration::DAY);
 }
 
-// What a map says of a day under its Julian day, and of one that it does not have.
-fn found_by_hash(alloc: Global) -> Result<[Option<Month>; 2], AllocError> {
-    let mut months = HashMap::new(alloc);
-    months.insert(date_of(2024, Month::February, 29), Month::February)?;
-    months.insert(Date::MAX, Month::December)?;
-    let same = answered(Date::from_julian_day(2_460_370));
-    Ok([months.get(&same).copied(), months.get(&Date::MIN).copied()])
+fn hash_of<T: Hash + Drop>(value: T) -> u64 {
+    let mut state = DefaultHasher::new();
+    value.hash(&mut state);
+    state.finish()
 }
 
-fn found_by_order(alloc: Global) -> Result<Option<u8>, AllocError> {
-    let mut lengths = BTreeMap::new(alloc);
-    lengths.insert(Month::March, 31u8)?;
-    lengths.insert(Month::February, 29)?;
-    Ok(lengths.get(&Month::March).copied())
-}
-
-fn found_by_weekday(alloc: Global) -> Result<Option<u8>, AllocError> {
-    let mut numbers = HashMap::new(alloc);
-    numbers.insert(Weekday::Monday, 1u8)?;
-    Ok(numbers.get(&Weekday::Sunday).copied())
-}
-
+// A day is the same key however it was found, and another one is another key.
 #[test]
-fn keys_maps(rt: HostRuntime) {
-    assert!(rt;
-        found_by_hash(rt.alloc()) == Ok([Some(Month::February), None])
-            && found_by_order(rt.alloc()) == Ok(Some(31))
-            && found_by_weekday(rt.alloc()) == Ok(None)
-    );
+fn is_a_key(rt: HostRuntime) {
+    let same = hash_of(answered(Date::from_julian_day(2_460_370)));
+    assert!(rt; hash_of(leap_day()) == same && hash_of(Date::MAX) != same);
 }

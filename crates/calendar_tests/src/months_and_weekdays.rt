@@ -4,51 +4,43 @@ use calendar::{
     Weekday, WeekdayIter,
 };
 
-fn months_led_to() -> [Month; 4] {
+// By their numbers.
+fn months_led_to() -> [u8; 6] {
     [
-        Month::December.next(),
-        Month::January.previous(),
-        Month::March.nth_next(255),
-        Month::June.nth_prev(255),
+        Month::December.next().number(),
+        Month::January.previous().number(),
+        Month::March.nth_next(255).number(),
+        Month::June.nth_prev(255).number(),
+        u8::from(Month::September),
+        Month::February.length(2024),
     ]
 }
 
-static MONTHS_LED_TO: [Month; 4] = [Month::January, Month::December, Month::June, Month::March];
-
-fn months_tell_of_themselves() -> [bool; 6] {
+fn months_tell_of_themselves() -> [bool; 3] {
     let thirteenth = Month::try_from(13);
     [
-        (u8::from(Month::September), Month::February.length(2024)) == (9, 29),
         Month::April < Month::August,
-        Month::October > Month::August,
         Month::try_from(2) == Ok(Month::February),
         thirteenth == Err(ComponentRange::unconditional(ComponentName::Month)),
-        Month::try_from(0).is_err(),
     ]
 }
 
 #[test]
 fn months(rt: HostRuntime) {
-    assert!(rt; months_led_to() == MONTHS_LED_TO && months_tell_of_themselves() == [true; 6]);
+    assert!(rt; months_led_to() == [1, 12, 6, 3, 9, 29]);
+    assert!(rt; months_tell_of_themselves() == [true; 3]);
 }
 
-fn weekdays_led_to() -> [Weekday; 5] {
+// By their days from Monday.
+fn weekdays_led_to() -> [u8; 5] {
     [
-        Weekday::from_number(2),
-        Weekday::Sunday.next(),
-        Weekday::Monday.previous(),
-        Weekday::Tuesday.nth_next(255),
-        Weekday::Friday.nth_prev(255),
+        Weekday::from_number(2).number_days_from_monday(),
+        Weekday::Sunday.next().number_days_from_monday(),
+        Weekday::Monday.previous().number_days_from_monday(),
+        Weekday::Tuesday.nth_next(255).number_days_from_monday(),
+        Weekday::Friday.nth_prev(255).number_days_from_monday(),
     ]
 }
-
-static WEEKDAYS_LED_TO: [Weekday; 5] = [
-    Weekday::Wednesday,
-    Weekday::Monday,
-    Weekday::Sunday,
-    Weekday::Friday,
-    Weekday::Tuesday,
-];
 
 fn numbers(weekday: Weekday) -> (u8, u8, u8, u8) {
     (
@@ -59,19 +51,10 @@ fn numbers(weekday: Weekday) -> (u8, u8, u8, u8) {
     )
 }
 
-fn weekday_numbers() -> [(u8, u8, u8, u8); 3] {
-    [
-        numbers(Weekday::Monday),
-        numbers(Weekday::Saturday),
-        numbers(Weekday::Sunday),
-    ]
-}
-
-static NUMBERS: [(u8, u8, u8, u8); 3] = [(1, 0, 2, 1), (6, 5, 7, 6), (7, 6, 1, 0)];
-
 #[test]
 fn weekdays(rt: HostRuntime) {
-    assert!(rt; weekdays_led_to() == WEEKDAYS_LED_TO && weekday_numbers() == NUMBERS);
+    assert!(rt; weekdays_led_to() == [2, 0, 6, 4, 1]);
+    assert!(rt; numbers(Weekday::Sunday) == (7, 6, 1, 0));
 }
 
 type Named = (
@@ -86,20 +69,10 @@ fn named(text: &str) -> Named {
 
 const NEITHER: Named = (Err(InvalidVariant), Err(InvalidVariant));
 
-static NAMES: [(&str, Named); 14] = [
-    ("January", (Ok(Month::January), Err(InvalidVariant))),
-    ("May", (Ok(Month::May), Err(InvalidVariant))),
+static NAMES: [(&str, Named); 4] = [
     ("September", (Ok(Month::September), Err(InvalidVariant))),
-    ("December", (Ok(Month::December), Err(InvalidVariant))),
-    ("Monday", (Err(InvalidVariant), Ok(Weekday::Monday))),
     ("Wednesday", (Err(InvalidVariant), Ok(Weekday::Wednesday))),
-    ("Sunday", (Err(InvalidVariant), Ok(Weekday::Sunday))),
-    ("", NEITHER),
     ("may", NEITHER),
-    ("May ", NEITHER),
-    ("Jan", NEITHER),
-    ("Monda", NEITHER),
-    ("monday", NEITHER),
     ("Mondays", NEITHER),
 ];
 
@@ -115,45 +88,22 @@ fn names(rt: HostRuntime) {
     }
 }
 
-fn walked_months() -> [Option<Month>; 5] {
+fn walked_months() -> [Option<Month>; 3] {
     let mut months = Month::iter_from(Month::November);
-    [
-        months.next(),
-        months.next(),
-        months.nth(25),
-        months.next(),
-        months.rev().next(),
-    ]
+    [months.next(), months.nth(25), months.rev().next()]
 }
 
-static WALKED_MONTHS: [Option<Month>; 5] = [
-    Some(Month::November),
-    Some(Month::December),
-    Some(Month::February),
-    Some(Month::March),
-    Some(Month::April),
-];
-
-fn months_walked_back() -> [Option<Month>; 4] {
-    let mut turned = RevMonthIter::new(Month::April);
-    [
-        turned.next(),
-        turned.nth(3),
-        turned.rev().next(),
-        RevMonthIter::new(Month::June).nth(1),
-    ]
+fn months_walked_back() -> [Option<Month>; 3] {
+    let mut months = RevMonthIter::new(Month::April);
+    [months.next(), months.nth(3), months.rev().next()]
 }
-
-static MONTHS_WALKED_BACK: [Option<Month>; 4] = [
-    Some(Month::April),
-    Some(Month::December),
-    Some(Month::November),
-    Some(Month::May),
-];
 
 #[test]
 fn walks_months(rt: HostRuntime) {
-    assert!(rt; walked_months() == WALKED_MONTHS && months_walked_back() == MONTHS_WALKED_BACK);
+    let walked = [Month::November, Month::January, Month::February];
+    assert!(rt; walked_months() == walked.map(Some));
+    let walked_back = [Month::April, Month::December, Month::November];
+    assert!(rt; months_walked_back() == walked_back.map(Some));
 }
 
 fn ends_of_all_months() -> [Option<Month>; 4] {
@@ -165,13 +115,6 @@ fn ends_of_all_months() -> [Option<Month>; 4] {
     ]
 }
 
-static ENDS: [Option<Month>; 4] = [
-    Some(Month::January),
-    Some(Month::January),
-    Some(Month::December),
-    Some(Month::December),
-];
-
 fn are_sorted() -> [bool; 2] {
     [
         MonthIter::new(Month::January).is_sorted(),
@@ -179,17 +122,11 @@ fn are_sorted() -> [bool; 2] {
     ]
 }
 
-// How many Junes are among thirteen months from June on.
-fn junes() -> usize {
-    MonthIter::new(Month::June)
-        .take(13)
-        .filter(|month| *month == Month::June)
-        .count()
-}
-
 #[test]
 fn tells_of_all_months(rt: HostRuntime) {
-    assert!(rt; ends_of_all_months() == ENDS && are_sorted() == [false; 2] && junes() == 2);
+    let (first, last) = (Some(Month::January), Some(Month::December));
+    assert!(rt; ends_of_all_months() == [first, first, last, last]);
+    assert!(rt; are_sorted() == [false; 2]);
 }
 
 fn walked_weekdays() -> [Option<Weekday>; 4] {
@@ -202,33 +139,20 @@ fn walked_weekdays() -> [Option<Weekday>; 4] {
     ]
 }
 
-static WALKED_WEEKDAYS: [Option<Weekday>; 4] = [
-    Some(Weekday::Saturday),
-    Some(Weekday::Monday),
-    Some(Weekday::Tuesday),
-    Some(Weekday::Sunday),
-];
-
-fn weekdays_walked_back() -> [Option<Weekday>; 4] {
-    let mut turned = RevWeekdayIter::new(Weekday::Tuesday);
-    [
-        turned.next(),
-        turned.nth(1),
-        turned.rev().next(),
-        RevWeekdayIter::new(Weekday::Monday).nth(1),
-    ]
+fn weekdays_walked_back() -> [Option<Weekday>; 3] {
+    let mut weekdays = RevWeekdayIter::new(Weekday::Tuesday);
+    [weekdays.next(), weekdays.nth(1), weekdays.rev().next()]
 }
-
-static WEEKDAYS_WALKED_BACK: [Option<Weekday>; 4] = [
-    Some(Weekday::Tuesday),
-    Some(Weekday::Sunday),
-    Some(Weekday::Saturday),
-    Some(Weekday::Sunday),
-];
 
 #[test]
 fn walks_weekdays(rt: HostRuntime) {
-    assert!(rt;
-        walked_weekdays() == WALKED_WEEKDAYS && weekdays_walked_back() == WEEKDAYS_WALKED_BACK
-    );
+    let walked = [
+        Weekday::Saturday,
+        Weekday::Monday,
+        Weekday::Tuesday,
+        Weekday::Sunday,
+    ];
+    assert!(rt; walked_weekdays() == walked.map(Some));
+    let walked_back = [Weekday::Tuesday, Weekday::Sunday, Weekday::Saturday];
+    assert!(rt; weekdays_walked_back() == walked_back.map(Some));
 }

@@ -39,33 +39,16 @@ fn one_by_one(time: Time) -> Parts {
     )
 }
 
-static ONE_BY_ONE: [Parts; 2] = [
-    (
-        23,
-        20,
-        50,
-        123,
-        123_456,
-        123_456_789,
-        84_050,
-        84_050_123_456_789,
-    ),
-    (
-        23,
-        20,
-        50,
-        520,
-        520_000,
-        520_000_000,
-        84_050,
-        84_050_520_000_000,
-    ),
-];
-
-fn parts_one_by_one() -> [Parts; 2] {
-    let other = Time::from_seconds_nanoseconds(84_050, 520_000_000);
-    [one_by_one(sample()), one_by_one(other)]
-}
+static ONE_BY_ONE: Parts = (
+    23,
+    20,
+    50,
+    123,
+    123_456,
+    123_456_789,
+    84_050,
+    84_050_123_456_789,
+);
 
 #[test]
 fn tells_parts(rt: HostRuntime) {
@@ -75,7 +58,8 @@ fn tells_parts(rt: HostRuntime) {
         (23, 20, 50, 123_456),
         (23, 20, 50, 123_456_789),
     );
-    assert!(rt; together(sample()) == expected && parts_one_by_one() == ONE_BY_ONE);
+    assert!(rt; together(sample()) == expected);
+    assert!(rt; one_by_one(sample()) == ONE_BY_ONE);
 }
 
 // The second of the day and the nanosecond past it.
@@ -136,7 +120,8 @@ static REPLACED: [(u32, u32); 6] = [
 
 #[test]
 fn builds_and_replaces(rt: HostRuntime) {
-    assert!(rt; built() == BUILT && replaced() == REPLACED);
+    assert!(rt; built() == BUILT);
+    assert!(rt; replaced() == REPLACED);
 }
 
 fn cut() -> [(u32, u32); 5] {
@@ -158,13 +143,10 @@ static CUT: [(u32, u32); 5] = [
     (84_050, 123_456_000),
 ];
 
-fn are_in_order() -> bool {
-    Time::MIDNIGHT < sample() && sample() < Time::MAX
-}
-
 #[test]
 fn cuts_and_orders(rt: HostRuntime) {
-    assert!(rt; cut() == CUT && are_in_order());
+    assert!(rt; cut() == CUT);
+    assert!(rt; sample() < Time::MAX);
 }
 
 // An hour after the sample.
@@ -172,61 +154,50 @@ fn later() -> Time {
     Time::from_seconds_nanoseconds(1250, 123_456_789)
 }
 
-fn moves_round_the_clock() -> bool {
+// Moved by an hour, and a day, where the last one is the sample's.
+fn moved() -> [(u32, u32); 5] {
     let (sample, later, hour) = (sample(), later(), SignedDuration::HOUR);
     let mut moved = sample;
     moved += hour;
     let mut back = later;
     back -= hour;
-    let given = [
-        sample + hour,
-        moved,
-        later - hour,
-        back,
-        sample + SignedDuration::DAY,
-    ];
-    given == [later, later, sample, sample, sample]
+    [
+        place(sample + hour),
+        place(moved),
+        place(later - hour),
+        place(back),
+        place(sample + SignedDuration::DAY),
+    ]
 }
 
-fn counts_round_the_clock() -> bool {
-    let given = [
-        sample().duration_until(later()),
-        later().duration_since(sample()),
-        later().duration_until(sample()),
-        later() - sample(),
-    ];
-    let hour = SignedDuration::seconds(3600);
-    let on = SignedDuration::seconds(82_800);
-    let over = SignedDuration::seconds(-82_800);
-    given == [hour, hour, on, over]
+static MOVED: [(u32, u32); 5] = [
+    (1250, 123_456_789),
+    (1250, 123_456_789),
+    (84_050, 123_456_789),
+    (84_050, 123_456_789),
+    (84_050, 123_456_789),
+];
+
+// The seconds between both, on and back, and over midnight.
+fn apart() -> [i64; 4] {
+    [
+        sample().duration_until(later()).whole_seconds(),
+        later().duration_since(sample()).whole_seconds(),
+        later().duration_until(sample()).whole_seconds(),
+        (later() - sample()).whole_seconds(),
+    ]
 }
 
 #[test]
 fn goes_round_the_clock(rt: HostRuntime) {
-    assert!(rt; moves_round_the_clock() && counts_round_the_clock());
-}
-
-fn moved_over_midnight() -> [(DateAdjustment, Time); 5] {
-    let (first, last) = (Time::MIDNIGHT, Time::MAX);
-    let (on, back) = (SignedDuration::NANOSECOND, SignedDuration::nanoseconds(-1));
-    [
-        last.adjusting_add(on),
-        last.adjusting_sub(back),
-        first.adjusting_sub(on),
-        first.adjusting_add(back),
-        first.adjusting_add(SignedDuration::WEEK),
-    ]
+    assert!(rt; moved() == MOVED);
+    assert!(rt; apart() == [3600, 3600, 82_800, -82_800]);
 }
 
 #[test]
 fn moves_over_midnight(rt: HostRuntime) {
     let (first, last) = (Time::MIDNIGHT, Time::MAX);
-    let expected = [
-        (DateAdjustment::Next, first),
-        (DateAdjustment::Next, first),
-        (DateAdjustment::Previous, last),
-        (DateAdjustment::Previous, last),
-        (DateAdjustment::None, first),
-    ];
-    assert!(rt; moved_over_midnight() == expected);
+    let on = SignedDuration::NANOSECOND;
+    assert!(rt; last.adjusting_add(on) == (DateAdjustment::Next, first));
+    assert!(rt; first.adjusting_sub(on) == (DateAdjustment::Previous, last));
 }

@@ -6,8 +6,6 @@ mod builders;
 #[cfg(test)]
 mod items;
 #[cfg(test)]
-mod made;
-#[cfg(test)]
 mod memory;
 #[cfg(test)]
 mod page;

@@ -1,9 +1,21 @@
-//! Versions.
+//! Components as they are shown.
 
-use description_lexer::DescriptionVersion;
+use description_items::Component;
+use std::alloc::{AllocError, Global};
 
-pub const ONE: DescriptionVersion = DescriptionVersion::One;
+// Each component beside another one, a line each.
+fn told(alloc: Global, rows: &[(Component, Component)]) -> Result<String, AllocError> {
+    let mut told = String::new(alloc);
+    for (first, other) in rows {
+        write!(told, "\n{first:?} {other:?}")?;
+    }
+    Ok(told)
+}
 
-pub const TWO: DescriptionVersion = DescriptionVersion::Two;
-
-pub const THREE: DescriptionVersion = DescriptionVersion::Three;
+// Whether they are told so. That memory runs out fails the test.
+pub fn are_told(alloc: Global, rows: &[(Component, Component)], wanted: &str) -> bool {
+    match told(alloc, rows) {
+        Ok(told) => told.as_str() == wanted,
+        Err(_) => false,
+    }
+}

@@ -1,169 +1,87 @@
 //! Trees at values that are known from outside.
 
+use crate::support::are_told;
+use description_grammar::tree_of;
 use description_items::Component;
 use description_items::modifier::*;
-use description_tree::{FormatDescriptionV3Inner as Inner, Lent};
+use description_tree::{FormatDescriptionV3 as Described, FormatDescriptionV3Inner as Inner, Lent};
 use std::alloc::{AllocError, Global};
 use std::test::Fail;
 
-// Writes the node of a component, as it is shown, and the component of that node.
-fn push_both(component: Component, told: &mut String) -> Result<(), AllocError> {
-    let node = Inner::from(component);
-    let back = node.component();
-    write!(told, "\n{node:?} {back:?}")
+// A component, and that of the node that it becomes.
+fn and_back(component: Component) -> (Component, Component) {
+    let back = Inner::from(component).component();
+    (component, back.unwrap_or(Component::End(End::default())))
 }
 
-fn components() -> [Component; 5] {
+fn components() -> [(Component, Component); 4] {
     [
-        Component::Day(Day::default().with_padding(Padding::Space)),
-        Component::Year(Year::default().with_repr(YearRepr::LastTwo)),
-        Component::MonthLong(MonthLong::default()),
-        Component::IsoYearLastTwo(IsoYearLastTwo::default()),
-        Component::End(End::default()),
+        and_back(Component::Day(Day::default().with_padding(Padding::Space))),
+        and_back(Component::Year(Year::default().with_repr(YearRepr::LastTwo))),
+        and_back(Component::MonthLong(MonthLong::default())),
+        and_back(Component::IsoYearLastTwo(IsoYearLastTwo::default())),
     ]
 }
 
-fn all_both(alloc: Global) -> Result<String, AllocError> {
-    let mut told = String::new(alloc);
-    for component in components() {
-        push_both(component, &mut told)?;
-    }
-    Ok(told)
-}
-
-fn text_has_no_component() -> bool {
-    Inner::BorrowedLiteral("x").component() == None
-}
-
 #[test]
-fn components_become_nodes_and_back(rt: HostRuntime) -> Result<(), Fail> {
-    let told = all_both(rt.alloc())?;
-    assert!(rt; told.as_str() == NODES && text_has_no_component());
-    Ok(())
+fn components_become_nodes_and_back(rt: HostRuntime) {
+    assert!(rt; are_told(rt.alloc(), &components(), NODES));
 }
 
 const NODES: &str = r#"
-Day(Day { padding: Space }) Some(Day(Day { padding: Space }))
-CalendarYearLastTwo(CalendarYearLastTwo { padding: Zero }) Some(CalendarYearLastTwo(CalendarYearLastTwo { padding: Zero }))
-MonthLong(MonthLong { case_sensitive: true }) Some(MonthLong(MonthLong { case_sensitive: true }))
-IsoYearLastTwo(IsoYearLastTwo { padding: Zero }) Some(IsoYearLastTwo(IsoYearLastTwo { padding: Zero }))
-End(End { trailing_input: Prohibit }) Some(End(End { trailing_input: Prohibit }))"#;
+Day(Day { padding: Space }) Day(Day { padding: Space })
+Year(Year { padding: Zero, repr: LastTwo, range: Extended, iso_week_based: false, sign_is_mandatory: false }) CalendarYearLastTwo(CalendarYearLastTwo { padding: Zero })
+MonthLong(MonthLong { case_sensitive: true }) MonthLong(MonthLong { case_sensitive: true })
+IsoYearLastTwo(IsoYearLastTwo { padding: Zero }) IsoYearLastTwo(IsoYearLastTwo { padding: Zero })"#;
 
-/// Writes the description of a node as it is shown, and its copy: the tree, and the bytes that it reserves.
-pub fn push_told(alloc: Global, node: Inner<'_>, told: &mut String) -> Result<(), Fail> {
-    let description = node.into_opaque().ok().ok_or("the bytes don't fit")?;
+// The tree of a description as it is shown, and the bytes that it reserves.
+fn told(alloc: Global, description: &Described<'_>) -> Result<String, AllocError> {
+    let (tree, bytes) = (description.inner(), description.max_bytes_needed());
+    format!(in alloc; "{tree:?}, {bytes}")
+}
+
+fn told_by_copy(alloc: Global, description: &Described<'_>) -> Result<String, AllocError> {
     let copy = description.to_owned(alloc)?;
-    let (tree, bytes) = (copy.inner(), copy.max_bytes_needed());
-    Ok(write!(told, "\n{description:?}, {tree:?}, {bytes}")?)
+    told(alloc, &copy)
 }
 
-// The bytes that a component reserves.
-fn bytes(component: Component) -> Option<usize> {
-    Some(
-        Inner::from(component)
-            .into_opaque()
-            .ok()?
-            .max_bytes_needed(),
-    )
+// What a copy of a node's description tells.
+fn copied(alloc: Global, node: Inner<'_>) -> Result<String, AllocError> {
+    match node.into_opaque() {
+        Ok(description) => told_by_copy(alloc, &description),
+        Err(_) => Ok(String::new(alloc)),
+    }
 }
 
-fn digits(digits: SubsecondDigits) -> Component {
-    Component::Subsecond(Subsecond { digits })
+fn copied_tree(alloc: Global, text: &str) -> Result<String, Fail> {
+    Ok(copied(alloc, tree_of(alloc, text)?)?)
 }
 
-fn unix(precision: UnixTimestampPrecision) -> Component {
-    Component::UnixTimestamp(UnixTimestamp::default().with_precision(precision))
-}
+// Text, an optional item, alternatives, and more nodes than a list begins with.
+const TREE: &str = "x[day][optional [y[day]]][first [z] [[day]]][day]x";
 
-fn year(repr: YearRepr) -> Component {
-    Component::Year(Year::default().with_repr(repr))
-}
-
-fn bytes_of_dates() -> [Option<usize>; 10] {
-    let narrow = CalendarYearFullStandardRange::default();
-    [
-        bytes(Component::Day(Day::default())),
-        bytes(Component::Ordinal(Ordinal::default())),
-        bytes(Component::MonthLong(MonthLong::default())),
-        bytes(Component::MonthShort(MonthShort::default())),
-        bytes(Component::WeekdayLong(WeekdayLong::default())),
-        bytes(Component::WeekdayMonday(WeekdayMonday::default())),
-        bytes(Component::Year(Year::default())),
-        bytes(Component::CalendarYearFullStandardRange(narrow)),
-        bytes(year(YearRepr::Century)),
-        bytes(year(YearRepr::LastTwo)),
-    ]
-}
-
-fn bytes_of_times() -> [Option<usize>; 8] {
-    [
-        bytes(Component::OffsetHour(OffsetHour::default())),
-        bytes(digits(SubsecondDigits::Three)),
-        bytes(digits(SubsecondDigits::OneOrMore)),
-        bytes(unix(UnixTimestampPrecision::Second)),
-        bytes(unix(UnixTimestampPrecision::Millisecond)),
-        bytes(unix(UnixTimestampPrecision::Microsecond)),
-        bytes(unix(UnixTimestampPrecision::Nanosecond)),
-        bytes(Component::End(End::default())),
-    ]
-}
-
-static OF_DATES: [usize; 10] = [2, 3, 9, 3, 9, 1, 7, 5, 5, 2];
-
-static OF_TIMES: [usize; 8] = [3, 3, 9, 15, 18, 21, 24, 0];
+// Nothing of the copy is borrowed.
+const COPIED: &str =
+    r#"OwnedCompound([OwnedLiteral("x"), Day(Day { padding: Zero }), OwnedOptional { format: true, item: OwnedCompound([OwnedLiteral("y"), Day(Day { padding: Zero })]) }, OwnedFirst([OwnedCompound([OwnedLiteral("z")]), OwnedCompound([Day(Day { padding: Zero })])]), Day(Day { padding: Zero }), OwnedLiteral("x")]), 11"#;
 
 #[test]
-fn components_reserve_their_longest_value(rt: HostRuntime) {
-    assert!(rt; bytes_of_dates() == OF_DATES.map(Some) && bytes_of_times() == OF_TIMES.map(Some));
-}
-
-fn lent_trees(alloc: Global) -> Result<String, Fail> {
-    let none = Lent { items: &[] };
-    let mut told = format!(in alloc; "\n{none:?}")?;
-    push_told(alloc, Inner::BorrowedLiteral("four"), &mut told)?;
-    push_told(alloc, Inner::BorrowedLiteral("x\n"), &mut told)?;
-    push_told(alloc, Inner::BorrowedCompound(none), &mut told)?;
-    push_told(alloc, Inner::BorrowedFirst(none), &mut told)?;
-    Ok(told)
-}
-
-const LENT: &str = r#"
-Lent { items: [] }
-FormatDescriptionV3 { inner: BorrowedLiteral("four"), max_bytes_needed: 4 }, OwnedLiteral("four"), 4
-FormatDescriptionV3 { inner: BorrowedLiteral("x\n"), max_bytes_needed: 2 }, OwnedLiteral("x\n"), 2
-FormatDescriptionV3 { inner: BorrowedCompound([]), max_bytes_needed: 0 }, OwnedCompound([]), 0
-FormatDescriptionV3 { inner: BorrowedFirst([]), max_bytes_needed: 0 }, OwnedFirst([]), 0"#;
-
-// An ordinal, a literal of four bytes, and an optional day.
-fn nodes(alloc: Global) -> Result<Vec<Inner<'static>>, AllocError> {
-    let four = String::from_str(alloc, "four")?;
-    let day = Box::new(alloc, Inner::Day(Day::default()))?;
-    let nodes = [
-        Inner::Ordinal(Ordinal::default()),
-        Inner::OwnedLiteral(four),
-        Inner::OwnedOptional {
-            format: true,
-            item: day,
-        },
-    ];
-    Vec::from_array(alloc, nodes).ok().ok_or(AllocError)
-}
-
-fn owned_trees(alloc: Global) -> Result<String, Fail> {
-    let mut told = String::new(alloc);
-    push_told(alloc, Inner::OwnedCompound(nodes(alloc)?), &mut told)?;
-    push_told(alloc, Inner::OwnedFirst(nodes(alloc)?), &mut told)?;
-    Ok(told)
-}
-
-#[test]
-fn trees(rt: HostRuntime) -> Result<(), Fail> {
-    let lent = lent_trees(rt.alloc())?;
-    let owned = owned_trees(rt.alloc())?;
-    assert!(rt; lent.as_str() == LENT && owned.as_str() == OWNED);
+fn copies(rt: HostRuntime) -> Result<(), Fail> {
+    let told = copied_tree(rt.alloc(), TREE)?;
+    assert!(rt; told.as_str() == COPIED);
     Ok(())
 }
 
-const OWNED: &str = r#"
-FormatDescriptionV3 { inner: OwnedCompound([Ordinal(Ordinal { padding: Zero }), OwnedLiteral("four"), OwnedOptional { format: true, item: Day(Day { padding: Zero }) }]), max_bytes_needed: 9 }, OwnedCompound([Ordinal(Ordinal { padding: Zero }), OwnedLiteral("four"), OwnedOptional { format: true, item: Day(Day { padding: Zero }) }]), 9
-FormatDescriptionV3 { inner: OwnedFirst([Ordinal(Ordinal { padding: Zero }), OwnedLiteral("four"), OwnedOptional { format: true, item: Day(Day { padding: Zero }) }]), max_bytes_needed: 4 }, OwnedFirst([Ordinal(Ordinal { padding: Zero }), OwnedLiteral("four"), OwnedOptional { format: true, item: Day(Day { padding: Zero }) }]), 4"#;
+// A list that is lent, as it is shown.
+fn lent(alloc: Global) -> Result<String, AllocError> {
+    let lent = Lent { items: &[] };
+    format!(in alloc; "{lent:?}")
+}
+
+#[test]
+fn copies_what_is_lent(rt: HostRuntime) -> Result<(), Fail> {
+    let lent = lent(rt.alloc())?;
+    assert!(rt; lent.as_str() == "Lent { items: [] }");
+    let copied = copied(rt.alloc(), Inner::BorrowedCompound(Lent { items: &[] }))?;
+    assert!(rt; copied.as_str() == "OwnedCompound([]), 0");
+    Ok(())
+}
