@@ -2,7 +2,7 @@
 
 use calendar::UtcOffset;
 use datetime_types::WallClock;
-use description::{Description, DescriptionVersion, parse_borrowed};
+use description::{Description, DescriptionVersion, parse_borrowed, parse_strftime_borrowed};
 use parsing_combinator::digit_chunk;
 use parsing_fields::{Fields, Fraction, Year, digit_pair, minute_of_day, signed_minutes};
 use parsing_places::{
@@ -204,23 +204,23 @@ fn numbers_of_a_named_shape(rt: HostRuntime) {
     assert!(rt; numbers == Some((1999, 31, 1439, 59, -210)));
 }
 
-fn plan_of(description: &Description) -> Option<Plan> {
-    match description {
-        Description::Items(items) => Plan::of_items(items),
-        Description::V3(tree) => Plan::of_description(tree),
-    }
+// What the plan of a list of items reads of a line.
+fn planned_by_items(alloc: Global, line: &[u8]) -> Option<(i64, u32)> {
+    let items = parse_strftime_borrowed(alloc, "%d/%b/%Y:%H:%M:%S %z").ok()?;
+    instant(Plan::of_items(&items)?.read(line, None))
 }
 
-// What the plan of a description in this version reads of a line.
-fn planned(alloc: Global, version: DescriptionVersion, line: &[u8]) -> Option<(i64, u32)> {
+// What the plan of a description of version 3 reads of a line.
+fn planned_by_tree(alloc: Global, line: &[u8]) -> Option<(i64, u32)> {
     let text = "[year]-[month]-[day] [hour]:[minute]:[second] UTC";
-    let description = parse_borrowed(alloc, version, text).ok()?;
-    instant(plan_of(&description)?.read(line, Some(UtcOffset::UTC)))
+    let Description::V3(tree) = parse_borrowed(alloc, DescriptionVersion::Three, text).ok()? else {
+        return None;
+    };
+    instant(Plan::of_description(&tree)?.read(line, Some(UtcOffset::UTC)))
 }
 
 #[test]
 fn plans(rt: HostRuntime) {
-    let line = b"2021-01-02 02:04:05 UTC";
-    assert!(rt; planned(rt.alloc(), DescriptionVersion::Two, line) == WHOLE);
-    assert!(rt; planned(rt.alloc(), DescriptionVersion::Three, line) == WHOLE);
+    assert!(rt; planned_by_items(rt.alloc(), b"02/Jan/2021:03:04:05 +0100") == WHOLE);
+    assert!(rt; planned_by_tree(rt.alloc(), b"2021-01-02 02:04:05 UTC") == WHOLE);
 }
