@@ -1,6 +1,6 @@
 -- The days that a month has in every year.
 use Rattle.std.proofs.Common.{◌≡◌, ℕ, ◌<◌, ◌≤◌, ◌==◌, ◌||◌, true, cond, get_or, refl, ℤ, arith}
-use Rattle.std.specs.Prelude.{◌&&◌, nat_le, nat_lt}
+use Rattle.std.specs.Prelude.{nat_le}
 use Rattle.std.proofs.lemmas.Bool.{agree_below_at}
 use Rattle.std.proofs.lemmas.Bool.Decides.{nat_tests}
 use Rattle.calendar_count.specs.Calendar.{days_in_month}
@@ -19,9 +19,3 @@ pub shortest_month : (y : ℤ) (m : ℕ) → m < 13 → get_or SHORTEST m 0 ≤ 
 shortest_month y m lt =
     let listed = at_most (get_or SHORTEST m 0) (shortest m) (agree_below_at (λ k. nat_le (get_or SHORTEST k 0) (shortest k)) (λ _. true) 13 m refl lt) in
     omega (arith, listed, in_every_year y m)
-
--- a number for which the table has days is that of a month
-pub is_month : (m : ℕ) → m < 64 → 0 < get_or SHORTEST m 0 → (1 ≤ m) × (m ≤ 12)
-is_month m lt some =
-    let listed : cond (nat_lt 0 (get_or SHORTEST m 0)) (nat_le 1 m && nat_le m 12) true ≡ true = agree_below_at (λ k. cond (nat_lt 0 (get_or SHORTEST k 0)) (nat_le 1 k && nat_le k 12) true) (λ _. true) 64 m refl lt in
-    (grind (arith, nat_tests, listed, some), grind (arith, nat_tests, listed, some))

@@ -36,28 +36,20 @@ pub struct Fields {
     ghost is_offset: { unsigned_abs offset ≤ 1559 },
 }
 
-// The days that each month has in every year, by its number. The other numbers are no months.
-static SHORTEST: [u8; 64] = [
-    0, 31, 28, 31, 30, 31, 30, 31, 31, 30, 31, 30, 31, 0, 0, 0, 0, 0, 0, 0, 0, 0, 0, 0, 0, 0, 0, 0,
-    0, 0, 0, 0, 0, 0, 0, 0, 0, 0, 0, 0, 0, 0, 0, 0, 0, 0, 0, 0, 0, 0, 0, 0, 0, 0, 0, 0, 0, 0, 0, 0,
-    0, 0, 0, 0,
-];
+// The days that each month has in every year, by its number.
+static SHORTEST: [u8; 13] = [0, 31, 28, 31, 30, 31, 30, 31, 31, 30, 31, 30, 31];
 
-/// Whether a year has the month and the day of it, both counted from 1.
+/// Whether a month of a year, by its number of at most 12, has the day, counted from 1.
 ///
 /// Only for 29 February, and for days that are not there, more than a table is asked.
 #[inline(always)]
 pub fn has_day(year: Year, month: u8, day: u8) -> bool
-    requires { month < 64 }
-    ensures { IsTrue result ↔ (1 ≤ month) × (month ≤ 12)
-        × IsInRange 1 (days_in_month (pos year) month) day }
+    requires { month ≤ 12 }
+    ensures { IsTrue result ↔ IsInRange 1 (days_in_month (pos year) month) day }
 {
     // (counted from 0 on, a day 0 is past all)
     if day.wrapping_sub(1) < SHORTEST[month as usize] {
         return true;
-    }
-    if month < 1 || month > 12 {
-        return false;
     }
     closed::has_day(i32::from(year.number()), month, day)
 }
@@ -107,7 +99,7 @@ impl Fields {
         ensures numbers { IfSome result
             (λ f. HaveNumbers f year month day minute second fraction offset) }
     {
-        if month >= 64 || !has_day(year, month, day) {
+        if month < 1 || month > 12 || !has_day(year, month, day) {
             return None;
         }
         if second >= 60 {

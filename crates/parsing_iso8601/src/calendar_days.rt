@@ -74,7 +74,7 @@ fn of_month(year: Year, month: u8, day: u8) -> Option<(u8, u8)>
     requires year { year ≤ 9999 }
     ensures { IfSome result (λ d. NamesDate Calendar year month day d.0 d.1) }
 {
-    if month >= 64 || !has_day(year, month, day) {
+    if month < 1 || month > 12 || !has_day(year, month, day) {
         return None;
     }
     Some((month, day))

@@ -58,7 +58,7 @@ impl Numbers {
         ensures { IfSome result (λ f. HaveNumbers f self.now.year month day self.now.minute
             self.now.second self.now.fraction self.now.offset) }
     {
-        if month >= 64 || !has_day(self.year, month, day) {
+        if month < 1 || month > 12 || !has_day(self.year, month, day) {
             return None;
         }
         Some(self.on(month, day))

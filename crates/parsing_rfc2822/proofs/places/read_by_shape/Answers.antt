@@ -21,10 +21,12 @@ has_day-requires c =
 pub of_numbers-requires : goal.of_numbers-requires
 of_numbers-requires c =
     let read = c.in_ok-year in
+    let month = c.in_ok-month.ensures in
+    let bound = month_bound month.month_is in
     let same : to_z w16 (of_z w16 read.offset) ≡ read.offset = omega (arith, ints) in
     let range = c.has_day.ensures.0 (search rules) in
     record {
-      day_is_there = (search (rules, read.ensures.year), range.0, range.1, range.2.0, range.2.1);
+      day_is_there = (search (rules, read.ensures.year), omega (arith, month.number_is, bound), omega (arith, month.number_is, bound), range.0, range.1);
       four_digits = read.ensures.year;
       within_a_day = read.ensures.minute;
       within_a_minute = read.ensures.second;
