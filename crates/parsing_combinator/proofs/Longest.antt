@@ -135,6 +135,21 @@ pub taken_exactly : (n : ℕ) (bytes : List ℕ) → taken (digits_between n n) 
 unfolding digits
 taken_exactly n bytes = taken_digits (digits_value 10) n n bytes (omega arith) ∙ exactly n (digit_count bytes) bytes
 
+one_or_two : (c : ℕ) (bytes : List ℕ) → cond (nat_le 1 c) (Some (run_of (digits_value 10) (min c 2) bytes)) None ≡ or_before (cond (nat_le 2 c) (Some (run_of (digits_value 10) 2 bytes)) None) (cond (nat_le 1 c) (Some (run_of (digits_value 10) 1 bytes)) None)
+one_or_two c bytes =
+    elim (cases_lt c 1) [
+      | inl none ↦ rw (le_false 1 c none, le_false 2 c (omega arith)) refl
+      | inr some ↦ elim (cases_lt c 2) [
+        | inl one ↦ let e : min c 2 ≡ 1 = omega arith in rw (le_true 1 c some, le_false 2 c one, e) refl
+        | inr two ↦ let e : min c 2 ≡ 2 = omega arith in rw (le_true 1 c some, le_true 2 c two, e) refl
+      ]
+    ]
+
+-- two digits where there are two, or else one
+pub taken_one_or_two : (bytes : List ℕ) → taken (digits_between 1 2) bytes ≡ or_before (digits 2 bytes) (digits 1 bytes)
+unfolding digits
+taken_one_or_two bytes = taken_digits (digits_value 10) 1 2 bytes (omega arith) ∙ one_or_two (digit_count bytes) bytes
+
 pub below_power : (x k m : ℕ) → x < 10 ^ k → k ≤ m → x < 10 ^ m
 below_power x k m lt le = omega (arith, pow-le-pow_right {n = 10} (lit< tt) {i = k} {j = m} le)
 

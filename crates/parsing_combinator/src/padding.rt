@@ -5,7 +5,7 @@ ghost use Rattle.parsing_combinator.specs.Shape as Shape;
 ghost use Rattle.parsing_combinator.specs.Numbers as Numbers;
 
 use crate::digits::{digits_between, spaced_between};
-use crate::{four_digits, two_digits};
+use crate::{four_digits, one_digit, two_digits};
 use description_date_modifiers::Padding;
 
 /// `n` to `m` digits with zeros, `n` to `m` bytes with spaces, 1 to `m` digits with neither.
@@ -21,6 +21,19 @@ pub fn padded(padding: Padding, n: usize, m: usize, bytes: &[u8]) -> Option<(u32
         Padding::Zero => digits_between(n, m, bytes),
         Padding::Space => spaced_between(n, m, bytes),
         Padding::None => digits_between(1, m, bytes),
+    }
+}
+
+// One digit or two, as many as there are.
+#[inline(always)]
+#[tactic(auto, using(crate::proofs::Longest::taken_one_or_two))]
+fn one_or_two_digits(bytes: &[u8]) -> Option<(u8, &[u8])>
+    ensures taken { Pieces.cut_view result ≡ Shape.taken (Shape.digits_between 1 2) bytes.now }
+    ensures bound { IfSome result (λ x. x.0 < 100) }
+{
+    match two_digits(bytes) {
+        Some(found) => Some(found),
+        None => one_digit(bytes),
     }
 }
 
@@ -43,6 +56,7 @@ pub fn padded_two(padding: Padding, bytes: &[u8]) -> Option<(u8, &[u8])>
 {
     match padding {
         Padding::Zero => two_digits(bytes),
+        Padding::None => one_or_two_digits(bytes),
         other => narrow(other, bytes),
     }
 }

@@ -136,7 +136,7 @@ impl Parsed {
 // The bytes after a literal of one byte: `None` says nothing of others.
 #[inline(always)]
 #[tactic(auto, unfolding(crate::specs::Meaning::literally))]
-fn after_byte<'a>(literal: &[u8], input: &'a [u8]) -> Option<&'a [u8]>
+pub(crate) fn after_byte<'a>(literal: &[u8], input: &'a [u8]) -> Option<&'a [u8]>
     ensures { IfSome result (λ rest. literally literal.now input.now ≡ Ok (tt, rest.now)) }
 {
     match (literal, input) {

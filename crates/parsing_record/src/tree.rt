@@ -1,9 +1,13 @@
 //! Reading by the nodes of a tree.
+ghost use Rattle.std.specs.Prelude.{◌≡◌, IfSome};
+ghost use Rattle.description_items.specs.Tree.{Part};
 ghost use Rattle.description_tree.specs.Description.{v3_tree};
+ghost use Rattle.description_tree.specs.Inner.{inner_tree};
 ghost use Rattle.parsing_components.specs.Component.{reads_component_v3};
 ghost use Rattle.parsing_record.specs.Meaning.{Reads};
 ghost use Rattle.parsing_record.specs.Reads.{putting, reading, tried};
 
+use crate::items::after_byte;
 use crate::node::{Node, NodeStep};
 use crate::parsed::Parsed;
 use crate::reading::read_node;
@@ -11,6 +15,7 @@ use crate::tally::Tally;
 use description_items::Component;
 use description_tree::{FormatDescriptionV3, FormatDescriptionV3Inner as Inner};
 use parsing_combinator::ParseFromDescription;
+use parsing_components::read_usual;
 
 /// Reads by the description into the record, tells the tally of each node that is begun, and returns the bytes after
 /// what was read.
@@ -31,6 +36,28 @@ pub fn parse_tree<'a, T: Tally>(
         *parsed = before;
     }
     answer
+}
+
+// The component of a node, where most descriptions have it.
+#[inline(always)]
+fn usual_component(node: &Inner<'_>) -> Option<Component>
+    ensures { IfSome result (λ component. inner_tree node.now ≡ Part component) }
+{
+    let component = match node {
+        Inner::Day(m) => Component::Day(*m),
+        Inner::MonthShort(m) => Component::MonthShort(*m),
+        Inner::MonthNumerical(m) => Component::MonthNumerical(*m),
+        Inner::WeekdayShort(m) => Component::WeekdayShort(*m),
+        Inner::CalendarYearFullExtendedRange(m) => Component::CalendarYearFullExtendedRange(*m),
+        Inner::CalendarYearFullStandardRange(m) => Component::CalendarYearFullStandardRange(*m),
+        Inner::Hour24(m) => Component::Hour24(*m),
+        Inner::Minute(m) => Component::Minute(*m),
+        Inner::Second(m) => Component::Second(*m),
+        Inner::OffsetHour(m) => Component::OffsetHour(*m),
+        Inner::OffsetMinute(m) => Component::OffsetMinute(*m),
+        _ => return None,
+    };
+    Some(component)
 }
 
 impl Node for Inner<'_> {
@@ -73,7 +100,12 @@ impl Node for Inner<'_> {
     }
 
     #[inline(always)]
-    fn read_fast<'a>(&self, _: &'a [u8], _: &mut Parsed) -> Option<&'a [u8]> {
-        None
+    #[tactic(auto, unfolding(crate::specs::Reads::reads))]
+    fn read_fast<'a>(&self, input: &'a [u8], parsed: &mut Parsed) -> Option<&'a [u8]> {
+        if let Inner::BorrowedLiteral(text) = self {
+            return after_byte(text.as_bytes(), input);
+        }
+        let component = usual_component(self)?;
+        read_usual(&component, input, &mut parsed.fields)
     }
 }
