@@ -23,7 +23,7 @@ static CASES: [(SourceText<'static>, &[u8], Told); 20] = [
     (SourceText::Rfc3339, b"1970-01-01T00:00:01Z", ONE),
     (SourceText::Rfc3339, b"01 Jan 1970 00:00:01 Z", RULED_OUT),
     (SourceText::Rfc3339, b"1970-01-01", NONE),
-    (SourceText::Rfc2822, b"01 Jan 1970 00:00:01 Z", ONE),
+    (SourceText::Rfc2822, b"01 Jan 1970 00:00:01 Z", LATER),
     (SourceText::Rfc2822, b"1 Jan 1970 00:00:01 GMT", ONE),
     (SourceText::Rfc2822, b"01/Jan/1970:00:00:01 Z", RULED_OUT),
     (SourceText::Rfc2822, b"1/2", RULED_OUT),

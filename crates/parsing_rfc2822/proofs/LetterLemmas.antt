@@ -1,5 +1,5 @@
 -- Names that tables hold as numbers of four bytes.
-use Rattle.std.proofs.Common.{◌≡◌, ◌≤◌, ◌<◌, ◌+◌, ◌-◌, ◌*◌, ◌%◌, ◌^◌, ◌∙◌, ℕ, zero, suc, true, List, [], ◌∷◌, length, get_or, leb, eqb, Some, refl, arith, lit<, lit≤}
+use Rattle.std.proofs.Common.{◌≡◌, ◌≤◌, ◌<◌, ◌+◌, ◌*◌, ◌^◌, ◌∙◌, ℕ, zero, suc, true, List, [], ◌∷◌, length, get_or, leb, eqb, Some, refl, arith, lit<}
 use Rattle.std.specs.Int.Bits.{bit_or}
 use Rattle.std.proofs.lemmas.Bool.{agree_below_at, eqb-true}
 use Rattle.std.proofs.lemmas.Bool.Decides.{nat_tests}
@@ -94,7 +94,11 @@ weekday_there (a ∷ b ∷ c ∷ rest) place le fit lt e space =
 
 -- the table
 abbrev pub months : List ℕ
-months = 0 ∷ 1_952_673_578 ∷ 1_650_812_450 ∷ 0 ∷ 1_667_589_164 ∷ 1_819_634_215 ∷ 1_987_014_187 ∷ 1_851_877_921 ∷ 1_853_188_646 ∷ 0 ∷ 2_036_428_069 ∷ 1_885_696_809 ∷ 1_735_745_832 ∷ 0 ∷ 1_918_987_555 ∷ 1_919_967_524 ∷ []
+months = 0 ∷ 1_952_673_568 ∷ 1_650_812_448 ∷ 0 ∷ 1_667_589_152 ∷ 1_819_634_208 ∷ 1_987_014_176 ∷ 1_851_877_920 ∷ 1_853_188_640 ∷ 0 ∷ 2_036_428_064 ∷ 1_885_696_800 ∷ 1_735_745_824 ∷ 0 ∷ 1_918_987_552 ∷ 1_919_967_520 ∷ []
+
+-- and that of their numbers
+abbrev pub numbers : List ℕ
+numbers = 0 ∷ 10 ∷ 2 ∷ 0 ∷ 12 ∷ 7 ∷ 11 ∷ 1 ∷ 6 ∷ 0 ∷ 5 ∷ 9 ∷ 8 ∷ 0 ∷ 3 ∷ 4 ∷ []
 
 -- a name and the number of its month
 record OfYear (a b c number : ℕ) : Type 0 where
@@ -102,61 +106,48 @@ record OfYear (a b c number : ℕ) : Type 0 where
   named : month_of (a ∷ b ∷ c ∷ []) ≡ Some month
   number_is : month_number month ≡ number
 
--- the number that the letters leave of an entry of the table
-abbrev left : ℕ → ℕ → ℕ → ℕ → ℕ
-left entry a b c = (entry + (2 ^ 32 - (32 + small a * 256 + small b * 65_536 + small c * 16_777_216))) % 2 ^ 32
+-- a space and the letters in one number
+abbrev after_space : ℕ → ℕ → ℕ → ℕ
+after_space a b c = 32 + small a * 256 + small b * 65_536 + small c * 16_777_216
 
-month_of_entry : (a b c x y z number : ℕ) (m : Month) → a < 256 → b < 256 → c < 256 → x < 256 → y < 256 → z < 256 → month_number m ≤ 12 → left (32 + month_number m + x * 256 + y * 65_536 + z * 16_777_216) a b c ≡ number → 1 ≤ number → number ≤ 12 → month_at (x * 65_536 + y * 256 + z) ≡ Some m → OfYear a b c number
+month_of_entry : (a b c x y z : ℕ) (m : Month) → a < 256 → b < 256 → c < 256 → x < 256 → y < 256 → z < 256 → 32 + x * 256 + y * 65_536 + z * 16_777_216 ≡ after_space a b c → month_at (x * 65_536 + y * 256 + z) ≡ Some m → OfYear a b c (month_number m)
 unfolding word_of
-month_of_entry a b c x y z number m ha hb hc hx hy hz most e low high is =
+month_of_entry a b c x y z m ha hb hc hx hy hz e is =
     let fa = small_fits a ha in
     let fb = small_fits b hb in
     let fc = small_fits c hc in
-    let whole : 32 + month_number m + x * 256 + y * 65_536 + z * 16_777_216 ≡ number + (32 + small a * 256 + small b * 65_536 + small c * 16_777_216) = omega arith in
-    let same : month_number m ≡ number = omega arith in
     let l : Letters a b c x y z = record { first = omega arith; second = omega arith; third = omega arith } in
-    record {
-      month = m;
-      named = month_by_word (a ∷ b ∷ c ∷ []) refl (three_fit a b c ha hb hc) ∙ rw (l.first, l.second, l.third) is;
-      number_is = same;
-    }
+    record { month = m; named = month_by_word (a ∷ b ∷ c ∷ []) refl (three_fit a b c ha hb hc) ∙ rw (l.first, l.second, l.third) is; number_is = refl }
 
-no_entry : (a b c number : ℕ) → a < 256 → b < 256 → c < 256 → left 0 a b c ≡ number → 1 ≤ number → number ≤ 12 → ⊥
-no_entry a b c number ha hb hc e low high =
-    let fa = small_fits a ha in
-    let fb = small_fits b hb in
-    let fc = small_fits c hc in
-    omega arith
+month_in : (place a b c : ℕ) → place < 16 → a < 256 → b < 256 → c < 256 → get_or months place 0 ≡ after_space a b c → OfYear a b c (get_or numbers place 0)
+month_in zero a b c lt ha hb hc e = absurd (omega arith)
+month_in (suc zero) a b c lt ha hb hc e = month_of_entry a b c 111 99 116 October ha hb hc (lit< tt) (lit< tt) (lit< tt) e refl
+month_in (suc (suc zero)) a b c lt ha hb hc e = month_of_entry a b c 102 101 98 February ha hb hc (lit< tt) (lit< tt) (lit< tt) e refl
+month_in (suc (suc (suc zero))) a b c lt ha hb hc e = absurd (omega arith)
+month_in (suc (suc (suc (suc zero)))) a b c lt ha hb hc e = month_of_entry a b c 100 101 99 December ha hb hc (lit< tt) (lit< tt) (lit< tt) e refl
+month_in (suc (suc (suc (suc (suc zero))))) a b c lt ha hb hc e = month_of_entry a b c 106 117 108 July ha hb hc (lit< tt) (lit< tt) (lit< tt) e refl
+month_in (suc (suc (suc (suc (suc (suc zero)))))) a b c lt ha hb hc e = month_of_entry a b c 110 111 118 November ha hb hc (lit< tt) (lit< tt) (lit< tt) e refl
+month_in (suc (suc (suc (suc (suc (suc (suc zero))))))) a b c lt ha hb hc e = month_of_entry a b c 106 97 110 January ha hb hc (lit< tt) (lit< tt) (lit< tt) e refl
+month_in (suc (suc (suc (suc (suc (suc (suc (suc zero)))))))) a b c lt ha hb hc e = month_of_entry a b c 106 117 110 June ha hb hc (lit< tt) (lit< tt) (lit< tt) e refl
+month_in (suc (suc (suc (suc (suc (suc (suc (suc (suc zero))))))))) a b c lt ha hb hc e = absurd (omega arith)
+month_in (suc (suc (suc (suc (suc (suc (suc (suc (suc (suc zero)))))))))) a b c lt ha hb hc e = month_of_entry a b c 109 97 121 May ha hb hc (lit< tt) (lit< tt) (lit< tt) e refl
+month_in (suc (suc (suc (suc (suc (suc (suc (suc (suc (suc (suc zero))))))))))) a b c lt ha hb hc e = month_of_entry a b c 115 101 112 September ha hb hc (lit< tt) (lit< tt) (lit< tt) e refl
+month_in (suc (suc (suc (suc (suc (suc (suc (suc (suc (suc (suc (suc zero)))))))))))) a b c lt ha hb hc e = month_of_entry a b c 97 117 103 August ha hb hc (lit< tt) (lit< tt) (lit< tt) e refl
+month_in (suc (suc (suc (suc (suc (suc (suc (suc (suc (suc (suc (suc (suc zero))))))))))))) a b c lt ha hb hc e = absurd (omega arith)
+month_in (suc (suc (suc (suc (suc (suc (suc (suc (suc (suc (suc (suc (suc (suc zero)))))))))))))) a b c lt ha hb hc e = month_of_entry a b c 109 97 114 March ha hb hc (lit< tt) (lit< tt) (lit< tt) e refl
+month_in (suc (suc (suc (suc (suc (suc (suc (suc (suc (suc (suc (suc (suc (suc (suc zero))))))))))))))) a b c lt ha hb hc e = month_of_entry a b c 97 112 114 April ha hb hc (lit< tt) (lit< tt) (lit< tt) e refl
+month_in (suc (suc (suc (suc (suc (suc (suc (suc (suc (suc (suc (suc (suc (suc (suc (suc k)))))))))))))))) a b c lt ha hb hc e = absurd (omega arith)
 
-month_in : (place a b c number : ℕ) → place < 16 → a < 256 → b < 256 → c < 256 → left (get_or months place 0) a b c ≡ number → 1 ≤ number → number ≤ 12 → OfYear a b c number
-month_in zero a b c number lt ha hb hc e low high = absurd (no_entry a b c number ha hb hc e low high)
-month_in (suc zero) a b c number lt ha hb hc e low high = month_of_entry a b c 111 99 116 number October ha hb hc (lit< tt) (lit< tt) (lit< tt) (lit≤ tt) e low high refl
-month_in (suc (suc zero)) a b c number lt ha hb hc e low high = month_of_entry a b c 102 101 98 number February ha hb hc (lit< tt) (lit< tt) (lit< tt) (lit≤ tt) e low high refl
-month_in (suc (suc (suc zero))) a b c number lt ha hb hc e low high = absurd (no_entry a b c number ha hb hc e low high)
-month_in (suc (suc (suc (suc zero)))) a b c number lt ha hb hc e low high = month_of_entry a b c 100 101 99 number December ha hb hc (lit< tt) (lit< tt) (lit< tt) (lit≤ tt) e low high refl
-month_in (suc (suc (suc (suc (suc zero))))) a b c number lt ha hb hc e low high = month_of_entry a b c 106 117 108 number July ha hb hc (lit< tt) (lit< tt) (lit< tt) (lit≤ tt) e low high refl
-month_in (suc (suc (suc (suc (suc (suc zero)))))) a b c number lt ha hb hc e low high = month_of_entry a b c 110 111 118 number November ha hb hc (lit< tt) (lit< tt) (lit< tt) (lit≤ tt) e low high refl
-month_in (suc (suc (suc (suc (suc (suc (suc zero))))))) a b c number lt ha hb hc e low high = month_of_entry a b c 106 97 110 number January ha hb hc (lit< tt) (lit< tt) (lit< tt) (lit≤ tt) e low high refl
-month_in (suc (suc (suc (suc (suc (suc (suc (suc zero)))))))) a b c number lt ha hb hc e low high = month_of_entry a b c 106 117 110 number June ha hb hc (lit< tt) (lit< tt) (lit< tt) (lit≤ tt) e low high refl
-month_in (suc (suc (suc (suc (suc (suc (suc (suc (suc zero))))))))) a b c number lt ha hb hc e low high = absurd (no_entry a b c number ha hb hc e low high)
-month_in (suc (suc (suc (suc (suc (suc (suc (suc (suc (suc zero)))))))))) a b c number lt ha hb hc e low high = month_of_entry a b c 109 97 121 number May ha hb hc (lit< tt) (lit< tt) (lit< tt) (lit≤ tt) e low high refl
-month_in (suc (suc (suc (suc (suc (suc (suc (suc (suc (suc (suc zero))))))))))) a b c number lt ha hb hc e low high = month_of_entry a b c 115 101 112 number September ha hb hc (lit< tt) (lit< tt) (lit< tt) (lit≤ tt) e low high refl
-month_in (suc (suc (suc (suc (suc (suc (suc (suc (suc (suc (suc (suc zero)))))))))))) a b c number lt ha hb hc e low high = month_of_entry a b c 97 117 103 number August ha hb hc (lit< tt) (lit< tt) (lit< tt) (lit≤ tt) e low high refl
-month_in (suc (suc (suc (suc (suc (suc (suc (suc (suc (suc (suc (suc (suc zero))))))))))))) a b c number lt ha hb hc e low high = absurd (no_entry a b c number ha hb hc e low high)
-month_in (suc (suc (suc (suc (suc (suc (suc (suc (suc (suc (suc (suc (suc (suc zero)))))))))))))) a b c number lt ha hb hc e low high = month_of_entry a b c 109 97 114 number March ha hb hc (lit< tt) (lit< tt) (lit< tt) (lit≤ tt) e low high refl
-month_in (suc (suc (suc (suc (suc (suc (suc (suc (suc (suc (suc (suc (suc (suc (suc zero))))))))))))))) a b c number lt ha hb hc e low high = month_of_entry a b c 97 112 114 number April ha hb hc (lit< tt) (lit< tt) (lit< tt) (lit≤ tt) e low high refl
-month_in (suc (suc (suc (suc (suc (suc (suc (suc (suc (suc (suc (suc (suc (suc (suc (suc k)))))))))))))))) a b c number lt ha hb hc e low high = absurd (omega arith)
-
--- what a number says that the letters leave of an entry
-pub month_there : (text : List ℕ) (place number : ℕ) → 4 ≤ length text → ((k : ℕ) → get_or text k 0 < 256) → place < 16 → get_or text 0 0 ≡ 32 → (get_or months place 0 + (2 ^ 32 - bit_or (number_of_four text) 538_976_256)) % 2 ^ 32 ≡ number → 1 ≤ number → number ≤ 12 → HasMonth text number
+-- what a number found in the table says
+pub month_there : (text : List ℕ) (place : ℕ) → 4 ≤ length text → ((k : ℕ) → get_or text k 0 < 256) → place < 16 → get_or text 0 0 ≡ 32 → get_or months place 0 ≡ bit_or (number_of_four text) 538_976_256 → HasMonth text (get_or numbers place 0)
 unfolding month
-month_there [] place number le fit lt space e low high = absurd (omega arith)
-month_there (s ∷ []) place number le fit lt space e low high = absurd (omega arith)
-month_there (s ∷ a ∷ []) place number le fit lt space e low high = absurd (omega arith)
-month_there (s ∷ a ∷ b ∷ []) place number le fit lt space e low high = absurd (omega arith)
-month_there (s ∷ a ∷ b ∷ c ∷ rest) place number le fit lt space e low high =
+month_there [] place le fit lt space e = absurd (omega arith)
+month_there (s ∷ []) place le fit lt space e = absurd (omega arith)
+month_there (s ∷ a ∷ []) place le fit lt space e = absurd (omega arith)
+month_there (s ∷ a ∷ b ∷ []) place le fit lt space e = absurd (omega arith)
+month_there (s ∷ a ∷ b ∷ c ∷ rest) place le fit lt space e =
     let bits = bits_of_four s a b c 0 32 32 32 (fit 0) (fit 1) (fit 2) (lit< tt) (lit< tt) (lit< tt) in
-    let word : bit_or (number_of_four (s ∷ a ∷ b ∷ c ∷ rest)) 538_976_256 ≡ 32 + small a * 256 + small b * 65_536 + small c * 16_777_216 = omega (arith, bits, no_bits s (fit 0)) in
-    let m = month_in place a b c number lt (fit 1) (fit 2) (fit 3) (rw word at e) low high in
+    let word : bit_or (number_of_four (s ∷ a ∷ b ∷ c ∷ rest)) 538_976_256 ≡ after_space a b c = omega (arith, bits, no_bits s (fit 0)) in
+    let m = month_in place a b c lt (fit 1) (fit 2) (fit 3) (e ∙ word) in
     let long : leb 3 (length (a ∷ b ∷ c ∷ rest)) ≡ true = grind (arith, nat_tests) in
     record { month_is = m.month; named = rw (long, m.named) refl; number_is = m.number_is }

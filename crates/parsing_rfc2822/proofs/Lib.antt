@@ -1,3 +1,4 @@
+mod CommentLemmas
 pub mod LetterLemmas
 pub mod PlaceLemmas
 mod ShapeLemmas

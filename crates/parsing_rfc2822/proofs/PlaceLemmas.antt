@@ -1,23 +1,23 @@
 -- What stands at the places of a text, and what is read of it.
-use Rattle.std.proofs.Common.{◌≡◌, ◌≤◌, ◌<◌, ◌+◌, ◌-◌, ◌*◌, ◌∙◌, ◌==◌, ◌||◌, ℕ, inl, inr, Bool, true, false, List, [], ◌∷◌, length, get_or, take, drop, eqb, leb, Option, Some, None, Ok, refl, ap, arith, lit<, ℤ, pos}
-use Rattle.std.specs.Prelude.{◌*ℤ◌, IfSome, IsTrue}
+use Rattle.std.proofs.Common.{◌≡◌, ◌≤◌, ◌<◌, ◌+◌, ◌-◌, ◌*◌, ◌∙◌, ◌==◌, ◌||◌, ℕ, inl, inr, Bool, true, false, List, [], ◌∷◌, length, get_or, drop, eqb, leb, Option, Some, None, Ok, refl, ap, arith, lit<, ℤ, pos}
+use Rattle.std.specs.Prelude.{◌*ℤ◌, ◌&&◌, nat_lt, if◌then◌else◌, IsTrue}
 use Rattle.std.specs.Option.{unwrap_or}
 use Rattle.std.specs.Char.{to_ascii_lowercase}
 use Rattle.std.proofs.lemmas.Bool.{cases_lt}
 use Rattle.std.proofs.lemmas.Bool.Decides.{nat_tests}
-use Rattle.std.proofs.lemmas.List.{drop-drop, drop_all, drop_more, get_or-drop, get_or-take, length-drop, take_all, take_rest}
-use Rattle.base.specs.Bytes.{colon, hyphen, plus}
+use Rattle.std.proofs.lemmas.List.{drop-drop, drop_all, drop_more, get_or-drop, length-drop, take_all, take_rest}
+use Rattle.base.specs.Bytes.{space, colon, hyphen, plus}
 use Rattle.calendar.specs.Time.{time_of}
 use Rattle.calendar_count.specs.Month.{month_number}
 use Rattle.calendar_count.specs.declared.month.Month.{Month}
 use Rattle.calendar_count.specs.declared.weekday.Weekday.{Weekday}
 use Rattle.datetime_wall.specs.Wall.{wall_clock}
 use Rattle.parsing_combinator.specs.Chunks.{IsClock}
-use Rattle.parsing_combinator.specs.Places.{IsBetween, LieBetween, HasDigit, HasPair}
+use Rattle.parsing_combinator.specs.Places.{HasDigit, HasPair, HasClock}
 use Rattle.parsing_combinator.specs.Pieces.{digits, byte, byte_of, sign}
 use Rattle.parsing_combinator.specs.declared.zone.Zone.{Zone}
-use Rattle.parsing_combinator.proofs.Fixed.{digits_one, digits_two}
-use Rattle.parsing_combinator.proofs.AtPlaces.{is_digit, at_least, first_at, two_there, byte_there, sign_there, digit_between}
+use Rattle.parsing_combinator.proofs.Fixed.{some_if, digits_one, digits_two, digits_four}
+use Rattle.parsing_combinator.proofs.AtPlaces.{is_digit, at_least, first_at, two_there, byte_there, sign_there}
 use Rattle.parsing_values.specs.Resolution.{date_of, permitted_time_of, signed_offset_of}
 use Rattle.parsing_values.specs.StandIn.{leap_checked}
 use Rattle.parsing_fields.specs.declared.fields.Fields.{Fields}
@@ -25,12 +25,12 @@ use Rattle.parsing_fields.specs.Moment as Moment
 use Rattle.parsing_fields.specs.Moment.{day_of_fields, time_of_fields}
 use Rattle.parsing_fields.specs.Numbers.{HaveNumbers}
 use Rattle.parsing_fields.proofs.lemmas.Moments.{fields_date, fields_time, moment_is}
-use Rattle.parsing_rfc2822.specs.Skips.{rest_or, byte_where}
+use Rattle.parsing_rfc2822.specs.Skips.{rest_or, optional, byte_where}
 use Rattle.parsing_rfc2822.specs.WhiteSpace.{comments_and_white_space, folding_white_space}
-use Rattle.parsing_rfc2822.proofs.WhiteSpaceLemmas.{none_at, none_of_nothing, none_there, one_space_there, folding_space_there}
+use Rattle.parsing_rfc2822.proofs.WhiteSpaceLemmas.{none_at, none_of_nothing, none_there, one_space_there, two_spaces_there, folding_space_there}
 use Rattle.parsing_rfc2822.specs.Names.{weekday, weekday_of, month, zone_of, zone_name}
-use Rattle.parsing_rfc2822.specs.Places.{HasWeekday, HasMonth, HasShape, HasOffset, HasName, BeginsDay, IsPrefix, ReadsMonth, ReadsZone}
-use Rattle.parsing_rfc2822.specs.Reading.{comma, spaced_colon, one_or_two_digits, named_day, optional_weekday, day, full_year, year, month_and_year, hour_and_minute, due_second, second, clock, signed_zone, named_zone, zone, spaced_zone, rfc2822}
+use Rattle.parsing_rfc2822.specs.Places.{HasWeekday, HasMonth, HasDate, HasShape, HasNoSecond, HasShortYear, HasOffset, HasName, BeginsDay, IsPrefix, ReadsMonth, ReadsClock, ReadsZone, SaysFields}
+use Rattle.parsing_rfc2822.specs.Reading.{comma, spaced_colon, one_or_two_digits, named_day, optional_weekday, day, full_year, short_year, year, month_and_year, hour_and_minute, due_second, second, clock, signed_zone, named_zone, zone, spaced_zone, rfc2822}
 use Rattle.parsing_rfc2822.specs.declared.parts.Rfc2822Parts.{Rfc2822Parts}
 use Rattle.parsing_rfc2822.specs.Direct.{direct, moment, moment_of}
 
@@ -51,6 +51,13 @@ two_read : (date : List ℕ) (n : ℕ) (rest : List ℕ) → digits 2 date ≡ S
 unfolding one_or_two_digits
 two_read date n rest e = rw e refl
 
+pub nothing_left : optional comments_and_white_space [] ≡ []
+nothing_left = rw none_of_nothing refl
+
+no_two : (enough : Bool) (n : ℕ) (rest : List ℕ) → some_if (enough && false) n rest ≡ None
+no_two true n rest = refl
+no_two false n rest = refl
+
 -- a space before a byte that neither goes on nor opens a comment
 space_at : (text : List ℕ) (place : ℕ) → place + 2 ≤ length text → get_or text place 0 ≡ 32 → 41 ≤ get_or text (place + 1) 0 → comments_and_white_space (drop place text) ≡ Some (drop (place + 1) text)
 space_at text place room is next =
@@ -62,6 +69,9 @@ folding_at text place room is next =
     let e = folding_space_there (drop place text) (omega (arith, length-drop place text)) (first_at text place ∙ is) (omega (arith, get_or-drop place text 1 0)) in
     e ∙ ap (λ (t : List ℕ). Some t) (take_rest (drop place text) 1 ∙ drop-drop 1 place text)
 
+least_sign : (c : ℕ) → ((c == plus) || (c == hyphen)) ≡ true → 41 ≤ c
+least_sign c sign = grind (arith, nat_tests)
+
 -- a colon before a digit
 colon_at : (bytes : List ℕ) (place : ℕ) → place + 2 ≤ length bytes → get_or bytes place 0 ≡ colon → 41 ≤ get_or bytes (place + 1) 0 → spaced_colon (drop place bytes) ≡ Some (drop (place + 1) bytes)
 unfolding spaced_colon byte_where
@@ -69,51 +79,6 @@ colon_at bytes place room is next =
     let rest : List ℕ = drop (place + 1) bytes in
     let free = none_there rest (omega (arith, length-drop (place + 1) bytes)) (omega (arith, first_at bytes (place + 1), next)) in
     rw (drop_more bytes place 0 (omega arith), is, none_at colon rest (omega arith)) (ap (λ o. Some (rest_or o rest)) free)
-
--- ---- the bytes from the last digit of the day on
-
-abbrev pub lowest_named : List ℕ
-lowest_named = 48 ∷ 32 ∷ 65 ∷ 65 ∷ 65 ∷ 32 ∷ 49 ∷ 48 ∷ 48 ∷ 48 ∷ 32 ∷ 48 ∷ 48 ∷ 58 ∷ 48 ∷ 48 ∷ 58 ∷ 48 ∷ 48 ∷ 32 ∷ 65 ∷ 65 ∷ 65 ∷ []
-
-abbrev pub highest_named : List ℕ
-highest_named = 57 ∷ 32 ∷ 122 ∷ 122 ∷ 122 ∷ 32 ∷ 57 ∷ 57 ∷ 57 ∷ 57 ∷ 32 ∷ 50 ∷ 57 ∷ 58 ∷ 53 ∷ 57 ∷ 58 ∷ 53 ∷ 57 ∷ 32 ∷ 122 ∷ 122 ∷ 122 ∷ []
-
--- bounds of a text are bounds of its prefix
-of_prefix : (low high text : List ℕ) (k : ℕ) → k < 20 → IsBetween low high text k → IsBetween (take 20 low) (take 20 high) text k
-of_prefix low high text k lt h = rw (get_or-take 20 low k 0 lt, get_or-take 20 high k 0 lt) h
-
-pair_of : (text : List ℕ) (place a b c d : ℕ) → place + 2 ≤ length text → 48 ≤ a → b ≤ 57 → 48 ≤ c → d ≤ 57 → (a ≤ get_or text place 0) × (get_or text place 0 ≤ b) → (c ≤ get_or text (place + 1) 0) × (get_or text (place + 1) 0 ≤ d) → HasPair text place
-pair_of text place a b c d room la hb lc hd first second =
-    record { room = room; first = digit_between text place a b la hb first; second = digit_between text (place + 1) c d lc hd second }
-
-shape_by : (text : List ℕ) → 23 ≤ length text → ((k : ℕ) → k < 20 → IsBetween (take 20 lowest_named) (take 20 highest_named) text k) → HasShape text
-shape_by text room at =
-    record {
-      room = room;
-      last_of_day = let d = at 0 (lit< tt) in record { low = d.0; high = d.1 };
-      before_month = omega (arith, at 1 (lit< tt));
-      letter = omega (arith, at 2 (lit< tt));
-      before_year = omega (arith, at 5 (lit< tt));
-      century = pair_of text 6 49 57 48 57 (omega arith) (omega arith) (omega arith) (omega arith) (omega arith) (at 6 (lit< tt)) (at 7 (lit< tt));
-      last_two = pair_of text 8 48 57 48 57 (omega arith) (omega arith) (omega arith) (omega arith) (omega arith) (at 8 (lit< tt)) (at 9 (lit< tt));
-      before_clock = omega (arith, at 10 (lit< tt));
-      clock = record {
-        hour = pair_of text 11 48 50 48 57 (omega arith) (omega arith) (omega arith) (omega arith) (omega arith) (at 11 (lit< tt)) (at 12 (lit< tt));
-        first_colon = omega (arith, at 13 (lit< tt));
-        minute = pair_of text 14 48 53 48 57 (omega arith) (omega arith) (omega arith) (omega arith) (omega arith) (at 14 (lit< tt)) (at 15 (lit< tt));
-        second_colon = omega (arith, at 16 (lit< tt));
-        second = pair_of text 17 48 53 48 57 (omega arith) (omega arith) (omega arith) (omega arith) (omega arith) (at 17 (lit< tt)) (at 18 (lit< tt));
-      };
-      before_zone = omega (arith, at 19 (lit< tt));
-    }
-
-pub shape_with_name : (text : List ℕ) → length text ≡ 23 → LieBetween lowest_named highest_named text → HasShape text
-shape_with_name text long within = shape_by text (omega arith) (λ k lt. of_prefix lowest_named highest_named text k lt (within k (omega arith)))
-
-pub name_there : (text : List ℕ) → length text ≡ 23 → LieBetween lowest_named highest_named text → HasName text
-name_there text long within =
-    let first = within 20 (omega arith) in
-    record { long = long; letter = first.0 }
 
 -- ---- the day
 
@@ -129,6 +94,17 @@ begins_after input long w =
       reads = λ number rest h e.
           day_reads input (drop 3 input) (drop 4 input) (drop 5 input) rest w.weekday_is number (none_there input (omega arith) (omega (arith, w.letter))) w.named (byte_there input 3 comma (omega arith) w.comma_there)
           (space_at input 4 (omega arith) w.space_there (omega (arith, first_at input 5, h.low))) e;
+    }
+
+-- .. and after a weekday and one more space
+pub begins_later : (input : List ℕ) → 7 ≤ length input → HasWeekday input → get_or input 5 0 ≡ 32 → BeginsDay input (drop 6 input)
+begins_later input long w more =
+    record {
+      weekday_is = Some w.weekday_is;
+      reads = λ number rest h e.
+          let spaces = two_spaces_there (drop 4 input) (omega (arith, length-drop 4 input)) (first_at input 4 ∙ w.space_there) (get_or-drop 4 input 1 0 ∙ more) (omega (arith, get_or-drop 4 input 2 0, first_at input 6, h.low)) in
+          day_reads input (drop 3 input) (drop 4 input) (drop 6 input) rest w.weekday_is number (none_there input (omega arith) (omega (arith, w.letter))) w.named (byte_there input 3 comma (omega arith) w.comma_there)
+          (spaces ∙ ap (λ (t : List ℕ). Some t) (drop-drop 2 4 input)) e;
     }
 
 no_name : (c d e : ℕ) → c ≤ 57 → weekday_of (c ∷ d ∷ e ∷ []) ≡ None
@@ -196,55 +172,106 @@ month_reads : (b0 b1 b2 b3 b4 b5 : List ℕ) (m : Month) (y : ℕ) → comments_
 unfolding month_and_year year full_year
 month_reads b0 b1 b2 b3 b4 b5 m y e0 e1 e2 e3 e4 e5 = rw (e0, e1, e2, e3, e4, e5) refl
 
-pub month_there_read : (text : List ℕ) (number year : ℕ) → HasShape text → HasMonth (drop 1 text) number → digits 4 (drop 6 text) ≡ Some (year, drop 10 text) → 1900 ≤ year → ReadsMonth text year number
+pub month_there_read : (text : List ℕ) (number year : ℕ) → HasDate text → HasMonth (drop 1 text) number → digits 4 (drop 6 text) ≡ Some (year, drop 10 text) → 1900 ≤ year → ReadsMonth (drop 1 text) year number (drop 11 text)
 month_there_read text number year s m four enough =
     let named : month (drop 2 text) ≡ Some (m.month_is, drop 5 text) = rw (drop-drop 1 1 text, drop-drop 4 1 text) at m.named in
     record {
       month_is = m.month_is;
       reads = month_reads (drop 1 text) (drop 2 text) (drop 5 text) (drop 6 text) (drop 10 text) (drop 11 text) m.month_is year (space_at text 1 (omega (arith, s.room)) s.before_month s.letter) named
-          (space_at text 5 (omega (arith, s.room)) s.before_year (omega (arith, s.century.first.low))) four (at_least 1900 year enough) (folding_at text 10 (omega (arith, s.room)) s.before_clock (omega (arith, s.clock.hour.first.low)));
+          (space_at text 5 (omega (arith, s.room)) s.before_year (omega (arith, s.century.first.low))) four (at_least 1900 year enough) (folding_at text 10 (omega (arith, s.room)) s.before_clock s.time);
+      number_is = m.number_is;
+    }
+
+short_month_reads : (b0 b1 b2 b3 b4 b5 : List ℕ) (m : Month) (y : ℕ) → comments_and_white_space b0 ≡ Some b1 → month b1 ≡ Some (m, b2) → comments_and_white_space b2 ≡ Some b3 → digits 4 b3 ≡ None → digits 2 b3 ≡ Some (y, b4) → comments_and_white_space b4 ≡ Some b5 → month_and_year b0 ≡ Ok ((m, if nat_lt y 50 then y + 2000 else y + 1900), b5)
+unfolding month_and_year year short_year
+short_month_reads b0 b1 b2 b3 b4 b5 m y e0 e1 e2 e3 e4 e5 = rw (e0, e1, e2, e3, e4, e5) refl
+
+no_digits : (bytes : List ℕ) → get_or bytes 0 0 ≡ 32 → digits 2 bytes ≡ None
+no_digits bytes e = digits_two bytes ∙ rw e (no_two (leb 2 (length bytes)) _ _)
+
+no_four : (bytes rest : List ℕ) (n : ℕ) → digits 2 bytes ≡ Some (n, rest) → digits 2 rest ≡ None → digits 4 bytes ≡ None
+no_four bytes rest n e f = digits_four bytes ∙ rw (e, f) refl
+
+pub short_month_there : (text : List ℕ) (number year : ℕ) → HasShortYear text → HasMonth (drop 1 text) number → digits 2 (drop 6 text) ≡ Some (year, drop 8 text) → ReadsMonth (drop 1 text) (if nat_lt year 50 then year + 2000 else year + 1900) number (drop 9 text)
+short_month_there text number year s m two =
+    let room = s.clock.second.room in
+    let named : month (drop 2 text) ≡ Some (m.month_is, drop 5 text) = rw (drop-drop 1 1 text, drop-drop 4 1 text) at m.named in
+    record {
+      month_is = m.month_is;
+      reads = short_month_reads (drop 1 text) (drop 2 text) (drop 5 text) (drop 6 text) (drop 8 text) (drop 9 text) m.month_is year (space_at text 1 (omega (arith, room)) s.before_month s.letter) named
+          (space_at text 5 (omega (arith, room)) s.before_year (omega (arith, s.last_two.first.low))) (no_four (drop 6 text) (drop 8 text) year two (no_digits (drop 8 text) (first_at text 8 ∙ s.before_clock))) two (space_at text 8 (omega (arith, room)) s.before_clock (omega (arith, s.clock.hour.first.low)));
       number_is = m.number_is;
     }
 
 -- ---- the clock
 
--- a time of day without white space in it
-clock_read : (text : List ℕ) (h m n : ℕ) → HasShape text → IsClock (drop 11 text) h m n (drop 19 text) → clock false (drop 11 text) ≡ Ok ((h, m, Some n), drop 19 text)
+clock_read : (text : List ℕ) (place h m n : ℕ) → HasClock text place → IsClock (drop place text) h m n (drop (place + 8) text) → clock false (drop place text) ≡ Ok ((h, m, Some n), drop (place + 8) text)
 unfolding clock hour_and_minute second due_second
-clock_read text h m n s i =
-    let long = length-drop 11 text in
-    let first = colon_at (drop 11 text) 2 (omega (arith, long, s.room)) (get_or-drop 11 text 2 0 ∙ s.clock.first_colon) (omega (arith, get_or-drop 11 text 3 0, s.clock.minute.first.low)) in
-    let last = colon_at (drop 11 text) 5 (omega (arith, long, s.room)) (get_or-drop 11 text 5 0 ∙ s.clock.second_colon) (omega (arith, get_or-drop 11 text 6 0, s.clock.second.first.low)) in
+clock_read text place h m n c i =
+    let long = length-drop place text in
+    let room = c.second.room in
+    let first = colon_at (drop place text) 2 (omega (arith, long, room)) (get_or-drop place text 2 0 ∙ c.first_colon) (omega (arith, get_or-drop place text 3 0, c.minute.first.low)) in
+    let last = colon_at (drop place text) 5 (omega (arith, long, room)) (get_or-drop place text 5 0 ∙ c.second_colon) (omega (arith, get_or-drop place text 6 0, c.second.first.low)) in
     rw (i.hour_digits, first, i.minute_digits, last, i.second_digits, i.rest_is) refl
+
+-- a time of day without white space in it
+pub clock_reads : (text : List ℕ) (place h m n minute : ℕ) → HasClock text place → IsClock (drop place text) h m n (drop (place + 8) text) → h ≤ 23 → m ≤ 59 → minute ≡ h * 60 + m → ReadsClock (drop place text) minute n (drop (place + 8) text)
+clock_reads text place h m n minute c i low small is =
+    record { hour_is = h; minute_is = m; second_is = Some n; reads = clock_read text place h m n c i; few_hours = low; few_minutes = small; minute_of_day = is; second_or = refl }
+
+short_clock_read : (b0 b1 b2 b3 : List ℕ) (h m : ℕ) → digits 2 b0 ≡ Some (h, b1) → spaced_colon b1 ≡ Some b2 → digits 2 b2 ≡ Some (m, b3) → spaced_colon b3 ≡ None → clock false b0 ≡ Ok ((h, m, None), b3)
+unfolding clock hour_and_minute second
+short_clock_read b0 b1 b2 b3 h m e0 e1 e2 e3 = rw (e0, e1, e2, e3) refl
+
+no_colon_of : (c : ℕ) (rest : List ℕ) → ((c == plus) || (c == hyphen)) ≡ true → byte_where (λ x. x == colon) (c ∷ rest) ≡ None
+unfolding byte_where
+no_colon_of c rest sign = let e : (c == colon) ≡ false = grind (arith, nat_tests) in rw e refl
+
+-- no colon stands before an offset
+no_colon : (text : List ℕ) (place : ℕ) → HasOffset text place → spaced_colon (drop place text) ≡ None
+unfolding spaced_colon
+no_colon text place o =
+    let room = o.zone_hours.room in
+    let space = space_at text place (omega (arith, room)) o.before (least_sign (get_or text (place + 1) 0) o.sign_there) in
+    rw (space, drop_more text (place + 1) 0 (omega (arith, room)), no_colon_of (get_or text (place + 1) 0) (drop (place + 1 + 1) text) o.sign_there) refl
+
+pub short_clock_reads : (text : List ℕ) (h m minute : ℕ) → HasNoSecond text → HasOffset text 16 → digits 2 (drop 11 text) ≡ Some (h, drop 13 text) → digits 2 (drop 14 text) ≡ Some (m, drop 16 text) → h ≤ 23 → m ≤ 59 → minute ≡ h * 60 + m → ReadsClock (drop 11 text) minute 0 (drop 16 text)
+short_clock_reads text h m minute s o in_hour in_minute low small is =
+    let between = colon_at text 13 (omega (arith, s.minute.room)) s.colon_there (omega (arith, s.minute.first.low)) in
+    record {
+      hour_is = h;
+      minute_is = m;
+      second_is = None;
+      reads = short_clock_read (drop 11 text) (drop 13 text) (drop 14 text) (drop 16 text) h m in_hour between in_minute (no_colon text 16 o);
+      few_hours = low;
+      few_minutes = small;
+      minute_of_day = is;
+      second_or = refl;
+    }
 
 -- ---- the zone
 
--- after a space, with nothing after it
-zone_after : (b0 b1 : List ℕ) (z : Zone) → comments_and_white_space b0 ≡ Some b1 → zone false b1 ≡ Ok (z, []) → spaced_zone false b0 ≡ Ok (z, [])
+-- after a space, with only white space and comments after it
+zone_after : (b0 b1 b2 : List ℕ) (z : Zone) → comments_and_white_space b0 ≡ Some b1 → zone false b1 ≡ Ok (z, b2) → optional comments_and_white_space b2 ≡ [] → spaced_zone false b0 ≡ Ok (z, [])
 unfolding spaced_zone
-zone_after b0 b1 z e f = rw (e, f, none_of_nothing) refl
-
-reads_zone : (result : Option ℤ) (text : List ℕ) (z : Zone) → spaced_zone false (drop 19 text) ≡ Ok (z, []) → IfSome result (λ o. signed_offset_of z.is_negative z.hours z.minutes ≡ Ok (pos 60 *ℤ o)) → IfSome result (ReadsZone text)
-reads_zone None text z e is = tt
-reads_zone (Some o) text z e is = record { zone_is = z; reads = e; minutes_are = is }
+zone_after b0 b1 b2 z e f g = rw (e, f, g) refl
 
 abbrev in_digits : ℕ → ℕ → ℕ → Zone
 in_digits mark hours minutes = record { is_named = false; is_negative = mark == hyphen; hours = hours; minutes = minutes }
 
-digits_read : (b0 b1 b2 : List ℕ) (mark hours minutes : ℕ) → sign b0 ≡ Some (mark, b1) → digits 2 b1 ≡ Some (hours, b2) → digits 2 b2 ≡ Some (minutes, []) → zone false b0 ≡ Ok (in_digits mark hours minutes, [])
+digits_read : (b0 b1 b2 b3 : List ℕ) (mark hours minutes : ℕ) → sign b0 ≡ Some (mark, b1) → digits 2 b1 ≡ Some (hours, b2) → digits 2 b2 ≡ Some (minutes, b3) → zone false b0 ≡ Ok (in_digits mark hours minutes, b3)
 unfolding zone signed_zone
-digits_read b0 b1 b2 mark hours minutes e f g = rw (e, f, g) refl
+digits_read b0 b1 b2 b3 mark hours minutes e f g = rw (e, f, g) refl
 
-least_sign : (c : ℕ) → ((c == plus) || (c == hyphen)) ≡ true → 41 ≤ c
-least_sign c sign = grind (arith, nat_tests)
-
-pub zone_there : (text : List ℕ) (result : Option ℤ) (hours minutes : ℕ) → HasShape text → HasOffset text → ((get_or text 20 0 == plus) || (get_or text 20 0 == hyphen)) ≡ true → digits 2 (drop 21 text) ≡ Some (hours, drop 23 text) → digits 2 (drop 23 text) ≡ Some (minutes, drop 25 text) → IfSome result (λ o. signed_offset_of (get_or text 20 0 == hyphen) hours minutes ≡ Ok (pos 60 *ℤ o)) → IfSome result (ReadsZone text)
-zone_there text result hours minutes s o sign h m is =
-    let mark : ℕ = get_or text 20 0 in
-    let nothing : drop 25 text ≡ [] = drop_all 25 text (omega (arith, o.long)) in
-    let space = space_at text 19 (omega (arith, o.long)) s.before_zone (least_sign mark sign) in
-    let read = digits_read (drop 20 text) (drop 21 text) (drop 23 text) mark hours minutes (sign_there text 20 (omega (arith, o.long)) sign) h (rw nothing at m) in
-    reads_zone result text (in_digits mark hours minutes) (zone_after (drop 19 text) (drop 20 text) (in_digits mark hours minutes) space read) is
+pub zone_there : (text : List ℕ) (place hours minutes : ℕ) (o : ℤ) → HasOffset text place → digits 2 (drop (place + 2) text) ≡ Some (hours, drop (place + 2 + 2) text) → digits 2 (drop (place + 2 + 2) text) ≡ Some (minutes, drop (place + 2 + 4) text) → optional comments_and_white_space (drop (place + 2 + 4) text) ≡ [] → signed_offset_of (get_or text (place + 1) 0 == hyphen) hours minutes ≡ Ok (pos 60 *ℤ o) → ReadsZone (drop place text) o
+zone_there text place hours minutes o h in_hours in_minutes ends is =
+    let mark : ℕ = get_or text (place + 1) 0 in
+    let room = h.zone_hours.room in
+    let after : place + 1 + 1 ≡ place + 2 = omega arith in
+    let space = space_at text place (omega (arith, room)) h.before (least_sign mark h.sign_there) in
+    let signed : sign (drop (place + 1) text) ≡ Some (mark, drop (place + 2) text) = rw after at (sign_there text (place + 1) (omega (arith, room)) h.sign_there) in
+    let read = digits_read (drop (place + 1) text) (drop (place + 2) text) (drop (place + 2 + 2) text) (drop (place + 2 + 4) text) mark hours minutes signed in_hours in_minutes in
+    record { zone_is = in_digits mark hours minutes; reads = zone_after (drop place text) (drop (place + 1) text) (drop (place + 2 + 4) text) (in_digits mark hours minutes) space read ends; minutes_are = is }
 
 abbrev by_name : ℕ → Zone
 by_name hours = record { is_named = true; is_negative = true; hours = hours; minutes = 0 }
@@ -266,12 +293,12 @@ letters_read bytes hours long e =
     let enough : leb 3 (length bytes) ≡ true = at_least 3 (length bytes) (omega arith) in
     rw (enough, take_all 3 bytes (omega arith), drop_all 3 bytes (omega arith), e) refl
 
-pub name_gives : (text : List ℕ) (hours : ℕ) (o : ℤ) → HasShape text → HasName text → zone_of (drop 20 text) ≡ Some hours → signed_offset_of true hours 0 ≡ Ok (pos 60 *ℤ o) → ReadsZone text o
+pub name_gives : (text : List ℕ) (hours : ℕ) (o : ℤ) → HasShape text → HasName text → zone_of (drop 20 text) ≡ Some hours → signed_offset_of true hours 0 ≡ Ok (pos 60 *ℤ o) → ReadsZone (drop 19 text) o
 name_gives text hours o s n named is =
     let space = space_at text 19 (omega (arith, n.long)) s.before_zone (omega (arith, n.letter)) in
     let unsigned : sign (drop 20 text) ≡ None = rw (drop_more text 20 0 (omega (arith, n.long))) (no_sign (get_or text 20 0) (drop 21 text) n.letter) in
     let read = name_read (drop 20 text) hours unsigned (letters_read (drop 20 text) hours (omega (arith, length-drop 20 text, n.long)) named) in
-    record { zone_is = by_name hours; reads = zone_after (drop 19 text) (drop 20 text) (by_name hours) space read; minutes_are = is }
+    record { zone_is = by_name hours; reads = zone_after (drop 19 text) (drop 20 text) [] (by_name hours) space read nothing_left; minutes_are = is }
 
 -- ---- the moment
 
@@ -296,8 +323,12 @@ pub parts_read : (f : Fields) (input : List ℕ) (w : Rfc2822Parts) (o : ℤ) �
 parts_read f input w o read in_zone have low small =
     rw (← moment_is f, have.same_offset) (all_resolved input w (pos 60 *ℤ o) (day_of_fields f) (unwrap_or w.second 0) (time_of_fields f) read refl (fields_date f _ _ _ _ _ _ _ have) (fields_time f _ _ _ _ _ _ _ _ have low small (lit< tt)) in_zone)
 
-pub fields_read : (f : Fields) (input text : List ℕ) (d : Option Weekday × ℕ) (year number h m n : ℕ) (o : ℤ) → HasShape text → day false input ≡ Ok (d, drop 1 text) → ReadsMonth text year number → IsClock (drop 11 text) h m n (drop 19 text) → ReadsZone text o → HaveNumbers f year number d.1 (h * 60 + m) n 0 o → h ≤ 23 → m ≤ 59 → direct input ≡ Ok (Moment.moment_of f)
-fields_read f input text d year number h m n o s in_day in_month in_clock in_zone have low small =
-    let w = numbers d (in_month.month_is, year) (h, m, Some n) in_zone.zone_is in
-    let read = all_read input (drop 1 text) (drop 11 text) (drop 19 text) d (in_month.month_is, year) (h, m, Some n) in_zone.zone_is in_day in_month.reads (clock_read text h m n s in_clock) in_zone.reads in
-    parts_read f input w o read in_zone.minutes_are (rw (← in_month.number_is) at have) low small
+-- the same of fields that have the numbers of what is read in turn
+pub fields_read : (f : Fields) (text b2 b3 : List ℕ) (tens year number minute second : ℕ) (o : ℤ) → HasDigit text 0 → get_or text 1 0 ≡ space → ReadsMonth (drop 1 text) year number b2 → ReadsClock b2 minute second b3 → ReadsZone b3 o → HaveNumbers f year number (tens * 10 + (get_or text 0 0 - 48)) minute second 0 o → SaysFields tens text f
+fields_read f text b2 b3 tens year number minute second o digit after in_month in_clock in_zone have =
+    λ input prefix.
+    let day_of : Option Weekday × ℕ = (prefix.weekday_is, tens * 10 + (get_or text 0 0 - 48)) in
+    let time : ℕ × ℕ × Option ℕ = (in_clock.hour_is, in_clock.minute_is, in_clock.second_is) in
+    let w = numbers day_of (in_month.month_is, year) time in_zone.zone_is in
+    let read = all_read input (drop 1 text) b2 b3 day_of (in_month.month_is, year) time in_zone.zone_is (prefix.reads digit after) in_month.reads in_clock.reads in_zone.reads in
+    parts_read f input w o read in_zone.minutes_are (rw (← in_month.number_is, in_clock.minute_of_day, ← in_clock.second_or) at have) in_clock.few_hours in_clock.few_minutes

@@ -140,13 +140,16 @@ pub white_end : (bytes : List ℕ) → white_or_comment bytes ≡ None → many 
 white_end bytes e = many_end white_or_comment bytes e
 
 -- a byte that is no white space
-folding_none : (c : ℕ) (rest : List ℕ) → 41 ≤ c → folding_white_space (c ∷ rest) ≡ None
+pub folding_other : (c : ℕ) (rest : List ℕ) → eqb c 13 ≡ false → eqb c 32 ≡ false → eqb c 9 ≡ false → folding_white_space (c ∷ rest) ≡ None
 unfolding folding_white_space lone_white folded_line line_end folded_blanks past_some byte_where
+folding_other c rest a b d = rw (a, b, d) refl
+
+folding_none : (c : ℕ) (rest : List ℕ) → 41 ≤ c → folding_white_space (c ∷ rest) ≡ None
 folding_none c rest h =
     let a : eqb c 13 ≡ false = grind (arith, nat_tests) in
     let b : eqb c 32 ≡ false = grind (arith, nat_tests) in
     let d : eqb c 9 ≡ false = grind (arith, nat_tests) in
-    rw (a, b, d) refl
+    folding_other c rest a b d
 
 pub folding_none_there : (bytes : List ℕ) → 1 ≤ length bytes → 41 < get_or bytes 0 0 → folding_white_space bytes ≡ None
 folding_none_there [] le h = absurd (omega arith)
@@ -219,3 +222,26 @@ folding_space_there (a ∷ []) le h k = absurd (omega arith)
 folding_space_there (a ∷ c ∷ rest) le h k =
     let same : a ≡ 32 = h in
     rw (same, one_rest c rest) (folding_space c rest (omega arith))
+
+folding_two : (c : ℕ) (rest : List ℕ) → 41 ≤ c → folding_white_space (32 ∷ 32 ∷ c ∷ rest) ≡ Some (c ∷ rest)
+unfolding folding_white_space lone_white folded_line line_end folded_blanks unless_line_end past_some byte_where
+folding_two c rest h =
+    let a : eqb c 13 ≡ false = grind (arith, nat_tests) in
+    let b : eqb c 32 ≡ false = grind (arith, nat_tests) in
+    let d : eqb c 9 ≡ false = grind (arith, nat_tests) in
+    let none : folded_line (c ∷ rest) ≡ None = rw a refl in
+    rw (b, d) (rw (folded_end (c ∷ rest) none, a) refl)
+
+two_spaces : (c : ℕ) (rest : List ℕ) → 41 ≤ c → comments_and_white_space (32 ∷ 32 ∷ c ∷ rest) ≡ Some (c ∷ rest)
+unfolding comments_and_white_space white_or_comment
+two_spaces c rest h = rw (folding_two c rest h) (ap Some (white_end (c ∷ rest) (white_none c rest h)))
+
+-- two spaces before such a byte, by places
+pub two_spaces_there : (bytes : List ℕ) → 3 ≤ length bytes → get_or bytes 0 0 ≡ 32 → get_or bytes 1 0 ≡ 32 → 40 < get_or bytes 2 0 → comments_and_white_space bytes ≡ Some (drop 2 bytes)
+two_spaces_there [] le h k l = absurd (omega arith)
+two_spaces_there (a ∷ []) le h k l = absurd (omega arith)
+two_spaces_there (a ∷ b ∷ []) le h k l = absurd (omega arith)
+two_spaces_there (a ∷ b ∷ c ∷ rest) le h k l =
+    let first : a ≡ 32 = h in
+    let second : b ≡ 32 = k in
+    rw (first, second) (two_spaces c rest (omega arith))

@@ -1,6 +1,7 @@
 //! Comments, and the white space between them.
 ghost use Rattle.base.specs.Bytes.{space};
-ghost use Rattle.std.specs.Prelude.{◌↔◌, IsSome, slice_index, true, ◌≡◌, ◌<◌, ◌≤◌, IfSome, Some, None, false, length, option_map};
+ghost use Rattle.std.specs.Prelude.{[], ◌↔◌, IsSome, slice_index, true, ◌≡◌, ◌<◌, ◌≤◌, IfSome, Some, None, false, length, option_map};
+ghost use Rattle.std.specs.List.{list_all};
 ghost use Rattle.parsing_rfc2822.specs.Skips as Skips;
 ghost use Rattle.parsing_rfc2822.specs.WhiteSpace as White;
 
@@ -259,4 +260,31 @@ pub fn comments_and_white_space(bytes: &[u8]) -> Option<&[u8]>
         return Some(rest);
     }
     any_comments_and_white_space(bytes)
+}
+
+// Whether bytes are text of a comment. (A loop of its own, as the calls of iterators would cost more than it.)
+#[tactic(auto, using(std::proofs::lemmas::List::Folds::list_all_more))]
+#[inline(always)]
+fn is_plain(text: &[u8]) -> bool
+    ensures { result ≡ true → list_all White.is_comment_text text.now ≡ true }
+{
+    for byte in text {
+        if !is_comment_text(*byte) {
+            return false;
+        }
+    }
+    true
+}
+
+/// Whether all bytes are one space and one comment of plain text, as ` (UTC)`: `false` says nothing of them.
+#[inline(always)]
+pub(crate) fn is_plain_comment(bytes: &[u8]) -> bool
+    ensures { result ≡ true → White.comments_and_white_space bytes.now ≡ Some [] }
+{
+    match bytes {
+        [first, open, text @ .., close] if *first == b' ' && *open == b'(' && *close == b')' => {
+            is_plain(text)
+        }
+        _ => false,
+    }
 }

@@ -3,6 +3,7 @@
 //! Four bytes stand in one number, the first one lowest, and the highest bits of a product of that number say where it
 //! would stand in a table. No other byte becomes a letter by the bit of small letters.
 ghost use Rattle.std.specs.Prelude.{◌≡◌, ◌≤◌, IfSome, true, length, slice_index};
+ghost use Rattle.std.specs.Int.{IsInRange};
 ghost use Rattle.base.specs.Bytes.{space};
 ghost use Rattle.parsing_rfc2822.specs.Places.{HasWeekday, HasMonth, number_of_four};
 
@@ -41,39 +42,41 @@ pub(crate) fn has_weekday(text: &[u8]) -> bool
     true
 }
 
-// ` oct`, ` feb`, ` dec`, ` jul`, ` nov`, ` jan`, ` jun`, ` may`, ` sep`, ` aug`, ` mar`, ` apr`, the number of its month
-// added to each.
+// ` oct`, ` feb`, ` dec`, ` jul`, ` nov`, ` jan`, ` jun`, ` may`, ` sep`, ` aug`, ` mar`, ` apr`.
 static MONTHS: [u32; 16] = [
     0,
-    0x7463_6f2a,
-    0x6265_6622,
+    0x7463_6f20,
+    0x6265_6620,
     0,
-    0x6365_642c,
-    0x6c75_6a27,
-    0x766f_6e2b,
-    0x6e61_6a21,
-    0x6e75_6a26,
+    0x6365_6420,
+    0x6c75_6a20,
+    0x766f_6e20,
+    0x6e61_6a20,
+    0x6e75_6a20,
     0,
-    0x7961_6d25,
-    0x7065_7329,
-    0x6775_6128,
+    0x7961_6d20,
+    0x7065_7320,
+    0x6775_6120,
     0,
-    0x7261_6d23,
-    0x7270_6124,
+    0x7261_6d20,
+    0x7270_6120,
 ];
+
+// The numbers of these months, at the same places.
+static NUMBERS: [u8; 16] = [0, 10, 2, 0, 12, 7, 11, 1, 6, 0, 5, 9, 8, 0, 3, 4];
 
 /// The number of the month that stands after a space.
 #[inline(always)]
 pub(crate) fn month_number(text: &[u8]) -> Option<u8>
     requires long { 4 ≤ length text.now }
     requires space { slice_index text.now 0 ≡ space }
-    ensures { IfSome result (HasMonth text.now) }
+    ensures there { IfSome result (HasMonth text.now) }
+    ensures bound { IfSome result (IsInRange 1 12) }
 {
     let word = four_bytes(text) | 0x2020_2000;
     let place = word.wrapping_mul(0x11c) >> 28;
-    let number = MONTHS[place as usize].wrapping_sub(word);
-    if number < 1 || number > 12 {
+    if MONTHS[place as usize] != word {
         return None;
     }
-    Some(number as u8)
+    Some(NUMBERS[place as usize])
 }

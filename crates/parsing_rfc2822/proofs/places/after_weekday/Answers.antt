@@ -1,10 +1,7 @@
 use Rattle.std.proofs.Common.{arith}
 use Rattle.std.proofs.lemmas.List.{take_rest}
-use Rattle.parsing_rfc2822.proofs.PlaceLemmas.{begins_alone, begins_after}
+use Rattle.parsing_rfc2822.proofs.PlaceLemmas.{begins_after}
 use Rattle.parsing_rfc2822.proofs.places.after_weekday.Goals as goal
-
-pub returns-then-input-left-clause-begins : goal.returns-then-input-left-clause-begins
-returns-then-input-left-clause-begins c = begins_alone c.args.input.now (omega arith)
 
 pub returns-clause-begins : goal.returns-clause-begins
 returns-clause-begins c =

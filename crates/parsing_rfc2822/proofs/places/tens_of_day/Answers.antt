@@ -5,8 +5,8 @@ use Rattle.parsing_combinator.proofs.Decimal.{digit_here}
 use Rattle.parsing_rfc2822.proofs.PlaceLemmas.{prefix_of_one, prefix_of_two}
 use Rattle.parsing_rfc2822.proofs.places.tens_of_day.Goals as goal
 
-pub returns-then-date-left-clause-prefix : goal.returns-then-date-left-clause-prefix
-returns-then-date-left-clause-prefix c =
+pub returns-then-date-eq25-clause-prefix : goal.returns-then-date-eq25-clause-prefix
+returns-then-date-eq25-clause-prefix c =
     prefix_of_one c.args.input.now c.in_ok-date.date.now (omega arith) c.in_ok-date.ensures.begins
 
 pub returns-clause-prefix : goal.returns-clause-prefix
