@@ -3,7 +3,8 @@ ghost use Rattle.std.specs.Prelude.{◌≡◌, true, codes, Ok, Err, IfSome};
 ghost use Rattle.std.specs.Result.{result_ok};
 ghost use Rattle.parsing_combinator.specs.Fault.{component};
 ghost use Rattle.parsing_fields.specs.Moment.{moment_of};
-ghost use Rattle.instants_sources.specs.Grammar.{grammar_of};
+ghost use Rattle.parsing_plan.specs.declared.plan.Plan.TheVariants as plan;
+ghost use Rattle.instants_sources.specs.Grammar.{Grammar, grammar_of};
 ghost use Rattle.instants_sources.specs.Grammar as grammar;
 ghost use Rattle.instants_sources.specs.Named.{named, IsNamedBy, NamesNothing};
 ghost use Rattle.instants_sources.specs.Planned.{IsPlanned};
@@ -14,7 +15,7 @@ use calendar::UtcOffset;
 use datetime_types::OffsetDateTime;
 use parsing_fields::Fields;
 use parsing_laws::two_roads::{one_road_of_iso8601, two_roads_of_rfc2822, two_roads_of_rfc3339};
-use parsing_plan::Plan;
+use parsing_plan::{Places, Plan};
 
 /// The fields of the moment of a line of RFC 2822, where the fast way finds them, whatever offset is assumed: `None` says
 /// nothing of the line.
@@ -46,6 +47,60 @@ pub fn fast_iso8601(line: &[u8]) -> Option<Fields>
     parsing_iso8601::read_fields(line)
 }
 
+/// The same for the shape that nearly all lines of RFC 2822 have.
+#[inline(always)]
+pub fn usual_rfc2822(line: &[u8]) -> Option<Fields>
+    ensures { IfSome result (λ fields. IsNamedBy grammar.Rfc2822 line.now (moment_of fields)) }
+{
+    two_roads_of_rfc2822();
+    parsing_rfc2822::read_usual_fields(line)
+}
+
+/// The same for the other shapes of RFC 2822.
+#[inline(always)]
+pub fn other_rfc2822(line: &[u8]) -> Option<Fields>
+    ensures { IfSome result (λ fields. IsNamedBy grammar.Rfc2822 line.now (moment_of fields)) }
+{
+    two_roads_of_rfc2822();
+    parsing_rfc2822::read_other_fields(line)
+}
+
+/// The same for the shape that nearly all lines of RFC 3339 have.
+#[inline(always)]
+pub fn usual_rfc3339(line: &[u8]) -> Option<Fields>
+    ensures { IfSome result (λ fields. IsNamedBy grammar.Rfc3339 line.now (moment_of fields)) }
+{
+    two_roads_of_rfc3339();
+    parsing_rfc3339::read_usual_fields(line)
+}
+
+/// The same for the other shapes of RFC 3339.
+#[inline(always)]
+pub fn rare_rfc3339(line: &[u8]) -> Option<Fields>
+    ensures { IfSome result (λ fields. IsNamedBy grammar.Rfc3339 line.now (moment_of fields)) }
+{
+    two_roads_of_rfc3339();
+    parsing_rfc3339::read_rare_fields(line)
+}
+
+/// The same for a line of ISO 8601 with a second.
+#[inline(always)]
+pub fn usual_iso8601(line: &[u8]) -> Option<Fields>
+    ensures { IfSome result (λ fields. IsNamedBy grammar.Iso8601 line.now (moment_of fields)) }
+{
+    one_road_of_iso8601();
+    parsing_iso8601::read_usual_fields(line)
+}
+
+/// The same for a line of ISO 8601 without a second.
+#[inline(always)]
+pub fn iso8601_to_minute(line: &[u8]) -> Option<Fields>
+    ensures { IfSome result (λ fields. IsNamedBy grammar.Iso8601 line.now (moment_of fields)) }
+{
+    one_road_of_iso8601();
+    parsing_iso8601::read_fields_to_minute(line)
+}
+
 // Whether the first bytes of a line show that RFC 2822 names no moment for it.
 #[inline(always)]
 fn is_no_rfc2822(line: &[u8]) -> bool
@@ -62,6 +117,26 @@ pub fn is_no_rfc3339(line: &[u8]) -> bool
 {
     two_roads_of_rfc3339();
     has_no_hyphen(line)
+}
+
+/// The fields of the moment of a line, where a plan with a place for each component finds them, with an offset assumed or none:
+/// `None` says nothing of the line.
+#[inline(always)]
+pub fn read_by_places(places: &Places, line: &[u8], assumed: Option<UtcOffset>) -> Option<Fields>
+    ensures { (grammar : Grammar) → IsPlanned grammar (plan.Places places.now) → IfSome result
+        (λ fields. named assumed grammar line.now ≡ Ok (moment_of fields)) }
+{
+    places.read(line, assumed)
+}
+
+/// The fields of the moment of a line, where the plan of a description finds them, with an offset assumed or none: `None` says
+/// nothing of the line.
+#[inline(always)]
+pub fn read_by_plan(plan: &Plan, line: &[u8], assumed: Option<UtcOffset>) -> Option<Fields>
+    ensures { (grammar : Grammar) → IsPlanned grammar plan.now → IfSome result
+        (λ fields. named assumed grammar line.now ≡ Ok (moment_of fields)) }
+{
+    plan.read(line, assumed)
 }
 
 impl<'a> Source<'a> {
@@ -93,9 +168,9 @@ impl<'a> Source<'a> {
         }
     }
 
-    // The plan of a description, where it has one.
+    /// The plan of a description, where it has one.
     #[inline(always)]
-    fn plan(&self) -> Option<&Plan>
+    pub fn plan(&self) -> Option<&Plan>
         ensures { IfSome result (λ plan. IsPlanned (grammar_of self.now) plan.now) }
     {
         match self {
@@ -113,7 +188,7 @@ impl<'a> Source<'a> {
             (λ fields. named assumed (grammar_of self.now) line.now ≡ Ok (moment_of fields)) }
     {
         let plan = self.plan()?;
-        plan.read(line, assumed)
+        read_by_plan(plan, line, assumed)
     }
 
     /// The fields of the moment of a line, where the fast way finds them, with an offset assumed or none: `None` says nothing

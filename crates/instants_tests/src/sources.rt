@@ -3,8 +3,13 @@
 use calendar::UtcOffset;
 use datetime::OffsetDateTime;
 use instants::SourceText;
-use instants_sources::{Source, fast_iso8601, fast_rfc2822, fast_rfc3339, is_no_rfc3339, starting};
+use instants_sources::{
+    Source, fast_iso8601, fast_rfc2822, fast_rfc3339, is_no_rfc3339, iso8601_to_minute,
+    other_rfc2822, rare_rfc3339, read_by_places, read_by_plan, starting, usual_iso8601,
+    usual_rfc2822, usual_rfc3339,
+};
 use parsing_fields::Fields;
+use parsing_plan::Plan;
 use std::alloc::Global;
 
 // The Unix time that a source names for a line with an offset of an hour assumed, by the exact way, the shortest and the
@@ -98,9 +103,49 @@ fn seconds() -> [Option<i64>; 4] {
     ]
 }
 
+// The same by the shape that nearly all lines of a format have, and by its others.
+fn seconds_by_shape() -> [Option<i64>; 6] {
+    [
+        second_of(usual_rfc3339(b"1970-01-01T00:00:01Z")),
+        second_of(rare_rfc3339(b"1970-01-01T00:00:01.0000000000Z")),
+        second_of(usual_rfc2822(b"Thu, 01 Jan 1970 00:00:01 +0000")),
+        second_of(other_rfc2822(b"Thu, 01 Jan 1970 00:00:01 GMT")),
+        second_of(usual_iso8601(b"19700101T000001Z")),
+        second_of(iso8601_to_minute(b"1970-01-01T00:01Z")),
+    ]
+}
+
+// The second that a line says by the plan of a description.
+fn second_by_plan(source: &Source, line: &[u8]) -> Option<(Option<i64>, Option<i64>)> {
+    let plan = source.plan()?;
+    let by_plan = second_of(read_by_plan(plan, line, None));
+    match plan {
+        Plan::Places(places) => Some((by_plan, second_of(read_by_places(places, line, None)))),
+        Plan::Unix(_) => Some((by_plan, None)),
+    }
+}
+
+fn planned(alloc: Global, text: &str, line: &[u8]) -> Option<(Option<i64>, Option<i64>)> {
+    match Source::new(alloc, SourceText::Strftime(text)) {
+        Ok(source) => second_by_plan(&source, line),
+        Err(_) => None,
+    }
+}
+
+#[test]
+fn plans(rt: HostRuntime) {
+    let log = planned(
+        rt.alloc(),
+        "%d/%b/%Y:%H:%M:%S %z",
+        b"01/Jan/1970:00:00:01 +0000",
+    );
+    assert!(rt; log == Some((Some(1), Some(1))));
+}
+
 #[test]
 fn fast_ways(rt: HostRuntime) {
     let source = Source::Rfc3339;
     assert!(rt; seconds() == [Some(1); 4]);
+    assert!(rt; seconds_by_shape() == [Some(1), Some(1), Some(1), Some(1), Some(1), Some(60)]);
     assert!(rt; is_no_rfc3339(b"1970") && source.has_no_year(b"yesterday", None));
 }

@@ -9,10 +9,10 @@ use Rattle.parsing_fields.specs.declared.fields.Fields.{Fields}
 use Rattle.parsing_combinator.specs.Fault.{Fault}
 use Rattle.instants_sources.specs.Grammar.{Grammar, grammar_of}
 use Rattle.instants_sources.specs.declared.source.Source.{Source}
-use Rattle.instants_sources.specs.Named.{named}
+use Rattle.instants_sources.specs.Named.{named, IsNamedBy}
 use Rattle.instants_timeline.specs.Place.{Setting, or_named, first_named, place_of, answer_to}
 use Rattle.instants_timeline.specs.Refusal.{refusal_of, refusal_text}
-use Rattle.instants_timeline.specs.FirstNamed.{IsAnswerOf, NamesFrom}
+use Rattle.instants_timeline.specs.FirstNamed.{IsAnswerOf, IsLedBy, NamesFrom}
 
 here : (o : Result Shown Fault) (others : Option Shown) (moment : Shown) → result_ok o ≡ Some moment → result_ok (or_named o others) ≡ Some moment
 here (Ok m) others moment e = e
@@ -67,6 +67,17 @@ pub answered_at : (setting : Setting) (line bytes : List ℕ) (place : ℕ) (gra
 answered_at setting line bytes place grammar others from cut a =
     let there : result_ok (first_named setting.assumed (drop place setting.sources) line) ≡ Some a.moment = rw cut (first_named-here setting.assumed grammar others line a.moment a.is) in
     answered setting line bytes (answer_alike a (sym from ∙ there))
+
+-- what is found for the first source is the answer
+pub led_found : (setting : Setting) (found : Option Fields) (grammar : Grammar) (line bytes : List ℕ) → IsLedBy setting grammar → IfSome found (λ fields. named setting.assumed grammar line ≡ Ok (moment_of fields))
+    → IsAnswerOf setting (option_map moment_of found) bytes → bytes ≡ answer_to setting line
+led_found setting found grammar line bytes led is a = answered_at setting line bytes 0 grammar (drop 1 setting.sources) refl led (answer_found setting found grammar line bytes is a)
+
+-- the same where it is named whatever offset is assumed
+pub led_named : (setting : Setting) (found : Option Fields) (grammar : Grammar) (line bytes : List ℕ) → IsLedBy setting grammar → IfSome found (λ fields. IsNamedBy grammar line (moment_of fields))
+    → IsAnswerOf setting (option_map moment_of found) bytes → bytes ≡ answer_to setting line
+led_named setting None grammar line bytes led is a = led_found setting None grammar line bytes led tt a
+led_named setting (Some fields) grammar line bytes led is a = led_found setting (Some fields) grammar line bytes led (is setting.assumed) a
 
 after : (setting : Setting) (line : List ℕ) (place : ℕ) (grammar : Grammar) (others : List Grammar) → NamesFrom setting line place → drop place setting.sources ≡ grammar ∷ others
     → result_ok (named setting.assumed grammar line) ≡ None → result_ok (first_named setting.assumed setting.sources line) ≡ result_ok (first_named setting.assumed others line)

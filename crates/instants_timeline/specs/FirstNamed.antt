@@ -5,6 +5,8 @@ use Rattle.datetime_wall.specs.Wall.{Shown}
 use Rattle.parsing_combinator.specs.Fault.{Fault}
 use Rattle.instants_sources.specs.Grammar.{Grammar}
 use Rattle.instants_sources.specs.Named.{named}
+use Rattle.instants_sources.specs.Planned.{IsPlanned}
+use Rattle.parsing_plan.specs.declared.plan.Plan.{Plan}
 use Rattle.instants_timeline.specs.Place.{Setting, first_named, place_text, shown_or_refused}
 
 -- the first source that names a moment names this one
@@ -29,3 +31,13 @@ pub record IsFaultAt (setting : Setting) (line : List ℕ) (place : ℕ) (fault 
   pub grammar : Grammar
   pub stands : drop place setting.sources ≡ grammar ∷ drop (place + 1) setting.sources
   pub refused : named setting.assumed grammar line ≡ Err fault
+
+-- the first source reads by a grammar
+abbrev pub IsLedBy : Setting → Grammar → Type 0
+IsLedBy setting grammar = setting.sources ≡ grammar ∷ drop 1 setting.sources
+
+-- the first source is a description that reads as a plan says
+pub record IsLedByPlan (setting : Setting) (plan : Plan) : Type 0 where
+  pub grammar : Grammar
+  pub first : IsLedBy setting grammar
+  pub planned : IsPlanned grammar plan

@@ -6,9 +6,12 @@ ghost use Rattle.instants_stream.specs.Ran.{Ran};
 ghost use Rattle.instants_timeline.specs.Place.{answer_to};
 ghost use Rattle.instants_timeline.specs.Settings.{setting_of};
 
-use crate::timeline::{AnswerWay, Iso8601Way, Led, PlannedWay, Rfc2822Way, Rfc3339Way, Timeline};
+use crate::timeline::{
+    AnswerWay, ExactWay, Iso8601Way, Led, PlacesWay, PlannedWay, Rfc2822Way, Rfc3339Way, Timeline,
+};
 use instants_sources::Source;
 use instants_stream::{ByteReader, ByteWriter, RunFault, TooLittleRoom, lines_over, run_lines};
+use parsing_plan::Plan;
 
 /// Writes the answer to each line that the reader gives, each followed by a line feed. The answers are handed on before
 /// each read, and the writer is flushed at the end.
@@ -55,13 +58,31 @@ pub(crate) fn answer_lines<R: ByteReader, W: ByteWriter>(
         Source::Rfc3339 => run_by(Rfc3339Way, timeline, limit, buffer, reader, writer),
         Source::Rfc2822 => run_by(Rfc2822Way, timeline, limit, buffer, reader, writer),
         Source::Iso8601 => run_by(Iso8601Way, timeline, limit, buffer, reader, writer),
-        Source::Items(_) | Source::V3(_) => {
-            run_by(PlannedWay, timeline, limit, buffer, reader, writer)
-        }
+        described => match described.plan() {
+            Some(Plan::Places(places)) => {
+                run_by(
+                    PlacesWay::new(places),
+                    timeline,
+                    limit,
+                    buffer,
+                    reader,
+                    writer,
+                )
+            }
+            Some(plan) => run_by(
+                PlannedWay::new(plan),
+                timeline,
+                limit,
+                buffer,
+                reader,
+                writer,
+            ),
+            None => run_by(ExactWay, timeline, limit, buffer, reader, writer),
+        },
     }
 }
 
-// Runs over a stream in one way, whatever the first source.
+// Runs over a stream in the way of the first source.
 #[inline(always)]
 fn run_by<A: AnswerWay + Drop, R: ByteReader, W: ByteWriter>(
     way: A,
@@ -71,6 +92,7 @@ fn run_by<A: AnswerWay + Drop, R: ByteReader, W: ByteWriter>(
     reader: &mut R,
     writer: &mut W,
 ) -> Result<(), RunFault>
+    requires led { ∥ A.leads way (setting_of timeline.now) ∥₁ }
     requires room { limit < length buffer.old }
     requires reader { R.failed reader.old ≡ false }
     requires writer { W.failed writer.old ≡ false }
@@ -106,11 +128,37 @@ pub fn run_over(
         (output (answer_to (setting_of timeline.now)) limit input.now)) }
 {
     match timeline.first() {
-        Source::Rfc3339 => lines_over(&Led::new(timeline, Rfc3339Way), limit, input, room),
-        Source::Rfc2822 => lines_over(&Led::new(timeline, Rfc2822Way), limit, input, room),
-        Source::Iso8601 => lines_over(&Led::new(timeline, Iso8601Way), limit, input, room),
-        Source::Items(_) | Source::V3(_) => {
-            lines_over(&Led::new(timeline, PlannedWay), limit, input, room)
-        }
+        Source::Rfc3339 => run_over_by(Rfc3339Way, timeline, limit, input, room),
+        Source::Rfc2822 => run_over_by(Rfc2822Way, timeline, limit, input, room),
+        Source::Iso8601 => run_over_by(Iso8601Way, timeline, limit, input, room),
+        described => match described.plan() {
+            Some(Plan::Places(places)) => {
+                run_over_by(PlacesWay::new(places), timeline, limit, input, room)
+            }
+            Some(plan) => run_over_by(PlannedWay::new(plan), timeline, limit, input, room),
+            None => run_over_by(ExactWay, timeline, limit, input, room),
+        },
     }
+}
+
+// Runs over a slice in the way of the first source.
+#[inline(always)]
+fn run_over_by<A: AnswerWay + Drop>(
+    way: A,
+    timeline: &Timeline,
+    limit: usize,
+    input: &[u8],
+    room: &mut [u8],
+) -> Result<usize, TooLittleRoom>
+    requires { ∥ A.leads way (setting_of timeline.now) ∥₁ }
+    ensures len { IfOk result
+        (λ len. len ≡ length (output (answer_to (setting_of timeline.now)) limit input.now)) }
+    ensures written { IfOk result (λ len. room.new
+        ≡ output (answer_to (setting_of timeline.now)) limit input.now ++ drop len room.old) }
+    ensures longer { OnErr result (length room.old
+        < length (output (answer_to (setting_of timeline.now)) limit input.now)) }
+    ensures full { OnErr result (room.new ≡ take (length room.old)
+        (output (answer_to (setting_of timeline.now)) limit input.now)) }
+{
+    lines_over(&Led::new(timeline, way), limit, input, room)
 }

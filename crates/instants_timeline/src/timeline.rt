@@ -11,7 +11,9 @@ mod nodes;
 mod parts;
 
 use calendar::UtcOffset;
-pub(crate) use fast_ways::{AnswerWay, Iso8601Way, Led, PlannedWay, Rfc2822Way, Rfc3339Way};
+pub(crate) use fast_ways::{
+    AnswerWay, ExactWay, Iso8601Way, Led, PlacesWay, PlannedWay, Rfc2822Way, Rfc3339Way,
+};
 use instants_answers::Target;
 use instants_sources::Source;
 

@@ -12,6 +12,7 @@ use Rattle.parsing_plan.specs.Layout.{with_values}
 use Rattle.parsing_plan.specs.declared.plan.Prefix.{Prefix}
 use Rattle.parsing_plan.specs.declared.plan.Places.{Places}
 use Rattle.parsing_plan.specs.declared.plan.Plan.{Plan}
+use Rattle.parsing_plan.specs.declared.plan.Plan.TheVariants as plan
 use Rattle.parsing_plan.specs.declared.plan.Back.{Back}
 use Rattle.parsing_plan.specs.Plan.{IsLayoutOf, IsSplitOf, ArePlacesOf, IsPlanOf}
 use Rattle.parsing_plan.specs.UnixTime.{IsUnixOf}
@@ -93,16 +94,16 @@ compound_plans language ts (Some plan) h = compound_plan language ts plan h
 
 -- ---- plans of places, and of Unix time
 
-pub of_places : (m : Meaning) (plan : Plan) (places : Places) → plan.places ≡ Some places → plan.unix ≡ None → ArePlacesOf m places → IsPlanOf m plan
-of_places m plan places some none are = (
-  (λ x e. let same : x ≡ places = same_inside x places (sym e ∙ some) in rw same are),
-  (λ u e. absurd (none_and_some plan.unix u e none)),
+pub of_places : (m : Meaning) (places : Places) → ArePlacesOf m places → IsPlanOf m (plan.Places places)
+of_places m places are = (
+  (λ x e. let same : x ≡ places = cc in rw same are),
+  (λ u e. absurd cc),
 )
 
-pub of_unix : (language : Language) (t : Tree) (plan : Plan) (u : UnixTime) → plan.places ≡ None → plan.unix ≡ Some u → IsUnixOf (reading language t) u.finer → IsPlanOf (reading_of_all language (listed (t ∷ []))) plan
-of_unix language t plan u none some reads_it = (
-  (λ x e. absurd (none_and_some plan.places x e none)),
+pub of_unix : (language : Language) (t : Tree) (u : UnixTime) → IsUnixOf (reading language t) u.finer → IsPlanOf (reading_of_all language (listed (t ∷ []))) (plan.Unix u)
+of_unix language t u reads_it = (
+  (λ x e. absurd cc),
   (λ x e.
-      let same : x ≡ u = same_inside x u (sym e ∙ some) in
+      let same : x ≡ u = cc in
       rw same (λ line number is few r. ap result_ok (first_read language t [] r _ line [] (was_read (reading language t r line) _ (reads_it line number is few r)) ∙ nothing_left language _ []))),
 )

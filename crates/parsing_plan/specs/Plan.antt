@@ -13,6 +13,8 @@ use Rattle.parsing_plan.specs.declared.layout.Layout.{Layout}
 use Rattle.parsing_plan.specs.UnixTime.{IsUnixOf}
 use Rattle.parsing_plan.specs.declared.plan.Places.{Places}
 use Rattle.parsing_plan.specs.declared.plan.Plan.{Plan}
+use Rattle.parsing_plan.specs.declared.plan.Plan.TheVariants as plan
+use Rattle.parsing_plan.specs.declared.unix.UnixTime.{UnixTime}
 pub use Rattle.parsing_plan.specs.Beginning.{beginning}
 
 -- a line that has the layout at its prefix is read by these items, which set the values of the slots
@@ -30,7 +32,7 @@ ArePlacesOf m places = ForNone places.back (IsLayoutOf m places.prefix.layout) �
 
 -- the items read as the plan says
 abbrev pub IsPlanOf : Meaning → Plan → Type 0
-IsPlanOf m plan = ForSome plan.places (ArePlacesOf m) × ForSome plan.unix (λ unix. IsUnixOf m unix.finer)
+IsPlanOf m p = ((places : Places) → p ≡ plan.Places places → ArePlacesOf m places) × ((unix : UnixTime) → p ≡ plan.Unix unix → IsUnixOf m unix.finer)
 
 -- the items read a prefix of the line from a record, leave this rest, and the record that they set names this moment
 pub record NamesPrefix (m : Meaning) (r : Record) (line rest : List ℕ) (moment : Shown) : Type 0 where

@@ -10,4 +10,5 @@ mod sums;
 mod unix;
 mod windows;
 
-pub use plan::Plan;
+pub use plan::{Places, Plan};
+pub use unix::UnixTime;

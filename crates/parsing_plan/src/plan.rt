@@ -80,7 +80,7 @@ pub(crate) struct Prefix {
 /// Where each component of a line stands, for a description whose items all have fixed widths, but for a fraction of a
 /// second.
 #[derive(Clone, Copy)]
-pub(crate) struct Places {
+pub struct Places {
     pub(crate) prefix: Prefix,
     /// What follows a fraction of a second after the prefix, where there is one.
     pub(crate) back: Option<Back>,
@@ -88,9 +88,11 @@ pub(crate) struct Places {
     ghost one_offset: { ForSome back (λ _. SpareOffset prefix.windows) },
 }
 
-/// How lines of a description are read by places: each component where it stands, or Unix time alone.
+/// How lines of a description are read by places.
 #[derive(Clone, Copy)]
-pub struct Plan {
-    pub(crate) places: Option<Places>,
-    pub(crate) unix: Option<UnixTime>,
+pub enum Plan {
+    /// Each component where it stands.
+    Places(Places),
+    /// Unix time alone.
+    Unix(UnixTime),
 }

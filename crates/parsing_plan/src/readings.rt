@@ -107,9 +107,10 @@ fn read_split_prefix<'l>(
 }
 
 impl Places {
-    // The fields of a line, with an offset assumed or none.
+    /// The fields of a line, with an offset assumed or none, which counts only where the line has none: `None` says nothing of
+    /// the line.
     #[inline(always)]
-    fn read(&self, line: &[u8], assumed: Option<UtcOffset>) -> Option<Fields>
+    pub fn read(&self, line: &[u8], assumed: Option<UtcOffset>) -> Option<Fields>
         ensures { (m : Meaning) (defaults : Option Record) → ArePlacesOf m self.now
             → starting defaults ≡ beginning assumed
             → IfSome result
@@ -164,13 +165,10 @@ impl Plan {
             → IfSome result
             (λ f. names moment_named (whole m defaults line.now) ≡ Ok (moment_of f)) }
     {
-        if let Some(places) = &self.places {
-            return places.read(line, assumed);
+        match self {
+            Plan::Places(places) => places.read(line, assumed),
+            Plan::Unix(unix) => unix.read(line),
         }
-        if let Some(unix) = &self.unix {
-            return unix.read(line);
-        }
-        None
     }
 
     /// The fields of a prefix of a line that the plan finds, with an offset assumed or none, and what stands after that
@@ -186,9 +184,9 @@ impl Plan {
             (λ x. NamesPrefix m (beginning assumed) line.now x.1.now (moment_of x.0)) }
         ensures end { IfSome result (λ x. EndsWith line.now x.1.now) }
     {
-        let Some(places) = &self.places else {
-            return None;
-        };
-        places.read_prefix(line, assumed)
+        match self {
+            Plan::Places(places) => places.read_prefix(line, assumed),
+            Plan::Unix(_) => None,
+        }
     }
 }

@@ -17,7 +17,7 @@ const SECOND_DIGITS: usize = 10;
 
 /// Unix time alone: ten digits of seconds, and so many digits of a fraction after them.
 #[derive(Clone, Copy)]
-pub(crate) struct UnixTime {
+pub struct UnixTime {
     pub(crate) finer: usize,
     ghost few: { finer ≤ 6 },
 }

@@ -55,22 +55,41 @@ fn is_rare(input: &[u8]) -> bool {
     }
 }
 
-/// The fields of a text, where the fast way finds them: `None` says nothing of the text.
-///
-/// It finds those of all texts whose numbers are in range and whose second is no leap second. The soonest read are those with at
-/// most nine digits of a fraction and a big `Z` or an offset in digits.
+/// The fields of a text with at most nine digits of a fraction, and a big `Z` or an offset in digits, where its numbers are in
+/// range and its second is no leap second: `None` says nothing of the text.
 #[inline(always)]
-pub fn read_fields(input: &[u8]) -> Option<Fields>
+pub fn read_usual_fields(input: &[u8]) -> Option<Fields>
     ensures { IfSome result (λ fields. direct input.now ≡ Ok (Moment.moment_of fields)) }
 {
     // The hyphen by itself first: it is what most other texts lack.
     if input.len() < SHORTEST || input[4] != b'-' {
         return None;
     }
-    match read(&shape(), input) {
+    let fields = read(&shape(), input)?;
+    Some(fields)
+}
+
+/// The fields of a text with more digits of a fraction, or with a small `z`: `None` says nothing of the text.
+#[inline(always)]
+pub fn read_rare_fields(input: &[u8]) -> Option<Fields>
+    ensures { IfSome result (λ fields. direct input.now ≡ Ok (Moment.moment_of fields)) }
+{
+    if input.len() < SHORTEST || !is_rare(input) {
+        return None;
+    }
+    read_by_pieces(input)
+}
+
+/// The fields of a text, where the fast way finds them: `None` says nothing of the text.
+///
+/// It finds those of all texts whose numbers are in range and whose second is no leap second.
+#[inline(always)]
+pub fn read_fields(input: &[u8]) -> Option<Fields>
+    ensures { IfSome result (λ fields. direct input.now ≡ Ok (Moment.moment_of fields)) }
+{
+    match read_usual_fields(input) {
         Some(fields) => Some(fields),
-        None if is_rare(input) => read_by_pieces(input),
-        None => None,
+        None => read_rare_fields(input),
     }
 }
 

@@ -74,9 +74,25 @@ fn formats() -> [Option<(i64, u32)>; 4] {
     ]
 }
 
+// The same by the shape that nearly all texts of a format have, and by its others.
+fn shapes() -> [Option<(i64, u32)>; 6] {
+    [
+        instant(parsing_rfc3339::read_usual_fields(b"2021-01-02T03:04:05.5+01:00")),
+        instant(parsing_rfc3339::read_rare_fields(b"2021-01-02T02:04:05.5z")),
+        instant(parsing_rfc2822::read_usual_fields(b"Sat, 02 Jan 2021 03:04:05 +0100")),
+        instant(parsing_rfc2822::read_other_fields(b"Sat, 02 Jan 2021 02:04:05 GMT")),
+        instant(parsing_iso8601::read_usual_fields(b"20210102T030405.5+0100")),
+        instant(parsing_iso8601::read_fields_to_minute(b"2021-01-02T03:04+01:00")),
+    ]
+}
+
+// 2021-01-02T02:04:00Z.
+const MINUTE: Option<(i64, u32)> = Some((1_609_553_040, 0));
+
 #[test]
 fn fields_of_formats(rt: HostRuntime) {
     assert!(rt; formats() == [HALF, WHOLE, HALF, HALF]);
+    assert!(rt; shapes() == [HALF, HALF, WHOLE, WHOLE, HALF, MINUTE]);
 }
 
 // `20210102T030405`, the basic form of ISO 8601.

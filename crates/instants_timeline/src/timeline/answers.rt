@@ -8,7 +8,7 @@ ghost use Rattle.parsing_fields.specs.Moment.{moment_of};
 ghost use Rattle.instants_sources.specs.Grammar.{grammar_of};
 ghost use Rattle.instants_sources.specs.Grammar as grammar;
 ghost use Rattle.instants_sources.specs.Named.{named};
-ghost use Rattle.instants_timeline.specs.FirstNamed.{IsAnswerOf, IsFaultAt, NamesFrom};
+ghost use Rattle.instants_timeline.specs.FirstNamed.{IsAnswerOf, IsFaultAt, IsLedBy, NamesFrom};
 ghost use Rattle.instants_timeline.specs.Place.{first_named, place_text, shown_or_refused, answer_to};
 ghost use Rattle.instants_timeline.specs.Settings.{setting_of};
 
@@ -17,7 +17,10 @@ use crate::shown::shown_at;
 use crate::timeline::Timeline;
 use datetime_types::OffsetDateTime;
 use instants_answers::{Answer, write_fields, write_line};
-use instants_sources::{Source, fast_iso8601, fast_rfc2822, fast_rfc3339};
+use instants_sources::{
+    Source, fast_iso8601, fast_rfc2822, fast_rfc3339, iso8601_to_minute, other_rfc2822,
+    rare_rfc3339,
+};
 use parsing_combinator::Parse;
 use parsing_fields::Fields;
 
@@ -37,16 +40,16 @@ impl Timeline<'_> {
         }
     }
 
-    // Writes the moment that fields name, one of the few whose day has to be counted.
+    // Writes a moment whose day was counted, as few are of those that fields name.
     #[cold]
     #[inline(never)]
-    fn write_counted(&self, fields: Fields, storage: &mut Answer)
+    fn write_counted(&self, named: OffsetDateTime, storage: &mut Answer)
         ensures bytes { storage.new ≡
-            place_text (shown_or_refused (setting_of self.now).target (Ok (moment_of fields))) }
+            place_text (shown_or_refused (setting_of self.now).target (Ok named)) }
         ensures room { length storage.new ≤ 63 }
         ensures never_long { storage.new ≢ codes "! long" }
     {
-        self.write_shown(fields.moment(), storage);
+        self.write_shown(named, storage);
     }
 
     // Writes the moment that fields name: nearly all are written with no day counted.
@@ -58,7 +61,7 @@ impl Timeline<'_> {
         ensures never_long { storage.new ≢ codes "! long" }
     {
         if !write_fields(&fields, self.target, storage) {
-            self.write_counted(fields, storage);
+            self.write_counted(fields.moment(), storage);
         }
     }
 
@@ -311,17 +314,19 @@ impl Timeline<'_> {
         }
     }
 
-    // Writes the answer to a line of which the fast way of RFC 3339, the first source, says nothing: most lines with a fault of
-    // their own come this way.
+    // Writes the answer to a line that has not the usual shape of RFC 3339, the first source: most lines with a fault of their own
+    // come this way.
     #[cold]
     #[inline(never)]
-    pub(super) fn write_exact_rfc3339(&self, line: &[u8], storage: &mut Answer)
-        requires { (setting_of self.now).sources
-            ≡ grammar.Rfc3339 ∷ drop 1 (setting_of self.now).sources }
+    pub(super) fn write_rest_rfc3339(&self, line: &[u8], storage: &mut Answer)
+        requires { IsLedBy (setting_of self.now) grammar.Rfc3339 }
         ensures bytes { storage.new ≡ answer_to (setting_of self.now) line.now }
         ensures room { length storage.new ≤ 63 }
         ensures never_long { storage.new ≢ codes "! long" }
     {
+        if self.write_found(rare_rfc3339(line), storage) {
+            return;
+        }
         if self.assumed.is_some() {
             self.write_exact(0, line, storage);
             return;
@@ -329,6 +334,32 @@ impl Timeline<'_> {
         match parsing_rfc3339::read_exact(line) {
             Ok(named) => self.write_shown(named, storage),
             Err(fault) => self.write_refused(0, fault, line, storage),
+        }
+    }
+
+    // Writes the answer to a line that has not the usual shape of RFC 2822, the first source.
+    #[inline(never)]
+    pub(super) fn write_rest_rfc2822(&self, line: &[u8], storage: &mut Answer)
+        requires { IsLedBy (setting_of self.now) grammar.Rfc2822 }
+        ensures bytes { storage.new ≡ answer_to (setting_of self.now) line.now }
+        ensures room { length storage.new ≤ 63 }
+        ensures never_long { storage.new ≢ codes "! long" }
+    {
+        if !self.write_found(other_rfc2822(line), storage) {
+            self.write_rest(line, storage);
+        }
+    }
+
+    // Writes the answer to a line that has not the usual shape of ISO 8601, the first source.
+    #[inline(never)]
+    pub(super) fn write_rest_iso8601(&self, line: &[u8], storage: &mut Answer)
+        requires { IsLedBy (setting_of self.now) grammar.Iso8601 }
+        ensures bytes { storage.new ≡ answer_to (setting_of self.now) line.now }
+        ensures room { length storage.new ≤ 63 }
+        ensures never_long { storage.new ≢ codes "! long" }
+    {
+        if !self.write_found(iso8601_to_minute(line), storage) {
+            self.write_rest(line, storage);
         }
     }
 

@@ -1,18 +1,25 @@
 //! The ways in which the lines of a timeline are answered, each by fast ways first.
 ghost use Rattle.std.specs.Prelude.{◌≡◌, ◌≢◌, ◌≤◌, codes, length};
-ghost use Rattle.instants_timeline.specs.Place.{answer_to};
+ghost use Rattle.instants_timeline.specs.Place.{Setting, answer_to};
 ghost use Rattle.instants_timeline.specs.Settings.{setting_of};
 
 use crate::timeline::Timeline;
 use instants_answers::Answer;
-use instants_sources::{Source, fast_iso8601, fast_rfc2822, fast_rfc3339, is_no_rfc3339};
+use instants_sources::{
+    is_no_rfc3339, read_by_places, read_by_plan, usual_iso8601, usual_rfc2822, usual_rfc3339,
+};
 use instants_stream::AnswersLines;
+use parsing_plan::{Places, Plan};
 
 /// A way to answer the lines of a timeline, by the kind of its first source. All answer alike: a run over a stream is compiled
 /// once for each, with that source's fast way within it, so that what it holds and the fields of a line stay in registers.
 pub(crate) trait AnswerWay {
+    /// What the first source of the timeline is.
+    ghost leads: { Self → Setting → Type 0 };
+
     /// Writes the answer to a line.
     fn write_answer(&self, timeline: &Timeline, line: &[u8], storage: &mut Answer)
+        requires { ∥ leads self.now (setting_of timeline.now) ∥₁ }
         ensures bytes { storage.new ≡ answer_to (setting_of timeline.now) line.now }
         ensures room { length storage.new ≤ 63 }
         ensures never_long { storage.new ≢ codes "! long" };
@@ -23,19 +30,20 @@ pub(crate) trait AnswerWay {
 pub(crate) struct Rfc3339Way;
 
 impl AnswerWay for Rfc3339Way {
+    ghost use Rattle.instants_sources.specs.Grammar.{Rfc3339};
+    ghost use Rattle.instants_timeline.specs.FirstNamed.{IsLedBy};
+
+    ghost leads = { λ _ setting. IsLedBy setting Rfc3339 };
+
     #[inline(always)]
     fn write_answer(&self, timeline: &Timeline, line: &[u8], storage: &mut Answer) {
-        if let Source::Rfc3339 = timeline.first() {
-            if is_no_rfc3339(line) {
-                timeline.write_after(line, storage);
-                return;
-            }
-            if !timeline.write_found(fast_rfc3339(line), storage) {
-                timeline.write_exact_rfc3339(line, storage);
-            }
+        if is_no_rfc3339(line) {
+            timeline.write_after(line, storage);
             return;
         }
-        timeline.write_rest(line, storage);
+        if !timeline.write_found(usual_rfc3339(line), storage) {
+            timeline.write_rest_rfc3339(line, storage);
+        }
     }
 }
 
@@ -44,14 +52,16 @@ impl AnswerWay for Rfc3339Way {
 pub(crate) struct Rfc2822Way;
 
 impl AnswerWay for Rfc2822Way {
+    ghost use Rattle.instants_sources.specs.Grammar.{Rfc2822};
+    ghost use Rattle.instants_timeline.specs.FirstNamed.{IsLedBy};
+
+    ghost leads = { λ _ setting. IsLedBy setting Rfc2822 };
+
     #[inline(always)]
     fn write_answer(&self, timeline: &Timeline, line: &[u8], storage: &mut Answer) {
-        if let Source::Rfc2822 = timeline.first() {
-            if timeline.write_found(fast_rfc2822(line), storage) {
-                return;
-            }
+        if !timeline.write_found(usual_rfc2822(line), storage) {
+            timeline.write_rest_rfc2822(line, storage);
         }
-        timeline.write_rest(line, storage);
     }
 }
 
@@ -60,40 +70,100 @@ impl AnswerWay for Rfc2822Way {
 pub(crate) struct Iso8601Way;
 
 impl AnswerWay for Iso8601Way {
+    ghost use Rattle.instants_sources.specs.Grammar.{Iso8601};
+    ghost use Rattle.instants_timeline.specs.FirstNamed.{IsLedBy};
+
+    ghost leads = { λ _ setting. IsLedBy setting Iso8601 };
+
     #[inline(always)]
     fn write_answer(&self, timeline: &Timeline, line: &[u8], storage: &mut Answer) {
-        if let Source::Iso8601 = timeline.first() {
-            if timeline.write_found(fast_iso8601(line), storage) {
-                return;
-            }
+        if !timeline.write_found(usual_iso8601(line), storage) {
+            timeline.write_rest_iso8601(line, storage);
         }
-        timeline.write_rest(line, storage);
     }
 }
 
-/// Where a description is.
+/// Where a description is that has a plan with a place for each component.
 #[derive(Drop)]
-pub(crate) struct PlannedWay;
+pub(crate) struct PlacesWay<'p> {
+    places: &'p Places,
+}
 
-impl AnswerWay for PlannedWay {
+impl<'p> PlacesWay<'p> {
+    pub(crate) fn new(places: &'p Places) -> PlacesWay<'p>
+        ensures { result.places.now ≡ places.now }
+    {
+        PlacesWay { places }
+    }
+}
+
+impl AnswerWay for PlacesWay<'_> {
+    ghost use Rattle.parsing_plan.specs.declared.plan.Plan.TheVariants as plan;
+    ghost use Rattle.instants_timeline.specs.FirstNamed.{IsLedByPlan};
+
+    ghost leads = { λ way setting. IsLedByPlan setting (plan.Places way.places.now) };
+
     #[inline(always)]
     fn write_answer(&self, timeline: &Timeline, line: &[u8], storage: &mut Answer) {
-        let planned = timeline.first().read_planned(line, timeline.assumed);
+        let planned = read_by_places(self.places, line, timeline.assumed);
         if !timeline.write_found(planned, storage) {
             timeline.write_rest(line, storage);
         }
     }
 }
 
-/// A timeline whose lines are answered in one way.
+/// Where a description is that has another plan.
 #[derive(Drop)]
-pub(crate) struct Led<'a, 'b, W> {
+pub(crate) struct PlannedWay<'p> {
+    plan: &'p Plan,
+}
+
+impl<'p> PlannedWay<'p> {
+    pub(crate) fn new(plan: &'p Plan) -> PlannedWay<'p>
+        ensures { result.plan.now ≡ plan.now }
+    {
+        PlannedWay { plan }
+    }
+}
+
+impl AnswerWay for PlannedWay<'_> {
+    ghost use Rattle.instants_timeline.specs.FirstNamed.{IsLedByPlan};
+
+    ghost leads = { λ way setting. IsLedByPlan setting way.plan.now };
+
+    #[inline(always)]
+    fn write_answer(&self, timeline: &Timeline, line: &[u8], storage: &mut Answer) {
+        let planned = read_by_plan(self.plan, line, timeline.assumed);
+        if !timeline.write_found(planned, storage) {
+            timeline.write_rest(line, storage);
+        }
+    }
+}
+
+/// Where any source is, read the exact way: a description that has no plan.
+#[derive(Drop)]
+pub(crate) struct ExactWay;
+
+impl AnswerWay for ExactWay {
+    ghost leads = { λ _ _. Unit {0} };
+
+    #[inline(always)]
+    fn write_answer(&self, timeline: &Timeline, line: &[u8], storage: &mut Answer) {
+        timeline.write_rest(line, storage);
+    }
+}
+
+/// A timeline whose lines are answered in the way of its first source.
+#[derive(Drop)]
+pub(crate) struct Led<'a, 'b, W: AnswerWay> {
     timeline: &'a Timeline<'b>,
     way: W,
+    ghost leads: { ∥ W.leads way (setting_of timeline.now) ∥₁ },
 }
 
 impl<'a, 'b, W: AnswerWay> Led<'a, 'b, W> {
     pub(crate) fn new(timeline: &'a Timeline<'b>, way: W) -> Led<'a, 'b, W>
+        requires { ∥ W.leads way (setting_of timeline.now) ∥₁ }
         ensures { result.timeline.now ≡ timeline.now }
     {
         Led { timeline, way }

@@ -316,19 +316,13 @@ fn plan_of<N: Node>(items: &[N]) -> Option<Plan>
         (IsPlanOf (reading_of_all N.language (listed (map N.tree items.now)))) }
 {
     if let Some(places) = places_of(items) {
-        return Some(Plan {
-            places: Some(places),
-            unix: None,
-        });
+        return Some(Plan::Places(places));
     }
     if items.len() != 1 {
         return None;
     }
     let unix = unix_of(&items[0])?;
-    Some(Plan {
-        places: None,
-        unix: Some(unix),
-    })
+    Some(Plan::Unix(unix))
 }
 
 impl Plan {
