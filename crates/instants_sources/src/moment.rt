@@ -47,7 +47,8 @@ pub fn fast_iso8601(line: &[u8]) -> Option<Fields>
     parsing_iso8601::read_fields(line)
 }
 
-/// The same for the shape that nearly all lines of RFC 2822 have.
+/// The fields of the moment of a line of RFC 2822 of the shape that nearly all have, whatever offset is assumed: `None` says
+/// nothing of the line.
 #[inline(always)]
 pub fn usual_rfc2822(line: &[u8]) -> Option<Fields>
     ensures { IfSome result (λ fields. IsNamedBy grammar.Rfc2822 line.now (moment_of fields)) }
@@ -56,7 +57,8 @@ pub fn usual_rfc2822(line: &[u8]) -> Option<Fields>
     parsing_rfc2822::read_usual_fields(line)
 }
 
-/// The same for the other shapes of RFC 2822.
+/// The fields of the moment of a line of RFC 2822 of another shape, whatever offset is assumed: `None` says nothing of the
+/// line.
 #[inline(always)]
 pub fn other_rfc2822(line: &[u8]) -> Option<Fields>
     ensures { IfSome result (λ fields. IsNamedBy grammar.Rfc2822 line.now (moment_of fields)) }
@@ -65,7 +67,8 @@ pub fn other_rfc2822(line: &[u8]) -> Option<Fields>
     parsing_rfc2822::read_other_fields(line)
 }
 
-/// The same for the shape that nearly all lines of RFC 3339 have.
+/// The fields of the moment of a line of RFC 3339 of the shape that nearly all have, whatever offset is assumed: `None` says
+/// nothing of the line.
 #[inline(always)]
 pub fn usual_rfc3339(line: &[u8]) -> Option<Fields>
     ensures { IfSome result (λ fields. IsNamedBy grammar.Rfc3339 line.now (moment_of fields)) }
@@ -74,7 +77,8 @@ pub fn usual_rfc3339(line: &[u8]) -> Option<Fields>
     parsing_rfc3339::read_usual_fields(line)
 }
 
-/// The same for the other shapes of RFC 3339.
+/// The fields of the moment of a line of RFC 3339 with many digits of a fraction or a small `z`, whatever offset is assumed:
+/// `None` says nothing of the line.
 #[inline(always)]
 pub fn rare_rfc3339(line: &[u8]) -> Option<Fields>
     ensures { IfSome result (λ fields. IsNamedBy grammar.Rfc3339 line.now (moment_of fields)) }
@@ -83,7 +87,7 @@ pub fn rare_rfc3339(line: &[u8]) -> Option<Fields>
     parsing_rfc3339::read_rare_fields(line)
 }
 
-/// The same for a line of ISO 8601 with a second.
+/// The fields of the moment of a line of ISO 8601 with a second, whatever offset is assumed: `None` says nothing of the line.
 #[inline(always)]
 pub fn usual_iso8601(line: &[u8]) -> Option<Fields>
     ensures { IfSome result (λ fields. IsNamedBy grammar.Iso8601 line.now (moment_of fields)) }
@@ -92,7 +96,8 @@ pub fn usual_iso8601(line: &[u8]) -> Option<Fields>
     parsing_iso8601::read_usual_fields(line)
 }
 
-/// The same for a line of ISO 8601 without a second.
+/// The fields of the moment of a line of ISO 8601 without a second, whatever offset is assumed: `None` says nothing of the
+/// line.
 #[inline(always)]
 pub fn iso8601_to_minute(line: &[u8]) -> Option<Fields>
     ensures { IfSome result (λ fields. IsNamedBy grammar.Iso8601 line.now (moment_of fields)) }
