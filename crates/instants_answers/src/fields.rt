@@ -27,7 +27,7 @@ pub(crate) fn push_date(answer: &mut Answer, year: Year, month: u32, day: u32)
 #[inline(always)]
 #[tactic(auto, unfolding(crate::specs::Text::time_text))]
 pub(crate) fn push_clock(answer: &mut Answer, minute: usize, second: u32, fraction: Fraction)
-    requires room { length answer.old + 19 ≤ 64 }
+    requires room { length answer.old + 26 ≤ 64 }
     requires minute { minute < 1440 }
     requires second { second < 60 }
     ensures text { answer.new ≡ answer.old ++ (codes "T" ++ time_text (minute * 60 + second) fraction) }
@@ -37,5 +37,5 @@ pub(crate) fn push_clock(answer: &mut Answer, minute: usize, second: u32, fracti
     push_minute(answer, minute);
     push_two(answer, second);
     answer.push(b'.');
-    answer.push_bytes(&fraction.digits());
+    answer.push_prefix(&fraction.padded_digits(), 9);
 }

@@ -216,7 +216,8 @@ impl<W: ByteWriter> ByteWriter for BlockWriter<W> {
     #[inline(always)]
     fn write_prefix(&mut self, bytes: &[u8; 64], len: usize) -> Result<(), DeviceFailed> {
         if self.block.len() - self.end < 64 {
-            return self.write_prefix_past_end(bytes, len);
+            self.write_prefix_past_end(bytes, len)?;
+            return Ok(());
         }
         self.is_flushed = false;
         put_all(&mut self.block, self.end, bytes);

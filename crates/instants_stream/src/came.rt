@@ -7,7 +7,7 @@ ghost use Rattle.instants_stream.specs.Steps.{passed, opened, state_within, line
 ghost use Rattle.instants_stream.specs.Came.{came_said, came_state, came_begun, kept, GoesOn, end_said};
 
 use crate::devices::{ByteWriter, DeviceFailed};
-use crate::search::line_end;
+use crate::search::{line_end, line_end_after};
 use crate::writes_lines::WritesLines;
 
 // Where the unfinished line begins among bytes, and whether it is begun: it is longer than the limit, and nothing of it is left.
@@ -90,9 +90,11 @@ fn write_any<S: WritesLines, W: ByteWriter>(
 {
     if line.len() > limit {
         open_line(steps, limit, line, writer)?;
-        return steps.end_line(writer);
+        steps.end_line(writer)?;
+        return Ok(());
     }
-    steps.write_line(line, writer)
+    steps.write_line(line, writer)?;
+    Ok(())
 }
 
 // Writes for each whole line, and says where the last part begins. The first `searched` bytes are known to be no line feeds.
@@ -120,14 +122,19 @@ fn write_whole_lines<S: WritesLines, W: ByteWriter>(
 {
     let mut rest = bytes;
     // The end of the next line is found before a line is read, so that it isn't waited for.
-    let mut len = line_end(bytes, searched);
-    while len < rest.len() {
+    let mut len = line_end_after(bytes, searched);
+    if len == rest.len() {
+        return Ok(0);
+    }
+    loop {
         let line = &rest[..len];
         rest = after_line(rest, len);
-        len = line_end(rest, 0);
+        len = line_end(rest);
         write_any(steps, limit, line, writer)?;
+        if len == rest.len() {
+            return Ok(bytes.len() - rest.len());
+        }
     }
-    Ok(bytes.len() - rest.len())
 }
 
 // Goes on with a line, to its end if that came, where it is begun. (No part of the loop over lines, which takes fewer
@@ -155,7 +162,7 @@ fn go_on<S: WritesLines, W: ByteWriter>(
     if !is_begun {
         return Ok(Unfinished { start: 0, is_begun });
     }
-    let len = line_end(bytes, 0);
+    let len = line_end(bytes);
     pass_on(steps, &bytes[..len], writer)?;
     if len == bytes.len() {
         return Ok(Unfinished {

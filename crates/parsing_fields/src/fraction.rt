@@ -1,5 +1,5 @@
 //! Fractions of a second.
-ghost use Rattle.std.specs.Prelude.{◌≡◌, ◌+◌, ◌-◌, ◌<◌, ◌≤◌, [], drop, length, None, Some, IfSome};
+ghost use Rattle.std.specs.Prelude.{◌≡◌, ◌+◌, ◌-◌, ◌<◌, ◌≤◌, [], drop, length, replicate, take, None, Some, IfSome};
 ghost use Rattle.base.specs.Bytes.{digit_zero};
 ghost use Rattle.parsing_combinator.specs.Pieces as Pieces;
 ghost use Rattle.std.specs.Str.Parse.{digits_value};
@@ -148,5 +148,17 @@ impl Fraction {
     {
         let [a, b, c, d, e, f, g, h] = self.first.to_le_bytes();
         [a, b, c, d, e, f, g, h, self.last as u8]
+    }
+
+    /// The same, and seven zeros after them, as they lie in a vector.
+    #[inline(always)]
+    pub fn padded_digits(self) -> [u8; 16]
+        ensures text { take 9 result ≡ decimal 9 self }
+        ensures zeros { drop 9 result ≡ replicate 7 0 }
+        ensures bound { self < 1_000_000_000 }
+    {
+        let [a, b, c, d, e, f, g, h] = self.first.to_le_bytes();
+        let [i, j, k, l, m, n, o, p] = self.last.to_le_bytes();
+        [a, b, c, d, e, f, g, h, i, j, k, l, m, n, o, p]
     }
 }

@@ -45,11 +45,11 @@ digit_of text place digits k is few small room = record {
   few = few;
 }
 
-module _ (digits text : List ℕ) (first last : ℕ) (n : length text ≡ 16) (bytes : (k : ℕ) → get_or text k 0 < 256) (is_text : (k : ℕ) → k < 16 → get_or text k 0 ≡ (get_or digits k 0 + 48) % 2 ^ 8)
+module _ (digits text : List ℕ) (first last : ℕ) (n : length text ≡ 16) (bytes : (k : ℕ) → get_or text k 0 < 256) (is_text : (k : ℕ) → k < 9 → get_or text k 0 ≡ (get_or digits k 0 + 48) % 2 ^ 8)
     (is : first ≡ number_l 256 (chunk 0 8 text)) (end : last ≡ get_or text 8 0) where
   pub nine_there : ((k : ℕ) → k < 16 → get_or digits k 0 ≤ 9) → AreNineDigits first last
   nine_there few =
-      let same : (k : ℕ) → k < 9 → get_or text k 0 ≡ get_or digits k 0 + 48 = λ k lt. (omega (arith, is_text k (omega (arith, lt)), few k (omega (arith, lt)))) in
+      let same : (k : ℕ) → k < 9 → get_or text k 0 ≡ get_or digits k 0 + 48 = λ k lt. (omega (arith, is_text k lt, few k (omega (arith, lt)))) in
       (fraction_in text text 9 first last (lit≤ tt) (omega (arith, n)) n bytes (λ k lt. (omega (arith, same k lt))) (λ k lt. (omega (arith, same k lt, few k (omega (arith, lt))))) (λ k lt. refl) (λ k le lt. absurd (omega (arith, le, lt))) is end).are
 
   pub fraction_there : (line : List ℕ) (place count : ℕ) → HaveFraction line place count digits → WriteFraction (drop place line) count (digits_value 10 (nine_digits first last))
@@ -60,7 +60,7 @@ module _ (digits text : List ℕ) (first last : ℕ) (n : length text ≡ 16) (b
       (λ k lt. (omega (arith, byte k lt, (h.each k lt).digit.low)))
       (λ k lt. (omega (arith, byte k lt, (h.each k lt).digit.high)))
       (λ k lt. (omega (arith, byte k lt, is_text k (omega (arith, lt, h.few)), (h.each k lt).value, (h.each k lt).digit.low, (h.each k lt).digit.high)))
-      (λ k le lt. (omega (arith, is_text k (omega (arith, lt)), h.zeros k le (omega (arith, lt)))))
+      (λ k le lt. (omega (arith, is_text k lt, h.zeros k le (omega (arith, lt)))))
       is end).writes
 
 pub last_read : (last : LastBytes) (text : List ℕ) (end count : ℕ) (a v digits : List ℕ) → Seen last.window text (end - 16) a v → 16 ≤ end → count ≤ 9 → count + last.length ≤ 16

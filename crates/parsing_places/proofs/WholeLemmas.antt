@@ -12,7 +12,8 @@ module _ (shape : Shape) (tail : Tail) (text fa ft ba bt w la lt v lf f : List �
     (last : Seen tail.window text (length text - 16) la lt) (digits : Seen (digits_of tail) text (length text - 16) la lf)
     (joined : (k : ℕ) → k < 16 → get_or w k 0 ≡ bit_or (get_or ft k 0) (get_or bt k 0))
     (all : (k : ℕ) → k < 16 → get_or v k 0 ≡ bit_or (get_or w k 0) (get_or lt k 0))
-    (as_text : (k : ℕ) → k < 16 → get_or f k 0 ≡ (get_or lf k 0 + 48) % 2 ^ 8) where
+    (as_text : (k : ℕ) → k < 9 → get_or f k 0 ≡ (get_or lf k 0 + 48) % 2 ^ 8)
+    (as_rest : (k : ℕ) → 9 ≤ k → k < 16 → get_or lf k 0 ≡ 0 → get_or f k 0 ≡ 0) where
   -- a lane that the shape leaves free is that of the tail
   of_tail : (lane : ℕ) → IsFree shape lane → get_or v lane 0 ≡ get_or lt lane 0
   of_tail lane free =
@@ -22,9 +23,9 @@ module _ (shape : Shape) (tail : Tail) (text fa ft ba bt w la lt v lf f : List �
   of_prefix : (lane : ℕ) → lane < 16 → 128 ≤ get_or tail.window.taken.lanes lane 0 → get_or v lane 0 ≡ get_or w lane 0
   of_prefix lane small free = all lane small ∙ rw (last.none lane small free) (or_zero (get_or w lane 0))
 
-  text_digit : (lane place : ℕ) → lane < 16 → Takes (digits_of tail) lane place 9 → IsTextDigit f lane text (length text - 16 + place)
+  text_digit : (lane place : ℕ) → lane < 9 → Takes (digits_of tail) lane place 9 → IsTextDigit f lane text (length text - 16 + place)
   text_digit lane place small takes =
-      let d = digit_in (digits_of tail) text (length text - 16) la lf lane place 9 digits small (lit≤ tt) takes in
+      let d = digit_in (digits_of tail) text (length text - 16) la lf lane place 9 digits (omega (arith, small)) (lit≤ tt) takes in
       record { room = d.room; digit = d.digit; same = omega (arith, as_text lane small, d.value, d.few, d.digit.low) }
 
   pub have_lanes : shape.back_at + 16 ≤ length text → HaveLanes shape tail text v f
@@ -36,5 +37,6 @@ module _ (shape : Shape) (tail : Tail) (text fa ft ba bt w la lt v lf f : List �
     raw = λ lane place free inside is. of_tail lane free ∙ rw is at (last.taken lane free.lt (omega (arith, is, inside))) ∙ last.above_is place inside;
     none = λ lane free nothing. of_tail lane free ∙ last.none lane free.lt nothing;
     digits = text_digit;
-    zeros = λ lane small nothing. omega (arith, as_text lane small, digits.none lane small nothing);
+    zeros = λ lane small nothing. omega (arith, as_text lane small, digits.none lane (omega (arith, small)) nothing);
+    rest = λ lane le small. as_rest lane le small (digits.none lane small (tail.fraction_is.nothing lane (omega (arith, le, tail.fraction_is.few)) small));
   }

@@ -36,8 +36,9 @@ pub record HaveLanes (shape : Shape) (tail : Tail) (text v f : List ℕ) : Type 
   pub back : (lane place most : ℕ) → IsFree shape lane → most ≤ 9 → Takes tail.window lane place most → IsDigitAt v lane text (length text - 16 + place) most
   pub raw : (lane place : ℕ) → IsFree shape lane → place < 16 → get_or tail.window.taken.lanes lane 0 ≡ place → get_or v lane 0 ≡ above (get_or text (length text - 16 + place) 0) (get_or tail.window.low place 0)
   pub none : (lane : ℕ) → IsFree shape lane → 128 ≤ get_or tail.window.taken.lanes lane 0 → get_or v lane 0 ≡ 0
-  pub digits : (lane place : ℕ) → lane < 16 → Takes (digits_of tail) lane place 9 → IsTextDigit f lane text (length text - 16 + place)
-  pub zeros : (lane : ℕ) → lane < 16 → 128 ≤ get_or tail.digits.lanes lane 0 → get_or f lane 0 ≡ 48
+  pub digits : (lane place : ℕ) → lane < 9 → Takes (digits_of tail) lane place 9 → IsTextDigit f lane text (length text - 16 + place)
+  pub zeros : (lane : ℕ) → lane < 9 → 128 ≤ get_or tail.digits.lanes lane 0 → get_or f lane 0 ≡ 48
+  pub rest : (lane : ℕ) → 9 ≤ lane → lane < 16 → get_or f lane 0 ≡ 0
 
 -- where the offset of a text begins
 abbrev pub end_in : Tail → List ℕ → ℕ

@@ -26,6 +26,22 @@ pub(crate) fn all_above(bytes: u8x16, low: u8x16) -> u8x16
     bytes - low
 }
 
+// How far each byte lies beyond another, and 0 where it does not.
+#[inline(always)]
+fn all_beyond(bytes: u8x16, high: u8x16) -> u8x16
+    ensures { (k : ℕ) → k < LANES → get_or result k 0 ≡ get_or bytes k 0 - get_or high k 0 }
+{
+    bytes - bytes.simd_min(high)
+}
+
+// Whether all bytes are 0.
+#[inline(always)]
+fn are_zero(bytes: u8x16) -> bool
+    ensures { result ≡ true → (k : ℕ) → k < LANES → get_or bytes k 0 ≡ 0 }
+{
+    bytes.simd_eq(u8x16::splat(0)).all()
+}
+
 /// Whether no byte of three vectors is more than another.
 #[inline(always)]
 pub(crate) fn are_at_most(
@@ -40,27 +56,36 @@ pub(crate) fn are_at_most(
     ensures second { result ≡ true → (k : ℕ) → k < LANES → get_or second k 0 ≤ get_or second_high k 0 }
     ensures third { result ≡ true → (k : ℕ) → k < LANES → get_or third k 0 ≤ get_or third_high k 0 }
 {
-    (first.simd_le(first_high) & second.simd_le(second_high) & third.simd_le(third_high)).all()
+    let two = joined(
+        all_beyond(first, first_high),
+        all_beyond(second, second_high),
+    );
+    are_zero(joined(two, all_beyond(third, third_high)))
 }
 
-/// Digits as text.
+// The byte `0` in the first nine lanes.
+const NINE_ZEROS: [u8; LANES] = *b"000000000\0\0\0\0\0\0\0";
+
+/// The first nine digits as text, and the other lanes as they are.
 #[inline(always)]
 pub(crate) fn as_text(digits: u8x16) -> u8x16
-    ensures { (k : ℕ) → k < LANES → get_or result k 0 ≡ (get_or digits k 0 + 48) % 2 ^ 8 }
+    ensures text { (k : ℕ) → k < 9 → get_or result k 0 ≡ (get_or digits k 0 + 48) % 2 ^ 8 }
+    ensures rest { (k : ℕ) → 9 ≤ k → k < LANES → get_or digits k 0 ≡ 0 → get_or result k 0 ≡ 0 }
 {
-    digits + u8x16::splat(b'0')
+    digits + u8x16::from_array(NINE_ZEROS)
 }
 
-/// The first eight bytes as one number, the first one lowest, and the ninth.
+/// The first eight bytes as one number, the first one lowest, and the ninth, after which there are zeros.
 #[inline(always)]
 pub(crate) fn first_nine(bytes: u8x16) -> (u64, u64)
+    requires { (k : ℕ) → 9 ≤ k → k < LANES → get_or bytes k 0 ≡ 0 }
     ensures first { result.0 ≡ number_l 256 (chunk 0 8 bytes) }
     ensures last { result.1 ≡ get_or bytes 8 0 }
     ensures small { (k : ℕ) → get_or bytes k 0 < 256 }
     ensures long { length bytes ≡ 16 }
 {
     let halves: [u64; 2] = u64x2::from_le_bytes(bytes).to_array();
-    (halves[0], halves[1] % 256)
+    (halves[0], halves[1])
 }
 
 /// The bits of both.

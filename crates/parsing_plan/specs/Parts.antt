@@ -1,5 +1,5 @@
 -- What the slots of a line say of a date, a time of day and an offset.
-use Rattle.std.specs.Prelude.{◌≡◌, ◌≤◌, ℕ, ◌+◌, ◌*◌, Bool, true, List, ◌∷◌, drop, Option, Some, None, Ok, IsSome, ℤ, pos, ◌*ℤ◌, false, length, get_or}
+use Rattle.std.specs.Prelude.{◌≡◌, ◌<◌, ◌≤◌, ℕ, ◌+◌, ◌*◌, Bool, true, List, ◌∷◌, drop, Option, Some, None, Ok, IsSome, ℤ, pos, ◌*ℤ◌, false, length, get_or}
 use Rattle.std.specs.Option.{unwrap_or}
 use Rattle.calendar_count.specs.declared.month.Month.{Month}
 use Rattle.calendar_count.specs.Month.{month_number}
@@ -37,6 +37,13 @@ pub record HasSpaced (line : List ℕ) (place : ℕ) : Type 0 where
 -- the short name of a month has these letters
 abbrev pub IsNameOf : Month → ℕ → ℕ → ℕ → Type 0
 IsNameOf month first second third = (rest : List ℕ) → found true short_months (first ∷ second ∷ third ∷ rest) ≡ Some (month, rest)
+
+-- three letters in one number, the first one lowest, after a byte of zero
+pub record AreLetters (word first second third : ℕ) : Type 0 where
+  pub first_small : first < 256
+  pub second_small : second < 256
+  pub third_small : third < 256
+  pub word_is : word ≡ first * 256 + second * 65_536 + third * 16_777_216
 
 -- the short name of the month with a number has these letters
 pub record HasName (first second third number : ℕ) : Type 0 where

@@ -1,5 +1,5 @@
 //! The fields of a prefix of a line, by the places of its parts.
-ghost use Rattle.std.specs.Prelude.{◌≡◌, ◌<◌, ◌≤◌, ◌+◌, ◌-◌, ◌*◌, ◌*ℤ◌, pos, Ok, Some, None, true, false, drop, get_or, length, unsigned_abs, IfSome, Option, List, ℕ};
+ghost use Rattle.std.specs.Prelude.{◌≡◌, ◌<◌, ◌≤◌, ◌+◌, ◌-◌, ◌*◌, ◌%◌, ◌*ℤ◌, pos, Ok, Some, None, true, false, drop, get_or, length, unsigned_abs, IfSome, Option, List, ℕ};
 ghost use Rattle.std.specs.Option.{ForSome, ForNone};
 ghost use Rattle.calendar_count.specs.Calendar.{IsDay};
 ghost use Rattle.parsing_combinator.specs.Pieces.{digits};
@@ -7,7 +7,7 @@ ghost use Rattle.parsing_fields.specs.Moment.{moment_of};
 ghost use Rattle.parsing_record.specs.Meaning.{Meaning};
 ghost use Rattle.parsing_record.specs.Whole.{offset_named};
 ghost use Rattle.parsing_plan.specs.Layout.{HasNoOffset, IsPrefix};
-ghost use Rattle.parsing_plan.specs.Parts.{HasName, IsWeekday, WritesAt, WritesDay, WritesOffset, SaysMonth, SaysWeekday, SaysDate, SaysClock, SaysFraction, SaysOffset, HasSpaced};
+ghost use Rattle.parsing_plan.specs.Parts.{AreLetters, HasName, IsWeekday, WritesAt, WritesDay, WritesOffset, SaysMonth, SaysWeekday, SaysDate, SaysClock, SaysFraction, SaysOffset, HasSpaced};
 ghost use Rattle.parsing_plan.specs.Beginning.{beginning};
 ghost use Rattle.parsing_plan.specs.Sums.{HasSums, HasOffsetSums};
 ghost use Rattle.parsing_plan.specs.Windows.{SpareOffset};
@@ -19,6 +19,7 @@ use crate::sums::{Sums, split_sums_of, sums_of};
 use calendar::{Month, UtcOffset};
 use parsing_fields::{Fields, Fraction, Year, has_day};
 use parsing_places::{LANES, signed};
+use std::simd::prelude::*;
 
 // `Oct`, `Feb`, `Dec`, `Jul`, `Nov`, `Jan`, `Jun`, `May`, `Sep`, `Aug`, `Mar`, `Apr`, in one number each, the first letter
 // lowest, after the number of its month. The highest bits of a product of the letters say where in the table they would
@@ -42,12 +43,23 @@ static MONTHS: [u32; 16] = [
     0x7270_4104,
 ];
 
+// The three letters at a place in one number, the first one lowest, after a byte of zero.
+#[inline(always)]
+fn letters_at(line: &[u8], place: usize) -> u32
+    requires { place + 4 ≤ length line.now }
+    ensures { AreLetters result (get_or line.now place 0) (get_or line.now (place + 1) 0)
+        (get_or line.now (place + 2) 0) }
+{
+    let four = u8x4::from_slice(&line[place..]).to_array();
+    u32::from_le_bytes(four).wrapping_mul(256)
+}
+
 // The number of the month that has these letters.
 #[inline(always)]
-fn month_number(first: u8, second: u8, third: u8) -> Option<u8>
-    ensures { IfSome result (HasName first second third) }
+fn month_number(word: u32) -> Option<u8>
+    ensures { (first second third : ℕ) → AreLetters word first second third
+        → IfSome result (HasName first second third) }
 {
-    let word = u32::from_le_bytes([0, first, second, third]);
     let place = word.wrapping_mul(0x11c) >> 28;
     let number = MONTHS[place as usize].wrapping_sub(word);
     if number < 1 || number > 12 {
@@ -59,11 +71,11 @@ fn month_number(first: u8, second: u8, third: u8) -> Option<u8>
 // The number of the month whose name is at a place.
 #[inline(always)]
 fn month_name_at(line: &[u8], place: usize) -> Option<u8>
-    requires { place + 3 ≤ length line.now }
+    requires { place + 4 ≤ length line.now }
     ensures says { IfSome result (SaysMonth true line.now place) }
     ensures bound { IfSome result (λ n. (1 ≤ n) × (n ≤ 12)) }
 {
-    month_number(line[place], line[place + 1], line[place + 2])
+    month_number(letters_at(line, place))
 }
 
 // The month that has a number, which is written at a place.
@@ -143,10 +155,10 @@ static WEEKDAYS: [u32; 8] = [
 
 // Whether a weekday has these letters.
 #[inline(always)]
-fn is_weekday(first: u8, second: u8, third: u8) -> bool
-    ensures { result ≡ true → IsWeekday first second third }
+fn is_weekday(word: u32) -> bool
+    ensures { (first second third : ℕ) → AreLetters word first second third
+        → result ≡ true → IsWeekday first second third }
 {
-    let word = u32::from_le_bytes([0, first, second, third]);
     let place = word.wrapping_mul(0x7c) >> 29;
     WEEKDAYS[place as usize] == word
 }
@@ -154,13 +166,13 @@ fn is_weekday(first: u8, second: u8, third: u8) -> bool
 // Whether a weekday stands where one has to.
 #[inline(always)]
 fn has_weekday(place: Option<usize>, line: &[u8]) -> bool
-    requires { ForSome place (λ p. p + 3 ≤ length line.now) }
+    requires { ForSome place (λ p. p + 4 ≤ length line.now) }
     ensures { result ≡ true → SaysWeekday place line.now }
 {
     let Some(at) = place else {
         return true;
     };
-    is_weekday(line[at], line[at + 1], line[at + 2])
+    is_weekday(letters_at(line, at))
 }
 
 // Whether a year of four digits has the day.
@@ -196,15 +208,17 @@ pub(crate) fn date(prefix: &Prefix, line: &[u8], sums: Sums) -> Option<(Year, u8
     Some((year, month, day))
 }
 
-// The minute of the day, and the second.
+// The minute of the day, and the second, where they and the minutes of the offset are in range, and its sign is one.
 #[inline(always)]
 pub(crate) fn clock(prefix: &Prefix, line: &[u8], sums: Sums) -> Option<(u16, u8)>
     requires { HasSums prefix.now line.now sums }
     ensures says { IfSome result (λ t. SaysClock prefix.now.layout line.now t.0 t.1) }
     ensures minute { IfSome result (λ t. t.0 < 1440) }
     ensures second { IfSome result (λ t. t.1 < 60) }
+    ensures offset { IfSome result (λ _. sums.offset < 1440) }
+    ensures sign { IfSome result (λ _. sums.second % 2 ≡ 0) }
 {
-    if sums.minute >= 1440 {
+    if sums.minute >= 1440 || sums.offset >= 1440 || sums.second % 2 != 0 {
         return None;
     }
     Some((sums.minute as u16, (sums.second / 64) as u8))
@@ -221,16 +235,15 @@ fn assumed_minutes(offset: UtcOffset) -> i16
 
 // The minutes of the offset that stands at these places of a text.
 #[inline(always)]
-fn written_offset(places: OffsetPlaces, sums: Sums) -> Option<i16>
+fn written_offset(places: OffsetPlaces, sums: Sums) -> i16
+    requires few { sums.offset < 1440 }
+    requires sign { sums.second % 2 ≡ 0 }
     ensures writes { (l : Layout) (text : List ℕ)
         → HasOffsetSums l text places.hour places.minute sums
-        → IfSome result (WritesOffset text places.hour places.minute) }
-    ensures bound { IfSome result (λ o. unsigned_abs o ≤ 1559) }
+        → WritesOffset text places.hour places.minute result }
+    ensures bound { unsigned_abs result ≤ 1559 }
 {
-    if sums.offset >= 1440 || sums.second % 2 != 0 {
-        return None;
-    }
-    Some(signed(sums.offset, sums.second % 64 == 2))
+    signed(sums.offset, sums.second % 64 == 2)
 }
 
 // The minutes of the offset, of a text that has a layout or else of the one that is assumed.
@@ -240,13 +253,15 @@ pub(crate) fn offset(
     sums: Sums,
     assumed: Option<UtcOffset>,
 ) -> Option<i16>
+    requires few { sums.offset < 1440 }
+    requires sign { sums.second % 2 ≡ 0 }
     ensures says { (l : Layout) (text : List ℕ) → ForNone places (HasNoOffset l)
         → ForSome places (λ p. HasOffsetSums l text p.hour p.minute sums)
         → IfSome result (SaysOffset l text assumed) }
     ensures bound { IfSome result (λ o. unsigned_abs o ≤ 1559) }
 {
     match places {
-        Some(at) => written_offset(at, sums),
+        Some(at) => Some(written_offset(at, sums)),
         None => {
             let offset = assumed?;
             Some(assumed_minutes(offset))

@@ -61,6 +61,7 @@ fn digits(rt: HostRuntime) {
     // `12345678` and `9` in ASCII, the first digit lowest.
     let nine = Fraction::of_nine(0x3837_3635_3433_3231, 0x39);
     assert!(rt; nine.nanosecond() == 123_456_789);
+    assert!(rt; nine.padded_digits() == *b"123456789\0\0\0\0\0\0\0");
     assert!(rt; read_fraction(b"5Z") == Some((*b"500000000", 500_000_000, 1)));
     assert!(rt; digit_chunk(b"123Z") == Some((u64::from_le_bytes(*b"12300000"), 3)));
 }

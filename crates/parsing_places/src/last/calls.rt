@@ -9,10 +9,11 @@ use crate::shape::Window;
 use parsing_fields::Fraction;
 use std::simd::prelude::*;
 
-/// The fraction of these digits.
+/// The fraction of these digits, of which at most nine are there, and zeros after them.
 #[inline(always)]
 pub fn fraction_of(digits: u8x16) -> Fraction
-    requires { (k : ℕ) → k < LANES → get_or digits k 0 ≤ 9 }
+    requires few { (k : ℕ) → k < LANES → get_or digits k 0 ≤ 9 }
+    requires rest { (k : ℕ) → 9 ≤ k → k < LANES → get_or digits k 0 ≡ 0 }
     ensures writes { (text : List ℕ) (place count : ℕ) → HaveFraction text place count digits
         → WriteFraction (drop place text) count result }
     ensures bound { result < 1_000_000_000 }
@@ -85,6 +86,7 @@ impl LastBytes {
         requires near { count + self.now.length ≤ LANES }
         ensures last { result.0 ≡ true → HaveLast self.now text.now end count result.1 result.2 }
         ensures digits { result.0 ≡ true → (k : ℕ) → k < LANES → get_or result.2 k 0 ≤ 9 }
+        ensures rest { (k : ℕ) → 9 ≤ k → k < LANES → get_or result.2 k 0 ≡ 0 }
     {
         let low = u8x16::from_array(self.window.low);
         let high = u8x16::from_array(self.window.high);

@@ -95,14 +95,14 @@ fn last_offset_of(layout: &Layout, last: &Window) -> Option<Option<OffsetPlaces>
 // Whether there is room for a month's name, or the windows take its number.
 fn is_month(layout: &Layout, windows: &Windows, place: usize) -> bool
     ensures room { result ≡ true
-        → layout.now.month_is_named ≡ true → place + 3 ≤ layout.now.length }
+        → layout.now.month_is_named ≡ true → place + 4 ≤ layout.now.length }
     ensures none { result ≡ true → layout.now.month_is_named ≡ true → SpareTwo windows.now 0 }
     ensures digits { result ≡ true
         → layout.now.month_is_named ≡ false → TakeTwo windows.now 0 place 5 }
 {
     let length = layout.length;
     if layout.month_is_named {
-        return length >= 3 && place <= length - 3 && windows.spare_two(0);
+        return length >= 4 && place <= length - 4 && windows.spare_two(0);
     }
     place < LENGTH && windows.take_two(0, place, 5)
 }
@@ -110,10 +110,10 @@ fn is_month(layout: &Layout, windows: &Windows, place: usize) -> bool
 // Whether there is room for a weekday's name, if the layout has one.
 fn has_weekday_room(layout: &Layout) -> bool
     ensures { result ≡ true
-        → ForSome layout.now.weekday (λ place. place + 3 ≤ layout.now.length) }
+        → ForSome layout.now.weekday (λ place. place + 4 ≤ layout.now.length) }
 {
     match layout.weekday {
-        Some(place) => layout.length >= 3 && place <= layout.length - 3,
+        Some(place) => layout.length >= 4 && place <= layout.length - 4,
         None => true,
     }
 }

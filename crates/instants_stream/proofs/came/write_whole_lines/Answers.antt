@@ -1,9 +1,10 @@
-use Rattle.std.proofs.Common.{rules, ◌≤◌, ◌≡◌, ℕ, ◌+◌, ◌-◌, ◌<◌, List, length, get_or, take, drop, refl, sym, ap, ◌∙◌, subst, arith, length-drop}
+use Rattle.std.proofs.Common.{rules, ◌≤◌, ◌≡◌, ℕ, ◌+◌, ◌-◌, ◌<◌, List, [], ◌∷◌, ◌++◌, length, get_or, take, drop, Option, refl, sym, ap, ◌∙◌, subst, arith, length-drop}
 use Rattle.std.proofs.KnownBytes.{Appends-nil, Appends-trans}
 use Rattle.std.proofs.lemmas.List.{drop-drop, take_all}
 use Rattle.std.proofs.lemmas.Result.{err_from_is_err_and}
-use Rattle.instants_stream.specs.Lines.{HasNoLineFeed, whole_lines}
-use Rattle.instants_stream.specs.Steps.{written, after}
+use Rattle.std.specs.Io.KnownBytes.{Appends}
+use Rattle.instants_stream.specs.Lines.{HasNoLineFeed, whole_lines, last_part}
+use Rattle.instants_stream.specs.Steps.{Steps, written, after, line_said, line_next}
 use Rattle.instants_stream.specs.Known.{AppendsPrefix}
 use Rattle.instants_stream.proofs.Lines.{whole_lines_none, last_part_of_none}
 use Rattle.instants_stream.proofs.Written.{written-next, after-next, written-begins}
@@ -11,9 +12,9 @@ use Rattle.instants_stream.proofs.Known.{AppendsPrefix-after, AppendsPrefix-more
 use Rattle.instants_stream.proofs.WholeLines.{whole_lines-prefix, next_ended, next_lines, rest_is_last, lines_are_all}
 use Rattle.instants_stream.proofs.came.write_whole_lines.Goals as goal
 
-pub loop-len-init : goal.loop-len-init
+pub loop-init : goal.loop-init
 unfolding written after
-loop-len-init g c =
+loop-init g c =
     let n = length c.args.bytes.now in
     let start : n - n ≡ 0 = omega arith in
     record {
@@ -22,85 +23,125 @@ loop-len-init g c =
       ended = rw start last_part_of_none;
       written = rw (start, whole_lines_none) (Appends-nil _);
       stands = rw (start, whole_lines_none) refl;
-      inside = c.line_end-len.ensures.within;
-      before = c.line_end-len.ensures.before;
-      line_feed = c.line_end-len.ensures.line_feed;
+      inside = omega (arith, c.line_end_after-len.ensures.within, c.if-len-rest.false);
+      before = c.line_end_after-len.ensures.before;
+      line_feed = c.line_end_after-len.ensures.line_feed (omega (arith, c.line_end_after-len.ensures.within, c.if-len-rest.false));
       works = refl;
     }
 
--- what is found in the rest is found after the lines that are done
-record Found (bytes rest : List ℕ) (start len : ℕ) : Type 0 where
-  is : rest ≡ drop start bytes
-  short : len < length rest
-  within : len < length (drop start bytes)
-  line_feed : get_or (drop start bytes) len 0 ≡ 10
-  free : HasNoLineFeed (take len (drop start bytes))
-  line : take len rest ≡ take len (drop start bytes)
+-- the rest after a line of it, which ends at a line feed
+record IsNext (bytes rest after : List ℕ) (len : ℕ) : Type 0 where
+  within : length after ≤ length bytes
+  shorter : length after < length rest
+  start_is : length bytes - length after ≡ length bytes - length rest + (len + 1)
+  rest_is : after ≡ drop (length bytes - length after) bytes
+  ended : last_part (take (length bytes - length after) bytes) ≡ []
+  lines : whole_lines (take (length bytes - length after) bytes) ≡ whole_lines (take (length bytes - length rest) bytes) ++ take len rest ∷ []
 
-of_rest : (bytes rest : List ℕ) (start len : ℕ) → rest ≡ drop start bytes → len < length rest → get_or rest len 0 ≡ 10 → HasNoLineFeed (take len rest) → Found bytes rest start len
-of_rest bytes rest start len is short line_feed free = record {
-  is = is;
-  short = short;
-  within = subst (λ (l : List ℕ). len < length l) is short;
-  line_feed = subst (λ (l : List ℕ). get_or l len 0 ≡ 10) is line_feed;
-  free = subst (λ (l : List ℕ). HasNoLineFeed (take len l)) is free;
-  line = ap (take len) is;
-}
-
-pub loop-len-preserved : goal.loop-len-preserved
-loop-len-preserved g c =
-    let i = c.loop-len.invariant in
-    let bytes = c.args.bytes.now in
-    let rest = c.loop-len.rest.now in
-    let after = c.after_line-rest.result.now in
-    let start = length bytes - length rest in
-    let len = c.loop-len.len in
-    let short : len < length rest = search rules in
-    let f = of_rest bytes rest start len i.rest_is short (i.line_feed short) i.before in
-    let shorter : length after ≡ length rest - (len + 1) = ap length c.after_line-rest.ensures ∙ length-drop (len + 1) rest in
-    let next_start : length bytes - length after ≡ start + (len + 1) = omega (arith, i.within, f.short, shorter) in
-    let wrote = rw f.line at c.in_ok-write_any.ensures.written in
-    let goes = rw f.line at c.in_ok-write_any.ensures.state in
-    let lines = next_lines bytes start len i.ended f.within f.line_feed f.free in
+next : (bytes rest rest_after : List ℕ) (len : ℕ) → length rest ≤ length bytes → rest ≡ drop (length bytes - length rest) bytes → last_part (take (length bytes - length rest) bytes) ≡ [] → len < length rest → HasNoLineFeed (take len rest) → get_or rest len 0 ≡ 10 → rest_after ≡ drop (len + 1) rest → IsNext bytes rest rest_after len
+next bytes rest rest_after len within is ended short before line_feed is_after =
+    let start : ℕ = length bytes - length rest in
+    let shorter : length rest_after ≡ length rest - (len + 1) = ap length is_after ∙ length-drop (len + 1) rest in
+    let next_start : length bytes - length rest_after ≡ start + (len + 1) = omega (arith, within, short, shorter) in
+    let inside : len < length (drop start bytes) = subst (λ (l : List ℕ). len < length l) is short in
+    let feed : get_or (drop start bytes) len 0 ≡ 10 = subst (λ (l : List ℕ). get_or l len 0 ≡ 10) is line_feed in
+    let free : HasNoLineFeed (take len (drop start bytes)) = subst (λ (l : List ℕ). HasNoLineFeed (take len l)) is before in
     record {
-      within = omega (arith, i.within, shorter);
-      rest_is = c.after_line-rest.ensures ∙ ap (drop (len + 1)) i.rest_is ∙ drop-drop (len + 1) start bytes ∙ ap (λ (n : ℕ). drop n bytes) (sym next_start);
-      ended = rw next_start (next_ended bytes start len i.ended f.within f.line_feed f.free);
-      written = rw (next_start, lines, written-next g.S.WritesLines.State g.S.WritesLines.steps c.args.limit (g.S.WritesLines.state c.args.steps.now) (g.S.WritesLines.state c.loop-len.steps) (whole_lines (take start bytes)) _ i.stands) (Appends-trans _ _ _ _ _ i.written wrote);
-      stands = rw (next_start, lines, after-next g.S.WritesLines.State g.S.WritesLines.steps c.args.limit (g.S.WritesLines.state c.args.steps.now) (g.S.WritesLines.state c.loop-len.steps) (whole_lines (take start bytes)) _ i.stands) goes;
-      inside = c.line_end-len-in-loop-len.ensures.within;
-      before = c.line_end-len-in-loop-len.ensures.before;
-      line_feed = c.line_end-len-in-loop-len.ensures.line_feed;
+      within = omega (arith, within, shorter);
+      shorter = omega (arith, short, shorter);
+      start_is = next_start;
+      rest_is = is_after ∙ ap (drop (len + 1)) is ∙ drop-drop (len + 1) start bytes ∙ ap (λ (n : ℕ). drop n bytes) (sym next_start);
+      ended = rw next_start (next_ended bytes start len ended inside feed free);
+      lines = rw next_start (next_lines bytes start len ended inside feed free ∙ ap (λ (l : List ℕ). whole_lines (take start bytes) ++ l ∷ []) (ap (take len) (sym is)));
+    }
+
+-- ---- what is written for one line more, and what stands after it
+module _ (State : Type 0) (steps : Steps State) (limit : ℕ) (first state new : State) (bytes rest after_line : List ℕ) (len : ℕ)
+    (to : IsNext bytes rest after_line len)
+    (stands : state ≡ after steps limit first (whole_lines (take (length bytes - length rest) bytes))) where
+  said_more : (old held held_new : Option (List ℕ)) → Appends old held (written steps limit first (whole_lines (take (length bytes - length rest) bytes))) → Appends held held_new (line_said steps limit state (take len rest)) → Appends old held_new (written steps limit first (whole_lines (take (length bytes - length after_line) bytes)))
+  said_more old held held_new so_far wrote = rw (to.lines, written-next State steps limit first state (whole_lines (take (length bytes - length rest) bytes)) (take len rest) stands) (Appends-trans _ _ _ _ _ so_far wrote)
+
+  stands_more : new ≡ line_next steps limit state (take len rest) → new ≡ after steps limit first (whole_lines (take (length bytes - length after_line) bytes))
+  stands_more goes = rw (to.lines, after-next State steps limit first state (whole_lines (take (length bytes - length rest) bytes)) (take len rest) stands) goes
+
+pub loop-preserved : goal.loop-preserved
+loop-preserved g c =
+    let i = c.loop.invariant in
+    let bytes = c.args.bytes.now in
+    let to = next bytes c.loop.rest.now c.after_line-rest.result.now c.loop.len i.within i.rest_is i.ended i.inside i.before i.line_feed c.after_line-rest.ensures in
+    let first = g.S.WritesLines.state c.args.steps.now in
+    let state = g.S.WritesLines.state c.loop.steps in
+    let new = g.S.WritesLines.state c.write_any.new.steps in
+    record {
+      within = to.within;
+      rest_is = to.rest_is;
+      ended = to.ended;
+      written = said_more g.S.WritesLines.State g.S.WritesLines.steps c.args.limit first state new bytes _ _ _ to i.stands _ _ _ i.written c.in_ok-write_any.ensures.written;
+      stands = stands_more g.S.WritesLines.State g.S.WritesLines.steps c.args.limit first state new bytes _ _ _ to i.stands c.in_ok-write_any.ensures.state;
+      inside = omega (arith, c.line_end-len.ensures.within, c.if-len-rest-2.false);
+      before = c.line_end-len.ensures.before;
+      line_feed = c.line_end-len.ensures.line_feed (omega (arith, c.line_end-len.ensures.within, c.if-len-rest-2.false));
       works = c.in_ok-write_any.ensures.ok ∙ i.works;
     }
 
 pub returns-in_err-write_any-clause-prefix : goal.returns-in_err-write_any-clause-prefix
 returns-in_err-write_any-clause-prefix g c =
     let p = err_from_is_err_and c.from_residual.result c.from_residual.ensures.1 in
-    let i = c.loop-len.invariant in
+    let i = c.loop.invariant in
     let bytes = c.args.bytes.now in
-    let rest = c.loop-len.rest.now in
-    let start = length bytes - length rest in
-    let len = c.loop-len.len in
-    let short : len < length rest = search rules in
-    let f = of_rest bytes rest start len i.rest_is short (i.line_feed short) i.before in
-    let wrote = rw f.line at c.in_err-write_any.ensures.prefix in
-    let lines = next_lines bytes start len i.ended f.within f.line_feed f.free in
-    let some = whole_lines (take (start + (len + 1)) bytes) in
-    let said : AppendsPrefix (g.W.ByteWriter.held c.args.writer.now) (g.W.ByteWriter.held c.write_any.new.writer) (written g.S.WritesLines.steps c.args.limit (g.S.WritesLines.state c.args.steps.now) some) =
-    rw (lines, written-next g.S.WritesLines.State g.S.WritesLines.steps c.args.limit (g.S.WritesLines.state c.args.steps.now) (g.S.WritesLines.state c.loop-len.steps) (whole_lines (take start bytes)) _ i.stands) (AppendsPrefix-after _ _ _ _ _ i.written wrote) in
-    let begins = written-begins g.S.WritesLines.State g.S.WritesLines.steps c.args.limit (g.S.WritesLines.state c.args.steps.now) (whole_lines bytes) some (whole_lines (drop (start + (len + 1)) bytes)) (whole_lines-prefix bytes (start + (len + 1)) (next_ended bytes start len i.ended f.within f.line_feed f.free)) in
+    let rest = c.loop.rest.now in
+    let to = next bytes rest c.after_line-rest.result.now c.loop.len i.within i.rest_is i.ended i.inside i.before i.line_feed c.after_line-rest.ensures in
+    let first = g.S.WritesLines.state c.args.steps.now in
+    let some = whole_lines (take (length bytes - length c.after_line-rest.result.now) bytes) in
+    let said : AppendsPrefix (g.W.ByteWriter.held c.args.writer.now) (g.W.ByteWriter.held c.write_any.new.writer) (written g.S.WritesLines.steps c.args.limit first some) =
+    rw (to.lines, written-next g.S.WritesLines.State g.S.WritesLines.steps c.args.limit first (g.S.WritesLines.state c.loop.steps) (whole_lines (take (length bytes - length rest) bytes)) _ i.stands) (AppendsPrefix-after _ _ _ _ _ i.written c.in_err-write_any.ensures.prefix) in
+    let begins = written-begins g.S.WritesLines.State g.S.WritesLines.steps c.args.limit first (whole_lines bytes) some (whole_lines (drop (length bytes - length c.after_line-rest.result.now) bytes)) (whole_lines-prefix bytes _ to.ended) in
     rw (p.1, begins.1) (AppendsPrefix-more _ _ _ begins.0 said)
 
 -- no line feed is left
-free : (bytes rest : List ℕ) (start len : ℕ) → rest ≡ drop start bytes → length rest ≤ len → HasNoLineFeed (take len rest) → HasNoLineFeed (drop start bytes)
-free bytes rest start len is all before = subst HasNoLineFeed (take_all len rest all ∙ is) before
+free : (bytes rest : List ℕ) (start len : ℕ) → rest ≡ drop start bytes → len ≡ length rest → HasNoLineFeed (take len rest) → HasNoLineFeed (drop start bytes)
+free bytes rest start len is all before = subst HasNoLineFeed (take_all len rest (omega (arith, all)) ∙ is) before
 
-pub returns-clause-rest : goal.returns-clause-rest
-returns-clause-rest g c = rest_is_last c.args.bytes.now _ c.loop-len.invariant.ended (free c.args.bytes.now c.loop-len.rest.now _ c.loop-len.len c.loop-len.invariant.rest_is (search rules) c.loop-len.invariant.before)
+-- ---- there is no whole line
+none : (bytes : List ℕ) (len : ℕ) → len ≡ length bytes → HasNoLineFeed (take len bytes) → HasNoLineFeed (drop 0 bytes)
+none bytes len all before = free bytes bytes 0 len refl all before
 
-pub returns-clause-written : goal.returns-clause-written
-returns-clause-written g c = rw (lines_are_all c.args.bytes.now _ c.loop-len.invariant.ended (free c.args.bytes.now c.loop-len.rest.now _ c.loop-len.len c.loop-len.invariant.rest_is (search rules) c.loop-len.invariant.before)) c.loop-len.invariant.written
+pub returns-then-len-rest-clause-rest : goal.returns-then-len-rest-clause-rest
+returns-then-len-rest-clause-rest g c = rest_is_last c.args.bytes.now 0 last_part_of_none (none c.args.bytes.now _ (omega (arith, c.if-len-rest.true)) c.line_end_after-len.ensures.before)
 
-pub returns-clause-state : goal.returns-clause-state
-returns-clause-state g c = rw (lines_are_all c.args.bytes.now _ c.loop-len.invariant.ended (free c.args.bytes.now c.loop-len.rest.now _ c.loop-len.len c.loop-len.invariant.rest_is (search rules) c.loop-len.invariant.before)) c.loop-len.invariant.stands
+pub returns-then-len-rest-clause-written : goal.returns-then-len-rest-clause-written
+unfolding written
+returns-then-len-rest-clause-written g c = rw (lines_are_all c.args.bytes.now 0 last_part_of_none (none c.args.bytes.now _ (omega (arith, c.if-len-rest.true)) c.line_end_after-len.ensures.before), whole_lines_none) (Appends-nil _)
+
+pub returns-then-len-rest-clause-state : goal.returns-then-len-rest-clause-state
+unfolding after
+returns-then-len-rest-clause-state g c = rw (lines_are_all c.args.bytes.now 0 last_part_of_none (none c.args.bytes.now _ (omega (arith, c.if-len-rest.true)) c.line_end_after-len.ensures.before), whole_lines_none) refl
+
+-- ---- the last whole line is done
+pub returns-then-len-rest-2-clause-rest : goal.returns-then-len-rest-2-clause-rest
+returns-then-len-rest-2-clause-rest g c =
+    let i = c.loop.invariant in
+    let bytes = c.args.bytes.now in
+    let to = next bytes c.loop.rest.now c.after_line-rest.result.now c.loop.len i.within i.rest_is i.ended i.inside i.before i.line_feed c.after_line-rest.ensures in
+    rest_is_last bytes _ to.ended (free bytes _ _ _ to.rest_is (omega (arith, c.if-len-rest-2.true)) c.line_end-len.ensures.before)
+
+pub returns-then-len-rest-2-clause-written : goal.returns-then-len-rest-2-clause-written
+returns-then-len-rest-2-clause-written g c =
+    let i = c.loop.invariant in
+    let bytes = c.args.bytes.now in
+    let to = next bytes c.loop.rest.now c.after_line-rest.result.now c.loop.len i.within i.rest_is i.ended i.inside i.before i.line_feed c.after_line-rest.ensures in
+    let first = g.S.WritesLines.state c.args.steps.now in
+    let state = g.S.WritesLines.state c.loop.steps in
+    let new = g.S.WritesLines.state c.write_any.new.steps in
+    rw (lines_are_all bytes _ to.ended (free bytes _ _ _ to.rest_is (omega (arith, c.if-len-rest-2.true)) c.line_end-len.ensures.before)) (said_more g.S.WritesLines.State g.S.WritesLines.steps c.args.limit first state new bytes _ _ _ to i.stands _ _ _ i.written c.in_ok-write_any.ensures.written)
+
+pub returns-then-len-rest-2-clause-state : goal.returns-then-len-rest-2-clause-state
+returns-then-len-rest-2-clause-state g c =
+    let i = c.loop.invariant in
+    let bytes = c.args.bytes.now in
+    let to = next bytes c.loop.rest.now c.after_line-rest.result.now c.loop.len i.within i.rest_is i.ended i.inside i.before i.line_feed c.after_line-rest.ensures in
+    let first = g.S.WritesLines.state c.args.steps.now in
+    let state = g.S.WritesLines.state c.loop.steps in
+    let new = g.S.WritesLines.state c.write_any.new.steps in
+    rw (lines_are_all bytes _ to.ended (free bytes _ _ _ to.rest_is (omega (arith, c.if-len-rest-2.true)) c.line_end-len.ensures.before)) (stands_more g.S.WritesLines.State g.S.WritesLines.steps c.args.limit first state new bytes _ _ _ to i.stands c.in_ok-write_any.ensures.state)

@@ -41,4 +41,4 @@ returns c = λ e.
       taken = c.of-4.ensures.taken;
       none = c.of-4.ensures.none;
     } in
-    have_lanes shape tail text c.all_above-first.result c.of.result c.all_above-second.result c.of-2.result c.joined-prefix.result c.all_above-last.result c.of-3.result c.joined-digits.result c.of-4.result c.as_text-fraction.result prefix back last digits c.joined-prefix.ensures c.joined-digits.ensures c.as_text-fraction.ensures c.requires
+    have_lanes shape tail text c.all_above-first.result c.of.result c.all_above-second.result c.of-2.result c.joined-prefix.result c.all_above-last.result c.of-3.result c.joined-digits.result c.of-4.result c.as_text-fraction.result prefix back last digits c.joined-prefix.ensures c.joined-digits.ensures c.as_text-fraction.ensures.text c.as_text-fraction.ensures.rest c.requires

@@ -2,6 +2,9 @@ use Rattle.std.proofs.Common.{arith}
 use Rattle.parsing_places.proofs.SumLemmas.{sums_read}
 use Rattle.parsing_places.proofs.parts.totals.Goals as goal
 
+pub first_nine-first-requires : goal.first_nine-first-requires
+first_nine-first-requires c = λ k le lt. (c.lanes_of-fits.ensures c.if-not-fits.false).rest k le lt
+
 pub returns : goal.returns
 returns c =
     let shape = c.args.shape.now in

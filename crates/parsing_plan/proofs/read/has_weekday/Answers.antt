@@ -1,3 +1,4 @@
+use Rattle.std.proofs.Common.{arith}
 use Rattle.parsing_plan.proofs.Numbers.{weekday_named, no_weekday}
 use Rattle.parsing_plan.proofs.read.has_weekday.Goals as goal
 
@@ -6,5 +7,5 @@ returns-in_default c = λ e. rw c.in_default.is (no_weekday c.args.line.now)
 
 pub returns : goal.returns
 returns c = λ e.
-    let is = c.is_weekday.ensures e in
-    rw c.in-Some.is (weekday_named c.in-Some.at c.args.line.now is.weekday (c.requires c.in-Some.at c.in-Some.is) is.name)
+    let is = c.is_weekday.ensures _ _ _ c.letters_at.ensures e in
+    rw c.in-Some.is (weekday_named c.in-Some.at c.args.line.now is.weekday (omega (arith, c.requires c.in-Some.at c.in-Some.is)) is.name)

@@ -9,8 +9,8 @@ pub returns-clause-writes : goal.returns-clause-writes
 returns-clause-writes c = λ l text h.
     let few : unsigned_abs c.signed.result ≤ 1559 = c.signed.ensures.bound in
     let whole : to_z w16 (of_z w16 c.signed.result) ≡ c.signed.result = omega (arith, ints) in
-    let even : c.args.sums.second % 64 % 2 ≡ 0 = omega (arith, c.if-sums-ne0.false) in
+    let even : c.args.sums.second % 64 % 2 ≡ 0 = omega (arith, c.requires.sign) in
     let sign = sign_of _ (c.args.sums.second % 64) h.sign_is h.sign_low h.sign_high even in
     let minus = minus_is _ (c.args.sums.second % 64) h.sign_is h.sign_low in
-    let value = c.signed.ensures.value h.hour h.minute h.offset_are (omega (arith, h.offset_are, c.if-sums-ge1440.false)) h.minute_few in
+    let value = c.signed.ensures.value h.hour h.minute h.offset_are (omega (arith, h.offset_are, c.requires.few)) h.minute_few in
     rw whole (offset_written text c.args.places.hour c.args.places.minute h.hour h.minute _ c.signed.result h.room (either_sign _ sign) minus h.hour_is h.minute_is value)

@@ -4,6 +4,9 @@ use Rattle.parsing_places.proofs.LastLemmas.{last_read}
 use Rattle.parsing_places.proofs.ReadLemmas.{Seen}
 use Rattle.parsing_places.proofs.last.LastBytes.read.Goals as goal
 
+pub returns-clause-rest : goal.returns-clause-rest
+returns-clause-rest c = λ k le lt. c.bytes_before-digits.ensures.zeros k (omega (arith, le, c.requires.few)) lt
+
 pub returns-clause-last : goal.returns-clause-last
 returns-clause-last c = λ e.
     let last = c.args.self.now in

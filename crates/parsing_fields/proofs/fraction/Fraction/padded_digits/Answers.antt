@@ -1,0 +1,34 @@
+use Rattle.std.proofs.Common.{◌≡◌, ◌/◌, ◌%◌, refl, sym, arith}
+use Rattle.std.specs.Str.Parse.{digits_value}
+use Rattle.parsing_fields.specs.Digits.{nine_digits}
+use Rattle.parsing_fields.specs.DigitsBack.{digits_below, last_back, nine_back}
+use Rattle.parsing_fields.proofs.fraction.Fraction.padded_digits.Goals as goal
+
+pub returns-clause-text : goal.returns-clause-text
+unfolding nine_digits
+returns-clause-text c =
+    let first = c.self.inside.first in
+    let last = c.self.inside.last in
+    let seen : digits_value 10 (nine_digits first last) ≡ c.args.self = cc in
+    let byte : last % 256 ≡ last = omega (arith, last_back first last c.self.invariant) in
+    rw (c.to_le_bytes.ensures, c.to_le_bytes-2.ensures, byte, ← seen) (sym (nine_back first last c.self.invariant))
+
+pub returns-clause-bound : goal.returns-clause-bound
+returns-clause-bound c =
+    let first = c.self.inside.first in
+    let last = c.self.inside.last in
+    let seen : digits_value 10 (nine_digits first last) ≡ c.args.self = cc in
+    rw (← seen) (digits_below first last c.self.invariant)
+
+pub returns-clause-zeros : goal.returns-clause-zeros
+returns-clause-zeros c =
+    let last = c.self.inside.last in
+    let is = last_back c.self.inside.first last c.self.invariant in
+    let one : last / 256 % 256 ≡ 0 = omega (arith, is) in
+    let two : last / 65536 % 256 ≡ 0 = omega (arith, is) in
+    let three : last / 16777216 % 256 ≡ 0 = omega (arith, is) in
+    let four : last / 4294967296 % 256 ≡ 0 = omega (arith, is) in
+    let five : last / 1099511627776 % 256 ≡ 0 = omega (arith, is) in
+    let six : last / 281474976710656 % 256 ≡ 0 = omega (arith, is) in
+    let seven : last / 72057594037927936 % 256 ≡ 0 = omega (arith, is) in
+    rw (c.to_le_bytes-2.ensures, one, two, three, four, five, six, seven) refl
