@@ -1,5 +1,5 @@
 -- What is read of a text without some bytes is read of the text, before these bytes.
-use Rattle.std.proofs.Common.{◌≡◌, ◌≤◌, ◌<◌, ◌+◌, ◌-◌, ◌++◌, ◌∙◌, ℕ, true, false, List, length, take, drop, get_or, leb, Option, Some, None, refl, sym, ap, inl, inr, arith}
+use Rattle.std.proofs.Common.{◌≡◌, ◌≤◌, ◌<◌, ◌+◌, ◌-◌, ◌∙◌, ℕ, true, List, length, take, drop, get_or, Option, Some, None, refl, sym, ap, inl, inr, arith}
 use Rattle.std.specs.Prelude.{IfSome, nat_le}
 use Rattle.std.specs.List.{list_all}
 use Rattle.std.specs.Char.{is_ascii_digit}

@@ -1,8 +1,10 @@
 -- What a text has whose fraction of a second has more than nine digits, by what it says without those after the ninth.
-use Rattle.std.proofs.Common.{◌≡◌, ◌≤◌, ◌<◌, ◌+◌, ◌-◌, ◌*◌, ◌^◌, ◌∙◌, ℕ, true, false, List, length, take, drop, get_or, Some, refl, sym, ap, inl, inr, arith, ℤ}
+use Rattle.std.proofs.Common.{◌≡◌, ◌≤◌, ◌<◌, ◌+◌, ◌-◌, ◌∙◌, ℕ, true, List, length, take, drop, get_or, Some, refl, sym, ap, inl, inr, arith, ℤ}
 use Rattle.std.specs.Str.Parse.{digits_value}
 use Rattle.std.proofs.lemmas.Bool.{cases_lt, false≢true}
+use Rattle.std.specs.Prelude.{nat_le}
 use Rattle.std.specs.Char.{is_ascii_digit}
+use Rattle.std.proofs.lemmas.Bool.Decides.{nat_tests}
 use Rattle.std.proofs.lemmas.List.Sums.{prefix_len_passes}
 use Rattle.std.proofs.lemmas.List.{drop-drop, length-take-le, length-drop, take-take, get_or-drop}
 use Rattle.parsing_combinator.specs.Pieces.{digits, digit_count, nanoseconds_of}
@@ -10,7 +12,7 @@ use Rattle.parsing_combinator.proofs.Decimal.{count_drop, count_prefix}
 use Rattle.parsing_combinator.proofs.FractionDigits.{long_fraction, short_fraction, digits_read}
 use Rattle.parsing_fields.specs.Written.{WriteFraction}
 use Rattle.parsing_places.specs.End.{SaysOffset, SaysSigned, width_of}
-use Rattle.parsing_places.specs.Numbers.{LieIn, HasShape, HasNumbers, WritesNumber, WritesTwo}
+use Rattle.parsing_places.specs.Numbers.{HasShape, HasNumbers, WritesNumber, WritesTwo}
 use Rattle.parsing_places.specs.Shape.{TakesDigit, TakesPair, TakesNumber}
 use Rattle.parsing_places.specs.declared.numbers.Numbers.{Numbers}
 use Rattle.parsing_places.specs.declared.shape.Number.{Number}
@@ -122,25 +124,41 @@ module _ (shape : Shape) (text : List ℕ) (n : Numbers) (s : SaysShortened shap
   pub end_kept : s.says.names.end ≡ shape.length + 10
   end_kept = begins s.says.names.offset_is
 
-  nine : s.says.names.count ≡ 9
-  nine = let h = s.says.names.fraction_is in elim (cases_lt 0 s.says.names.count) [
+  -- nine digits are left
+  pub count_kept : s.says.names.count ≡ 9
+  count_kept = let h = s.says.names.fraction_is in elim (cases_lt 0 s.says.names.count) [
     | inl some ↦ omega (arith, h.some some, end_kept)
     | inr none ↦ let zero : s.says.names.count ≡ 0 = omega (arith, none) in absurd (omega (arith, h.none zero, end_kept))
   ]
 
   pub point_kept : get_or text shape.length 0 ≡ 46
-  point_kept = sym (kept.same_byte text (shape.length + 10) s.end some fits shape.length (omega arith)) ∙ s.says.names.fraction_is.point (omega (arith, nine))
+  point_kept = sym (kept.same_byte text (shape.length + 10) s.end some fits shape.length (omega arith)) ∙ s.says.names.fraction_is.point (omega (arith, count_kept))
 
   nine_kept : take 9 (drop (shape.length + 1) (without text (shape.length + 10) s.end)) ≡ take 9 (drop (shape.length + 1) text)
   nine_kept = kept.same_part text (shape.length + 10) s.end some fits (shape.length + 1) 9 (omega arith)
 
   written : WriteFraction (drop (shape.length + 1) (without text (shape.length + 10) s.end)) 9 n.fraction
   written =
-      let from : s.says.names.end - s.says.names.count ≡ shape.length + 1 = omega (arith, end_kept, nine) in
-      rw (from, nine) at s.says.names.fraction_is.writes
+      let from : s.says.names.end - s.says.names.count ≡ shape.length + 1 = omega (arith, end_kept, count_kept) in
+      rw (from, count_kept) at s.says.names.fraction_is.writes
 
   nine_there : 9 ≤ digit_count (drop (shape.length + 1) text)
   nine_there = kept.same_count 9 _ (drop (shape.length + 1) text) (omega (arith, length-drop (shape.length + 1) (without text (shape.length + 10) s.end), left)) (omega (arith, length-drop (shape.length + 1) text, some, fits)) nine_kept written.enough
+
+  nine_value : n.fraction ≡ digits_value 10 (take 9 (drop (shape.length + 1) text))
+  nine_value =
+      let first = take 9 (drop (shape.length + 1) text) in
+      let few : length first ≡ 9 = length-take-le 9 (drop (shape.length + 1) text) (omega (arith, length-drop (shape.length + 1) text, s.more, fits)) in
+      let short = short_fraction first (omega (arith, few)) in
+      let same : nanoseconds_of first ≡ digits_value 10 first = sym short ∙ rw few (omega arith) in
+      written.value ∙ ap nanoseconds_of nine_kept ∙ same
+
+  -- the first nine digits are the fraction
+  pub nine_read : digits 9 (drop (shape.length + 1) text) ≡ Some (n.fraction, drop 9 (drop (shape.length + 1) text))
+  unfolding digits
+  nine_read =
+      let there : nat_le 9 (digit_count (drop (shape.length + 1) text)) ≡ true = grind (arith, nat_tests, nine_there) in
+      rw (there, nine_value) refl
 
   -- all digits up to the offset write what the first nine do
   pub fraction_kept : WriteFraction (drop (shape.length + 1) text) (s.end - (shape.length + 1)) n.fraction
@@ -151,10 +169,6 @@ module _ (shape : Shape) (text : List ℕ) (n : Numbers) (s : SaysShortened shap
       let on : drop 9 from ≡ drop (shape.length + 10) text = let e : shape.length + 1 + 9 ≡ shape.length + 10 = omega arith in rw e at (drop-drop 9 (shape.length + 1) text) in
       let enough : count ≤ digit_count from = omega (arith, rw on at (count_drop 9 from nine_there), s.all_digits, s.more) in
       let long : length run ≡ count = length-take-le count from (omega (arith, length-drop (shape.length + 1) text, fits)) in
-      let more : 9 < length run = omega (arith, long, s.more) in
       let first : take 9 run ≡ take 9 from = take-take 9 count from (omega (arith, s.more)) in
-      let few : length (take 9 from) ≡ 9 = length-take-le 9 from (omega (arith, length-drop (shape.length + 1) text, s.more, fits)) in
-      let value = long_fraction run more (count_prefix from count enough) in
-      let short = short_fraction (take 9 from) (omega (arith, few)) in
-      let same : nanoseconds_of (take 9 from) ≡ digits_value 10 (take 9 from) = sym short ∙ rw few (omega arith) in
-      record { enough = enough; value = written.value ∙ ap nanoseconds_of nine_kept ∙ same ∙ ap (digits_value 10) (sym first) ∙ value }
+      let value = long_fraction run (omega (arith, long, s.more)) (count_prefix from count enough) in
+      record { enough = enough; value = nine_value ∙ ap (digits_value 10) (sym first) ∙ value }
