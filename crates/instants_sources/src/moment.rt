@@ -106,6 +106,16 @@ pub fn iso8601_to_minute(line: &[u8]) -> Option<Fields>
     parsing_iso8601::read_fields_to_minute(line)
 }
 
+/// The fields of the moment of a line of ISO 8601 with many digits of a fraction, whatever offset is assumed: `None` says
+/// nothing of the line.
+#[inline(always)]
+pub fn rare_iso8601(line: &[u8]) -> Option<Fields>
+    ensures { IfSome result (λ fields. IsNamedBy grammar.Iso8601 line.now (moment_of fields)) }
+{
+    one_road_of_iso8601();
+    parsing_iso8601::read_rare_fields(line)
+}
+
 // Whether the first bytes of a line show that RFC 2822 names no moment for it.
 #[inline(always)]
 fn is_no_rfc2822(line: &[u8]) -> bool

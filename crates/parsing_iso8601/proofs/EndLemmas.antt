@@ -1,25 +1,27 @@
 -- What stands after a time of day, by the places of its parts.
-use Rattle.std.proofs.Common.{◌≡◌, ◌<◌, ◌+◌, ◌-◌, ◌∙◌, ◌==◌, ◌||◌, ℕ, Bool, true, false, List, [], length, get_or, drop, leb, Some, None, ℤ, refl, inl, inr, arith, lit<}
+use Rattle.std.proofs.Common.{◌≡◌, ◌≤◌, ◌<◌, ◌+◌, ◌-◌, ◌∙◌, ◌==◌, ◌||◌, ℕ, Bool, true, false, List, [], length, get_or, take, drop, leb, Some, None, ℤ, refl, sym, ap, inl, inr, arith, lit<}
 use Rattle.std.specs.Char.{is_ascii_digit}
 use Rattle.std.proofs.lemmas.Bool.{cases_lt}
 use Rattle.std.proofs.lemmas.Bool.Decides.{nat_tests}
-use Rattle.std.proofs.lemmas.List.{drop-drop, drop_all, drop_more, length-drop}
+use Rattle.std.proofs.lemmas.List.{drop-drop, drop_all, drop_more, length-drop, length-take-le, get_or-drop, get_or-take}
 use Rattle.base.specs.Bytes.{plus, hyphen, colon, upper_z, dot}
 use Rattle.parsing_fields.specs.Written.{WriteFraction}
 use Rattle.parsing_combinator.specs.Pieces.{digits, digit_run, digit_count, fraction, byte, sign, skip_of}
 use Rattle.parsing_combinator.proofs.AtPlaces.{at_least, first_at, byte_there, sign_there}
-use Rattle.parsing_combinator.proofs.Decimal.{count_drop}
+use Rattle.parsing_combinator.proofs.Decimal.{count_drop, count_prefix}
 use Rattle.parsing_combinator.proofs.Fixed.{digits_one}
 use Rattle.parsing_combinator.proofs.FractionDigits.{none_there}
 use Rattle.parsing_places.specs.End.{SaysOffset, SaysSigned, HasFraction, width_of}
 use Rattle.parsing_iso8601.specs.Designators.{comma}
+use Rattle.parsing_iso8601.specs.Fractions.{rounded_part_of, next_if}
 use Rattle.parsing_iso8601.specs.Numbers.{decimal_mark}
 use Rattle.parsing_iso8601.specs.Offsets.{maybe_colon, offset}
 use Rattle.parsing_iso8601.specs.ReadView.{subsecond}
 use Rattle.parsing_iso8601.specs.declared.kind.Kind.TheVariants.{Basic, Extended}
 use Rattle.parsing_iso8601.proofs.FastOffsets.{IsAllOffset, offset_read, zulu_read}
-use Rattle.parsing_iso8601.proofs.FastTimes.{short_subsecond, no_subsecond}
+use Rattle.parsing_iso8601.proofs.FastTimes.{short_subsecond, long_subsecond, no_subsecond}
 use Rattle.parsing_iso8601.proofs.PlaceLemmas.{kind_of, other_byte}
+use Rattle.parsing_iso8601.proofs.Rounding.{long_rounded}
 
 -- ---- what an offset begins with
 
@@ -130,3 +132,31 @@ fraction_said text place end count n h f = elim (cases_lt 0 count) [
       let zero : count ≡ 0 = omega (arith, none) in
       rw (nothing_written _ count n zero h.writes, h.none zero) (no_subsecond (drop end text) (no_mark text end f))
 ]
+
+-- where a fraction ends lies within the text
+pub reaches : (text : List ℕ) (place end count n : ℕ) → HasFraction text place end count n → place ≤ length text
+reaches text place end count n h = elim (cases_lt 0 count) [
+  | inl some ↦ omega (arith, h.some some, h.room)
+  | inr none ↦ let zero : count ≡ 0 = omega (arith, none) in omega (arith, h.none zero, h.room)
+]
+
+-- so many digits, more than nine, and an offset after them
+pub long_said : (text : List ℕ) (place end n : ℕ) → place + 10 < end → end < length text → get_or text place 0 ≡ dot → After text end → WriteFraction (drop (place + 1) text) (end - (place + 1)) n → subsecond (drop place text) ≡ Some (next_if (leb 53 (get_or text (place + 10) 0)) n, drop end text)
+long_said text place end n more lt point f w =
+    let from = drop (place + 1) text in
+    let count = end - (place + 1) in
+    let on : place + 1 + count ≡ end = omega arith in
+    let rest : drop count from ≡ drop end text = drop-drop count (place + 1) text ∙ rw on refl in
+    let left : digit_count (drop count from) ≡ 0 = none_there (drop count from) (rw rest (no_digits text end f)) in
+    let is : digit_count from ≡ count = omega (arith, count_drop count from w.enough, left) in
+    let long : length (take count from) ≡ count = length-take-le count from (omega (arith, length-drop (place + 1) text)) in
+    let place_is : place + 1 + 9 ≡ place + 10 = omega arith in
+    let tenth : get_or (take count from) 9 0 ≡ get_or text (place + 10) 0 = get_or-take count from 9 0 (omega (arith, more)) ∙ get_or-drop (place + 1) text 9 0 ∙ rw place_is refl in
+    let value : rounded_part_of 1_000_000_000 (take count from) ≡ next_if (leb 53 (get_or text (place + 10) 0)) n = long_rounded (take count from) (omega (arith, long, more)) (count_prefix from count w.enough) ∙ rw (tenth, w.value) refl in
+    long_subsecond (drop place text) from (drop end text) count _ (mark_at text place (omega arith) point) (omega (arith, more)) is rest value
+
+-- what no time has begins the same rest
+pub after_rest : (text other : List ℕ) (place there : ℕ) → drop place text ≡ drop there other → place < length text → After other there → After text place
+after_rest text other place there same lt f =
+    let e : get_or text place 0 ≡ get_or other there 0 = sym (first_at text place) ∙ ap (λ (xs : List ℕ). get_or xs 0 0) same ∙ first_at other there in
+    record { within = lt; no_digit = rw e f.no_digit; no_mark = rw e f.no_mark; no_colon = λ is. f.no_colon (sym e ∙ is) }

@@ -1,9 +1,9 @@
 -- A time of day by its pieces, of the extended kind and of the basic one.
-use Rattle.std.proofs.Common.{◌≡◌, ℕ, ◌+◌, ◌<◌, ◌≤◌, true, leb, List, length, Option, Some, None, refl, ◌∙◌, arith, lit<}
+use Rattle.std.proofs.Common.{◌≡◌, ℕ, ◌+◌, ◌<◌, ◌≤◌, ◌==◌, true, false, leb, List, length, take, drop, Option, Some, None, refl, ◌∙◌, arith, lit<}
 use Rattle.std.specs.Prelude.{nat_lt}
 use Rattle.std.proofs.lemmas.Bool.Decides.{nat_tests}
 use Rattle.base.specs.Bytes.{colon}
-use Rattle.parsing_combinator.specs.Pieces.{digits, fraction, byte}
+use Rattle.parsing_combinator.specs.Pieces.{digits, digit_count, digit_run, fraction, byte}
 use Rattle.parsing_iso8601.specs.Designators.{time_designator}
 use Rattle.parsing_iso8601.specs.Fractions.{rounded_part_of}
 use Rattle.parsing_iso8601.specs.declared.kind.Kind.TheVariants.{Basic, Extended}
@@ -103,6 +103,13 @@ short_subsecond bytes after rest n mark f short =
     let few : length run ≤ 9 = omega (arith, run_length after run rest e) in
     let value : rounded_part_of 1_000_000_000 run ≡ n = short_fraction run few ∙ is in
     rw mark (rw e (rw value refl)))
+
+-- a fraction of so many digits, rounded
+pub long_subsecond : (bytes after rest : List ℕ) (count n : ℕ) → decimal_mark bytes ≡ Some (tt, after) → 0 < count → digit_count after ≡ count → drop count after ≡ rest → rounded_part_of 1_000_000_000 (take count after) ≡ n → subsecond bytes ≡ Some (n, rest)
+unfolding subsecond fraction_digits due_digits digit_run
+long_subsecond bytes after rest count n mark some is left value =
+    let there : (count == 0) ≡ false = grind (arith, nat_tests) in
+    rw mark (rw (is, there, left, value) refl)
 
 pub no_subsecond : (bytes : List ℕ) → decimal_mark bytes ≡ None → subsecond bytes ≡ Some (0, bytes)
 unfolding subsecond fraction_digits

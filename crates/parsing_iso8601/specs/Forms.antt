@@ -2,8 +2,11 @@
 use Rattle.std.specs.Prelude.{◌≡◌, ◌≤◌, ◌<◌, ◌+◌, ◌-◌, ◌*◌, ℕ, Bool, true, false, pos}
 use Rattle.base.specs.Bytes.{hyphen, colon}
 use Rattle.calendar_count.specs.Calendar.{IsDay}
+use Rattle.parsing_fields.specs.Numbers.{HaveNumbers}
+use Rattle.parsing_fields.specs.declared.fields.Fields.{Fields}
 use Rattle.parsing_places.specs.End.{width_of}
 use Rattle.parsing_places.specs.Tail.{LetsByte}
+use Rattle.parsing_places.specs.declared.numbers.Numbers.{Numbers}
 use Rattle.parsing_places.specs.declared.shape.Number.{Number}
 use Rattle.parsing_places.specs.declared.shape.Shape.{Shape}
 use Rattle.parsing_iso8601.specs.Days.{NamesOrdinal, NamesWeekDay}
@@ -89,3 +92,10 @@ pub record NamesDate (dating : Dating) (year high low month day : ℕ) : Type 0 
   pub calendar : dating ≡ Calendar → (month ≡ high) × (day ≡ low)
   pub ordinal : dating ≡ Ordinal → (1 ≤ high * 10 + low) × (high * 10 + low ≤ 365) × NamesOrdinal year (high * 10 + low) month day
   pub week : dating ≡ Week → (1 ≤ low) × (low ≤ 7) × NamesWeekDay year high (low - 1) month day
+
+-- fields have the numbers of a text, on the day that the numbers of its date name
+pub record AreDated (dating : Dating) (n : Numbers) (f : Fields) : Type 0 where
+  pub month : ℕ
+  pub day : ℕ
+  pub names : NamesDate dating n.year n.high n.low month day
+  pub numbers : HaveNumbers f n.year month day n.minute n.second n.fraction n.offset

@@ -4,11 +4,10 @@ ghost use Rattle.std.specs.Int.{IsInRange};
 ghost use Rattle.calendar_count.specs.Calendar.{days_in_year};
 ghost use Rattle.parsing_iso8601.specs.Days.{NamesOrdinal, NamesWeek, first_thursday_of, missing_days};
 ghost use Rattle.parsing_iso8601.specs.Forms.{NamesDate};
-ghost use Rattle.parsing_iso8601.specs.declared.form.Dating.TheVariants.{Calendar, Ordinal, Week};
+ghost use Rattle.parsing_iso8601.specs.declared.form.Dating.TheVariants.{Ordinal, Week};
 
-use crate::form::Dating;
 use calendar_count::util;
-use parsing_fields::{Year, has_day};
+use parsing_fields::Year;
 
 // How many days are missing before a day of the year, as if February had 30 days.
 #[inline(always)]
@@ -68,21 +67,9 @@ fn of_week(year: u16, week: u8, weekday: u8) -> Option<u16>
     Some((day - 9) as u16)
 }
 
-// The month and the day of the month, where the month has that day.
+/// The month and the day of a day of the year, whose number is in two parts: `None` says nothing of them.
 #[inline(always)]
-fn of_month(year: Year, month: u8, day: u8) -> Option<(u8, u8)>
-    requires year { year ≤ 9999 }
-    ensures { IfSome result (λ d. NamesDate Calendar year month day d.0 d.1) }
-{
-    if month < 1 || month > 12 || !has_day(year, month, day) {
-        return None;
-    }
-    Some((month, day))
-}
-
-// The month and the day of a day of the year, whose number is in two parts.
-#[inline(always)]
-fn of_year(year: Year, first_two: u8, last: u8) -> Option<(u8, u8)>
+pub(crate) fn of_year(year: Year, first_two: u8, last: u8) -> Option<(u8, u8)>
     requires year { year ≤ 9999 }
     ensures { IfSome result (λ d. NamesDate Ordinal year first_two last d.0 d.1) }
 {
@@ -93,9 +80,9 @@ fn of_year(year: Year, first_two: u8, last: u8) -> Option<(u8, u8)>
     Some(of_ordinal(year.number(), ordinal))
 }
 
-// The month and the day of a day of a week.
+/// The month and the day of a day of a week: `None` says nothing of them.
 #[inline(always)]
-fn of_weeks(year: Year, week: u8, weekday: u8) -> Option<(u8, u8)>
+pub(crate) fn of_weeks(year: Year, week: u8, weekday: u8) -> Option<(u8, u8)>
     requires year { year ≤ 9999 }
     ensures { IfSome result (λ d. NamesDate Week year week weekday d.0 d.1) }
 {
@@ -105,17 +92,4 @@ fn of_weeks(year: Year, week: u8, weekday: u8) -> Option<(u8, u8)>
     let year = year.number();
     let ordinal = of_week(year, week, weekday - 1)?;
     Some(of_ordinal(year, ordinal))
-}
-
-/// The month, and the day of the month, that two numbers of a date name after its year: `None` says nothing of them.
-#[inline(always)]
-pub(crate) fn of_date(dating: Dating, year: Year, high: u8, low: u8) -> Option<(u8, u8)>
-    requires year { year ≤ 9999 }
-    ensures { IfSome result (λ d. NamesDate dating year high low d.0 d.1) }
-{
-    match dating {
-        Dating::Calendar => of_month(year, high, low),
-        Dating::Ordinal => of_year(year, high, low),
-        Dating::Week => of_weeks(year, high, low),
-    }
 }

@@ -287,16 +287,23 @@ pub(crate) fn form_at(form: usize, has_second: bool) -> Form
     }
 }
 
-/// Which form a text has, if one: a hyphen after the year makes it an extended form, and then `W` or the place of the `T` tells
-/// how its day is named.
+// The form of a text, by the byte after its year and the one four places later: each a letter, a hyphen or a digit.
+static FORM_BY_MARKS: [u8; 16] = [0, 0, 0, 0, 0, 4, 3, 0, 0, 0, 5, 0, 0, 0, 1, 2];
+
+// Which kind of byte it is: 1 for the letters `T` and `W`, 2 for a hyphen, 3 for a digit.
+#[inline(always)]
+fn mark_of(byte: u8) -> u8
+    ensures { result < 4 }
+{
+    byte / 16 % 4
+}
+
+/// Which form a text has, if one: the byte after its year and the one four places later tell.
 #[inline(always)]
 pub(crate) fn form_of(text: &[u8]) -> usize
     requires { LANES ≤ length text.now }
     ensures { result < FORMS }
 {
-    let mark = usize::from(text[4] == b'-');
-    let is_week = text[4 + mark] == b'W';
-    let is_ordinal = usize::from(text[7 + mark] == b'T');
-    let dating = if is_week { 2 } else { is_ordinal };
-    2 * dating + mark
+    let marks = mark_of(text[4]) + 4 * mark_of(text[8]);
+    usize::from(FORM_BY_MARKS[usize::from(marks)])
 }

@@ -11,9 +11,13 @@ use Rattle.parsing_fields.specs.declared.fields.Fields.{Fields}
 use Rattle.parsing_fields.specs.Moment as Moment
 use Rattle.parsing_fields.specs.Written.{WriteFraction}
 use Rattle.parsing_places.specs.End.{SaysOffset, SaysSigned, HasFraction}
-use Rattle.parsing_places.specs.Numbers.{LieIn}
+use Rattle.parsing_places.specs.Numbers.{LieIn, HasShape, HasNumbers}
 use Rattle.parsing_places.specs.Says.{Says}
+use Rattle.parsing_places.specs.declared.numbers.Numbers.{Numbers}
 use Rattle.parsing_places.specs.declared.shape.Shape.{Shape}
+use Rattle.parsing_fractions.specs.Shortened.{without, SaysShortened}
+use Rattle.parsing_fractions.proofs.LongLemmas.{shape_kept, year_kept, numbers_kept, after_kept, end_kept, point_kept, fraction_kept}
+use Rattle.parsing_fields.specs.Numbers.{HaveNumbers}
 use Rattle.parsing_places.proofs.YearLemmas.{byte_in}
 use Rattle.parsing_rfc3339.specs.Direct.{direct}
 use Rattle.parsing_rfc3339.specs.Reading.{date, clock, offset}
@@ -105,27 +109,43 @@ fraction_said text place end count n h follows = elim (cases_lt 0 count) [
 
 -- ---- the whole
 
+-- a text with these numbers at the places of the shape, and a fraction and an offset after it
+module _ (shape : Shape) (text : List ℕ) (said : Numbers) (f : Fields) (small : (k : ℕ) → get_or text k 0 < 256) (x : IsShape shape) (have : HaveNumbers f said.year said.high said.low said.minute said.second said.fraction said.offset) where
+  read_at_places : (hour minute : ℕ) (rest : List ℕ) → HasShape shape text → digits 4 (drop shape.year text) ≡ Some (said.year, drop (shape.year + 4) text) → HasNumbers shape text said.high said.low hour minute said.second → hour < 24 → said.minute ≡ 60 * hour + minute → ReadsNanosecond (drop 19 text) said.fraction rest → IsAllOffset (offset false rest) said.offset → said.fraction < 1_000_000_000 → direct text ≡ Ok (Moment.moment_of f)
+  read_at_places h m rest lies years n early minutes_are fraction all few =
+      let room : 19 ≤ length text = omega (arith, lies.room, x.back_is) in
+      let back : LieIn shape.back text 3 = rw x.back_is at lies.back in
+      let year = rw x.year_is at years in
+      let month = (rw x.month_is at n.high_is).two refl in
+      let day = (rw x.day_is at n.low_is).two refl in
+      let hour = rw x.hour_is at n.hour_is in
+      let minute = rw x.minute_is at n.minute_is in
+      let second = rw x.second_is at (n.second_is x.second_there) in
+      let some : 1 ≤ said.high = omega (arith, f.day_is_there.1, have.same_month) in
+      let minutes : said.minute ≡ h * 60 + m = omega (arith, minutes_are) in
+      fields_read f text (drop 10 text) (drop 11 text) (drop 19 text) rest (said.year, said.high, said.low) (h, m, said.second) said.fraction said.offset
+      (date_said text said.year said.high said.low (omega (arith, room)) (byte_in shape.prefix text 0 4 45 small lies.prefix x.first_hyphen (lit< tt)) (byte_in shape.prefix text 0 7 45 small lies.prefix x.second_hyphen (lit< tt)) year month day some)
+      (any_there text 10 (omega (arith, room)))
+      (clock_said text h m said.second room (byte_in shape.prefix text 0 13 58 small lies.prefix x.first_colon (lit< tt)) (byte_in shape.back text 3 13 58 small back x.second_colon (lit< tt)) hour minute second)
+      fraction all (rw minutes at have) (omega (arith, early)) n.minute_few few
+
 pub read_directly : (shape : Shape) (text : List ℕ) (f : Fields) → ((k : ℕ) → get_or text k 0 < 256) → IsShape shape → Says shape text f → direct text ≡ Ok (Moment.moment_of f)
 read_directly shape text f small x h =
-    let said = h.said in
     let says = h.says.names in
-    let n = says.numbers in
-    let lies = says.has_shape in
-    let room : 19 ≤ length text = omega (arith, lies.room, x.back_is) in
-    let back : LieIn shape.back text 3 = rw x.back_is at lies.back in
-    let year = rw x.year_is at h.says.year_is in
-    let month = (rw x.month_is at n.high_is).two refl in
-    let day = (rw x.day_is at n.low_is).two refl in
-    let hour = rw x.hour_is at n.hour_is in
-    let minute = rw x.minute_is at n.minute_is in
-    let second = rw x.second_is at (n.second_is x.second_there) in
-    let some : 1 ≤ said.high = omega (arith, f.day_is_there.1, h.numbers.same_month) in
-    let offset_there : SaysOffset 1 text says.end said.offset = rw x.colon_there at says.offset_is in
-    let follows = offset_follows text says.end said.offset offset_there in
-    let fraction = fraction_said text 19 says.end says.count said.fraction (rw x.long at says.fraction_is) follows in
-    let minutes : said.minute ≡ says.hour * 60 + says.minute = omega (arith, says.minutes_are) in
-    fields_read f text (drop 10 text) (drop 11 text) (drop 19 text) (drop says.end text) (said.year, said.high, said.low) (says.hour, says.minute, said.second) said.fraction said.offset
-    (date_said text said.year said.high said.low (omega (arith, room)) (byte_in shape.prefix text 0 4 45 small lies.prefix x.first_hyphen (lit< tt)) (byte_in shape.prefix text 0 7 45 small lies.prefix x.second_hyphen (lit< tt)) year month day some)
-    (any_there text 10 (omega (arith, room)))
-    (clock_said text says.hour says.minute said.second room (byte_in shape.prefix text 0 13 58 small lies.prefix x.first_colon (lit< tt)) (byte_in shape.back text 3 13 58 small back x.second_colon (lit< tt)) hour minute second)
-    fraction (all_offset text says.end said.offset offset_there) (rw minutes at h.numbers) (omega (arith, says.hour_few)) n.minute_few says.fraction_few
+    let offset_there : SaysOffset 1 text says.end h.said.offset = rw x.colon_there at says.offset_is in
+    let fraction = fraction_said text 19 says.end says.count h.said.fraction (rw x.long at says.fraction_is) (offset_follows text says.end h.said.offset offset_there) in
+    read_at_places shape text h.said f small x h.numbers says.hour says.minute (drop says.end text) says.has_shape h.says.year_is says.numbers says.hour_few says.minutes_are fraction (all_offset text says.end h.said.offset offset_there) says.fraction_few
+
+-- a text with more than nine digits of a fraction
+pub long_directly : (shape : Shape) (text : List ℕ) (said : Numbers) (f : Fields) → ((k : ℕ) → get_or text k 0 < 256) → IsShape shape → HaveNumbers f said.year said.high said.low said.minute said.second said.fraction said.offset → SaysShortened shape text said → direct text ≡ Ok (Moment.moment_of f)
+long_directly shape text said f small x have s =
+    let says = s.says.names in
+    let short = without text (shape.length + 10) s.end in
+    let rest : drop says.end short ≡ drop s.end text = rw (end_kept shape text said s) (after_kept shape text said s) in
+    let offset_there : SaysOffset 1 short says.end said.offset = rw x.colon_there at says.offset_is in
+    let follows = rw rest at (offset_follows short says.end said.offset offset_there) in
+    let all = rw rest at (all_offset short says.end said.offset offset_there) in
+    let written = rw x.long at (fraction_kept shape text said s) in
+    let point = rw x.long at (point_kept shape text said s) in
+    let fraction = fraction_there text 19 s.end (Some said.fraction) (omega (arith, x.long, s.more, s.within)) (omega (arith, x.long, s.more)) point follows written in
+    read_at_places shape text said f small x have says.hour says.minute (drop s.end text) (shape_kept shape text said s) (year_kept shape text said s) (numbers_kept shape text said s) says.hour_few says.minutes_are fraction all says.fraction_few

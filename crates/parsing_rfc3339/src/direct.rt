@@ -13,6 +13,7 @@ use crate::reading::parse_prefix;
 use crate::shape::shape;
 use parsing_combinator::{Parse, ParseFromDescription, four_digits};
 use parsing_fields::Fields;
+use parsing_fractions::read_long;
 use parsing_places::read;
 use parsing_values::{OffsetDateTime, leap_checked, resolve};
 
@@ -39,22 +40,6 @@ fn resolved(parts: Rfc3339Parts, rest: &[u8]) -> Result<OffsetDateTime, Parse>
 // The bytes of a text without a fraction, in UTC: no text has fewer.
 const SHORTEST: usize = 20;
 
-// The bytes of a text with nine digits of a fraction, in UTC.
-const LONGEST_IN_UTC: usize = 30;
-
-// The same with an offset in digits.
-const LONGEST: usize = 35;
-
-// Whether a text can be right that has not the shape: it is longer than those that have, or ends in a small `z`.
-#[inline(always)]
-fn is_rare(input: &[u8]) -> bool {
-    match input {
-        [.., b'Z'] => input.len() > LONGEST_IN_UTC,
-        [.., b'z'] => true,
-        _ => input.len() > LONGEST,
-    }
-}
-
 /// The fields of a text with at most nine digits of a fraction, and a big `Z` or an offset in digits, where its numbers are in
 /// range and its second is no leap second: `None` says nothing of the text.
 #[inline(always)]
@@ -69,15 +54,25 @@ pub fn read_usual_fields(input: &[u8]) -> Option<Fields>
     Some(fields)
 }
 
+// The fields of a text with more than nine digits of a fraction.
+#[inline(always)]
+fn read_long_fields(input: &[u8]) -> Option<Fields>
+    ensures { IfSome result (λ fields. direct input.now ≡ Ok (Moment.moment_of fields)) }
+{
+    let numbers = read_long(&shape(), input)?;
+    let fields = numbers.on_day(numbers.high, numbers.low)?;
+    Some(fields)
+}
+
 /// The fields of a text with more digits of a fraction, or with a small `z`: `None` says nothing of the text.
 #[inline(always)]
 pub fn read_rare_fields(input: &[u8]) -> Option<Fields>
     ensures { IfSome result (λ fields. direct input.now ≡ Ok (Moment.moment_of fields)) }
 {
-    if input.len() < SHORTEST || !is_rare(input) {
-        return None;
+    match input {
+        [.., b'z'] => read_by_pieces(input),
+        _ => read_long_fields(input),
     }
-    read_by_pieces(input)
 }
 
 /// The fields of a text, where the fast way finds them: `None` says nothing of the text.

@@ -19,7 +19,7 @@ use datetime_types::OffsetDateTime;
 use instants_answers::{Answer, write_fields, write_line};
 use instants_sources::{
     Source, fast_iso8601, fast_rfc2822, fast_rfc3339, iso8601_to_minute, other_rfc2822,
-    rare_rfc3339,
+    rare_iso8601, rare_rfc3339,
 };
 use parsing_combinator::Parse;
 use parsing_fields::Fields;
@@ -338,6 +338,7 @@ impl Timeline<'_> {
     }
 
     // Writes the answer to a line that has not the usual shape of RFC 2822, the first source.
+    #[cold]
     #[inline(never)]
     pub(super) fn write_rest_rfc2822(&self, line: &[u8], storage: &mut Answer)
         requires { IsLedBy (setting_of self.now) grammar.Rfc2822 }
@@ -351,6 +352,7 @@ impl Timeline<'_> {
     }
 
     // Writes the answer to a line that has not the usual shape of ISO 8601, the first source.
+    #[cold]
     #[inline(never)]
     pub(super) fn write_rest_iso8601(&self, line: &[u8], storage: &mut Answer)
         requires { IsLedBy (setting_of self.now) grammar.Iso8601 }
@@ -359,6 +361,20 @@ impl Timeline<'_> {
         ensures never_long { storage.new ≢ codes "! long" }
     {
         if !self.write_found(iso8601_to_minute(line), storage) {
+            self.write_rare_iso8601(line, storage);
+        }
+    }
+
+    // Writes the answer to a line of neither shape of ISO 8601, the first source.
+    #[cold]
+    #[inline(never)]
+    fn write_rare_iso8601(&self, line: &[u8], storage: &mut Answer)
+        requires { IsLedBy (setting_of self.now) grammar.Iso8601 }
+        ensures bytes { storage.new ≡ answer_to (setting_of self.now) line.now }
+        ensures room { length storage.new ≤ 63 }
+        ensures never_long { storage.new ≢ codes "! long" }
+    {
+        if !self.write_found(rare_iso8601(line), storage) {
             self.write_rest(line, storage);
         }
     }
