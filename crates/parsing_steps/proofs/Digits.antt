@@ -1,0 +1,77 @@
+-- Digits at the start of bytes.
+use Rattle.std.proofs.Common.{◌≡◌, ◌≤◌, ◌<◌, ◌+◌, ◌∙◌, ◌==◌, ℕ, Bool, true, false, List, get_or, length, take, drop, min, Option, Some, None, refl, sym, ap, arith, pos}
+use Rattle.std.specs.Prelude.{nat_le}
+use Rattle.std.specs.Char.{is_ascii_digit}
+use Rattle.std.specs.Int.{is_in_range}
+use Rattle.std.proofs.lemmas.Bool.Decides.{nat_tests}
+use Rattle.std.proofs.lemmas.List.{length-drop}
+use Rattle.std.proofs.lemmas.List.Sums.{prefix_len_passes, prefix_len-le-length}
+use Rattle.parsing_combinator.specs.Pieces.{digits, digit_count, digit_run, fraction, nanoseconds_of}
+use Rattle.parsing_combinator.specs.Places.{HasDigit, HasPair}
+use Rattle.parsing_combinator.specs.Shape.{taken, fraction_between}
+use Rattle.parsing_combinator.proofs.Decimal.{digit_here}
+use Rattle.parsing_combinator.proofs.FractionDigits.{digits_read}
+use Rattle.parsing_combinator.proofs.Longest.{taken_digits}
+use Rattle.parsing_components.specs.Put.{set_by}
+use Rattle.parsing_components.specs.Ranged.{says, between}
+use Rattle.parsing_components.specs.Read as read
+use Rattle.parsing_record.specs.Record.{Record}
+
+-- ---- four digits
+
+digit_in : (bytes : List ℕ) (k : ℕ) → k < digit_count bytes → HasDigit bytes k
+digit_in bytes k lt = let d = digit_here (get_or bytes k 0) (prefix_len_passes is_ascii_digit bytes k 0 lt) in record { low = d.0; high = d.1 }
+
+pair_in : (bytes : List ℕ) (place : ℕ) → place + 2 ≤ digit_count bytes → HasPair bytes place
+pair_in bytes place enough = record {
+  room = omega (arith, enough, prefix_len-le-length is_ascii_digit bytes);
+  first = digit_in bytes place (omega arith);
+  second = digit_in bytes (place + 1) (omega arith);
+}
+
+pub first_pair : (bytes rest : List ℕ) (n : ℕ) → digits 4 bytes ≡ Some (n, rest) → HasPair bytes 0
+first_pair bytes rest n e = let enough : 4 ≤ digit_count bytes = (digits_read 4 bytes n rest e).enough in pair_in bytes 0 (omega (arith, enough))
+
+pub second_pair : (bytes rest : List ℕ) (n : ℕ) → digits 4 bytes ≡ Some (n, rest) → HasPair bytes 2
+second_pair bytes rest n e = let enough : 4 ≤ digit_count bytes = (digits_read 4 bytes n rest e).enough in pair_in bytes 2 (omega (arith, enough))
+
+inside : {A : Type 0} → (x y : A) → Some x ≡ Some y → x ≡ y
+inside x y e = let same : x ≡ y = cc in same
+
+year_within : (year : ℕ) → year ≤ 9999 → is_in_range 0 9999 year ≡ true
+year_within year bound = grind (arith, nat_tests)
+
+pub year_said : (bytes rest after : List ℕ) (number year : ℕ) (r : Record) → digits 4 bytes ≡ Some (number, rest) → digits 4 (drop 0 bytes) ≡ Some (year, after) → year ≤ 9999 → set_by (says (between 0 9999 (λ y. read.Year (pos y))) (digits 4) bytes) r ≡ Some (record r { year = Some (pos year) }, rest)
+year_said bytes rest after number year r first second bound =
+    let both : (number, rest) ≡ (year, after) = inside (number, rest) (year, after) (sym first ∙ second) in
+    let same : number ≡ year = ap (λ (z : ℕ × List ℕ). z.0) both in
+    rw (first, same, year_within year bound) refl
+
+-- ---- fractions
+
+few_taken : (bytes : List ℕ) (c : ℕ) → digit_count bytes ≡ c → 1 ≤ c → c ≤ 32 → taken (fraction_between 1 32) bytes ≡ Some (nanoseconds_of (take c bytes), drop c bytes)
+few_taken bytes c is some few =
+    let there : nat_le 1 c ≡ true = grind (arith, nat_tests) in
+    let least : min c 32 ≡ c = omega (arith, few) in
+    taken_digits nanoseconds_of 1 32 bytes (omega arith) ∙ rw (is, there, least) refl
+
+abbrev run_of_all : List ℕ → Option (ℕ × List ℕ)
+run_of_all bytes = Some (nanoseconds_of (take (digit_count bytes) bytes), drop (digit_count bytes) bytes)
+
+run_at : (b : Bool) (bytes rest : List ℕ) (n : ℕ) → (digit_count bytes == 0) ≡ b → fraction bytes ≡ Some (n, rest) → (b ≡ false) × (run_of_all bytes ≡ Some (n, rest))
+unfolding fraction digit_run
+run_at true bytes rest n is e = absurd (let never : None ≡ Some (n, rest) = rw is at e in cc)
+run_at false bytes rest n is e = (refl, rw is at e)
+
+pub fraction_taken : (bytes rest : List ℕ) (n : ℕ) → fraction bytes ≡ Some (n, rest) → length bytes ≤ length rest + 9 → taken (fraction_between 1 32) bytes ≡ Some (n, rest)
+fraction_taken bytes rest n e short =
+    let c : ℕ = digit_count bytes in
+    let h = run_at (c == 0) bytes rest n refl e in
+    let is_not : (c == 0) ≡ false = h.0 in
+    let some : 1 ≤ c = grind (arith, nat_tests) in
+    let after : drop c bytes ≡ rest = ap (λ (z : ℕ × List ℕ). z.1) (inside (nanoseconds_of (take c bytes), drop c bytes) (n, rest) h.1) in
+    let few : c ≤ 32 = omega (arith, short, length-drop c bytes, ap (λ (xs : List ℕ). length xs) after, prefix_len-le-length is_ascii_digit bytes) in
+    few_taken bytes c refl some few ∙ h.1
+
+pub fraction_said : (bytes rest : List ℕ) (n : ℕ) (r : Record) → fraction bytes ≡ Some (n, rest) → length bytes ≤ length rest + 9 → set_by (says (λ k. Some (read.Subsecond k)) (taken (fraction_between 1 32)) bytes) r ≡ Some (record r { subsecond = Some n }, rest)
+fraction_said bytes rest n r e short = rw (fraction_taken bytes rest n e short) refl

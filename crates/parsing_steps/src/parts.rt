@@ -1,0 +1,380 @@
+//! The components that steps read.
+ghost use Rattle.std.specs.Prelude.{◌≡◌, ◌≤◌, true, false, pos, Some, IfSome, option_map};
+ghost use Rattle.parsing_combinator.specs.Pieces.{digits};
+ghost use Rattle.parsing_combinator.specs.Shape.{taken, fraction_between};
+ghost use Rattle.parsing_combinator.specs.Numbers.{padded, offset_hour};
+ghost use Rattle.parsing_combinator.specs.Names.{named, periods, short_months, long_months, short_weekdays, long_weekdays};
+ghost use Rattle.description_date_modifiers.specs.declared.choices.Padding.TheVariants as Padding;
+ghost use Rattle.description_time_modifiers.specs.declared.choices.SubsecondDigits.TheVariants as SubsecondDigits;
+ghost use Rattle.parsing_components.specs.Ranged.{says, between, up_to, counted, months};
+ghost use Rattle.parsing_components.specs.Read as read;
+ghost use Rattle.parsing_steps.specs.Found.{Finds};
+ghost use Rattle.parsing_steps.specs.Parts.{padding_of, by_padding, number, part_piece, IsPartOf};
+
+use crate::found::Found;
+use description_items::Component;
+use description_items::modifier::{Padding, SubsecondDigits};
+use parsing_combinator::{
+    byte, four_digits, long_month, long_weekday, offset_hour, padded_two, short_month,
+    short_weekday,
+};
+use parsing_fields::{Fraction, Year};
+
+/// A component, as a line writes it.
+#[derive(Clone, Copy)]
+pub(crate) enum Part {
+    /// Nothing is written.
+    Nothing,
+    /// Four digits without a sign.
+    Year,
+    /// Two digits, as all numbers that are not bare.
+    Month,
+    /// One digit or two.
+    BareMonth,
+    /// Three letters.
+    MonthName,
+    LongMonthName,
+    /// Three letters.
+    WeekdayName,
+    LongWeekdayName,
+    Day,
+    BareDay,
+    Hour,
+    BareHour,
+    Hour12,
+    BareHour12,
+    /// `AM` or `PM`.
+    Period,
+    Minute,
+    Second,
+    /// One digit or more.
+    Fraction,
+    /// After a sign.
+    OffsetHour,
+    OffsetMinute,
+}
+
+// A number of two digits, or a bare one, in its range.
+#[inline(always)]
+fn number_in(is_bare: bool, low: u8, high: u8, bytes: &[u8]) -> Option<(u8, &[u8])>
+    ensures taken { IfSome result
+        (λ x. taken (padded (padding_of is_bare) 2 2) bytes.now ≡ Some (x.0, x.1.now)) }
+    ensures low { IfSome result (λ x. low ≤ x.0) }
+    ensures high { IfSome result (λ x. x.0 ≤ high) }
+{
+    let padding = if is_bare {
+        Padding::None
+    } else {
+        Padding::Zero
+    };
+    let (number, rest) = padded_two(padding, bytes)?;
+    if number < low || number > high {
+        return None;
+    }
+    Some((number, rest))
+}
+
+#[inline(always)]
+#[tactic(auto, using(crate::proofs::Digits::first_pair, crate::proofs::Digits::second_pair, crate::proofs::Digits::year_said))]
+fn year<'l>(bytes: &'l [u8], found: &mut Found) -> Option<&'l [u8]>
+    ensures { Finds result found.old found.new
+        (says (between 0 9999 (λ y. read.Year (pos y))) (digits 4) bytes.now) }
+{
+    let (_number, rest) = four_digits(bytes)?;
+    found.year = Some(Year::of_digits(bytes, 0));
+    Some(rest)
+}
+
+#[inline(always)]
+fn month<'l>(is_bare: bool, bytes: &'l [u8], found: &mut Found) -> Option<&'l [u8]>
+    ensures { Finds result found.old found.new
+        (number is_bare (λ n. option_map read.Month (counted true months n)) bytes.now) }
+{
+    let (number, rest) = number_in(is_bare, 1, 12, bytes)?;
+    found.month = number;
+    Some(rest)
+}
+
+#[inline(always)]
+fn day<'l>(is_bare: bool, bytes: &'l [u8], found: &mut Found) -> Option<&'l [u8]>
+    ensures { Finds result found.old found.new
+        (number is_bare (between 1 31 read.Day) bytes.now) }
+{
+    let (number, rest) = number_in(is_bare, 1, 31, bytes)?;
+    found.day = number;
+    Some(rest)
+}
+
+#[inline(always)]
+fn hour<'l>(is_bare: bool, bytes: &'l [u8], found: &mut Found) -> Option<&'l [u8]>
+    ensures { Finds result found.old found.new
+        (number is_bare (between 0 23 read.Hour24) bytes.now) }
+{
+    let (number, rest) = number_in(is_bare, 0, 23, bytes)?;
+    found.hour = number;
+    Some(rest)
+}
+
+#[inline(always)]
+fn hour_12<'l>(is_bare: bool, bytes: &'l [u8], found: &mut Found) -> Option<&'l [u8]>
+    ensures { Finds result found.old found.new
+        (number is_bare (between 1 12 read.Hour12) bytes.now) }
+{
+    let (number, rest) = number_in(is_bare, 1, 12, bytes)?;
+    found.hour_12 = number;
+    Some(rest)
+}
+
+#[inline(always)]
+fn minute<'l>(bytes: &'l [u8], found: &mut Found) -> Option<&'l [u8]>
+    ensures { Finds result found.old found.new
+        (number false (between 0 59 read.Minute) bytes.now) }
+{
+    let (number, rest) = number_in(false, 0, 59, bytes)?;
+    found.minute = number;
+    Some(rest)
+}
+
+#[inline(always)]
+fn second<'l>(bytes: &'l [u8], found: &mut Found) -> Option<&'l [u8]>
+    ensures { Finds result found.old found.new
+        (number false (between 0 60 read.Second) bytes.now) }
+{
+    let (number, rest) = number_in(false, 0, 59, bytes)?;
+    found.second = number;
+    Some(rest)
+}
+
+#[inline(always)]
+fn minute_of_offset<'l>(bytes: &'l [u8], found: &mut Found) -> Option<&'l [u8]>
+    ensures { Finds result found.old found.new
+        (number false (between 0 59 read.OffsetMinute) bytes.now) }
+{
+    let (number, rest) = number_in(false, 0, 59, bytes)?;
+    found.offset_minute = number;
+    Some(rest)
+}
+
+#[inline(always)]
+#[tactic(auto, using(crate::proofs::Names::month_said))]
+fn month_name<'l>(bytes: &'l [u8], found: &mut Found) -> Option<&'l [u8]>
+    ensures { Finds result found.old found.new
+        (says (λ x. Some (read.Month x)) (taken (named true short_months)) bytes.now) }
+{
+    let (month, rest) = short_month(true, bytes)?;
+    found.month = month.number();
+    Some(rest)
+}
+
+#[inline(always)]
+#[tactic(auto, using(crate::proofs::Names::month_said))]
+fn long_month_name<'l>(bytes: &'l [u8], found: &mut Found) -> Option<&'l [u8]>
+    ensures { Finds result found.old found.new
+        (says (λ x. Some (read.Month x)) (taken (named true long_months)) bytes.now) }
+{
+    let (month, rest) = long_month(true, bytes)?;
+    found.month = month.number();
+    Some(rest)
+}
+
+#[inline(always)]
+fn weekday_name<'l>(bytes: &'l [u8], found: &mut Found) -> Option<&'l [u8]>
+    ensures { Finds result found.old found.new
+        (says (λ x. Some (read.Weekday x)) (taken (named true short_weekdays)) bytes.now) }
+{
+    let (weekday, rest) = short_weekday(true, bytes)?;
+    found.weekday = Some(weekday);
+    Some(rest)
+}
+
+#[inline(always)]
+fn long_weekday_name<'l>(bytes: &'l [u8], found: &mut Found) -> Option<&'l [u8]>
+    ensures { Finds result found.old found.new
+        (says (λ x. Some (read.Weekday x)) (taken (named true long_weekdays)) bytes.now) }
+{
+    let (weekday, rest) = long_weekday(true, bytes)?;
+    found.weekday = Some(weekday);
+    Some(rest)
+}
+
+// `AM` or `PM`: whether it is the later half of the day.
+#[inline(always)]
+#[tactic(auto, using(crate::proofs::Names::morning, crate::proofs::Names::afternoon))]
+fn half_at(bytes: &[u8]) -> Option<(bool, &[u8])>
+    ensures { IfSome result
+        (λ x. taken (named true periods) bytes.now ≡ Some (x.0, x.1.now)) }
+{
+    if let Some(after) = byte(b'A', bytes) {
+        let rest = byte(b'M', after)?;
+        return Some((false, rest));
+    }
+    let after = byte(b'P', bytes)?;
+    let rest = byte(b'M', after)?;
+    Some((true, rest))
+}
+
+#[inline(always)]
+fn half_of_day<'l>(bytes: &'l [u8], found: &mut Found) -> Option<&'l [u8]>
+    ensures { Finds result found.old found.new
+        (says (λ x. Some (read.Afternoon x)) (taken (named true periods)) bytes.now) }
+{
+    let (is_afternoon, rest) = half_at(bytes)?;
+    found.is_afternoon = Some(is_afternoon);
+    Some(rest)
+}
+
+// A fraction of a second of at most nine digits.
+#[inline(always)]
+#[tactic(auto, using(crate::proofs::Digits::fraction_taken))]
+fn fraction_at(bytes: &[u8]) -> Option<(Fraction, &[u8])>
+    ensures { IfSome result
+        (λ x. taken (fraction_between 1 32) bytes.now ≡ Some (x.0, x.1.now)) }
+{
+    Fraction::read(bytes)
+}
+
+#[inline(always)]
+fn subsecond<'l>(bytes: &'l [u8], found: &mut Found) -> Option<&'l [u8]>
+    ensures { Finds result found.old found.new
+        (says (λ n. Some (read.Subsecond n)) (taken (fraction_between 1 32)) bytes.now) }
+{
+    let Some((digits, rest)) = fraction_at(bytes) else {
+        return None;
+    };
+    found.fraction = Some(digits);
+    Some(rest)
+}
+
+#[inline(always)]
+fn hour_of_offset<'l>(bytes: &'l [u8], found: &mut Found) -> Option<&'l [u8]>
+    ensures { Finds result found.old found.new
+        (says (up_to 25 (λ negative hour. read.OffsetHour hour negative))
+        (taken (offset_hour Padding.Zero true)) bytes.now) }
+{
+    let ((is_behind, number), rest) = offset_hour(Padding::Zero, true, bytes)?;
+    if number > 25 {
+        return None;
+    }
+    found.offset_hour = number;
+    found.is_behind = is_behind;
+    Some(rest)
+}
+
+// One of two parts, by the padding of a number.
+fn by_padding(padding: Padding, zeros: Part, bare: Part) -> Option<Part>
+    ensures { result ≡ by_padding padding zeros bare }
+{
+    match padding {
+        Padding::Zero => Some(zeros),
+        Padding::Space => None,
+        Padding::None => Some(bare),
+    }
+}
+
+// The part, if this holds.
+fn part_if(holds: bool, part: Part) -> Option<Part>
+    ensures { IfSome result (λ p. (holds ≡ true) × (p ≡ part)) }
+{
+    if holds { Some(part) } else { None }
+}
+
+fn is_zero(padding: Padding) -> bool
+    ensures { result ≡ true → padding ≡ Padding.Zero }
+{
+    matches!(padding, Padding::Zero)
+}
+
+// A number with zeros, after a sign or not.
+fn is_zero_and(padding: Padding, sign_is_mandatory: bool, is_signed: bool) -> bool
+    ensures { result ≡ true → (padding ≡ Padding.Zero) × (sign_is_mandatory ≡ is_signed) }
+{
+    is_zero(padding) && sign_is_mandatory == is_signed
+}
+
+fn both(first: bool, second: bool) -> bool
+    ensures { result ≡ true → (first ≡ true) × (second ≡ true) }
+{
+    first && second
+}
+
+// Whether a fraction has as many digits as it needs.
+fn is_open(digits: SubsecondDigits) -> bool
+    ensures { result ≡ true → digits ≡ SubsecondDigits.OneOrMore }
+{
+    matches!(digits, SubsecondDigits::OneOrMore)
+}
+
+// The part of a clock that a component is.
+fn clock_part(component: &Component) -> Option<Part>
+    ensures { IfSome result (IsPartOf component.now) }
+{
+    match component {
+        Component::Hour24(m) => by_padding(m.padding, Part::Hour, Part::BareHour),
+        Component::Hour12(m) => by_padding(m.padding, Part::Hour12, Part::BareHour12),
+        Component::Minute(m) => part_if(is_zero(m.padding), Part::Minute),
+        Component::Second(m) => part_if(is_zero(m.padding), Part::Second),
+        Component::Period(m) => part_if(both(m.is_uppercase, m.case_sensitive), Part::Period),
+        Component::Subsecond(m) => part_if(is_open(m.digits), Part::Fraction),
+        Component::OffsetHour(m) => part_if(
+            is_zero_and(m.padding, m.sign_is_mandatory, true),
+            Part::OffsetHour,
+        ),
+        Component::OffsetMinute(m) => part_if(is_zero(m.padding), Part::OffsetMinute),
+        _ => None,
+    }
+}
+
+/// The part that a component is.
+pub(crate) fn part_of(component: &Component) -> Option<Part>
+    ensures { IfSome result (IsPartOf component.now) }
+{
+    match component {
+        Component::CalendarYearFullExtendedRange(m) => part_if(
+            is_zero_and(m.padding, m.sign_is_mandatory, false),
+            Part::Year,
+        ),
+        Component::CalendarYearFullStandardRange(m) => part_if(
+            is_zero_and(m.padding, m.sign_is_mandatory, false),
+            Part::Year,
+        ),
+        Component::MonthNumerical(m) => by_padding(m.padding, Part::Month, Part::BareMonth),
+        Component::MonthShort(m) => part_if(m.case_sensitive, Part::MonthName),
+        Component::MonthLong(m) => part_if(m.case_sensitive, Part::LongMonthName),
+        Component::WeekdayShort(m) => part_if(m.case_sensitive, Part::WeekdayName),
+        Component::WeekdayLong(m) => part_if(m.case_sensitive, Part::LongWeekdayName),
+        Component::Day(m) => by_padding(m.padding, Part::Day, Part::BareDay),
+        _ => clock_part(component),
+    }
+}
+
+impl Part {
+    /// Reads it at the start of the bytes, and returns what follows: `None` says nothing of the bytes.
+    #[inline(always)]
+    #[tactic(auto, unfolding(crate::specs::Parts::part_piece))]
+    pub(crate) fn read<'l>(self, bytes: &'l [u8], found: &mut Found) -> Option<&'l [u8]>
+        ensures { Finds result found.old found.new (part_piece self bytes.now) }
+    {
+        match self {
+            Part::Nothing => Some(bytes),
+            Part::Year => year(bytes, found),
+            Part::Month => month(false, bytes, found),
+            Part::BareMonth => month(true, bytes, found),
+            Part::MonthName => month_name(bytes, found),
+            Part::LongMonthName => long_month_name(bytes, found),
+            Part::WeekdayName => weekday_name(bytes, found),
+            Part::LongWeekdayName => long_weekday_name(bytes, found),
+            Part::Day => day(false, bytes, found),
+            Part::BareDay => day(true, bytes, found),
+            Part::Hour => hour(false, bytes, found),
+            Part::BareHour => hour(true, bytes, found),
+            Part::Hour12 => hour_12(false, bytes, found),
+            Part::BareHour12 => hour_12(true, bytes, found),
+            Part::Period => half_of_day(bytes, found),
+            Part::Minute => minute(bytes, found),
+            Part::Second => second(bytes, found),
+            Part::Fraction => subsecond(bytes, found),
+            Part::OffsetHour => hour_of_offset(bytes, found),
+            Part::OffsetMinute => minute_of_offset(bytes, found),
+        }
+    }
+}
