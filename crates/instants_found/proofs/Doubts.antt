@@ -66,3 +66,9 @@ why_rest given grammar line start prefix edge clock =
 pub nothing_why : (given : Given) (grammar : Grammar) (line : List ℕ) (start : ℕ) (prefix : Prefix) → is_edge line (start + prefix.all) ≡ true → (not prefix.is_chosen && has_clock_before line (start + prefix.begins)) ≡ false → is_some given.offset ≡ false → given.years ≡ Unknown → is_some given.time ≡ false → prefix_at given grammar (drop start line) ≡ Some prefix
     → None ≡ why given grammar line start prefix
 nothing_why given grammar line start prefix edge clock offset years time read = nothing_otherwise given grammar line start prefix offset years time read ∙ sym (why_rest given grammar line start prefix edge clock)
+
+-- a date that nothing beside it joins stands whole there
+pub whole_apart : (given : Given) (grammar : Grammar) (line : List ℕ) (start : ℕ) (prefix : Prefix) → is_edge line (start + prefix.all) ≡ true → (not prefix.is_chosen && has_clock_before line (start + prefix.begins)) ≡ false → is_some given.offset ≡ false → given.years ≡ Unknown → is_some given.time ≡ false → prefix_at given grammar (drop start line) ≡ Some prefix
+    → stands_whole given grammar line start prefix ≡ true
+whole_apart given grammar line start prefix edge clock offset years time read =
+    whole_if given grammar line start prefix ∙ ap is_none (sym (nothing_why given grammar line start prefix edge clock offset years time read))

@@ -1,5 +1,5 @@
 -- The dates that sources read at one place of a line.
-use Rattle.std.specs.Prelude.{ℕ, ◌+◌, ◌&&◌, not, nat_lt, Bool, List, [], ◌∷◌, drop, Option, None, Some, if◌then◌else◌}
+use Rattle.std.specs.Prelude.{◌≡◌, ℕ, ◌+◌, ◌&&◌, not, nat_lt, Bool, true, List, [], ◌∷◌, drop, Option, None, Some, if◌then◌else◌}
 use Rattle.instants_sources.specs.Grammar.{Grammar}
 use Rattle.instants_edges.specs.Pieces.{reach}
 use Rattle.instants_prefixes.specs.declared.given.Given.{Given}
@@ -33,6 +33,13 @@ of_prefix given line start number grammar (Some prefix) =
 -- the date that the source of this number reads at this place
 unfoldable pub candidate : Given → List ℕ → ℕ → ℕ → Grammar → Option Candidate
 candidate given line start number grammar = of_prefix given line start number grammar (prefix_at given grammar (drop start line))
+
+-- the date that the source of this number reads at this place, where it stands whole
+pub record IsWholeDate (given : Given) (line : List ℕ) (start number : ℕ) (grammar : Grammar) (date : Found) : Type 0 where
+  pub one : Candidate
+  pub read : Some one ≡ candidate given line start number grammar
+  pub whole : one.is_whole ≡ true
+  pub is : date ≡ one.date
 
 -- with a date more, where there is one
 abbrev pub joined : Option Candidate → List Candidate → List Candidate

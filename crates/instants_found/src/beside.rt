@@ -1,5 +1,7 @@
 //! Whether a date stands whole in its line, and nothing beside it says otherwise.
-ghost use Rattle.std.specs.Prelude.{◌≡◌, ◌<◌, ◌≤◌, ◌+◌, true, false, drop, length, Some, IfSome, is_some};
+ghost use Rattle.std.specs.Prelude.{◌≡◌, ◌<◌, ◌≤◌, ◌+◌, ◌&&◌, not, true, false, drop, length, Some, IfSome, is_some};
+ghost use Rattle.instants_edges.specs.Clock.{has_clock_before};
+ghost use Rattle.instants_edges.specs.Edge.{is_edge};
 ghost use Rattle.instants_prefixes.specs.Prefix.{prefix_at};
 ghost use Rattle.instants_prefixes.specs.DateSource.{grammar_in, IsWithin};
 ghost use Rattle.instants_prefixes.specs.declared.given.Years.TheVariants.{Unknown};
@@ -141,9 +143,9 @@ fn says_another_year(
     source.needs(after(line, start), &without)
 }
 
-// Whether nothing is given.
+/// Whether nothing is given.
 #[inline(always)]
-fn gives_nothing(given: &Given) -> bool
+pub(crate) fn gives_nothing(given: &Given) -> bool
     ensures offset { result ≡ true → is_some given.now.offset ≡ false }
     ensures years { result ≡ true → given.now.years ≡ Unknown }
     ensures time { result ≡ true → is_some given.now.time ≡ false }
@@ -207,6 +209,25 @@ pub(crate) fn why(
         return None;
     }
     otherwise(source, given, line, start, prefix)
+}
+
+/// Whether no word and no clock goes on after a date that is read at a place, and no clock stands before it that counts: where
+/// nothing is given it then stands whole.
+#[inline(always)]
+pub(crate) fn stands_apart(line: &[u8], start: usize, prefix: &Prefix) -> bool
+    requires begins { start + prefix.now.begins ≤ length line.now }
+    requires all { start + prefix.now.all ≤ length line.now }
+    ensures edge { result ≡ true → is_edge line.now (start + prefix.now.all) ≡ true }
+    ensures clock { result ≡ true
+        → (not prefix.now.is_chosen && has_clock_before line.now (start + prefix.now.begins)) ≡ false }
+{
+    if !is_edge(line, start + prefix.all) {
+        return false;
+    }
+    if prefix.is_chosen {
+        return true;
+    }
+    !has_clock_before(line, start + prefix.begins)
 }
 
 /// Whether the date that a source reads at a place stands whole there.

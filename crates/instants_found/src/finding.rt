@@ -1,14 +1,15 @@
 //! What is found at one place of a line.
-ghost use Rattle.std.specs.Prelude.{◌≡◌, ◌<◌, ◌≤◌, ◌+◌, ◌∷◌, All, false, drop, length, map, IfSome};
+ghost use Rattle.std.specs.Prelude.{◌≡◌, ◌<◌, ◌≤◌, ◌+◌, ◌∷◌, All, false, drop, length, map, Some, IfSome};
 ghost use Rattle.instants_prefixes.specs.NoPrefix.{HasNoPrefix};
 ghost use Rattle.instants_prefixes.specs.DateSource.{grammar_in, IsWithin};
-ghost use Rattle.instants_found.specs.Candidate.{candidate_with, candidates, longest};
+ghost use Rattle.instants_found.specs.Candidate.{candidate_with, candidates, longest, IsWholeDate};
 ghost use Rattle.instants_found.specs.Found.{at_place, finding, of_candidates};
 ghost use Rattle.instants_found.specs.Within as Within;
+ghost use Rattle.instants_found.specs.declared.found.Finding.TheVariants.{There};
 
-use crate::beside::{after, is_read, stands_whole};
+use crate::beside::{after, gives_nothing, is_read, stands_apart, stands_whole};
 use crate::candidate::{Candidate, candidate_with, found_at, longer, read_candidate};
-use crate::found::Finding;
+use crate::found::{Finding, Found};
 use instants_edges::is_edge;
 use instants_prefixes::{DateSource, Given, Prefix, lacks_byte, rules_out};
 
@@ -121,6 +122,85 @@ fn by_sources(
         return Some(Finding::There(found_at(start, number, prefix)));
     }
     None
+}
+
+// The date that the source of this number reads at a place, where it is found at once: a plan reads it, nothing is given, and
+// nothing beside it joins it.
+#[inline(always)]
+fn plain_date(
+    source: &DateSource<'_>,
+    given: &Given,
+    line: &[u8],
+    start: usize,
+    number: usize,
+) -> Option<Found>
+    requires { start < length line.now }
+    ensures { IfSome result (IsWholeDate given.now line.now start number (grammar_in source.now)) }
+{
+    if !gives_nothing(given) {
+        return None;
+    }
+    let Some(prefix) = source.read_planned(after(line, start), given) else {
+        return None;
+    };
+    if !is_read(source, line, start, &prefix) {
+        return None;
+    }
+    if !stands_apart(line, start, &prefix) {
+        return None;
+    }
+    Some(found_at(start, number, prefix))
+}
+
+// What all sources find at a place, where the first that may read a date there finds it at once, and no other may read one.
+#[inline(always)]
+fn plain_by_sources(
+    sources: &[DateSource<'_>],
+    given: &Given,
+    line: &[u8],
+    start: usize,
+) -> Option<Found>
+    requires { start < length line.now }
+    ensures { IfSome result (λ date. Some (There date)
+        ≡ of_candidates (candidates given.now line.now start 0 (map grammar_in sources.now))) }
+{
+    let bytes = after(line, start);
+    for number in 0..sources.len() {
+        let source = &sources[number];
+        if lacks_byte(source.source(), bytes) {
+            continue;
+        }
+        if others_may_read(sources, number + 1, bytes) {
+            return None;
+        }
+        let Some(date) = plain_date(source, given, line, start, number) else {
+            return None;
+        };
+        return Some(date);
+    }
+    None
+}
+
+/// The date at a place, where it isn't inside a word and is found at once: `None` says nothing of the place.
+#[inline(always)]
+#[tactic(auto, unfolding(crate::specs::Found::at_place))]
+pub(crate) fn plain_at(
+    sources: &[DateSource<'_>],
+    given: &Given,
+    line: &[u8],
+    start: usize,
+) -> Option<Found>
+    requires { start < length line.now }
+    ensures { IfSome result (λ date. Some (There date)
+        ≡ at_place given.now (map grammar_in sources.now) line.now start) }
+{
+    if !is_edge(line, start) {
+        return None;
+    }
+    let Some(date) = plain_by_sources(sources, given, line, start) else {
+        return None;
+    };
+    Some(date)
 }
 
 /// Whether the bytes may have a prefix that some source reads: `false` says that they have none.

@@ -21,6 +21,8 @@ pub(crate) struct LineWriter<'a, 'b> {
     key: Answer,
     // The same and a tab, which are written at once.
     tabbed: Answer,
+    // Where the key of a line is made, from which it is written.
+    storage: Answer,
     // There is room for a tab after it.
     ghost room: { length key ≤ 63 },
     ghost tabbed_is: { tabbed ≡ key ++ tab ∷ [] },

@@ -1,5 +1,6 @@
 //! What a finder finds in a line, and where memory is refused for it. Further lines are those of `dates`.
 
+use instants::SourceText;
 use instants_found::{Doubt, Finder, Finding};
 use instants_prefixes::{Given, Years};
 use instants_sources::Source;
@@ -84,5 +85,20 @@ fn sources(alloc: Global) -> Result<Vec<Source<'static>>, AllocError> {
 fn finder(rt: HostRuntime) -> Result<(), Fail> {
     let finder = Finder::new(rt.alloc(), sources(rt.alloc())?, 100)?;
     assert!(rt; all_are_so(&finder));
+    Ok(())
+}
+
+// What is found at once in a line, and where it begins to be looked for.
+#[test]
+fn plain_date(rt: HostRuntime) -> Result<(), Fail> {
+    let mut sources = sources(rt.alloc())?;
+    if let Ok(source) = Source::new(rt.alloc(), SourceText::Strftime("%d/%b/%Y:%T %z")) {
+        sources.push(source)?;
+    }
+    let finder = Finder::new(rt.alloc(), sources, 100)?;
+    let line = b"[02/Jan/2021:03:04:05 +0000] up".as_slice();
+    assert!(rt; finder.undated_len(line) == Some(1));
+    let date = finder.plain_date(&NOTHING, line, 1).map(Finding::There);
+    assert!(rt; as_told(date) == Some((1, 27, 1_609_556_645)));
     Ok(())
 }

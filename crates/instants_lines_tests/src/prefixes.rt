@@ -2,7 +2,7 @@
 
 use calendar::UtcOffset;
 use instants::SourceText;
-use instants_prefixes::{DateSource, Given, Lack, Years, lacks_byte, rules_out};
+use instants_prefixes::{DateSource, Given, Lack, Prefix, Years, lacks_byte, rules_out};
 use instants_sources::Source;
 use std::alloc::Global;
 
@@ -56,7 +56,11 @@ fn given(offset: Option<UtcOffset>) -> Given {
 }
 
 fn told(source: &DateSource, bytes: &[u8]) -> Told {
-    let prefix = source.read(bytes, &given(Some(UtcOffset::UTC)))?;
+    as_told(source.read(bytes, &given(Some(UtcOffset::UTC))))
+}
+
+fn as_told(prefix: Option<Prefix>) -> Told {
+    let prefix = prefix?;
     let second = prefix.moment.moment().unix_timestamp();
     Some((
         second,
@@ -90,5 +94,22 @@ fn prefixes(rt: HostRuntime) {
     for row in &ROWS {
         let (text, bytes, prefix, known) = *row;
         assert!(rt; tell(rt.alloc(), text, bytes) == Some((prefix, known)));
+    }
+}
+
+// What a plan reads, and what it leaves to another way.
+#[test]
+fn planned(rt: HostRuntime) {
+    let text = SourceText::Strftime("%F %T%z");
+    let bytes = b"2021-01-02 03:04:05+0000 up".as_slice();
+    let source = Source::new(rt.alloc(), text);
+    assert!(rt; source.is_ok());
+    if let Ok(source) = source {
+        let source = DateSource::new(source);
+        assert!(rt;
+            as_told(source.read_planned(bytes, &given(None)))
+                == Some((1_609_556_645, [0, 24, 24, 24]))
+        );
+        assert!(rt; as_told(source.read_planned(b"up", &given(None))) == None);
     }
 }

@@ -8,9 +8,10 @@ use crate::contents::Contents;
 use crate::ends::Ends;
 use crate::given::Given;
 use crate::lacks::{Lack, lack_of};
-use crate::lengths::{prefix_of, prefix_of_nodes};
+use crate::lengths::{prefix_by_texts, prefix_of};
 use crate::named::{assumed, has_offset, prefix_named};
 use crate::prefix::Prefix;
+use crate::ruled_out::rules_out;
 use crate::window::{near, text_for};
 use instants_sources::{Named, Source};
 
@@ -25,7 +26,7 @@ pub struct DateSource<'a> {
 }
 
 impl<'a> DateSource<'a> {
-    ghost use Rattle.std.specs.Prelude.{◌≡◌, ◌≤◌, ℕ, List, None, length, IfSome};
+    ghost use Rattle.std.specs.Prelude.{◌≡◌, ◌≤◌, ℕ, List, None, Some, length, IfSome};
     ghost use Rattle.std.specs.Option.{is_none};
     ghost use Rattle.instants_prefixes.specs.DateSource.{grammar_in, IsWithin};
     ghost use Rattle.instants_prefixes.specs.Prefix.{prefix_at};
@@ -72,29 +73,45 @@ impl<'a> DateSource<'a> {
         }
     }
 
+    /// The same where a plan reads a description's items, and texts alone stand around what they say: `None` says nothing of
+    /// the bytes. The fields that were read stay where they are, since the caller gets no memory for a prefix that it asks for.
+    #[inline(always)]
+    pub fn read_planned(&self, bytes: &[u8], given: &Given) -> Option<Prefix>
+        ensures prefix { IfSome result
+            (λ prefix. Some prefix ≡ prefix_at given.now (grammar_in self.now) bytes.now) }
+        ensures within { IfSome result (IsWithin bytes.now) }
+    {
+        let Source::Items(described) = &self.source else {
+            return None;
+        };
+        if self.contents.has_unix_time || !has_offset(self.contents, given) {
+            return None;
+        }
+        let text = near(bytes);
+        let Some((fields, rest)) = described.read_prefix(text, assumed(self.contents, given)) else {
+            return None;
+        };
+        let moment = Named::of_fields(fields);
+        let Some(prefix) = prefix_by_texts(described.items(), &self.ends, text, moment, rest) else {
+            return None;
+        };
+        Some(prefix)
+    }
+
     /// The prefix of bytes that the source reads as a date, with what is given where the date lacks it. It lies within the
-    /// first 256 bytes. Where a plan reads a description's items, the prefix is made here.
+    /// first 256 bytes.
     #[inline(never)]
     pub fn read(&self, bytes: &[u8], given: &Given) -> Option<Prefix>
         ensures prefix { result ≡ prefix_at given.now (grammar_in self.now) bytes.now }
         ensures within { IfSome result (IsWithin bytes.now) }
     {
-        let Source::Items(described) = &self.source else {
-            return self.read_any(bytes, given);
-        };
-        if self.contents.has_unix_time || !has_offset(self.contents, given) {
-            return self.read_any(bytes, given);
+        if let Some(prefix) = self.read_planned(bytes, given) {
+            return Some(prefix);
         }
-        let text = near(bytes);
-        let Some((fields, rest)) = described.read_prefix(text, assumed(self.contents, given)) else {
-            return if described.cannot_match(text) {
-                None
-            } else {
-                self.read_any(bytes, given)
-            };
-        };
-        let moment = Named::of_fields(fields);
-        Some(prefix_of_nodes(described.items(), &self.ends, text, moment, rest))
+        if rules_out(&self.source, bytes) {
+            return None;
+        }
+        self.read_any(bytes, given)
     }
 
     /// What the source lacks to name a moment with what is given: such a source finds no date in any line.

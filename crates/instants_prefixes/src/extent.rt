@@ -44,6 +44,24 @@ fn by_reading<N: Node>(nodes: &[N], ends: &Ends, text: &[u8]) -> Extent
     }
 }
 
+/// The extent of nodes in a text that they read up to the rest, by the lengths of the texts: `None` where these don't tell it.
+#[inline(always)]
+pub(crate) fn extent_by_texts<N: Node>(
+    _nodes: &[N],
+    ends: &Ends,
+    text: &[u8],
+    rest: &[u8],
+) -> Option<Extent>
+    requires ends { AreEnds (map N.tree _nodes.now) ends.now }
+    requires read { LeavesAfter N.language (map N.tree _nodes.now) text.now rest.now }
+    ensures { IfSome result (IsExtent N.language (map N.tree _nodes.now) text.now) }
+{
+    let Some(extent) = by_texts(ends, text.len().saturating_sub(rest.len())) else {
+        return None;
+    };
+    Some(extent)
+}
+
 /// The extent of nodes in a text that they read up to the rest.
 #[inline(always)]
 pub(crate) fn extent_of<N: Node>(nodes: &[N], ends: &Ends, text: &[u8], rest: &[u8]) -> Extent
@@ -51,7 +69,7 @@ pub(crate) fn extent_of<N: Node>(nodes: &[N], ends: &Ends, text: &[u8], rest: &[
     requires read { LeavesAfter N.language (map N.tree nodes.now) text.now rest.now }
     ensures { IsExtent N.language (map N.tree nodes.now) text.now result }
 {
-    match by_texts(ends, text.len().saturating_sub(rest.len())) {
+    match extent_by_texts(nodes, ends, text, rest) {
         Some(extent) => extent,
         None => by_reading(nodes, ends, text),
     }

@@ -1,20 +1,57 @@
 //! Where in the prefix that a source reads its date begins and ends.
-ghost use Rattle.std.specs.Prelude.{◌≡◌, map};
+ghost use Rattle.std.specs.Prelude.{◌≡◌, map, IfSome};
 ghost use Rattle.description_tree.specs.Description.{v3_tree};
 ghost use Rattle.parsing_components.specs.Component.{reads_component_v3};
 ghost use Rattle.instants_sources.specs.Grammar.{grammar_of};
 ghost use Rattle.instants_sources.specs.Grammar as grammar;
-ghost use Rattle.instants_prefixes.specs.Ends.{AreEnds, items_in, LeavesAfter, LeavesRest};
+ghost use Rattle.instants_prefixes.specs.Ends.{AreEnds, items_in, IsExtent, LeavesAfter, LeavesRest};
 ghost use Rattle.instants_prefixes.specs.Prefix.{with_lengths};
 ghost use Rattle.instants_prefixes.specs.Lengths.{lengths, lengths_by, items_of};
 
 use crate::ends::Ends;
-use crate::extent::extent_of;
+use crate::extent::{Extent, extent_by_texts, extent_of};
 use crate::prefix::Prefix;
 use description_tree::FormatDescriptionV3;
 use instants_sources::{Named, Source};
 use parsing_record::{Node, NodeStep};
 use std::slice;
+
+// The prefix of this extent that nodes read up to the rest of a text.
+#[inline(always)]
+fn prefix_of_extent<N: Node>(
+    _nodes: &[N],
+    extent: Extent,
+    text: &[u8],
+    moment: Named,
+    rest: &[u8],
+) -> Prefix
+    requires { IsExtent N.language (map N.tree _nodes.now) text.now extent }
+    ensures { result
+        ≡ with_lengths text.now moment rest.now
+        (lengths_by N.language text.now (map N.tree _nodes.now)) }
+{
+    Prefix::of_extent(extent, text, moment, rest)
+}
+
+/// The prefix that nodes read up to the rest of a text, one after the other, by the lengths of the texts among them: `None`
+/// where these don't tell it.
+#[inline(always)]
+pub(crate) fn prefix_by_texts<N: Node>(
+    nodes: &[N],
+    ends: &Ends,
+    text: &[u8],
+    moment: Named,
+    rest: &[u8],
+) -> Option<Prefix>
+    requires ends { AreEnds (map N.tree nodes.now) ends.now }
+    requires read { LeavesAfter N.language (map N.tree nodes.now) text.now rest.now }
+    ensures { IfSome result (λ prefix. prefix
+        ≡ with_lengths text.now moment rest.now
+        (lengths_by N.language text.now (map N.tree nodes.now))) }
+{
+    let extent = extent_by_texts(nodes, ends, text, rest)?;
+    Some(prefix_of_extent(nodes, extent, text, moment, rest))
+}
 
 /// The prefix that nodes read up to the rest of a text, one after the other.
 #[inline(always)]
@@ -32,7 +69,7 @@ pub(crate) fn prefix_of_nodes<N: Node>(
         (lengths_by N.language text.now (map N.tree nodes.now)) }
 {
     let extent = extent_of(nodes, ends, text, rest);
-    Prefix::of_extent(extent, text, moment, rest)
+    prefix_of_extent(nodes, extent, text, moment, rest)
 }
 
 // The prefix that a tree reads.

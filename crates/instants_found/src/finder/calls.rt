@@ -1,5 +1,5 @@
 //! The calls of a finder.
-ghost use Rattle.std.specs.Prelude.{◌≡◌, ◌<◌, ◌≤◌, ◌+◌, length, map, min, take, false, None, All, IfOk, IfSome, IfNone};
+ghost use Rattle.std.specs.Prelude.{◌≡◌, ◌<◌, ◌≤◌, ◌+◌, length, map, min, take, false, None, Some, All, IfOk, IfSome, IfNone};
 ghost use Rattle.instants_prefixes.specs.declared.given.Given.{Given};
 ghost use Rattle.instants_prefixes.specs.DateSource.{grammar_in};
 ghost use Rattle.instants_sources.specs.Grammar.{grammar_of};
@@ -10,12 +10,13 @@ ghost use Rattle.instants_found.specs.Keys.{NeedsFour};
 ghost use Rattle.instants_found.specs.Marks.{AreMarks};
 ghost use Rattle.instants_found.specs.Starts.{HasNoDate, IsNoDate, MarkPlaces};
 ghost use Rattle.instants_found.specs.Within.{IsWithin};
+ghost use Rattle.instants_found.specs.declared.found.Finding.TheVariants.{There};
 
 use crate::beside::after;
 use crate::doubt::{Doubted, doubted_at};
 use crate::finder::Finder;
-use crate::finding::{at_place, may_read};
-use crate::found::Finding;
+use crate::finding::{at_place, may_read, plain_at};
+use crate::found::{Finding, Found};
 use crate::keys::REACH;
 use crate::lanes::LANES;
 use crate::marks::Marks;
@@ -252,6 +253,25 @@ impl<'a> Finder<'a> {
             start = next;
         }
         None
+    }
+
+    /// The date of a line with what is given, where none begins before a place and the date there is found at once: nothing is
+    /// given, a plan reads it, and it stands whole. `None` says nothing of the line. A caller that looks here first has the
+    /// date's fields without room in memory for all that `find_from` may find.
+    #[inline(always)]
+    pub fn plain_date(&self, given: &Given, line: &[u8], first: usize) -> Option<Found>
+        requires within { first < length line.now }
+        requires passed { HasNoDate (sources_of self.now) line.now 0 first }
+        ensures { IfSome result (λ date.
+            Some (There date) ≡ found (limit_of self.now) given.now (sources_of self.now) line.now) }
+    {
+        if first >= self.limit {
+            return None;
+        }
+        let Some(date) = plain_at(self.sources.as_slice(), given, line, first) else {
+            return None;
+        };
+        Some(date)
     }
 
     /// The date of a line, with what is given: the longest that stands whole at the least place, among the first ones, at which a

@@ -1,9 +1,10 @@
 //! The dates of lines, and what one source says of a line.
-ghost use Rattle.std.specs.Prelude.{◌≡◌, ◌<◌, ◌≤◌, ◌↔◌, length, map, None, Ok, IsOk, IfOk, IfErr, IfSome, IfNone};
+ghost use Rattle.std.specs.Prelude.{◌≡◌, ◌<◌, ◌≤◌, ◌↔◌, length, map, None, Some, Ok, IsOk, IfOk, IfErr, IfSome, IfNone};
 ghost use Rattle.std.specs.Option.{ok_or};
 ghost use Rattle.instants_answers.specs.Text.{FitsLine};
 ghost use Rattle.instants_found.specs.Starts.{HasNoDate};
 ghost use Rattle.instants_found.specs.Within.{IsWithin};
+ghost use Rattle.instants_found.specs.declared.found.Finding.TheVariants.{There};
 ghost use Rattle.instants_prefixes.specs.DateSource.{grammar_in};
 ghost use Rattle.instants_prefixes.specs.declared.given.Given.{Given};
 ghost use Rattle.instants_sources.specs.Named.{named};
@@ -18,11 +19,11 @@ ghost use Rattle.instants_lines.specs.Showing.{limit_in, search_in, setting_in};
 use crate::date_sources::DateSources;
 use crate::lacking::Lacking;
 use datetime_types::OffsetDateTime;
-use instants_answers::Answer;
-use instants_found::{Doubted, Finder, Finding};
+use instants_answers::{Answer, write_fields};
+use instants_found::{Doubted, Finder, Finding, Found};
 use instants_prefixes::{DateSource, Given};
 use instants_sources::Named;
-use instants_timeline::{Timeline, answer_by, answer_named, shown_at};
+use instants_timeline::{Timeline, answer_by, answer_moment, answer_named, shown_at};
 use std::alloc::{AllocError, Global};
 
 impl<'a> DateSources<'a> {
@@ -97,6 +98,17 @@ impl<'a> DateSources<'a> {
         self.finder.undated_len(line)
     }
 
+    /// The date of a line, with what is given, where none begins before a place and the date there is found at once.
+    #[inline(always)]
+    pub(crate) fn plain_date(&self, given: &Given, line: &[u8], first: usize) -> Option<Found>
+        requires within { first < length line.now }
+        requires passed { HasNoDate (setting_in self.now).sources line.now 0 first }
+        ensures { IfSome result
+            (λ date. Some (There date) ≡ date_in (search_in self.now given.now) line.now) }
+    {
+        self.finder.plain_date(given, line, first)
+    }
+
     /// The date of a line, with what is given, where none begins before a place.
     #[inline(always)]
     pub(crate) fn date_from(&self, given: &Given, line: &[u8], first: usize) -> Option<Finding>
@@ -117,8 +129,33 @@ impl<'a> DateSources<'a> {
         shown_at(self.target, moment)
     }
 
-    /// The moment of a date as an answer: its date-time at the target, or `! year`. A call of its own, so that the answer lies
-    /// in memory, from where it is copied at once and not byte by byte.
+    // Writes a moment as an answer, in place of what that held. Of most dates the fields are written.
+    #[cold]
+    #[inline(never)]
+    fn write_moment(&self, moment: OffsetDateTime, answer: &mut Answer)
+        ensures bytes { answer.new ≡
+            place_text (shown_or_refused (setting_in self.now).target (Ok moment)) }
+        ensures room { length answer.new ≤ 63 }
+    {
+        *answer = answer_moment(self.target, moment);
+    }
+
+    /// Writes the moment of a date as an answer, in place of what that held: its date-time at the target, or `! year`.
+    #[inline(always)]
+    pub(crate) fn write_named(&self, named: &Named, answer: &mut Answer)
+        ensures bytes { answer.new ≡
+            place_text (shown_or_refused (setting_in self.now).target (Ok named.now)) }
+        ensures room { length answer.new ≤ 63 }
+    {
+        if let Some(fields) = named.fields() {
+            if write_fields(fields, self.target, answer) {
+                return;
+            }
+        }
+        self.write_moment(named.moment(), answer)
+    }
+
+    /// The moment of a date as an answer: its date-time at the target, or `! year`.
     #[inline(never)]
     pub(crate) fn answer_named(&self, named: &Named) -> Answer
         ensures bytes { result ≡

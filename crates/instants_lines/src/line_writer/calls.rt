@@ -1,5 +1,5 @@
 //! What is written for lines one after another.
-ghost use Rattle.std.specs.Prelude.{◌≡◌, ◌<◌, ◌≤◌, [], ◌∷◌, ◌++◌, length, option_map, true, false, Some, OnOk, OnErr};
+ghost use Rattle.std.specs.Prelude.{◌≡◌, ◌<◌, ◌≤◌, [], ◌∷◌, ◌++◌, length, option_map, true, false, Some, IfSome, IfNone, OnOk, OnErr};
 ghost use Rattle.std.specs.Io.KnownBytes.{Appends};
 ghost use Rattle.base.specs.Bytes.{tab, line_feed};
 ghost use Rattle.instants_found.specs.Starts.{HasNoDate};
@@ -44,16 +44,18 @@ impl<'a, 'b> LineWriter<'a, 'b> {
             label,
             key,
             tabbed: tabbed(key),
+            storage: Answer::new(),
         }
     }
 
-    // Keeps the key of a line, where the lines below it take it.
+    // Keeps the key of a line, which was made in the storage, where the lines below it take it.
     #[inline(always)]
-    fn keep(&mut self, key: Answer)
-        requires { length key ≤ 63 }
-        ensures { going_of self.new ≡ record (going_of self.old) {
-          key = key_below (going_of self.old).mode (going_of self.old).key key;
+    fn keep(&mut self)
+        requires { length self.old.storage ≤ 63 }
+        ensures kept { going_of self.new ≡ record (going_of self.old) {
+          key = key_below (going_of self.old).mode (going_of self.old).key self.old.storage;
         } }
+        ensures storage { self.new.storage ≡ self.old.storage }
     {
         if self.mode == Mode::Carry {
             *self = LineWriter {
@@ -61,8 +63,9 @@ impl<'a, 'b> LineWriter<'a, 'b> {
                 dates: self.dates,
                 given: self.given,
                 label: self.label,
-                key,
-                tabbed: tabbed(key),
+                key: self.storage,
+                tabbed: tabbed(self.storage),
+                storage: self.storage,
             };
         }
     }
@@ -70,11 +73,12 @@ impl<'a, 'b> LineWriter<'a, 'b> {
     // Keeps the moment of a date, where a year is given.
     #[inline(always)]
     fn keep_year(&mut self, date: &Found)
-        ensures { going_of self.new ≡ record (going_of self.old) {
+        ensures kept { going_of self.new ≡ record (going_of self.old) {
           search = record (going_of self.old).search {
             given = given_below (going_of self.old).search.given (Some (There date.now));
           };
         } }
+        ensures storage { self.new.storage ≡ self.old.storage }
     {
         if let Years::Unknown = self.given.years {
             return;
@@ -111,15 +115,15 @@ impl<'a, 'b> LineWriter<'a, 'b> {
     {
         match finding {
             Some(Finding::There(date)) => {
-                let key = self.dates.answer_named(&date.moment);
+                self.dates.write_named(&date.moment, &mut self.storage);
                 self.keep_year(&date);
-                self.keep(key);
-                key
+                self.keep();
+                self.storage
             }
             Some(Finding::Doubtful) => {
-                let key = doubt();
-                self.keep(key);
-                key
+                self.storage = doubt();
+                self.keep();
+                self.storage
             }
             None => self.key,
         }
@@ -144,11 +148,11 @@ impl<'a, 'b> LineWriter<'a, 'b> {
         ensures err { OnErr result (W.failed writer.new ≡ true) }
     {
         let label = self.label;
-        let mut key = self.dates.answer_named(&date.moment);
+        self.dates.write_named(&date.moment, &mut self.storage);
         self.keep_year(date);
-        self.keep(key);
-        key.push(b'\t');
-        write_keyed(writer, &key, label, line)
+        self.keep();
+        self.storage.push(b'\t');
+        write_keyed(writer, &self.storage, label, line)
     }
 
     // Writes a line whose date is in doubt after the key that says so.
@@ -174,11 +178,38 @@ impl<'a, 'b> LineWriter<'a, 'b> {
         write_keyed_by_tab(writer, &key, label, line)
     }
 
-    // Writes a line after its key and a tab, where no date begins before a place. A call of its own, so that lines in which
-    // none can begin make no room for a date and an answer.
+    // Writes a line after the key of its date, where none begins before a place and the date there is found at once: `None` where
+    // it is not, with nothing written. A call of its own, which makes no room for what is found otherwise.
+    #[inline(never)]
+    fn write_plain<W: ByteWriter>(
+        &mut self,
+        first: usize,
+        line: &[u8],
+        writer: &mut W,
+    ) -> Option<Result<(), DeviceFailed>>
+        requires works { W.failed writer.old ≡ false }
+        requires within { first < length line.now }
+        requires passed { HasNoDate (going_of self.old).search.setting.sources line.now 0 first }
+        ensures written { IfSome result (λ end. OnOk end (Appends (W.held writer.old) (W.held writer.new)
+            (keyed (going_of self.old) line.now ++ line_feed ∷ []))) }
+        ensures next { IfSome result (λ end. OnOk end (going_of self.new ≡ below (going_of self.old) line.now)) }
+        ensures ok { IfSome result (λ end. OnOk end (W.failed writer.new ≡ W.failed writer.old)) }
+        ensures prefix { IfSome result (λ end. OnErr end (AppendsPrefix (W.held writer.old) (W.held writer.new)
+            (keyed (going_of self.old) line.now ++ line_feed ∷ []))) }
+        ensures err { IfSome result (λ end. OnErr end (W.failed writer.new ≡ true)) }
+        ensures same { IfNone result ((self.new ≡ self.old) × (writer.new ≡ writer.old)) }
+    {
+        let Some(date) = self.dates.plain_date(&self.given, line, first) else {
+            return None;
+        };
+        Some(self.write_dated(&date, line, writer))
+    }
+
+    // Writes a line after its key and a tab, where no date begins before a place, by whatever is found in it. A call of its own,
+    // so that other lines make no room for that.
     #[inline(never)]
     #[tactic(auto, using(crate::proofs::Keyed::undated, crate::proofs::Keyed::below_undated))]
-    fn write_from<W: ByteWriter>(
+    fn write_any<W: ByteWriter>(
         &mut self,
         first: usize,
         line: &[u8],
@@ -200,6 +231,31 @@ impl<'a, 'b> LineWriter<'a, 'b> {
             Some(Finding::There(date)) => self.write_dated(date, line, writer),
             Some(Finding::Doubtful) => self.write_doubtful(line, writer),
             None => self.write_undated(line, writer),
+        }
+    }
+
+    // Writes a line after its key and a tab, where no date begins before a place.
+    #[inline(always)]
+    fn write_from<W: ByteWriter>(
+        &mut self,
+        first: usize,
+        line: &[u8],
+        writer: &mut W,
+    ) -> Result<(), DeviceFailed>
+        requires works { W.failed writer.old ≡ false }
+        requires within { first < length line.now }
+        requires passed { HasNoDate (going_of self.old).search.setting.sources line.now 0 first }
+        ensures written { OnOk result (Appends (W.held writer.old) (W.held writer.new)
+            (keyed (going_of self.old) line.now ++ line_feed ∷ [])) }
+        ensures next { OnOk result (going_of self.new ≡ below (going_of self.old) line.now) }
+        ensures ok { OnOk result (W.failed writer.new ≡ W.failed writer.old) }
+        ensures prefix { OnErr result (AppendsPrefix (W.held writer.old) (W.held writer.new)
+            (keyed (going_of self.old) line.now ++ line_feed ∷ [])) }
+        ensures err { OnErr result (W.failed writer.new ≡ true) }
+    {
+        match self.write_plain(first, line, writer) {
+            Some(end) => end,
+            None => self.write_any(first, line, writer),
         }
     }
 

@@ -1,66 +1,15 @@
-use Rattle.std.proofs.Common.{◌≡◌, List, Option, Some, None, sym, ap, subst, ◌∙◌}
-use Rattle.description_items.specs.declared.item.BorrowedFormatItem.{BorrowedFormatItem}
-use Rattle.description_items.specs.Tree.{listed, trees}
-use Rattle.parsing_components.specs.Component.{reads_component}
-use Rattle.parsing_fields.specs.Moment.{moment_of}
-use Rattle.parsing_record.specs.Reads.{reading_of_all}
-use Rattle.parsing_record.specs.Record.{empty}
-use Rattle.datetime_wall.specs.Wall.{Shown}
-use Rattle.instants_sources.specs.Grammar.{Grammar, Items, grammar_of}
-use Rattle.instants_prefixes.specs.Contents.{AreContents}
-use Rattle.instants_prefixes.specs.DateSource.{grammar_in, IsWithin}
-use Rattle.instants_prefixes.specs.Ends.{LeavesAfter}
-use Rattle.instants_prefixes.specs.Prefix.{prefix_at, with_lengths}
-use Rattle.instants_prefixes.specs.Lengths.{lengths_by}
-use Rattle.instants_prefixes.specs.declared.prefix.Prefix.{Prefix}
-use Rattle.instants_prefixes.proofs.Planned.{planned_named, planned_leaves, planned_at, planned_within, refused_at}
-use Rattle.instants_prefixes.proofs.ReadPrefixes.{items_prefix, refused_prefix}
+use Rattle.std.proofs.Common.{◌≡◌, ℕ, List, None, refl}
+use Rattle.instants_sources.specs.Grammar.{Grammar}
+use Rattle.instants_prefixes.specs.DateSource.{grammar_in}
+use Rattle.instants_prefixes.specs.Given.{Given}
+use Rattle.instants_prefixes.specs.NoPrefix.{HasNoPrefix}
+use Rattle.instants_prefixes.specs.Prefix.{prefix_at}
 use Rattle.instants_prefixes.proofs.date_source.DateSource.read.Goals as goal
 
-pub returns-then-cannot_match-clause-prefix : goal.returns-then-cannot_match-clause-prefix
-returns-then-cannot_match-clause-prefix c =
-    let given = c.args.given.now in
-    let contents = c.args.self.now.contents in
-    let text = c.near-text.result.now in
-    let items = trees c.in-Items.described.items.items in
-    let is : grammar_in c.args.self.now ≡ Items items = ap grammar_of c.in-Items.is in
-    let P : Grammar → Type 0 = λ g. AreContents g contents in
-    let are : AreContents (Items items) contents = subst P is c.args.self.now.has in
-    let none = items_prefix given items contents text are ∙ refused_prefix given contents.has_unix_time (reading_of_all reads_component (listed items) empty text) (c.cannot_match.ensures c.if-cannot_match.true empty) in
-    let At : Grammar → Type 0 = λ g. ◌≡◌ {A = Option Prefix} None (prefix_at given g c.args.bytes.now) in
-    subst At (sym is) (refused_at given items c.args.bytes.now text c.near-text.ensures none)
+-- bytes without a prefix
+none_at : (given : Given) (grammar : Grammar) (bytes : List ℕ) → HasNoPrefix bytes grammar → None ≡ prefix_at given grammar bytes
+unfolding prefix_at
+none_at given grammar bytes none = rw (none given) refl
 
-pub prefix_of_nodes-requires-clause-read : goal.prefix_of_nodes-requires-clause-read
-prefix_of_nodes-requires-clause-read c =
-    let given = c.args.given.now in
-    let contents = c.args.self.now.contents in
-    let text = c.near-text.result.now in
-    let items = trees c.in-Items.described.items.items in
-    let is : grammar_in c.args.self.now ≡ Items items = ap grammar_of c.in-Items.is in
-    let P : Grammar → Type 0 = λ g. AreContents g contents in
-    let are : AreContents (Items items) contents = subst P is c.args.self.now.has in
-    let named = planned_named given items c.args.bytes.now text c.near-text.ensures contents c.assumed.result c.in-Some.rest.now (moment_of c.in-Some.fields) are c.if-self.false c.assumed.ensures c.in-Some.ensures.prefix in
-    let Q : List BorrowedFormatItem → Type 0 = λ xs. LeavesAfter reads_component (trees xs) text c.in-Some.rest.now in
-    subst Q (sym c.items.ensures) (planned_leaves given items c.args.bytes.now text c.near-text.ensures c.in-Some.rest.now (moment_of c.in-Some.fields) named)
-
-pub returns-clause-prefix : goal.returns-clause-prefix
-returns-clause-prefix c =
-    let given = c.args.given.now in
-    let contents = c.args.self.now.contents in
-    let text = c.near-text.result.now in
-    let rest = c.in-Some.rest.now in
-    let items = trees c.in-Items.described.items.items in
-    let is : grammar_in c.args.self.now ≡ Items items = ap grammar_of c.in-Items.is in
-    let P : Grammar → Type 0 = λ g. AreContents g contents in
-    let are : AreContents (Items items) contents = subst P is c.args.self.now.has in
-    let named = planned_named given items c.args.bytes.now text c.near-text.ensures contents c.assumed.result rest (moment_of c.in-Some.fields) are c.if-self.false c.assumed.ensures c.in-Some.ensures.prefix in
-    let made : Some c.prefix_of_nodes.result ≡ Some (with_lengths text (moment_of c.in-Some.fields) rest (lengths_by reads_component text items)) =
-    ap Some (c.prefix_of_nodes.ensures ∙ ap (λ (m : Shown). with_lengths text m rest (lengths_by reads_component text (trees c.items.result.now))) c.of_fields-moment.ensures ∙ ap (λ (xs : List BorrowedFormatItem). with_lengths text (moment_of c.in-Some.fields) rest (lengths_by reads_component text (trees xs))) c.items.ensures) in
-    let At : Grammar → Type 0 = λ g. Some c.prefix_of_nodes.result ≡ prefix_at given g c.args.bytes.now in
-    subst At (sym is) (made ∙ planned_at given items c.args.bytes.now text c.near-text.ensures rest (moment_of c.in-Some.fields) named)
-
-pub returns-clause-within : goal.returns-clause-within
-returns-clause-within c =
-    let text = c.near-text.result.now in
-    let P : Prefix → Type 0 = λ prefix. IsWithin c.args.bytes.now prefix in
-    subst P (sym c.prefix_of_nodes.ensures) (planned_within c.args.given.now (trees c.items.result.now) c.args.bytes.now text c.near-text.ensures c.in-Some.rest.now c.of_fields-moment.result)
+pub returns-then-rules_out-clause-prefix : goal.returns-then-rules_out-clause-prefix
+returns-then-rules_out-clause-prefix c = none_at c.args.given.now (grammar_in c.args.self.now) c.args.bytes.now (c.rules_out.ensures c.if-rules_out.true)
