@@ -15,7 +15,7 @@ use calendar::UtcOffset;
 use datetime_types::OffsetDateTime;
 use parsing_fields::Fields;
 use parsing_laws::two_roads::{one_road_of_iso8601, two_roads_of_rfc2822, two_roads_of_rfc3339};
-use parsing_plan::{Places, Plan};
+use parsing_plan::{Places, Plan, UnixTime};
 
 /// The fields of the moment of a line of RFC 2822, where the fast way finds them, whatever offset is assumed: `None` says
 /// nothing of the line.
@@ -142,6 +142,18 @@ pub fn read_by_places(places: &Places, line: &[u8], assumed: Option<UtcOffset>) 
         (λ fields. named assumed grammar line.now ≡ Ok (moment_of fields)) }
 {
     places.read(line, assumed)
+}
+
+/// The fields of the moment of a line of Unix time, where a plan finds them, whatever offset is assumed: `None` says nothing of the
+/// line.
+#[inline(always)]
+pub fn read_by_unix(unix: &UnixTime, line: &[u8], assumed: Option<UtcOffset>) -> Option<Fields>
+    ensures { (grammar : Grammar) → IsPlanned grammar (plan.Unix unix.now) → IfSome result
+        (λ fields. named assumed grammar line.now ≡ Ok (moment_of fields)) }
+{
+    // (it says when the moment is, and no offset counts)
+    let _ = assumed;
+    unix.read_within(line)
 }
 
 /// The fields of the moment of a line, where the plan of a description finds them, with an offset assumed or none: `None` says

@@ -8,6 +8,7 @@ ghost use Rattle.instants_timeline.specs.Settings.{setting_of};
 
 use crate::timeline::{
     AnswerWay, ExactWay, Iso8601Way, Led, PlacesWay, PlannedWay, Rfc2822Way, Rfc3339Way, Timeline,
+    UnixWay,
 };
 use instants_sources::Source;
 use instants_stream::{ByteReader, ByteWriter, RunFault, TooLittleRoom, lines_over, run_lines};
@@ -69,6 +70,14 @@ pub(crate) fn answer_lines<R: ByteReader, W: ByteWriter>(
                     writer,
                 )
             }
+            Some(Plan::Unix(unix)) => run_by(
+                UnixWay::new(unix),
+                timeline,
+                limit,
+                buffer,
+                reader,
+                writer,
+            ),
             Some(plan) => run_by(
                 PlannedWay::new(plan),
                 timeline,
@@ -134,6 +143,9 @@ pub fn run_over(
         described => match described.plan() {
             Some(Plan::Places(places)) => {
                 run_over_by(PlacesWay::new(places), timeline, limit, input, room)
+            }
+            Some(Plan::Unix(unix)) => {
+                run_over_by(UnixWay::new(unix), timeline, limit, input, room)
             }
             Some(plan) => run_over_by(PlannedWay::new(plan), timeline, limit, input, room),
             None => run_over_by(ExactWay, timeline, limit, input, room),

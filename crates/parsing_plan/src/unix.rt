@@ -55,10 +55,20 @@ fn fraction_after(line: &[u8], finer: usize) -> Option<Fraction>
 }
 
 impl UnixTime {
-    /// The fields of a line, in UTC: `None` says nothing of the line. A call of its own, so that `Plan::read` stays small enough to be
-    /// inlined into a loop over lines.
+    /// The same as `read_within`, in a call of its own, so that `Plan::read` stays small.
     #[inline(never)]
     pub(crate) fn read(&self, line: &[u8]) -> Option<Fields>
+        ensures { (m : Meaning) (defaults : Option Record) (assumed : Option ℤ)
+            → IsUnixOf m self.now.finer → starting defaults ≡ beginning assumed
+            → IfSome result
+            (λ f. names moment_named (whole m defaults line.now) ≡ Ok (moment_of f)) }
+    {
+        self.read_within(line)
+    }
+
+    /// The fields of a line, in UTC: `None` says nothing of the line.
+    #[inline(always)]
+    pub fn read_within(&self, line: &[u8]) -> Option<Fields>
         ensures { (m : Meaning) (defaults : Option Record) (assumed : Option ℤ)
             → IsUnixOf m self.now.finer → starting defaults ≡ beginning assumed
             → IfSome result

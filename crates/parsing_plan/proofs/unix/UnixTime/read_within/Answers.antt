@@ -1,6 +1,6 @@
 use Rattle.std.proofs.Common.{◌+◌, ◌*◌, ◌<◌, sym, arith}
 use Rattle.parsing_plan.proofs.Timestamps.{unix_lines, ten_read}
-use Rattle.parsing_plan.proofs.unix.UnixTime.read.Goals as goal
+use Rattle.parsing_plan.proofs.unix.UnixTime.read_within.Goals as goal
 
 pub returns : goal.returns
 returns c = λ m defaults assumed reads_it start.
