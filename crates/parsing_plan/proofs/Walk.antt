@@ -16,6 +16,8 @@ use Rattle.parsing_plan.specs.declared.plan.Plan.TheVariants as plan
 use Rattle.parsing_plan.specs.declared.plan.Back.{Back}
 use Rattle.parsing_plan.specs.Plan.{IsLayoutOf, IsSplitOf, ArePlacesOf, IsPlanOf}
 use Rattle.parsing_plan.specs.UnixTime.{IsUnixOf}
+use Rattle.parsing_steps.specs.declared.steps.Steps.{Steps}
+use Rattle.parsing_steps.specs.Steps.{AreStepsOf}
 use Rattle.parsing_plan.specs.declared.unix.UnixTime.{UnixTime}
 use Rattle.parsing_plan.specs.Steps.{IsStep, IsFractionOf, LeadsTo}
 
@@ -92,18 +94,29 @@ pub compound_plans : (language : Language) (ts : List Tree) (o : Option Plan) �
 compound_plans language ts None h = tt
 compound_plans language ts (Some plan) h = compound_plan language ts plan h
 
--- ---- plans of places, and of Unix time
+-- ---- plans of places, of Unix time, and of steps
 
 pub of_places : (m : Meaning) (places : Places) → ArePlacesOf m places → IsPlanOf m (plan.Places places)
 of_places m places are = (
   (λ x e. let same : x ≡ places = cc in rw same are),
   (λ u e. absurd cc),
+  (λ s e. absurd cc),
 )
+
+unix_reads : (language : Language) (t : Tree) (finer : ℕ) → IsUnixOf (reading language t) finer → IsUnixOf (reading_of_all language (listed (t ∷ []))) finer
+unix_reads language t finer reads_it line number is few r =
+    ap result_ok (first_read language t [] r _ line [] (was_read (reading language t r line) _ (reads_it line number is few r)) ∙ nothing_left language _ [])
 
 pub of_unix : (language : Language) (t : Tree) (u : UnixTime) → IsUnixOf (reading language t) u.finer → IsPlanOf (reading_of_all language (listed (t ∷ []))) (plan.Unix u)
 of_unix language t u reads_it = (
   (λ x e. absurd cc),
-  (λ x e.
-      let same : x ≡ u = cc in
-      rw same (λ line number is few r. ap result_ok (first_read language t [] r _ line [] (was_read (reading language t r line) _ (reads_it line number is few r)) ∙ nothing_left language _ []))),
+  (λ x e. let same : x ≡ u = cc in rw same (unix_reads language t u.finer reads_it)),
+  (λ s e. absurd cc),
+)
+
+pub of_steps : (m : Meaning) (steps : Steps) → AreStepsOf m steps → IsPlanOf m (plan.Steps steps)
+of_steps m steps are = (
+  (λ x e. absurd cc),
+  (λ u e. absurd cc),
+  (λ s e. let same : s ≡ steps = cc in rw same are),
 )

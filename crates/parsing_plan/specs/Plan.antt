@@ -1,12 +1,10 @@
 -- Plans, and the items that they stand for.
-use Rattle.std.specs.Prelude.{◌≡◌, ◌≤◌, ℕ, List, drop, length, Some, Ok}
+use Rattle.std.specs.Prelude.{◌≡◌, ◌≤◌, ℕ, List, drop, length, Some}
 use Rattle.std.specs.Result.{result_ok}
 use Rattle.std.specs.Option.{ForSome, ForNone}
-use Rattle.datetime_wall.specs.Wall.{Shown}
 use Rattle.parsing_combinator.specs.Shape.{taken, fraction_between}
 use Rattle.parsing_record.specs.Meaning.{Meaning}
 use Rattle.parsing_record.specs.Record.{Record}
-use Rattle.parsing_record.specs.Whole.{moment_named}
 use Rattle.parsing_components.specs.Slot.{Values}
 use Rattle.parsing_plan.specs.Layout.{Says, with_values}
 use Rattle.parsing_plan.specs.declared.layout.Layout.{Layout}
@@ -15,6 +13,9 @@ use Rattle.parsing_plan.specs.declared.plan.Places.{Places}
 use Rattle.parsing_plan.specs.declared.plan.Plan.{Plan}
 use Rattle.parsing_plan.specs.declared.plan.Plan.TheVariants as plan
 use Rattle.parsing_plan.specs.declared.unix.UnixTime.{UnixTime}
+use Rattle.parsing_steps.specs.declared.steps.Steps.{Steps}
+use Rattle.parsing_steps.specs.Steps.{AreStepsOf}
+pub use Rattle.parsing_steps.specs.Steps.{NamesPrefix}
 pub use Rattle.parsing_plan.specs.Beginning.{beginning}
 
 -- a line that has the layout at its prefix is read by these items, which set the values of the slots
@@ -32,10 +33,4 @@ ArePlacesOf m places = ForNone places.back (IsLayoutOf m places.prefix.layout) �
 
 -- the items read as the plan says
 abbrev pub IsPlanOf : Meaning → Plan → Type 0
-IsPlanOf m p = ((places : Places) → p ≡ plan.Places places → ArePlacesOf m places) × ((unix : UnixTime) → p ≡ plan.Unix unix → IsUnixOf m unix.finer)
-
--- the items read a prefix of the line from a record, leave this rest, and the record that they set names this moment
-pub record NamesPrefix (m : Meaning) (r : Record) (line rest : List ℕ) (moment : Shown) : Type 0 where
-  pub set : Record
-  pub reads : m r line ≡ Ok (set, rest)
-  pub names : moment_named set ≡ Ok moment
+IsPlanOf m p = ((places : Places) → p ≡ plan.Places places → ArePlacesOf m places) × ((unix : UnixTime) → p ≡ plan.Unix unix → IsUnixOf m unix.finer) × ((steps : Steps) → p ≡ plan.Steps steps → AreStepsOf m steps)

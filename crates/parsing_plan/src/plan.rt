@@ -10,6 +10,7 @@ mod calls;
 use crate::layout::Layout;
 use crate::unix::UnixTime;
 use parsing_places::{LastBytes, Windows};
+use parsing_steps::Steps;
 
 /// The places of an offset's hours, after which its sign stands, and of its minutes.
 #[derive(Clone, Copy)]
@@ -95,4 +96,6 @@ pub enum Plan {
     Places(Places),
     /// Unix time alone.
     Unix(UnixTime),
+    /// A byte and a component at a time.
+    Steps(Steps),
 }

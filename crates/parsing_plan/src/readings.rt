@@ -168,6 +168,7 @@ impl Plan {
         match self {
             Plan::Places(places) => places.read(line, assumed),
             Plan::Unix(unix) => unix.read(line),
+            Plan::Steps(steps) => steps.read(line, assumed),
         }
     }
 
@@ -187,6 +188,7 @@ impl Plan {
         match self {
             Plan::Places(places) => places.read_prefix(line, assumed),
             Plan::Unix(_) => None,
+            Plan::Steps(steps) => steps.read_prefix(line, assumed),
         }
     }
 }

@@ -18,6 +18,7 @@ use description_items::BorrowedFormatItem;
 use description_tree::FormatDescriptionV3;
 use parsing_places::{LANES, LastBytes, Window, Windows};
 use parsing_record::{Node, NodeStep};
+use parsing_steps::Steps;
 
 // The places of an offset, or that there is none: `None` where it has hours or minutes alone, or the windows don't take it.
 fn offset_of(layout: &Layout, windows: &Windows) -> Option<Option<OffsetPlaces>>
@@ -310,6 +311,18 @@ fn places_of<N: Node>(items: &[N]) -> Option<Places>
     Places::with_back(prefix, back)
 }
 
+// The plan of an item that is Unix time.
+fn unix_plan_of<N: Node>(items: &[N]) -> Option<Plan>
+    ensures { IfSome result
+        (IsPlanOf (reading_of_all N.language (listed (map N.tree items.now)))) }
+{
+    if items.len() != 1 {
+        return None;
+    }
+    let unix = unix_of(&items[0])?;
+    Some(Plan::Unix(unix))
+}
+
 // The plan of items that are read one after the other.
 fn plan_of<N: Node>(items: &[N]) -> Option<Plan>
     ensures { IfSome result
@@ -318,11 +331,11 @@ fn plan_of<N: Node>(items: &[N]) -> Option<Plan>
     if let Some(places) = places_of(items) {
         return Some(Plan::Places(places));
     }
-    if items.len() != 1 {
-        return None;
+    if let Some(unix) = unix_plan_of(items) {
+        return Some(unix);
     }
-    let unix = unix_of(&items[0])?;
-    Some(Plan::Unix(unix))
+    let steps = Steps::of_nodes(items)?;
+    Some(Plan::Steps(steps))
 }
 
 impl Plan {
