@@ -221,7 +221,8 @@ pub(crate) fn stands_apart(line: &[u8], start: usize, prefix: &Prefix) -> bool
     ensures clock { result ≡ true
         → (not prefix.now.is_chosen && has_clock_before line.now (start + prefix.now.begins)) ≡ false }
 {
-    if !is_edge(line, start + prefix.all) {
+    let end = start + prefix.all;
+    if !is_edge(line, end) {
         return false;
     }
     if prefix.is_chosen {

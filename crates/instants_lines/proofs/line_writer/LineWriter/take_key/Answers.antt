@@ -7,7 +7,8 @@ use Rattle.instants_lines.proofs.line_writer.LineWriter.take_key.Goals as goal
 
 pub returns-in-Some-There-clause-key : goal.returns-in-Some-There-clause-key
 returns-in-Some-There-clause-key c =
-    dated (going_of c.args.self.now) c.args.line.now c.in-Some-There.date c.write_named.new.answer (ap Some (sym c.in-Some-There.field-0-is) ∙ sym c.in-Some-There.is ∙ c.requires) c.write_named.ensures.bytes
+    c.keep.ensures.storage ∙ c.keep_year.ensures.storage
+    ∙ dated (going_of c.args.self.now) c.args.line.now c.in-Some-There.date c.write_named.new.answer (ap Some (sym c.in-Some-There.field-0-is) ∙ sym c.in-Some-There.is ∙ c.requires) c.write_named.ensures.bytes
 
 pub returns-in-Some-There-clause-next : goal.returns-in-Some-There-clause-next
 returns-in-Some-There-clause-next c =
@@ -16,7 +17,7 @@ returns-in-Some-There-clause-next c =
     let date = c.in-Some-There.date in
     let found = ap Some (sym c.in-Some-There.field-0-is) ∙ sym c.in-Some-There.is ∙ c.requires in
     let key : c.write_named.new.answer ≡ key_of_line old line = dated old line date c.write_named.new.answer found c.write_named.ensures.bytes in
-    c.keep.ensures
-    ∙ ap (λ (g : Going). record g { key = key_below g.mode g.key c.write_named.new.answer }) c.keep_year.ensures
-    ∙ ap (λ (k : List ℕ). record old { search = record old.search { given = given_below old.search.given (Some (There date)) }; key = key_below old.mode old.key k }) key
+    c.keep.ensures.kept
+    ∙ ap (λ (g : Going). record g { key = key_below g.mode g.key c.keep_year.new.self.storage }) c.keep_year.ensures.kept
+    ∙ ap (λ (k : List ℕ). record old { search = record old.search { given = given_below old.search.given (Some (There date)) }; key = key_below old.mode old.key k }) (c.keep_year.ensures.storage ∙ key)
     ∙ below_found old line (Some (There date)) found

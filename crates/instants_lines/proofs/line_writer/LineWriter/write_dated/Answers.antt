@@ -12,7 +12,7 @@ returns-clause-written g c =
     let old = going_of c.args.self.now in
     let line = c.args.line.now in
     let key : c.write_named.new.answer ≡ key_of_line old line = dated old line c.args.date.now c.write_named.new.answer (sym c.requires.found) c.write_named.ensures.bytes in
-    let tabbed : c.push.new.self ≡ key_of_line old line ++ tab ∷ [] = c.push.ensures ∙ ap (λ (k : List ℕ). k ++ tab ∷ []) key in
+    let tabbed : c.push.new.self ≡ key_of_line old line ++ tab ∷ [] = c.push.ensures ∙ ap (λ (k : List ℕ). k ++ tab ∷ []) (c.keep.ensures.storage ∙ c.keep_year.ensures.storage ∙ key) in
     rw (key_and_tab (key_of_line old line) c.push.new.self (label_prefix old.label) line tabbed) c.write_keyed.ensures.written
 
 pub returns-clause-prefix : goal.returns-clause-prefix
@@ -20,7 +20,7 @@ returns-clause-prefix g c =
     let old = going_of c.args.self.now in
     let line = c.args.line.now in
     let key : c.write_named.new.answer ≡ key_of_line old line = dated old line c.args.date.now c.write_named.new.answer (sym c.requires.found) c.write_named.ensures.bytes in
-    let tabbed : c.push.new.self ≡ key_of_line old line ++ tab ∷ [] = c.push.ensures ∙ ap (λ (k : List ℕ). k ++ tab ∷ []) key in
+    let tabbed : c.push.new.self ≡ key_of_line old line ++ tab ∷ [] = c.push.ensures ∙ ap (λ (k : List ℕ). k ++ tab ∷ []) (c.keep.ensures.storage ∙ c.keep_year.ensures.storage ∙ key) in
     rw (key_and_tab (key_of_line old line) c.push.new.self (label_prefix old.label) line tabbed) c.write_keyed.ensures.prefix
 
 pub returns-clause-next : goal.returns-clause-next
@@ -31,8 +31,8 @@ returns-clause-next g c =
     let found = sym c.requires.found in
     let key : c.write_named.new.answer ≡ key_of_line old line = dated old line date c.write_named.new.answer found c.write_named.ensures.bytes in
     let next =
-    c.keep.ensures
-    ∙ ap (λ (g : Going). record g { key = key_below g.mode g.key c.write_named.new.answer }) c.keep_year.ensures
-    ∙ ap (λ (k : List ℕ). record old { search = record old.search { given = given_below old.search.given (Some (There date)) }; key = key_below old.mode old.key k }) key
+    c.keep.ensures.kept
+    ∙ ap (λ (g : Going). record g { key = key_below g.mode g.key c.keep_year.new.self.storage }) c.keep_year.ensures.kept
+    ∙ ap (λ (k : List ℕ). record old { search = record old.search { given = given_below old.search.given (Some (There date)) }; key = key_below old.mode old.key k }) (c.keep_year.ensures.storage ∙ key)
     ∙ below_found old line (Some (There date)) found in
     OnOk-map c.write_keyed.result (λ _. next) c.write_keyed.ensures.ok
