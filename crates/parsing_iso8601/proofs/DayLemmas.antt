@@ -2,7 +2,7 @@
 use Rattle.std.proofs.Common.{◌≡◌, ℕ, ◌+◌, ◌-◌, ◌*◌, ◌/◌, ◌%◌, ◌==◌, ◌⊎◌, Bool, cond, get_or, inl, inr, ◌<◌, ◌≤◌, true, false, Ok, refl, sym, ◌∙◌, arith, ℤ, pos, ◌+ℤ◌}
 use Rattle.std.specs.Int.{IsInRange}
 use Rattle.std.specs.Prelude.{◌&&◌, nat_le, nat_lt}
-use Rattle.std.proofs.lemmas.Bool.{agree_below_at, cases_lt}
+use Rattle.std.proofs.lemmas.Bool.{agree_below_at, cases_lt, false≢true}
 use Rattle.std.proofs.lemmas.Bool.Decides.{nat_tests}
 use Rattle.std.proofs.lemmas.Int.{ints}
 use Rattle.calendar_count.specs.Range.{greatest_year, IsYear, IsCount}
@@ -16,8 +16,9 @@ use Rattle.calendar_count.proofs.lemmas.Days.{day_valid}
 use Rattle.calendar_count.proofs.lemmas.Years.{ordinal_after}
 use Rattle.parsing_values.specs.NamedDay.{is_ordinal_day, is_iso_day, ordinal_date_of, iso_week_date_of}
 use Rattle.parsing_values.proofs.NamedDayLemmas.{one_day}
-use Rattle.parsing_iso8601.specs.declared.calendar_days.TheConstants.{FIRST_THURSDAYS}
-use Rattle.parsing_iso8601.specs.Days.{NamesOrdinal, NamesWeek, first_thursday_of, missing_days}
+use Rattle.parsing_iso8601.specs.declared.calendar_days.TheConstants.{DAYS_BEFORE, FIRST_THURSDAYS}
+use Rattle.parsing_iso8601.specs.Fractions.{next_if}
+use Rattle.parsing_iso8601.specs.Days.{NamesOrdinal, NamesWeek, first_thursday_of, months_row, year_by}
 
 -- ---- the years of four digits
 
@@ -81,15 +82,22 @@ january_ordinal year ordinal k m d four range is early day next low high =
 
 -- ---- a day of a year split into month and day
 
-abbrev scaled : ℕ → ℕ → ℕ
-scaled length ordinal = 2142 * (ordinal + missing_days length ordinal) + 64_624
+-- the place of the month in the table is this one or the next
+abbrev pub least_at : ℕ → ℕ → ℕ
+least_at length ordinal = months_row length + ordinal / 32 + 1
 
-abbrev month_of : ℕ → ℕ → ℕ
-month_of length ordinal = scaled length ordinal / 65_536
+abbrev pub place_of_month : ℕ → ℕ → ℕ
+place_of_month length ordinal = next_if (nat_lt (get_or DAYS_BEFORE (least_at length ordinal + 1) 0) ordinal) (least_at length ordinal)
+
+abbrev pub month_of : ℕ → ℕ → ℕ
+month_of length ordinal = place_of_month length ordinal - months_row length
+
+abbrev pub before_month : ℕ → ℕ → ℕ
+before_month length ordinal = get_or DAYS_BEFORE (place_of_month length ordinal) 0
 
 -- from 0 on
-abbrev day_of : ℕ → ℕ → ℕ
-day_of length ordinal = scaled length ordinal % 65_536 / 2142
+abbrev pub day_of : ℕ → ℕ → ℕ
+day_of length ordinal = ordinal - before_month length ordinal - 1
 
 -- the month from March on, and its day, by the count of a year's length
 abbrev is_late : ℕ → ℕ → ℕ → ℕ → Bool
@@ -98,8 +106,11 @@ is_late length ordinal m d = (ordinal + 305 == length + (march_days m + d)) && (
 abbrev is_early : ℕ → ℕ → ℕ → ℕ → Bool
 is_early length ordinal m d = (march_days (m + 12) + d == ordinal + 305) && (nat_lt (ordinal + 305) (march_days (m + 12 + 1)) && (nat_lt (ordinal + 305) length && nat_le 1 m))
 
+abbrev fits : ℕ → ℕ → Bool
+fits length ordinal = nat_lt (before_month length ordinal) ordinal && (nat_lt (month_of length ordinal) 13 && nat_lt (day_of length ordinal) 31)
+
 abbrev splits : ℕ → ℕ → Bool
-splits length ordinal = cond (nat_lt 0 ordinal) (cond (nat_lt (month_of length ordinal) 3) (is_early length ordinal (month_of length ordinal) (day_of length ordinal)) (is_late length ordinal (month_of length ordinal) (day_of length ordinal))) true
+splits length ordinal = cond (nat_lt 0 ordinal) (fits length ordinal && cond (nat_lt (month_of length ordinal) 3) (is_early length ordinal (month_of length ordinal) (day_of length ordinal)) (is_late length ordinal (month_of length ordinal) (day_of length ordinal))) true
 
 split_at : (length ordinal : ℕ) → (length ≡ 365) ⊎ (length ≡ 366) → ordinal < 366 → splits length ordinal ≡ true
 split_at length ordinal (inl e) lt = rw e (agree_below_at (splits 365) (λ _. true) 366 ordinal refl lt)
@@ -135,11 +146,45 @@ named_by year ordinal m d length is four range e = elim (cases_lt m 3) [
       march_ordinal year ordinal (march_days m + d) m d four range (omega (arith, h.0, is)) refl h.1 large h.2
 ]
 
-pub ordinal_split : (year ordinal missing : ℕ) → year ≤ 9999 → IsInRange 1 365 ordinal → missing ≡ missing_days (days_in_year (pos year)) ordinal → NamesOrdinal year ordinal ((2142 * (ordinal + missing) + 64_624) / 65_536) ((2142 * (ordinal + missing) + 64_624) % 65_536 / 2142 + 1)
-ordinal_split year ordinal missing four range is =
+both : (a b : Bool) → (a && b) ≡ true → (a ≡ true) × (b ≡ true)
+both true b e = (refl, e)
+both false b e = absurd (false≢true e)
+
+less : (a b : ℕ) → nat_lt a b ≡ true → a < b
+less a b e = grind (arith, nat_tests)
+
+-- what the table has of a day of a year
+pub record Split (length ordinal : ℕ) : Type 0 where
+  pub before : before_month length ordinal < ordinal
+  pub month : month_of length ordinal ≤ 12
+  pub day : day_of length ordinal ≤ 30
+  pub splits : cond (nat_lt (month_of length ordinal) 3) (is_early length ordinal (month_of length ordinal) (day_of length ordinal)) (is_late length ordinal (month_of length ordinal) (day_of length ordinal)) ≡ true
+
+pub split_of : (length ordinal : ℕ) → (length ≡ 365) ⊎ (length ≡ 366) → IsInRange 1 365 ordinal → Split length ordinal
+split_of length ordinal either range =
+    let month = month_of length ordinal in
+    let day = day_of length ordinal in
+    let all = both (fits length ordinal) (cond (nat_lt month 3) (is_early length ordinal month day) (is_late length ordinal month day)) (rw (below 0 ordinal (omega (arith, range.0))) at (split_at length ordinal either (omega (arith, range.1)))) in
+    let one = both (nat_lt (before_month length ordinal) ordinal) (nat_lt month 13 && nat_lt day 31) all.0 in
+    let two = both (nat_lt month 13) (nat_lt day 31) one.1 in
+    record { before = less (before_month length ordinal) ordinal one.0; month = omega (arith, less month 13 two.0); day = omega (arith, less day 31 two.1); splits = all.1 }
+
+-- the two look-ups find the place of the month
+pub looked_up : (length ordinal months first place before : ℕ) → months ≡ months_row length → first ≡ get_or DAYS_BEFORE (months + ordinal / 32 + 1 + 1) 0 → place ≡ next_if (nat_lt first ordinal) (months + ordinal / 32 + 1) → before ≡ get_or DAYS_BEFORE place 0
+    → (before ≡ before_month length ordinal) × (place - months ≡ month_of length ordinal)
+looked_up length ordinal months first place before row first_is place_is before_is =
+    let there : place ≡ place_of_month length ordinal = rw (first_is, row) at place_is in
+    (rw there at before_is, rw (there, row) refl)
+
+pub length_of : (year : ℕ) → (days_in_year (pos year) ≡ 365) ⊎ (days_in_year (pos year) ≡ 366)
+length_of year = by_leap (is_leap_year (pos year))
+
+pub ordinal_split : (year ordinal : ℕ) → year ≤ 9999 → IsInRange 1 365 ordinal → NamesOrdinal year ordinal (month_of (days_in_year (pos year)) ordinal) (ordinal - before_month (days_in_year (pos year)) ordinal)
+ordinal_split year ordinal four range =
     let length : ℕ = days_in_year (pos year) in
-    let all = split_at length ordinal (by_leap (is_leap_year (pos year))) (omega (arith, range.1)) in
-    rw is (named_by year ordinal (month_of length ordinal) (day_of length ordinal) length refl four range (rw (below 0 ordinal (omega (arith, range.0))) at all))
+    let s = split_of length ordinal (length_of year) range in
+    let same : day_of length ordinal + 1 ≡ ordinal - before_month length ordinal = omega (arith, s.before) in
+    rw same at (named_by year ordinal (month_of length ordinal) (day_of length ordinal) length refl four range s.splits)
 
 -- ---- days of weeks
 
@@ -181,6 +226,12 @@ thursday_at year =
     let split : year % 400 + 400 * (year / 400) ≡ year = omega arith in
     let same : first_thursday_of year ≡ first_thursday_of (year % 400) = rw split at (again (year % 400) (year / 400)) in
     equals (get_or FIRST_THURSDAYS (year % 400) 0) (first_thursday_of (year % 400) + 48) h ∙ rw same refl
+
+-- the same by the pairs of its digits
+pub thursday_by : (century last_two : ℕ) → last_two ≤ 99 → get_or FIRST_THURSDAYS (century % 4 * 100 + last_two) 0 ≡ first_thursday_of (year_by century last_two) + 48
+thursday_by century last_two few =
+    let place : year_by century last_two % 400 ≡ century % 4 * 100 + last_two = omega arith in
+    rw place at (thursday_at (year_by century last_two))
 
 pub week_ordinal : (year week weekday ordinal : ℕ) → year ≤ 9999 → 1 ≤ week → weekday ≤ 6 → IsInRange 1 365 ordinal → first_thursday_of year + 7 * week ≤ 371 → first_thursday_of year + 7 * week + weekday ≡ ordinal + 9 → NamesWeek year week weekday ordinal
 week_ordinal year week weekday ordinal four some few range thursday is =

@@ -1,13 +1,17 @@
 -- The days of a month that other dates name.
-use Rattle.std.specs.Prelude.{◌≡◌, ◌≤◌, ◌+◌, ◌-◌, ◌%◌, ℕ, nat_lt, if◌then◌else◌, Ok, pos}
+use Rattle.std.specs.Prelude.{◌≡◌, ◌≤◌, ◌+◌, ◌-◌, ◌*◌, ◌%◌, ℕ, nat_lt, if◌then◌else◌, Ok, pos}
 use Rattle.calendar_count.specs.Calendar.{IsDay, day_at, ymd}
 use Rattle.calendar_count.specs.Closed.{days_before_year}
 use Rattle.calendar_count.specs.Range.{greatest_year}
 use Rattle.parsing_values.specs.NamedDay.{ordinal_date_of, iso_week_date_of}
 
--- how many days are missing before a day of a year of so many days, as if February had 30 days
-abbrev pub missing_days : ℕ → ℕ → ℕ
-missing_days length ordinal = if nat_lt (length - 306) ordinal then 367 - length else 0
+-- a year by the two pairs of its digits
+abbrev pub year_by : ℕ → ℕ → ℕ
+year_by century last_two = century * 100 + last_two
+
+-- where the months of a year of so many days stand in a table
+abbrev pub months_row : ℕ → ℕ
+months_row length = if nat_lt 365 length then 16 else 0
 
 -- the days from the first one of a year to its first Thursday
 abbrev pub first_thursday_of : ℕ → ℕ

@@ -287,23 +287,25 @@ pub(crate) fn form_at(form: usize, has_second: bool) -> Form
     }
 }
 
-// The form of a text, by the byte after its year and the one four places later: each a letter, a hyphen or a digit.
-static FORM_BY_MARKS: [u8; 16] = [0, 0, 0, 0, 0, 4, 3, 0, 0, 0, 5, 0, 0, 0, 1, 2];
+// The form of a text, by a number that two bits of each of the four bytes after its year make.
+static FORM_BY_MARKS: [u8; 16] = [4, 3, 0, 0, 0, 0, 0, 0, 0, 0, 2, 0, 0, 1, 0, 5];
 
-// Which kind of byte it is: 1 for the letters `T` and `W`, 2 for a hyphen, 3 for a digit.
+// The number that tells the form: two bits of a byte say whether it is a hyphen, a letter or a digit, and a product adds those of
+// all four, each with its own weight, in the highest four bits.
 #[inline(always)]
-fn mark_of(byte: u8) -> u8
-    ensures { result < 4 }
+fn marks_of(text: &[u8]) -> usize
+    requires { LANES ≤ length text.now }
+    ensures { result < 16 }
 {
-    byte / 16 % 4
+    let kinds = u32::from_le_bytes([text[4], text[5], text[6], text[7]]) & 0x3030_3030;
+    (kinds.wrapping_mul(0x0101_0004) >> 28) as usize
 }
 
-/// Which form a text has, if one: the byte after its year and the one four places later tell.
+/// Which form a text has, if one: the four bytes after its year tell.
 #[inline(always)]
 pub(crate) fn form_of(text: &[u8]) -> usize
     requires { LANES ≤ length text.now }
     ensures { result < FORMS }
 {
-    let marks = mark_of(text[4]) + 4 * mark_of(text[8]);
-    usize::from(FORM_BY_MARKS[usize::from(marks)])
+    usize::from(FORM_BY_MARKS[marks_of(text)])
 }

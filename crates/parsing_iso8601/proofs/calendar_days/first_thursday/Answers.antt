@@ -1,20 +1,19 @@
-use Rattle.std.proofs.Common.{◌≡◌, ◌+◌, get_or, arith}
-use Rattle.parsing_iso8601.specs.Days.{first_thursday_of}
-use Rattle.parsing_iso8601.specs.declared.calendar_days.TheConstants.{FIRST_THURSDAYS}
-use Rattle.parsing_iso8601.proofs.DayLemmas.{thursday_at}
+use Rattle.std.proofs.Common.{◌≡◌, ◌+◌, ◌∙◌, arith}
+use Rattle.parsing_iso8601.specs.Days.{first_thursday_of, year_by}
+use Rattle.parsing_iso8601.proofs.DayLemmas.{thursday_by}
 use Rattle.parsing_iso8601.proofs.calendar_days.first_thursday.Goals as goal
 
-pub overflow_sub-from : goal.overflow_sub-from
-overflow_sub-from c =
-    let there : get_or FIRST_THURSDAYS c.from.result 0 ≡ first_thursday_of c.args.year + 48 = rw c.from.ensures (thursday_at c.args.year) in
-    omega (arith, there)
+pub overflow_sub-result : goal.overflow_sub-result
+overflow_sub-result c =
+    let there : c.from-3.result ≡ first_thursday_of (year_by c.args.century c.args.last_two) + 48 = c.from-3.ensures ∙ rw (c.from.ensures, c.from-2.ensures) (thursday_by c.args.century c.args.last_two c.requires.last_two) in
+    omega (arith, there, c.from-4.ensures)
 
 pub returns-clause-value : goal.returns-clause-value
 returns-clause-value c =
-    let there : get_or FIRST_THURSDAYS c.from.result 0 ≡ first_thursday_of c.args.year + 48 = rw c.from.ensures (thursday_at c.args.year) in
-    omega (arith, there, c.from-2.ensures)
+    let there : c.from-3.result ≡ first_thursday_of (year_by c.args.century c.args.last_two) + 48 = c.from-3.ensures ∙ rw (c.from.ensures, c.from-2.ensures) (thursday_by c.args.century c.args.last_two c.requires.last_two) in
+    omega (arith, there, c.from-4.ensures)
 
 pub returns-clause-bound : goal.returns-clause-bound
 returns-clause-bound c =
-    let there : get_or FIRST_THURSDAYS c.from.result 0 ≡ first_thursday_of c.args.year + 48 = rw c.from.ensures (thursday_at c.args.year) in
-    omega (arith, there, c.from-2.ensures)
+    let there : c.from-3.result ≡ first_thursday_of (year_by c.args.century c.args.last_two) + 48 = c.from-3.ensures ∙ rw (c.from.ensures, c.from-2.ensures) (thursday_by c.args.century c.args.last_two c.requires.last_two) in
+    omega (arith, there, c.from-4.ensures)
