@@ -7,8 +7,8 @@ ghost use Rattle.instants_timeline.specs.Place.{answer_to};
 ghost use Rattle.instants_timeline.specs.Settings.{setting_of};
 
 use crate::timeline::{
-    AnswerWay, ExactWay, Iso8601Way, Led, PlacesWay, PlannedWay, Rfc2822Way, Rfc3339Way, Timeline,
-    UnixWay,
+    AnswerWay, ExactWay, Iso8601Way, Led, PlacesWay, PlainWay, PlannedWay, Rfc2822Way, Rfc3339Way,
+    Timeline, UnixWay,
 };
 use instants_sources::Source;
 use instants_stream::{ByteReader, ByteWriter, RunFault, TooLittleRoom, lines_over, run_lines};
@@ -60,16 +60,24 @@ pub(crate) fn answer_lines<R: ByteReader, W: ByteWriter>(
         Source::Rfc2822 => run_by(Rfc2822Way, timeline, limit, buffer, reader, writer),
         Source::Iso8601 => run_by(Iso8601Way, timeline, limit, buffer, reader, writer),
         described => match described.plan() {
-            Some(Plan::Places(places)) => {
-                run_by(
+            Some(Plan::Places(places)) => match places.plain() {
+                Some(plain) => run_by(
+                    PlainWay::new(plain),
+                    timeline,
+                    limit,
+                    buffer,
+                    reader,
+                    writer,
+                ),
+                None => run_by(
                     PlacesWay::new(places),
                     timeline,
                     limit,
                     buffer,
                     reader,
                     writer,
-                )
-            }
+                ),
+            },
             Some(Plan::Unix(unix)) => run_by(
                 UnixWay::new(unix),
                 timeline,
@@ -141,9 +149,10 @@ pub fn run_over(
         Source::Rfc2822 => run_over_by(Rfc2822Way, timeline, limit, input, room),
         Source::Iso8601 => run_over_by(Iso8601Way, timeline, limit, input, room),
         described => match described.plan() {
-            Some(Plan::Places(places)) => {
-                run_over_by(PlacesWay::new(places), timeline, limit, input, room)
-            }
+            Some(Plan::Places(places)) => match places.plain() {
+                Some(plain) => run_over_by(PlainWay::new(plain), timeline, limit, input, room),
+                None => run_over_by(PlacesWay::new(places), timeline, limit, input, room),
+            },
             Some(Plan::Unix(unix)) => {
                 run_over_by(UnixWay::new(unix), timeline, limit, input, room)
             }
