@@ -3,6 +3,7 @@ pub mod Moments
 mod Digits
 mod PartLemmas
 mod StepLemmas
-mod Names
+mod HalfLemmas
 mod Ends
 mod Readings
+mod NamedLemmas

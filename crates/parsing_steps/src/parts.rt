@@ -12,12 +12,10 @@ ghost use Rattle.parsing_steps.specs.Found.{Finds};
 ghost use Rattle.parsing_steps.specs.Parts.{padding_of, by_padding, number, part_piece, IsPartOf};
 
 use crate::found::Found;
+use crate::names::{long_month, long_weekday, short_month, short_weekday};
 use description_items::Component;
 use description_items::modifier::{Padding, SubsecondDigits};
-use parsing_combinator::{
-    byte, four_digits, long_month, long_weekday, offset_hour, padded_two, short_month,
-    short_weekday,
-};
+use parsing_combinator::{byte, four_digits, offset_hour, padded_two};
 use parsing_fields::{Fraction, Year};
 
 /// A component, as a line writes it.
@@ -156,23 +154,23 @@ fn minute_of_offset<'l>(bytes: &'l [u8], found: &mut Found) -> Option<&'l [u8]>
 }
 
 #[inline(always)]
-#[tactic(auto, using(crate::proofs::Names::month_said))]
+#[tactic(auto, using(crate::proofs::HalfLemmas::month_said))]
 fn month_name<'l>(bytes: &'l [u8], found: &mut Found) -> Option<&'l [u8]>
     ensures { Finds result found.old found.new
         (says (λ x. Some (read.Month x)) (taken (named true short_months)) bytes.now) }
 {
-    let (month, rest) = short_month(true, bytes)?;
+    let (month, rest) = short_month(bytes)?;
     found.month = month.number();
     Some(rest)
 }
 
 #[inline(always)]
-#[tactic(auto, using(crate::proofs::Names::month_said))]
+#[tactic(auto, using(crate::proofs::HalfLemmas::month_said))]
 fn long_month_name<'l>(bytes: &'l [u8], found: &mut Found) -> Option<&'l [u8]>
     ensures { Finds result found.old found.new
         (says (λ x. Some (read.Month x)) (taken (named true long_months)) bytes.now) }
 {
-    let (month, rest) = long_month(true, bytes)?;
+    let (month, rest) = long_month(bytes)?;
     found.month = month.number();
     Some(rest)
 }
@@ -182,7 +180,7 @@ fn weekday_name<'l>(bytes: &'l [u8], found: &mut Found) -> Option<&'l [u8]>
     ensures { Finds result found.old found.new
         (says (λ x. Some (read.Weekday x)) (taken (named true short_weekdays)) bytes.now) }
 {
-    let (weekday, rest) = short_weekday(true, bytes)?;
+    let (weekday, rest) = short_weekday(bytes)?;
     found.weekday = Some(weekday);
     Some(rest)
 }
@@ -192,14 +190,14 @@ fn long_weekday_name<'l>(bytes: &'l [u8], found: &mut Found) -> Option<&'l [u8]>
     ensures { Finds result found.old found.new
         (says (λ x. Some (read.Weekday x)) (taken (named true long_weekdays)) bytes.now) }
 {
-    let (weekday, rest) = long_weekday(true, bytes)?;
+    let (weekday, rest) = long_weekday(bytes)?;
     found.weekday = Some(weekday);
     Some(rest)
 }
 
 // `AM` or `PM`: whether it is the later half of the day.
 #[inline(always)]
-#[tactic(auto, using(crate::proofs::Names::morning, crate::proofs::Names::afternoon))]
+#[tactic(auto, using(crate::proofs::HalfLemmas::morning, crate::proofs::HalfLemmas::afternoon))]
 fn half_at(bytes: &[u8]) -> Option<(bool, &[u8])>
     ensures { IfSome result
         (λ x. taken (named true periods) bytes.now ≡ Some (x.0, x.1.now)) }

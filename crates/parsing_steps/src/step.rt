@@ -4,15 +4,15 @@ use crate::found::Found;
 use crate::parts::Part;
 use parsing_combinator::byte as after_byte;
 
-/// The byte before a component.
+/// The byte before a component. (What most components have comes last, since the last kind is tested first.)
 #[derive(Clone, Copy)]
 pub(crate) enum Before {
-    /// This byte.
-    Byte(u8),
     /// There is none.
     Nothing,
     /// This byte, or else the component is left out as well.
     MayBe(u8),
+    /// This byte.
+    Byte(u8),
 }
 
 /// A byte and a component after it.

@@ -1,0 +1,187 @@
+//! Names at the start of bytes, as they are written.
+ghost use Rattle.std.specs.Prelude.{◌≡◌, ◌++◌, true, Some, IfSome};
+ghost use Rattle.parsing_combinator.specs.Names as Names;
+ghost use Rattle.parsing_combinator.specs.Shape.{taken};
+
+use calendar_count::{Month, Weekday};
+use parsing_combinator::byte as after_byte;
+
+// What follows a name.
+#[inline(always)]
+fn after<'l>(name: &[u8], bytes: &'l [u8]) -> Option<&'l [u8]>
+    ensures { IfSome result (λ rest. bytes.now ≡ name.now ++ rest.now) }
+{
+    let mut rest = bytes;
+    for letter in name {
+        rest = after_byte(*letter, rest)?;
+    }
+    Some(rest)
+}
+
+// The month of the second half of a year.
+#[inline(always)]
+fn long_month_from_july(bytes: &[u8]) -> Option<(Month, &[u8])>
+    ensures { IfSome result
+        (λ x. taken (Names.named true Names.long_months) bytes.now ≡ Some (x.0, x.1.now)) }
+{
+    if let Some(rest) = after(b"July", bytes) {
+        return Some((Month::July, rest));
+    }
+    if let Some(rest) = after(b"August", bytes) {
+        return Some((Month::August, rest));
+    }
+    if let Some(rest) = after(b"September", bytes) {
+        return Some((Month::September, rest));
+    }
+    if let Some(rest) = after(b"October", bytes) {
+        return Some((Month::October, rest));
+    }
+    if let Some(rest) = after(b"November", bytes) {
+        return Some((Month::November, rest));
+    }
+    if let Some(rest) = after(b"December", bytes) {
+        return Some((Month::December, rest));
+    }
+    None
+}
+
+/// The English name of a month.
+#[inline(always)]
+pub(crate) fn long_month(bytes: &[u8]) -> Option<(Month, &[u8])>
+    ensures { IfSome result
+        (λ x. taken (Names.named true Names.long_months) bytes.now ≡ Some (x.0, x.1.now)) }
+{
+    if let Some(rest) = after(b"January", bytes) {
+        return Some((Month::January, rest));
+    }
+    if let Some(rest) = after(b"February", bytes) {
+        return Some((Month::February, rest));
+    }
+    if let Some(rest) = after(b"March", bytes) {
+        return Some((Month::March, rest));
+    }
+    if let Some(rest) = after(b"April", bytes) {
+        return Some((Month::April, rest));
+    }
+    if let Some(rest) = after(b"May", bytes) {
+        return Some((Month::May, rest));
+    }
+    if let Some(rest) = after(b"June", bytes) {
+        return Some((Month::June, rest));
+    }
+    long_month_from_july(bytes)
+}
+
+// The same of its first three letters.
+#[inline(always)]
+fn short_month_from_july(bytes: &[u8]) -> Option<(Month, &[u8])>
+    ensures { IfSome result
+        (λ x. taken (Names.named true Names.short_months) bytes.now ≡ Some (x.0, x.1.now)) }
+{
+    if let Some(rest) = after(b"Jul", bytes) {
+        return Some((Month::July, rest));
+    }
+    if let Some(rest) = after(b"Aug", bytes) {
+        return Some((Month::August, rest));
+    }
+    if let Some(rest) = after(b"Sep", bytes) {
+        return Some((Month::September, rest));
+    }
+    if let Some(rest) = after(b"Oct", bytes) {
+        return Some((Month::October, rest));
+    }
+    if let Some(rest) = after(b"Nov", bytes) {
+        return Some((Month::November, rest));
+    }
+    if let Some(rest) = after(b"Dec", bytes) {
+        return Some((Month::December, rest));
+    }
+    None
+}
+
+/// The first three letters of the English name of a month.
+#[inline(always)]
+pub(crate) fn short_month(bytes: &[u8]) -> Option<(Month, &[u8])>
+    ensures { IfSome result
+        (λ x. taken (Names.named true Names.short_months) bytes.now ≡ Some (x.0, x.1.now)) }
+{
+    if let Some(rest) = after(b"Jan", bytes) {
+        return Some((Month::January, rest));
+    }
+    if let Some(rest) = after(b"Feb", bytes) {
+        return Some((Month::February, rest));
+    }
+    if let Some(rest) = after(b"Mar", bytes) {
+        return Some((Month::March, rest));
+    }
+    if let Some(rest) = after(b"Apr", bytes) {
+        return Some((Month::April, rest));
+    }
+    if let Some(rest) = after(b"May", bytes) {
+        return Some((Month::May, rest));
+    }
+    if let Some(rest) = after(b"Jun", bytes) {
+        return Some((Month::June, rest));
+    }
+    short_month_from_july(bytes)
+}
+
+/// The English name of a day of the week.
+#[inline(always)]
+pub(crate) fn long_weekday(bytes: &[u8]) -> Option<(Weekday, &[u8])>
+    ensures { IfSome result
+        (λ x. taken (Names.named true Names.long_weekdays) bytes.now ≡ Some (x.0, x.1.now)) }
+{
+    if let Some(rest) = after(b"Monday", bytes) {
+        return Some((Weekday::Monday, rest));
+    }
+    if let Some(rest) = after(b"Tuesday", bytes) {
+        return Some((Weekday::Tuesday, rest));
+    }
+    if let Some(rest) = after(b"Wednesday", bytes) {
+        return Some((Weekday::Wednesday, rest));
+    }
+    if let Some(rest) = after(b"Thursday", bytes) {
+        return Some((Weekday::Thursday, rest));
+    }
+    if let Some(rest) = after(b"Friday", bytes) {
+        return Some((Weekday::Friday, rest));
+    }
+    if let Some(rest) = after(b"Saturday", bytes) {
+        return Some((Weekday::Saturday, rest));
+    }
+    if let Some(rest) = after(b"Sunday", bytes) {
+        return Some((Weekday::Sunday, rest));
+    }
+    None
+}
+
+/// The first three letters of the English name of a day of the week.
+#[inline(always)]
+pub(crate) fn short_weekday(bytes: &[u8]) -> Option<(Weekday, &[u8])>
+    ensures { IfSome result
+        (λ x. taken (Names.named true Names.short_weekdays) bytes.now ≡ Some (x.0, x.1.now)) }
+{
+    if let Some(rest) = after(b"Mon", bytes) {
+        return Some((Weekday::Monday, rest));
+    }
+    if let Some(rest) = after(b"Tue", bytes) {
+        return Some((Weekday::Tuesday, rest));
+    }
+    if let Some(rest) = after(b"Wed", bytes) {
+        return Some((Weekday::Wednesday, rest));
+    }
+    if let Some(rest) = after(b"Thu", bytes) {
+        return Some((Weekday::Thursday, rest));
+    }
+    if let Some(rest) = after(b"Fri", bytes) {
+        return Some((Weekday::Friday, rest));
+    }
+    if let Some(rest) = after(b"Sat", bytes) {
+        return Some((Weekday::Saturday, rest));
+    }
+    if let Some(rest) = after(b"Sun", bytes) {
+        return Some((Weekday::Sunday, rest));
+    }
+    None
+}
