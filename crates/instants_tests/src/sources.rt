@@ -5,8 +5,8 @@ use datetime::OffsetDateTime;
 use instants::SourceText;
 use instants_sources::{
     Source, fast_iso8601, fast_rfc2822, fast_rfc3339, is_no_rfc3339, iso8601_to_minute,
-    other_rfc2822, rare_rfc3339, read_by_places, read_by_plan, starting, usual_iso8601,
-    usual_rfc2822, usual_rfc3339,
+    other_rfc2822, rare_iso8601, rare_rfc3339, read_by_places, read_by_plan, starting,
+    usual_iso8601, usual_rfc2822, usual_rfc3339,
 };
 use parsing_fields::Fields;
 use parsing_plan::Plan;
@@ -104,7 +104,7 @@ fn seconds() -> [Option<i64>; 4] {
 }
 
 // The same by the shape that nearly all lines of a format have, and by its others.
-fn seconds_by_shape() -> [Option<i64>; 6] {
+fn seconds_by_shape() -> [Option<i64>; 7] {
     [
         second_of(usual_rfc3339(b"1970-01-01T00:00:01Z")),
         second_of(rare_rfc3339(b"1970-01-01T00:00:01.0000000000Z")),
@@ -112,6 +112,7 @@ fn seconds_by_shape() -> [Option<i64>; 6] {
         second_of(other_rfc2822(b"Thu, 01 Jan 1970 00:00:01 GMT")),
         second_of(usual_iso8601(b"19700101T000001Z")),
         second_of(iso8601_to_minute(b"1970-01-01T00:01Z")),
+        second_of(rare_iso8601(b"19700101T000001.0000000000Z")),
     ]
 }
 
@@ -146,6 +147,7 @@ fn plans(rt: HostRuntime) {
 fn fast_ways(rt: HostRuntime) {
     let source = Source::Rfc3339;
     assert!(rt; seconds() == [Some(1); 4]);
-    assert!(rt; seconds_by_shape() == [Some(1), Some(1), Some(1), Some(1), Some(1), Some(60)]);
+    let ones = Some(1);
+    assert!(rt; seconds_by_shape() == [ones, ones, ones, ones, ones, Some(60), ones]);
     assert!(rt; is_no_rfc3339(b"1970") && source.has_no_year(b"yesterday", None));
 }

@@ -5,6 +5,7 @@ use datetime_types::WallClock;
 use description::{Description, DescriptionVersion, parse_borrowed, parse_strftime_borrowed};
 use parsing_combinator::digit_chunk;
 use parsing_fields::{Fields, Fraction, Year, digit_pair, minute_of_day, signed_minutes};
+use parsing_fractions::read_long;
 use parsing_places::{
     Moves, NamedShape, Number, Numbers, Shape, Window, Windows, read, read_numbers, read_stamp,
 };
@@ -76,7 +77,7 @@ fn formats() -> [Option<(i64, u32)>; 4] {
 }
 
 // The same by the shape that nearly all texts of a format have, and by its others.
-fn shapes() -> [Option<(i64, u32)>; 6] {
+fn shapes() -> [Option<(i64, u32)>; 7] {
     [
         instant(parsing_rfc3339::read_usual_fields(b"2021-01-02T03:04:05.5+01:00")),
         instant(parsing_rfc3339::read_rare_fields(b"2021-01-02T02:04:05.5z")),
@@ -84,6 +85,7 @@ fn shapes() -> [Option<(i64, u32)>; 6] {
         instant(parsing_rfc2822::read_other_fields(b"Sat, 02 Jan 2021 02:04:05 GMT")),
         instant(parsing_iso8601::read_usual_fields(b"20210102T030405.5+0100")),
         instant(parsing_iso8601::read_fields_to_minute(b"2021-01-02T03:04+01:00")),
+        instant(parsing_iso8601::read_rare_fields(b"2021002T030405.49999999950+0100")),
     ]
 }
 
@@ -93,7 +95,7 @@ const MINUTE: Option<(i64, u32)> = Some((1_609_553_040, 0));
 #[test]
 fn fields_of_formats(rt: HostRuntime) {
     assert!(rt; formats() == [HALF, WHOLE, HALF, HALF]);
-    assert!(rt; shapes() == [HALF, HALF, WHOLE, WHOLE, HALF, MINUTE]);
+    assert!(rt; shapes() == [HALF, HALF, WHOLE, WHOLE, HALF, MINUTE, HALF]);
 }
 
 // `20210102T030405`, the basic form of ISO 8601.
@@ -140,8 +142,15 @@ fn shaped(text: &[u8]) -> Option<[Option<(i64, u32)>; 2]> {
     Some([instant(read(&shape, text)), instant(on_day)])
 }
 
+// The same of a text with more than nine digits of a fraction.
+fn shaped_long(text: &[u8]) -> Option<Option<(i64, u32)>> {
+    let numbers = read_long(&basic(), text)?;
+    Some(instant(numbers.on_day(numbers.high, numbers.low)))
+}
+
 #[test]
 fn fields_of_a_shape(rt: HostRuntime) {
+    assert!(rt; shaped_long(b"20210102T030405.50000000099+01:00") == Some(HALF));
     assert!(rt; shaped(b"20210102T030405.5+01:00") == Some([HALF, HALF]));
     assert!(rt; shaped(b"20210132T030405Z") == Some([None, None]));
 }
