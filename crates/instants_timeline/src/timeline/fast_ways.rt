@@ -121,7 +121,7 @@ pub(crate) struct PlainWay<'p> {
 
 impl<'p> PlainWay<'p> {
     pub(crate) fn new(plain: PlainPlaces<'p>) -> PlainWay<'p>
-        ensures { result.plain ≡ plain }
+        ensures { result.plain.places.now ≡ plain.entry.places.now }
     {
         PlainWay { plain }
     }
