@@ -122,7 +122,7 @@ fn second_by_plan(source: &Source, line: &[u8]) -> Option<(Option<i64>, Option<i
     let by_plan = second_of(read_by_plan(plan, line, None));
     match plan {
         Plan::Places(places) => Some((by_plan, second_of(read_by_places(places, line, None)))),
-        Plan::Unix(_) => Some((by_plan, None)),
+        Plan::Unix(_) | Plan::Steps(_) => Some((by_plan, None)),
     }
 }
 

@@ -1,16 +1,22 @@
 -- Digits at the start of bytes.
-use Rattle.std.proofs.Common.{◌≡◌, ◌≤◌, ◌<◌, ◌+◌, ◌∙◌, ◌==◌, ℕ, Bool, true, false, List, get_or, length, take, drop, min, Option, Some, None, refl, sym, ap, arith, pos}
+use Rattle.std.proofs.Common.{◌≡◌, ◌≤◌, ◌<◌, ◌+◌, ◌*◌, ◌∙◌, ◌==◌, ℕ, Bool, true, false, List, [], ◌∷◌, get_or, length, take, drop, min, Option, Some, None, refl, sym, ap, arith, pos}
 use Rattle.std.specs.Prelude.{nat_le}
 use Rattle.std.specs.Char.{is_ascii_digit}
 use Rattle.std.specs.Int.{is_in_range}
 use Rattle.std.proofs.lemmas.Bool.Decides.{nat_tests}
 use Rattle.std.proofs.lemmas.List.{length-drop}
 use Rattle.std.proofs.lemmas.List.Sums.{prefix_len_passes, prefix_len-le-length}
-use Rattle.parsing_combinator.specs.Pieces.{digits, digit_count, digit_run, fraction, nanoseconds_of}
+use Rattle.parsing_combinator.specs.Pieces.{sign, byte_of, digits, digit_count, digit_run, fraction, nanoseconds_of}
 use Rattle.parsing_combinator.specs.Places.{HasDigit, HasPair}
-use Rattle.parsing_combinator.specs.Shape.{taken, fraction_between}
-use Rattle.parsing_combinator.proofs.Decimal.{digit_here}
-use Rattle.parsing_combinator.proofs.FractionDigits.{digits_read}
+use Rattle.parsing_combinator.specs.Numbers.{timestamp}
+use Rattle.parsing_combinator.specs.Shape.{taken, fraction_between, digits_between}
+use Rattle.parsing_combinator.proofs.Decimal.{digit_here, count_drop}
+use Rattle.parsing_combinator.proofs.FractionDigits.{digits_read, none_there}
+use Rattle.parsing_combinator.proofs.Components.{taken_timestamp}
+use Rattle.parsing_combinator.proofs.Fixed.{digits_add}
+use Rattle.parsing_combinator.proofs.SignLemmas.{under}
+use Rattle.parsing_components.proofs.Slots.{digit_no_sign}
+use Rattle.std.specs.Str.Parse.{digits_value}
 use Rattle.parsing_combinator.proofs.Longest.{taken_digits}
 use Rattle.parsing_components.specs.Put.{set_by}
 use Rattle.parsing_components.specs.Ranged.{says, between}
@@ -75,3 +81,25 @@ fraction_taken bytes rest n e short =
 
 pub fraction_said : (bytes rest : List ℕ) (n : ℕ) (r : Record) → fraction bytes ≡ Some (n, rest) → length bytes ≤ length rest + 9 → set_by (says (λ k. Some (read.Subsecond k)) (taken (fraction_between 1 32)) bytes) r ≡ Some (record r { subsecond = Some n }, rest)
 fraction_said bytes rest n r e short = rw (fraction_taken bytes rest n e short) refl
+
+-- ---- Unix time
+
+bare_sign : (line : List ℕ) → 0 < digit_count line → sign line ≡ None
+unfolding byte_of
+bare_sign [] some = refl
+bare_sign (c ∷ cs) some = rw (digit_no_sign c (prefix_len_passes is_ascii_digit (c ∷ cs) 0 0 some)) refl
+
+ten_there : (line rest : List ℕ) (number : ℕ) → digits 10 line ≡ Some (number, rest) → digits 1 rest ≡ None → taken (digits_between 1 14) line ≡ Some (number, rest)
+ten_there line rest number e none =
+    let d = digits_read 10 line number rest e in
+    let left : digit_count rest ≡ 0 = none_there rest none in
+    let after : digit_count (drop 10 line) ≡ 0 = ap digit_count d.after ∙ left in
+    let count : digit_count line ≡ 10 = omega (arith, after, count_drop 10 line d.enough) in
+    taken_digits (digits_value 10) 1 14 line (omega arith) ∙ rw (count, d.value, d.after) refl
+
+pub ten_taken : (line middle rest : List ℕ) (first last : ℕ) → digits 1 line ≡ Some (first, middle) → digits 9 middle ≡ Some (last, rest) → digits 1 rest ≡ None → taken (timestamp false 14) line ≡ Some ((false, first * 1_000_000_000 + last), rest)
+ten_taken line middle rest first last one nine none =
+    let ten : digits 10 line ≡ Some (first * 1_000_000_000 + last, rest) = digits_add 1 9 line ∙ rw one (rw nine refl) in
+    let enough : 10 ≤ digit_count line = (digits_read 10 line _ rest ten).enough in
+    let bare : sign line ≡ None = bare_sign line (omega (arith, enough)) in
+    taken_timestamp false 14 line ∙ rw bare (ap (under false) (ten_there line rest (first * 1_000_000_000 + last) ten none))

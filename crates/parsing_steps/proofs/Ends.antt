@@ -7,10 +7,10 @@ use Rattle.parsing_combinator.specs.Pieces.{byte, digits}
 use Rattle.parsing_combinator.specs.Tame.{EndsWith, Leaves}
 use Rattle.parsing_combinator.proofs.lemmas.Tame.{dropped, whole_end, joined, digits_leaves, skip_leaves}
 use Rattle.parsing_combinator.specs.Shape.{Shape, greatest, or_before, prefix, taken, fraction_between}
-use Rattle.parsing_combinator.specs.Numbers.{padded, offset_hour}
+use Rattle.parsing_combinator.specs.Numbers.{padded, offset_hour, timestamp}
 use Rattle.parsing_combinator.specs.Names.{named, periods, short_months, long_months, short_weekdays, long_weekdays}
 use Rattle.parsing_components.specs.Put.{set_by}
-use Rattle.parsing_components.specs.Ranged.{kept, says, between, up_to, counted, months}
+use Rattle.parsing_components.specs.Ranged.{kept, says, between, up_to, since_epoch, counted, months}
 use Rattle.parsing_components.specs.Read.{Read}
 use Rattle.parsing_components.specs.Read as read
 use Rattle.parsing_record.specs.Record.{Record}
@@ -71,6 +71,7 @@ part_leaves part.Second bytes = says_leaves (between 0 60 read.Second) (padded (
 part_leaves part.Fraction bytes = says_leaves (λ n. Some (read.Subsecond n)) (fraction_between 1 32) bytes
 part_leaves part.OffsetHour bytes = says_leaves (up_to 25 (λ negative hour. read.OffsetHour hour negative)) (offset_hour padding.Zero true) bytes
 part_leaves part.OffsetMinute bytes = says_leaves (between 0 59 read.OffsetMinute) (padded (padding_of false) 2 2) bytes
+part_leaves part.Unix bytes = says_leaves (since_epoch read.Unix 1_000_000_000) (timestamp false 14) bytes
 
 set_leaves : (o : Option (Read × List ℕ)) (r : Record) (bytes : List ℕ) → Leaves bytes o → Leaves bytes (set_by o r)
 set_leaves None r bytes h = tt

@@ -1,5 +1,5 @@
 -- Components and the parts that they are.
-use Rattle.std.proofs.Common.{◌≡◌, ℕ, Bool, true, List, Option, Some, None, Ok, refl}
+use Rattle.std.proofs.Common.{◌≡◌, ℕ, Bool, true, false, List, Option, Some, None, Ok, refl}
 use Rattle.std.specs.Prelude.{IfSome}
 use Rattle.description_date_modifiers.specs.declared.choices.Padding.{Padding}
 use Rattle.description_date_modifiers.specs.declared.choices.Padding.TheVariants as padding
@@ -8,11 +8,11 @@ use Rattle.description_time_modifiers.specs.declared.choices.SubsecondDigits.The
 use Rattle.description_items.specs.declared.component.Component.{Component}
 use Rattle.parsing_combinator.specs.Fault.{Fault}
 use Rattle.parsing_combinator.specs.Names.{named, period, periods}
-use Rattle.parsing_combinator.specs.Numbers.{padded}
+use Rattle.parsing_combinator.specs.Numbers.{padded, timestamp}
 use Rattle.parsing_combinator.specs.Readings.{piece_or}
 use Rattle.parsing_combinator.specs.Shape.{taken, fraction_between}
 use Rattle.parsing_components.specs.Component.{fraction_of}
-use Rattle.parsing_components.specs.Ranged.{kept}
+use Rattle.parsing_components.specs.Ranged.{kept, since_epoch}
 use Rattle.parsing_components.specs.Read.{Read}
 use Rattle.parsing_components.specs.Read as read
 use Rattle.parsing_steps.specs.Parts.{IsPartOf, by_padding}
@@ -42,3 +42,6 @@ period_read fault upper exact line rest said first second e = rw (first, second,
 
 pub open_read : (fault : Fault) (d : SubsecondDigits) (line rest : List ℕ) (said : Read) → d ≡ digits_of.OneOrMore → kept (λ n. Some (read.Subsecond n)) (taken (fraction_between 1 32) line) ≡ Some (said, rest) → piece_or fault (kept (λ n. Some (read.Subsecond n)) (taken (fraction_of d) line)) ≡ Ok (said, rest)
 open_read fault d line rest said is e = rw (is, e) refl
+
+pub unix_read : (fault : Fault) (mandatory : Bool) (line rest : List ℕ) (said : Read) → mandatory ≡ false → kept (since_epoch read.Unix 1_000_000_000) (taken (timestamp false 14) line) ≡ Some (said, rest) → piece_or fault (kept (since_epoch read.Unix 1_000_000_000) (taken (timestamp mandatory 14) line)) ≡ Ok (said, rest)
+unix_read fault mandatory line rest said bare e = rw (bare, e) refl

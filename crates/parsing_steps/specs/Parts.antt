@@ -6,10 +6,10 @@ use Rattle.description_items.specs.declared.component.Component.{Component}
 use Rattle.parsing_combinator.specs.Pieces.{Piece, digits}
 use Rattle.parsing_combinator.specs.Readings.{Reading}
 use Rattle.parsing_combinator.specs.Shape.{taken, fraction_between}
-use Rattle.parsing_combinator.specs.Numbers.{padded, offset_hour}
+use Rattle.parsing_combinator.specs.Numbers.{padded, offset_hour, timestamp}
 use Rattle.parsing_combinator.specs.Names.{named, short_months, long_months, short_weekdays, long_weekdays, periods}
 use Rattle.parsing_components.specs.Component.{reads_component, reads_component_v3}
-use Rattle.parsing_components.specs.Ranged.{says, between, up_to, counted, months}
+use Rattle.parsing_components.specs.Ranged.{says, between, up_to, since_epoch, counted, months}
 use Rattle.parsing_components.specs.Read.{Read}
 use Rattle.parsing_components.specs.Read as read
 use Rattle.parsing_steps.specs.declared.parts.Part.{Part}
@@ -43,6 +43,7 @@ part_piece part.Second = number false (between 0 60 read.Second)
 part_piece part.Fraction = says (λ n. Some (read.Subsecond n)) (taken (fraction_between 1 32))
 part_piece part.OffsetHour = says (up_to 25 (λ negative hour. read.OffsetHour hour negative)) (taken (offset_hour padding.Zero true))
 part_piece part.OffsetMinute = number false (between 0 59 read.OffsetMinute)
+part_piece part.Unix = says (since_epoch read.Unix 1_000_000_000) (taken (timestamp false 14))
 
 -- one of two parts, by the padding of a number
 abbrev pub by_padding : Padding → Part → Part → Option Part

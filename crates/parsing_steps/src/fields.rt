@@ -1,6 +1,6 @@
 //! The fields that the parts of a line name.
 ghost use Rattle.std.specs.Option.{unwrap_or};
-ghost use Rattle.std.specs.Prelude.{◌≡◌, ◌<◌, ◌≤◌, ◌*ℤ◌, Option, Some, Ok, ℤ, pos, unsigned_abs, IfSome};
+ghost use Rattle.std.specs.Prelude.{◌≡◌, ◌<◌, ◌≤◌, ◌*ℤ◌, Option, Some, None, Ok, ℤ, pos, unsigned_abs, IfSome};
 ghost use Rattle.parsing_fields.specs.Moment.{moment_of};
 ghost use Rattle.parsing_record.specs.Whole.{moment_named, offset_named};
 ghost use Rattle.parsing_steps.specs.Beginning.{beginning};
@@ -73,9 +73,32 @@ impl Found {
         Some(offset_minutes(self.is_behind, self.offset_hour, self.offset_minute))
     }
 
-    /// The fields with what was read: `None` says nothing.
+    // The fields of Unix time, in UTC.
     #[inline(never)]
+    fn unix_fields(&self, second: u64) -> Option<Fields>
+        requires { self.now.unix ≡ Some second }
+        ensures { (assumed : Option ℤ) → IfSome result
+            (λ f. moment_named (record_of assumed self.now) ≡ Ok (moment_of f)) }
+    {
+        Fields::of_unix(second, fraction_or_none(self.fraction))
+    }
+
+    /// The fields with what was read: `None` says nothing.
+    #[inline(always)]
     pub(crate) fn fields(&self, assumed: Option<UtcOffset>) -> Option<Fields>
+        ensures { IfSome result
+            (λ f. moment_named (record_of assumed self.now) ≡ Ok (moment_of f)) }
+    {
+        match self.unix {
+            Some(second) => self.unix_fields(second),
+            None => self.dated_fields(assumed),
+        }
+    }
+
+    // The fields of a date, a time of day and an offset.
+    #[inline(never)]
+    fn dated_fields(&self, assumed: Option<UtcOffset>) -> Option<Fields>
+        requires { self.now.unix ≡ None }
         ensures { IfSome result (λ f. moment_named (record_of assumed self.now) ≡ Ok (moment_of f)) }
     {
         let offset = self.offset(assumed)?;

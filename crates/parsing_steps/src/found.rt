@@ -1,5 +1,6 @@
 //! What was found in a line.
-ghost use Rattle.std.specs.Prelude.{◌≡◌, ◌≢◌, ◌≤◌};
+ghost use Rattle.std.specs.Prelude.{◌≡◌, ◌≢◌, ◌<◌, ◌≤◌};
+ghost use Rattle.std.specs.Option.{ForSome};
 
 use calendar_count::Weekday;
 use parsing_fields::{Fraction, Year};
@@ -26,6 +27,8 @@ pub(crate) struct Found {
     pub(crate) is_behind: bool,
     pub(crate) offset_hour: u8,
     pub(crate) offset_minute: u8,
+    /// The seconds since 1970.
+    pub(crate) unix: Option<u64>,
     ghost month_is: { month ≤ 12 },
     ghost hour_is: { hour ≢ 255 → hour ≤ 23 },
     ghost hour_12_is: { hour_12 ≢ 255 → hour_12 ≤ 12 },
@@ -33,6 +36,7 @@ pub(crate) struct Found {
     ghost second_is: { second ≢ 255 → second ≤ 59 },
     ghost offset_hour_is: { offset_hour ≢ 255 → offset_hour ≤ 25 },
     ghost offset_minute_is: { offset_minute ≢ 255 → offset_minute ≤ 59 },
+    ghost unix_is: { ForSome unix (λ n. n < 10_000_000_000) },
 }
 
 impl Found {
@@ -59,6 +63,7 @@ impl Found {
             is_behind: false,
             offset_hour: UNREAD,
             offset_minute: UNREAD,
+            unix: None,
         }
     }
 }

@@ -1,12 +1,12 @@
 //! The components that steps read.
-ghost use Rattle.std.specs.Prelude.{◌≡◌, ◌≤◌, true, false, pos, Some, IfSome, option_map};
+ghost use Rattle.std.specs.Prelude.{◌≡◌, ◌≤◌, ◌<◌, true, false, pos, Some, IfSome, option_map};
 ghost use Rattle.parsing_combinator.specs.Pieces.{digits};
 ghost use Rattle.parsing_combinator.specs.Shape.{taken, fraction_between};
-ghost use Rattle.parsing_combinator.specs.Numbers.{padded, offset_hour};
+ghost use Rattle.parsing_combinator.specs.Numbers.{padded, offset_hour, timestamp};
 ghost use Rattle.parsing_combinator.specs.Names.{named, periods, short_months, long_months, short_weekdays, long_weekdays};
 ghost use Rattle.description_date_modifiers.specs.declared.choices.Padding.TheVariants as Padding;
 ghost use Rattle.description_time_modifiers.specs.declared.choices.SubsecondDigits.TheVariants as SubsecondDigits;
-ghost use Rattle.parsing_components.specs.Ranged.{says, between, up_to, counted, months};
+ghost use Rattle.parsing_components.specs.Ranged.{says, between, up_to, since_epoch, counted, months};
 ghost use Rattle.parsing_components.specs.Read as read;
 ghost use Rattle.parsing_steps.specs.Found.{Finds};
 ghost use Rattle.parsing_steps.specs.Parts.{padding_of, by_padding, number, part_piece, IsPartOf};
@@ -15,7 +15,7 @@ use crate::found::Found;
 use crate::names::{long_month, long_weekday, short_month, short_weekday};
 use description_items::Component;
 use description_items::modifier::{Padding, SubsecondDigits};
-use parsing_combinator::{byte, four_digits, offset_hour, padded_two};
+use parsing_combinator::{byte, four_digits, nine_digits, offset_hour, one_digit, padded_two};
 use parsing_fields::{Fraction, Year};
 
 /// A component, as a line writes it.
@@ -50,6 +50,8 @@ pub(crate) enum Part {
     /// After a sign.
     OffsetHour,
     OffsetMinute,
+    /// Ten digits of seconds since 1970.
+    Unix,
 }
 
 // A number of two digits, or a bare one, in its range.
@@ -258,6 +260,33 @@ fn hour_of_offset<'l>(bytes: &'l [u8], found: &mut Found) -> Option<&'l [u8]>
     Some(rest)
 }
 
+// Unix time of ten digits.
+#[inline(always)]
+#[tactic(auto, using(crate::proofs::Digits::ten_taken))]
+fn ten_digits(bytes: &[u8]) -> Option<(u64, &[u8])>
+    ensures taken { IfSome result
+        (λ x. taken (timestamp false 14) bytes.now ≡ Some ((false, x.0), x.1.now)) }
+    ensures bound { IfSome result (λ x. x.0 < 10_000_000_000) }
+{
+    let (first, rest) = one_digit(bytes)?;
+    let (last, rest) = nine_digits(rest)?;
+    if one_digit(rest).is_some() {
+        return None;
+    }
+    let number = u64::from(first) * 1_000_000_000 + u64::from(last);
+    Some((number, rest))
+}
+
+#[inline(always)]
+fn unix<'l>(bytes: &'l [u8], found: &mut Found) -> Option<&'l [u8]>
+    ensures { Finds result found.old found.new
+        (says (since_epoch read.Unix 1_000_000_000) (taken (timestamp false 14)) bytes.now) }
+{
+    let (number, rest) = ten_digits(bytes)?;
+    found.unix = Some(number);
+    Some(rest)
+}
+
 // One of two parts, by the padding of a number.
 fn by_padding(padding: Padding, zeros: Part, bare: Part) -> Option<Part>
     ensures { result ≡ by_padding padding zeros bare }
@@ -280,6 +309,12 @@ fn is_zero(padding: Padding) -> bool
     ensures { result ≡ true → padding ≡ Padding.Zero }
 {
     matches!(padding, Padding::Zero)
+}
+
+fn is_not(holds: bool) -> bool
+    ensures { result ≡ true → holds ≡ false }
+{
+    !holds
 }
 
 // A number with zeros, after a sign or not.
@@ -318,6 +353,7 @@ fn clock_part(component: &Component) -> Option<Part>
             Part::OffsetHour,
         ),
         Component::OffsetMinute(m) => part_if(is_zero(m.padding), Part::OffsetMinute),
+        Component::UnixTimestampSecond(m) => part_if(is_not(m.sign_is_mandatory), Part::Unix),
         _ => None,
     }
 }
@@ -373,6 +409,7 @@ impl Part {
             Part::Fraction => subsecond(bytes, found),
             Part::OffsetHour => hour_of_offset(bytes, found),
             Part::OffsetMinute => minute_of_offset(bytes, found),
+            Part::Unix => unix(bytes, found),
         }
     }
 }

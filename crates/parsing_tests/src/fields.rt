@@ -10,6 +10,7 @@ use parsing_places::{
     Moves, NamedShape, Number, Numbers, Shape, Window, Windows, read, read_numbers, read_stamp,
 };
 use parsing_plan::Plan;
+use parsing_steps::Steps;
 use std::alloc::Global;
 
 // The seconds since 1970 of the moment of fields, and its nanosecond.
@@ -249,4 +250,48 @@ fn planned_by_tree(alloc: Global, line: &[u8]) -> Option<(i64, u32)> {
 fn plans(rt: HostRuntime) {
     assert!(rt; planned_by_items(rt.alloc(), b"02/Jan/2021:03:04:05 +0100") == WHOLE);
     assert!(rt; planned_by_tree(rt.alloc(), b"2021-01-02 02:04:05 UTC") == WHOLE);
+}
+
+// The steps of a strftime description.
+fn steps_of(alloc: Global, text: &str) -> Option<Steps> {
+    let items = parse_strftime_borrowed(alloc, text).ok()?;
+    Steps::of_nodes(items.as_slice())
+}
+
+// What steps read of a line, and of the start of a longer one.
+fn by_steps(alloc: Global, line: &[u8], longer: &[u8]) -> [Option<(i64, u32)>; 2] {
+    let Some(steps) = steps_of(alloc, "%d %B %Y %I:%M:%S %p") else {
+        return [None, None];
+    };
+    let of_prefix = match steps.read_prefix(longer, Some(UtcOffset::UTC)) {
+        Some((fields, b" and more")) => Some(fields),
+        _ => None,
+    };
+    [
+        instant(steps.read(line, Some(UtcOffset::UTC))),
+        instant(of_prefix),
+    ]
+}
+
+// What the plan of a description with an optional fraction reads of a line.
+fn planned_by_option(alloc: Global, line: &[u8]) -> Option<(i64, u32)> {
+    let text = "[day padding:none].[month padding:none].[year] [hour]:[minute]:[second][optional [.[subsecond]]]";
+    let Description::V3(tree) = parse_borrowed(alloc, DescriptionVersion::Three, text).ok()? else {
+        return None;
+    };
+    instant(Plan::of_description(&tree)?.read(line, Some(UtcOffset::UTC)))
+}
+
+#[test]
+fn steps(rt: HostRuntime) {
+    let night = by_steps(
+        rt.alloc(),
+        b"02 January 2021 02:04:05 AM",
+        b"02 January 2021 02:04:05 AM and more",
+    );
+    assert!(rt; night == [WHOLE, WHOLE]);
+    let noon = by_steps(rt.alloc(), b"01 January 1970 12:00:01 PM", b"01 January 1970");
+    assert!(rt; noon == [Some((43_201, 0)), None]);
+    assert!(rt; planned_by_option(rt.alloc(), b"2.1.2021 02:04:05") == WHOLE);
+    assert!(rt; planned_by_option(rt.alloc(), b"2.1.2021 02:04:05.5") == HALF);
 }

@@ -6,7 +6,7 @@ use Rattle.parsing_components.specs.Read as read
 use Rattle.parsing_components.proofs.Slots.{hour_read}
 use Rattle.parsing_steps.specs.Parts.{part_piece}
 use Rattle.parsing_steps.specs.declared.parts.Part.TheVariants as part
-use Rattle.parsing_steps.proofs.PartLemmas.{chosen, padded_parts, padded_read, period_read, open_read}
+use Rattle.parsing_steps.proofs.PartLemmas.{chosen, padded_parts, padded_read, period_read, open_read, unix_read}
 use Rattle.parsing_steps.proofs.parts.clock_part.Goals as goal
 
 pub returns-in-Hour24 : goal.returns-in-Hour24
@@ -56,3 +56,9 @@ unfolding part_piece reads_component reads_component_v3 reads_modern date_piece 
 returns-in-OffsetMinute c =
     let m = c.in-OffsetMinute.m in
     rw c.in-OffsetMinute.is (chosen (component.OffsetMinute m) part.OffsetMinute c.is_zero-in-OffsetMinute.result c.part_if-in-OffsetMinute.result (λ h. (λ line said rest e. padded_read _ (between 0 59 read.OffsetMinute) m.padding padding.Zero line rest said (c.is_zero-in-OffsetMinute.ensures h) e, λ line said rest e. padded_read _ (between 0 59 read.OffsetMinute) m.padding padding.Zero line rest said (c.is_zero-in-OffsetMinute.ensures h) e)) c.part_if-in-OffsetMinute.ensures)
+
+pub returns-in-UnixTimestampSecond : goal.returns-in-UnixTimestampSecond
+unfolding part_piece reads_component reads_component_v3 reads_modern date_piece year_piece time_piece offset_piece
+returns-in-UnixTimestampSecond c =
+    let m = c.in-UnixTimestampSecond.m in
+    rw c.in-UnixTimestampSecond.is (chosen (component.UnixTimestampSecond m) part.Unix c.is_not.result c.part_if-in-UnixTimestampSecond.result (λ h. (λ line said rest e. unix_read _ m.sign_is_mandatory line rest said (c.is_not.ensures h) e, λ line said rest e. unix_read _ m.sign_is_mandatory line rest said (c.is_not.ensures h) e)) c.part_if-in-UnixTimestampSecond.ensures)
