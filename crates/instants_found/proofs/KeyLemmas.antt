@@ -8,6 +8,7 @@ use Rattle.std.proofs.lemmas.List.Elements.{All-weaker}
 use Rattle.instants_prefixes.specs.NoPrefix.{HasNoPrefix}
 use Rattle.instants_sources.specs.Grammar.{Grammar}
 use Rattle.instants_found.specs.Starts.{AreStarts, HasNoDate, IsNoDate, MarkPlaces}
+use Rattle.instants_found.specs.Fourths.{CannotBeFourth}
 use Rattle.instants_found.specs.Keys.{AreBytes, stands_at, has_key, NeedsFour, NeedsOne, AreKeys}
 use Rattle.instants_found.specs.declared.key.Key.{Key}
 use Rattle.instants_found.specs.declared.keys.Keys.{Keys}
@@ -40,7 +41,10 @@ module _ (sources : List Grammar) (line : List ℕ) where
   unmarked_none starts marks start are right few none =
       elim none [
         | inl keys ↦ unkeyed_none marks.keys start right.keys few keys.0 keys.1
-        | inr first ↦ none_starts sources starts line start are (right.first (get_or line start 0) (few start) first)
+        | inr (inl first) ↦ none_starts sources starts line start are (right.first (get_or line start 0) (few start) first)
+        | inr (inr fourth) ↦
+            no_prefix_there sources line start
+            (All-weaker (CannotBeFourth (get_or line (start + 3) 0)) (HasNoPrefix (drop start line)) (λ grammar cannot. cannot (drop start line) (get_or-drop start line 3 0)) sources (right.fourth (get_or line (start + 3) 0) (few (start + 3)) fourth))
       ]
 
   -- the bits of the marks of sixteen places

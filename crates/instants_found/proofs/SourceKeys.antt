@@ -11,7 +11,8 @@ use Rattle.parsing_first_bytes.specs.declared.first_bytes.FirstBytes.{FirstBytes
 use Rattle.parsing_record.specs.Reads.{reading, reading_of_all}
 use Rattle.instants_prefixes.specs.Reading.{window, text_for}
 use Rattle.instants_sources.specs.Grammar.{Items, V3, Rfc3339}
-use Rattle.instants_found.specs.Keys.{IsKeyOf, RuleOutShort, NeedsKey, NeedsFour}
+use Rattle.instants_found.specs.Fourths.{CannotBeFourth}
+use Rattle.instants_found.specs.Keys.{IsKeyOf, IsRuledOutAt, RuleOutShort, NeedsKey, NeedsFour}
 use Rattle.instants_found.specs.declared.key.Key.{Key}
 use Rattle.instants_prefixes.proofs.RuledOut.{items_due, tree_due, hyphen_due}
 
@@ -40,6 +41,10 @@ module _ (items : List Tree) (f : FirstBytes) (are : AreOf (reading_of_all reads
   unfolding text_for
   items_four is = λ bytes short. items_due items bytes (take window bytes) refl (are (take window bytes) (cut f bytes ∙ is bytes short))
 
+  pub items_fourth : (byte : ℕ) → IsRuledOutAt f 3 byte → CannotBeFourth byte (Items items)
+  unfolding text_for
+  items_fourth byte is = λ bytes there. items_due items bytes (take window bytes) refl (are (take window bytes) (cut f bytes ∙ is bytes there))
+
 module _ (tree : Tree) (f : FirstBytes) (are : AreOf (reading reads_component_v3 tree) f) where
   pub tree_key : (key : Key) → IsKeyOf f key → NeedsKey key (V3 tree)
   unfolding text_for
@@ -48,6 +53,10 @@ module _ (tree : Tree) (f : FirstBytes) (are : AreOf (reading reads_component_v3
   pub tree_four : RuleOutShort f → NeedsFour (V3 tree)
   unfolding text_for
   tree_four is = λ bytes short. tree_due tree bytes (take window bytes) refl (are (take window bytes) (cut f bytes ∙ is bytes short))
+
+  pub tree_fourth : (byte : ℕ) → IsRuledOutAt f 3 byte → CannotBeFourth byte (V3 tree)
+  unfolding text_for
+  tree_fourth byte is = λ bytes there. tree_due tree bytes (take window bytes) refl (are (take window bytes) (cut f bytes ∙ is bytes there))
 
 -- ---- RFC 3339
 

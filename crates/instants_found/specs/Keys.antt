@@ -1,11 +1,12 @@
 -- Bytes that stand at one place of each date of a source.
-use Rattle.std.specs.Prelude.{◌≡◌, ◌<◌, ◌+◌, ◌==◌, ℕ, Bool, true, false, List, All, length, get_or}
+use Rattle.std.specs.Prelude.{◌≡◌, ◌<◌, ◌+◌, ◌==◌, ℕ, Bool, true, false, List, All, length, drop, get_or}
 use Rattle.parsing_first_bytes.specs.FirstBytes.{rule_out}
 use Rattle.parsing_first_bytes.specs.declared.first_bytes.FirstBytes.{FirstBytes}
 use Rattle.instants_sources.specs.Grammar.{Grammar}
 use Rattle.instants_prefixes.specs.NoPrefix.{HasNoPrefix}
 use Rattle.instants_found.specs.declared.key.Key.{Key}
 use Rattle.instants_found.specs.declared.keys.Keys.{Keys}
+use Rattle.instants_found.specs.declared.keys.KeyedLine.{KeyedLine}
 
 -- all of these are bytes
 abbrev pub AreBytes : List ℕ → Type 0
@@ -47,6 +48,11 @@ NeedsFour grammar = (bytes : List ℕ) → length bytes < 4 → HasNoPrefix byte
 pub record NeedsOne (keys : Keys) (grammar : Grammar) : Type 0 where
   pub key : (bytes : List ℕ) → AreBytes bytes → has_key keys.first bytes ≡ false → has_key keys.second bytes ≡ false → HasNoPrefix bytes grammar
   pub four : NeedsFour grammar
+
+-- a line from where each key stands
+pub record IsKeyedBy (keys : Keys) (line : List ℕ) (keyed : KeyedLine) : Type 0 where
+  pub first : keyed.first.now ≡ drop keys.first.place line
+  pub second : keyed.second.now ≡ drop keys.second.place line
 
 abbrev pub AreKeys : List Grammar → Keys → Type 0
 AreKeys sources keys = All (NeedsOne keys) sources

@@ -5,8 +5,10 @@ pub mod Found
 pub mod Doubts
 pub mod Within
 pub mod IsFound
+pub mod Ranges
 pub mod Starts
 pub mod Keys
+pub mod Fourths
 pub mod Marks
 pub mod Finder
 pub mod Tried

@@ -1,5 +1,5 @@
 -- Where no date begins.
-use Rattle.std.specs.Prelude.{◌≡◌, ◌<◌, ◌≤◌, ◌+◌, ℕ, nat_le, Bool, true, false, List, get_or, None, All}
+use Rattle.std.specs.Prelude.{◌≡◌, ◌<◌, ◌≤◌, ◌+◌, ℕ, Bool, true, false, List, get_or, None, All}
 use Rattle.std.specs.Int.{bit_at}
 use Rattle.instants_sources.specs.Grammar.{Grammar}
 use Rattle.instants_prefixes.specs.declared.given.Given.{Given}
@@ -29,7 +29,3 @@ HasNoDate sources line from to = (place : ℕ) → from ≤ place → place < to
 -- of so many bits, one for each place of a line from one up to another, only those are 0 at whose places nothing is found
 abbrev pub MarkPlaces : List Grammar → List ℕ → ℕ → ℕ → ℕ → Type 0
 MarkPlaces sources line from to bits = (k : ℕ) → from + k < to → bit_at bits k ≡ 0 → IsNoDate sources line (from + k)
-
--- no byte after this one is marked in a table
-abbrev pub AreUpTo : List Bool → ℕ → Type 0
-AreUpTo starts most = (byte : ℕ) → byte < 256 → nat_le byte most ≡ false → get_or starts byte true ≡ false

@@ -7,13 +7,16 @@ mod doubt;
 mod finder;
 mod finding;
 mod found;
+mod fourths;
 mod key;
 mod keys;
 mod lanes;
 pub mod laws;
 mod marks;
 mod prefix_bytes;
+mod range;
 mod source_key;
+mod spread;
 mod starts;
 
 pub use doubt::{Doubt, Doubted};

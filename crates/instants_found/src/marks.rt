@@ -1,21 +1,25 @@
 //! The places of a line at which a date may begin, marked sixteen at a time.
 ghost use Rattle.std.specs.Prelude.{◌≡◌, ◌<◌, ◌≤◌, ◌+◌, ℕ, length, map, IfSome};
 
-use crate::keys::{Keys, REACH};
-use crate::lanes::{LANES, bits_up_to, load};
-use crate::starts::{are_up_to, last_start};
+use crate::fourths::{FOURTH, fourths};
+use crate::keys::{KeyedLine, Keys, REACH};
+use crate::lanes::{LANES, bits_within, load};
+use crate::range::Range;
+use crate::starts::{are_within, range_of};
 use instants_sources::Source;
 
-/// What each date of some sources has: one of their keys, and a first byte that is no more than another.
+/// What each date of some sources has: one of their keys, and a first and a fourth byte from a range.
 #[derive(Clone, Copy)]
 pub(crate) struct Marks {
     pub(crate) keys: Keys,
-    pub(crate) most: u8,
+    pub(crate) first: Range,
+    pub(crate) fourth: Range,
 }
 
 impl Marks {
     ghost use Rattle.std.specs.Int.{bit_at};
     ghost use Rattle.instants_sources.specs.Grammar.{grammar_of};
+    ghost use Rattle.instants_found.specs.Keys.{IsKeyedBy};
     ghost use Rattle.instants_found.specs.Marks.{AreMarks, IsUnmarked};
 
     /// The marks of these sources, whose dates begin with these bytes, if each source has a key.
@@ -23,23 +27,37 @@ impl Marks {
         ensures { IfSome result (AreMarks (map grammar_of sources.now) starts.now) }
     {
         let keys = Keys::of(sources)?;
-        let most = last_start(starts);
-        if !are_up_to(starts, most) {
+        let first = range_of(starts);
+        if !are_within(starts, &first) {
             return None;
         }
-        Some(Marks { keys, most })
+        let fourths = fourths(sources);
+        let fourth = range_of(&fourths);
+        if !are_within(&fourths, &fourth) {
+            return None;
+        }
+        Some(Marks {
+            keys,
+            first,
+            fourth,
+        })
     }
 
     /// A bit for each of the 16 places from one on, which is 0 only where no date begins.
     #[inline(always)]
-    pub(crate) fn bits(&self, line: &[u8], at: usize) -> u64
-        requires { at + REACH ≤ length line.now }
+    pub(crate) fn bits(&self, line: &[u8], keyed: &KeyedLine<'_>, at: usize) -> u64
+        requires within { at + REACH ≤ length line.now }
+        requires keyed { IsKeyedBy self.now.keys line.now keyed.now }
         ensures { (k : ℕ) → k < LANES → bit_at result k ≡ 0 → IsUnmarked self.now line.now (at + k) }
     {
-        let keyed = self.keys.bits(line, at);
-        if keyed == 0 {
+        let bits = self.keys.bits(line, keyed, at);
+        if bits == 0 {
             return 0;
         }
-        keyed & bits_up_to(load(line, at), self.most)
+        let begun = bits & bits_within(load(line, at), &self.first);
+        if begun == 0 {
+            return 0;
+        }
+        begun & bits_within(load(line, at + FOURTH), &self.fourth)
     }
 }

@@ -1,9 +1,11 @@
 //! The bytes at which a date of a source can begin.
-ghost use Rattle.std.specs.Prelude.{◌≡◌, true, false, map, get_or, nat_le};
+ghost use Rattle.std.specs.Prelude.{◌≡◌, true, false, map, get_or};
 ghost use Rattle.instants_sources.specs.Grammar.{grammar_of};
 ghost use Rattle.instants_prefixes.specs.NoPrefix.{begins_day, begins_part};
-ghost use Rattle.instants_found.specs.Starts.{AreStarts, AreUpTo, CannotBegin, NoneBegins};
+ghost use Rattle.instants_found.specs.Ranges.{AreWithin, is_within};
+ghost use Rattle.instants_found.specs.Starts.{AreStarts, CannotBegin, NoneBegins};
 
+use crate::range::Range;
 use instants_sources::Source;
 
 // Whether a date of RFC 2822 can begin with a byte: its weekday, or its day.
@@ -62,32 +64,34 @@ pub(crate) fn starts(sources: &[Source<'_>]) -> [bool; 256]
     starts
 }
 
-/// The last byte with which a date can begin; `are_up_to` says whether it is.
-pub(crate) fn last_start(starts: &[bool; 256]) -> u8 {
-    let mut last = 0;
+/// The range of the bytes that are marked in a table; `are_within` says whether it is.
+pub(crate) fn range_of(table: &[bool; 256]) -> Range {
+    let mut least = 255;
+    let mut most = 0;
     for byte in 0..=255u8 {
-        if starts[usize::from(byte)] {
-            last = byte;
+        if table[usize::from(byte)] {
+            least = byte.min(least);
+            most = byte;
         }
     }
-    last
+    Range::of(least, most)
 }
 
-/// Whether no date can begin with a byte after this one.
-pub(crate) fn are_up_to(starts: &[bool; 256], most: u8) -> bool
-    ensures { result ≡ true → AreUpTo starts.now most }
+/// Whether no byte outside of a range is marked in a table.
+pub(crate) fn are_within(table: &[bool; 256], range: &Range) -> bool
+    ensures { result ≡ true → AreWithin table.now range.now }
 {
     for byte in 0..256usize {
-        if !is_up_to(starts, most, byte as u8) {
+        if !is_within(table, range, byte as u8) {
             return false;
         }
     }
     true
 }
 
-// Whether a byte is not after this one if a date can begin with it.
-fn is_up_to(starts: &[bool; 256], most: u8, byte: u8) -> bool
-    ensures { result ≡ true → nat_le byte most ≡ false → get_or starts.now byte true ≡ false }
+// Whether a byte is in a range if it is marked in a table.
+fn is_within(table: &[bool; 256], range: &Range, byte: u8) -> bool
+    ensures { result ≡ true → is_within range.now byte ≡ false → get_or table.now byte true ≡ false }
 {
-    byte <= most || !starts[usize::from(byte)]
+    range.has(byte) || !table[usize::from(byte)]
 }

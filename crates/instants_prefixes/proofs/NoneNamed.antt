@@ -1,9 +1,11 @@
 -- Texts by which a source names nothing.
-use Rattle.std.proofs.Common.{◌≡◌, ◌≤◌, ◌||◌, ◌==◌, ℕ, zero, suc, Bool, true, false, cond, eqb, leb, List, [], ◌∷◌, length, get_or, take, drop, Option, None, Some, Ok, Err, refl, sym, ap, arith}
+use Rattle.std.proofs.Common.{◌≡◌, ◌≤◌, ◌||◌, ◌==◌, ℕ, zero, suc, Bool, true, false, cond, eqb, leb, List, [], ◌∷◌, length, get_or, take, drop, Option, None, Some, Ok, Err, refl, sym, ap, ◌∙◌, inl, inr, arith}
 use Rattle.std.specs.Prelude.{codes, option_map, nat_le, if◌then◌else◌}
 use Rattle.std.specs.Result.{result_ok}
 use Rattle.std.specs.Char.{is_ascii_digit, is_ascii_alphanumeric, to_ascii_lowercase}
+use Rattle.std.proofs.lemmas.Bool.{cases_lt, true≢false}
 use Rattle.std.proofs.lemmas.Bool.Decides.{nat_tests}
+use Rattle.std.proofs.lemmas.List.Sums.{prefix_len_passes}
 use Rattle.base.specs.Bytes.{plus, hyphen, upper_z}
 use Rattle.calendar_count.specs.declared.weekday.Weekday.{Weekday}
 use Rattle.description_items.specs.Tree.{Tree, listed}
@@ -71,6 +73,27 @@ hyphen_due r bytes e = let refused = date_refused true bytes (no_byte hyphen byt
 pub hyphen_none : (text : List ℕ) → eqb (get_or text 4 0) hyphen ≡ false → (given : Given) → prefix_named given Rfc3339 text ≡ None
 unfolding prefix_named
 hyphen_none text other given = none_prefix given Rfc3339 (reads_rfc3339 empty text) (hyphen_due empty text other)
+
+-- where the fourth is none there are fewer than four digits
+few_digits : (bytes : List ℕ) → is_ascii_digit (get_or bytes 3 0) ≡ false → nat_le 4 (digit_count bytes) ≡ false
+few_digits bytes e =
+    elim (cases_lt 3 (digit_count bytes)) [
+      | inl more ↦ absurd (true≢false (sym (prefix_len_passes is_ascii_digit bytes 3 0 more) ∙ e))
+      | inr few ↦ grind (arith, nat_tests)
+    ]
+
+year_refused : (is_strict : Bool) (bytes : List ℕ) → is_ascii_digit (get_or bytes 3 0) ≡ false → rfc3339.date is_strict bytes ≡ Err (component (codes "year"))
+unfolding rfc3339.date digits
+year_refused is_strict bytes e = rw (few_digits bytes e) refl
+
+year_due : (r : Record) (bytes : List ℕ) → is_ascii_digit (get_or bytes 3 0) ≡ false → result_ok (reads_rfc3339 r bytes) ≡ None
+unfolding reads_rfc3339 rfc3339.rfc3339
+year_due r bytes e = rw (year_refused true bytes e) refl
+
+-- its year has four digits
+pub year_none : (text : List ℕ) → is_ascii_digit (get_or text 3 0) ≡ false → (given : Given) → prefix_named given Rfc3339 text ≡ None
+unfolding prefix_named
+year_none text other given = none_prefix given Rfc3339 (reads_rfc3339 empty text) (year_due empty text other)
 
 -- ---- RFC 2822
 

@@ -11,7 +11,7 @@ use Rattle.parsing_rfc2822.specs.Reading as rfc2822
 use Rattle.instants_sources.specs.Grammar.{Items, V3, Rfc2822, Rfc3339}
 use Rattle.instants_prefixes.specs.NoPrefix.{HasNoPrefix}
 use Rattle.instants_prefixes.specs.Reading.{text_for, prefix_named}
-use Rattle.instants_prefixes.proofs.NoneNamed.{items_none, tree_none, hyphen_none, comma_none}
+use Rattle.instants_prefixes.proofs.NoneNamed.{items_none, tree_none, hyphen_none, year_none, comma_none}
 use Rattle.instants_prefixes.proofs.Windows.{text_byte}
 
 -- a test that no byte passes that is not there
@@ -23,6 +23,11 @@ pub hyphen_due : (bytes : List ℕ) → eqb (get_or bytes 4 0) hyphen ≡ false 
 hyphen_due bytes e given =
     let text = text_for Rfc3339 bytes in
     hyphen_none text (still_fails (λ b. eqb b hyphen) (get_or text 4 0) (get_or bytes 4 0) refl (text_byte Rfc3339 bytes 4) e) given
+
+pub year_due : (bytes : List ℕ) → is_ascii_digit (get_or bytes 3 0) ≡ false → HasNoPrefix bytes Rfc3339
+year_due bytes e given =
+    let text = text_for Rfc3339 bytes in
+    year_none text (still_fails is_ascii_digit (get_or text 3 0) (get_or bytes 3 0) refl (text_byte Rfc3339 bytes 3) e) given
 
 pub comma_due : (bytes : List ℕ) → is_ascii_digit (get_or bytes 0 0) ≡ false → eqb (get_or bytes 3 0) rfc2822.comma ≡ false → HasNoPrefix bytes Rfc2822
 comma_due bytes digit e given =

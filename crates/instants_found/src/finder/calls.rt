@@ -6,7 +6,7 @@ ghost use Rattle.instants_sources.specs.Grammar.{grammar_of};
 ghost use Rattle.instants_found.specs.Found.{found};
 ghost use Rattle.instants_found.specs.Doubts.{doubt_of, first_read};
 ghost use Rattle.instants_found.specs.Finder.{limit_of, sources_of};
-ghost use Rattle.instants_found.specs.Keys.{NeedsFour};
+ghost use Rattle.instants_found.specs.Keys.{IsKeyedBy, NeedsFour};
 ghost use Rattle.instants_found.specs.Marks.{AreMarks};
 ghost use Rattle.instants_found.specs.Starts.{HasNoDate, IsNoDate, MarkPlaces};
 ghost use Rattle.instants_found.specs.Within.{IsWithin};
@@ -17,7 +17,7 @@ use crate::doubt::{Doubted, doubted_at};
 use crate::finder::Finder;
 use crate::finding::{at_place, may_read, plain_at};
 use crate::found::{Finding, Found};
-use crate::keys::REACH;
+use crate::keys::{KeyedLine, REACH};
 use crate::lanes::LANES;
 use crate::marks::Marks;
 use crate::starts::starts;
@@ -135,7 +135,15 @@ impl<'a> Finder<'a> {
 
     // The same of sixteen places from one on, of which the first ones do not count.
     #[inline(always)]
-    fn in_block(&self, marks: &Marks, line: &[u8], start: usize, from: usize) -> Option<usize>
+    fn in_block(
+        &self,
+        marks: &Marks,
+        keyed: &KeyedLine<'_>,
+        line: &[u8],
+        start: usize,
+        from: usize,
+    ) -> Option<usize>
+        requires keyed { IsKeyedBy marks.now.keys line.now keyed.now }
         requires ordered { (start ≤ from) × (from ≤ start + LANES) }
         requires within { start + REACH ≤ length line.now }
         requires marks { AreMarks (sources_of self.now) self.now.starts marks.now }
@@ -145,7 +153,7 @@ impl<'a> Finder<'a> {
         ensures passed { IfSome result
             (HasNoDate (sources_of self.now) line.now from) }
     {
-        let bits = marks.bits(line, start);
+        let bits = marks.bits(line, keyed, start);
         if bits == 0 {
             return None;
         }
@@ -185,12 +193,13 @@ impl<'a> Finder<'a> {
     {
         // (a copy, which is known to stay the same in the loop)
         let marks = *marks;
+        let keyed = marks.keys.over(line);
         let last = line.len() - (REACH - LANES);
         let end = last.min(self.limit);
         let mut at = from;
         while at < end {
             let block = at.min(last - LANES);
-            if let Some(place) = self.in_block(&marks, line, block, at) {
+            if let Some(place) = self.in_block(&marks, &keyed, line, block, at) {
                 return Some(place);
             }
             at = block + LANES;

@@ -17,6 +17,6 @@ returns c =
       one = as_candidate given line start c.args.number grammar prefix;
       read = some_there given line start c.args.number grammar prefix (accepted given line start grammar prefix there (sym c.is_read.ensures ∙ c.if-not-is_read.false));
       whole = whole_apart given grammar line start prefix (c.stands_apart.ensures.edge c.if-not-stands_apart.false) (c.stands_apart.ensures.clock c.if-not-stands_apart.false)
-      (c.gives_nothing.ensures.offset c.if-not-gives_nothing.false) (c.gives_nothing.ensures.years c.if-not-gives_nothing.false) (c.gives_nothing.ensures.time c.if-not-gives_nothing.false) (sym there);
+          (c.gives_nothing.ensures.offset c.if-not-gives_nothing.false) (c.gives_nothing.ensures.years c.if-not-gives_nothing.false) (c.gives_nothing.ensures.time c.if-not-gives_nothing.false) (sym there);
       is = c.found_at.ensures;
     }
