@@ -1,46 +1,21 @@
 -- What a text has whose fraction of a second has more than nine digits, by what it says without those after the ninth.
-use Rattle.std.proofs.Common.{◌≡◌, ◌≤◌, ◌<◌, ◌+◌, ◌-◌, ◌∙◌, ℕ, true, List, length, take, drop, get_or, Some, refl, sym, ap, inl, inr, arith, ℤ}
+use Rattle.std.proofs.Common.{◌≡◌, ◌≤◌, ◌+◌, ◌-◌, ◌∙◌, ℕ, true, List, length, take, drop, get_or, Some, refl, sym, ap, inl, inr, arith}
 use Rattle.std.specs.Str.Parse.{digits_value}
-use Rattle.std.proofs.lemmas.Bool.{cases_lt, false≢true}
+use Rattle.std.proofs.lemmas.Bool.{cases_lt}
 use Rattle.std.specs.Prelude.{nat_le}
-use Rattle.std.specs.Char.{is_ascii_digit}
 use Rattle.std.proofs.lemmas.Bool.Decides.{nat_tests}
-use Rattle.std.proofs.lemmas.List.Sums.{prefix_len_passes}
 use Rattle.std.proofs.lemmas.List.{drop-drop, length-take-le, length-drop, take-take, get_or-drop}
 use Rattle.parsing_combinator.specs.Pieces.{digits, digit_count, nanoseconds_of}
 use Rattle.parsing_combinator.proofs.Decimal.{count_drop, count_prefix}
-use Rattle.parsing_combinator.proofs.FractionDigits.{long_fraction, short_fraction, digits_read}
+use Rattle.parsing_combinator.proofs.FractionDigits.{long_fraction, short_fraction}
 use Rattle.parsing_fields.specs.Written.{WriteFraction}
-use Rattle.parsing_places.specs.End.{SaysOffset, SaysSigned, width_of}
-use Rattle.parsing_places.specs.Numbers.{HasShape, HasNumbers, WritesNumber, WritesTwo}
-use Rattle.parsing_places.specs.Shape.{TakesDigit, TakesPair, TakesNumber}
+use Rattle.parsing_places.specs.End.{SaysOffset, width_of}
+use Rattle.parsing_places.specs.Numbers.{HasShape, HasNumbers}
 use Rattle.parsing_places.specs.declared.numbers.Numbers.{Numbers}
-use Rattle.parsing_places.specs.declared.shape.Number.{Number}
 use Rattle.parsing_places.specs.declared.shape.Shape.{Shape}
-use Rattle.parsing_places.specs.declared.shape.Window.{Window}
 use Rattle.parsing_fractions.specs.Shortened.{without, SaysShortened}
 use Rattle.parsing_fractions.proofs.KeptLemmas as kept
-
--- ---- places within the windows of a shape
-
-inside : (prefix back : Window) (back_at lane place most : ℕ) → TakesDigit prefix back back_at lane place most → place < back_at + 16
-inside prefix back back_at lane place most t = elim (cases_lt (get_or prefix.taken.lanes lane 0) 128) [
-  | inl lt ↦ let here = (t.here lt).takes.inside in omega (arith, here)
-  | inr le ↦ let there = t.there le in omega (arith, there.0, there.1.takes.inside)
-]
-
-inside_pair : (prefix back : Window) (back_at lane place most : ℕ) → TakesPair prefix back back_at lane place most → place + 2 ≤ back_at + 16
-inside_pair prefix back back_at lane place most t = let last = inside prefix back back_at (lane + 1) (place + 1) 9 t.second in omega (arith, last)
-
--- ---- where an offset begins
-
--- an offset in digits ends with one
-last_digit : (width : ℕ) (text : List ℕ) (place : ℕ) (o : ℤ) → SaysSigned width text place o → get_or text (length text - 1) 0 ≡ 90 → ⊥
-last_digit width text place o s last =
-    let read = digits_read 2 (drop (place + width + 3) text) s.minute _ s.minute_is in
-    let passes = prefix_len_passes is_ascii_digit (drop (place + width + 3) text) 1 0 read.enough in
-    let there : place + width + 3 + 1 ≡ length text - 1 = omega (arith, s.whole) in
-    absurd (false≢true (rw (get_or-drop (place + width + 3) text 1 0, there, last) at passes))
+use Rattle.parsing_fractions.proofs.NumberLemmas.{last_digit, has_shape, year_is, has_numbers}
 
 module _ (shape : Shape) (text : List ℕ) (n : Numbers) (s : SaysShortened shape text n) where
   some : shape.length + 10 ≤ s.end
@@ -49,55 +24,30 @@ module _ (shape : Shape) (text : List ℕ) (n : Numbers) (s : SaysShortened shap
   fits : s.end ≤ length text
   fits = omega (arith, s.within)
 
-  -- ---- before the fraction
-
-  byte_kept : (place : ℕ) → place < shape.back_at + 16 → get_or (without text (shape.length + 10) s.end) place 0 ≡ get_or text place 0
-  byte_kept place lt = kept.same_byte text (shape.length + 10) s.end some fits place (omega (arith, lt, s.near))
-
-  pub shape_kept : HasShape shape text
-  shape_kept =
-      let has = s.says.names.has_shape in
-      record {
-        room = omega (arith, s.near, s.more, s.within);
-        prefix = λ k lt. rw (byte_kept (0 + k) (omega (arith, lt))) at (has.prefix k lt);
-        back = λ k lt. rw (byte_kept (shape.back_at + k) (omega (arith, lt))) at (has.back k lt);
-      }
-
-  two_kept : (place v : ℕ) → place + 2 ≤ shape.back_at + 16 → WritesTwo (without text (shape.length + 10) s.end) place v → WritesTwo text place v
-  two_kept place v le w = kept.digits_kept text (shape.length + 10) s.end some fits 2 place (place + 2) v (omega (arith, le, s.near)) w refl
-
-  number_kept : (lane most v : ℕ) (number : Number) → TakesNumber shape.prefix shape.back shape.back_at lane number most → WritesNumber (without text (shape.length + 10) s.end) number v → WritesNumber text number v
-  number_kept lane most v number t w =
-      let last = inside shape.prefix shape.back shape.back_at (lane + 1) number.place 9 t.ones in
-      record {
-        two = λ e. two_kept (number.place - 1) v (omega (arith, last, t.after e)) (w.two e);
-        one = λ e. kept.digits_kept text (shape.length + 10) s.end some fits 1 number.place (number.place + 1) v (omega (arith, last, s.near)) (w.one e) refl;
-      }
-
-  pub year_kept : digits 4 (drop shape.year text) ≡ Some (n.year, drop (shape.year + 4) text)
-  year_kept = kept.digits_kept text (shape.length + 10) s.end some fits 4 shape.year (shape.year + 4) n.year (omega (arith, shape.year_is.fourth.inside, s.near)) s.says.year_is refl
-
-  pub numbers_kept : HasNumbers shape text n.high n.low s.says.names.hour s.says.names.minute n.second
-  numbers_kept =
-      let has = s.says.names.numbers in
-      record {
-        high_is = number_kept 0 5 n.high shape.high shape.high_is has.high_is;
-        low_is = number_kept 2 9 n.low shape.low shape.low_is has.low_is;
-        hour_is = two_kept shape.hour _ (inside_pair _ _ _ _ _ _ shape.hour_is) has.hour_is;
-        minute_is = two_kept shape.minute _ (inside_pair _ _ _ _ _ _ shape.minute_is) has.minute_is;
-        second_is = λ e. two_kept shape.second _ (inside_pair _ _ _ _ _ _ (shape.second_is e)) (has.second_is e);
-        no_second = has.no_second;
-        high_few = has.high_few;
-        low_few = has.low_few;
-        hour_few = has.hour_few;
-        minute_few = has.minute_few;
-        second_few = has.second_few;
-      }
-
-  -- ---- the fraction
-
   left : length (without text (shape.length + 10) s.end) ≡ shape.length + 10 + (length text - s.end)
   left = kept.length_left text (shape.length + 10) s.end some fits
+
+  within : shape.length + 10 ≤ length text
+  within = omega (arith, some, fits)
+
+  there : shape.length + 10 ≤ length (without text (shape.length + 10) s.end)
+  there = omega (arith, left)
+
+  same : take (shape.length + 10) (without text (shape.length + 10) s.end) ≡ take (shape.length + 10) text
+  same = kept.before text (shape.length + 10) s.end some fits
+
+  -- ---- before the fraction
+
+  pub shape_kept : HasShape shape text
+  shape_kept = has_shape shape text (without text (shape.length + 10) s.end) (shape.length + 10) within there same s.near n s.says
+
+  pub year_kept : digits 4 (drop shape.year text) ≡ Some (n.year, drop (shape.year + 4) text)
+  year_kept = year_is shape text (without text (shape.length + 10) s.end) (shape.length + 10) within there same s.near n s.says
+
+  pub numbers_kept : HasNumbers shape text n.high n.low s.says.names.hour s.says.names.minute n.second
+  numbers_kept = has_numbers shape text (without text (shape.length + 10) s.end) (shape.length + 10) within there same s.near n s.says
+
+  -- ---- the fraction
 
   pub after_kept : drop (shape.length + 10) (without text (shape.length + 10) s.end) ≡ drop s.end text
   after_kept = kept.after text (shape.length + 10) s.end some fits
@@ -132,26 +82,24 @@ module _ (shape : Shape) (text : List ℕ) (n : Numbers) (s : SaysShortened shap
   ]
 
   pub point_kept : get_or text shape.length 0 ≡ 46
-  point_kept = sym (kept.same_byte text (shape.length + 10) s.end some fits shape.length (omega arith)) ∙ s.says.names.fraction_is.point (omega (arith, count_kept))
+  point_kept = sym (kept.same_byte text (without text (shape.length + 10) s.end) (shape.length + 10) within there same shape.length (omega arith)) ∙ s.says.names.fraction_is.point (omega (arith, count_kept))
 
-  nine_kept : take 9 (drop (shape.length + 1) (without text (shape.length + 10) s.end)) ≡ take 9 (drop (shape.length + 1) text)
-  nine_kept = kept.same_part text (shape.length + 10) s.end some fits (shape.length + 1) 9 (omega arith)
-
-  written : WriteFraction (drop (shape.length + 1) (without text (shape.length + 10) s.end)) 9 n.fraction
+  -- the nine digits that are left
+  written : WriteFraction (drop (shape.length + 1) text) 9 n.fraction
   written =
       let from : s.says.names.end - s.says.names.count ≡ shape.length + 1 = omega (arith, end_kept, count_kept) in
-      rw (from, count_kept) at s.says.names.fraction_is.writes
+      kept.written_kept text (without text (shape.length + 10) s.end) (shape.length + 10) within there same (shape.length + 1) 9 n.fraction (omega arith) (rw (from, count_kept) at s.says.names.fraction_is.writes)
 
   nine_there : 9 ≤ digit_count (drop (shape.length + 1) text)
-  nine_there = kept.same_count 9 _ (drop (shape.length + 1) text) (omega (arith, length-drop (shape.length + 1) (without text (shape.length + 10) s.end), left)) (omega (arith, length-drop (shape.length + 1) text, some, fits)) nine_kept written.enough
+  nine_there = written.enough
 
   nine_value : n.fraction ≡ digits_value 10 (take 9 (drop (shape.length + 1) text))
   nine_value =
       let first = take 9 (drop (shape.length + 1) text) in
       let few : length first ≡ 9 = length-take-le 9 (drop (shape.length + 1) text) (omega (arith, length-drop (shape.length + 1) text, s.more, fits)) in
       let short = short_fraction first (omega (arith, few)) in
-      let same : nanoseconds_of first ≡ digits_value 10 first = sym short ∙ rw few (omega arith) in
-      written.value ∙ ap nanoseconds_of nine_kept ∙ same
+      let all : nanoseconds_of first ≡ digits_value 10 first = sym short ∙ rw few (omega arith) in
+      written.value ∙ all
 
   -- the first nine digits are the fraction
   pub nine_read : digits 9 (drop (shape.length + 1) text) ≡ Some (n.fraction, drop 9 (drop (shape.length + 1) text))

@@ -47,11 +47,6 @@ pub fields_read : (f : Fields) (b0 b1 b2 b3 b4 : List ℕ) (d t : ℕ × ℕ × 
 fields_read f b0 b1 b2 b3 b4 d t fraction o in_date between in_clock in_subsecond in_offset numbers hour minute bound =
     rw (← moment_is f, numbers.same_offset) (moment_read b0 b1 b2 b3 b4 d t fraction (pos 60 *ℤ o) (day_of_fields f) (time_of_fields f) in_date between in_clock in_subsecond in_offset (fields_date f _ _ _ _ _ _ _ numbers) (fields_time f _ _ _ _ _ _ _ _ numbers hour minute bound))
 
--- the same of fields that have the numbers of all that is said
-pub parts_read : (f : Fields) (input : List ℕ) (w : Rfc3339Parts) (o : ℤ) → rfc3339 false input ≡ Ok (w, []) → signed_offset_of w.zone.is_negative w.zone.hours w.zone.minutes ≡ Ok (pos 60 *ℤ o) → HaveNumbers f w.year w.month w.day (w.hour * 60 + w.minute) w.second (unwrap_or w.subsecond 0) o → w.hour ≤ 23 → w.minute ≤ 59 → unwrap_or w.subsecond 0 < 1_000_000_000 → direct input ≡ Ok (Moment.moment_of f)
-parts_read f input w o read in_zone have hour minute bound =
-    rw (← moment_is f, have.same_offset) (all_resolved input w (pos 60 *ℤ o) (day_of_fields f) (time_of_fields f) read in_zone (fields_date f _ _ _ _ _ _ _ have) (fields_time f _ _ _ _ _ _ _ _ have hour minute bound))
-
 -- `05:30`, and nothing after it
 pub record AreHoursAndMinutes (bytes : List ℕ) (hours minutes : ℕ) : Type 0 where
   pub hour_digits : digits 2 bytes ≡ Some (hours, drop 2 bytes)

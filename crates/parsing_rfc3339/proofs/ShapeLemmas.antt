@@ -1,9 +1,9 @@
 -- A text that has the shape is read by the direct reading.
-use Rattle.std.proofs.Common.{◌≡◌, ◌≤◌, ◌<◌, ◌+◌, ◌-◌, ◌*◌, ◌∙◌, ℕ, true, false, List, [], length, get_or, drop, Some, Ok, inl, inr, refl, arith, lit<}
-use Rattle.std.specs.Prelude.{◌==◌, ◌||◌, nat_lt, ℤ}
+use Rattle.std.proofs.Common.{◌≡◌, ◌≤◌, ◌<◌, ◌+◌, ◌-◌, ◌*◌, ◌∙◌, ℕ, true, false, List, [], length, get_or, take, drop, set, Some, Ok, pos, get_or-set_same, inl, inr, refl, arith, lit<}
+use Rattle.std.specs.Prelude.{◌==◌, ◌||◌, nat_lt, ℤ, ◌*ℤ◌}
 use Rattle.std.proofs.lemmas.Bool.{cases_lt}
 use Rattle.std.proofs.lemmas.Bool.Decides.{nat_tests}
-use Rattle.std.proofs.lemmas.List.{drop_more, drop-drop, drop_all}
+use Rattle.std.proofs.lemmas.List.{drop_more, drop-drop, drop_all, length-set, take-set}
 use Rattle.base.specs.Bytes.{hyphen, plus, colon, upper_z, lower_z}
 use Rattle.parsing_combinator.specs.Pieces.{digits, byte, any_byte, skip_of}
 use Rattle.parsing_combinator.proofs.AtPlaces.{byte_there}
@@ -16,6 +16,9 @@ use Rattle.parsing_places.specs.Says.{Says}
 use Rattle.parsing_places.specs.declared.numbers.Numbers.{Numbers}
 use Rattle.parsing_places.specs.declared.shape.Shape.{Shape}
 use Rattle.parsing_fractions.specs.Shortened.{without, SaysShortened}
+use Rattle.parsing_fractions.proofs.KeptLemmas.{same_byte, written_kept}
+use Rattle.parsing_fractions.proofs.NumberLemmas.{last_digit, has_shape, year_is, has_numbers}
+use Rattle.parsing_values.specs.Resolution.{signed_offset_of}
 use Rattle.parsing_fractions.proofs.LongLemmas.{shape_kept, year_kept, numbers_kept, after_kept, end_kept, point_kept, fraction_kept}
 use Rattle.parsing_fields.specs.Numbers.{HaveNumbers}
 use Rattle.parsing_places.proofs.YearLemmas.{byte_in}
@@ -149,3 +152,37 @@ long_directly shape text said f small x have s =
     let point = rw x.long at (point_kept shape text said s) in
     let fraction = fraction_there text 19 s.end (Some said.fraction) (omega (arith, x.long, s.more, s.within)) (omega (arith, x.long, s.more)) point follows written in
     read_at_places shape text said f small x have says.hour says.minute (drop s.end text) (shape_kept shape text said s) (year_kept shape text said s) (numbers_kept shape text said s) says.hour_few says.minutes_are fraction all says.fraction_few
+
+zulu_small : (b : ℕ) → b ≡ lower_z → ((b == upper_z) || (b == lower_z)) ≡ true
+zulu_small b e = rw e refl
+
+-- a text with a small `z`, by the same text with a big one
+pub small_directly : (shape : Shape) (text : List ℕ) (f : Fields) → ((k : ℕ) → get_or text k 0 < 256) → IsShape shape → get_or text (length text - 1) 0 ≡ lower_z → 20 ≤ length text → Says shape (set text (length text - 1) upper_z) f → direct text ≡ Ok (Moment.moment_of f)
+small_directly shape text f small x last long h =
+    let kept = length text - 1 in
+    let short = set text kept upper_z in
+    let says = h.says.names in
+    let size : length short ≡ length text = length-set text kept upper_z in
+    let within : kept ≤ length text = omega arith in
+    let there : kept ≤ length short = omega (arith, size) in
+    let same : take kept short ≡ take kept text = take-set text kept upper_z in
+    let near : shape.back_at + 16 ≤ kept = omega (arith, x.back_is) in
+    let big : get_or short (length short - 1) 0 ≡ upper_z = rw size (get_or-set_same text kept upper_z 0 (omega arith)) in
+    let offset_there : SaysOffset 1 short says.end h.said.offset = rw x.colon_there at says.offset_is in
+    let zulu : (says.end ≡ kept) × (signed_offset_of false 0 0 ≡ Ok (pos 60 *ℤ h.said.offset)) = elim offset_there [
+      | inl z ↦ (omega (arith, z.whole, size), z.value)
+      | inr g ↦ absurd (last_digit 1 short says.end h.said.offset g big)
+    ] in
+    let byte : get_or text says.end 0 ≡ lower_z = rw zulu.0 last in
+    let ends = says.fraction_is in
+    let follows = zulu_follows text says.end (omega (arith, zulu.0)) (zulu_small _ byte) in
+    let fraction : HasFraction text shape.length says.end says.count h.said.fraction = record {
+      writes = written_kept text short kept within there same (says.end - says.count) says.count h.said.fraction (omega (arith, zulu.0, ends.room, ends.few, size)) ends.writes;
+      none = ends.none;
+      some = ends.some;
+      point = λ some. rw (same_byte text short kept within there same shape.length (omega (arith, ends.some some, zulu.0))) at (ends.point some);
+      room = omega (arith, ends.room, size);
+      few = ends.few;
+    } in
+    read_at_places shape text h.said f small x h.numbers says.hour says.minute (drop says.end text) (has_shape shape text short kept within there same near h.said h.says) (year_is shape text short kept within there same near h.said h.says) (has_numbers shape text short kept within there same near h.said h.says) says.hour_few says.minutes_are (fraction_said text 19 says.end says.count h.said.fraction (rw x.long at fraction) follows)
+    (zulu_zone, zulu_there text says.end (omega (arith, zulu.0)) (omega (arith, zulu.0)) (zulu_small _ byte), zulu.1) says.fraction_few

@@ -1,5 +1,6 @@
 //! The moment that a text names.
-ghost use Rattle.std.specs.Prelude.{◌≡◌, ◌<◌, false, codes, Err, IfErr, IfSome, Ok};
+ghost use Rattle.std.specs.Prelude.{◌≡◌, ◌<◌, ◌-◌, false, codes, Err, IfErr, IfSome, Ok, get_or, length};
+ghost use Rattle.base.specs.Bytes.{lower_z};
 ghost use Rattle.parsing_combinator.specs.Fault.{component};
 ghost use Rattle.parsing_combinator.specs.FaultOf.{Gives, fault_of};
 ghost use Rattle.parsing_combinator.specs.ShortName.{HasShortName};
@@ -8,7 +9,6 @@ ghost use Rattle.parsing_combinator.specs.Readings.{value_read};
 ghost use Rattle.parsing_fields.specs.Moment as Moment;
 
 use crate::parts::Rfc3339Parts;
-use crate::pieces::read_by_pieces;
 use crate::reading::parse_prefix;
 use crate::shape::shape;
 use parsing_combinator::{Parse, ParseFromDescription, four_digits};
@@ -40,6 +40,9 @@ fn resolved(parts: Rfc3339Parts, rest: &[u8]) -> Result<OffsetDateTime, Parse>
 // The bytes of a text without a fraction, in UTC: no text has fewer.
 const SHORTEST: usize = 20;
 
+// The bytes of a text with nine digits of a fraction, in UTC.
+const LONGEST_IN_UTC: usize = 30;
+
 /// The fields of a text with at most nine digits of a fraction, and a big `Z` or an offset in digits, where its numbers are in
 /// range and its second is no leap second: `None` says nothing of the text.
 #[inline(always)]
@@ -64,13 +67,29 @@ fn read_long_fields(input: &[u8]) -> Option<Fields>
     Some(fields)
 }
 
+// The fields of a text with a small `z` and at most nine digits of a fraction: those of the same text with a big one.
+#[inline(always)]
+fn read_small_zulu(input: &[u8]) -> Option<Fields>
+    requires { get_or input.now (length input.now - 1) 0 ≡ lower_z }
+    ensures { IfSome result (λ fields. direct input.now ≡ Ok (Moment.moment_of fields)) }
+{
+    if input.len() < SHORTEST || input.len() > LONGEST_IN_UTC {
+        return None;
+    }
+    let mut text = [0; LONGEST_IN_UTC];
+    text[..input.len()].copy_from_slice(input);
+    text[input.len() - 1] = b'Z';
+    let fields = read(&shape(), &text[..input.len()])?;
+    Some(fields)
+}
+
 /// The fields of a text with more digits of a fraction, or with a small `z`: `None` says nothing of the text.
 #[inline(always)]
 pub fn read_rare_fields(input: &[u8]) -> Option<Fields>
     ensures { IfSome result (λ fields. direct input.now ≡ Ok (Moment.moment_of fields)) }
 {
     match input {
-        [.., b'z'] => read_by_pieces(input),
+        [.., b'z'] => read_small_zulu(input),
         _ => read_long_fields(input),
     }
 }

@@ -4,7 +4,6 @@
 mod direct;
 pub mod laws;
 mod parts;
-mod pieces;
 mod reading;
 mod shape;
 
