@@ -3,6 +3,7 @@ ghost use Rattle.std.specs.Prelude.{◌≡◌, ◌-◌, ◌<◌, ◌≤◌, ◌+
 ghost use Rattle.std.specs.Io.KnownBytes.{Keeps};
 ghost use Rattle.instants_stream.specs.Answers.{by_answers, output};
 ghost use Rattle.instants_stream.specs.Ran.{Ran};
+ghost use Rattle.instants_timeline.specs.FirstNamed.{IsLedByPlan};
 ghost use Rattle.instants_timeline.specs.Place.{answer_to};
 ghost use Rattle.instants_timeline.specs.Settings.{setting_of};
 
@@ -60,42 +61,51 @@ pub(crate) fn answer_lines<R: ByteReader, W: ByteWriter>(
         Source::Rfc2822 => run_by(Rfc2822Way, timeline, limit, buffer, reader, writer),
         Source::Iso8601 => run_by(Iso8601Way, timeline, limit, buffer, reader, writer),
         described => match described.plan() {
-            Some(Plan::Places(places)) => match places.plain() {
-                Some(plain) => run_by(
-                    PlainWay::new(plain),
-                    timeline,
-                    limit,
-                    buffer,
-                    reader,
-                    writer,
-                ),
-                None => run_by(
-                    PlacesWay::new(places),
-                    timeline,
-                    limit,
-                    buffer,
-                    reader,
-                    writer,
-                ),
-            },
-            Some(Plan::Unix(unix)) => run_by(
-                UnixWay::new(unix),
-                timeline,
-                limit,
-                buffer,
-                reader,
-                writer,
-            ),
-            Some(plan) => run_by(
-                PlannedWay::new(plan),
-                timeline,
-                limit,
-                buffer,
-                reader,
-                writer,
-            ),
+            Some(plan) => run_planned(plan, timeline, limit, buffer, reader, writer),
             None => run_by(ExactWay, timeline, limit, buffer, reader, writer),
         },
+    }
+}
+
+// The same for a description that has a plan.
+#[inline(always)]
+fn run_planned<R: ByteReader, W: ByteWriter>(
+    plan: &Plan,
+    timeline: &Timeline,
+    limit: usize,
+    buffer: &mut [u8],
+    reader: &mut R,
+    writer: &mut W,
+) -> Result<(), RunFault>
+    requires led { ∥ IsLedByPlan (setting_of timeline.now) plan.now ∥₁ }
+    requires room { limit < length buffer.old }
+    requires reader { R.failed reader.old ≡ false }
+    requires writer { W.failed writer.old ≡ false }
+    ensures ran { Ran (by_answers (answer_to (setting_of timeline.now)) limit)
+        R.ByteReader reader.old reader.new W.ByteWriter writer.old writer.new result }
+    // Before the read that failed all was handed on.
+    ensures handed_on { result ≡ Err RunFault.Read
+        → Keeps (W.held writer.new) (W.handed_on writer.new) }
+{
+    match plan {
+        Plan::Places(places) => match places.plain() {
+            Some(plain) => {
+                let way = PlainWay::new(plain);
+                run_by(way, timeline, limit, buffer, reader, writer)
+            }
+            None => {
+                let way = PlacesWay::new(places);
+                run_by(way, timeline, limit, buffer, reader, writer)
+            }
+        },
+        Plan::Unix(unix) => {
+            let way = UnixWay::new(unix);
+            run_by(way, timeline, limit, buffer, reader, writer)
+        }
+        Plan::Steps(_) => {
+            let way = PlannedWay::new(plan);
+            run_by(way, timeline, limit, buffer, reader, writer)
+        }
     }
 }
 
