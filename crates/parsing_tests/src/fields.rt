@@ -275,7 +275,8 @@ fn by_steps(alloc: Global, line: &[u8], longer: &[u8]) -> [Option<(i64, u32)>; 2
 
 // What the plan of a description with an optional fraction reads of a line.
 fn planned_by_option(alloc: Global, line: &[u8]) -> Option<(i64, u32)> {
-    let text = "[day padding:none].[month padding:none].[year] [hour]:[minute]:[second][optional [.[subsecond]]]";
+    let text =
+        "[day padding:none].[month padding:none].[year] [hour]:[minute]:[second][optional [.[subsecond]]]";
     let Description::V3(tree) = parse_borrowed(alloc, DescriptionVersion::Three, text).ok()? else {
         return None;
     };
@@ -290,7 +291,11 @@ fn steps(rt: HostRuntime) {
         b"02 January 2021 02:04:05 AM and more",
     );
     assert!(rt; night == [WHOLE, WHOLE]);
-    let noon = by_steps(rt.alloc(), b"01 January 1970 12:00:01 PM", b"01 January 1970");
+    let noon = by_steps(
+        rt.alloc(),
+        b"01 January 1970 12:00:01 PM",
+        b"01 January 1970",
+    );
     assert!(rt; noon == [Some((43_201, 0)), None]);
     assert!(rt; planned_by_option(rt.alloc(), b"2.1.2021 02:04:05") == WHOLE);
     assert!(rt; planned_by_option(rt.alloc(), b"2.1.2021 02:04:05.5") == HALF);
