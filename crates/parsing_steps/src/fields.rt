@@ -89,10 +89,10 @@ impl Found {
         ensures { IfSome result
             (λ f. moment_named (record_of assumed self.now) ≡ Ok (moment_of f)) }
     {
-        match self.unix {
-            Some(second) => self.unix_fields(second),
-            None => self.dated_fields(assumed),
+        if let Some(second) = self.unix {
+            return self.unix_fields(second);
         }
+        self.dated_fields(assumed)
     }
 
     // The fields of a date, a time of day and an offset.

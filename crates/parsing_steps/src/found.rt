@@ -12,23 +12,24 @@ pub(crate) const UNREAD: u8 = 255;
 #[derive(Clone, Copy)]
 pub(crate) struct Found {
     pub(crate) year: Option<Year>,
+    pub(crate) fraction: Option<Fraction>,
+    /// The seconds since 1970.
+    pub(crate) unix: Option<u64>,
+    pub(crate) weekday: Option<Weekday>,
+    pub(crate) is_afternoon: Option<bool>,
+    /// Whether the offset is after a minus.
+    pub(crate) is_behind: bool,
+    // (Bytes of one value are stored at once where they lie side by side.)
     /// 0 where it was not read.
     pub(crate) month: u8,
-    pub(crate) weekday: Option<Weekday>,
     pub(crate) day: u8,
     pub(crate) hour: u8,
     /// The hour of half a day.
     pub(crate) hour_12: u8,
-    pub(crate) is_afternoon: Option<bool>,
     pub(crate) minute: u8,
     pub(crate) second: u8,
-    pub(crate) fraction: Option<Fraction>,
-    /// Whether the offset is after a minus.
-    pub(crate) is_behind: bool,
     pub(crate) offset_hour: u8,
     pub(crate) offset_minute: u8,
-    /// The seconds since 1970.
-    pub(crate) unix: Option<u64>,
     ghost month_is: { month ≤ 12 },
     ghost hour_is: { hour ≢ 255 → hour ≤ 23 },
     ghost hour_12_is: { hour_12 ≢ 255 → hour_12 ≤ 12 },

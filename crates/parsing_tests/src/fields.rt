@@ -273,10 +273,14 @@ fn by_steps(alloc: Global, line: &[u8], longer: &[u8]) -> [Option<(i64, u32)>; 2
     ]
 }
 
-// What the plan of a description with an optional fraction reads of a line.
-fn planned_by_option(alloc: Global, line: &[u8]) -> Option<(i64, u32)> {
-    let text =
-        "[day padding:none].[month padding:none].[year] [hour]:[minute]:[second][optional [.[subsecond]]]";
+// A number without zeros, and a fraction that may be missing.
+const OPTIONAL: &str =
+    "[day padding:none].[month padding:none].[year] [hour]:[minute]:[second][optional [.[subsecond]]]";
+
+const UNIX: &str = "[unix_timestamp].[subsecond]";
+
+// What the plan of a description without places reads of a line.
+fn planned_by_steps(alloc: Global, text: &str, line: &[u8]) -> Option<(i64, u32)> {
     let Description::V3(tree) = parse_borrowed(alloc, DescriptionVersion::Three, text).ok()? else {
         return None;
     };
@@ -297,6 +301,7 @@ fn steps(rt: HostRuntime) {
         b"01 January 1970",
     );
     assert!(rt; noon == [Some((43_201, 0)), None]);
-    assert!(rt; planned_by_option(rt.alloc(), b"2.1.2021 02:04:05") == WHOLE);
-    assert!(rt; planned_by_option(rt.alloc(), b"2.1.2021 02:04:05.5") == HALF);
+    assert!(rt; planned_by_steps(rt.alloc(), OPTIONAL, b"2.1.2021 02:04:05") == WHOLE);
+    assert!(rt; planned_by_steps(rt.alloc(), OPTIONAL, b"2.1.2021 02:04:05.5") == HALF);
+    assert!(rt; planned_by_steps(rt.alloc(), UNIX, b"1609553045.5") == HALF);
 }
