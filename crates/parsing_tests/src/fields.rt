@@ -237,6 +237,16 @@ fn planned_by_items(alloc: Global, line: &[u8]) -> Option<(i64, u32)> {
     instant(Plan::of_items(&items)?.read(line, None))
 }
 
+// The same by its places, where they are plain, or by Unix time alone.
+fn planned_alone(alloc: Global, text: &str, line: &[u8]) -> Option<(i64, u32)> {
+    let items = parse_strftime_borrowed(alloc, text).ok()?;
+    match Plan::of_items(&items)? {
+        Plan::Places(places) => instant(places.plain()?.read(line, None)),
+        Plan::Unix(unix) => instant(unix.read_within(line)),
+        Plan::Steps(_) => None,
+    }
+}
+
 // What the plan of a description of version 3 reads of a line.
 fn planned_by_tree(alloc: Global, line: &[u8]) -> Option<(i64, u32)> {
     let text = "[year]-[month]-[day] [hour]:[minute]:[second] UTC";
@@ -250,6 +260,13 @@ fn planned_by_tree(alloc: Global, line: &[u8]) -> Option<(i64, u32)> {
 fn plans(rt: HostRuntime) {
     assert!(rt; planned_by_items(rt.alloc(), b"02/Jan/2021:03:04:05 +0100") == WHOLE);
     assert!(rt; planned_by_tree(rt.alloc(), b"2021-01-02 02:04:05 UTC") == WHOLE);
+    let log = planned_alone(
+        rt.alloc(),
+        "%d/%b/%Y:%H:%M:%S %z",
+        b"02/Jan/2021:03:04:05 +0100",
+    );
+    assert!(rt; log == WHOLE);
+    assert!(rt; planned_alone(rt.alloc(), "%s", b"1609553045") == WHOLE);
 }
 
 // The steps of a strftime description.
