@@ -149,13 +149,13 @@ fn planned(alloc: Global, text: &str, line: &[u8]) -> Option<(Option<i64>, Optio
     }
 }
 
-const LOG: &str = "%d/%b/%Y:%H:%M:%S %z";
+const WEB_SERVER: &str = "%d/%b/%Y:%H:%M:%S %z";
 
 #[test]
 fn plans(rt: HostRuntime) {
-    let log = planned(rt.alloc(), LOG, b"01/Jan/1970:00:00:01 +0000");
+    let log = planned(rt.alloc(), WEB_SERVER, b"01/Jan/1970:00:00:01 +0000");
     assert!(rt; log == Some((Some(1), Some(1))));
-    let plain = planned_plainly(rt.alloc(), LOG, b"01/Jan/1970:00:00:01 +0000");
+    let plain = planned_plainly(rt.alloc(), WEB_SERVER, b"01/Jan/1970:00:00:01 +0000");
     assert!(rt; plain == Some(1));
     let unix = planned(rt.alloc(), "%s", b"1000000000");
     assert!(rt; unix == Some((Some(1_000_000_000), Some(1_000_000_000))));
