@@ -91,7 +91,8 @@ fn finder(rt: HostRuntime) -> Result<(), Fail> {
 // What is found at once in a line, and where it begins to be looked for.
 #[test]
 fn plain_date(rt: HostRuntime) -> Result<(), Fail> {
-    let mut sources = sources(rt.alloc())?;
+    let mut sources = Vec::new(rt.alloc());
+    sources.push(Source::Rfc3339)?;
     if let Ok(source) = Source::new(rt.alloc(), SourceText::Strftime("%d/%b/%Y:%T %z")) {
         sources.push(source)?;
     }

@@ -43,18 +43,19 @@ no_years : (p : DateParts) → year_of p.year ≡ None → year_of p.iso_year �
 unfolding named_date by_ordinal by_day by_iso_week by_sunday_week by_monday_week
 no_years p year iso = rw (year, iso) refl
 
+-- what holds where nothing is there and where something is
+either_way : {A : Type 0} {P : Type 0} (o : Option A) → (o ≡ None → P) → ((x : A) → o ≡ Some x → P) → P
+either_way None none some = none refl
+either_way (Some x) none some = some x refl
+
 by_no_ordinal : (p : DateParts) → p.ordinal ≡ None → by_ordinal p ≡ None
 unfolding by_ordinal
-by_no_ordinal p e = elim (year_of p.year) as (λ o. year_of p.year ≡ o → by_ordinal p ≡ None) [ None ↦ λ y. rw y refl | Some year ↦ λ y. rw (y, e) refl ] refl
+by_no_ordinal p e = either_way (year_of p.year) (λ y. rw y refl) (λ year y. rw (y, e) refl)
 
 by_no_day : (p : DateParts) → (p.month ≡ None) ⊎ (p.day ≡ None) → by_day p ≡ None
 unfolding by_day
-by_no_day p (inl month) = elim (year_of p.year) as (λ o. year_of p.year ≡ o → by_day p ≡ None) [ None ↦ λ y. rw y refl | Some year ↦ λ y. rw (y, month) refl ] refl
-by_no_day p (inr day) =
-    elim (year_of p.year) as (λ o. year_of p.year ≡ o → by_day p ≡ None) [
-      | None ↦ λ y. rw y refl
-      | Some year ↦ λ y. elim p.month as (λ o. p.month ≡ o → by_day p ≡ None) [ None ↦ λ m. rw (y, m) refl | Some month ↦ λ m. rw (y, m, day) refl ] refl
-    ] refl
+by_no_day p (inl month) = either_way (year_of p.year) (λ y. rw y refl) (λ year y. rw (y, month) refl)
+by_no_day p (inr day) = either_way (year_of p.year) (λ y. rw y refl) (λ year y. either_way p.month (λ m. rw (y, m) refl) (λ month m. rw (y, m, day) refl))
 
 -- no week, or no weekday
 abbrev HasNoWeek : DateParts → Type 0
@@ -62,30 +63,18 @@ HasNoWeek p = ((p.iso_week ≡ None) × (p.sunday_week ≡ None) × (p.monday_we
 
 by_no_iso : (p : DateParts) → HasNoWeek p → by_iso_week p ≡ None
 unfolding by_iso_week
-by_no_iso p (inl week) = elim (year_of p.iso_year) as (λ o. year_of p.iso_year ≡ o → by_iso_week p ≡ None) [ None ↦ λ y. rw y refl | Some year ↦ λ y. rw (y, week.0) refl ] refl
-by_no_iso p (inr day) =
-    elim (year_of p.iso_year) as (λ o. year_of p.iso_year ≡ o → by_iso_week p ≡ None) [
-      | None ↦ λ y. rw y refl
-      | Some year ↦ λ y. elim p.iso_week as (λ o. p.iso_week ≡ o → by_iso_week p ≡ None) [ None ↦ λ w. rw (y, w) refl | Some week ↦ λ w. rw (y, w, day) refl ] refl
-    ] refl
+by_no_iso p (inl week) = either_way (year_of p.iso_year) (λ y. rw y refl) (λ year y. rw (y, week.0) refl)
+by_no_iso p (inr day) = either_way (year_of p.iso_year) (λ y. rw y refl) (λ year y. either_way p.iso_week (λ w. rw (y, w) refl) (λ week w. rw (y, w, day) refl))
 
 by_no_sunday : (p : DateParts) → HasNoWeek p → by_sunday_week p ≡ None
 unfolding by_sunday_week
-by_no_sunday p (inl week) = elim (year_of p.year) as (λ o. year_of p.year ≡ o → by_sunday_week p ≡ None) [ None ↦ λ y. rw y refl | Some year ↦ λ y. rw (y, week.1) refl ] refl
-by_no_sunday p (inr day) =
-    elim (year_of p.year) as (λ o. year_of p.year ≡ o → by_sunday_week p ≡ None) [
-      | None ↦ λ y. rw y refl
-      | Some year ↦ λ y. elim p.sunday_week as (λ o. p.sunday_week ≡ o → by_sunday_week p ≡ None) [ None ↦ λ w. rw (y, w) refl | Some week ↦ λ w. rw (y, w, day) refl ] refl
-    ] refl
+by_no_sunday p (inl week) = either_way (year_of p.year) (λ y. rw y refl) (λ year y. rw (y, week.1) refl)
+by_no_sunday p (inr day) = either_way (year_of p.year) (λ y. rw y refl) (λ year y. either_way p.sunday_week (λ w. rw (y, w) refl) (λ week w. rw (y, w, day) refl))
 
 by_no_monday : (p : DateParts) → HasNoWeek p → by_monday_week p ≡ None
 unfolding by_monday_week
-by_no_monday p (inl week) = elim (year_of p.year) as (λ o. year_of p.year ≡ o → by_monday_week p ≡ None) [ None ↦ λ y. rw y refl | Some year ↦ λ y. rw (y, week.2) refl ] refl
-by_no_monday p (inr day) =
-    elim (year_of p.year) as (λ o. year_of p.year ≡ o → by_monday_week p ≡ None) [
-      | None ↦ λ y. rw y refl
-      | Some year ↦ λ y. elim p.monday_week as (λ o. p.monday_week ≡ o → by_monday_week p ≡ None) [ None ↦ λ w. rw (y, w) refl | Some week ↦ λ w. rw (y, w, day) refl ] refl
-    ] refl
+by_no_monday p (inl week) = either_way (year_of p.year) (λ y. rw y refl) (λ year y. rw (y, week.2) refl)
+by_no_monday p (inr day) = either_way (year_of p.year) (λ y. rw y refl) (λ year y. either_way p.monday_week (λ w. rw (y, w) refl) (λ week w. rw (y, w, day) refl))
 
 no_days : (p : DateParts) → p.ordinal ≡ None → (p.month ≡ None) ⊎ (p.day ≡ None) → HasNoWeek p → named_date p ≡ Err insufficient
 unfolding named_date
