@@ -137,7 +137,8 @@ def is_alike(programs, words, lines, folder):
         with lines.open("rb") as read, output.open("wb") as written:
             ends.append(subprocess.run([program, *words], stdin=read, stdout=written, check=False).returncode)
     same = subprocess.run(["cmp", "-s", *outputs], check=False).returncode == 0
-    if same and ends[0] == ends[1] == 0:
+    # (2: the words are refused, by both)
+    if same and ends[0] == ends[1] and ends[0] in (0, 2):
         return True
     print(f"{' '.join(words)}: statuses {ends}", *first_difference(lines, *outputs), sep="\n    ")
     return False
