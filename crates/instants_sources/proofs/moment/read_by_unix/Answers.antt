@@ -6,4 +6,4 @@ use Rattle.instants_sources.proofs.moment.read_by_unix.Goals as goal
 pub returns : goal.returns
 returns c grammar is =
     let unix = c.args.unix.now in
-    planned_named grammar (plan.Unix unix) c.args.line.now c.args.assumed c.read_within.result is (λ m defaults of starts. c.read_within.ensures m defaults c.args.assumed (of.1.0 unix refl) starts)
+    planned_named grammar (plan.Unix unix) c.args.line.now c.args.assumed c.read_within.result is (λ m defaults of starts. c.read_within.ensures m defaults c.args.assumed (of.1 unix refl) starts)
