@@ -1,13 +1,14 @@
 -- Lanes of vectors.
 use Rattle.std.proofs.Common.{◌≡◌, ◌≤◌, ◌<◌, ◌+◌, ◌*◌, ◌^◌, ◌/◌, ◌%◌, ◌∙◌, ℕ, zero, suc, Bool, true, false, cond, List, [], ◌∷◌, length, get_or, take, drop, map, refl, sym, ap, arith, w8, lit<, inl, inr}
-use Rattle.std.specs.Prelude.{◌-◌, nat_le, nat_lt, nat_eq, replicate}
+use Rattle.std.specs.Int.Bits.{bit_and}
+use Rattle.std.specs.Prelude.{◌-◌, nat_le, nat_eq, replicate}
 use Rattle.std.proofs.lemmas.Bool.{cases_lt, agree_below_at}
 use Rattle.std.proofs.lemmas.Bool.Decides.{nat_tests}
 use Rattle.std.proofs.lemmas.List.{drop_more, length-drop, length-map, get_or-map}
-use Rattle.std.proofs.lemmas.Simd.{swz_l, get_or-swz_l, get_or_wider, get_or_narrower, below_from_Fits, get_or-zip2, length-zip2, mask_l-mod, get_or-replicate, get_or-sel_l, length-sel_l}
+use Rattle.std.proofs.lemmas.Simd.{swz_l, get_or-swz_l, get_or_wider, get_or_narrower, below_from_Fits, get_or-zip2, length-zip2, mask_l-mod, get_or-replicate}
 use Rattle.parsing_places.specs.Lanes.{are_moves}
 use lib.Dec.{T, ltb}
-use lib.Lanes.{Each1, zip2, mask_l, sel_l, top, dots, number_l, digits_l}
+use lib.Lanes.{Each1, zip2, mask_l, top, dots, number_l, digits_l}
 use mir.Val.{zeroes, Fits}
 use mathlib.Core.Bool.{◌&&◌, ◌||◌}
 use mir.ValLaws.{and_both}
@@ -113,42 +114,28 @@ all_true (true ∷ ms) (suc n) long e zero lt = refl
 all_true (true ∷ ms) (suc n) long e (suc k) lt = all_true ms n (omega (arith, long)) (omega (arith, e)) k (omega (arith, lt))
 all_true (false ∷ ms) (suc n) long e k lt = absurd (omega (arith, e))
 
-abbrev minus : ℕ → ℕ → ℕ
-minus a b = (a + (256 - b)) % 256
+at_most : (a b : ℕ) → nat_le a b ≡ true → a ≤ b
+at_most a b e = grind (arith, nat_tests)
 
-abbrev less : ℕ → ℕ → ℕ
-less a b = cond (nat_lt a b) 255 0
+abbrev pub tests : List ℕ → List ℕ → List ℕ
+tests = zip2 (λ a b. cond (nat_le a b) 255 0)
 
-minus_least : (a b : ℕ) → a < 256 → minus a (cond (top 7 (less a b)) a b) ≡ a - b
-minus_least a b small = elim (cases_lt a b) [
-  | inl lt ↦ let is : nat_lt a b ≡ true = grind (arith, nat_tests, lt) in rw is (omega (arith, lt))
-  | inr le ↦ let is : nat_lt a b ≡ false = grind (arith, nat_tests, le) in rw is (omega (arith, le, small))
-]
+three_true : (p q r : Bool) → top 7 (bit_and (bit_and (cond p 255 0) (cond q 255 0)) (cond r 255 0)) ≡ true → (p ≡ true) × (q ≡ true) × (r ≡ true)
+three_true true true true e = (refl, refl, refl)
+three_true true true false e = absurd cc
+three_true true false true e = absurd cc
+three_true true false false e = absurd cc
+three_true false q true e = absurd cc
+three_true false q false e = absurd cc
 
--- a lane less the lower one of it and another
-pub beyond_lane : (xs ys : List ℕ) (k : ℕ) → length xs ≡ 16 → length ys ≡ 16 → get_or xs k 0 < 256 → k < 16 → get_or (zip2 minus xs (sel_l (map (top 7) (zip2 less xs ys)) xs ys)) k 0 ≡ get_or xs k 0 - get_or ys k 0
-beyond_lane xs ys k n m small lt =
-    let tests : List ℕ = zip2 less xs ys in
-    let bits : List Bool = map (top 7) tests in
-    let tn : length tests ≡ 16 = length-zip2 less xs ys (n ∙ sym m) ∙ n in
-    let bn : length bits ≡ 16 = length-map tests (top 7) ∙ tn in
-    let least : List ℕ = sel_l bits xs ys in
-    let ln : length least ≡ 16 = length-sel_l bits xs ys (bn ∙ sym n) (bn ∙ sym m) ∙ bn in
-    let t : get_or tests k 0 ≡ less (get_or xs k 0) (get_or ys k 0) = get_or-zip2 less xs ys k 0 0 0 (omega (arith, n, lt)) (omega (arith, m, lt)) in
-    let b : get_or bits k false ≡ top 7 (get_or tests k 0) = get_or-map (top 7) tests k 0 false (omega (arith, tn, lt)) in
-    let s : get_or least k 0 ≡ cond (get_or bits k false) (get_or xs k 0) (get_or ys k 0) = get_or-sel_l bits xs ys k 0 (omega (arith, bn, lt)) (omega (arith, n, lt)) (omega (arith, m, lt)) in
-    let z : get_or (zip2 minus xs least) k 0 ≡ minus (get_or xs k 0) (get_or least k 0) = get_or-zip2 minus xs least k 0 0 0 (omega (arith, n, lt)) (omega (arith, ln, lt)) in
-    z ∙ rw (s, b, t) (minus_least (get_or xs k 0) (get_or ys k 0) small)
+abbrev is_at_most : ℕ → ℕ → ℕ
+is_at_most a b = cond (nat_le a b) 255 0
 
-abbrev same : ℕ → ℕ → ℕ
-same a b = cond (nat_eq a b) 255 0
+tests_long : (xs ys : List ℕ) → length xs ≡ 16 → length ys ≡ 16 → length (tests xs ys) ≡ 16
+tests_long xs ys n m = length-zip2 is_at_most xs ys (n ∙ sym m) ∙ n
 
-test_of_top : (test : Bool) → top 7 (cond test 255 0) ≡ true → test ≡ true
-test_of_top true e = refl
-test_of_top false e = absurd cc
-
-zero_of_same : (a : ℕ) → top 7 (same a 0) ≡ true → a ≡ 0
-zero_of_same a e = let is = test_of_top (nat_eq a 0) e in grind (arith, nat_tests, is)
+test_at : (xs ys : List ℕ) (k : ℕ) → length xs ≡ 16 → length ys ≡ 16 → k < 16 → get_or (tests xs ys) k 0 ≡ cond (nat_le (get_or xs k 0) (get_or ys k 0)) 255 0
+test_at xs ys k n m lt = get_or-zip2 is_at_most xs ys k 0 0 0 (omega (arith, n, lt)) (omega (arith, m, lt))
 
 -- where all bits of a mask are set, each lane has its highest one
 every_lane : (zs : List ℕ) (k : ℕ) → length zs ≡ 16 → nat_eq (mask_l (map (top 7) zs) % 18446744073709551616) 65535 ≡ true → k < 16 → top 7 (get_or zs k 0) ≡ true
@@ -160,15 +147,23 @@ every_lane zs k n e lt =
     let whole : mask_l bits + 1 ≡ 2 ^ 16 = omega (arith, same, all) in
     sym (get_or-map (top 7) zs k 0 false (omega (arith, n, lt))) ∙ all_true bits 16 n4 whole k lt
 
-pub zero_lane : (xs : List ℕ) (k : ℕ) → length xs ≡ 16 → nat_eq (mask_l (map (top 7) (zip2 same xs (replicate 16 0))) % 18446744073709551616) 65535 ≡ true → k < 16 → get_or xs k 0 ≡ 0
-zero_lane xs k n e lt =
-    let zeros : List ℕ = replicate 16 0 in
-    let tests : List ℕ = zip2 same xs zeros in
-    let tn : length tests ≡ 16 = length-zip2 same xs zeros n ∙ n in
-    let t : get_or tests k 0 ≡ same (get_or xs k 0) (get_or zeros k 0) = get_or-zip2 same xs zeros k 0 0 0 (omega (arith, n, lt)) lt in
-    let z : get_or zeros k 0 ≡ 0 = get_or-replicate 16 k 0 0 lt in
-    let top_is : top 7 (same (get_or xs k 0) 0) ≡ true = rw (t, z) at (every_lane tests k tn e lt) in
-    zero_of_same (get_or xs k 0) top_is
+pub all_pass_three : (f fh s sh t th : List ℕ) → length f ≡ 16 → length fh ≡ 16 → length s ≡ 16 → length sh ≡ 16 → length t ≡ 16 → length th ≡ 16
+    → nat_eq (mask_l (map (top 7) (zip2 bit_and (zip2 bit_and (tests f fh) (tests s sh)) (tests t th))) % 18446744073709551616) 65535 ≡ true
+    → (k : ℕ) → k < 16 → (get_or f k 0 ≤ get_or fh k 0) × (get_or s k 0 ≤ get_or sh k 0) × (get_or t k 0 ≤ get_or th k 0)
+all_pass_three f fh s sh t th nf nfh ns nsh nt nth e k lt =
+    let one = tests_long f fh nf nfh in
+    let two = tests_long s sh ns nsh in
+    let three = tests_long t th nt nth in
+    let both = zip2 bit_and (tests f fh) (tests s sh) in
+    let nb : length both ≡ 16 = length-zip2 bit_and (tests f fh) (tests s sh) (one ∙ sym two) ∙ one in
+    let na : length (zip2 bit_and both (tests t th)) ≡ 16 = length-zip2 bit_and both (tests t th) (nb ∙ sym three) ∙ nb in
+    let here = every_lane (zip2 bit_and both (tests t th)) k na e lt in
+    let b : get_or both k 0 ≡ bit_and (get_or (tests f fh) k 0) (get_or (tests s sh) k 0) = get_or-zip2 bit_and (tests f fh) (tests s sh) k 0 0 0 (omega (arith, one, lt)) (omega (arith, two, lt)) in
+    let a : get_or (zip2 bit_and both (tests t th)) k 0 ≡ bit_and (get_or both k 0) (get_or (tests t th) k 0) = get_or-zip2 bit_and both (tests t th) k 0 0 0 (omega (arith, nb, lt)) (omega (arith, three, lt)) in
+    let is : get_or (zip2 bit_and both (tests t th)) k 0 ≡ bit_and (bit_and (cond (nat_le (get_or f k 0) (get_or fh k 0)) 255 0) (cond (nat_le (get_or s k 0) (get_or sh k 0)) 255 0)) (cond (nat_le (get_or t k 0) (get_or th k 0)) 255 0) =
+    a ∙ rw (b, test_at f fh k nf nfh lt, test_at s sh k ns nsh lt, test_at t th k nt nth lt) refl in
+    let all = three_true (nat_le (get_or f k 0) (get_or fh k 0)) (nat_le (get_or s k 0) (get_or sh k 0)) (nat_le (get_or t k 0) (get_or th k 0)) (sym (ap (top 7) is) ∙ here) in
+    (at_most _ _ all.0, at_most _ _ all.1, at_most _ _ all.2)
 
 abbrev plus : ℕ → ℕ → ℕ
 plus a b = (a + b) % 256

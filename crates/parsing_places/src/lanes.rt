@@ -26,22 +26,6 @@ pub(crate) fn all_above(bytes: u8x16, low: u8x16) -> u8x16
     bytes - low
 }
 
-// How far each byte lies beyond another, and 0 where it does not.
-#[inline(always)]
-fn all_beyond(bytes: u8x16, high: u8x16) -> u8x16
-    ensures { (k : ℕ) → k < LANES → get_or result k 0 ≡ get_or bytes k 0 - get_or high k 0 }
-{
-    bytes - bytes.simd_min(high)
-}
-
-// Whether all bytes are 0.
-#[inline(always)]
-fn are_zero(bytes: u8x16) -> bool
-    ensures { result ≡ true → (k : ℕ) → k < LANES → get_or bytes k 0 ≡ 0 }
-{
-    bytes.simd_eq(u8x16::splat(0)).all()
-}
-
 /// Whether no byte of three vectors is more than another.
 #[inline(always)]
 pub(crate) fn are_at_most(
@@ -56,11 +40,7 @@ pub(crate) fn are_at_most(
     ensures second { result ≡ true → (k : ℕ) → k < LANES → get_or second k 0 ≤ get_or second_high k 0 }
     ensures third { result ≡ true → (k : ℕ) → k < LANES → get_or third k 0 ≤ get_or third_high k 0 }
 {
-    let two = joined(
-        all_beyond(first, first_high),
-        all_beyond(second, second_high),
-    );
-    are_zero(joined(two, all_beyond(third, third_high)))
+    (first.simd_le(first_high) & second.simd_le(second_high) & third.simd_le(third_high)).all()
 }
 
 // The byte `0` in the first nine lanes.
