@@ -15,7 +15,7 @@ use calendar::UtcOffset;
 use datetime_types::OffsetDateTime;
 use parsing_fields::Fields;
 use parsing_laws::two_roads::{one_road_of_iso8601, two_roads_of_rfc2822, two_roads_of_rfc3339};
-use parsing_plan::{Places, PlainPlaces, Plan, UnixTime};
+use parsing_plan::{Places, Plan, UnixTime};
 
 /// The fields of the moment of a line of RFC 2822, where the fast way finds them, whatever offset is assumed: `None` says
 /// nothing of the line.
@@ -142,15 +142,6 @@ pub fn read_by_places(places: &Places, line: &[u8], assumed: Option<UtcOffset>) 
         (λ fields. named assumed grammar line.now ≡ Ok (moment_of fields)) }
 {
     places.read(line, assumed)
-}
-
-/// The same as `read_by_places`, where the places are plain.
-#[inline(always)]
-pub fn read_by_plain(plain: &PlainPlaces, line: &[u8], assumed: Option<UtcOffset>) -> Option<Fields>
-    ensures { (grammar : Grammar) → IsPlanned grammar (plan.Places plain.now.places.now) → IfSome result
-        (λ fields. named assumed grammar line.now ≡ Ok (moment_of fields)) }
-{
-    plain.read(line, assumed)
 }
 
 /// The fields of the moment of a line of Unix time, where a plan finds them, whatever offset is assumed: `None` says nothing of the

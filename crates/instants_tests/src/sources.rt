@@ -5,8 +5,8 @@ use datetime::OffsetDateTime;
 use instants::SourceText;
 use instants_sources::{
     Source, fast_iso8601, fast_rfc2822, fast_rfc3339, is_no_rfc3339, iso8601_to_minute,
-    other_rfc2822, rare_iso8601, rare_rfc3339, read_by_places, read_by_plain, read_by_plan,
-    read_by_unix, starting, usual_iso8601, usual_rfc2822, usual_rfc3339,
+    other_rfc2822, rare_iso8601, rare_rfc3339, read_by_places, read_by_plan, read_by_unix,
+    starting, usual_iso8601, usual_rfc2822, usual_rfc3339,
 };
 use parsing_fields::Fields;
 use parsing_plan::Plan;
@@ -127,21 +127,6 @@ fn second_by_plan(source: &Source, line: &[u8]) -> Option<(Option<i64>, Option<i
     }
 }
 
-// The same by its places, where they are plain.
-fn second_by_plain(source: &Source, line: &[u8]) -> Option<i64> {
-    match source.plan()? {
-        Plan::Places(places) => second_of(read_by_plain(&places.plain()?, line, None)),
-        Plan::Unix(_) | Plan::Steps(_) => None,
-    }
-}
-
-fn planned_plainly(alloc: Global, text: &str, line: &[u8]) -> Option<i64> {
-    match Source::new(alloc, SourceText::Strftime(text)) {
-        Ok(source) => second_by_plain(&source, line),
-        Err(_) => None,
-    }
-}
-
 fn planned(alloc: Global, text: &str, line: &[u8]) -> Option<(Option<i64>, Option<i64>)> {
     match Source::new(alloc, SourceText::Strftime(text)) {
         Ok(source) => second_by_plan(&source, line),
@@ -155,8 +140,6 @@ const WEB_SERVER: &str = "%d/%b/%Y:%H:%M:%S %z";
 fn plans(rt: HostRuntime) {
     let log = planned(rt.alloc(), WEB_SERVER, b"01/Jan/1970:00:00:01 +0000");
     assert!(rt; log == Some((Some(1), Some(1))));
-    let plain = planned_plainly(rt.alloc(), WEB_SERVER, b"01/Jan/1970:00:00:01 +0000");
-    assert!(rt; plain == Some(1));
     let unix = planned(rt.alloc(), "%s", b"1000000000");
     assert!(rt; unix == Some((Some(1_000_000_000), Some(1_000_000_000))));
 }

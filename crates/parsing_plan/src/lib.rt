@@ -10,5 +10,5 @@ mod sums;
 mod unix;
 mod windows;
 
-pub use plan::{Places, PlainPlaces, Plan};
+pub use plan::{Places, Plan};
 pub use unix::UnixTime;

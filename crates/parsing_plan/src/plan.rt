@@ -1,5 +1,5 @@
 //! Plans of descriptions.
-ghost use Rattle.std.specs.Prelude.{◌≡◌, ◌≤◌, ◌<◌, ◌+◌, true, false, Some, None};
+ghost use Rattle.std.specs.Prelude.{◌≡◌, ◌≤◌, ◌<◌, ◌+◌, true, false, Some};
 ghost use Rattle.std.specs.Option.{ForSome, ForNone};
 ghost use Rattle.parsing_places.specs.Windows.{LetsAt, TakeTwo, TakeOne, SpareTwo, SpareOne};
 ghost use Rattle.parsing_plan.specs.Layout.{HasNoOffset, HasNoClock, IsPrefix, HasRoom};
@@ -87,18 +87,6 @@ pub struct Places {
     pub(crate) back: Option<Back>,
     ghost one_fraction: { ForSome back (λ _. IsPrefix prefix.layout) },
     ghost one_offset: { ForSome back (λ _. SpareOffset prefix.windows) },
-}
-
-/// The places of a description whose lines have sixteen bytes or more, with no weekday, no fraction of a second, and no space in
-/// the place of a zero, as a web server's.
-#[derive(Clone, Copy)]
-pub struct PlainPlaces<'p> {
-    pub(crate) places: &'p Places,
-    ghost no_back: { places.now.back ≡ None },
-    ghost long: { 16 ≤ places.now.prefix.layout.length },
-    ghost no_weekday: { places.now.prefix.layout.weekday ≡ None },
-    ghost no_fraction: { places.now.prefix.layout.subsecond ≡ None },
-    ghost no_space: { places.now.prefix.layout.day_is_spaced ≡ false },
 }
 
 /// How lines of a description are read by places.

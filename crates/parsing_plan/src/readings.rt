@@ -11,7 +11,7 @@ ghost use Rattle.parsing_plan.specs.Windows.{SpareOffset};
 ghost use Rattle.parsing_plan.specs.Beginning.{beginning};
 ghost use Rattle.parsing_plan.specs.Plan.{ArePlacesOf, IsPlanOf, IsSplitOf, NamesPrefix};
 
-use crate::plan::{Back, Places, PlainPlaces, Plan, Prefix};
+use crate::plan::{Back, Places, Plan, Prefix};
 use crate::read::{clock, date, fraction, layout_fields, offset, split_fields};
 use crate::sums::sums_of;
 use calendar::UtcOffset;
@@ -152,43 +152,6 @@ impl Places {
         }
         let fields = layout_fields(&self.prefix, line, assumed)?;
         Some((fields, from(line, length)))
-    }
-}
-
-impl Places {
-    /// These places, where they are plain.
-    pub fn plain(&self) -> Option<PlainPlaces<'_>>
-        ensures { IfSome result (λ plain. plain.places.now ≡ self.now) }
-    {
-        let layout = &self.prefix.layout;
-        if self.back.is_some() || layout.length < LANES || layout.weekday.is_some() {
-            return None;
-        }
-        if layout.subsecond.is_some() || layout.day_is_spaced {
-            return None;
-        }
-        Some(PlainPlaces { places: self })
-    }
-}
-
-impl PlainPlaces<'_> {
-    /// The fields of a line, as `Places::read` finds them. What the tests rule out can't be, so neither they nor what they rule
-    /// out leave any code.
-    #[inline(always)]
-    pub fn read(&self, line: &[u8], assumed: Option<UtcOffset>) -> Option<Fields>
-        ensures { (m : Meaning) (defaults : Option Record) → ArePlacesOf m self.now.places.now
-            → starting defaults ≡ beginning assumed
-            → IfSome result
-            (λ f. names moment_named (whole m defaults line.now) ≡ Ok (moment_of f)) }
-    {
-        let layout = &self.places.prefix.layout;
-        if self.places.back.is_some() || layout.length < LANES || layout.weekday.is_some() {
-            unreachable!();
-        }
-        if layout.subsecond.is_some() || layout.day_is_spaced {
-            unreachable!();
-        }
-        self.places.read(line, assumed)
     }
 }
 

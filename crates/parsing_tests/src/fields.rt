@@ -237,11 +237,11 @@ fn planned_by_items(alloc: Global, line: &[u8]) -> Option<(i64, u32)> {
     instant(Plan::of_items(&items)?.read(line, None))
 }
 
-// The same by its places, where they are plain, or by Unix time alone.
+// The same by its places, or by Unix time alone.
 fn planned_alone(alloc: Global, text: &str, line: &[u8]) -> Option<(i64, u32)> {
     let items = parse_strftime_borrowed(alloc, text).ok()?;
     match Plan::of_items(&items)? {
-        Plan::Places(places) => instant(places.plain()?.read(line, None)),
+        Plan::Places(places) => instant(places.read(line, None)),
         Plan::Unix(unix) => instant(unix.read_within(line)),
         Plan::Steps(_) => None,
     }

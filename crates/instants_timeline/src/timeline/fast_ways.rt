@@ -6,11 +6,11 @@ ghost use Rattle.instants_timeline.specs.Settings.{setting_of};
 use crate::timeline::Timeline;
 use instants_answers::Answer;
 use instants_sources::{
-    is_no_rfc3339, read_by_places, read_by_plain, read_by_plan, read_by_unix, usual_iso8601,
-    usual_rfc2822, usual_rfc3339,
+    is_no_rfc3339, read_by_places, read_by_plan, read_by_unix, usual_iso8601, usual_rfc2822,
+    usual_rfc3339,
 };
 use instants_stream::AnswersLines;
-use parsing_plan::{Places, PlainPlaces, Plan, UnixTime};
+use parsing_plan::{Places, Plan, UnixTime};
 
 /// A way to answer the lines of a timeline, by the kind of its first source. All answer alike: a run over a stream is compiled
 /// once for each, with that source's fast way within it, so that what it holds and the fields of a line stay in registers.
@@ -107,35 +107,6 @@ impl AnswerWay for PlacesWay<'_> {
     #[inline(always)]
     fn write_answer(&self, timeline: &Timeline, line: &[u8], storage: &mut Answer) {
         let planned = read_by_places(self.places, line, timeline.assumed);
-        if !timeline.write_found(planned, storage) {
-            timeline.write_rest(line, storage);
-        }
-    }
-}
-
-/// Where its places are plain, as those of a web server's log.
-#[derive(Drop)]
-pub(crate) struct PlainWay<'p> {
-    plain: PlainPlaces<'p>,
-}
-
-impl<'p> PlainWay<'p> {
-    pub(crate) fn new(plain: PlainPlaces<'p>) -> PlainWay<'p>
-        ensures { result.plain.places.now ≡ plain.entry.places.now }
-    {
-        PlainWay { plain }
-    }
-}
-
-impl AnswerWay for PlainWay<'_> {
-    ghost use Rattle.parsing_plan.specs.declared.plan.Plan.TheVariants as plan;
-    ghost use Rattle.instants_timeline.specs.FirstNamed.{IsLedByPlan};
-
-    ghost leads = { λ way setting. IsLedByPlan setting (plan.Places way.plain.places.now) };
-
-    #[inline(always)]
-    fn write_answer(&self, timeline: &Timeline, line: &[u8], storage: &mut Answer) {
-        let planned = read_by_plain(&self.plain, line, timeline.assumed);
         if !timeline.write_found(planned, storage) {
             timeline.write_rest(line, storage);
         }
