@@ -2,6 +2,7 @@ pub mod MonthLemmas
 pub mod MinuteLemmas
 pub mod TargetLemmas
 pub mod AppendLemmas
+pub mod FillLemmas
 pub mod MovedLemmas
 pub mod Compares
 pub mod Lines

@@ -1,12 +1,13 @@
 -- The text of an offset, with zeros after it.
-use Rattle.std.proofs.Common.{◌≡◌, ℕ, ◌+◌, ◌/◌, ◌%◌, ◌-◌, ◌≤◌, List, [], ◌∷◌, ◌++◌, length, take, drop, replicate, lit≤, Bool, true, false, codes, length-append, refl, ◌∙◌, arith, ℤ, pos}
+use Rattle.std.proofs.Common.{◌≡◌, ℕ, ◌+◌, ◌/◌, ◌%◌, ◌-◌, ◌≤◌, List, [], ◌∷◌, ◌++◌, length, take, drop, replicate, lit≤, Bool, true, false, codes, length-append, refl, ap, ◌∙◌, arith, ℤ, pos}
 use Rattle.std.specs.Prelude.{int_lt, unsigned_abs, if◌then◌else◌}
 use Rattle.std.specs.Ordering.{int_eq}
-use Rattle.std.proofs.lemmas.List.{take_at, drop_at, length-replicate}
+use Rattle.std.proofs.lemmas.List.{take_at, drop_at, length-replicate, take_more_set}
+use Rattle.base.specs.Bytes.{line_feed}
 use Rattle.parsing_fields.proofs.lemmas.Decimals.{decimal_length}
 use Rattle.parsing_fields.specs.Decimal.{decimal}
 use Rattle.instants_answers.specs.Text.{offset_text}
-use Rattle.instants_answers.specs.Padded.{padded_offset, offset_len}
+use Rattle.instants_answers.specs.Padded.{padded_offset, ended_offset, offset_len}
 
 pub zulu : (z : ℤ) → z ≡ pos 0 → (90 ∷ 0 ∷ 0 ∷ 0 ∷ 0 ∷ 0 ∷ 0 ∷ 0 ∷ []) ≡ padded_offset z
 unfolding offset_text
@@ -46,18 +47,25 @@ pub text_len : (z : ℤ) → offset_len z ≡ (if int_eq z (pos 0) then 1 else 6
 unfolding offset_text
 text_len z = by_signs (int_eq z (pos 0)) (int_lt z (pos 0)) (decimal 2 (unsigned_abs z / 3600)) (decimal 2 (unsigned_abs z / 60 % 60)) (decimal_length 2 _) (decimal_length 2 _)
 
-few : (zero : Bool) → (if zero then 1 else 6) ≤ 8
+few : (zero : Bool) → (if zero then 1 else 6) ≤ 6
 few true = lit≤ tt
 few false = lit≤ tt
 
+pub text_small : (z : ℤ) → offset_len z ≤ 6
+text_small z = omega (arith, text_len z, few (int_eq z (pos 0)))
+
 pub text_few : (z : ℤ) → offset_len z ≤ 8
-text_few z = omega (arith, text_len z, few (int_eq z (pos 0)))
+text_few z = omega (arith, text_small z)
 
 pub padded_len : (z : ℤ) → length (padded_offset z) ≡ 8
 padded_len z = length-append (offset_text z) (replicate (8 - offset_len z) 0) ∙ omega (arith, length-replicate {A = ℕ} (8 - offset_len z) 0, text_few z)
 
 pub text_prefix : (z : ℤ) → take (offset_len z) (padded_offset z) ≡ offset_text z
 text_prefix z = take_at (offset_text z) (replicate (8 - offset_len z) 0) (offset_len z) refl
+
+-- the text and a line feed
+pub ended_prefix : (z : ℤ) → take (offset_len z + 1) (ended_offset z) ≡ offset_text z ++ line_feed ∷ []
+ended_prefix z = take_more_set (padded_offset z) (offset_len z) line_feed (omega (arith, padded_len z, text_small z)) ∙ ap (λ l. l ++ line_feed ∷ []) (text_prefix z)
 
 pub text_zeros : (z : ℤ) → drop (offset_len z) (padded_offset z) ≡ replicate (8 - offset_len z) 0
 text_zeros z = drop_at (offset_text z) (replicate (8 - offset_len z) 0) (offset_len z) refl

@@ -1,4 +1,5 @@
 pub mod Text
+pub mod Line
 pub mod Minute
 pub mod Padded
 pub mod Utc

@@ -1,5 +1,6 @@
 -- A list in an array of 64 bytes, with zeros after it.
 use Rattle.std.specs.Prelude.{◌≡◌, ℕ, ◌+◌, ◌-◌, ◌≤◌, ℤ, List, ◌++◌, length, take, drop, replicate, slice_set}
+use Rattle.base.specs.Bytes.{line_feed}
 use Rattle.instants_answers.specs.Text.{offset_text}
 use Rattle.std.proofs.Common.{sym, ap, ◌∙◌, arith, take-append-drop, length-take-le, length-set}
 use Rattle.std.proofs.lemmas.List.{drop-set-lt, drop-drop, drop-replicate}
@@ -11,6 +12,10 @@ padded v = v ++ replicate (64 - length v) 0
 -- the text of an offset and zeros, eight bytes in all
 abbrev pub padded_offset : ℤ → List ℕ
 padded_offset z = offset_text z ++ replicate (8 - length (offset_text z)) 0
+
+-- the same with a line feed after the text
+abbrev pub ended_offset : ℤ → List ℕ
+ended_offset z = slice_set (padded_offset z) (length (offset_text z)) line_feed
 
 abbrev pub offset_len : ℤ → ℕ
 offset_len z = length (offset_text z)

@@ -1,6 +1,7 @@
 //! The answer to one line, in storage of fixed size.
 
 ghost use Rattle.std.specs.Prelude.{◌≡◌, ◌+◌, ◌-◌, ◌≤◌, [], ◌∷◌, ◌++◌, length, take, drop, replicate};
+ghost use Rattle.instants_answers.specs.Line.{HoldsLine};
 
 use std::marker::Model;
 
@@ -89,6 +90,22 @@ impl Answer {
         let end = self.len + bytes.len();
         self.bytes[self.len..end].copy_from_slice(bytes);
         self.len = end;
+    }
+
+    /// Writes the answer and a line feed at the start of a room of at least 64 bytes, and says how many bytes they are. What
+    /// stood in the room is lost.
+    #[inline(always)]
+    pub fn fill_line(&self, room: &mut [u8]) -> usize
+        requires room { 64 ≤ length room.old }
+        requires short { length self.now ≤ 63 }
+        ensures line { HoldsLine self.now result room.new }
+        ensures size { length room.new ≡ length room.old }
+    {
+        let mut line = *self;
+        line.push(b'\n');
+        let (bytes, len) = line.padded();
+        room[..64].copy_from_slice(bytes);
+        len
     }
 
     // Adds the first of these bytes, of which the others are zero.

@@ -9,20 +9,39 @@ use parsing_fields::digit_pair;
 // Each month between hyphens, by its number: there is none before the first one.
 static MONTHS: [u8; 52] = *b"-00--01--02--03--04--05--06--07--08--09--10--11--12-";
 
-// Puts a number's two digits after the answer.
+/// A number's two digits.
 #[inline(always)]
 #[tactic(auto, unfolding(parsing_fields::specs::Decimal::decimal))]
+pub(crate) fn two_digits(number: u32) -> [u8; 2]
+    requires { number < 100 }
+    ensures { result ≡ decimal 2 number }
+{
+    let (tens, ones) = digit_pair(number);
+    [tens, ones]
+}
+
+// Puts a number's two digits after the answer.
+#[inline(always)]
 pub(crate) fn push_two(answer: &mut Answer, number: u32)
     requires room { length answer.old + 2 ≤ 64 }
     requires small { number < 100 }
     ensures digits { answer.new ≡ answer.old ++ decimal 2 number }
     ensures len { length answer.new ≡ length answer.old + 2 }
 {
-    let (tens, ones) = digit_pair(number);
-    answer.push_bytes(&[tens, ones]);
+    answer.push_bytes(&two_digits(number));
 }
 
-// A month between hyphens, by its number.
+/// A month between hyphens, by its number.
+#[inline(always)]
+pub(crate) fn month_text(month: u32) -> [u8; 4]
+    requires { month ≤ 12 }
+    ensures { result ≡ codes "-" ++ decimal 2 month ++ codes "-" }
+{
+    let at = month as usize * 4;
+    [MONTHS[at], MONTHS[at + 1], MONTHS[at + 2], MONTHS[at + 3]]
+}
+
+// Puts a month between hyphens after the answer.
 #[inline(always)]
 pub(crate) fn push_month(answer: &mut Answer, month: u32)
     requires room { length answer.old + 4 ≤ 64 }
@@ -30,7 +49,5 @@ pub(crate) fn push_month(answer: &mut Answer, month: u32)
     ensures text { answer.new ≡ answer.old ++ (codes "-" ++ decimal 2 month ++ codes "-") }
     ensures len { length answer.new ≡ length answer.old + 4 }
 {
-    let at = month as usize * 4;
-    let text = [MONTHS[at], MONTHS[at + 1], MONTHS[at + 2], MONTHS[at + 3]];
-    answer.push_bytes(&text);
+    answer.push_bytes(&month_text(month));
 }

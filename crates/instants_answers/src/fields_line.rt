@@ -35,7 +35,7 @@ fn write_parts(fields: &Fields, day: u64, minute: u64, target: Target, answer: &
 
 // The minutes from four days before the fields' day to their time at the target.
 #[inline(always)]
-fn minutes_since(fields: &Fields, target: Target) -> u32
+pub(crate) fn minutes_since(fields: &Fields, target: Target) -> u32
     ensures value { pos result ≡
         pos 5760 +ℤ (pos fields.now.minute +ℤ (int_div target (pos 60) -ℤ fields.now.offset)) }
     ensures bound { result ≤ 12_000 }

@@ -152,9 +152,9 @@ static MINUTES: [u8; 11_520] = *b"\
     T23:40:\0T23:41:\0T23:42:\0T23:43:\0T23:44:\0T23:45:\0T23:46:\0T23:47:\0T23:48:\0T23:49:\0\
     T23:50:\0T23:51:\0T23:52:\0T23:53:\0T23:54:\0T23:55:\0T23:56:\0T23:57:\0T23:58:\0T23:59:\0";
 
-// The row of a minute.
+/// The text of a minute and a byte of zero.
 #[inline(always)]
-fn row(minute: usize) -> [u8; 8]
+pub(crate) fn row(minute: usize) -> [u8; 8]
     requires { minute < 1440 }
     ensures { result ≡ minute_text minute ++ 0 ∷ [] }
 {

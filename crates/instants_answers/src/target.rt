@@ -1,17 +1,15 @@
 //! The offset at which lines are shown.
-ghost use Rattle.std.specs.Prelude.{◌≡◌, ◌+◌, ◌≤◌, [], ◌∷◌, ◌++◌, length, pos, ◌+ℤ◌, int_div, int_lt, unsigned_abs, codes, if◌then◌else◌};
+ghost use Rattle.std.specs.Prelude.{◌≡◌, ◌+◌, ◌≤◌, [], ◌∷◌, ◌++◌, length, take, pos, ◌+ℤ◌, int_div, int_lt, unsigned_abs, codes, if◌then◌else◌};
+ghost use Rattle.base.specs.Bytes.{line_feed};
 ghost use Rattle.calendar.specs.UtcOffset.{IsClockOffset};
 ghost use Rattle.std.specs.Ordering.{int_eq};
-ghost use Rattle.instants_answers.specs.Padded.{padded_offset, offset_len};
+ghost use Rattle.instants_answers.specs.Padded.{ended_offset, padded_offset, offset_len};
 ghost use Rattle.instants_answers.specs.Text as text;
 
 use crate::answer::Answer;
 use calendar::UtcOffset;
 use parsing_fields::digit_pair;
 use std::marker::Model;
-
-// The bytes of a line before its offset.
-const PREFIX: usize = 29;
 
 // Minutes are counted from so many days before on, so that no number is below zero.
 pub(crate) const DAYS_AHEAD: u8 = 4;
@@ -21,36 +19,39 @@ const MINUTES_AHEAD: i32 = DAYS_AHEAD as i32 * 1440;
 
 /// An offset of whole minutes, within 23:59, at which lines are shown.
 ///
-/// It is kept with its minutes and its text, which each line asks for. A contract sees its seconds.
+/// It is kept with its minutes and its text, with a line feed and without, which each line asks for. A contract sees its
+/// seconds.
 #[derive(Clone, Copy)]
 pub struct Target {
     offset: UtcOffset,
     minutes_ahead: i32,
     text: [u8; 8],
-    line_len: usize,
+    ended_text: [u8; 8],
+    len: usize,
 }
 
 impl Model for Target {
     ghost use Rattle.std.specs.Prelude.{ℤ, ◌≡◌, ◌+◌, pos, ◌+ℤ◌, int_div};
     ghost use Rattle.std.proofs.Common.{ap, sym};
     ghost use Rattle.calendar.specs.UtcOffset.{IsClockOffset};
-    ghost use Rattle.instants_answers.specs.Padded.{padded_offset, offset_len};
+    ghost use Rattle.instants_answers.specs.Padded.{ended_offset, padded_offset, offset_len};
 
     ghost Value = { ℤ };
 
     ghost view = { λ t. t.offset };
 
     ghost invariant = { λ t. IsClockOffset t.offset × (t.minutes_ahead ≡ pos 5760 +ℤ int_div t.offset (pos 60))
-        × (t.text ≡ padded_offset t.offset) × (t.line_len ≡ 29 + offset_len t.offset) };
+        × (t.text ≡ padded_offset t.offset) × (t.ended_text ≡ ended_offset t.offset) × (t.len ≡ offset_len t.offset) };
 
     ghost inverse = { λ z. record {
       offset = z;
       minutes_ahead = pos 5760 +ℤ int_div z (pos 60);
       text = padded_offset z;
-      line_len = 29 + offset_len z;
+      ended_text = ended_offset z;
+      len = offset_len z;
     } };
 
-    ghost inverse_ok = { λ t h. Prim.rw (h.1, h.2, h.3) };
+    ghost inverse_ok = { λ t h. Prim.rw (h.1, h.2, h.3, h.4) };
 }
 
 // The sign of an offset.
@@ -95,11 +96,14 @@ impl Target {
         ensures { result ≡ offset }
     {
         let (text, len) = offset_text(offset.whole_seconds());
+        let mut ended_text = text;
+        ended_text[len] = b'\n';
         Target {
             offset,
             minutes_ahead: MINUTES_AHEAD + i32::from(offset.whole_minutes()),
             text,
-            line_len: PREFIX + len,
+            ended_text,
+            len,
         }
     }
 
@@ -130,6 +134,16 @@ impl Target {
             ≡ length answer.old + (if int_eq self.now (pos 0) then 1 else 6) }
         ensures clock { IsClockOffset self.now }
     {
-        answer.push_prefix(&self.text, self.line_len - PREFIX);
+        answer.push_prefix(&self.text, self.len);
+    }
+
+    /// Its text and a line feed, with other bytes after them, and how many these are.
+    #[inline(always)]
+    pub(crate) fn line_end(&self) -> ([u8; 8], usize)
+        ensures text { take result.1 result.0 ≡ text.offset_text self.now ++ line_feed ∷ [] }
+        ensures len { result.1 ≤ 7 }
+        ensures clock { IsClockOffset self.now }
+    {
+        (self.ended_text, self.len + 1)
     }
 }

@@ -9,31 +9,7 @@ ghost use Rattle.instants_stream.specs.Answers.{by_answers};
 use crate::answers_lines::AnswersLines;
 use crate::devices::{ByteReader, ByteWriter, DeviceFailed};
 use crate::run::{RunFault, write_lines};
-use crate::search::LINE_FEED;
 use crate::writes_lines::WritesLines;
-use instants_answers::Answer;
-
-// Writes the answer to a line, and a line feed.
-#[inline(always)]
-fn write_answer<A: AnswersLines, W: ByteWriter>(
-    answers: &A,
-    line: &[u8],
-    storage: &mut Answer,
-    writer: &mut W,
-) -> Result<(), DeviceFailed>
-    requires { W.failed writer.old ≡ false }
-    ensures written { OnOk result (Appends (W.held writer.old) (W.held writer.new)
-        (A.answer answers.now line.now ++ line_feed ∷ [])) }
-    ensures ok { OnOk result (W.failed writer.new ≡ W.failed writer.old) }
-    ensures prefix { OnErr result (AppendsPrefix (W.held writer.old) (W.held writer.new)
-        (A.answer answers.now line.now ++ line_feed ∷ [])) }
-    ensures err { OnErr result (W.failed writer.new ≡ true) }
-{
-    answers.write_answer(line, storage);
-    storage.push(LINE_FEED);
-    let (bytes, len) = storage.padded();
-    writer.write_prefix(bytes, len)
-}
 
 // Writes the answer to a last line, which no line feed ends.
 #[cold]
@@ -51,9 +27,7 @@ fn write_last_answer<A: AnswersLines, W: ByteWriter>(
         (A.answer answers.now line.now ++ line_feed ∷ [])) }
     ensures err { OnErr result (W.failed writer.new ≡ true) }
 {
-    let mut answer = answers.answer_line(line);
-    answer.push(LINE_FEED);
-    writer.write_all(answer.as_bytes())
+    writer.write_answer(answers, line)
 }
 
 // Writes that a line is too long, and a line feed.
@@ -71,11 +45,10 @@ fn write_long<W: ByteWriter>(writer: &mut W) -> Result<(), DeviceFailed>
     writer.write_all(b"! long\n")
 }
 
-// What answers lines, and the storage of an answer.
+// What answers lines.
 #[derive(Drop)]
 struct Answering<'a, A> {
     answers: &'a A,
-    storage: Answer,
 }
 
 impl<'a, A: AnswersLines> Answering<'a, A> {
@@ -83,10 +56,7 @@ impl<'a, A: AnswersLines> Answering<'a, A> {
     fn new(answers: &'a A) -> Answering<'a, A>
         ensures { result.answers.now ≡ answers.now }
     {
-        Answering {
-            answers,
-            storage: Answer::new(),
-        }
+        Answering { answers }
     }
 }
 
@@ -106,7 +76,7 @@ impl<A: AnswersLines> WritesLines for Answering<'_, A> {
         line: &[u8],
         writer: &mut W,
     ) -> Result<(), DeviceFailed> {
-        write_answer(self.answers, line, &mut self.storage, writer)
+        writer.write_answer(self.answers, line)
     }
 
     #[inline(always)]

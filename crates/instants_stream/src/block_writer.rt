@@ -1,8 +1,10 @@
 //! A writer that gathers bytes in a block, and hands whole blocks on.
-ghost use Rattle.std.specs.Prelude.{◌≡◌, ◌&&◌, ◌+◌, ◌<◌, ◌≤◌, ◌++◌, false, true, take, length, vec_len, IfOk, OnOk, OnErr};
+ghost use Rattle.std.specs.Prelude.{◌≡◌, ◌&&◌, ◌+◌, ◌<◌, ◌≤◌, [], ◌∷◌, ◌++◌, false, true, take, length, vec_len, IfOk, OnOk, OnErr};
 ghost use Rattle.std.specs.Io.KnownBytes.{Appends, Keeps};
+ghost use Rattle.base.specs.Bytes.{line_feed};
 ghost use Rattle.instants_stream.specs.Known.{StaysOrUnknown, AppendsPrefix};
 
+use crate::answers_lines::AnswersLines;
 use crate::devices::{ByteWriter, DeviceFailed};
 use std::simd::prelude::*;
 
@@ -42,6 +44,31 @@ fn put_lanes(block: &mut [u8], at: usize, bytes: &[u8; 64])
     ensures len { length block.new ≡ length block.old }
 {
     u8x64::from_slice(bytes).copy_to_slice(&mut block[at..]);
+}
+
+// Has the answer to a line written into the block, after as many bytes as stand before the place, and tells how many it is
+// with its line feed.
+#[inline(always)]
+fn fill_at<A: AnswersLines>(block: &mut [u8], at: usize, answers: &A, line: &[u8]) -> usize
+    requires { at + 64 ≤ length block.old }
+    ensures prefix { take (at + result) block.new
+        ≡ take at block.old ++ (A.answer answers.now line.now ++ line_feed ∷ []) }
+    ensures most { result ≤ 64 }
+    ensures len { length block.new ≡ length block.old }
+{
+    answers.fill_answer(line, &mut block[at..])
+}
+
+// The same in a vector.
+#[inline(always)]
+fn put_answer<A: AnswersLines>(block: &mut Vec<u8>, at: usize, answers: &A, line: &[u8]) -> usize
+    requires { at + 64 ≤ vec_len block.old }
+    ensures prefix { take (at + result) block.new.items
+        ≡ take at block.old.items ++ (A.answer answers.now line.now ++ line_feed ∷ []) }
+    ensures most { result ≤ 64 }
+    ensures len { vec_len block.new ≡ vec_len block.old }
+{
+    fill_at(block, at, answers, line)
 }
 
 // Puts 64 bytes into the block.
@@ -151,6 +178,30 @@ impl<W: ByteWriter> BlockWriter<W> {
     {
         self.write_all(&bytes[..len])
     }
+
+    // Writes the answer to a line, and a line feed, where the block has no room for 64 bytes.
+    #[cold]
+    #[inline(never)]
+    fn write_answer_past_end<A: AnswersLines>(
+        &mut self,
+        answers: &A,
+        line: &[u8],
+    ) -> Result<(), DeviceFailed>
+        requires { W.failed self.old.inner ≡ false }
+        ensures written { OnOk result (Appends (held_by W.held self.old) (held_by W.held self.new)
+            (A.answer answers.now line.now ++ line_feed ∷ [])) }
+        ensures ok { OnOk result (W.failed self.new.inner ≡ W.failed self.old.inner) }
+        ensures unflushed { OnOk result
+            (⟦<BlockWriter<W> as ByteWriter>⟧.flushed self.new ≡ false) }
+        ensures prefix { OnErr result (AppendsPrefix
+            (held_by W.held self.old) (held_by W.held self.new)
+            (A.answer answers.now line.now ++ line_feed ∷ [])) }
+        ensures err { OnErr result (W.failed self.new.inner ≡ true) }
+    {
+        let mut room = [0; 64];
+        let len = answers.fill_answer(line, &mut room);
+        self.write_all(&room[..len])
+    }
 }
 
 impl<W: ByteWriter> ByteWriter for BlockWriter<W> {
@@ -221,6 +272,24 @@ impl<W: ByteWriter> ByteWriter for BlockWriter<W> {
         }
         self.is_flushed = false;
         put_all(&mut self.block, self.end, bytes);
+        self.end += len;
+        Ok(())
+    }
+
+    // The answer is written where it is to lie: bytes that are written in small pieces and read in large ones at once wait for
+    // one another.
+    #[inline(always)]
+    fn write_answer<A: AnswersLines>(
+        &mut self,
+        answers: &A,
+        line: &[u8],
+    ) -> Result<(), DeviceFailed> {
+        if self.block.len() - self.end < 64 {
+            self.write_answer_past_end(answers, line)?;
+            return Ok(());
+        }
+        self.is_flushed = false;
+        let len = put_answer(&mut self.block, self.end, answers, line);
         self.end += len;
         Ok(())
     }

@@ -1,8 +1,11 @@
 //! The traits of devices.
 
-ghost use Rattle.std.specs.Prelude.{◌≡◌, ◌<◌, ◌≤◌, ℕ, Bool, true, false, List, length, take, Option, IfOk, OnOk, OnErr};
+ghost use Rattle.std.specs.Prelude.{◌≡◌, ◌<◌, ◌≤◌, ℕ, Bool, true, false, List, [], ◌∷◌, ◌++◌, length, take, Option, IfOk, OnOk, OnErr};
 ghost use Rattle.std.specs.Io.KnownBytes.{Consumes, Appends, Keeps, IsAtEnd};
+ghost use Rattle.base.specs.Bytes.{line_feed};
 ghost use Rattle.instants_stream.specs.Known.{StaysOrUnknown, AppendsPrefix};
+
+use crate::answers_lines::AnswersLines;
 
 /// A device failed.
 #[derive(Clone, Copy, Debug, PartialEq, Eq)]
@@ -139,5 +142,28 @@ pub trait ByteWriter {
         ensures err { OnErr result (failed self.new ≡ true) }
     {
         self.write_all(&bytes[..len])
+    }
+
+    /// Writes the answer to a line, and a line feed. The first write that fails ends it, and a prefix of them is written.
+    ///
+    /// A writer that gathers bytes has the answer written where it is to lie.
+    fn write_answer<A: AnswersLines>(
+        &mut self,
+        answers: &A,
+        line: &[u8],
+    ) -> Result<(), DeviceFailed>
+        requires { failed self.old ≡ false }
+        ensures written { OnOk result (Appends (held self.old) (held self.new)
+            (A.answer answers.now line.now ++ line_feed ∷ [])) }
+        ensures ok { OnOk result (failed self.new ≡ failed self.old) }
+        ensures unflushed { OnOk result (flushed self.new ≡ false) }
+
+        ensures prefix { OnErr result (AppendsPrefix (held self.old) (held self.new)
+            (A.answer answers.now line.now ++ line_feed ∷ [])) }
+        ensures err { OnErr result (failed self.new ≡ true) }
+    {
+        let mut room = [0; 64];
+        let len = answers.fill_answer(line, &mut room);
+        self.write_all(&room[..len])
     }
 }

@@ -4,22 +4,22 @@ ghost use Rattle.instants_stream.specs.Answers.{answered, output};
 
 use crate::answers_lines::AnswersLines;
 use crate::put::{TooLittleRoom, put};
-use crate::search::{LINE_FEED, line_len};
-use instants_answers::Answer;
+use crate::search::line_len;
 
-// The answer to a line, or that it is too long, and a line feed.
+// Writes the answer to a line, or that it is too long, and a line feed at the start of a room, and says how many bytes they are.
 #[inline(always)]
 #[tactic(auto, unfolding(crate::specs::Answers::answered, crate::specs::Answers::answer_or_long))]
-fn write_answered<A: AnswersLines>(answers: &A, limit: usize, line: &[u8], storage: &mut Answer)
-    ensures { storage.new ≡ answered (A.answer answers.now) limit line.now }
+fn fill_answered<A: AnswersLines>(answers: &A, limit: usize, line: &[u8], room: &mut [u8]) -> usize
+    requires { 64 ≤ length room.old }
+    ensures bytes { take result room.new ≡ answered (A.answer answers.now) limit line.now }
+    ensures most { result ≤ 64 }
+    ensures size { length room.new ≡ length room.old }
 {
     if line.len() > limit {
-        storage.clear();
-        storage.push_bytes(b"! long");
-    } else {
-        answers.write_answer(line, storage);
+        room[..7].copy_from_slice(b"! long\n");
+        return 7;
     }
-    storage.push(LINE_FEED);
+    answers.fill_answer(line, room)
 }
 
 /// Writes the answer to each line of the input into the start of the room, a line feed after each answer. How many bytes
@@ -45,20 +45,20 @@ pub fn lines_over<A: AnswersLines>(
     ensures full { OnErr result (room.new
         ≡ take (length room.old) (output (A.answer answers.now) limit input.now)) }
 {
-    let mut storage = Answer::new();
+    let mut answer = [0; 64];
     let mut start = 0;
     let mut end = 0;
     while let Some(len) = line_len(&input[start..], 0) {
-        write_answered(answers, limit, &input[start..start + len], &mut storage);
-        let Ok(next) = put(room, end, &storage) else {
+        let count = fill_answered(answers, limit, &input[start..start + len], &mut answer);
+        let Ok(next) = put(room, end, &answer, count) else {
             return Err(TooLittleRoom);
         };
         end = next;
         start += len + 1;
     }
     if start < input.len() {
-        write_answered(answers, limit, &input[start..], &mut storage);
-        let Ok(next) = put(room, end, &storage) else {
+        let count = fill_answered(answers, limit, &input[start..], &mut answer);
+        let Ok(next) = put(room, end, &answer, count) else {
             return Err(TooLittleRoom);
         };
         end = next;

@@ -1,8 +1,6 @@
 //! An answer put into lent memory.
 ghost use Rattle.std.specs.Prelude.{◌≡◌, ◌+◌, ◌-◌, ◌<◌, ◌≤◌, ◌++◌, length, take, drop, OnErr, IfOk};
 
-use instants_answers::Answer;
-
 /// The answers are longer than the room for them.
 #[derive(Clone, Copy, Debug, PartialEq, Eq)]
 pub struct TooLittleRoom;
@@ -43,28 +41,33 @@ fn fill(room: &mut [u8], at: usize, bytes: &[u8])
     room[at..].copy_from_slice(&bytes[..count]);
 }
 
-/// Puts an answer into the room, after as many bytes as stand before the place, and tells where it ends. Where there is too
-/// little room, it is filled with the beginning.
+/// Puts an answer, the first of these bytes, into the room, after as many bytes as stand before the place, and tells where it
+/// ends. Where there is too little room, it is filled with the beginning.
 #[inline(always)]
-pub(crate) fn put(room: &mut [u8], at: usize, answer: &Answer) -> Result<usize, TooLittleRoom>
-    requires { at ≤ length room.old }
-    ensures end { IfOk result (λ end. end ≡ at + length answer.now) }
+pub(crate) fn put(
+    room: &mut [u8],
+    at: usize,
+    answer: &[u8; 64],
+    len: usize,
+) -> Result<usize, TooLittleRoom>
+    requires at { at ≤ length room.old }
+    requires most { len ≤ 64 }
+    ensures end { IfOk result (λ end. end ≡ at + length (take len answer.now)) }
     ensures within { IfOk result (λ end. end ≤ length room.old) }
-    ensures prefix { IfOk result (λ end. take end room.new ≡ take at room.old ++ answer.now) }
+    ensures prefix { IfOk result (λ end. take end room.new ≡ take at room.old ++ take len answer.now) }
     ensures after { IfOk result (λ end. drop end room.new ≡ drop end room.old) }
-    ensures less { OnErr result (length room.old < at + length answer.now) }
+    ensures less { OnErr result (length room.old < at + length (take len answer.now)) }
     ensures full { OnErr result
-        (room.new ≡ take at room.old ++ take (length room.old - at) answer.now) }
+        (room.new ≡ take at room.old ++ take (length room.old - at) (take len answer.now)) }
 {
-    let (bytes, len) = answer.padded();
     if room.len() - at < len {
-        fill(room, at, answer.as_bytes());
+        fill(room, at, &answer[..len]);
         return Err(TooLittleRoom);
     }
     if len == MOMENT {
-        put_moment(room, at, bytes);
+        put_moment(room, at, answer);
     } else {
-        put_whole(room, at, answer.as_bytes());
+        put_whole(room, at, &answer[..len]);
     }
     Ok(at + len)
 }

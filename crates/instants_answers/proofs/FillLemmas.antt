@@ -1,0 +1,14 @@
+-- Bytes put into a room one after another.
+use Rattle.std.proofs.Common.{◌≡◌, ℕ, ◌+◌, ◌≤◌, List, ◌++◌, length, take, sym, ap, ◌∙◌, arith, take-take, append_assoc}
+use Rattle.std.proofs.lemmas.List.{length-take-le}
+use Rattle.std.proofs.Math.Seq.{take-append-add}
+
+-- more bytes were put than are meant
+pub first_of : (at count : ℕ) (old new bytes : List ℕ) → at ≤ length old → count ≤ length bytes → take (at + length bytes) new ≡ take at old ++ bytes → take (at + count) new ≡ take at old ++ take count bytes
+first_of at count old new bytes within few put =
+    let there : take (length (take at old) + count) (take at old ++ bytes) ≡ take at old ++ take count bytes = take-append-add (take at old) bytes count in
+    sym (take-take (at + count) (at + length bytes) new (omega arith)) ∙ ap (take (at + count)) put ∙ (rw (length-take-le at old within) at there)
+
+-- bytes that are a text of so many bytes were put after a text
+pub after_text : (at n : ℕ) (old new bytes text prefix : List ℕ) → bytes ≡ text → length text ≡ n → take at old ≡ prefix → take (at + length bytes) new ≡ take at old ++ bytes → take (at + n) new ≡ prefix ++ text
+after_text at n old new bytes text prefix is long before put = rw (is, long, before) at put
