@@ -23,19 +23,14 @@ impl AnswersLines for ByLength {
     ghost answer = { λ _ line. if nat_lt 10 (length line)
         then codes "1985-04-12T23:20:50.520000000Z" else codes "! component year" };
 
-    fn answer_line(&self, line: &[u8]) -> Answer {
+    fn fill_answer(&self, line: &[u8], room: &mut [u8]) -> usize {
         let mut answer = Answer::new();
-        self.write_answer(line, &mut answer);
-        answer
-    }
-
-    fn write_answer(&self, line: &[u8], storage: &mut Answer) {
-        storage.clear();
         if line.len() > 10 {
-            storage.push_bytes(b"1985-04-12T23:20:50.520000000Z");
+            answer.push_bytes(b"1985-04-12T23:20:50.520000000Z");
         } else {
-            storage.push_bytes(b"! component year");
+            answer.push_bytes(b"! component year");
         }
+        answer.fill_line(room)
     }
 }
 

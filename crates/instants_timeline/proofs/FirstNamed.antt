@@ -7,12 +7,13 @@ use Rattle.datetime_wall.specs.Wall.{Shown}
 use Rattle.parsing_fields.specs.Moment.{moment_of}
 use Rattle.parsing_fields.specs.declared.fields.Fields.{Fields}
 use Rattle.parsing_combinator.specs.Fault.{Fault}
+use Rattle.instants_answers.specs.Line.{HoldsLine}
 use Rattle.instants_sources.specs.Grammar.{Grammar, grammar_of}
 use Rattle.instants_sources.specs.declared.source.Source.{Source}
 use Rattle.instants_sources.specs.Named.{named, IsNamedBy}
-use Rattle.instants_timeline.specs.Place.{Setting, or_named, first_named, place_of, answer_to}
+use Rattle.instants_timeline.specs.Place.{Setting, or_named, first_named, place_of, place_text, shown_or_refused, answer_to}
 use Rattle.instants_timeline.specs.Refusal.{refusal_of, refusal_text}
-use Rattle.instants_timeline.specs.FirstNamed.{IsAnswerOf, IsLedBy, NamesFrom}
+use Rattle.instants_timeline.specs.FirstNamed.{HoldsAnswer, IsAnswerOf, IsLedBy, NamesFrom}
 
 here : (o : Result Shown Fault) (others : Option Shown) (moment : Shown) → result_ok o ≡ Some moment → result_ok (or_named o others) ≡ Some moment
 here (Ok m) others moment e = e
@@ -56,28 +57,46 @@ pub ok_of : (r : Result Shown Fault) (m : Shown) → result_ok r ≡ Some m → 
 ok_of (Ok x) m e = ap (λ (o : Option Shown). Ok (unwrap_or o x)) e
 ok_of (Err f) m e = absurd cc
 
--- an answer for the moment that is named first
-pub answered : (setting : Setting) (line bytes : List ℕ) → IsAnswerOf setting (result_ok (first_named setting.assumed setting.sources line)) bytes → bytes ≡ answer_to setting line
+-- what is answered for the moment that is named first
+pub answer_is : (setting : Setting) (line : List ℕ) (moment : Shown) → result_ok (first_named setting.assumed setting.sources line) ≡ Some moment → place_text (shown_or_refused setting.target (Ok moment)) ≡ answer_to setting line
 unfolding answer_to place_of
-answered setting line bytes a = rw (ok_of (first_named setting.assumed setting.sources line) a.moment a.is) a.text
+answer_is setting line moment is = rw (ok_of (first_named setting.assumed setting.sources line) moment is) refl
 
--- a place's source answers a line for which it names a moment, and those before it none
+-- a place's source names a moment for a line, and those before it none
+pub answer_is_at : (setting : Setting) (line : List ℕ) (place : ℕ) (grammar : Grammar) (others : List Grammar) (moment : Shown) → NamesFrom setting line place → drop place setting.sources ≡ grammar ∷ others
+    → result_ok (named setting.assumed grammar line) ≡ Some moment → place_text (shown_or_refused setting.target (Ok moment)) ≡ answer_to setting line
+answer_is_at setting line place grammar others moment from cut is =
+    let there : result_ok (first_named setting.assumed (drop place setting.sources) line) ≡ Some moment = rw cut (first_named-here setting.assumed grammar others line moment is) in
+    answer_is setting line moment (sym from ∙ there)
+
+pub answered : (setting : Setting) (line bytes : List ℕ) → IsAnswerOf setting (result_ok (first_named setting.assumed setting.sources line)) bytes → bytes ≡ answer_to setting line
+answered setting line bytes a = a.text ∙ answer_is setting line a.moment a.is
+
 pub answered_at : (setting : Setting) (line bytes : List ℕ) (place : ℕ) (grammar : Grammar) (others : List Grammar) → NamesFrom setting line place → drop place setting.sources ≡ grammar ∷ others
     → IsAnswerOf setting (result_ok (named setting.assumed grammar line)) bytes → bytes ≡ answer_to setting line
-answered_at setting line bytes place grammar others from cut a =
-    let there : result_ok (first_named setting.assumed (drop place setting.sources) line) ≡ Some a.moment = rw cut (first_named-here setting.assumed grammar others line a.moment a.is) in
-    answered setting line bytes (answer_alike a (sym from ∙ there))
+answered_at setting line bytes place grammar others from cut a = a.text ∙ answer_is_at setting line place grammar others a.moment from cut a.is
+
+-- the same of a room that holds the line of the answer
+pub held_at : (setting : Setting) (line room : List ℕ) (len place : ℕ) (grammar : Grammar) (others : List Grammar) → NamesFrom setting line place → drop place setting.sources ≡ grammar ∷ others
+    → HoldsAnswer setting (result_ok (named setting.assumed grammar line)) len room → HoldsLine (answer_to setting line) len room
+held_at setting line room len place grammar others from cut a = rw (← answer_is_at setting line place grammar others a.moment from cut a.is) a.line
+
+-- a room that holds the line of the answer for the moment that fields name
+pub held_found : (setting : Setting) (found : Option Fields) (grammar : Grammar) (line room : List ℕ) (len : ℕ) → IfSome found (λ fields. named setting.assumed grammar line ≡ Ok (moment_of fields))
+    → HoldsAnswer setting (option_map moment_of found) len room → HoldsAnswer setting (result_ok (named setting.assumed grammar line)) len room
+held_found setting None grammar line room len h a = absurd (let no : None ≡ Some a.moment = a.is in cc)
+held_found setting (Some fields) grammar line room len h a = record { moment = a.moment; is = ap result_ok h ∙ a.is; line = a.line }
 
 -- what is found for the first source is the answer
-pub led_found : (setting : Setting) (found : Option Fields) (grammar : Grammar) (line bytes : List ℕ) → IsLedBy setting grammar → IfSome found (λ fields. named setting.assumed grammar line ≡ Ok (moment_of fields))
-    → IsAnswerOf setting (option_map moment_of found) bytes → bytes ≡ answer_to setting line
-led_found setting found grammar line bytes led is a = answered_at setting line bytes 0 grammar (drop 1 setting.sources) refl led (answer_found setting found grammar line bytes is a)
+pub led_found : (setting : Setting) (found : Option Fields) (grammar : Grammar) (line room : List ℕ) (len : ℕ) → IsLedBy setting grammar → IfSome found (λ fields. named setting.assumed grammar line ≡ Ok (moment_of fields))
+    → HoldsAnswer setting (option_map moment_of found) len room → HoldsLine (answer_to setting line) len room
+led_found setting found grammar line room len led is a = held_at setting line room len 0 grammar (drop 1 setting.sources) refl led (held_found setting found grammar line room len is a)
 
 -- the same where it is named whatever offset is assumed
-pub led_named : (setting : Setting) (found : Option Fields) (grammar : Grammar) (line bytes : List ℕ) → IsLedBy setting grammar → IfSome found (λ fields. IsNamedBy grammar line (moment_of fields))
-    → IsAnswerOf setting (option_map moment_of found) bytes → bytes ≡ answer_to setting line
-led_named setting None grammar line bytes led is a = led_found setting None grammar line bytes led tt a
-led_named setting (Some fields) grammar line bytes led is a = led_found setting (Some fields) grammar line bytes led (is setting.assumed) a
+pub led_named : (setting : Setting) (found : Option Fields) (grammar : Grammar) (line room : List ℕ) (len : ℕ) → IsLedBy setting grammar → IfSome found (λ fields. IsNamedBy grammar line (moment_of fields))
+    → HoldsAnswer setting (option_map moment_of found) len room → HoldsLine (answer_to setting line) len room
+led_named setting None grammar line room len led is a = led_found setting None grammar line room len led tt a
+led_named setting (Some fields) grammar line room len led is a = led_found setting (Some fields) grammar line room len led (is setting.assumed) a
 
 after : (setting : Setting) (line : List ℕ) (place : ℕ) (grammar : Grammar) (others : List Grammar) → NamesFrom setting line place → drop place setting.sources ≡ grammar ∷ others
     → result_ok (named setting.assumed grammar line) ≡ None → result_ok (first_named setting.assumed setting.sources line) ≡ result_ok (first_named setting.assumed others line)

@@ -3,6 +3,7 @@ use Rattle.std.specs.Prelude.{◌≡◌, ◌≢◌, ◌≤◌, ◌+◌, ℕ, Lis
 use Rattle.std.specs.Result.{result_ok}
 use Rattle.datetime_wall.specs.Wall.{Shown}
 use Rattle.parsing_combinator.specs.Fault.{Fault}
+use Rattle.instants_answers.specs.Line.{HoldsLine}
 use Rattle.instants_sources.specs.Grammar.{Grammar}
 use Rattle.instants_sources.specs.Named.{named}
 use Rattle.instants_sources.specs.Planned.{IsPlanned}
@@ -25,6 +26,12 @@ pub record IsAnswerOf (setting : Setting) (named : Option Shown) (bytes : List �
   pub text : bytes ≡ place_text (shown_or_refused setting.target (Ok moment))
   pub room : length bytes ≤ 63
   pub never_long : bytes ≢ codes "! long"
+
+-- a moment is named, and a room holds the line of the answer for it
+pub record HoldsAnswer (setting : Setting) (named : Option Shown) (len : ℕ) (room : List ℕ) : Type 0 where
+  pub moment : Shown
+  pub is : named ≡ Some moment
+  pub line : HoldsLine (place_text (shown_or_refused setting.target (Ok moment))) len room
 
 -- the source at a place finds this fault in a line
 pub record IsFaultAt (setting : Setting) (line : List ℕ) (place : ℕ) (fault : Fault) : Type 0 where

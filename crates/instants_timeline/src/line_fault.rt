@@ -1,5 +1,6 @@
 //! Why a line has no place on the timeline.
 ghost use Rattle.std.specs.Prelude.{◌≡◌, ◌≢◌, ◌≤◌, codes, length};
+ghost use Rattle.instants_answers.specs.Line.{HoldsLine};
 
 use instants_answers::Answer;
 use parsing_combinator::{Parse, ParseFromDescription, TryFromParsed};
@@ -65,6 +66,18 @@ impl LineFault {
     {
         self.put(answer);
     }
+}
+
+/// Writes the line of a line without a year, as most lines without a date are, at the start of a room of at least 64 bytes,
+/// and says how many bytes it has.
+#[inline(always)]
+pub(crate) fn fill_no_year(room: &mut [u8]) -> usize
+    requires { 64 ≤ length room.old }
+    ensures line { HoldsLine (codes "! component year") result room.new }
+    ensures size { length room.new ≡ length room.old }
+{
+    room[..17].copy_from_slice(b"! component year\n");
+    17
 }
 
 impl From<Parse> for LineFault {

@@ -7,6 +7,7 @@ ghost use Rattle.instants_timeline.specs.Tried.{nodes_in_all};
 mod answers;
 mod calls;
 mod fast_ways;
+mod filled;
 mod nodes;
 mod parts;
 

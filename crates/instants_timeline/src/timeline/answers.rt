@@ -1,4 +1,4 @@
-//! The answers of a timeline to lines.
+//! The answers of a timeline to lines, made in storage of their own.
 ghost use Rattle.std.specs.Prelude.{◌≡◌, ◌≢◌, ◌<◌, ◌≤◌, ◌∷◌, codes, drop, length, map, true, false, None, Ok};
 ghost use Rattle.std.specs.Option.{option_map};
 ghost use Rattle.std.specs.Result.{result_ok};
@@ -17,10 +17,7 @@ use crate::shown::shown_at;
 use crate::timeline::Timeline;
 use datetime_types::OffsetDateTime;
 use instants_answers::{Answer, write_fields, write_line};
-use instants_sources::{
-    Source, fast_iso8601, fast_rfc2822, fast_rfc3339, iso8601_to_minute, other_rfc2822,
-    rare_iso8601, rare_rfc3339,
-};
+use instants_sources::{Source, fast_iso8601, fast_rfc2822, fast_rfc3339};
 use parsing_combinator::Parse;
 use parsing_fields::Fields;
 
@@ -28,7 +25,7 @@ impl Timeline<'_> {
     // Writes a moment as it is shown at the target, or that its year there is not written. A call of its own, since few are
     // read the exact way.
     #[inline(never)]
-    fn write_shown(&self, named: OffsetDateTime, storage: &mut Answer)
+    pub(super) fn write_shown(&self, named: OffsetDateTime, storage: &mut Answer)
         ensures bytes { storage.new ≡
             place_text (shown_or_refused (setting_of self.now).target (Ok named)) }
         ensures room { length storage.new ≤ 63 }
@@ -67,7 +64,7 @@ impl Timeline<'_> {
 
     // Writes the moment that fields name, if they were found. Whether they were.
     #[inline(always)]
-    pub(super) fn write_found(&self, found: Option<Fields>, storage: &mut Answer) -> bool
+    fn write_found(&self, found: Option<Fields>, storage: &mut Answer) -> bool
         ensures { result ≡ true →
             IsAnswerOf (setting_of self.now) (option_map moment_of found) storage.new }
     {
@@ -130,23 +127,6 @@ impl Timeline<'_> {
             Source::Rfc3339 => self.write_rfc3339(line, storage),
             Source::Iso8601 => self.write_iso8601(line, storage),
             Source::Items(_) | Source::V3(_) => self.write_planned(source, line, storage),
-        }
-    }
-
-    // Writes the answer to a line by a source's fast way, compiled into the caller: `false` says nothing of the line.
-    #[inline(always)]
-    fn write_likely(&self, source: &Source, line: &[u8], storage: &mut Answer) -> bool
-        ensures { result ≡ true → IsAnswerOf (setting_of self.now)
-            (result_ok (named (setting_of self.now).assumed (grammar_of source.now) line.now))
-            storage.new }
-    {
-        match source {
-            Source::Rfc2822 => self.write_found(fast_rfc2822(line), storage),
-            Source::Rfc3339 => self.write_found(fast_rfc3339(line), storage),
-            Source::Iso8601 => self.write_found(fast_iso8601(line), storage),
-            Source::Items(_) | Source::V3(_) => {
-                self.write_found(source.read_planned(line, self.assumed), storage)
-            }
         }
     }
 
@@ -230,7 +210,7 @@ impl Timeline<'_> {
     // Writes the first source's fault, read the exact way, where no source names a moment.
     #[cold]
     #[inline(never)]
-    fn write_by_first(&self, line: &[u8], storage: &mut Answer)
+    pub(super) fn write_by_first(&self, line: &[u8], storage: &mut Answer)
         requires { result_ok (first_named (setting_of self.now).assumed
             (setting_of self.now).sources line.now) ≡ None }
         ensures bytes { storage.new ≡ answer_to (setting_of self.now) line.now }
@@ -243,34 +223,18 @@ impl Timeline<'_> {
         }
     }
 
-    // Writes the answer to a line that the first source's first bytes rule out: the likely source is the first after it that
-    // they do not.
-    #[inline(never)]
-    pub(super) fn write_after(&self, line: &[u8], storage: &mut Answer)
-        requires { NamesFrom (setting_of self.now) line.now 1 }
-        ensures bytes { storage.new ≡ answer_to (setting_of self.now) line.now }
-        ensures room { length storage.new ≤ 63 }
-        ensures never_long { storage.new ≢ codes "! long" }
-    {
-        let Some((place, source)) = self.likely(1, line) else {
-            self.write_first_fault(line, storage);
-            return;
-        };
-        if !self.write_likely(source, line, storage) {
-            self.write_exact(place, line, storage);
-        }
-    }
-
     // Writes the answer to a line of which the first source's fast way says nothing.
     #[cold]
     #[inline(never)]
-    pub(super) fn write_rest(&self, line: &[u8], storage: &mut Answer)
+    fn write_rest(&self, line: &[u8], storage: &mut Answer)
         ensures bytes { storage.new ≡ answer_to (setting_of self.now) line.now }
         ensures room { length storage.new ≤ 63 }
         ensures never_long { storage.new ≢ codes "! long" }
     {
         if self.has_others() && self.first().cannot_match(line) {
-            self.write_after(line, storage);
+            if !self.write_from(1, line, storage) {
+                self.write_first_fault(line, storage);
+            }
         } else {
             self.write_exact(0, line, storage);
         }
@@ -314,19 +278,16 @@ impl Timeline<'_> {
         }
     }
 
-    // Writes the answer to a line that has not the usual shape of RFC 3339, the first source: most lines with a fault of their own
-    // come this way.
+    // Writes the answer to a line that RFC 3339, the first source, reads the exact way: most lines with a fault of their own come
+    // this way.
     #[cold]
     #[inline(never)]
-    pub(super) fn write_rest_rfc3339(&self, line: &[u8], storage: &mut Answer)
+    pub(super) fn write_exact_rfc3339(&self, line: &[u8], storage: &mut Answer)
         requires { IsLedBy (setting_of self.now) grammar.Rfc3339 }
         ensures bytes { storage.new ≡ answer_to (setting_of self.now) line.now }
         ensures room { length storage.new ≤ 63 }
         ensures never_long { storage.new ≢ codes "! long" }
     {
-        if self.write_found(rare_rfc3339(line), storage) {
-            return;
-        }
         if self.assumed.is_some() {
             self.write_exact(0, line, storage);
             return;
@@ -334,48 +295,6 @@ impl Timeline<'_> {
         match parsing_rfc3339::read_exact(line) {
             Ok(named) => self.write_shown(named, storage),
             Err(fault) => self.write_refused(0, fault, line, storage),
-        }
-    }
-
-    // Writes the answer to a line that has not the usual shape of RFC 2822, the first source.
-    #[cold]
-    #[inline(never)]
-    pub(super) fn write_rest_rfc2822(&self, line: &[u8], storage: &mut Answer)
-        requires { IsLedBy (setting_of self.now) grammar.Rfc2822 }
-        ensures bytes { storage.new ≡ answer_to (setting_of self.now) line.now }
-        ensures room { length storage.new ≤ 63 }
-        ensures never_long { storage.new ≢ codes "! long" }
-    {
-        if !self.write_found(other_rfc2822(line), storage) {
-            self.write_rest(line, storage);
-        }
-    }
-
-    // Writes the answer to a line that has not the usual shape of ISO 8601, the first source.
-    #[cold]
-    #[inline(never)]
-    pub(super) fn write_rest_iso8601(&self, line: &[u8], storage: &mut Answer)
-        requires { IsLedBy (setting_of self.now) grammar.Iso8601 }
-        ensures bytes { storage.new ≡ answer_to (setting_of self.now) line.now }
-        ensures room { length storage.new ≤ 63 }
-        ensures never_long { storage.new ≢ codes "! long" }
-    {
-        if !self.write_found(iso8601_to_minute(line), storage) {
-            self.write_rare_iso8601(line, storage);
-        }
-    }
-
-    // Writes the answer to a line of neither shape of ISO 8601, the first source.
-    #[cold]
-    #[inline(never)]
-    fn write_rare_iso8601(&self, line: &[u8], storage: &mut Answer)
-        requires { IsLedBy (setting_of self.now) grammar.Iso8601 }
-        ensures bytes { storage.new ≡ answer_to (setting_of self.now) line.now }
-        ensures room { length storage.new ≤ 63 }
-        ensures never_long { storage.new ≢ codes "! long" }
-    {
-        if !self.write_found(rare_iso8601(line), storage) {
-            self.write_rest(line, storage);
         }
     }
 

@@ -1,10 +1,10 @@
 //! The ways in which the lines of a timeline are answered, each by fast ways first.
-ghost use Rattle.std.specs.Prelude.{◌≡◌, ◌≢◌, ◌≤◌, codes, length};
+ghost use Rattle.std.specs.Prelude.{◌≡◌, ◌≤◌, length};
+ghost use Rattle.instants_answers.specs.Line.{HoldsLine};
 ghost use Rattle.instants_timeline.specs.Place.{Setting, answer_to};
 ghost use Rattle.instants_timeline.specs.Settings.{setting_of};
 
 use crate::timeline::Timeline;
-use instants_answers::Answer;
 use instants_sources::{
     is_no_rfc3339, read_by_places, read_by_plan, read_by_unix, usual_iso8601, usual_rfc2822,
     usual_rfc3339,
@@ -18,12 +18,13 @@ pub(crate) trait AnswerWay {
     /// What the first source of the timeline is.
     ghost leads: { Self → Setting → Type 0 };
 
-    /// Writes the answer to a line.
-    fn write_answer(&self, timeline: &Timeline, line: &[u8], storage: &mut Answer)
-        requires { ∥ leads self.now (setting_of timeline.now) ∥₁ }
-        ensures bytes { storage.new ≡ answer_to (setting_of timeline.now) line.now }
-        ensures room { length storage.new ≤ 63 }
-        ensures never_long { storage.new ≢ codes "! long" };
+    /// Writes the answer to a line, and a line feed, at the start of a room of at least 64 bytes, and says how many bytes they
+    /// are.
+    fn fill_answer(&self, timeline: &Timeline, line: &[u8], room: &mut [u8]) -> usize
+        requires leads { ∥ leads self.now (setting_of timeline.now) ∥₁ }
+        requires room { 64 ≤ length room.old }
+        ensures line { HoldsLine (answer_to (setting_of timeline.now) line.now) result room.new }
+        ensures size { length room.new ≡ length room.old };
 }
 
 /// Where RFC 3339 is tried first. One byte tells it from nearly all lines of the sources after it.
@@ -37,13 +38,13 @@ impl AnswerWay for Rfc3339Way {
     ghost leads = { λ _ setting. IsLedBy setting Rfc3339 };
 
     #[inline(always)]
-    fn write_answer(&self, timeline: &Timeline, line: &[u8], storage: &mut Answer) {
+    fn fill_answer(&self, timeline: &Timeline, line: &[u8], room: &mut [u8]) -> usize {
         if is_no_rfc3339(line) {
-            timeline.write_after(line, storage);
-            return;
+            return timeline.fill_after(line, room);
         }
-        if !timeline.write_found(usual_rfc3339(line), storage) {
-            timeline.write_rest_rfc3339(line, storage);
+        match timeline.fill_found(usual_rfc3339(line), room) {
+            Some(len) => len,
+            None => timeline.fill_rest_rfc3339(line, room),
         }
     }
 }
@@ -59,9 +60,10 @@ impl AnswerWay for Rfc2822Way {
     ghost leads = { λ _ setting. IsLedBy setting Rfc2822 };
 
     #[inline(always)]
-    fn write_answer(&self, timeline: &Timeline, line: &[u8], storage: &mut Answer) {
-        if !timeline.write_found(usual_rfc2822(line), storage) {
-            timeline.write_rest_rfc2822(line, storage);
+    fn fill_answer(&self, timeline: &Timeline, line: &[u8], room: &mut [u8]) -> usize {
+        match timeline.fill_found(usual_rfc2822(line), room) {
+            Some(len) => len,
+            None => timeline.fill_rest_rfc2822(line, room),
         }
     }
 }
@@ -77,9 +79,10 @@ impl AnswerWay for Iso8601Way {
     ghost leads = { λ _ setting. IsLedBy setting Iso8601 };
 
     #[inline(always)]
-    fn write_answer(&self, timeline: &Timeline, line: &[u8], storage: &mut Answer) {
-        if !timeline.write_found(usual_iso8601(line), storage) {
-            timeline.write_rest_iso8601(line, storage);
+    fn fill_answer(&self, timeline: &Timeline, line: &[u8], room: &mut [u8]) -> usize {
+        match timeline.fill_found(usual_iso8601(line), room) {
+            Some(len) => len,
+            None => timeline.fill_rest_iso8601(line, room),
         }
     }
 }
@@ -105,10 +108,11 @@ impl AnswerWay for PlacesWay<'_> {
     ghost leads = { λ way setting. IsLedByPlan setting (plan.Places way.places.now) };
 
     #[inline(always)]
-    fn write_answer(&self, timeline: &Timeline, line: &[u8], storage: &mut Answer) {
+    fn fill_answer(&self, timeline: &Timeline, line: &[u8], room: &mut [u8]) -> usize {
         let planned = read_by_places(self.places, line, timeline.assumed);
-        if !timeline.write_found(planned, storage) {
-            timeline.write_rest(line, storage);
+        match timeline.fill_found(planned, room) {
+            Some(len) => len,
+            None => timeline.fill_rest(line, room),
         }
     }
 }
@@ -134,10 +138,11 @@ impl AnswerWay for UnixWay<'_> {
     ghost leads = { λ way setting. IsLedByPlan setting (plan.Unix way.unix.now) };
 
     #[inline(always)]
-    fn write_answer(&self, timeline: &Timeline, line: &[u8], storage: &mut Answer) {
+    fn fill_answer(&self, timeline: &Timeline, line: &[u8], room: &mut [u8]) -> usize {
         let planned = read_by_unix(self.unix, line, timeline.assumed);
-        if !timeline.write_found(planned, storage) {
-            timeline.write_rest(line, storage);
+        match timeline.fill_found(planned, room) {
+            Some(len) => len,
+            None => timeline.fill_rest(line, room),
         }
     }
 }
@@ -162,10 +167,11 @@ impl AnswerWay for PlannedWay<'_> {
     ghost leads = { λ way setting. IsLedByPlan setting way.plan.now };
 
     #[inline(always)]
-    fn write_answer(&self, timeline: &Timeline, line: &[u8], storage: &mut Answer) {
+    fn fill_answer(&self, timeline: &Timeline, line: &[u8], room: &mut [u8]) -> usize {
         let planned = read_by_plan(self.plan, line, timeline.assumed);
-        if !timeline.write_found(planned, storage) {
-            timeline.write_rest(line, storage);
+        match timeline.fill_found(planned, room) {
+            Some(len) => len,
+            None => timeline.fill_rest(line, room),
         }
     }
 }
@@ -178,8 +184,8 @@ impl AnswerWay for ExactWay {
     ghost leads = { λ _ _. Unit {0} };
 
     #[inline(always)]
-    fn write_answer(&self, timeline: &Timeline, line: &[u8], storage: &mut Answer) {
-        timeline.write_rest(line, storage);
+    fn fill_answer(&self, timeline: &Timeline, line: &[u8], room: &mut [u8]) -> usize {
+        timeline.fill_rest(line, room)
     }
 }
 
@@ -206,12 +212,8 @@ impl<W: AnswerWay> AnswersLines for Led<'_, '_, W> {
 
     ghost answer = { λ led. answer_to (setting_of led.timeline.now) };
 
-    fn answer_line(&self, line: &[u8]) -> Answer {
-        self.timeline.answer_line(line)
-    }
-
     #[inline(always)]
-    fn write_answer(&self, line: &[u8], storage: &mut Answer) {
-        self.way.write_answer(self.timeline, line, storage);
+    fn fill_answer(&self, line: &[u8], room: &mut [u8]) -> usize {
+        self.way.fill_answer(self.timeline, line, room)
     }
 }

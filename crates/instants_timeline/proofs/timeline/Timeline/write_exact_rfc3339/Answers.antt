@@ -5,8 +5,8 @@ use Rattle.parsing_rfc3339.specs.Direct.{direct}
 use Rattle.instants_sources.specs.Grammar as grammar
 use Rattle.instants_sources.specs.Named.{named}
 use Rattle.instants_timeline.specs.Settings.{setting_of}
-use Rattle.instants_timeline.proofs.FirstNamed.{answered_at, led_named}
-use Rattle.instants_timeline.proofs.timeline.Timeline.write_rest_rfc3339.Goals as goal
+use Rattle.instants_timeline.proofs.FirstNamed.{answered_at}
+use Rattle.instants_timeline.proofs.timeline.Timeline.write_exact_rfc3339.Goals as goal
 
 -- with no offset assumed the moment is read directly
 directly : (assumed : Option ℤ) (line : List ℕ) → is_some assumed ≡ false → named assumed grammar.Rfc3339 line ≡ direct line
@@ -24,6 +24,3 @@ returns-in-Ok-clause-bytes c =
       room = c.write_shown.ensures.room;
       never_long = c.write_shown.ensures.never_long;
     })
-
-pub returns-then-write_found-clause-bytes : goal.returns-then-write_found-clause-bytes
-returns-then-write_found-clause-bytes c = led_named (setting_of c.args.self.now) c.rare_rfc3339.result grammar.Rfc3339 c.args.line.now _ c.requires c.rare_rfc3339.ensures (c.write_found.ensures c.if-write_found.true)
