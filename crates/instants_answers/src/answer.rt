@@ -101,11 +101,10 @@ impl Answer {
         ensures line { HoldsLine self.now result room.new }
         ensures size { length room.new ≡ length room.old }
     {
-        let mut line = *self;
-        line.push(b'\n');
-        let (bytes, len) = line.padded();
-        room[..64].copy_from_slice(bytes);
-        len
+        let len = self.len;
+        room[..64].copy_from_slice(&self.bytes);
+        room[len] = b'\n';
+        len + 1
     }
 
     // Adds the first of these bytes, of which the others are zero.

@@ -9,6 +9,7 @@ ghost use Rattle.instants_stream.specs.Answers.{by_answers};
 use crate::answers_lines::AnswersLines;
 use crate::devices::{ByteReader, ByteWriter, DeviceFailed};
 use crate::run::{RunFault, write_lines};
+use crate::search::LINE_FEED;
 use crate::writes_lines::WritesLines;
 
 // Writes the answer to a last line, which no line feed ends.
@@ -27,7 +28,9 @@ fn write_last_answer<A: AnswersLines, W: ByteWriter>(
         (A.answer answers.now line.now ++ line_feed ∷ [])) }
     ensures err { OnErr result (W.failed writer.new ≡ true) }
 {
-    writer.write_answer(answers, line)
+    let mut answer = answers.answer_line(line);
+    answer.push(LINE_FEED);
+    writer.write_all(answer.as_bytes())
 }
 
 // Writes that a line is too long, and a line feed.

@@ -6,6 +6,7 @@ ghost use Rattle.instants_stream.specs.Known.{StaysOrUnknown, AppendsPrefix};
 
 use crate::answers_lines::AnswersLines;
 use crate::devices::{ByteWriter, DeviceFailed};
+use crate::search::LINE_FEED;
 use std::simd::prelude::*;
 
 /// Writes to another writer, a block at a time.
@@ -198,9 +199,9 @@ impl<W: ByteWriter> BlockWriter<W> {
             (A.answer answers.now line.now ++ line_feed ∷ [])) }
         ensures err { OnErr result (W.failed self.new.inner ≡ true) }
     {
-        let mut room = [0; 64];
-        let len = answers.fill_answer(line, &mut room);
-        self.write_all(&room[..len])
+        let mut answer = answers.answer_line(line);
+        answer.push(LINE_FEED);
+        self.write_all(answer.as_bytes())
     }
 }
 

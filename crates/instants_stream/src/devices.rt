@@ -6,6 +6,7 @@ ghost use Rattle.base.specs.Bytes.{line_feed};
 ghost use Rattle.instants_stream.specs.Known.{StaysOrUnknown, AppendsPrefix};
 
 use crate::answers_lines::AnswersLines;
+use crate::search::LINE_FEED;
 
 /// A device failed.
 #[derive(Clone, Copy, Debug, PartialEq, Eq)]
@@ -162,8 +163,8 @@ pub trait ByteWriter {
             (A.answer answers.now line.now ++ line_feed ∷ [])) }
         ensures err { OnErr result (failed self.new ≡ true) }
     {
-        let mut room = [0; 64];
-        let len = answers.fill_answer(line, &mut room);
-        self.write_all(&room[..len])
+        let mut answer = answers.answer_line(line);
+        answer.push(LINE_FEED);
+        self.write_all(answer.as_bytes())
     }
 }

@@ -23,14 +23,18 @@ impl AnswersLines for ByLength {
     ghost answer = { λ _ line. if nat_lt 10 (length line)
         then codes "1985-04-12T23:20:50.520000000Z" else codes "! component year" };
 
-    fn fill_answer(&self, line: &[u8], room: &mut [u8]) -> usize {
+    fn answer_line(&self, line: &[u8]) -> Answer {
         let mut answer = Answer::new();
         if line.len() > 10 {
             answer.push_bytes(b"1985-04-12T23:20:50.520000000Z");
         } else {
             answer.push_bytes(b"! component year");
         }
-        answer.fill_line(room)
+        answer
+    }
+
+    fn fill_answer(&self, line: &[u8], room: &mut [u8]) -> usize {
+        self.answer_line(line).fill_line(room)
     }
 }
 

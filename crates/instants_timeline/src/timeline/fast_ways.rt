@@ -5,6 +5,7 @@ ghost use Rattle.instants_timeline.specs.Place.{Setting, answer_to};
 ghost use Rattle.instants_timeline.specs.Settings.{setting_of};
 
 use crate::timeline::Timeline;
+use instants_answers::Answer;
 use instants_sources::{
     is_no_rfc3339, read_by_places, read_by_plan, read_by_unix, usual_iso8601, usual_rfc2822,
     usual_rfc3339,
@@ -211,6 +212,10 @@ impl<W: AnswerWay> AnswersLines for Led<'_, '_, W> {
     ghost use Rattle.instants_timeline.specs.Settings.{setting_of};
 
     ghost answer = { λ led. answer_to (setting_of led.timeline.now) };
+
+    fn answer_line(&self, line: &[u8]) -> Answer {
+        self.timeline.answer_line(line)
+    }
 
     #[inline(always)]
     fn fill_answer(&self, line: &[u8], room: &mut [u8]) -> usize {
