@@ -87,6 +87,11 @@ pub held_found : (setting : Setting) (found : Option Fields) (grammar : Grammar)
 held_found setting None grammar line room len h a = absurd (let no : None ≡ Some a.moment = a.is in cc)
 held_found setting (Some fields) grammar line room len h a = record { moment = a.moment; is = ap result_ok h ∙ a.is; line = a.line }
 
+pub held_if : (setting : Setting) (found : Option Fields) (grammar : Grammar) (line room : List ℕ) (filled : Option ℕ) → IfSome found (λ fields. named setting.assumed grammar line ≡ Ok (moment_of fields))
+    → IfSome filled (λ len. HoldsAnswer setting (option_map moment_of found) len room) → IfSome filled (λ len. HoldsAnswer setting (result_ok (named setting.assumed grammar line)) len room)
+held_if setting found grammar line room None h a = tt
+held_if setting found grammar line room (Some len) h a = held_found setting found grammar line room len h a
+
 -- what is found for the first source is the answer
 pub led_found : (setting : Setting) (found : Option Fields) (grammar : Grammar) (line room : List ℕ) (len : ℕ) → IsLedBy setting grammar → IfSome found (λ fields. named setting.assumed grammar line ≡ Ok (moment_of fields))
     → HoldsAnswer setting (option_map moment_of found) len room → HoldsLine (answer_to setting line) len room

@@ -280,8 +280,7 @@ impl Timeline<'_> {
 
     // Writes the answer to a line that RFC 3339, the first source, reads the exact way: most lines with a fault of their own come
     // this way.
-    #[cold]
-    #[inline(never)]
+    #[inline(always)]
     pub(super) fn write_exact_rfc3339(&self, line: &[u8], storage: &mut Answer)
         requires { IsLedBy (setting_of self.now) grammar.Rfc3339 }
         ensures bytes { storage.new ≡ answer_to (setting_of self.now) line.now }

@@ -1,5 +1,5 @@
 //! The answers of a timeline to lines, written where they are to lie. Nearly all lines are answered so.
-ghost use Rattle.std.specs.Prelude.{◌≡◌, ◌<◌, ◌≤◌, length, None, Ok, IfSome};
+ghost use Rattle.std.specs.Prelude.{◌≡◌, ◌<◌, ◌≤◌, ◌+◌, ◌∷◌, drop, length, None, Ok, IfSome};
 ghost use Rattle.std.specs.Option.{option_map};
 ghost use Rattle.std.specs.Result.{result_ok};
 ghost use Rattle.parsing_fields.specs.Moment.{moment_of};
@@ -16,10 +16,11 @@ use crate::timeline::Timeline;
 use datetime_types::OffsetDateTime;
 use instants_answers::{Answer, fill_fields};
 use instants_sources::{
-    Source, fast_iso8601, fast_rfc2822, fast_rfc3339, iso8601_to_minute, other_rfc2822,
-    rare_iso8601, rare_rfc3339,
+    Source, fast_iso8601, iso8601_to_minute, other_rfc2822, rare_iso8601, rare_rfc3339,
+    read_by_places, usual_iso8601, usual_rfc2822, usual_rfc3339,
 };
 use parsing_fields::Fields;
+use parsing_plan::Plan;
 
 impl Timeline<'_> {
     // Writes a moment whose day was counted, as few are of those that fields name.
@@ -64,17 +65,38 @@ impl Timeline<'_> {
         Some(self.fill_moved(fields, room))
     }
 
-    // Writes the answer to a line by a source's fast way, compiled into the caller: `None` says nothing of the line.
+    // Writes the answer to a line by the usual shapes of a source, compiled into the caller: `None` says nothing of the line.
     #[inline(always)]
-    fn fill_likely(&self, source: &Source, line: &[u8], room: &mut [u8]) -> Option<usize>
+    fn fill_usual(&self, source: &Source, line: &[u8], room: &mut [u8]) -> Option<usize>
         requires { 64 ≤ length room.old }
         ensures line { IfSome result (λ len. HoldsAnswer (setting_of self.now) (result_ok
             (named (setting_of self.now).assumed (grammar_of source.now) line.now)) len room.new) }
         ensures size { length room.new ≡ length room.old }
     {
         match source {
-            Source::Rfc2822 => self.fill_found(fast_rfc2822(line), room),
-            Source::Rfc3339 => self.fill_found(fast_rfc3339(line), room),
+            Source::Rfc2822 => self.fill_found(usual_rfc2822(line), room),
+            Source::Rfc3339 => self.fill_found(usual_rfc3339(line), room),
+            Source::Iso8601 => self.fill_found(usual_iso8601(line), room),
+            Source::Items(_) | Source::V3(_) => match source.plan() {
+                Some(Plan::Places(places)) => {
+                    self.fill_found(read_by_places(places, line, self.assumed), room)
+                }
+                _ => None,
+            },
+        }
+    }
+
+    // Writes the answer to a line by the other shapes of a source: `None` says nothing of the line.
+    #[inline(always)]
+    fn fill_other(&self, source: &Source, line: &[u8], room: &mut [u8]) -> Option<usize>
+        requires { 64 ≤ length room.old }
+        ensures line { IfSome result (λ len. HoldsAnswer (setting_of self.now) (result_ok
+            (named (setting_of self.now).assumed (grammar_of source.now) line.now)) len room.new) }
+        ensures size { length room.new ≡ length room.old }
+    {
+        match source {
+            Source::Rfc2822 => self.fill_found(other_rfc2822(line), room),
+            Source::Rfc3339 => self.fill_found(rare_rfc3339(line), room),
             Source::Iso8601 => self.fill_found(fast_iso8601(line), room),
             Source::Items(_) | Source::V3(_) => {
                 self.fill_found(source.read_planned(line, self.assumed), room)
@@ -112,17 +134,22 @@ impl Timeline<'_> {
         self.fill_by_first(line, room)
     }
 
-    // Writes the answer to a line for which the sources before a place name no moment, and of which the fast way of the one
-    // there says nothing.
+    // Writes the answer to a line for which the sources before a place name no moment, and that has no usual shape of the one
+    // there.
     #[cold]
     #[inline(never)]
-    fn fill_exact(&self, place: usize, line: &[u8], room: &mut [u8]) -> usize
+    fn fill_unusual(&self, place: usize, source: &Source, line: &[u8], room: &mut [u8]) -> usize
         requires room { 64 ≤ length room.old }
         requires place { place < length (setting_of self.now).sources }
         requires from { NamesFrom (setting_of self.now) line.now place }
+        requires source { drop place (setting_of self.now).sources
+            ≡ grammar_of source.now ∷ drop (place + 1) (setting_of self.now).sources }
         ensures line { HoldsLine (answer_to (setting_of self.now) line.now) result room.new }
         ensures size { length room.new ≡ length room.old }
     {
+        if let Some(len) = self.fill_other(source, line, room) {
+            return len;
+        }
         let mut answer = Answer::new();
         self.write_exact(place, line, &mut answer);
         answer.fill_line(room)
@@ -140,9 +167,9 @@ impl Timeline<'_> {
         let Some((place, source)) = self.likely(1, line) else {
             return self.fill_first_fault(line, room);
         };
-        match self.fill_likely(source, line, room) {
+        match self.fill_usual(source, line, room) {
             Some(len) => len,
-            None => self.fill_exact(place, line, room),
+            None => self.fill_unusual(place, source, line, room),
         }
     }
 
@@ -155,10 +182,11 @@ impl Timeline<'_> {
         ensures size { length room.new ≡ length room.old }
     {
         if self.has_others() && self.first().cannot_match(line) {
-            self.fill_after(line, room)
-        } else {
-            self.fill_exact(0, line, room)
+            return self.fill_after(line, room);
         }
+        let mut answer = Answer::new();
+        self.write_exact(0, line, &mut answer);
+        answer.fill_line(room)
     }
 
     // Writes the answer to a line that has not the usual shape of RFC 3339, the first source.
