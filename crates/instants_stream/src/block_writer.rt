@@ -290,8 +290,8 @@ impl<W: ByteWriter> ByteWriter for BlockWriter<W> {
             return Ok(());
         }
         self.is_flushed = false;
-        let len = put_answer(&mut self.block, self.end, answers, line);
-        self.end += len;
+        let count = put_answer(&mut self.block, self.end, answers, line);
+        self.end += count;
         Ok(())
     }
 }

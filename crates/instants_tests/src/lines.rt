@@ -70,5 +70,8 @@ fn answers(rt: HostRuntime) {
     answer.push_bytes(b"! yea");
     answer.push(b'r');
     assert!(rt; answer.as_bytes() == b"! year".as_slice());
+    let mut room = [b'?'; 64];
+    let len = answer.fill_line(&mut room);
+    assert!(rt; len == 7 && room.starts_with(b"! year\n"));
     assert!(rt; answer != Answer::new());
 }

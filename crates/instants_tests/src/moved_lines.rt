@@ -1,7 +1,7 @@
 //! Lines of fields, shown at another offset. Those that stay in their month are rows of the program `rows`.
 
 use calendar::UtcOffset;
-use instants_answers::{Answer, Target, is_target, write_fields};
+use instants_answers::{Answer, Target, fill_fields, is_target, write_fields};
 use instants_sources::{Named, fast_rfc3339};
 use instants_timeline::answer_named;
 use parsing_fields::Fields;
@@ -30,6 +30,16 @@ fn is_written(fields: &Fields, target: UtcOffset, line: &[u8]) -> bool {
     is_target(target)
         && write_fields(fields, Target::new(target), &mut answer) != line.is_empty()
         && answer.as_bytes() == line
+        && is_filled(fields, Target::new(target), line)
+}
+
+// Whether that line, and a line feed, are written at the start of a room.
+fn is_filled(fields: &Fields, target: Target, line: &[u8]) -> bool {
+    let mut room = [b'?'; 64];
+    match fill_fields(fields, target, &mut room) {
+        Some(len) => len == line.len() + 1 && room.starts_with(line) && room[len - 1] == b'\n',
+        None => line.is_empty(),
+    }
 }
 
 #[test]
