@@ -13,7 +13,7 @@ use Rattle.instants_sources.specs.declared.source.Source.{Source}
 use Rattle.instants_sources.specs.Named.{named, IsNamedBy}
 use Rattle.instants_timeline.specs.Place.{Setting, or_named, first_named, place_of, place_text, shown_or_refused, answer_to}
 use Rattle.instants_timeline.specs.Refusal.{refusal_of, refusal_text}
-use Rattle.instants_timeline.specs.FirstNamed.{HoldsAnswer, IsAnswerOf, IsLedBy, NamesFrom}
+use Rattle.instants_timeline.specs.FirstNamed.{HoldsAnswer, IsLedBy, NamesFrom}
 
 here : (o : Result Shown Fault) (others : Option Shown) (moment : Shown) → result_ok o ≡ Some moment → result_ok (or_named o others) ≡ Some moment
 here (Ok m) others moment e = e
@@ -37,21 +37,9 @@ first_named-later : (assumed : Option ℤ) (grammar : Grammar) (others : List Gr
 unfolding first_named
 first_named-later assumed grammar others line e = later (named assumed grammar line) (result_ok (first_named assumed others line)) e
 
--- an answer for a moment, wherever it is named
-pub answer_alike : {setting : Setting} {one other : Option Shown} {bytes : List ℕ} (a : IsAnswerOf setting one bytes) → other ≡ Some a.moment → IsAnswerOf setting other bytes
-answer_alike a e = record {
-  moment = a.moment;
-  is = e;
-  text = a.text;
-  room = a.room;
-  never_long = a.never_long;
-}
-
--- an answer for the moment that fields name
-pub answer_found : (setting : Setting) (found : Option Fields) (grammar : Grammar) (line bytes : List ℕ) → IfSome found (λ fields. named setting.assumed grammar line ≡ Ok (moment_of fields))
-    → IsAnswerOf setting (option_map moment_of found) bytes → IsAnswerOf setting (result_ok (named setting.assumed grammar line)) bytes
-answer_found setting None grammar line bytes h a = absurd (let no : None ≡ Some a.moment = a.is in cc)
-answer_found setting (Some fields) grammar line bytes h a = answer_alike a (ap result_ok h ∙ a.is)
+-- the line of the answer for a moment, wherever it is named
+pub held_alike : {setting : Setting} {one other : Option Shown} {len : ℕ} {room : List ℕ} (a : HoldsAnswer setting one len room) → other ≡ Some a.moment → HoldsAnswer setting other len room
+held_alike a e = record { moment = a.moment; is = e; line = a.line }
 
 pub ok_of : (r : Result Shown Fault) (m : Shown) → result_ok r ≡ Some m → r ≡ Ok m
 ok_of (Ok x) m e = ap (λ (o : Option Shown). Ok (unwrap_or o x)) e
@@ -69,14 +57,10 @@ answer_is_at setting line place grammar others moment from cut is =
     let there : result_ok (first_named setting.assumed (drop place setting.sources) line) ≡ Some moment = rw cut (first_named-here setting.assumed grammar others line moment is) in
     answer_is setting line moment (sym from ∙ there)
 
-pub answered : (setting : Setting) (line bytes : List ℕ) → IsAnswerOf setting (result_ok (first_named setting.assumed setting.sources line)) bytes → bytes ≡ answer_to setting line
-answered setting line bytes a = a.text ∙ answer_is setting line a.moment a.is
+-- a room that holds the line of the answer for it
+pub held : (setting : Setting) (line room : List ℕ) (len : ℕ) → HoldsAnswer setting (result_ok (first_named setting.assumed setting.sources line)) len room → HoldsLine (answer_to setting line) len room
+held setting line room len a = rw (← answer_is setting line a.moment a.is) a.line
 
-pub answered_at : (setting : Setting) (line bytes : List ℕ) (place : ℕ) (grammar : Grammar) (others : List Grammar) → NamesFrom setting line place → drop place setting.sources ≡ grammar ∷ others
-    → IsAnswerOf setting (result_ok (named setting.assumed grammar line)) bytes → bytes ≡ answer_to setting line
-answered_at setting line bytes place grammar others from cut a = a.text ∙ answer_is_at setting line place grammar others a.moment from cut a.is
-
--- the same of a room that holds the line of the answer
 pub held_at : (setting : Setting) (line room : List ℕ) (len place : ℕ) (grammar : Grammar) (others : List Grammar) → NamesFrom setting line place → drop place setting.sources ≡ grammar ∷ others
     → HoldsAnswer setting (result_ok (named setting.assumed grammar line)) len room → HoldsLine (answer_to setting line) len room
 held_at setting line room len place grammar others from cut a = rw (← answer_is_at setting line place grammar others a.moment from cut a.is) a.line
@@ -85,7 +69,7 @@ held_at setting line room len place grammar others from cut a = rw (← answer_i
 pub held_found : (setting : Setting) (found : Option Fields) (grammar : Grammar) (line room : List ℕ) (len : ℕ) → IfSome found (λ fields. named setting.assumed grammar line ≡ Ok (moment_of fields))
     → HoldsAnswer setting (option_map moment_of found) len room → HoldsAnswer setting (result_ok (named setting.assumed grammar line)) len room
 held_found setting None grammar line room len h a = absurd (let no : None ≡ Some a.moment = a.is in cc)
-held_found setting (Some fields) grammar line room len h a = record { moment = a.moment; is = ap result_ok h ∙ a.is; line = a.line }
+held_found setting (Some fields) grammar line room len h a = held_alike a (ap result_ok h ∙ a.is)
 
 pub held_if : (setting : Setting) (found : Option Fields) (grammar : Grammar) (line room : List ℕ) (filled : Option ℕ) → IfSome found (λ fields. named setting.assumed grammar line ≡ Ok (moment_of fields))
     → IfSome filled (λ len. HoldsAnswer setting (option_map moment_of found) len room) → IfSome filled (λ len. HoldsAnswer setting (result_ok (named setting.assumed grammar line)) len room)
@@ -119,12 +103,12 @@ fault_of_first r None fault none e = rw e refl
 fault_of_first r (Some m) fault none e = absurd (let found : Some m ≡ None = ap result_ok (ap (λ (x : Result Shown Fault). or_named x (Some m)) (sym e)) ∙ none in cc)
 
 -- where none does the answer is the first one's fault
-pub answered_fault : (setting : Setting) (line bytes : List ℕ) (grammar : Grammar) (others : List Grammar) (fault : Fault) → setting.sources ≡ grammar ∷ others
-    → result_ok (first_named setting.assumed setting.sources line) ≡ None → named setting.assumed grammar line ≡ Err fault → bytes ≡ refusal_text (refusal_of fault) → bytes ≡ answer_to setting line
+pub answer_is_fault : (setting : Setting) (line : List ℕ) (grammar : Grammar) (others : List Grammar) (fault : Fault) → setting.sources ≡ grammar ∷ others
+    → result_ok (first_named setting.assumed setting.sources line) ≡ None → named setting.assumed grammar line ≡ Err fault → refusal_text (refusal_of fault) ≡ answer_to setting line
 unfolding answer_to place_of first_named
-answered_fault setting line bytes grammar others fault e none refused text =
+answer_is_fault setting line grammar others fault e none refused =
     let first : first_named setting.assumed setting.sources line ≡ Err fault = rw e (fault_of_first (named setting.assumed grammar line) (result_ok (first_named setting.assumed others line)) fault (rw e at none) refused) in
-    rw first text
+    rw first refl
 
 -- the source at a place, and those after it
 pub sources_from : (sources : List Source) (i : ℕ) (x : Source) → i < length sources → x ≡ get_or sources i x → map grammar_of (drop i sources) ≡ grammar_of x ∷ map grammar_of (drop (i + 1) sources)

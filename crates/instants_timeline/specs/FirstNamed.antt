@@ -19,14 +19,6 @@ abbrev pub NamesFrom : Setting → List ℕ → ℕ → Type 0
 NamesFrom setting line place =
     result_ok (first_named setting.assumed (drop place setting.sources) line) ≡ result_ok (first_named setting.assumed setting.sources line)
 
--- a moment is named, and these bytes are the answer for it
-pub record IsAnswerOf (setting : Setting) (named : Option Shown) (bytes : List ℕ) : Type 0 where
-  pub moment : Shown
-  pub is : named ≡ Some moment
-  pub text : bytes ≡ place_text (shown_or_refused setting.target (Ok moment))
-  pub room : length bytes ≤ 63
-  pub never_long : bytes ≢ codes "! long"
-
 -- a moment is named, and a room holds the line of the answer for it
 pub record HoldsAnswer (setting : Setting) (named : Option Shown) (len : ℕ) (room : List ℕ) : Type 0 where
   pub moment : Shown

@@ -1,5 +1,6 @@
 //! Why a line has no place on the timeline.
-ghost use Rattle.std.specs.Prelude.{◌≡◌, ◌≢◌, ◌≤◌, codes, length};
+ghost use Rattle.std.specs.Prelude.{◌≡◌, ◌≢◌, ◌+◌, ◌≤◌, [], ◌∷◌, ◌++◌, codes, length, take};
+ghost use Rattle.base.specs.Bytes.{line_feed};
 ghost use Rattle.instants_answers.specs.Line.{HoldsLine};
 
 use instants_answers::Answer;
@@ -54,18 +55,54 @@ impl LineFault {
         }
     }
 
-    // Writes a fault that is not known when this is compiled, by a call.
+    // Writes what stands for a line, and a line feed, at the start of a room of at least 64 bytes, and says how many bytes they
+    // are.
     #[cold]
     #[inline(never)]
-    pub(crate) fn write(self, answer: &mut Answer)
+    pub(crate) fn fill(self, room: &mut [u8]) -> usize
+        requires room { 64 ≤ length room.old }
         requires short { IsShort (refusal_said self) }
         requires not_long { refusal_said self ≢ long }
-        ensures bytes { answer.new ≡ refusal_text (refusal_said self) }
-        ensures room { length answer.new ≤ 63 }
-        ensures never_long { answer.new ≢ codes "! long" }
+        ensures line { HoldsLine (refusal_text (refusal_said self)) result room.new }
+        ensures size { length room.new ≡ length room.old }
     {
-        self.put(answer);
+        match self {
+            LineFault::Literal => fill_text(room, b"! literal\n"),
+            LineFault::Component(name) => fill_named(room, b"! component ", name.as_bytes()),
+            LineFault::Trailing => fill_text(room, b"! trailing\n"),
+            LineFault::Insufficient => fill_text(room, b"! insufficient\n"),
+            LineFault::Range(name) => fill_named(room, b"! range ", name.as_bytes()),
+            LineFault::Year => fill_text(room, b"! year\n"),
+            LineFault::Long => fill_text(room, b"! long\n"),
+        }
     }
+}
+
+// Writes a text at the start of a room, and says how many bytes it has.
+#[inline(always)]
+fn fill_text(room: &mut [u8], text: &[u8]) -> usize
+    requires { length text.now ≤ length room.old }
+    ensures text { take result room.new ≡ text.now }
+    ensures len { result ≡ length text.now }
+    ensures size { length room.new ≡ length room.old }
+{
+    room[..text.len()].copy_from_slice(text);
+    text.len()
+}
+
+// Writes a text, a name and a line feed at the start of a room, and says how many bytes they have.
+#[inline(always)]
+fn fill_named(room: &mut [u8], text: &[u8], name: &[u8]) -> usize
+    requires { length text.now + length name.now + 1 ≤ length room.old }
+    ensures text { take result room.new ≡ (text.now ++ name.now) ++ line_feed ∷ [] }
+    ensures len { result ≡ length text.now + length name.now + 1 }
+    ensures size { length room.new ≡ length room.old }
+{
+    let (start, end) = (text.len(), text.len() + name.len());
+    room[..start].copy_from_slice(text);
+    room[start..end].copy_from_slice(name);
+    room[end] = b'\n';
+    end + 1
 }
 
 /// Writes the line of a line without a year, as most lines without a date are, at the start of a room of at least 64 bytes,
@@ -76,8 +113,7 @@ pub(crate) fn fill_no_year(room: &mut [u8]) -> usize
     ensures line { HoldsLine (codes "! component year") result room.new }
     ensures size { length room.new ≡ length room.old }
 {
-    room[..17].copy_from_slice(b"! component year\n");
-    17
+    fill_text(room, b"! component year\n")
 }
 
 impl From<Parse> for LineFault {

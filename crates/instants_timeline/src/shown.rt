@@ -37,7 +37,7 @@ pub fn answer_moment(target: Target, moment: OffsetDateTime) -> Answer
         Some(shown) => rfc3339_line(shown),
         None => {
             let mut answer = Answer::new();
-            LineFault::Year.write(&mut answer);
+            LineFault::Year.put(&mut answer);
             answer
         }
     }
@@ -78,7 +78,7 @@ pub fn answer_by(
         Ok(moment) => Ok(answer_moment(target, moment)),
         Err(fault) => {
             let mut text = Answer::new();
-            LineFault::from(fault).write(&mut text);
+            LineFault::from(fault).put(&mut text);
             Err(text)
         }
     }

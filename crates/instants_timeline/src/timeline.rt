@@ -7,7 +7,6 @@ ghost use Rattle.instants_timeline.specs.Tried.{nodes_in_all};
 mod answers;
 mod calls;
 mod fast_ways;
-mod filled;
 mod nodes;
 mod parts;
 

@@ -1,299 +1,395 @@
-//! The answers of a timeline to lines, made in storage of their own.
-ghost use Rattle.std.specs.Prelude.{◌≡◌, ◌≢◌, ◌<◌, ◌≤◌, ◌∷◌, codes, drop, length, map, true, false, None, Ok};
+//! The answers of a timeline to lines, each written where it is to lie: at the start of a room of at least 64 bytes, with its
+//! line feed.
+ghost use Rattle.std.specs.Prelude.{◌≡◌, ◌≢◌, ◌<◌, ◌≤◌, ◌+◌, ◌∷◌, codes, drop, length, map, None, Ok, IfSome, IfNone};
 ghost use Rattle.std.specs.Option.{option_map};
 ghost use Rattle.std.specs.Result.{result_ok};
 ghost use Rattle.parsing_combinator.specs.FaultOf.{fault_of};
 ghost use Rattle.parsing_combinator.specs.ShortName.{HasShortName};
 ghost use Rattle.parsing_fields.specs.Moment.{moment_of};
+ghost use Rattle.instants_answers.specs.Line.{HoldsLine};
 ghost use Rattle.instants_sources.specs.Grammar.{grammar_of};
 ghost use Rattle.instants_sources.specs.Grammar as grammar;
 ghost use Rattle.instants_sources.specs.Named.{named};
-ghost use Rattle.instants_timeline.specs.FirstNamed.{IsAnswerOf, IsFaultAt, IsLedBy, NamesFrom};
-ghost use Rattle.instants_timeline.specs.Place.{first_named, place_text, shown_or_refused, answer_to};
+ghost use Rattle.instants_timeline.specs.FirstNamed.{HoldsAnswer, IsFaultAt, IsLedBy, NamesFrom};
+ghost use Rattle.instants_timeline.specs.Place.{answer_to, first_named, place_text, shown_or_refused};
 ghost use Rattle.instants_timeline.specs.Settings.{setting_of};
 
-use crate::line_fault::LineFault;
+use crate::line_fault::{LineFault, fill_no_year};
 use crate::shown::shown_at;
 use crate::timeline::Timeline;
 use datetime_types::OffsetDateTime;
-use instants_answers::{Answer, write_fields, write_line};
-use instants_sources::{Source, fast_iso8601, fast_rfc2822, fast_rfc3339};
+use instants_answers::{Answer, fill_fields, write_line};
+use instants_sources::{
+    Source, fast_iso8601, iso8601_to_minute, other_rfc2822, rare_iso8601, rare_rfc3339,
+    read_by_places, usual_iso8601, usual_rfc2822, usual_rfc3339,
+};
 use parsing_combinator::Parse;
 use parsing_fields::Fields;
+use parsing_plan::Plan;
 
 impl Timeline<'_> {
     // Writes a moment as it is shown at the target, or that its year there is not written. A call of its own, since few are
     // read the exact way.
     #[inline(never)]
-    pub(super) fn write_shown(&self, named: OffsetDateTime, storage: &mut Answer)
-        ensures bytes { storage.new ≡
-            place_text (shown_or_refused (setting_of self.now).target (Ok named)) }
-        ensures room { length storage.new ≤ 63 }
-        ensures never_long { storage.new ≢ codes "! long" }
+    fn fill_shown(&self, named: OffsetDateTime, room: &mut [u8]) -> usize
+        requires { 64 ≤ length room.old }
+        ensures line { HoldsLine (place_text (shown_or_refused (setting_of self.now).target
+            (Ok named))) result room.new }
+        ensures size { length room.new ≡ length room.old }
     {
+        let mut answer = Answer::new();
         match shown_at(self.target, named) {
-            Some(moment) => write_line(moment, storage),
-            None => LineFault::Year.write(storage),
+            Some(moment) => write_line(moment, &mut answer),
+            None => LineFault::Year.put(&mut answer),
         }
+        answer.fill_line(room)
     }
 
     // Writes a moment whose day was counted, as few are of those that fields name.
     #[cold]
     #[inline(never)]
-    fn write_counted(&self, named: OffsetDateTime, storage: &mut Answer)
-        ensures bytes { storage.new ≡
-            place_text (shown_or_refused (setting_of self.now).target (Ok named)) }
-        ensures room { length storage.new ≤ 63 }
-        ensures never_long { storage.new ≢ codes "! long" }
+    fn fill_counted(&self, named: OffsetDateTime, room: &mut [u8]) -> usize
+        requires { 64 ≤ length room.old }
+        ensures line { HoldsLine (place_text (shown_or_refused (setting_of self.now).target
+            (Ok named))) result room.new }
+        ensures size { length room.new ≡ length room.old }
     {
-        self.write_shown(named, storage);
+        self.fill_shown(named, room)
     }
 
     // Writes the moment that fields name: nearly all are written with no day counted.
     #[inline(always)]
-    fn write_moved(&self, fields: Fields, storage: &mut Answer)
-        ensures bytes { storage.new ≡
-            place_text (shown_or_refused (setting_of self.now).target (Ok (moment_of fields))) }
-        ensures room { length storage.new ≤ 63 }
-        ensures never_long { storage.new ≢ codes "! long" }
+    fn fill_moved(&self, fields: Fields, room: &mut [u8]) -> usize
+        requires { 64 ≤ length room.old }
+        ensures line { HoldsLine (place_text (shown_or_refused (setting_of self.now).target
+            (Ok (moment_of fields)))) result room.new }
+        ensures size { length room.new ≡ length room.old }
     {
-        if !write_fields(&fields, self.target, storage) {
-            self.write_counted(fields.moment(), storage);
+        match fill_fields(&fields, self.target, room) {
+            Some(len) => len,
+            None => self.fill_counted(fields.moment(), room),
         }
     }
 
-    // Writes the moment that fields name, if they were found. Whether they were.
+    // Writes the moment that fields name, if they were found.
     #[inline(always)]
-    fn write_found(&self, found: Option<Fields>, storage: &mut Answer) -> bool
-        ensures { result ≡ true →
-            IsAnswerOf (setting_of self.now) (option_map moment_of found) storage.new }
+    pub(super) fn fill_found(&self, found: Option<Fields>, room: &mut [u8]) -> Option<usize>
+        requires { 64 ≤ length room.old }
+        ensures line { IfSome result (λ len.
+            HoldsAnswer (setting_of self.now) (option_map moment_of found) len room.new) }
+        ensures size { length room.new ≡ length room.old }
     {
         let Some(fields) = found else {
-            return false;
+            return None;
         };
-        self.write_moved(fields, storage);
-        true
+        Some(self.fill_moved(fields, room))
     }
 
-    // Writes the answer to a line of RFC 2822, if the fast way finds one: `false` says nothing of the line.
-    #[inline(never)]
-    fn write_rfc2822(&self, line: &[u8], storage: &mut Answer) -> bool
-        ensures { result ≡ true → IsAnswerOf (setting_of self.now)
-            (result_ok (named (setting_of self.now).assumed grammar.Rfc2822 line.now))
-            storage.new }
-    {
-        self.write_found(fast_rfc2822(line), storage)
-    }
-
-    // Writes the answer to a line of RFC 3339, if the fast way finds one: `false` says nothing of the line.
-    #[inline(never)]
-    fn write_rfc3339(&self, line: &[u8], storage: &mut Answer) -> bool
-        ensures { result ≡ true → IsAnswerOf (setting_of self.now)
-            (result_ok (named (setting_of self.now).assumed grammar.Rfc3339 line.now))
-            storage.new }
-    {
-        self.write_found(fast_rfc3339(line), storage)
-    }
-
-    // Writes the answer to a line of ISO 8601, if the fast way finds one: `false` says nothing of the line.
-    #[inline(never)]
-    fn write_iso8601(&self, line: &[u8], storage: &mut Answer) -> bool
-        ensures { result ≡ true → IsAnswerOf (setting_of self.now)
-            (result_ok (named (setting_of self.now).assumed grammar.Iso8601 line.now))
-            storage.new }
-    {
-        self.write_found(fast_iso8601(line), storage)
-    }
-
-    // Writes the answer to a line by the plan of a description, if that finds one: `false` says nothing of the line.
-    #[inline(never)]
-    fn write_planned(&self, source: &Source, line: &[u8], storage: &mut Answer) -> bool
-        ensures { result ≡ true → IsAnswerOf (setting_of self.now)
-            (result_ok (named (setting_of self.now).assumed (grammar_of source.now) line.now))
-            storage.new }
-    {
-        self.write_found(source.read_planned(line, self.assumed), storage)
-    }
-
-    // Writes the answer to a line by a source's fast way, if that finds one: `false` says nothing of the line.
+    // Writes the answer to a line by the usual shapes of a source, compiled into the caller: `None` says nothing of the line.
     #[inline(always)]
-    fn write_fast(&self, source: &Source, line: &[u8], storage: &mut Answer) -> bool
-        ensures { result ≡ true → IsAnswerOf (setting_of self.now)
-            (result_ok (named (setting_of self.now).assumed (grammar_of source.now) line.now))
-            storage.new }
+    fn fill_usual(&self, source: &Source, line: &[u8], room: &mut [u8]) -> Option<usize>
+        requires { 64 ≤ length room.old }
+        ensures line { IfSome result (λ len. HoldsAnswer (setting_of self.now) (result_ok
+            (named (setting_of self.now).assumed (grammar_of source.now) line.now)) len room.new) }
+        ensures size { length room.new ≡ length room.old }
     {
         match source {
-            Source::Rfc2822 => self.write_rfc2822(line, storage),
-            Source::Rfc3339 => self.write_rfc3339(line, storage),
-            Source::Iso8601 => self.write_iso8601(line, storage),
-            Source::Items(_) | Source::V3(_) => self.write_planned(source, line, storage),
+            Source::Rfc2822 => self.fill_found(usual_rfc2822(line), room),
+            Source::Rfc3339 => self.fill_found(usual_rfc3339(line), room),
+            Source::Iso8601 => self.fill_found(usual_iso8601(line), room),
+            Source::Items(_) | Source::V3(_) => match source.plan() {
+                Some(Plan::Places(places)) => {
+                    self.fill_found(read_by_places(places, line, self.assumed), room)
+                }
+                _ => None,
+            },
         }
     }
 
-    // Writes the answer to a line for which a source names a moment. Whether it names one.
+    // Writes the answer to a line by the other shapes of a source: `None` says nothing of the line.
     #[inline(always)]
-    fn write_by(&self, source: &Source, line: &[u8], storage: &mut Answer) -> bool
-        ensures answer { result ≡ true → IsAnswerOf (setting_of self.now)
-            (result_ok (named (setting_of self.now).assumed (grammar_of source.now) line.now))
-            storage.new }
-        ensures none { result ≡ false →
-            result_ok (named (setting_of self.now).assumed (grammar_of source.now) line.now)
-            ≡ None }
+    fn fill_other(&self, source: &Source, line: &[u8], room: &mut [u8]) -> Option<usize>
+        requires { 64 ≤ length room.old }
+        ensures line { IfSome result (λ len. HoldsAnswer (setting_of self.now) (result_ok
+            (named (setting_of self.now).assumed (grammar_of source.now) line.now)) len room.new) }
+        ensures size { length room.new ≡ length room.old }
+    {
+        match source {
+            Source::Rfc2822 => self.fill_found(other_rfc2822(line), room),
+            Source::Rfc3339 => self.fill_found(rare_rfc3339(line), room),
+            Source::Iso8601 => self.fill_found(fast_iso8601(line), room),
+            Source::Items(_) | Source::V3(_) => {
+                self.fill_found(source.read_planned(line, self.assumed), room)
+            }
+        }
+    }
+
+    // Writes the answer to a line by a source's fast ways: `None` says nothing of the line.
+    #[inline(never)]
+    fn fill_fast(&self, source: &Source, line: &[u8], room: &mut [u8]) -> Option<usize>
+        requires { 64 ≤ length room.old }
+        ensures line { IfSome result (λ len. HoldsAnswer (setting_of self.now) (result_ok
+            (named (setting_of self.now).assumed (grammar_of source.now) line.now)) len room.new) }
+        ensures size { length room.new ≡ length room.old }
+    {
+        self.fill_found(source.read_fast(line, self.assumed), room)
+    }
+
+    // Writes the answer to a line for which a source names a moment: `None` where it names none.
+    #[inline(always)]
+    fn fill_by(&self, source: &Source, line: &[u8], room: &mut [u8]) -> Option<usize>
+        requires { 64 ≤ length room.old }
+        ensures line { IfSome result (λ len. HoldsAnswer (setting_of self.now) (result_ok
+            (named (setting_of self.now).assumed (grammar_of source.now) line.now)) len room.new) }
+        ensures none { IfNone result (result_ok
+            (named (setting_of self.now).assumed (grammar_of source.now) line.now) ≡ None) }
+        ensures size { length room.new ≡ length room.old }
     {
         if source.cannot_match(line) {
-            return false;
+            return None;
         }
-        if self.write_fast(source, line, storage) {
-            return true;
+        if let Some(len) = self.fill_fast(source, line, room) {
+            return Some(len);
         }
         match source.read_exact(line, self.assumed) {
-            Ok(named) => {
-                self.write_shown(named, storage);
-                true
-            }
-            Err(_) => false,
+            Ok(named) => Some(self.fill_shown(named, room)),
+            Err(_) => None,
         }
     }
 
-    // Writes the answer to a line by the first of the sources that names a moment. Whether one does.
+    // Writes the answer to a line by the first of the sources that names a moment: `None` where none does.
     #[inline(never)]
-    fn write_by_any(&self, sources: &[Source], line: &[u8], storage: &mut Answer) -> bool
-        ensures answer { result ≡ true → IsAnswerOf (setting_of self.now)
-            (result_ok
+    fn fill_by_any(&self, sources: &[Source], line: &[u8], room: &mut [u8]) -> Option<usize>
+        requires { 64 ≤ length room.old }
+        ensures line { IfSome result (λ len. HoldsAnswer (setting_of self.now) (result_ok
             (first_named (setting_of self.now).assumed (map grammar_of sources.now) line.now))
-            storage.new }
-        ensures none { result ≡ false → result_ok
+            len room.new) }
+        ensures none { IfNone result (result_ok
             (first_named (setting_of self.now).assumed (map grammar_of sources.now) line.now)
-            ≡ None }
+            ≡ None) }
+        ensures size { length room.new ≡ length room.old }
     {
         for source in sources {
-            if self.write_by(source, line, storage) {
-                return true;
+            if let Some(len) = self.fill_by(source, line, room) {
+                return Some(len);
             }
         }
-        false
+        None
     }
 
-    // Writes the answer to a line by the sources from a place on, where those before it name no moment. Whether one does. Mostly
-    // the first bytes rule all of them out.
+    // Writes the answer to a line by the sources from a place on, where those before it name no moment: `None` where none does.
+    // Mostly the first bytes rule all of them out.
     #[inline(always)]
-    fn write_from(&self, place: usize, line: &[u8], storage: &mut Answer) -> bool
-        requires { NamesFrom (setting_of self.now) line.now place }
-        ensures answer { result ≡ true → IsAnswerOf (setting_of self.now) (result_ok
+    fn fill_from(&self, place: usize, line: &[u8], room: &mut [u8]) -> Option<usize>
+        requires room { 64 ≤ length room.old }
+        requires from { NamesFrom (setting_of self.now) line.now place }
+        ensures line { IfSome result (λ len. HoldsAnswer (setting_of self.now) (result_ok
             (first_named (setting_of self.now).assumed (setting_of self.now).sources line.now))
-            storage.new }
-        ensures none { result ≡ false → result_ok (first_named (setting_of self.now).assumed
-            (setting_of self.now).sources line.now) ≡ None }
+            len room.new) }
+        ensures none { IfNone result (result_ok (first_named (setting_of self.now).assumed
+            (setting_of self.now).sources line.now) ≡ None) }
+        ensures size { length room.new ≡ length room.old }
     {
         match self.likely(place, line) {
-            Some((likely, _)) => self.write_by_any(self.sources_from(likely), line, storage),
-            None => false,
-        }
-    }
-
-    // Writes the answer to a line for which no source names a moment: the first one's fault.
-    #[inline(always)]
-    fn write_first_fault(&self, line: &[u8], storage: &mut Answer)
-        requires { result_ok (first_named (setting_of self.now).assumed
-            (setting_of self.now).sources line.now) ≡ None }
-        ensures bytes { storage.new ≡ answer_to (setting_of self.now) line.now }
-        ensures room { length storage.new ≤ 63 }
-        ensures never_long { storage.new ≢ codes "! long" }
-    {
-        if self.first().has_no_year(line, self.assumed) {
-            LineFault::Component("year").put(storage);
-        } else {
-            self.write_by_first(line, storage);
+            Some((likely, _)) => self.fill_by_any(self.sources_from(likely), line, room),
+            None => None,
         }
     }
 
     // Writes the first source's fault, read the exact way, where no source names a moment.
     #[cold]
     #[inline(never)]
-    pub(super) fn write_by_first(&self, line: &[u8], storage: &mut Answer)
-        requires { result_ok (first_named (setting_of self.now).assumed
+    fn fill_by_first(&self, line: &[u8], room: &mut [u8]) -> usize
+        requires room { 64 ≤ length room.old }
+        requires none { result_ok (first_named (setting_of self.now).assumed
             (setting_of self.now).sources line.now) ≡ None }
-        ensures bytes { storage.new ≡ answer_to (setting_of self.now) line.now }
-        ensures room { length storage.new ≤ 63 }
-        ensures never_long { storage.new ≢ codes "! long" }
+        ensures line { HoldsLine (answer_to (setting_of self.now) line.now) result room.new }
+        ensures size { length room.new ≡ length room.old }
     {
         match self.first().read_exact(line, self.assumed) {
-            Ok(named) => self.write_shown(named, storage),
-            Err(fault) => LineFault::from(fault).write(storage),
+            Ok(named) => self.fill_shown(named, room),
+            Err(fault) => LineFault::from(fault).fill(room),
+        }
+    }
+
+    // Writes the answer to a line for which no source names a moment: the first one's fault.
+    #[inline(always)]
+    fn fill_first_fault(&self, line: &[u8], room: &mut [u8]) -> usize
+        requires room { 64 ≤ length room.old }
+        requires none { result_ok (first_named (setting_of self.now).assumed
+            (setting_of self.now).sources line.now) ≡ None }
+        ensures line { HoldsLine (answer_to (setting_of self.now) line.now) result room.new }
+        ensures size { length room.new ≡ length room.old }
+    {
+        if self.first().has_no_year(line, self.assumed) {
+            return fill_no_year(room);
+        }
+        self.fill_by_first(line, room)
+    }
+
+    // Writes the answer to a line for which the sources before a place name no moment, and in which the one there finds this
+    // fault.
+    #[inline(always)]
+    fn fill_refused(&self, place: usize, fault: Parse, line: &[u8], room: &mut [u8]) -> usize
+        requires room { 64 ≤ length room.old }
+        requires from { NamesFrom (setting_of self.now) line.now place }
+        requires fault { IsFaultAt (setting_of self.now) line.now place (fault_of fault) }
+        requires short { HasShortName (fault_of fault) }
+        ensures line { HoldsLine (answer_to (setting_of self.now) line.now) result room.new }
+        ensures size { length room.new ≡ length room.old }
+    {
+        if let Some(len) = self.fill_from(place + 1, line, room) {
+            return len;
+        }
+        if place == 0 {
+            LineFault::from(fault).fill(room)
+        } else {
+            self.fill_first_fault(line, room)
+        }
+    }
+
+    // Writes the answer to a line for which the sources before a place name no moment, by reading it the exact way from there on.
+    #[inline(always)]
+    fn fill_exact(&self, place: usize, line: &[u8], room: &mut [u8]) -> usize
+        requires room { 64 ≤ length room.old }
+        requires place { place < length (setting_of self.now).sources }
+        requires from { NamesFrom (setting_of self.now) line.now place }
+        ensures line { HoldsLine (answer_to (setting_of self.now) line.now) result room.new }
+        ensures size { length room.new ≡ length room.old }
+    {
+        match self.source_at(place).read_exact(line, self.assumed) {
+            Ok(named) => self.fill_shown(named, room),
+            Err(fault) => self.fill_refused(place, fault, line, room),
+        }
+    }
+
+    // Writes the answer to a line for which the sources before a place name no moment, and that has no usual shape of the one
+    // there.
+    #[cold]
+    #[inline(never)]
+    fn fill_unusual(&self, place: usize, source: &Source, line: &[u8], room: &mut [u8]) -> usize
+        requires room { 64 ≤ length room.old }
+        requires place { place < length (setting_of self.now).sources }
+        requires from { NamesFrom (setting_of self.now) line.now place }
+        requires source { drop place (setting_of self.now).sources
+            ≡ grammar_of source.now ∷ drop (place + 1) (setting_of self.now).sources }
+        ensures line { HoldsLine (answer_to (setting_of self.now) line.now) result room.new }
+        ensures size { length room.new ≡ length room.old }
+    {
+        if let Some(len) = self.fill_other(source, line, room) {
+            return len;
+        }
+        self.fill_exact(place, line, room)
+    }
+
+    // Writes the answer to a line that the first source's first bytes rule out: the likely source is the first after it that
+    // they do not.
+    #[inline(never)]
+    pub(super) fn fill_after(&self, line: &[u8], room: &mut [u8]) -> usize
+        requires room { 64 ≤ length room.old }
+        requires from { NamesFrom (setting_of self.now) line.now 1 }
+        ensures line { HoldsLine (answer_to (setting_of self.now) line.now) result room.new }
+        ensures size { length room.new ≡ length room.old }
+    {
+        let Some((place, source)) = self.likely(1, line) else {
+            return self.fill_first_fault(line, room);
+        };
+        match self.fill_usual(source, line, room) {
+            Some(len) => len,
+            None => self.fill_unusual(place, source, line, room),
         }
     }
 
     // Writes the answer to a line of which the first source's fast way says nothing.
     #[cold]
     #[inline(never)]
-    fn write_rest(&self, line: &[u8], storage: &mut Answer)
-        ensures bytes { storage.new ≡ answer_to (setting_of self.now) line.now }
-        ensures room { length storage.new ≤ 63 }
-        ensures never_long { storage.new ≢ codes "! long" }
+    pub(super) fn fill_rest(&self, line: &[u8], room: &mut [u8]) -> usize
+        requires { 64 ≤ length room.old }
+        ensures line { HoldsLine (answer_to (setting_of self.now) line.now) result room.new }
+        ensures size { length room.new ≡ length room.old }
     {
         if self.has_others() && self.first().cannot_match(line) {
-            if !self.write_from(1, line, storage) {
-                self.write_first_fault(line, storage);
-            }
-        } else {
-            self.write_exact(0, line, storage);
+            return self.fill_after(line, room);
         }
+        self.fill_exact(0, line, room)
     }
 
-    // Writes the answer to a line for which the sources before a place name no moment, and in which the one there finds this
-    // fault.
-    #[inline(always)]
-    fn write_refused(&self, place: usize, fault: Parse, line: &[u8], storage: &mut Answer)
-        requires from { NamesFrom (setting_of self.now) line.now place }
-        requires fault { IsFaultAt (setting_of self.now) line.now place (fault_of fault) }
-        requires short { HasShortName (fault_of fault) }
-        ensures bytes { storage.new ≡ answer_to (setting_of self.now) line.now }
-        ensures room { length storage.new ≤ 63 }
-        ensures never_long { storage.new ≢ codes "! long" }
-    {
-        if self.write_from(place + 1, line, storage) {
-            return;
-        }
-        if place == 0 {
-            LineFault::from(fault).write(storage);
-        } else {
-            self.write_first_fault(line, storage);
-        }
-    }
-
-    // Writes the answer to a line for which the sources before a place name no moment, and of which the fast way of the one
-    // there says nothing.
+    // Writes the answer to a line that has not the usual shape of RFC 3339, the first source.
     #[cold]
     #[inline(never)]
-    pub(super) fn write_exact(&self, place: usize, line: &[u8], storage: &mut Answer)
-        requires place { place < length (setting_of self.now).sources }
-        requires from { NamesFrom (setting_of self.now) line.now place }
-        ensures bytes { storage.new ≡ answer_to (setting_of self.now) line.now }
-        ensures room { length storage.new ≤ 63 }
-        ensures never_long { storage.new ≢ codes "! long" }
+    pub(super) fn fill_rest_rfc3339(&self, line: &[u8], room: &mut [u8]) -> usize
+        requires room { 64 ≤ length room.old }
+        requires led { IsLedBy (setting_of self.now) grammar.Rfc3339 }
+        ensures line { HoldsLine (answer_to (setting_of self.now) line.now) result room.new }
+        ensures size { length room.new ≡ length room.old }
     {
-        match self.source_at(place).read_exact(line, self.assumed) {
-            Ok(named) => self.write_shown(named, storage),
-            Err(fault) => self.write_refused(place, fault, line, storage),
+        if let Some(len) = self.fill_found(rare_rfc3339(line), room) {
+            return len;
+        }
+        if self.assumed.is_some() {
+            return self.fill_exact(0, line, room);
+        }
+        match parsing_rfc3339::read_exact(line) {
+            Ok(named) => self.fill_shown(named, room),
+            Err(fault) => self.fill_refused(0, fault, line, room),
         }
     }
 
-    // Writes the answer to a line that RFC 3339, the first source, reads the exact way: most lines with a fault of their own come
-    // this way.
-    #[inline(always)]
-    pub(super) fn write_exact_rfc3339(&self, line: &[u8], storage: &mut Answer)
-        requires { IsLedBy (setting_of self.now) grammar.Rfc3339 }
-        ensures bytes { storage.new ≡ answer_to (setting_of self.now) line.now }
-        ensures room { length storage.new ≤ 63 }
-        ensures never_long { storage.new ≢ codes "! long" }
+    // Writes the answer to a line that has not the usual shape of RFC 2822, the first source.
+    #[cold]
+    #[inline(never)]
+    pub(super) fn fill_rest_rfc2822(&self, line: &[u8], room: &mut [u8]) -> usize
+        requires room { 64 ≤ length room.old }
+        requires led { IsLedBy (setting_of self.now) grammar.Rfc2822 }
+        ensures line { HoldsLine (answer_to (setting_of self.now) line.now) result room.new }
+        ensures size { length room.new ≡ length room.old }
     {
-        if self.assumed.is_some() {
-            self.write_exact(0, line, storage);
-            return;
+        match self.fill_found(other_rfc2822(line), room) {
+            Some(len) => len,
+            None => self.fill_rest(line, room),
         }
-        match parsing_rfc3339::read_exact(line) {
-            Ok(named) => self.write_shown(named, storage),
-            Err(fault) => self.write_refused(0, fault, line, storage),
+    }
+
+    // Writes the answer to a line that has not the usual shape of ISO 8601, the first source.
+    #[cold]
+    #[inline(never)]
+    pub(super) fn fill_rest_iso8601(&self, line: &[u8], room: &mut [u8]) -> usize
+        requires room { 64 ≤ length room.old }
+        requires led { IsLedBy (setting_of self.now) grammar.Iso8601 }
+        ensures line { HoldsLine (answer_to (setting_of self.now) line.now) result room.new }
+        ensures size { length room.new ≡ length room.old }
+    {
+        match self.fill_found(iso8601_to_minute(line), room) {
+            Some(len) => len,
+            None => self.fill_rare_iso8601(line, room),
+        }
+    }
+
+    // Writes the answer to a line of neither shape of ISO 8601, the first source.
+    #[cold]
+    #[inline(never)]
+    fn fill_rare_iso8601(&self, line: &[u8], room: &mut [u8]) -> usize
+        requires room { 64 ≤ length room.old }
+        requires led { IsLedBy (setting_of self.now) grammar.Iso8601 }
+        ensures line { HoldsLine (answer_to (setting_of self.now) line.now) result room.new }
+        ensures size { length room.new ≡ length room.old }
+    {
+        match self.fill_found(rare_iso8601(line), room) {
+            Some(len) => len,
+            None => self.fill_rest(line, room),
+        }
+    }
+
+    // Writes the answer to a line, whatever the first source is.
+    #[inline(always)]
+    fn fill_any(&self, line: &[u8], room: &mut [u8]) -> usize
+        requires { 64 ≤ length room.old }
+        ensures line { HoldsLine (answer_to (setting_of self.now) line.now) result room.new }
+        ensures size { length room.new ≡ length room.old }
+    {
+        match self.fill_fast(self.first(), line, room) {
+            Some(len) => len,
+            None => self.fill_rest(line, room),
         }
     }
 
@@ -303,10 +399,10 @@ impl Timeline<'_> {
         ensures room { length result ≤ 63 }
         ensures never_long { result ≢ codes "! long" }
     {
+        let mut room = [0; 64];
+        let len = self.fill_any(line, &mut room);
         let mut answer = Answer::new();
-        if !self.write_fast(self.first(), line, &mut answer) {
-            self.write_rest(line, &mut answer);
-        }
+        answer.push_bytes(&room[..len - 1]);
         answer
     }
 }

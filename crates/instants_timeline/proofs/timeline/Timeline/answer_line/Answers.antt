@@ -1,10 +1,23 @@
-use Rattle.std.proofs.Common.{refl, drop}
-use Rattle.instants_sources.specs.Grammar.{grammar_of}
+use Rattle.std.proofs.Common.{◌≡◌, ◌≢◌, ◌≤◌, ◌-◌, ◌++◌, codes, length, take, ap, ◌∙◌, rules, subst, sym, arith, ℕ, List}
+use Rattle.instants_timeline.specs.Place.{answer_to}
 use Rattle.instants_timeline.specs.Settings.{setting_of}
-use Rattle.instants_timeline.proofs.FirstNamed.{answered_at}
+use Rattle.instants_timeline.proofs.LineLength.{text_of_line, never_long}
 use Rattle.instants_timeline.proofs.timeline.Timeline.answer_line.Goals as goal
 
-pub returns-else-not-write_fast-clause-bytes : goal.returns-else-not-write_fast-clause-bytes
-returns-else-not-write_fast-clause-bytes c =
-    let setting = setting_of c.args.self.now in
-    answered_at setting c.args.line.now _ 0 (grammar_of c.first.result.now) (drop 1 setting.sources) refl c.first.ensures (c.write_fast.ensures c.if-not-write_fast.false)
+pub returns-clause-bytes : goal.returns-clause-bytes
+returns-clause-bytes c =
+    let room = c.fill_any-len.new.room in
+    let long : 64 ≤ length room = search rules in
+    let put : c.push_bytes.new.self ≡ take (c.fill_any-len.result - 1) room = search rules in
+    put ∙ (text_of_line (answer_to (setting_of c.args.self.now) c.args.line.now) room c.fill_any-len.result long c.fill_any-len.ensures.line).0
+
+pub returns-clause-room : goal.returns-clause-room
+returns-clause-room c = search (rules, text_of_line)
+
+pub returns-clause-never_long : goal.returns-clause-never_long
+returns-clause-never_long c = λ e.
+    let room = c.fill_any-len.new.room in
+    let long : 64 ≤ length room = search rules in
+    let put : c.push_bytes.new.self ≡ take (c.fill_any-len.result - 1) room = search rules in
+    let same = put ∙ (text_of_line (answer_to (setting_of c.args.self.now) c.args.line.now) room c.fill_any-len.result long c.fill_any-len.ensures.line).0 in
+    never_long (setting_of c.args.self.now) c.args.line.now (sym same ∙ e)

@@ -2,7 +2,7 @@ use Rattle.std.proofs.Common.{◌≡◌, drop, map}
 use Rattle.std.specs.Result.{result_ok}
 use Rattle.instants_sources.specs.Grammar.{grammar_of}
 use Rattle.instants_timeline.specs.Place.{first_named}
-use Rattle.instants_timeline.proofs.timeline.Timeline.write_by_any.Given as goal
+use Rattle.instants_timeline.proofs.timeline.Timeline.fill_by_any.Given as goal
 
 -- the sources so far named none
 abbrev pub invariant-loop-source : goal.invariant-loop-source
