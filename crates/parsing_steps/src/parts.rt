@@ -8,10 +8,12 @@ ghost use Rattle.description_date_modifiers.specs.declared.choices.Padding.TheVa
 ghost use Rattle.description_time_modifiers.specs.declared.choices.SubsecondDigits.TheVariants as SubsecondDigits;
 ghost use Rattle.parsing_components.specs.Ranged.{says, between, up_to, since_epoch, counted, months};
 ghost use Rattle.parsing_components.specs.Read as read;
-ghost use Rattle.parsing_steps.specs.Found.{Finds};
-ghost use Rattle.parsing_steps.specs.Parts.{padding_of, by_padding, number, part_piece, IsPartOf};
+ghost use Rattle.parsing_steps.specs.Found.{Finds, Reads};
+ghost use Rattle.parsing_steps.specs.Parts.{padding_of, by_padding, number, IsPartOf};
+ghost use Rattle.parsing_steps.specs.Steps.{all_read};
 
 use crate::found::Found;
+use crate::joined::{clock, half_clock};
 use crate::names::{long_month, long_weekday, short_month, short_weekday};
 use description_items::Component;
 use description_items::modifier::{Padding, SubsecondDigits};
@@ -19,7 +21,7 @@ use parsing_combinator::{byte, four_digits, nine_digits, offset_hour, one_digit,
 use parsing_fields::{Fraction, Year};
 
 /// A component, as a line writes it.
-#[derive(Clone, Copy)]
+#[derive(Clone, Copy, PartialEq)]
 pub(crate) enum Part {
     /// Nothing is written.
     Nothing,
@@ -52,6 +54,10 @@ pub(crate) enum Part {
     OffsetMinute,
     /// Ten digits of seconds since 1970.
     Unix,
+    /// Joined: hour, minute and second with colons between them.
+    Clock,
+    /// The same of half a day, and after a space which half it is.
+    HalfClock,
 }
 
 // A number of two digits, or a bare one, in its range.
@@ -213,8 +219,9 @@ fn half_at(bytes: &[u8]) -> Option<(bool, &[u8])>
     Some((true, rest))
 }
 
+/// `AM` or `PM`.
 #[inline(always)]
-fn half_of_day<'l>(bytes: &'l [u8], found: &mut Found) -> Option<&'l [u8]>
+pub(crate) fn half_of_day<'l>(bytes: &'l [u8], found: &mut Found) -> Option<&'l [u8]>
     ensures { Finds result found.old found.new
         (says (λ x. Some (read.Afternoon x)) (taken (named true periods)) bytes.now) }
 {
@@ -384,9 +391,9 @@ pub(crate) fn part_of(component: &Component) -> Option<Part>
 impl Part {
     /// Reads it at the start of the bytes, and returns what follows: `None` says nothing of the bytes.
     #[inline(always)]
-    #[tactic(auto, unfolding(crate::specs::Parts::part_piece))]
+    #[tactic(auto, unfolding(crate::specs::Parts::part_piece, crate::specs::Steps::all_read))]
     pub(crate) fn read<'l>(self, bytes: &'l [u8], found: &mut Found) -> Option<&'l [u8]>
-        ensures { Finds result found.old found.new (part_piece self bytes.now) }
+        ensures { Reads result found.old found.new (λ r. all_read self r bytes.now) }
     {
         match self {
             Part::Nothing => Some(bytes),
@@ -410,6 +417,8 @@ impl Part {
             Part::OffsetHour => hour_of_offset(bytes, found),
             Part::OffsetMinute => minute_of_offset(bytes, found),
             Part::Unix => unix(bytes, found),
+            Part::Clock => clock(bytes, found),
+            Part::HalfClock => half_clock(bytes, found),
         }
     }
 }
