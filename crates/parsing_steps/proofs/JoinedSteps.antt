@@ -42,6 +42,8 @@ joined_parts : (b : Before) (p : Part) → parts_of_all (record { before = b; pa
 unfolding parts_of_all first_of others_of
 joined_parts b part.Clock = refl
 joined_parts b part.HalfClock = refl
+joined_parts b part.Stamp = refl
+joined_parts b part.SpacedStamp = refl
 joined_parts b p = refl
 
 pub joined_same : (xs new : List Step) (place : ℕ) (d f : Step) (p : Part) → place < length xs → get_or xs place d ≡ f → f.part ≡ first_of p → drop (place + 1) xs ≡ others_of p → new ≡ take place xs ++ record { before = f.before; part = p } ∷ [] → parts_of_all new ≡ parts_of_all xs
@@ -70,6 +72,8 @@ bare_read : (p : Part) (r : Record) (bytes : List ℕ) → all_read p r bytes �
 unfolding all_read first_of others_of
 bare_read part.Clock r bytes = refl
 bare_read part.HalfClock r bytes = refl
+bare_read part.Stamp r bytes = refl
+bare_read part.SpacedStamp r bytes = refl
 bare_read p r bytes = sym (alone_read p r bytes)
 
 pub nothing_before : (s : Step) (r last : Record) (bytes rest : List ℕ) → s.before ≡ before.Nothing → all_read s.part r bytes ≡ Some (last, rest) → steps_read (parts_of s) r bytes ≡ Some (last, rest)

@@ -1,7 +1,5 @@
 -- The names of months and weekdays at the start of bytes.
-use Rattle.std.proofs.Common.{◌≡◌, ◌∙◌, ℕ, true, List, ◌∷◌, Some, refl, ap}
-use Rattle.calendar_count.specs.declared.month.Month.TheVariants as month
-use Rattle.calendar_count.specs.declared.weekday.Weekday.TheVariants as weekday
+use Rattle.std.proofs.Common.{◌≡◌, ℕ, true, List, refl}
 use Rattle.parsing_combinator.specs.Names.{named, found, begins, short_months, long_months, short_weekdays, long_weekdays}
 use Rattle.parsing_combinator.specs.Shape.{taken}
 use Rattle.parsing_combinator.proofs.NameLemmas.{taken_named}

@@ -47,6 +47,8 @@ steps_read (s ∷ ss) r bytes = option_and_then (λ x. steps_read ss x.0 x.1) (s
 unfoldable pub all_read : Part → Record → List ℕ → Taken
 all_read part.Clock r bytes = steps_read (parts_of (record { before = before.Nothing; part = part.Clock })) r bytes
 all_read part.HalfClock r bytes = steps_read (parts_of (record { before = before.Nothing; part = part.HalfClock })) r bytes
+all_read part.Stamp r bytes = steps_read (parts_of (record { before = before.Nothing; part = part.Stamp })) r bytes
+all_read part.SpacedStamp r bytes = steps_read (parts_of (record { before = before.Nothing; part = part.SpacedStamp })) r bytes
 all_read p r bytes = part_reads p r bytes
 
 -- the items read what the steps read, where these read

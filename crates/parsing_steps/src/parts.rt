@@ -13,7 +13,7 @@ ghost use Rattle.parsing_steps.specs.Parts.{padding_of, by_padding, number, IsPa
 ghost use Rattle.parsing_steps.specs.Steps.{all_read};
 
 use crate::found::Found;
-use crate::joined::{clock, half_clock};
+use crate::joined::{clock, half_clock, stamp};
 use crate::names::{long_month, long_weekday, short_month, short_weekday};
 use description_items::Component;
 use description_items::modifier::{Padding, SubsecondDigits};
@@ -58,6 +58,10 @@ pub(crate) enum Part {
     Clock,
     /// The same of half a day, and after a space which half it is.
     HalfClock,
+    /// Year, month and day with hyphens between them, `T`, and then a clock.
+    Stamp,
+    /// The same with a space in the place of `T`.
+    SpacedStamp,
 }
 
 // A number of two digits, or a bare one, in its range.
@@ -391,7 +395,7 @@ pub(crate) fn part_of(component: &Component) -> Option<Part>
 impl Part {
     /// Reads it at the start of the bytes, and returns what follows: `None` says nothing of the bytes.
     #[inline(always)]
-    #[tactic(auto, unfolding(crate::specs::Parts::part_piece, crate::specs::Steps::all_read))]
+    #[tactic(auto, unfolding(crate::specs::Parts::part_piece, crate::specs::Joined::first_of, crate::specs::Joined::others_of, crate::specs::Steps::all_read))]
     pub(crate) fn read<'l>(self, bytes: &'l [u8], found: &mut Found) -> Option<&'l [u8]>
         ensures { Reads result found.old found.new (λ r. all_read self r bytes.now) }
     {
@@ -419,6 +423,8 @@ impl Part {
             Part::Unix => unix(bytes, found),
             Part::Clock => clock(bytes, found),
             Part::HalfClock => half_clock(bytes, found),
+            Part::Stamp => stamp(b'T', bytes, found),
+            Part::SpacedStamp => stamp(b' ', bytes, found),
         }
     }
 }

@@ -103,11 +103,10 @@ impl Steps {
     fn joined(self) -> Steps
         ensures { steps_of result ≡ steps_of self }
     {
-        if let Some(steps) = self.joined_as(Part::HalfClock) {
-            return steps;
-        }
-        if let Some(steps) = self.joined_as(Part::Clock) {
-            return steps;
+        for part in [Part::Stamp, Part::SpacedStamp, Part::HalfClock, Part::Clock] {
+            if let Some(steps) = self.joined_as(part) {
+                return steps;
+            }
         }
         self
     }
