@@ -1,6 +1,7 @@
 //! The components that steps read.
-ghost use Rattle.std.specs.Prelude.{◌≡◌, ◌≤◌, ◌<◌, true, false, pos, Some, IfSome, option_map};
+ghost use Rattle.std.specs.Prelude.{◌≡◌, ◌≤◌, ◌<◌, true, false, length, pos, Some, IfSome, option_map};
 ghost use Rattle.parsing_combinator.specs.Pieces.{digits};
+ghost use Rattle.parsing_combinator.specs.Places.{HasPair};
 ghost use Rattle.parsing_combinator.specs.Shape.{taken, fraction_between};
 ghost use Rattle.parsing_combinator.specs.Numbers.{padded, offset_hour, timestamp};
 ghost use Rattle.parsing_combinator.specs.Names.{named, periods, short_months, long_months, short_weekdays, long_weekdays};
@@ -17,8 +18,9 @@ use crate::joined::{clock, half_clock, stamp};
 use crate::names::{long_month, long_weekday, short_month, short_weekday};
 use description_items::Component;
 use description_items::modifier::{Padding, SubsecondDigits};
-use parsing_combinator::{byte, four_digits, nine_digits, offset_hour, one_digit, padded_two};
+use parsing_combinator::{byte, nine_digits, offset_hour, one_digit, padded_two};
 use parsing_fields::{Fraction, Year};
+use std::simd::prelude::*;
 
 /// A component, as a line writes it.
 #[derive(Clone, Copy, PartialEq)]
@@ -84,15 +86,39 @@ fn number_in(is_bare: bool, low: u8, high: u8, bytes: &[u8]) -> Option<(u8, &[u8
     Some((number, rest))
 }
 
+// The digits of a year, and the lowest and the highest that may stand at their places.
+const YEAR_LENGTH: usize = 4;
+
+const LOWEST: [u8; YEAR_LENGTH] = *b"0000";
+
+const HIGHEST: [u8; YEAR_LENGTH] = *b"9999";
+
+// Whether a year stands at the start.
 #[inline(always)]
-#[tactic(auto, using(crate::proofs::Digits::first_pair, crate::proofs::Digits::second_pair, crate::proofs::Digits::year_said))]
+fn has_year(bytes: &[u8]) -> bool
+    requires { YEAR_LENGTH ≤ length bytes.now }
+    ensures high { result ≡ true → HasPair bytes.now 0 }
+    ensures low { result ≡ true → HasPair bytes.now 2 }
+{
+    let four = u8x4::from_slice(bytes);
+    let below = four.simd_lt(u8x4::from_slice(&LOWEST)).to_bitmask();
+    let above = four.simd_gt(u8x4::from_slice(&HIGHEST)).to_bitmask();
+    if below != 0 || above != 0 {
+        return false;
+    }
+    true
+}
+
+#[inline(always)]
 fn year<'l>(bytes: &'l [u8], found: &mut Found) -> Option<&'l [u8]>
     ensures { Finds result found.old found.new
         (says (between 0 9999 (λ y. read.Year (pos y))) (digits 4) bytes.now) }
 {
-    let (_number, rest) = four_digits(bytes)?;
+    if bytes.len() < YEAR_LENGTH || !has_year(bytes) {
+        return None;
+    }
     found.year = Some(Year::of_digits(bytes, 0));
-    Some(rest)
+    Some(&bytes[YEAR_LENGTH..])
 }
 
 #[inline(always)]
