@@ -1,5 +1,5 @@
 -- Digits at the start of bytes.
-use Rattle.std.proofs.Common.{◌≡◌, ◌≤◌, ◌<◌, ◌+◌, ◌*◌, ◌∙◌, ◌==◌, ℕ, Bool, true, false, List, [], ◌∷◌, get_or, length, take, drop, min, Option, Some, None, refl, sym, ap, arith, pos}
+use Rattle.std.proofs.Common.{◌≡◌, ◌≤◌, ◌<◌, ◌+◌, ◌*◌, ◌∙◌, ◌==◌, ℕ, zero, suc, Bool, true, false, List, [], ◌∷◌, length, take, drop, min, Option, Some, None, refl, sym, ap, arith, pos}
 use Rattle.std.specs.Prelude.{nat_le}
 use Rattle.std.specs.Char.{is_ascii_digit}
 use Rattle.std.specs.Int.{is_in_range}
@@ -7,10 +7,10 @@ use Rattle.std.proofs.lemmas.Bool.Decides.{nat_tests}
 use Rattle.std.proofs.lemmas.List.{length-drop}
 use Rattle.std.proofs.lemmas.List.Sums.{prefix_len_passes, prefix_len-le-length}
 use Rattle.parsing_combinator.specs.Pieces.{sign, byte_of, digits, digit_count, digit_run, fraction, nanoseconds_of}
-use Rattle.parsing_combinator.specs.Places.{HasDigit, HasPair}
+use Rattle.parsing_combinator.specs.Places.{HasDigit, HasPair, IsBetween}
 use Rattle.parsing_combinator.specs.Numbers.{timestamp}
 use Rattle.parsing_combinator.specs.Shape.{taken, fraction_between, digits_between}
-use Rattle.parsing_combinator.proofs.Decimal.{digit_here, count_drop}
+use Rattle.parsing_combinator.proofs.Decimal.{count_drop}
 use Rattle.parsing_combinator.proofs.FractionDigits.{digits_read, none_there}
 use Rattle.parsing_combinator.proofs.Components.{taken_timestamp}
 use Rattle.parsing_combinator.proofs.Fixed.{digits_add}
@@ -25,21 +25,15 @@ use Rattle.parsing_record.specs.Record.{Record}
 
 -- ---- four digits
 
-digit_in : (bytes : List ℕ) (k : ℕ) → k < digit_count bytes → HasDigit bytes k
-digit_in bytes k lt = let d = digit_here (get_or bytes k 0) (prefix_len_passes is_ascii_digit bytes k 0 lt) in record { low = d.0; high = d.1 }
+digit_in : (bytes : List ℕ) (k : ℕ) → k < 4 → ((j : ℕ) → j < 4 → IsBetween (48 ∷ 48 ∷ 48 ∷ 48 ∷ []) (57 ∷ 57 ∷ 57 ∷ 57 ∷ []) bytes j) → HasDigit bytes k
+digit_in bytes zero lt h = record { low = (h 0 lt).0; high = (h 0 lt).1 }
+digit_in bytes (suc zero) lt h = record { low = (h 1 lt).0; high = (h 1 lt).1 }
+digit_in bytes (suc (suc zero)) lt h = record { low = (h 2 lt).0; high = (h 2 lt).1 }
+digit_in bytes (suc (suc (suc zero))) lt h = record { low = (h 3 lt).0; high = (h 3 lt).1 }
+digit_in bytes (suc (suc (suc (suc k)))) lt h = absurd (omega (arith, lt))
 
-pair_in : (bytes : List ℕ) (place : ℕ) → place + 2 ≤ digit_count bytes → HasPair bytes place
-pair_in bytes place enough = record {
-  room = omega (arith, enough, prefix_len-le-length is_ascii_digit bytes);
-  first = digit_in bytes place (omega arith);
-  second = digit_in bytes (place + 1) (omega arith);
-}
-
-pub first_pair : (bytes rest : List ℕ) (n : ℕ) → digits 4 bytes ≡ Some (n, rest) → HasPair bytes 0
-first_pair bytes rest n e = let enough : 4 ≤ digit_count bytes = (digits_read 4 bytes n rest e).enough in pair_in bytes 0 (omega (arith, enough))
-
-pub second_pair : (bytes rest : List ℕ) (n : ℕ) → digits 4 bytes ≡ Some (n, rest) → HasPair bytes 2
-second_pair bytes rest n e = let enough : 4 ≤ digit_count bytes = (digits_read 4 bytes n rest e).enough in pair_in bytes 2 (omega (arith, enough))
+pub pair_between : (bytes : List ℕ) (place : ℕ) → 4 ≤ length bytes → place ≤ 2 → ((j : ℕ) → j < 4 → IsBetween (48 ∷ 48 ∷ 48 ∷ 48 ∷ []) (57 ∷ 57 ∷ 57 ∷ 57 ∷ []) bytes j) → HasPair bytes place
+pair_between bytes place long within h = record { room = omega (arith, long, within); first = digit_in bytes place (omega (arith, within)) h; second = digit_in bytes (place + 1) (omega (arith, within)) h }
 
 inside : {A : Type 0} → (x y : A) → Some x ≡ Some y → x ≡ y
 inside x y e = let same : x ≡ y = cc in same

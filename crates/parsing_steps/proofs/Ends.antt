@@ -72,6 +72,7 @@ part_leaves part.Fraction bytes = says_leaves (λ n. Some (read.Subsecond n)) (f
 part_leaves part.OffsetHour bytes = says_leaves (up_to 25 (λ negative hour. read.OffsetHour hour negative)) (offset_hour padding.Zero true) bytes
 part_leaves part.OffsetMinute bytes = says_leaves (between 0 59 read.OffsetMinute) (padded (padding_of false) 2 2) bytes
 part_leaves part.Unix bytes = says_leaves (since_epoch read.Unix 1_000_000_000) (timestamp false 14) bytes
+part_leaves p bytes = tt
 
 set_leaves : (o : Option (Read × List ℕ)) (r : Record) (bytes : List ℕ) → Leaves bytes o → Leaves bytes (set_by o r)
 set_leaves None r bytes h = tt
@@ -89,9 +90,9 @@ after_leaves other p r bytes None h k = k
 after_leaves other p r bytes (Some x) h k = further bytes x.1 (part_reads p r x.1) h (reads_leaves p r x.1)
 
 step_leaves : (b : Before) (p : Part) (r : Record) (bytes : List ℕ) → Leaves bytes (reads_after b p r bytes)
-step_leaves (before.Byte c) p r bytes = after_leaves None p r bytes (byte c bytes) (skip_leaves (λ x. x == c) bytes) tt
 step_leaves before.Nothing p r bytes = reads_leaves p r bytes
-step_leaves (before.MayBe c) p r bytes = after_leaves (Some (r, bytes)) p r bytes (byte c bytes) (skip_leaves (λ x. x == c) bytes) (whole_end bytes)
+step_leaves (before.Byte c false) p r bytes = after_leaves None p r bytes (byte c bytes) (skip_leaves (λ x. x == c) bytes) tt
+step_leaves (before.Byte c true) p r bytes = after_leaves (Some (r, bytes)) p r bytes (byte c bytes) (skip_leaves (λ x. x == c) bytes) (whole_end bytes)
 
 more_leaves : (o : Taken) (ss : List Step) (bytes : List ℕ) → Leaves bytes o → ((r : Record) (mid : List ℕ) → Leaves mid (steps_read ss r mid)) → Leaves bytes (option_and_then (λ x. steps_read ss x.0 x.1) o)
 more_leaves None ss bytes h k = tt

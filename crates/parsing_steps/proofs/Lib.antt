@@ -6,4 +6,6 @@ mod StepLemmas
 mod HalfLemmas
 mod Ends
 mod Readings
+mod JoinedSteps
+mod JoinedReads
 mod NamedLemmas

@@ -78,12 +78,12 @@ pub day_named : (year month day : ℕ) → year ≤ 9999 → month ≢ 0 → mon
 day_named year month day four some few range = ((omega (arith, ints), omega (arith, ints)), omega (arith, some), few, range.0, range.1)
 
 -- the month with a number
-record Numbered (n : ℕ) : Type 0 where
-  month : Month
-  entry : counted true months n ≡ Some month
-  number_is : month_number month ≡ n
+pub record Numbered (n : ℕ) : Type 0 where
+  pub month : Month
+  pub entry : counted true months n ≡ Some month
+  pub number_is : month_number month ≡ n
 
-numbered : (n : ℕ) → n ≢ 0 → n ≤ 12 → Numbered n
+pub numbered : (n : ℕ) → n ≢ 0 → n ≤ 12 → Numbered n
 numbered zero some few = absurd (some refl)
 numbered (suc zero) some few = record { month = month.January; entry = refl; number_is = refl }
 numbered (suc (suc zero)) some few = record { month = month.February; entry = refl; number_is = refl }

@@ -46,7 +46,7 @@ alone : (o : Taken) → option_and_then (λ x. Some (x.0, x.1)) o ≡ o
 alone None = refl
 alone (Some x) = refl
 
-one_step : (s : Step) (r : Record) (line : List ℕ) → steps_read (s ∷ []) r line ≡ step_reads s r line
+pub one_step : (s : Step) (r : Record) (line : List ℕ) → steps_read (s ∷ []) r line ≡ step_reads s r line
 unfolding steps_read
 one_step s r line = alone (step_reads s r line)
 
@@ -131,7 +131,7 @@ unfolding part_piece
 part_at None p r = refl
 part_at (Some x) p r = refl
 
-after_byte : (b : ℕ) (p : parts.Part) (o : Taken) → option_and_then (λ x. reads_after (before.Byte b) p x.0 x.1) o ≡ option_and_then (λ x. part_reads p x.0 x.1) (option_and_then (λ x. reads_after (before.Byte b) part.Nothing x.0 x.1) o)
+after_byte : (b : ℕ) (p : parts.Part) (o : Taken) → option_and_then (λ x. reads_after (before.Byte b false) p x.0 x.1) o ≡ option_and_then (λ x. part_reads p x.0 x.1) (option_and_then (λ x. reads_after (before.Byte b false) part.Nothing x.0 x.1) o)
 after_byte b p None = refl
 after_byte b p (Some x) = part_at (byte b x.1) p x.0
 
@@ -149,7 +149,7 @@ part_added p steps new None is r line =
     ∙ ap (λ (xs : List Step). option_and_then (λ x. part_reads p x.0 x.1) (steps_read xs r line)) (sym (append-nil (steps_of steps)))
 part_added p steps new (Some b) is r line =
     ap (λ (xs : List Step). steps_read xs r line) (append-nil (steps_of new) ∙ is)
-    ∙ last_step (steps_of steps) (record { before = before.Byte b; part = p }) r line
+    ∙ last_step (steps_of steps) (record { before = before.Byte b false; part = p }) r line
     ∙ after_byte b p (steps_read (steps_of steps) r line)
     ∙ ap (λ (o : Taken). option_and_then (λ x. part_reads p x.0 x.1) o) (sym (last_step (steps_of steps) (byte_step b) r line))
 
@@ -251,13 +251,13 @@ pair_at (Some x) language items b p r last mid rest pair is e =
     ∙ nothing_left language last rest in
     optional_read language (Compound (listed items)) r mid (last, rest) got
 
-pair_added : (language : Language) (items : List Tree) (b : ℕ) (p : parts.Part) (old new : Draft) → IsPairOf language items b p → draft_steps new ≡ draft_steps old ++ record { before = before.MayBe b; part = p } ∷ [] → Adds (optional_reading language (Compound (listed items))) old new
+pair_added : (language : Language) (items : List Tree) (b : ℕ) (p : parts.Part) (old new : Draft) → IsPairOf language items b p → draft_steps new ≡ draft_steps old ++ record { before = before.Byte b true; part = p } ∷ [] → Adds (optional_reading language (Compound (listed items))) old new
 pair_added language items b p old new pair is r line last rest e =
-    let s : Step = record { before = before.MayBe b; part = p } in
+    let s : Step = record { before = before.Byte b true; part = p } in
     let two = both_read (draft_steps old) (s ∷ []) r last line rest (ap (λ (steps : List Step). steps_read steps r line) (sym is) ∙ e) in
     record { at = two.at; mid = two.mid; before = two.first; reads = pair_at (byte b two.mid) language items b p two.at last two.mid rest pair refl (sym (one_step s two.at two.mid) ∙ two.second) }
 
-pub pairs_added : (language : Language) (items : List Tree) (b : ℕ) (p : parts.Part) (old : Draft) (o : Option Draft) → IsPairOf language items b p → IfSome o (λ new. draft_steps new ≡ draft_steps old ++ record { before = before.MayBe b; part = p } ∷ []) → IfSome o (Adds (optional_reading language (Compound (listed items))) old)
+pub pairs_added : (language : Language) (items : List Tree) (b : ℕ) (p : parts.Part) (old : Draft) (o : Option Draft) → IsPairOf language items b p → IfSome o (λ new. draft_steps new ≡ draft_steps old ++ record { before = before.Byte b true; part = p } ∷ []) → IfSome o (Adds (optional_reading language (Compound (listed items))) old)
 pairs_added language items b p old None pair h = tt
 pairs_added language items b p old (Some new) pair h = pair_added language items b p old new pair h
 

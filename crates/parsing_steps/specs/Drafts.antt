@@ -1,5 +1,5 @@
 -- Steps that grow by what an item reads.
-use Rattle.std.specs.Prelude.{◌≡◌, true, ℕ, List, [], ◌∷◌, ◌++◌, Option, Some, None, Ok}
+use Rattle.std.specs.Prelude.{◌≡◌, true, false, ℕ, List, [], ◌∷◌, ◌++◌, Option, Some, None, Ok}
 use Rattle.std.specs.Option.{option_and_then}
 use Rattle.description_items.specs.Tree.{Tree, Literal, Optional}
 use Rattle.parsing_record.specs.Meaning.{Meaning}
@@ -15,12 +15,12 @@ use Rattle.parsing_steps.specs.declared.step.Step.{Step}
 
 -- a byte alone
 abbrev pub byte_step : ℕ → Step
-byte_step b = record { before = before.Byte b; part = Nothing }
+byte_step b = record { before = before.Byte b false; part = Nothing }
 
 -- the byte before a part, which may be none
 abbrev pub before_of : Option ℕ → Before
 before_of None = before.Nothing
-before_of (Some b) = before.Byte b
+before_of (Some b) = before.Byte b false
 
 abbrev pub pending_steps : Option ℕ → List Step
 pending_steps None = []

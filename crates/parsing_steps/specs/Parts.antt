@@ -22,6 +22,7 @@ padding_of is_bare = if is_bare then padding.None else padding.Zero
 abbrev pub number : Bool → (ℕ → Option Read) → Piece Read
 number is_bare says_it = says says_it (taken (padded (padding_of is_bare) 2 2))
 
+-- what a part says that is not joined of others
 unfoldable pub part_piece : Part → Piece Read
 part_piece part.Nothing = λ bytes. Some (read.Nothing, bytes)
 part_piece part.Year = says (between 0 9999 (λ y. read.Year (pos y))) (digits 4)
@@ -44,6 +45,7 @@ part_piece part.Fraction = says (λ n. Some (read.Subsecond n)) (taken (fraction
 part_piece part.OffsetHour = says (up_to 25 (λ negative hour. read.OffsetHour hour negative)) (taken (offset_hour padding.Zero true))
 part_piece part.OffsetMinute = number false (between 0 59 read.OffsetMinute)
 part_piece part.Unix = says (since_epoch read.Unix 1_000_000_000) (taken (timestamp false 14))
+part_piece p = λ bytes. None
 
 -- one of two parts, by the padding of a number
 abbrev pub by_padding : Padding → Part → Part → Option Part

@@ -1,5 +1,5 @@
 //! Steps that are made of items.
-ghost use Rattle.std.specs.Prelude.{◌≡◌, ◌∷◌, ◌++◌, [], map, IfSome};
+ghost use Rattle.std.specs.Prelude.{◌≡◌, ◌∷◌, ◌++◌, [], map, true, IfSome};
 ghost use Rattle.description_items.specs.Tree.{Literal, listed};
 ghost use Rattle.parsing_record.specs.Reads.{reading, reading_of_all};
 ghost use Rattle.parsing_steps.specs.Drafts.{byte_step, draft_steps, before_of, optional_reading, AddsPart, Adds, IsItemPart, IsPairOf};
@@ -36,7 +36,7 @@ impl Draft {
             return Some(self.steps);
         };
         self.steps.with_step(Step {
-            before: Before::Byte(byte),
+            before: Before::Byte(byte, false),
             part: Part::Nothing,
         })
     }
@@ -79,10 +79,10 @@ impl Draft {
     // With a byte and a part that may both be missing.
     fn with_pair(self, byte: u8, part: Part) -> Option<Draft>
         ensures { IfSome result (λ d. draft_steps d
-            ≡ draft_steps self ++ record { before = Before.MayBe byte; part = part } ∷ []) }
+            ≡ draft_steps self ++ record { before = Before.Byte byte true; part = part } ∷ []) }
     {
         let steps = self.finished()?.with_step(Step {
-            before: Before::MayBe(byte),
+            before: Before::Byte(byte, true),
             part,
         })?;
         Some(Draft {
@@ -123,7 +123,7 @@ fn before_of(pending: Option<u8>) -> Before
     ensures { result ≡ before_of pending }
 {
     match pending {
-        Some(byte) => Before::Byte(byte),
+        Some(byte) => Before::Byte(byte, false),
         None => Before::Nothing,
     }
 }

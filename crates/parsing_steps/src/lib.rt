@@ -4,6 +4,7 @@
 mod draft;
 mod fields;
 mod found;
+mod joined;
 mod names;
 mod parts;
 mod reading;

@@ -18,31 +18,48 @@ fn after<'l>(name: &[u8], bytes: &'l [u8]) -> Option<&'l [u8]>
     Some(rest)
 }
 
-// The month of the second half of a year.
+// A month whose name has this first letter.
 #[inline(always)]
-fn long_month_from_july(bytes: &[u8]) -> Option<(Month, &[u8])>
+fn month_in_j(bytes: &[u8]) -> Option<(Month, &[u8])>
     ensures { IfSome result
         (λ x. taken (Names.named true Names.long_months) bytes.now ≡ Some (x.0, x.1.now)) }
 {
+    if let Some(rest) = after(b"January", bytes) {
+        return Some((Month::January, rest));
+    }
+    if let Some(rest) = after(b"June", bytes) {
+        return Some((Month::June, rest));
+    }
     if let Some(rest) = after(b"July", bytes) {
         return Some((Month::July, rest));
     }
-    if let Some(rest) = after(b"August", bytes) {
-        return Some((Month::August, rest));
-    }
-    if let Some(rest) = after(b"September", bytes) {
-        return Some((Month::September, rest));
-    }
-    if let Some(rest) = after(b"October", bytes) {
-        return Some((Month::October, rest));
-    }
-    if let Some(rest) = after(b"November", bytes) {
-        return Some((Month::November, rest));
-    }
-    if let Some(rest) = after(b"December", bytes) {
-        return Some((Month::December, rest));
-    }
     None
+}
+
+// The same.
+#[inline(always)]
+fn month_in_m(bytes: &[u8]) -> Option<(Month, &[u8])>
+    ensures { IfSome result
+        (λ x. taken (Names.named true Names.long_months) bytes.now ≡ Some (x.0, x.1.now)) }
+{
+    if let Some(rest) = after(b"March", bytes) {
+        return Some((Month::March, rest));
+    }
+    let rest = after(b"May", bytes)?;
+    Some((Month::May, rest))
+}
+
+// The same.
+#[inline(always)]
+fn month_in_a(bytes: &[u8]) -> Option<(Month, &[u8])>
+    ensures { IfSome result
+        (λ x. taken (Names.named true Names.long_months) bytes.now ≡ Some (x.0, x.1.now)) }
+{
+    if let Some(rest) = after(b"April", bytes) {
+        return Some((Month::April, rest));
+    }
+    let rest = after(b"August", bytes)?;
+    Some((Month::August, rest))
 }
 
 /// The English name of a month.
@@ -51,28 +68,35 @@ pub(crate) fn long_month(bytes: &[u8]) -> Option<(Month, &[u8])>
     ensures { IfSome result
         (λ x. taken (Names.named true Names.long_months) bytes.now ≡ Some (x.0, x.1.now)) }
 {
-    if let Some(rest) = after(b"January", bytes) {
-        return Some((Month::January, rest));
+    match bytes {
+        [b'J', ..] => month_in_j(bytes),
+        [b'M', ..] => month_in_m(bytes),
+        [b'A', ..] => month_in_a(bytes),
+        [b'F', ..] => {
+            let rest = after(b"February", bytes)?;
+            Some((Month::February, rest))
+        }
+        [b'S', ..] => {
+            let rest = after(b"September", bytes)?;
+            Some((Month::September, rest))
+        }
+        [b'O', ..] => {
+            let rest = after(b"October", bytes)?;
+            Some((Month::October, rest))
+        }
+        [b'N', ..] => {
+            let rest = after(b"November", bytes)?;
+            Some((Month::November, rest))
+        }
+        [b'D', ..] => {
+            let rest = after(b"December", bytes)?;
+            Some((Month::December, rest))
+        }
+        _ => None,
     }
-    if let Some(rest) = after(b"February", bytes) {
-        return Some((Month::February, rest));
-    }
-    if let Some(rest) = after(b"March", bytes) {
-        return Some((Month::March, rest));
-    }
-    if let Some(rest) = after(b"April", bytes) {
-        return Some((Month::April, rest));
-    }
-    if let Some(rest) = after(b"May", bytes) {
-        return Some((Month::May, rest));
-    }
-    if let Some(rest) = after(b"June", bytes) {
-        return Some((Month::June, rest));
-    }
-    long_month_from_july(bytes)
 }
 
-// The same of its first three letters.
+// The first three letters of a month of the second half of a year.
 #[inline(always)]
 fn short_month_from_july(bytes: &[u8]) -> Option<(Month, &[u8])>
     ensures { IfSome result

@@ -1,6 +1,7 @@
 //! The components that steps read.
-ghost use Rattle.std.specs.Prelude.{◌≡◌, ◌≤◌, ◌<◌, true, false, pos, Some, IfSome, option_map};
+ghost use Rattle.std.specs.Prelude.{◌≡◌, ◌≤◌, ◌<◌, true, false, length, pos, Some, IfSome, option_map};
 ghost use Rattle.parsing_combinator.specs.Pieces.{digits};
+ghost use Rattle.parsing_combinator.specs.Places.{HasPair};
 ghost use Rattle.parsing_combinator.specs.Shape.{taken, fraction_between};
 ghost use Rattle.parsing_combinator.specs.Numbers.{padded, offset_hour, timestamp};
 ghost use Rattle.parsing_combinator.specs.Names.{named, periods, short_months, long_months, short_weekdays, long_weekdays};
@@ -8,18 +9,21 @@ ghost use Rattle.description_date_modifiers.specs.declared.choices.Padding.TheVa
 ghost use Rattle.description_time_modifiers.specs.declared.choices.SubsecondDigits.TheVariants as SubsecondDigits;
 ghost use Rattle.parsing_components.specs.Ranged.{says, between, up_to, since_epoch, counted, months};
 ghost use Rattle.parsing_components.specs.Read as read;
-ghost use Rattle.parsing_steps.specs.Found.{Finds};
-ghost use Rattle.parsing_steps.specs.Parts.{padding_of, by_padding, number, part_piece, IsPartOf};
+ghost use Rattle.parsing_steps.specs.Found.{Finds, Reads};
+ghost use Rattle.parsing_steps.specs.Parts.{padding_of, by_padding, number, IsPartOf};
+ghost use Rattle.parsing_steps.specs.Steps.{all_read};
 
 use crate::found::Found;
+use crate::joined::{clock, half_clock, stamp};
 use crate::names::{long_month, long_weekday, short_month, short_weekday};
 use description_items::Component;
 use description_items::modifier::{Padding, SubsecondDigits};
-use parsing_combinator::{byte, four_digits, nine_digits, offset_hour, one_digit, padded_two};
+use parsing_combinator::{byte, nine_digits, offset_hour, one_digit, padded_two};
 use parsing_fields::{Fraction, Year};
+use std::simd::prelude::*;
 
 /// A component, as a line writes it.
-#[derive(Clone, Copy)]
+#[derive(Clone, Copy, PartialEq)]
 pub(crate) enum Part {
     /// Nothing is written.
     Nothing,
@@ -52,6 +56,14 @@ pub(crate) enum Part {
     OffsetMinute,
     /// Ten digits of seconds since 1970.
     Unix,
+    /// Joined: hour, minute and second with colons between them.
+    Clock,
+    /// The same of half a day, and after a space which half it is.
+    HalfClock,
+    /// Year, month and day with hyphens between them, `T`, and then a clock.
+    Stamp,
+    /// The same with a space in the place of `T`.
+    SpacedStamp,
 }
 
 // A number of two digits, or a bare one, in its range.
@@ -74,15 +86,39 @@ fn number_in(is_bare: bool, low: u8, high: u8, bytes: &[u8]) -> Option<(u8, &[u8
     Some((number, rest))
 }
 
+// The digits of a year, and the lowest and the highest that may stand at their places.
+const YEAR_LENGTH: usize = 4;
+
+const LOWEST: [u8; YEAR_LENGTH] = *b"0000";
+
+const HIGHEST: [u8; YEAR_LENGTH] = *b"9999";
+
+// Whether a year stands at the start.
 #[inline(always)]
-#[tactic(auto, using(crate::proofs::Digits::first_pair, crate::proofs::Digits::second_pair, crate::proofs::Digits::year_said))]
+fn has_year(bytes: &[u8]) -> bool
+    requires { YEAR_LENGTH ≤ length bytes.now }
+    ensures high { result ≡ true → HasPair bytes.now 0 }
+    ensures low { result ≡ true → HasPair bytes.now 2 }
+{
+    let four = u8x4::from_slice(bytes);
+    let below = four.simd_lt(u8x4::from_slice(&LOWEST)).to_bitmask();
+    let above = four.simd_gt(u8x4::from_slice(&HIGHEST)).to_bitmask();
+    if below != 0 || above != 0 {
+        return false;
+    }
+    true
+}
+
+#[inline(always)]
 fn year<'l>(bytes: &'l [u8], found: &mut Found) -> Option<&'l [u8]>
     ensures { Finds result found.old found.new
         (says (between 0 9999 (λ y. read.Year (pos y))) (digits 4) bytes.now) }
 {
-    let (_number, rest) = four_digits(bytes)?;
+    if bytes.len() < YEAR_LENGTH || !has_year(bytes) {
+        return None;
+    }
     found.year = Some(Year::of_digits(bytes, 0));
-    Some(rest)
+    Some(&bytes[YEAR_LENGTH..])
 }
 
 #[inline(always)]
@@ -213,8 +249,9 @@ fn half_at(bytes: &[u8]) -> Option<(bool, &[u8])>
     Some((true, rest))
 }
 
+/// `AM` or `PM`.
 #[inline(always)]
-fn half_of_day<'l>(bytes: &'l [u8], found: &mut Found) -> Option<&'l [u8]>
+pub(crate) fn half_of_day<'l>(bytes: &'l [u8], found: &mut Found) -> Option<&'l [u8]>
     ensures { Finds result found.old found.new
         (says (λ x. Some (read.Afternoon x)) (taken (named true periods)) bytes.now) }
 {
@@ -384,9 +421,9 @@ pub(crate) fn part_of(component: &Component) -> Option<Part>
 impl Part {
     /// Reads it at the start of the bytes, and returns what follows: `None` says nothing of the bytes.
     #[inline(always)]
-    #[tactic(auto, unfolding(crate::specs::Parts::part_piece))]
+    #[tactic(auto, unfolding(crate::specs::Parts::part_piece, crate::specs::Joined::first_of, crate::specs::Joined::others_of, crate::specs::Steps::all_read))]
     pub(crate) fn read<'l>(self, bytes: &'l [u8], found: &mut Found) -> Option<&'l [u8]>
-        ensures { Finds result found.old found.new (part_piece self bytes.now) }
+        ensures { Reads result found.old found.new (λ r. all_read self r bytes.now) }
     {
         match self {
             Part::Nothing => Some(bytes),
@@ -410,6 +447,10 @@ impl Part {
             Part::OffsetHour => hour_of_offset(bytes, found),
             Part::OffsetMinute => minute_of_offset(bytes, found),
             Part::Unix => unix(bytes, found),
+            Part::Clock => clock(bytes, found),
+            Part::HalfClock => half_clock(bytes, found),
+            Part::Stamp => stamp(b'T', bytes, found),
+            Part::SpacedStamp => stamp(b' ', bytes, found),
         }
     }
 }

@@ -4,19 +4,17 @@ use crate::found::Found;
 use crate::parts::Part;
 use parsing_combinator::byte as after_byte;
 
-/// The byte before a component. (What most components have comes last, since the last kind is tested first.)
-#[derive(Clone, Copy)]
+/// The byte before a component.
+#[derive(Clone, Copy, PartialEq)]
 pub(crate) enum Before {
     /// There is none.
     Nothing,
-    /// This byte, or else the component is left out as well.
-    MayBe(u8),
-    /// This byte.
-    Byte(u8),
+    /// This byte, and whether it may be missing, with the component.
+    Byte(u8, bool),
 }
 
 /// A byte and a component after it.
-#[derive(Clone, Copy)]
+#[derive(Clone, Copy, PartialEq)]
 pub(crate) struct Step {
     pub(crate) before: Before,
     pub(crate) part: Part,
@@ -25,21 +23,22 @@ pub(crate) struct Step {
 impl Step {
     ghost use Rattle.std.specs.Prelude.{◌≡◌, Option, Some, ℤ, IfSome};
     ghost use Rattle.parsing_steps.specs.Found.{record_of};
-    ghost use Rattle.parsing_steps.specs.Steps.{step_reads};
+    ghost use Rattle.parsing_steps.specs.Joined.{parts_of};
+    ghost use Rattle.parsing_steps.specs.Steps.{steps_read};
 
     /// Reads at the start of the bytes, and returns what follows: `None` says nothing of the bytes.
     #[inline(always)]
     pub(crate) fn read<'l>(&self, bytes: &'l [u8], found: &mut Found) -> Option<&'l [u8]>
         ensures { IfSome result (λ rest. (assumed : Option ℤ)
-            → step_reads self.now (record_of assumed found.old) bytes.now
+            → steps_read (parts_of self.now) (record_of assumed found.old) bytes.now
             ≡ Some (record_of assumed found.new, rest.now)) }
     {
         let after = match self.before {
-            Before::Byte(byte) => after_byte(byte, bytes)?,
             Before::Nothing => bytes,
-            Before::MayBe(byte) => match after_byte(byte, bytes) {
+            Before::Byte(byte, may_be_missing) => match after_byte(byte, bytes) {
                 Some(after) => after,
-                None => return Some(bytes),
+                None if may_be_missing && self.part.is_single() => return Some(bytes),
+                None => return None,
             },
         };
         self.part.read(after, found)

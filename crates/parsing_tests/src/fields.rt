@@ -296,6 +296,13 @@ const OPTIONAL: &str =
 
 const UNIX: &str = "[unix_timestamp].[subsecond]";
 
+// A date and a time of day as in ISO 8601, and a fraction that may be missing.
+const STAMP: &str =
+    "[year]-[month]-[day]T[hour]:[minute]:[second][optional [.[subsecond]]][offset_hour sign:mandatory]:[offset_minute]";
+
+const SPACED_STAMP: &str =
+    "[weekday], [year]-[month]-[day] [hour]:[minute]:[second][optional [,[subsecond]]]";
+
 // What the plan of a description without places reads of a line.
 fn planned_by_steps(alloc: Global, text: &str, line: &[u8]) -> Option<(i64, u32)> {
     let Description::V3(tree) = parse_borrowed(alloc, DescriptionVersion::Three, text).ok()? else {
@@ -321,4 +328,82 @@ fn steps(rt: HostRuntime) {
     assert!(rt; planned_by_steps(rt.alloc(), OPTIONAL, b"2.1.2021 02:04:05") == WHOLE);
     assert!(rt; planned_by_steps(rt.alloc(), OPTIONAL, b"2.1.2021 02:04:05.5") == HALF);
     assert!(rt; planned_by_steps(rt.alloc(), UNIX, b"1609553045.5") == HALF);
+}
+
+#[test]
+fn joined_steps(rt: HostRuntime) {
+    let read = |text: &str, line: &[u8]| planned_by_steps(rt.alloc(), text, line);
+    assert!(rt; read(STAMP, b"2021-01-02T03:04:05+01:00") == WHOLE);
+    assert!(rt; read(STAMP, b"2021-01-02T02:04:05.5+00:00") == HALF);
+    assert!(rt; read(SPACED_STAMP, b"Saturday, 2021-01-02 02:04:05") == WHOLE);
+    assert!(rt; read(SPACED_STAMP, b"Saturday, 2021-01-02 02:04:05,5") == HALF);
+    for line in [
+        b"2021-01-02 02:04:05+00:00",
+        b"202:-01-02T02:04:05+00:00",
+        b"2021-00-02T02:04:05+00:00",
+        b"2021-13-02T02:04:05+00:00",
+        b"2021-01-00T02:04:05+00:00",
+        b"2021-01-32T02:04:05+00:00",
+        b"2021-01-02T24:04:05+00:00",
+        b"2021-01-02T02:60:05+00:00",
+        b"2021-01-02T02:04:60+00:00",
+        b"2021-01-02T02:04-05+00:00",
+        b"2021/01-02T02:04:05+00:00",
+    ] {
+        assert!(rt; read(STAMP, line) == None);
+    }
+}
+
+#[test]
+fn joined_clocks(rt: HostRuntime) {
+    let read = |text: &str, line: &[u8]| planned_by_steps(rt.alloc(), text, line);
+    let night = b"2.1.2021 00:00:00";
+    assert!(rt; read(OPTIONAL, night) == Some((1_609_545_600, 0)));
+    let evening = b"2.1.2021 23:59:59";
+    assert!(rt; read(OPTIONAL, evening) == Some((1_609_631_999, 0)));
+    for line in [
+        b"2.1.2021 24:00:00",
+        b"2.1.2021 02:60:00",
+        b"2.1.2021 02:00:60",
+        b"2.1.2021 02.00:00",
+        b"2.1.2021 02:00.00",
+        b"2.1.2021 0/:00:00",
+        b"2.1.2021 02:0::00",
+        b"2.1.2o21 02:00:00",
+    ] {
+        assert!(rt; read(OPTIONAL, line) == None);
+    }
+    for line in [
+        b"02 January 2021 00:04:05 AM",
+        b"02 January 2021 13:04:05 AM",
+        b"02 January 2021 02:04:60 AM",
+        b"02 January 2021 02:04:05_AM",
+        b"02 January 2021 02:04:05 MM",
+    ] {
+        assert!(rt; by_steps(rt.alloc(), line, b"02 January 2021 02:04:05") == [None, None]);
+    }
+}
+
+// The instant of the first second of a month of 2021, read by its long name.
+fn month_by_name(alloc: Global, line: &[u8]) -> Option<(i64, u32)> {
+    let [first, _] = by_steps(alloc, line, line);
+    first
+}
+
+#[test]
+fn long_names(rt: HostRuntime) {
+    let seconds = |line: &[u8]| month_by_name(rt.alloc(), line);
+    assert!(rt; seconds(b"01 January 2021 12:00:00 AM") == Some((1_609_459_200, 0)));
+    assert!(rt; seconds(b"01 February 2021 12:00:00 AM") == Some((1_612_137_600, 0)));
+    assert!(rt; seconds(b"01 March 2021 12:00:00 AM") == Some((1_614_556_800, 0)));
+    assert!(rt; seconds(b"01 April 2021 12:00:00 AM") == Some((1_617_235_200, 0)));
+    assert!(rt; seconds(b"01 May 2021 12:00:00 AM") == Some((1_619_827_200, 0)));
+    assert!(rt; seconds(b"01 June 2021 12:00:00 AM") == Some((1_622_505_600, 0)));
+    assert!(rt; seconds(b"01 July 2021 12:00:00 AM") == Some((1_625_097_600, 0)));
+    assert!(rt; seconds(b"01 August 2021 12:00:00 AM") == Some((1_627_776_000, 0)));
+    assert!(rt; seconds(b"01 September 2021 12:00:00 AM") == Some((1_630_454_400, 0)));
+    assert!(rt; seconds(b"01 October 2021 12:00:00 AM") == Some((1_633_046_400, 0)));
+    assert!(rt; seconds(b"01 November 2021 12:00:00 AM") == Some((1_635_724_800, 0)));
+    assert!(rt; seconds(b"01 December 2021 12:00:00 AM") == Some((1_638_316_800, 0)));
+    assert!(rt; seconds(b"01 Mayday 2021 12:00:00 AM") == None);
 }

@@ -1,20 +1,24 @@
-use Rattle.parsing_steps.proofs.NamedLemmas.{january, february, march, april, may, june}
+use Rattle.std.proofs.Common.{◌∙◌, ap, true}
+use Rattle.parsing_combinator.specs.Names.{found, begins, long_months}
+use Rattle.parsing_steps.proofs.NamedLemmas.{long_months_taken}
 use Rattle.parsing_steps.proofs.names.long_month.Goals as goal
 
-pub returns-in-Some : goal.returns-in-Some
-returns-in-Some c = january c.args.bytes.now c.in-Some.rest.now c.in-Some.ensures
+pub returns-in_ok-rest-in-70 : goal.returns-in_ok-rest-in-70
+unfolding found begins
+returns-in_ok-rest-in-70 c = long_months_taken c.args.bytes.now ∙ ap (found true long_months) c.in_ok-rest-in-70.ensures
 
-pub returns-in-Some-after : goal.returns-in-Some-after
-returns-in-Some-after c = february c.args.bytes.now c.in-Some-after.rest.now c.in-Some-after.ensures
+pub returns-in_ok-rest-in-83 : goal.returns-in_ok-rest-in-83
+unfolding found begins
+returns-in_ok-rest-in-83 c = long_months_taken c.args.bytes.now ∙ ap (found true long_months) c.in_ok-rest-in-83.ensures
 
-pub returns-in-Some-after-2 : goal.returns-in-Some-after-2
-returns-in-Some-after-2 c = march c.args.bytes.now c.in-Some-after-2.rest.now c.in-Some-after-2.ensures
+pub returns-in_ok-rest-in-79 : goal.returns-in_ok-rest-in-79
+unfolding found begins
+returns-in_ok-rest-in-79 c = long_months_taken c.args.bytes.now ∙ ap (found true long_months) c.in_ok-rest-in-79.ensures
 
-pub returns-in-Some-after-3 : goal.returns-in-Some-after-3
-returns-in-Some-after-3 c = april c.args.bytes.now c.in-Some-after-3.rest.now c.in-Some-after-3.ensures
+pub returns-in_ok-rest-in-78 : goal.returns-in_ok-rest-in-78
+unfolding found begins
+returns-in_ok-rest-in-78 c = long_months_taken c.args.bytes.now ∙ ap (found true long_months) c.in_ok-rest-in-78.ensures
 
-pub returns-in-Some-after-4 : goal.returns-in-Some-after-4
-returns-in-Some-after-4 c = may c.args.bytes.now c.in-Some-after-4.rest.now c.in-Some-after-4.ensures
-
-pub returns-in-Some-after-5 : goal.returns-in-Some-after-5
-returns-in-Some-after-5 c = june c.args.bytes.now c.in-Some-after-5.rest.now c.in-Some-after-5.ensures
+pub returns-in_ok-rest-in-68 : goal.returns-in_ok-rest-in-68
+unfolding found begins
+returns-in_ok-rest-in-68 c = long_months_taken c.args.bytes.now ∙ ap (found true long_months) c.in_ok-rest-in-68.ensures

@@ -1,0 +1,12 @@
+use Rattle.std.proofs.Common.{◌∙◌, ap, true}
+use Rattle.parsing_combinator.specs.Names.{found, begins, long_months}
+use Rattle.parsing_steps.proofs.NamedLemmas.{long_months_taken}
+use Rattle.parsing_steps.proofs.names.month_in_m.Goals as goal
+
+pub returns-in-Some : goal.returns-in-Some
+unfolding found begins
+returns-in-Some c = long_months_taken c.args.bytes.now ∙ ap (found true long_months) c.in-Some.ensures
+
+pub returns : goal.returns
+unfolding found begins
+returns c = long_months_taken c.args.bytes.now ∙ ap (found true long_months) c.in_ok-rest.ensures
