@@ -147,7 +147,7 @@ module _ (shape : Shape) (tail : Tail) (text v f n : List ℕ) (h : HaveLanes sh
       let last : ℕ = length text - 16 in
       let minute_next : at + width + 4 ≡ at + width + 3 + 1 = omega arith in
       let hour_next : at + 2 ≡ at + 1 + 1 = omega arith in
-      let hour = back_pair 8 (at + 1) 9 4 refl (lit< tt) (lit≤ tt) shape.offset_hour s.hour_tens (rw hour_next at s.hour_ones) in
+      let hour = back_pair 8 (at + 1) 1 4 refl (lit< tt) (lit≤ tt) shape.offset_hour s.hour_tens (rw hour_next at s.hour_ones) in
       let minute = back_pair 10 (at + width + 3) 5 5 refl (lit< tt) (lit≤ tt) shape.offset_minute s.minute_tens (rw minute_next at s.minute_ones) in
       let hour_at : last + (at + 1) ≡ last + at + 1 = omega arith in
       let colon_at : last + (at + 3) ≡ last + at + 3 = omega arith in
@@ -309,6 +309,12 @@ offset_says true Colon text place minutes sign negative o fits h even small is v
 offset_says false Plain text place minutes sign negative o fits h even small is value = signed_says text 0 place minutes sign negative o h even small is value
 offset_says false Colon text place minutes sign negative o fits h even small is value = absurd cc
 offset_says true Plain text place minutes sign negative o fits h even small is value = absurd cc
+
+-- an offset within twenty hours is within a day
+pub offset_small : (e : Ending) (text : List ℕ) (place minutes sign : ℕ) → HasOffset e text place minutes sign → minutes < 1440
+offset_small Zulu text place minutes sign h = omega (arith, h.no_minutes)
+offset_small Colon text place minutes sign h = omega (arith, h.minutes_are, h.hour_few, h.minute_few)
+offset_small Plain text place minutes sign h = omega (arith, h.minutes_are, h.hour_few, h.minute_few)
 
 pub names_of : (shape : Shape) (tail : Tail) (text : List ℕ) (days minutes offset seconds first last : ℕ) (negative : Bool) (o : ℤ) → HasSums shape tail text days minutes offset seconds first last → is_written shape.has_colon tail.ending ≡ true → (shape.has_second ≡ false → tail.fraction ≡ 0) → minutes < 1440 → offset < 1440 → seconds % 2 ≡ 0 → negative ≡ nat_eq (seconds % 64) 2
     → ((hour minute : ℕ) → offset ≡ 60 * hour + minute → hour ≤ 23 → minute ≤ 59 → signed_offset_of negative hour minute ≡ Ok (pos 60 *ℤ o))

@@ -36,7 +36,7 @@ pub record TakesSigned (width : ℕ) (window : Window) (place : ℕ) : Type 0 wh
   pub sign_is : get_or window.taken.lanes 13 0 ≡ place
   pub sign_low : get_or window.low place 0 ≡ 43
   pub sign_high : get_or window.high place 0 ≤ 2
-  pub hour_tens : Takes window 8 (place + 1) 9
+  pub hour_tens : Takes window 8 (place + 1) 1
   pub hour_ones : Takes window 9 (place + 2) 9
   pub colon : 0 < width → LetsByte window (place + 3) 58
   pub minute_tens : Takes window 10 (place + width + 3) 5

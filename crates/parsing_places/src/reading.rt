@@ -35,7 +35,7 @@ fn read_with(shape: &Shape, tail: &Tail, text: &[u8]) -> Option<Numbers>
     ensures { IfSome result (λ n. SaysNumbers shape.now text.now n) }
 {
     let (day, minute, offset, second, first, last) = totals(shape, tail, text)?;
-    if minute >= 1440 || offset >= 1440 || second % 2 != 0 {
+    if minute >= 1440 || second % 2 != 0 {
         return None;
     }
     Some(Numbers {
@@ -44,7 +44,7 @@ fn read_with(shape: &Shape, tail: &Tail, text: &[u8]) -> Option<Numbers>
         low: (day / 64) as u8,
         minute: minute as u16,
         second: (second / 64) as u8,
-        offset: signed(offset, second % 64 == 2),
+        offset: signed(offset, second % 4 == 2),
         fraction: Fraction::of_nine(first, last),
     })
 }
@@ -52,7 +52,7 @@ fn read_with(shape: &Shape, tail: &Tail, text: &[u8]) -> Option<Numbers>
 /// The numbers that a text of a shape names, with at most nine digits of a fraction after a second, and an offset after:
 /// `None` says nothing of the text.
 ///
-/// It finds them where the numbers of the time and of the offset are in range, with hours of the offset below 24, and where no
+/// It finds them where the numbers of the time and of the offset are in range, with hours of the offset below 20, and where no
 /// second is a leap second.
 #[inline(always)]
 pub fn read_numbers(shape: &Shape, text: &[u8]) -> Option<Numbers>

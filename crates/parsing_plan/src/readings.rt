@@ -125,10 +125,10 @@ impl Places {
         }
         // As in `layout_fields`: fields that a call hands on would take some twenty instructions a line.
         let sums = sums_of(prefix, line)?;
-        let (year, month, day) = date(prefix, line, sums)?;
         let (minute, second) = clock(prefix, line, sums)?;
-        let fraction = fraction(prefix, line)?;
+        let (year, month, day) = date(prefix, line, sums)?;
         let offset = offset(prefix.offset, sums, assumed)?;
+        let fraction = fraction(prefix, line)?;
         Some(Fields::of_numbers(year, month, day, minute, second, fraction, offset))
     }
 

@@ -38,7 +38,7 @@ fn offset_of(layout: &Layout, windows: &Windows) -> Option<Option<OffsetPlaces>>
             if hour >= LENGTH || minute >= LENGTH || !windows.take_sign(hour) {
                 return None;
             }
-            if !windows.take_two(8, hour + 1, 9) || !windows.take_two(10, minute, 5) {
+            if !windows.take_two(8, hour + 1, 1) || !windows.take_two(10, minute, 5) {
                 return None;
             }
             Some(Some(OffsetPlaces { hour, minute }))
@@ -61,7 +61,7 @@ fn takes_last_offset(last: &Window, layout: &Layout, hour: usize, minute: usize)
     if usize::from(last.taken.lanes[13]) != first + hour || !last.lets(first + hour, b'+', 2) {
         return false;
     }
-    last.takes(8, first + hour + 1, 9)
+    last.takes(8, first + hour + 1, 1)
         && last.takes(9, first + hour + 2, 9)
         && last.takes(10, first + minute, 5)
         && last.takes(11, first + minute + 1, 9)
