@@ -65,7 +65,7 @@ pub has_fraction : (shape : Shape) (tail : Tail) (text v f : List ℕ) → HaveL
 has_fraction shape tail text v f h small zulu =
     let last : length text - 16 + 15 ≡ length text - 1 = omega (arith, h.has_shape.room) in
     possible tail.ending (is_fraction tail.fraction) (get_or text (length text - 16 + 15) 0) (get_or text (length text - 1) 0) (ap (λ k. get_or text k 0) last) zulu
-      (λ none. let lets = tail.never none in exact _ (other_end tail.ending) (small _) (end_small tail.ending) (omega (arith, rw (lets.low, lets.high) at (h.lies 15 lets.inside))))
+    (λ none. let lets = tail.never none in exact _ (other_end tail.ending) (small _) (end_small tail.ending) (omega (arith, rw (lets.low, lets.high) at (h.lies 15 lets.inside))))
 
 module _ (shape : Shape) (tail : Tail) (text v f n : List ℕ) (h : HaveLanes shape tail text v f) (paired : Paired v n) (small : (k : ℕ) → get_or text k 0 < 256) (ok : is_fraction tail.fraction ≡ true) where
   prefix_pair : (j place most : ℕ) → j < 8 → most ≤ 9 → 128 ≤ get_or tail.window.taken.lanes (2 * j) 0 → 128 ≤ get_or tail.window.taken.lanes (2 * j + 1) 0 → TakesPair shape.prefix shape.back shape.back_at (2 * j) place most → Pair text place (get_or n (2 * j) 0) most

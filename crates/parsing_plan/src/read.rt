@@ -70,7 +70,7 @@ fn month_number(word: u32) -> Option<u8>
 
 // The number of the month whose name is at a place.
 #[inline(always)]
-fn month_name_at(line: &[u8], place: usize) -> Option<u8>
+pub(crate) fn month_name_at(line: &[u8], place: usize) -> Option<u8>
     requires { place + 4 ≤ length line.now }
     ensures says { IfSome result (SaysMonth true line.now place) }
     ensures bound { IfSome result (λ n. (1 ≤ n) × (n ≤ 12)) }
@@ -178,7 +178,7 @@ fn has_weekday(place: Option<usize>, line: &[u8]) -> bool
 // Whether a year of four digits has the day.
 #[inline(always)]
 #[tactic(auto, using(crate::proofs::Parts::short_months))]
-fn has_day_of_month(year: Year, month: u8, day: u8) -> bool
+pub(crate) fn has_day_of_month(year: Year, month: u8, day: u8) -> bool
     requires year { year ≤ 9999 }
     requires month { (1 ≤ month) × (month ≤ 12) }
     ensures day { result ≡ true → IsDay (pos year) month day }
@@ -234,7 +234,7 @@ fn assumed_minutes(offset: UtcOffset) -> i16
 
 // The minutes of the offset that stands at these places of a text.
 #[inline(always)]
-fn written_offset(places: OffsetPlaces, sums: Sums) -> i16
+pub(crate) fn written_offset(places: OffsetPlaces, sums: Sums) -> i16
     requires few { sums.offset < 1440 }
     requires sign { sums.second % 2 ≡ 0 }
     ensures writes { (l : Layout) (text : List ℕ)

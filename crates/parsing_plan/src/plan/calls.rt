@@ -1,12 +1,12 @@
 //! The plans of descriptions.
-ghost use Rattle.std.specs.Prelude.{◌≡◌, ◌+◌, ◌≤◌, true, false, Some, None, map, IfSome};
+ghost use Rattle.std.specs.Prelude.{◌≡◌, ◌+◌, ◌≤◌, ◌<◌, true, false, Some, None, map, IfSome, IsSome};
 ghost use Rattle.std.specs.Option.{ForSome, ForNone};
 ghost use Rattle.description_items.specs.Tree.{trees, listed};
 ghost use Rattle.description_tree.specs.Description.{v3_tree};
 ghost use Rattle.parsing_components.specs.Component.{reads_component, reads_component_v3};
 ghost use Rattle.parsing_record.specs.Reads.{reading, reading_of_all};
 ghost use Rattle.parsing_places.specs.Windows.{LetsAt, TakeTwo, TakeOne, SpareTwo, SpareOne};
-ghost use Rattle.parsing_plan.specs.Layout.{HasNoOffset, HasNoClock, IsPrefix, HasRoom};
+ghost use Rattle.parsing_plan.specs.Layout.{HasNoOffset, HasNoClock, IsPrefix, IsPlain, HasRoom};
 ghost use Rattle.parsing_plan.specs.Windows.{LetText, LetYear, TakesOffset, SpareOffset, LetLastText, BeginsApart, SparesClock, SparesSign, TakesLastOffset};
 ghost use Rattle.parsing_plan.specs.Plan.{ArePlacesOf, IsPlanOf};
 
@@ -358,13 +358,32 @@ impl Plan {
     }
 }
 
+// As many bytes as no line has.
+const NEVER: usize = usize::MAX;
+
+// The bytes of a line that is plain and has an offset, or as many as no line has.
+fn plain_length_of(prefix: &Prefix) -> usize
+    ensures plain { result < 18_446_744_073_709_551_615 → IsPlain prefix.now.layout result }
+    ensures offset { result < 18_446_744_073_709_551_615 → IsSome prefix.now.offset }
+{
+    let length = prefix.layout.length;
+    if length < LANES || prefix.offset.is_none() || !prefix.layout.is_plain() {
+        return NEVER;
+    }
+    length
+}
+
 impl Places {
     // The places of a prefix alone.
     fn of_prefix(prefix: Prefix) -> Places
         ensures prefix { result.prefix ≡ prefix }
         ensures back { result.back ≡ None }
     {
-        Places { prefix, back: None }
+        Places {
+            prefix,
+            back: None,
+            plain_length: plain_length_of(&prefix),
+        }
     }
 
     // The places with a layout after a fraction, where there is but one offset.
@@ -378,6 +397,7 @@ impl Places {
         Some(Places {
             prefix,
             back: Some(back),
+            plain_length: NEVER,
         })
     }
 }
