@@ -61,10 +61,17 @@ impl FirstBytes {
     {
         match line {
             [first, second, third, fourth, ..] => {
-                !(self.first[usize::from(*first)]
-                    && self.second[usize::from(*second)]
-                    && self.third[usize::from(*third)]
-                    && self.fourth[usize::from(*fourth)])
+                // (each byte by itself: LLVM would test a chain of `&&` again at each of its ends)
+                if !self.first[usize::from(*first)] {
+                    return true;
+                }
+                if !self.second[usize::from(*second)] {
+                    return true;
+                }
+                if !self.third[usize::from(*third)] {
+                    return true;
+                }
+                !self.fourth[usize::from(*fourth)]
             }
             _ => self.rule_out_short(line),
         }

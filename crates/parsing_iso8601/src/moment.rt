@@ -77,7 +77,7 @@ fn read_long_form(form: &Form, input: &[u8]) -> Option<Fields>
 /// The fields of a text with a second, where the fast way finds them: `None` says nothing of the text.
 ///
 /// It finds those of a date of any kind in a year of four digits, a time of day without a leap second, after it maybe a point and at
-/// most nine digits, and an offset of less than a day to the minute.
+/// most nine digits, and an offset of less than 20 hours to the minute.
 #[inline(always)]
 pub fn read_usual_fields(input: &[u8]) -> Option<Fields>
     ensures { IfSome result (λ fields. IsOfOffset input.now (moment_of fields)) }

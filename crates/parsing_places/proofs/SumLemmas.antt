@@ -1,5 +1,5 @@
 -- What the sums of lanes say of a text.
-use Rattle.std.proofs.Common.{◌≡◌, ◌≤◌, ◌<◌, ◌+◌, ◌-◌, ◌*◌, ◌/◌, ◌%◌, ◌∙◌, ℕ, Bool, true, false, leb, List, length, get_or, drop, refl, sym, inl, inr, arith, lit<, lit≤}
+use Rattle.std.proofs.Common.{◌≡◌, ◌≤◌, ◌<◌, ◌+◌, ◌-◌, ◌*◌, ◌/◌, ◌%◌, ◌∙◌, ℕ, Bool, true, false, leb, List, length, get_or, drop, refl, sym, ap, inl, inr, arith, lit<, lit≤}
 use Rattle.std.specs.Prelude.{◌⊎◌, ◌==◌, nat_eq, ℤ, pos, ◌*ℤ◌, Ok}
 use Rattle.std.specs.Str.Parse.{digits_value}
 use Rattle.std.proofs.lemmas.Bool.{cases_lt}
@@ -16,7 +16,7 @@ use Rattle.parsing_places.specs.Lanes.{above}
 use Rattle.parsing_places.specs.End.{HasOffset, HasZulu, HasSigned, HasFraction, SaysOffset, width_of}
 use Rattle.parsing_places.specs.Numbers.{WritesTwo, WritesOne, WritesNumber, HasNumbers}
 use Rattle.parsing_places.specs.Shape.{Takes, TakesPair, TakesNumber, TakesNothing}
-use Rattle.parsing_places.specs.Tail.{LetsByte, TakesSigned, TakesZulu, offset_at, is_written}
+use Rattle.parsing_places.specs.Tail.{LetsByte, TakesSigned, TakesZulu, offset_at, is_fraction, is_written, is_zulu, other_end}
 use Rattle.parsing_places.specs.Whole.{IsTextDigit, IsFree, HaveLanes, HasSums, end_in}
 use Rattle.parsing_places.specs.declared.ending.Ending.{Ending}
 use Rattle.parsing_places.specs.declared.ending.Ending.TheVariants.{Zulu, Colon, Plain}
@@ -25,6 +25,7 @@ use Rattle.parsing_places.specs.declared.shape.Shape.{Shape}
 use Rattle.parsing_places.specs.declared.tail.Tail.{Tail}
 use Rattle.parsing_places.proofs.FractionLemmas.{Fractional, fraction_in}
 use Rattle.parsing_places.proofs.ReadLemmas.{Paired, Pair, pair_read}
+use Rattle.parsing_places.proofs.TailLemmas.{some_bytes}
 use lib.Lanes.{number_l, chunk}
 
 exact : (byte low : ℕ) → byte < 256 → low < 256 → above byte low ≤ 0 → byte ≡ low
@@ -48,7 +49,25 @@ one_there text place lt d =
     let long : leb 1 (length (drop place text)) ≡ true = at_least 1 (length (drop place text)) (omega (arith, length-drop place text)) in
     digits_one (drop place text) ∙ rw (long, first_at text place, is_digit (get_or text place 0) d.low d.high, drop-drop 1 place text) refl
 
-module _ (shape : Shape) (tail : Tail) (text v f n : List ℕ) (h : HaveLanes shape tail text v f) (paired : Paired v n) (small : (k : ℕ) → get_or text k 0 < 256) where
+-- a text that has a tail has a fraction of as many bytes as the tail has
+possible : (e : Ending) (fraction : Bool) (byte last : ℕ) → byte ≡ last → is_zulu e ≡ (last == 90) → (fraction ≡ false → byte ≡ other_end e) → fraction ≡ true
+possible e true byte last same zulu never = refl
+possible Zulu false byte last same zulu never = absurd (grind (arith, nat_tests, same, zulu, never refl))
+possible Colon false byte last same zulu never = absurd (grind (arith, nat_tests, same, zulu, never refl))
+possible Plain false byte last same zulu never = absurd (grind (arith, nat_tests, same, zulu, never refl))
+
+end_small : (e : Ending) → other_end e < 256
+end_small Zulu = lit< tt
+end_small Colon = lit< tt
+end_small Plain = lit< tt
+
+pub has_fraction : (shape : Shape) (tail : Tail) (text v f : List ℕ) → HaveLanes shape tail text v f → ((k : ℕ) → get_or text k 0 < 256) → is_zulu tail.ending ≡ (get_or text (length text - 1) 0 == 90) → is_fraction tail.fraction ≡ true
+has_fraction shape tail text v f h small zulu =
+    let last : length text - 16 + 15 ≡ length text - 1 = omega (arith, h.has_shape.room) in
+    possible tail.ending (is_fraction tail.fraction) (get_or text (length text - 16 + 15) 0) (get_or text (length text - 1) 0) (ap (λ k. get_or text k 0) last) zulu
+    (λ none. let lets = tail.never none in exact _ (other_end tail.ending) (small _) (end_small tail.ending) (omega (arith, rw (lets.low, lets.high) at (h.lies 15 lets.inside))))
+
+module _ (shape : Shape) (tail : Tail) (text v f n : List ℕ) (h : HaveLanes shape tail text v f) (paired : Paired v n) (small : (k : ℕ) → get_or text k 0 < 256) (ok : is_fraction tail.fraction ≡ true) where
   prefix_pair : (j place most : ℕ) → j < 8 → most ≤ 9 → 128 ≤ get_or tail.window.taken.lanes (2 * j) 0 → 128 ≤ get_or tail.window.taken.lanes (2 * j + 1) 0 → TakesPair shape.prefix shape.back shape.back_at (2 * j) place most → Pair text place (get_or n (2 * j) 0) most
   prefix_pair j place most lt few free free' takes =
       let first = h.prefix (2 * j) place most (omega (arith, lt)) few free takes.first in
@@ -147,7 +166,7 @@ module _ (shape : Shape) (tail : Tail) (text v f n : List ℕ) (h : HaveLanes sh
       let last : ℕ = length text - 16 in
       let minute_next : at + width + 4 ≡ at + width + 3 + 1 = omega arith in
       let hour_next : at + 2 ≡ at + 1 + 1 = omega arith in
-      let hour = back_pair 8 (at + 1) 9 4 refl (lit< tt) (lit≤ tt) shape.offset_hour s.hour_tens (rw hour_next at s.hour_ones) in
+      let hour = back_pair 8 (at + 1) 1 4 refl (lit< tt) (lit≤ tt) shape.offset_hour s.hour_tens (rw hour_next at s.hour_ones) in
       let minute = back_pair 10 (at + width + 3) 5 5 refl (lit< tt) (lit≤ tt) shape.offset_minute s.minute_tens (rw minute_next at s.minute_ones) in
       let hour_at : last + (at + 1) ≡ last + at + 1 = omega arith in
       let colon_at : last + (at + 3) ≡ last + at + 3 = omega arith in
@@ -198,7 +217,7 @@ module _ (shape : Shape) (tail : Tail) (text v f n : List ℕ) (h : HaveLanes sh
   offset_of Plain zulu colon plain = signed_read 0 11 (plain refl)
 
   pub offset_read : OffsetRead (HasOffset tail.ending) (end_in tail text) (60 * get_or n 8 0 + get_or n 10 0) (get_or n 12 0)
-  offset_read = offset_of tail.ending tail.zulu tail.colon tail.plain
+  offset_read = offset_of tail.ending (tail.zulu ok) (tail.colon ok) (tail.plain ok)
 
   count : ℕ
   count = tail.fraction - 1
@@ -208,26 +227,26 @@ module _ (shape : Shape) (tail : Tail) (text v f n : List ℕ) (h : HaveLanes sh
 
   begin_at : (k : ℕ) → begin + k ≡ length text - 16 + (offset_at tail.ending - count + k)
   unfolding begin count
-  begin_at k = omega (arith, tail.fraction_is.room)
+  begin_at k = omega (arith, (tail.fraction_is ok).room)
 
   text_digit : (k : ℕ) → k < count → IsTextDigit f k text (begin + k)
   unfolding count
-  text_digit k lt = rw (begin_at k) (h.digits k (offset_at tail.ending - count + k) (omega (arith, lt, tail.fraction_is.few)) (tail.fraction_is.each k lt))
+  text_digit k lt = rw (begin_at k) (h.digits k (offset_at tail.ending - count + k) (omega (arith, lt, (tail.fraction_is ok).few)) ((tail.fraction_is ok).each k lt))
 
   byte_at : (k : ℕ) → get_or (drop begin text) k 0 ≡ get_or text (begin + k) 0
   byte_at k = get_or-drop begin text k 0
 
   inside : count ≤ length (drop begin text)
   unfolding begin count
-  inside = omega (arith, length-drop begin text, long, at_few tail.ending, tail.fraction_is.room)
+  inside = omega (arith, length-drop begin text, long, at_few tail.ending, (tail.fraction_is ok).room)
 
   fraction_lanes : (first last : ℕ) → length f ≡ 16 → ((k : ℕ) → get_or f k 0 < 256) → first ≡ number_l 256 (chunk 0 8 f) → last ≡ get_or f 8 0 → Fractional (drop begin text) count first last
   unfolding count
-  fraction_lanes first last n bytes is end = fraction_in (drop begin text) f count first last tail.fraction_is.few inside n bytes
+  fraction_lanes first last n bytes is end = fraction_in (drop begin text) f count first last (tail.fraction_is ok).few inside n bytes
       (λ k lt. rw (byte_at k) (text_digit k lt).digit.low)
       (λ k lt. rw (byte_at k) (text_digit k lt).digit.high)
       (λ k lt. (text_digit k lt).same ∙ sym (byte_at k))
-      (λ k le lt. h.zeros k (omega (arith, lt)) (tail.fraction_is.nothing k le (omega (arith, lt)))) is end
+      (λ k le lt. h.zeros k (omega (arith, lt)) ((tail.fraction_is ok).nothing k le (omega (arith, lt)))) is end
 
   pub fraction_read : (first last : ℕ) → length f ≡ 16 → ((k : ℕ) → get_or f k 0 < 256) → first ≡ number_l 256 (chunk 0 8 f) → last ≡ get_or f 8 0 → length text + offset_at tail.ending ≡ shape.length + 16 + tail.fraction → AreNineDigits first last × HasFraction text shape.length (end_in tail text) (tail.fraction - 1) (digits_value 10 (nine_digits first last))
   unfolding begin count
@@ -237,14 +256,14 @@ module _ (shape : Shape) (tail : Tail) (text v f n : List ℕ) (h : HaveLanes sh
         read.are,
         record {
           writes = read.writes;
-          none = λ e. elim (cases_lt 0 tail.fraction) [ inl some ↦ absurd (omega (arith, tail.some some, e)) | inr nothing ↦ omega (arith, nothing, total, few, long) ];
+          none = λ e. elim (cases_lt 0 tail.fraction) [ inl some ↦ absurd (omega (arith, some_bytes tail.fraction ok some, e)) | inr nothing ↦ omega (arith, nothing, total, few, long) ];
           some = λ e. omega (arith, e, total, few, long);
           point = λ e.
               let some : 0 < tail.fraction = omega (arith, e) in
-              let place : length text - 16 + (offset_at tail.ending - tail.fraction) ≡ shape.length = omega (arith, total, few, long, e, tail.fraction_is.room) in
-              rw place at (byte_there (offset_at tail.ending - tail.fraction) 46 (lit< tt) (tail.point some));
+              let place : length text - 16 + (offset_at tail.ending - tail.fraction) ≡ shape.length = omega (arith, total, few, long, e, (tail.fraction_is ok).room) in
+              rw place at (byte_there (offset_at tail.ending - tail.fraction) 46 (lit< tt) (tail.point ok some));
           room = omega (arith, few, long);
-          few = tail.fraction_is.few;
+          few = (tail.fraction_is ok).few;
         },
       )
 
@@ -309,6 +328,12 @@ offset_says true Colon text place minutes sign negative o fits h even small is v
 offset_says false Plain text place minutes sign negative o fits h even small is value = signed_says text 0 place minutes sign negative o h even small is value
 offset_says false Colon text place minutes sign negative o fits h even small is value = absurd cc
 offset_says true Plain text place minutes sign negative o fits h even small is value = absurd cc
+
+-- an offset within twenty hours is within a day
+pub offset_small : (e : Ending) (text : List ℕ) (place minutes sign : ℕ) → HasOffset e text place minutes sign → minutes < 1440
+offset_small Zulu text place minutes sign h = omega (arith, h.no_minutes)
+offset_small Colon text place minutes sign h = omega (arith, h.minutes_are, h.hour_few, h.minute_few)
+offset_small Plain text place minutes sign h = omega (arith, h.minutes_are, h.hour_few, h.minute_few)
 
 pub names_of : (shape : Shape) (tail : Tail) (text : List ℕ) (days minutes offset seconds first last : ℕ) (negative : Bool) (o : ℤ) → HasSums shape tail text days minutes offset seconds first last → is_written shape.has_colon tail.ending ≡ true → (shape.has_second ≡ false → tail.fraction ≡ 0) → minutes < 1440 → offset < 1440 → seconds % 2 ≡ 0 → negative ≡ nat_eq (seconds % 64) 2
     → ((hour minute : ℕ) → offset ≡ 60 * hour + minute → hour ≤ 23 → minute ≤ 59 → signed_offset_of negative hour minute ≡ Ok (pos 60 *ℤ o))

@@ -1,11 +1,11 @@
 -- Rows of a table of tails: each fact is computed for all rows and lanes.
-use Rattle.std.proofs.Common.{◌≡◌, ◌≤◌, ◌<◌, ◌+◌, ◌-◌, ◌*◌, ℕ, Bool, true, cond, [], ◌∷◌, get_or, refl, arith, lit≤}
+use Rattle.std.proofs.Common.{◌≡◌, ◌≤◌, ◌<◌, ◌+◌, ◌-◌, ◌*◌, ◌%◌, ℕ, Bool, true, false, cond, [], ◌∷◌, get_or, refl, ap, inl, inr, ◌∙◌, arith, lit≤}
 use Rattle.std.specs.Prelude.{◌==◌, ◌&&◌, nat_le, nat_lt}
-use Rattle.std.proofs.lemmas.Bool.{agree_below, agree_below_at}
+use Rattle.std.proofs.lemmas.Bool.{agree_below, agree_below_at, cases_lt}
 use Rattle.std.proofs.lemmas.Bool.Decides.{nat_tests}
 use Rattle.parsing_places.specs.Lanes.{are_moves}
 use Rattle.parsing_places.specs.Shape.{Takes}
-use Rattle.parsing_places.specs.Tail.{LetsByte, TakesSigned, TakesZulu, TakesFraction, offset_at, tail_row}
+use Rattle.parsing_places.specs.Tail.{LetsByte, TakesSigned, TakesZulu, TakesFraction, is_fraction, offset_at, other_end, tail_row}
 use Rattle.parsing_places.specs.declared.ending.Ending.{Ending}
 use Rattle.parsing_places.specs.declared.ending.Ending.TheVariants.{Zulu, Colon, Plain}
 use Rattle.parsing_places.specs.declared.shape.Window.{Window}
@@ -17,8 +17,16 @@ use Rattle.parsing_places.proofs.Checks.{takes, takes_is, lets, lets_is}
 abbrev none : Row
 none = record { low = []; above = []; offset = []; digits = [] }
 
+abbrev pub raw : ℕ → ℕ → Row
+raw n g = get_or TAILS (3 * n + g) none
+
+-- how many bytes an offset of each kind has
+abbrev pub width : ℕ → ℕ
+width g = get_or (1 ∷ 5 ∷ 6 ∷ []) g 0
+
+-- the row of a fraction of so many bytes, where one byte is as none
 abbrev pub row : ℕ → ℕ → Row
-row f g = get_or TAILS (3 * f + g) none
+row f g = raw (cond (f == 1) 0 f + width g) g
 
 -- where an offset of each kind begins
 abbrev begin : ℕ → ℕ
@@ -48,23 +56,96 @@ row_passes test f g all few kind =
 passes : (test : ℕ → ℕ → ℕ → Bool) (f g k : ℕ) → all_pass (lanes_pass test) ≡ true → f ≤ 10 → g ≤ 2 → k < 16 → test f g k ≡ true
 passes test f g k all few kind lt = agree_below_at (test f g) (λ _. true) 16 k (row_passes (lanes_pass test) f g all few kind) lt
 
+-- ---- a test of three rows of sixteen numbers of bytes and none
+
+abbrev raws_pass : (ℕ → ℕ → Bool) → Bool
+raws_pass test = agree_below (rows_pass test) (λ _. true) 17
+
+raw_passes : (test : ℕ → ℕ → Bool) (n g : ℕ) → raws_pass test ≡ true → n ≤ 16 → g ≤ 2 → test n g ≡ true
+raw_passes test n g all few kind =
+    let rows = agree_below_at (rows_pass test) (λ _. true) 17 n all (omega (arith, few)) in
+    agree_below_at (test n) (λ _. true) 3 g rows (omega (arith, kind))
+
+lane_passes : (test : ℕ → ℕ → ℕ → Bool) (n g k : ℕ) → raws_pass (lanes_pass test) ≡ true → n ≤ 16 → g ≤ 2 → k < 16 → test n g k ≡ true
+lane_passes test n g k all few kind lt = agree_below_at (test n g) (λ _. true) 16 k (raw_passes (lanes_pass test) n g all few kind) lt
+
 -- ---- moves
 
-pub digits_right : (f g : ℕ) → f ≤ 10 → g ≤ 2 → are_moves (row f g).digits ≡ true
-digits_right f g few kind = row_passes (λ f g. are_moves (row f g).digits) f g refl few kind
+pub digits_right : (n g : ℕ) → n ≤ 16 → g ≤ 2 → are_moves (raw n g).digits ≡ true
+digits_right n g few kind = raw_passes (λ n g. are_moves (raw n g).digits) n g refl few kind
 
-pub offset_right : (f g : ℕ) → f ≤ 10 → g ≤ 2 → are_moves (row f g).offset ≡ true
-offset_right f g few kind = row_passes (λ f g. are_moves (row f g).offset) f g refl few kind
+pub offset_right : (n g : ℕ) → n ≤ 16 → g ≤ 2 → are_moves (raw n g).offset ≡ true
+offset_right n g few kind = raw_passes (λ n g. are_moves (raw n g).offset) n g refl few kind
 
 -- the first eight lanes and the last two take nothing of an offset
 abbrev spares : (ℕ → Bool) → ℕ → ℕ → ℕ → Bool
-spares test f g k = cond (test k) (nat_le 128 (get_or (row f g).offset k 0)) true
+spares test n g k = cond (test k) (nat_le 128 (get_or (raw n g).offset k 0)) true
 
-pub first_free : (f g k : ℕ) → f ≤ 10 → g ≤ 2 → k < 8 → 128 ≤ get_or (row f g).offset k 0
-first_free f g k few kind lt = let h = passes (spares (λ k. nat_lt k 8)) f g k refl few kind (omega (arith, lt)) in grind (arith, nat_tests, h, lt)
+pub first_free : (n g k : ℕ) → n ≤ 16 → g ≤ 2 → k < 8 → 128 ≤ get_or (raw n g).offset k 0
+first_free n g k few kind lt = let h = lane_passes (spares (λ k. nat_lt k 8)) n g k refl few kind (omega (arith, lt)) in grind (arith, nat_tests, h, lt)
 
-pub last_free : (f g k : ℕ) → f ≤ 10 → g ≤ 2 → 14 ≤ k → k < 16 → 128 ≤ get_or (row f g).offset k 0
-last_free f g k few kind le lt = let h = passes (spares (λ k. nat_le 14 k)) f g k refl few kind lt in grind (arith, nat_tests, h, le)
+pub last_free : (n g k : ℕ) → n ≤ 16 → g ≤ 2 → 14 ≤ k → k < 16 → 128 ≤ get_or (raw n g).offset k 0
+last_free n g k few kind le lt = let h = lane_passes (spares (λ k. nat_le 14 k)) n g k refl few kind lt in grind (arith, nat_tests, h, le)
+
+-- the lanes after the ninth take no digit of a fraction
+abbrev rests : ℕ → ℕ → ℕ → Bool
+rests n g k = cond (nat_le 9 k) (nat_le 128 (get_or (raw n g).digits k 0)) true
+
+pub rest_free : (n g k : ℕ) → n ≤ 16 → g ≤ 2 → 9 ≤ k → k < 16 → 128 ≤ get_or (raw n g).digits k 0
+rest_free n g k few kind le lt = let h = lane_passes rests n g k refl few kind lt in grind (arith, nat_tests, h, le)
+
+-- ---- rows that no text has
+
+-- how many bytes an offset leaves for a fraction, or many where it has none to leave
+abbrev pub left : ℕ → ℕ → ℕ
+left n g = cond (nat_le (width g) n) (n - width g) 11
+
+abbrev refuses : ℕ → ℕ → Bool
+refuses n g = cond (is_fraction (left n g)) true (lets (raw n g).low (raw n g).above 15 (cond (g == 0) 48 90))
+
+pub never : (w : Window) (n g : ℕ) → n ≤ 16 → g ≤ 2 → is_fraction (left n g) ≡ false → w.low ≡ (raw n g).low → w.high ≡ (raw n g).above → LetsByte w 15 (cond (g == 0) 48 90)
+never w n g few kind none_left low high =
+    let h = raw_passes refuses n g refl few kind in
+    lets_is w 15 (cond (g == 0) 48 90) (rw (low, high) (rw none_left at h))
+
+-- the row of what is left
+pub row_of_left : (n g : ℕ) → is_fraction (left n g) ≡ true → raw n g ≡ row (left n g) g
+row_of_left n g is =
+    let long : width g ≤ n = grind (arith, nat_tests, is) in
+    let some : (left n g == 1) ≡ false = grind (arith, nat_tests, is) in
+    let whole : left n g + width g ≡ n = grind (arith, nat_tests, long) in
+    rw (some, whole) refl
+
+-- what is left, as a number of 64 bits
+abbrev pub wrapped : ℕ → ℕ → ℕ
+wrapped n w = (n + (18446744073709551616 - w)) % 18446744073709551616
+
+pub width_is : (e : Ending) → width (tail_row e) + offset_at e ≡ 16
+width_is Zulu = refl
+width_is Colon = refl
+width_is Plain = refl
+
+some_left : (n g w : ℕ) → n ≤ 16 → w ≡ width g → w ≤ 6 → w ≤ n → wrapped n w ≡ left n g
+some_left n g w few same small le =
+    let whole : wrapped n w ≡ n - w = omega (arith, few, small, le) in
+    let test : nat_le (width g) n ≡ true = grind (arith, nat_tests, le, same) in
+    whole ∙ rw (same, test) refl
+
+pub of_wrapped : (n g w : ℕ) → n ≤ 16 → w ≡ width g → w ≤ 6 → is_fraction (wrapped n w) ≡ true → wrapped n w ≡ left n g
+of_wrapped n g w few same small is = elim (cases_lt n w) [
+  | inl lt ↦
+      let big : 11 ≤ wrapped n w = omega (arith, few, small, lt) in
+      absurd (grind (arith, nat_tests, is, big))
+  | inr le ↦ some_left n g w few same small le
+]
+
+pub not_of_wrapped : (n g w : ℕ) → n ≤ 16 → w ≡ width g → w ≤ 6 → is_fraction (wrapped n w) ≡ false → is_fraction (left n g) ≡ false
+not_of_wrapped n g w few same small is = elim (cases_lt n w) [
+  | inl lt ↦
+      let test : nat_le (width g) n ≡ false = grind (arith, nat_tests, lt, same) in
+      rw test refl
+  | inr le ↦ rw (some_left n g w few same small le) at is
+]
 
 -- ---- windows
 
@@ -75,6 +156,34 @@ pub record IsRow (w : Window) (f g : ℕ) : Type 0 where
   pub low : w.low ≡ (row f g).low
   pub high : w.high ≡ (row f g).above
   pub lanes : w.taken.lanes ≡ (row f g).offset
+
+pub row_is : (w : Window) (n g : ℕ) → g ≤ 2 → is_fraction (left n g) ≡ true → w.low ≡ (raw n g).low → w.high ≡ (raw n g).above → w.taken.lanes ≡ (raw n g).offset → IsRow w (left n g) g
+row_is w n g kind is low high lanes = record {
+  few = grind (arith, nat_tests, is);
+  kind = kind;
+  low = low ∙ ap (λ (r : Row). r.low) (row_of_left n g is);
+  high = high ∙ ap (λ (r : Row). r.above) (row_of_left n g is);
+  lanes = lanes ∙ ap (λ (r : Row). r.offset) (row_of_left n g is);
+}
+
+pub fraction_few : (n : ℕ) → is_fraction n ≡ true → n ≤ 10
+fraction_few n is = grind (arith, nat_tests, is)
+
+-- the byte that ends no such offset
+pub ends : (e : Ending) (w : Window) (g : ℕ) → g ≡ tail_row e → LetsByte w 15 (cond (g == 0) 48 90) → LetsByte w 15 (other_end e)
+ends Zulu w g same lets = rw same at lets
+ends Colon w g same lets = rw same at lets
+ends Plain w g same lets = rw same at lets
+
+-- a fraction of some bytes has two or more
+pub some_bytes : (n : ℕ) → is_fraction n ≡ true → 0 < n → 2 ≤ n
+some_bytes n is some = elim (cases_lt n 2) [
+  | inl lt ↦
+      let one : n ≡ 1 = omega (arith, some, lt) in
+      let bad : false ≡ true = rw one at is in
+      absurd cc
+  | inr le ↦ le
+]
 
 abbrev zulu_spares : ℕ → ℕ → ℕ → Bool
 zulu_spares f g k = cond (g == 0) (nat_le 128 (get_or (row f g).offset k 0)) true
@@ -127,7 +236,7 @@ takes_colon w f g is same =
       sign_is = sign.is_there;
       sign_low = sign.low;
       sign_high = sign.high;
-      hour_tens = digit_of w f g is 2 8 11 9 same (lit≤ tt) refl;
+      hour_tens = digit_of w f g is 2 8 11 1 same (lit≤ tt) refl;
       hour_ones = digit_of w f g is 2 9 12 9 same (lit≤ tt) refl;
       colon = λ _. lets_is w 13 58 (rw (is.low, is.high, same) colon);
       minute_tens = digit_of w f g is 2 10 14 5 same (lit≤ tt) refl;
@@ -143,7 +252,7 @@ takes_plain w f g is same =
       sign_is = sign.is_there;
       sign_low = sign.low;
       sign_high = sign.high;
-      hour_tens = digit_of w f g is 1 8 12 9 same (lit≤ tt) refl;
+      hour_tens = digit_of w f g is 1 8 12 1 same (lit≤ tt) refl;
       hour_ones = digit_of w f g is 1 9 13 9 same (lit≤ tt) refl;
       colon = λ lt. absurd (omega (arith, lt));
       minute_tens = digit_of w f g is 1 10 14 5 same (lit≤ tt) refl;

@@ -38,5 +38,5 @@ module _ (shape : Shape) (tail : Tail) (text fa ft ba bt w la lt v lf f : List �
     none = λ lane free nothing. of_tail lane free ∙ last.none lane free.lt nothing;
     digits = text_digit;
     zeros = λ lane small nothing. omega (arith, as_text lane small, digits.none lane (omega (arith, small)) nothing);
-    rest = λ lane le small. as_rest lane le small (digits.none lane small (tail.fraction_is.nothing lane (omega (arith, le, tail.fraction_is.few)) small));
+    rest = λ lane le small. as_rest lane le small (digits.none lane small (tail.rest_free lane le small));
   }

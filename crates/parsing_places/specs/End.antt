@@ -18,7 +18,7 @@ pub record HasSigned (width : ℕ) (text : List ℕ) (place minutes sign : ℕ) 
   pub hour_is : WritesTwo text (place + 1) hour
   pub colon : 0 < width → get_or text (place + 3) 0 ≡ 58
   pub minute_is : WritesTwo text (place + width + 3) minute
-  pub hour_few : hour ≤ 99
+  pub hour_few : hour ≤ 19
   pub minute_few : minute ≤ 59
   pub minutes_are : minutes ≡ 60 * hour + minute
 

@@ -1,5 +1,5 @@
 -- What the last sixteen bytes of a text have.
-use Rattle.std.specs.Prelude.{◌≡◌, ◌≤◌, ◌<◌, ◌+◌, ◌-◌, ℕ, Bool, true, not, get_or}
+use Rattle.std.specs.Prelude.{◌≡◌, ◌≤◌, ◌<◌, ◌+◌, ◌-◌, ◌==◌, ◌&&◌, ℕ, Bool, true, false, not, cond, nat_le, get_or}
 use Rattle.parsing_places.specs.Shape.{Takes}
 use Rattle.parsing_places.specs.declared.ending.Ending.{Ending}
 use Rattle.parsing_places.specs.declared.ending.Ending.TheVariants.{Zulu, Colon, Plain}
@@ -23,6 +23,20 @@ tail_row Zulu = 0
 tail_row Plain = 1
 tail_row Colon = 2
 
+-- the byte that ends an offset is a `Z`, or no such one
+abbrev pub is_zulu : Ending → Bool
+is_zulu Zulu = true
+is_zulu Colon = false
+is_zulu Plain = false
+
+-- a byte that ends no such offset: `0`, or else `Z`
+abbrev pub other_end : Ending → ℕ
+other_end e = cond (is_zulu e) 48 90
+
+-- whether a fraction can have so many bytes: none, or its point and one to nine digits
+abbrev pub is_fraction : ℕ → Bool
+is_fraction bytes = nat_le bytes 10 && not (bytes == 1)
+
 -- whether an offset that has a colon or none is written so
 abbrev pub is_written : Bool → Ending → Bool
 is_written has_colon Zulu = true
@@ -36,7 +50,7 @@ pub record TakesSigned (width : ℕ) (window : Window) (place : ℕ) : Type 0 wh
   pub sign_is : get_or window.taken.lanes 13 0 ≡ place
   pub sign_low : get_or window.low place 0 ≡ 43
   pub sign_high : get_or window.high place 0 ≤ 2
-  pub hour_tens : Takes window 8 (place + 1) 9
+  pub hour_tens : Takes window 8 (place + 1) 1
   pub hour_ones : Takes window 9 (place + 2) 9
   pub colon : 0 < width → LetsByte window (place + 3) 58
   pub minute_tens : Takes window 10 (place + width + 3) 5

@@ -1,6 +1,6 @@
 //! How an offset is written.
-ghost use Rattle.std.specs.Prelude.{◌≡◌, true};
-ghost use Rattle.parsing_places.specs.Tail.{is_written};
+ghost use Rattle.std.specs.Prelude.{◌≡◌, ◌==◌, true};
+ghost use Rattle.parsing_places.specs.Tail.{is_written, is_zulu};
 
 /// How the offset at the end of a text is written.
 #[derive(Clone, Copy)]
@@ -16,7 +16,8 @@ pub(crate) enum Ending {
 /// How the offset can be written that a byte ends, with a colon or without.
 #[inline(always)]
 pub(crate) fn ending_of(last: u8, has_colon: bool) -> Ending
-    ensures { is_written has_colon result ≡ true }
+    ensures written { is_written has_colon result ≡ true }
+    ensures zulu { is_zulu result ≡ (last == 90) }
 {
     if last == b'Z' {
         return Ending::Zulu;

@@ -1,7 +1,7 @@
 //! The numbers of a text in sums, by a shape and a tail.
-ghost use Rattle.std.specs.Prelude.{◌≡◌, ◌≤◌, ◌<◌, ◌+◌, ◌*◌, ◌*ℤ◌, ℕ, length, pos, unsigned_abs, IfSome, Ok, true};
+ghost use Rattle.std.specs.Prelude.{◌≡◌, ◌≤◌, ◌<◌, ◌+◌, ◌-◌, ◌*◌, ◌*ℤ◌, ◌==◌, ℕ, length, get_or, pos, unsigned_abs, IfSome, Ok, true};
 ghost use Rattle.parsing_values.specs.Resolution.{signed_offset_of};
-ghost use Rattle.parsing_places.specs.Tail.{offset_at};
+ghost use Rattle.parsing_places.specs.Tail.{offset_at, is_fraction, is_zulu};
 ghost use Rattle.parsing_places.specs.Whole.{HaveLanes, HasSums};
 
 use crate::lanes::{
@@ -49,8 +49,9 @@ pub(crate) fn totals(
     text: &[u8],
 ) -> Option<(u32, u32, u32, u32, u64, u64)>
     requires room { shape.now.back_at + LANES ≤ length text.now }
-    requires bytes { length text.now + offset_at tail.now.ending
+    requires bytes { is_fraction tail.now.fraction ≡ true → length text.now + offset_at tail.now.ending
         ≡ shape.now.length + LANES + tail.now.fraction }
+    requires last { is_zulu tail.now.ending ≡ (get_or text.now (length text.now - 1) 0 == 90) }
     ensures { IfSome result (λ v. HasSums shape.now tail.now text.now v.0 v.1 v.2 v.3 v.4 v.5) }
 {
     let (fits, digits, fraction) = lanes_of(shape, tail, text);

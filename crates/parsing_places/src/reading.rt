@@ -1,9 +1,9 @@
 //! The numbers that a text names, by a shape.
-ghost use Rattle.std.specs.Prelude.{◌≡◌, ◌≤◌, ◌+◌, length, drop, IfSome, Some, true, false};
+ghost use Rattle.std.specs.Prelude.{◌≡◌, ◌≤◌, ◌+◌, ◌-◌, ◌==◌, length, drop, get_or, IfSome, Some, true, false};
 ghost use Rattle.parsing_combinator.specs.Pieces.{digits};
 ghost use Rattle.parsing_places.specs.Numbers.{HasShape};
 ghost use Rattle.parsing_places.specs.Says.{Says, SaysNumbers};
-ghost use Rattle.parsing_places.specs.Tail.{offset_at, is_written};
+ghost use Rattle.parsing_places.specs.Tail.{offset_at, is_fraction, is_written, is_zulu};
 
 use crate::ending::ending_of;
 use crate::lanes::LANES;
@@ -28,14 +28,15 @@ fn year_of(shape: &Shape, text: &[u8]) -> Year
 #[inline(always)]
 fn read_with(shape: &Shape, tail: &Tail, text: &[u8]) -> Option<Numbers>
     requires room { shape.now.back_at + LANES ≤ length text.now }
-    requires bytes { length text.now + offset_at tail.now.ending
+    requires bytes { is_fraction tail.now.fraction ≡ true → length text.now + offset_at tail.now.ending
         ≡ shape.now.length + LANES + tail.now.fraction }
+    requires last { is_zulu tail.now.ending ≡ (get_or text.now (length text.now - 1) 0 == 90) }
     requires ending { is_written shape.now.has_colon tail.now.ending ≡ true }
     requires fraction { shape.now.has_second ≡ false → tail.now.fraction ≡ 0 }
     ensures { IfSome result (λ n. SaysNumbers shape.now text.now n) }
 {
     let (day, minute, offset, second, first, last) = totals(shape, tail, text)?;
-    if minute >= 1440 || offset >= 1440 || second % 2 != 0 {
+    if minute >= 1440 || second % 2 != 0 {
         return None;
     }
     Some(Numbers {
@@ -44,7 +45,7 @@ fn read_with(shape: &Shape, tail: &Tail, text: &[u8]) -> Option<Numbers>
         low: (day / 64) as u8,
         minute: minute as u16,
         second: (second / 64) as u8,
-        offset: signed(offset, second % 64 == 2),
+        offset: signed(offset, second % 4 == 2),
         fraction: Fraction::of_nine(first, last),
     })
 }
@@ -52,7 +53,7 @@ fn read_with(shape: &Shape, tail: &Tail, text: &[u8]) -> Option<Numbers>
 /// The numbers that a text of a shape names, with at most nine digits of a fraction after a second, and an offset after:
 /// `None` says nothing of the text.
 ///
-/// It finds them where the numbers of the time and of the offset are in range, with hours of the offset below 24, and where no
+/// It finds them where the numbers of the time and of the offset are in range, with hours of the offset below 20, and where no
 /// second is a leap second.
 #[inline(always)]
 pub fn read_numbers(shape: &Shape, text: &[u8]) -> Option<Numbers>

@@ -60,7 +60,7 @@ pub fn read_stamp(shape: &NamedShape, text: &[u8]) -> Option<(Year, u8, u16, u8,
     if minute.max(offset) >= 1440 || second % 2 != 0 {
         return None;
     }
-    let offset = signed(offset, second % 64 == 2);
+    let offset = signed(offset, second % 4 == 2);
     let year = Year::of_digits(text, shape.year);
     Some((
         year,

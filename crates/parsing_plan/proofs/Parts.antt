@@ -1,6 +1,6 @@
 -- What the parts of a line say of a date, a time of day and an offset.
 use Rattle.std.proofs.Common.{◌≡◌, ◌≤◌, ◌+◌, ◌*◌, ℕ, zero, suc, Bool, true, false, List, drop, Option, Some, None, Ok, refl, arith, pos, ℤ}
-use Rattle.std.specs.Prelude.{IfSome, ◌*ℤ◌, ◌+ℤ◌, ◌<ℤ◌, ◌≤ℤ◌, negsuc, nat_lt, unsigned_abs, int_div, int_rem}
+use Rattle.std.specs.Prelude.{◌&&◌, not, is_none, IfSome, ◌*ℤ◌, ◌+ℤ◌, ◌<ℤ◌, ◌≤ℤ◌, negsuc, nat_lt, unsigned_abs, int_div, int_rem}
 use Rattle.std.proofs.lemmas.Bool.Decides.{nat_tests}
 use Rattle.std.proofs.lemmas.Int.{ints}
 use Rattle.calendar_count.proofs.lemmas.Signed.{signed, one_sided}
@@ -17,7 +17,7 @@ use Rattle.parsing_record.specs.Parts.{under_sign}
 use Rattle.parsing_record.specs.Whole.{offset_named}
 use Rattle.parsing_plan.specs.declared.layout.Layout.{Layout}
 use Rattle.parsing_components.specs.Slot.{Values, slot_piece, width}
-use Rattle.parsing_plan.specs.Layout.{day_slot}
+use Rattle.parsing_plan.specs.Layout.{day_slot, is_plain}
 use Rattle.parsing_combinator.specs.Shape.{taken, spaced_between}
 use Rattle.parsing_plan.specs.Parts.{WritesAt, WritesDay, WritesOffset, SaysMonth, SaysWeekday, SaysDate, SaysClock, SaysOffset}
 use Rattle.parsing_plan.specs.Beginning.{beginning}
@@ -143,3 +143,23 @@ unfolding named_offset seconds_after
 assumed_is offset whole w few =
     let there : offset_of (int_div (int_div offset (pos 60)) (pos 60)) (int_rem (int_div offset (pos 60)) (pos 60)) (pos 0) ≡ Ok (pos 60 *ℤ whole) = rw (← w) (whole_named whole few) in
     rw (nested offset, there) refl
+
+-- ---- the parts of a plain line
+
+pub record PlainParts (l : Layout) : Type 0 where
+  pub named : l.month_is_named ≡ true
+  pub not_spaced : l.day_is_spaced ≡ false
+  pub no_weekday : l.weekday ≡ None
+  pub no_subsecond : l.subsecond ≡ None
+
+parts_by : (named spaced : Bool) (weekday subsecond : Option ℕ) → (named && not spaced && is_none weekday && is_none subsecond) ≡ true → (named ≡ true) × (spaced ≡ false) × (weekday ≡ None) × (subsecond ≡ None)
+parts_by true false None None e = (refl, refl, refl, refl)
+parts_by true false None (Some s) e = absurd cc
+parts_by true false (Some w) subsecond e = absurd cc
+parts_by true true weekday subsecond e = absurd cc
+parts_by false spaced weekday subsecond e = absurd cc
+
+pub plain_parts : (l : Layout) → is_plain l ≡ true → PlainParts l
+plain_parts l e =
+    let p = parts_by l.month_is_named l.day_is_spaced l.weekday l.subsecond e in
+    record { named = p.0; not_spaced = p.1; no_weekday = p.2; no_subsecond = p.3 }

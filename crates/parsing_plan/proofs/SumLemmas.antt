@@ -129,7 +129,7 @@ module _ (plan : Prefix) (line v n : List ℕ) (h : Taken plan.windows line v) (
     prefix_offset s offset seconds p is =
         let t = plan.offset_is p is in
         let sign = sign_taken plan.windows line v n h p.hour small t.sign (paired 6 (lit< tt)) in
-        let hour = two_taken plan.windows line v n h 4 (p.hour + 1) 9 (lit< tt) (lit≤ tt) t.hour_digits (paired 4 (lit< tt)) in
+        let hour = two_taken plan.windows line v n h 4 (p.hour + 1) 1 (lit< tt) (lit≤ tt) t.hour_digits (paired 4 (lit< tt)) in
         let minute = two_taken plan.windows line v n h 5 p.minute 5 (lit< tt) (lit≤ tt) t.minute_digits (paired 5 (lit< tt)) in
         record {
           hour_there = t.hour_is;
@@ -142,6 +142,7 @@ module _ (plan : Prefix) (line v n : List ℕ) (h : Taken plan.windows line v) (
           sign_is = omega (arith, seconds, sign.is, sign.high);
           hour_is = hour.written;
           minute_is = minute.written;
+          hour_few = hour.few;
           minute_few = minute.few;
           offset_are = offset;
         }
@@ -266,13 +267,13 @@ module _ (back : Back) (line : List ℕ) (end count : ℕ) (v t f : List ℕ) (h
         let n12 = sign_value (Some p) is in
         let hour_place : 16 - back.layout.length + (p.hour + 1) ≡ 16 - back.layout.length + p.hour + 1 = omega arith in
         let hour_next : 16 - back.layout.length + (p.hour + 1) + 1 ≡ 16 - back.layout.length + p.hour + 2 = omega arith in
-        let hour_tens : Takes back.last.window 8 (16 - back.layout.length + (p.hour + 1)) 9 = rw hour_place o.hour_tens in
+        let hour_tens : Takes back.last.window 8 (16 - back.layout.length + (p.hour + 1)) 1 = rw hour_place o.hour_tens in
         let hour_ones : Takes back.last.window 9 (16 - back.layout.length + (p.hour + 1) + 1) 9 = rw hour_next o.hour_ones in
-        let h8 = h.taken 8 (16 - back.layout.length + (p.hour + 1)) 9 (lit< tt) (lit≤ tt) hour_tens in
+        let h8 = h.taken 8 (16 - back.layout.length + (p.hour + 1)) 1 (lit< tt) (lit≤ tt) hour_tens in
         let h9 = h.taken 9 (16 - back.layout.length + (p.hour + 1) + 1) 9 (lit< tt) (lit≤ tt) hour_ones in
         let m10 = h.taken 10 (16 - back.layout.length + p.minute) 5 (lit< tt) (lit≤ tt) o.minute_tens in
         let m11 = h.taken 11 (16 - back.layout.length + p.minute + 1) 9 (lit< tt) (lit≤ tt) o.minute_ones in
-        let hour = last_two_digits n 8 (end - back.layout.length + (p.hour + 1)) (p.hour + 1) 9 refl (lit< tt) (lit≤ tt) (omega (arith, few, long)) hour_tens hour_ones (last_paired 4 (lit< tt) spare.hour h8.few h9.few) in
+        let hour = last_two_digits n 8 (end - back.layout.length + (p.hour + 1)) (p.hour + 1) 1 refl (lit< tt) (lit≤ tt) (omega (arith, few, long)) hour_tens hour_ones (last_paired 4 (lit< tt) spare.hour (omega (arith, h8.few)) h9.few) in
         let minute = last_two_digits n 10 (end - back.layout.length + p.minute) p.minute 5 refl (lit< tt) (lit≤ tt) (omega (arith, few, long)) o.minute_tens o.minute_ones (last_paired 5 (lit< tt) spare.minute (omega (arith, m10.few)) m11.few) in
         record {
           hour_there = o.hour_is;
@@ -285,6 +286,7 @@ module _ (back : Back) (line : List ℕ) (end count : ℕ) (v t f : List ℕ) (h
           sign_is = omega (arith, seconds, n12, sign.is, sign.high);
           hour_is = written_after line (end - back.layout.length) (p.hour + 1) (get_or n 8 0) _ refl hour.written;
           minute_is = written_after line (end - back.layout.length) p.minute (get_or n 10 0) _ refl minute.written;
+          hour_few = hour.few;
           minute_few = minute.few;
           offset_are = offset;
         }

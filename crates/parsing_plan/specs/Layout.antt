@@ -1,5 +1,5 @@
 -- Layouts: what stands at each place of a line, and what a line that has it sets in a record.
-use Rattle.std.specs.Prelude.{◌≡◌, ◌≤◌, ◌<◌, ℕ, ◌+◌, pos, Bool, true, false, List, drop, get_or, Option, Some, None, IfSome, set}
+use Rattle.std.specs.Prelude.{◌≡◌, ◌≤◌, ◌<◌, ◌&&◌, ℕ, ◌+◌, pos, Bool, true, false, not, List, drop, get_or, Option, Some, None, IfSome, is_none, set}
 use Rattle.parsing_components.specs.Ranged.{under}
 use Rattle.parsing_components.specs.Read.{Read}
 use Rattle.parsing_components.specs.Read as read
@@ -93,6 +93,16 @@ pub record HasNoOffset (l : Layout) : Type 0 where
 pub record IsPrefix (l : Layout) : Type 0 where
   pub no_offset : HasNoOffset l
   pub no_subsecond : l.subsecond ≡ None
+
+-- whether a layout has the name of a month and no other name, no day with a space, and no fraction of a second
+abbrev pub is_plain : Layout → Bool
+is_plain l = l.month_is_named && not l.day_is_spaced && is_none l.weekday && is_none l.subsecond
+
+-- it is so, and has so many bytes, sixteen or more
+pub record IsPlain (l : Layout) (length : ℕ) : Type 0 where
+  pub plain : is_plain l ≡ true
+  pub whole : l.length ≡ length
+  pub long : 16 ≤ length
 
 -- so many digits of a fraction, at most eight, end at the ninth place of a line or later, and within a length
 pub record HasRoom (length place digits : ℕ) : Type 0 where

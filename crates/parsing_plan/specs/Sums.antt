@@ -46,5 +46,6 @@ pub record HasOffsetSums (l : Layout) (line : List ℕ) (hour_place minute_place
   pub sign_is : sums.second % 64 ≡ get_or line hour_place 0 - 43
   pub hour_is : WritesAt 2 line (hour_place + 1) hour
   pub minute_is : WritesAt 2 line minute_place minute
+  pub hour_few : hour ≤ 19
   pub minute_few : minute ≤ 59
   pub offset_are : sums.offset ≡ 60 * hour + minute

@@ -23,7 +23,7 @@ pub record TakesOffset (w : Windows) (l : Layout) (hour minute : ℕ) : Type 0 w
   pub hour_is : l.offset_hour ≡ Some hour
   pub minute_is : l.offset_minute ≡ Some minute
   pub sign : TakeSign w hour
-  pub hour_digits : TakeTwo w 8 (hour + 1) 9
+  pub hour_digits : TakeTwo w 8 (hour + 1) 1
   pub minute_digits : TakeTwo w 10 minute 5
 
 -- they take no offset
@@ -62,7 +62,7 @@ pub record TakesLastOffset (last : Window) (l : Layout) (hour minute : ℕ) : Ty
   pub alone : 128 ≤ get_or last.taken.lanes 12 0
   pub sign_is : get_or last.taken.lanes 13 0 ≡ 16 - l.length + hour
   pub sign : LetsIn last (16 - l.length + hour) 43 2
-  pub hour_tens : Takes last 8 (16 - l.length + hour + 1) 9
+  pub hour_tens : Takes last 8 (16 - l.length + hour + 1) 1
   pub hour_ones : Takes last 9 (16 - l.length + hour + 2) 9
   pub minute_tens : Takes last 10 (16 - l.length + minute) 5
   pub minute_ones : Takes last 11 (16 - l.length + minute + 1) 9

@@ -1,7 +1,7 @@
 //! What stands at each place of a line.
 ghost use Rattle.std.specs.Prelude.{◌≡◌, ◌≢◌, ◌<◌, ◌≤◌, None, length, get_or, IfSome};
 ghost use Rattle.parsing_record.specs.Record.{Record};
-ghost use Rattle.parsing_plan.specs.Layout.{place_of, with_byte, with_place, with_slot, with_values};
+ghost use Rattle.parsing_plan.specs.Layout.{is_plain, place_of, with_byte, with_place, with_slot, with_values};
 ghost use Rattle.parsing_components.specs.Slot.{Values};
 ghost use Rattle.parsing_plan.specs.Steps.{IsTextStep};
 
@@ -61,6 +61,17 @@ impl Layout {
             text: [0; LENGTH],
             mask: [0; LENGTH],
         }
+    }
+
+    /// Whether it has the name of a month and no other name, no day with a space, and no fraction of a second.
+    #[inline(always)]
+    pub(crate) fn is_plain(&self) -> bool
+        ensures { result ≡ is_plain self.now }
+    {
+        self.month_is_named
+            && !self.day_is_spaced
+            && self.weekday.is_none()
+            && self.subsecond.is_none()
     }
 
     // Where in the layout a slot begins.

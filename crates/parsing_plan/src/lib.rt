@@ -3,6 +3,7 @@
 
 mod items;
 mod layout;
+mod plain;
 mod plan;
 mod read;
 mod readings;

@@ -1,8 +1,8 @@
 //! Plans of descriptions.
-ghost use Rattle.std.specs.Prelude.{◌≡◌, ◌≤◌, ◌<◌, ◌+◌, true, false, Some};
+ghost use Rattle.std.specs.Prelude.{◌≡◌, ◌≤◌, ◌<◌, ◌+◌, true, false, None, Some, IsSome};
 ghost use Rattle.std.specs.Option.{ForSome, ForNone};
 ghost use Rattle.parsing_places.specs.Windows.{LetsAt, TakeTwo, TakeOne, SpareTwo, SpareOne};
-ghost use Rattle.parsing_plan.specs.Layout.{HasNoOffset, HasNoClock, IsPrefix, HasRoom};
+ghost use Rattle.parsing_plan.specs.Layout.{HasNoOffset, HasNoClock, IsPrefix, IsPlain, HasRoom};
 ghost use Rattle.parsing_plan.specs.Windows.{LetText, LetYear, TakesOffset, SpareOffset, LetLastText, BeginsApart, SparesClock, SparesSign, TakesLastOffset};
 
 mod calls;
@@ -85,6 +85,11 @@ pub struct Places {
     pub(crate) prefix: Prefix,
     /// What follows a fraction of a second after the prefix, where there is one.
     pub(crate) back: Option<Back>,
+    /// The bytes of a line, where they are sixteen or more, its layout is plain and an offset is written, and else as many as no
+    /// line has.
+    pub(crate) plain_length: usize,
+    ghost plain: { plain_length < 18_446_744_073_709_551_615
+        → IsPlain prefix.layout plain_length × IsSome prefix.offset × (back ≡ None) },
     ghost one_fraction: { ForSome back (λ _. IsPrefix prefix.layout) },
     ghost one_offset: { ForSome back (λ _. SpareOffset prefix.windows) },
 }

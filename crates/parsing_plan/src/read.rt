@@ -70,7 +70,7 @@ fn month_number(word: u32) -> Option<u8>
 
 // The number of the month whose name is at a place.
 #[inline(always)]
-fn month_name_at(line: &[u8], place: usize) -> Option<u8>
+pub(crate) fn month_name_at(line: &[u8], place: usize) -> Option<u8>
     requires { place + 4 ≤ length line.now }
     ensures says { IfSome result (SaysMonth true line.now place) }
     ensures bound { IfSome result (λ n. (1 ≤ n) × (n ≤ 12)) }
@@ -178,7 +178,7 @@ fn has_weekday(place: Option<usize>, line: &[u8]) -> bool
 // Whether a year of four digits has the day.
 #[inline(always)]
 #[tactic(auto, using(crate::proofs::Parts::short_months))]
-fn has_day_of_month(year: Year, month: u8, day: u8) -> bool
+pub(crate) fn has_day_of_month(year: Year, month: u8, day: u8) -> bool
     requires year { year ≤ 9999 }
     requires month { (1 ≤ month) × (month ≤ 12) }
     ensures day { result ≡ true → IsDay (pos year) month day }
@@ -208,17 +208,16 @@ pub(crate) fn date(prefix: &Prefix, line: &[u8], sums: Sums) -> Option<(Year, u8
     Some((year, month, day))
 }
 
-// The minute of the day, and the second, where they and the minutes of the offset are in range, and its sign is one.
+// The minute of the day, and the second, where they are in range, and the sign of an offset is one.
 #[inline(always)]
 pub(crate) fn clock(prefix: &Prefix, line: &[u8], sums: Sums) -> Option<(u16, u8)>
     requires { HasSums prefix.now line.now sums }
     ensures says { IfSome result (λ t. SaysClock prefix.now.layout line.now t.0 t.1) }
     ensures minute { IfSome result (λ t. t.0 < 1440) }
     ensures second { IfSome result (λ t. t.1 < 60) }
-    ensures offset { IfSome result (λ _. sums.offset < 1440) }
     ensures sign { IfSome result (λ _. sums.second % 2 ≡ 0) }
 {
-    if sums.minute >= 1440 || sums.offset >= 1440 || sums.second % 2 != 0 {
+    if sums.minute >= 1440 || sums.second % 2 != 0 {
         return None;
     }
     Some((sums.minute as u16, (sums.second / 64) as u8))
@@ -235,7 +234,7 @@ fn assumed_minutes(offset: UtcOffset) -> i16
 
 // The minutes of the offset that stands at these places of a text.
 #[inline(always)]
-fn written_offset(places: OffsetPlaces, sums: Sums) -> i16
+pub(crate) fn written_offset(places: OffsetPlaces, sums: Sums) -> i16
     requires few { sums.offset < 1440 }
     requires sign { sums.second % 2 ≡ 0 }
     ensures writes { (l : Layout) (text : List ℕ)
@@ -243,7 +242,7 @@ fn written_offset(places: OffsetPlaces, sums: Sums) -> i16
         → WritesOffset text places.hour places.minute result }
     ensures bound { unsigned_abs result ≤ 1559 }
 {
-    signed(sums.offset, sums.second % 64 == 2)
+    signed(sums.offset, sums.second % 4 == 2)
 }
 
 // The minutes of the offset, of a text that has a layout or else of the one that is assumed.
@@ -253,7 +252,7 @@ pub(crate) fn offset(
     sums: Sums,
     assumed: Option<UtcOffset>,
 ) -> Option<i16>
-    requires few { sums.offset < 1440 }
+    requires few { ForSome places (λ _. sums.offset < 1440) }
     requires sign { sums.second % 2 ≡ 0 }
     ensures says { (l : Layout) (text : List ℕ) → ForNone places (HasNoOffset l)
         → ForSome places (λ p. HasOffsetSums l text p.hour p.minute sums)

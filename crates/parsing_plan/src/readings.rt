@@ -11,6 +11,7 @@ ghost use Rattle.parsing_plan.specs.Windows.{SpareOffset};
 ghost use Rattle.parsing_plan.specs.Beginning.{beginning};
 ghost use Rattle.parsing_plan.specs.Plan.{ArePlacesOf, IsPlanOf, IsSplitOf, NamesPrefix};
 
+use crate::plain::{plain_date, plain_fraction, plain_offset};
 use crate::plan::{Back, Places, Plan, Prefix};
 use crate::read::{clock, date, fraction, layout_fields, offset, split_fields};
 use crate::sums::sums_of;
@@ -107,10 +108,9 @@ fn read_split_prefix<'l>(
 }
 
 impl Places {
-    /// The fields of a line, with an offset assumed or none, which counts only where the line has none: `None` says nothing of
-    /// the line.
+    // The same of any line.
     #[inline(always)]
-    pub fn read(&self, line: &[u8], assumed: Option<UtcOffset>) -> Option<Fields>
+    fn read_other(&self, line: &[u8], assumed: Option<UtcOffset>) -> Option<Fields>
         ensures { (m : Meaning) (defaults : Option Record) → ArePlacesOf m self.now
             → starting defaults ≡ beginning assumed
             → IfSome result
@@ -123,12 +123,36 @@ impl Places {
         if line.len() != prefix.layout.length {
             return None;
         }
+        let sums = sums_of(prefix, line)?;
+        let (minute, second) = clock(prefix, line, sums)?;
+        let (year, month, day) = date(prefix, line, sums)?;
+        let offset = offset(prefix.offset, sums, assumed)?;
+        let fraction = fraction(prefix, line)?;
+        Some(Fields::of_numbers(year, month, day, minute, second, fraction, offset))
+    }
+
+    /// The fields of a line, with an offset assumed or none, which counts only where the line has none: `None` says nothing of
+    /// the line.
+    #[inline(always)]
+    pub fn read(&self, line: &[u8], assumed: Option<UtcOffset>) -> Option<Fields>
+        ensures { (m : Meaning) (defaults : Option Record) → ArePlacesOf m self.now
+            → starting defaults ≡ beginning assumed
+            → IfSome result
+            (λ f. names moment_named (whole m defaults line.now) ≡ Ok (moment_of f)) }
+    {
+        if line.len() != self.plain_length {
+            return self.read_other(line, assumed);
+        }
+        let prefix = &self.prefix;
+        if line.len() < LANES {
+            unreachable!();
+        }
         // As in `layout_fields`: fields that a call hands on would take some twenty instructions a line.
         let sums = sums_of(prefix, line)?;
-        let (year, month, day) = date(prefix, line, sums)?;
         let (minute, second) = clock(prefix, line, sums)?;
-        let fraction = fraction(prefix, line)?;
-        let offset = offset(prefix.offset, sums, assumed)?;
+        let (year, month, day) = plain_date(prefix, line, sums)?;
+        let offset = plain_offset(prefix, sums);
+        let fraction = plain_fraction(prefix, line);
         Some(Fields::of_numbers(year, month, day, minute, second, fraction, offset))
     }
 

@@ -31,6 +31,7 @@ pub(crate) fn sums_of(prefix: &Prefix, line: &[u8]) -> Option<Sums>
     ensures sums { IfSome result (HasSums prefix.now line.now) }
     ensures offset { IfSome result (λ s. ForSome prefix.now.offset
         (λ p. HasOffsetSums prefix.now.layout line.now p.hour p.minute s)) }
+    ensures few { IfSome result (λ s. ForSome prefix.now.offset (λ _. s.offset < 1440)) }
 {
     let (fits, digits) = prefix.windows.digits_of(line);
     if !fits {
@@ -65,6 +66,7 @@ pub(crate) fn split_sums_of(
     ensures offset { IfSome result (λ x. ForSome back.now.offset
         (λ p. HasOffsetSums back.now.layout (drop (end - back.now.layout.length) line.now)
         p.hour p.minute x.0)) }
+    ensures few { IfSome result (λ x. ForSome back.now.offset (λ _. x.0.offset < 1440)) }
     ensures text { IfSome result
         (λ x. HasText back.now.layout (drop (end - back.now.layout.length) line.now)) }
     ensures apart { IfSome result (λ x. 0 < back.now.layout.length

@@ -92,12 +92,12 @@ impl Made {
         }
     }
 
-    // The sign and the hour of an offset.
+    // The sign and the hour of an offset, which is below 20.
     fn take_offset(&mut self, place: Option<usize>) {
         if let Some(place) = place {
             self.lets(place, b'+', 2);
             self.lanes[SIGN] = place;
-            self.take_two(8, Some(place.wrapping_add(1)), 2);
+            self.take_two(8, Some(place.wrapping_add(1)), 1);
         }
     }
 

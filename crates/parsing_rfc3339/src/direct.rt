@@ -96,8 +96,8 @@ pub fn read_rare_fields(input: &[u8]) -> Option<Fields>
 
 /// The fields of a text, where the fast way finds them: `None` says nothing of the text.
 ///
-/// It finds those of all texts whose numbers are in range and whose second is no leap second, but for a small `z` after more than
-/// nine digits of a fraction.
+/// It finds those of all texts whose numbers are in range, with hours of the offset below 20, and whose second is no leap second,
+/// but for a small `z` after more than nine digits of a fraction.
 #[inline(always)]
 pub fn read_fields(input: &[u8]) -> Option<Fields>
     ensures { IfSome result (λ fields. direct input.now ≡ Ok (Moment.moment_of fields)) }

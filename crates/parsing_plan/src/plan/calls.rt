@@ -1,12 +1,12 @@
 //! The plans of descriptions.
-ghost use Rattle.std.specs.Prelude.{◌≡◌, ◌+◌, ◌≤◌, true, false, Some, None, map, IfSome};
+ghost use Rattle.std.specs.Prelude.{◌≡◌, ◌+◌, ◌≤◌, ◌<◌, true, false, Some, None, map, IfSome, IsSome};
 ghost use Rattle.std.specs.Option.{ForSome, ForNone};
 ghost use Rattle.description_items.specs.Tree.{trees, listed};
 ghost use Rattle.description_tree.specs.Description.{v3_tree};
 ghost use Rattle.parsing_components.specs.Component.{reads_component, reads_component_v3};
 ghost use Rattle.parsing_record.specs.Reads.{reading, reading_of_all};
 ghost use Rattle.parsing_places.specs.Windows.{LetsAt, TakeTwo, TakeOne, SpareTwo, SpareOne};
-ghost use Rattle.parsing_plan.specs.Layout.{HasNoOffset, HasNoClock, IsPrefix, HasRoom};
+ghost use Rattle.parsing_plan.specs.Layout.{HasNoOffset, HasNoClock, IsPrefix, IsPlain, HasRoom};
 ghost use Rattle.parsing_plan.specs.Windows.{LetText, LetYear, TakesOffset, SpareOffset, LetLastText, BeginsApart, SparesClock, SparesSign, TakesLastOffset};
 ghost use Rattle.parsing_plan.specs.Plan.{ArePlacesOf, IsPlanOf};
 
@@ -38,7 +38,7 @@ fn offset_of(layout: &Layout, windows: &Windows) -> Option<Option<OffsetPlaces>>
             if hour >= LENGTH || minute >= LENGTH || !windows.take_sign(hour) {
                 return None;
             }
-            if !windows.take_two(8, hour + 1, 9) || !windows.take_two(10, minute, 5) {
+            if !windows.take_two(8, hour + 1, 1) || !windows.take_two(10, minute, 5) {
                 return None;
             }
             Some(Some(OffsetPlaces { hour, minute }))
@@ -61,7 +61,7 @@ fn takes_last_offset(last: &Window, layout: &Layout, hour: usize, minute: usize)
     if usize::from(last.taken.lanes[13]) != first + hour || !last.lets(first + hour, b'+', 2) {
         return false;
     }
-    last.takes(8, first + hour + 1, 9)
+    last.takes(8, first + hour + 1, 1)
         && last.takes(9, first + hour + 2, 9)
         && last.takes(10, first + minute, 5)
         && last.takes(11, first + minute + 1, 9)
@@ -358,13 +358,32 @@ impl Plan {
     }
 }
 
+// As many bytes as no line has.
+const NEVER: usize = usize::MAX;
+
+// The bytes of a line that is plain and has an offset, or as many as no line has.
+fn plain_length_of(prefix: &Prefix) -> usize
+    ensures plain { result < 18_446_744_073_709_551_615 → IsPlain prefix.now.layout result }
+    ensures offset { result < 18_446_744_073_709_551_615 → IsSome prefix.now.offset }
+{
+    let length = prefix.layout.length;
+    if length < LANES || prefix.offset.is_none() || !prefix.layout.is_plain() {
+        return NEVER;
+    }
+    length
+}
+
 impl Places {
     // The places of a prefix alone.
     fn of_prefix(prefix: Prefix) -> Places
         ensures prefix { result.prefix ≡ prefix }
         ensures back { result.back ≡ None }
     {
-        Places { prefix, back: None }
+        Places {
+            prefix,
+            back: None,
+            plain_length: plain_length_of(&prefix),
+        }
     }
 
     // The places with a layout after a fraction, where there is but one offset.
@@ -378,6 +397,7 @@ impl Places {
         Some(Places {
             prefix,
             back: Some(back),
+            plain_length: NEVER,
         })
     }
 }

@@ -22,3 +22,9 @@ pub returns-clause-fraction : goal.returns-clause-fraction
 returns-clause-fraction c =
     let back = c.args.back.now in
     rw (back.same_length) at (c.fraction_of.ensures.writes c.args.line.now (c.args.end - back.last.length - c.args.count) c.args.count (c.read-ends.ensures.last c.if-not-ends.false).fraction)
+
+pub returns-clause-few : goal.returns-clause-few
+returns-clause-few c = λ places is.
+    let s = c.sums-day.ensures in
+    let h = split_offset c.args.back.now c.args.line.now c.args.end c.args.count c.digits_of-fits.result.1 c.read-ends.result.1 c.read-ends.result.2 (c.read-ends.ensures.last c.if-not-ends.false) (λ k. (omega (arith, c.type_inv.line k))) c.requires.long c.requires.within c.args.prefix.now c.joined.result c.paired.result (c.digits_of-fits.ensures c.if-not-fits.false) c.requires.longer c.requires.one_offset c.joined.ensures c.paired.ensures (record { day = c.sums-day.result.0; minute = c.sums-day.result.1; offset = c.sums-day.result.2; second = c.sums-day.result.3 }) s.third s.fourth places is in
+    omega (arith, h.offset_are, h.hour_few, h.minute_few)
