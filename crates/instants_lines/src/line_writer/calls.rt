@@ -15,9 +15,7 @@ ghost use Rattle.instants_lines_words.specs.declared.mode.Mode.{Mode};
 use crate::date_sources::DateSources;
 use crate::line_writer::LineWriter;
 use crate::located::write_finding;
-use crate::parts::{
-    tabbed, write_both, write_keyed, write_keyed_by_tab, write_labelled, write_three,
-};
+use crate::parts::{tabbed, write_both, write_keyed, write_labelled, write_three};
 use instants_answers::{Answer, rfc3339_line};
 use instants_found::{Finding, Found};
 use instants_lines_words::Mode;
@@ -101,7 +99,7 @@ impl<'a, 'b> LineWriter<'a, 'b> {
             (((going_of self.now).key ++ tab ∷ (label_prefix (going_of self.now).label ++ line.now)) ++ line_feed ∷ [])) }
         ensures err { OnErr result (W.failed writer.new ≡ true) }
     {
-        write_keyed(writer, &self.tabbed, self.label, line)
+        write_keyed(writer, &self.tabbed, &self.label, line)
     }
 
     // The key of a line by what is found in it, which is kept for the lines below.
@@ -147,12 +145,11 @@ impl<'a, 'b> LineWriter<'a, 'b> {
             (keyed (going_of self.old) line.now ++ line_feed ∷ [])) }
         ensures err { OnErr result (W.failed writer.new ≡ true) }
     {
-        let label = self.label;
         self.dates.write_named(&date.moment, &mut self.storage);
         self.keep_year(date);
         self.keep();
         self.storage.push(b'\t');
-        write_keyed(writer, &self.storage, label, line)
+        write_keyed(writer, &self.storage, &self.label, line)
     }
 
     // Writes a line whose date is in doubt after the key that says so.
@@ -173,36 +170,8 @@ impl<'a, 'b> LineWriter<'a, 'b> {
             (keyed (going_of self.old) line.now ++ line_feed ∷ [])) }
         ensures err { OnErr result (W.failed writer.new ≡ true) }
     {
-        let label = self.label;
-        let key = self.take_key(line, Some(Finding::Doubtful));
-        write_keyed_by_tab(writer, &key, label, line)
-    }
-
-    // Writes a line after the key of its date, where none begins before a place and the date there is found at once: `None` where
-    // it is not, with nothing written. A call of its own, which makes no room for what is found otherwise.
-    #[inline(never)]
-    fn write_plain<W: ByteWriter>(
-        &mut self,
-        first: usize,
-        line: &[u8],
-        writer: &mut W,
-    ) -> Option<Result<(), DeviceFailed>>
-        requires works { W.failed writer.old ≡ false }
-        requires within { first < length line.now }
-        requires passed { HasNoDate (going_of self.old).search.setting.sources line.now 0 first }
-        ensures written { IfSome result (λ end. OnOk end (Appends (W.held writer.old) (W.held writer.new)
-            (keyed (going_of self.old) line.now ++ line_feed ∷ []))) }
-        ensures next { IfSome result (λ end. OnOk end (going_of self.new ≡ below (going_of self.old) line.now)) }
-        ensures ok { IfSome result (λ end. OnOk end (W.failed writer.new ≡ W.failed writer.old)) }
-        ensures prefix { IfSome result (λ end. OnErr end (AppendsPrefix (W.held writer.old) (W.held writer.new)
-            (keyed (going_of self.old) line.now ++ line_feed ∷ []))) }
-        ensures err { IfSome result (λ end. OnErr end (W.failed writer.new ≡ true)) }
-        ensures same { IfNone result ((self.new ≡ self.old) × (writer.new ≡ writer.old)) }
-    {
-        let Some(date) = self.dates.plain_date(&self.given, line, first) else {
-            return None;
-        };
-        Some(self.write_dated(&date, line, writer))
+        let key = tabbed(self.take_key(line, Some(Finding::Doubtful)));
+        write_keyed(writer, &key, &self.label, line)
     }
 
     // Writes a line after its key and a tab, where no date begins before a place, by whatever is found in it. A call of its own,
@@ -253,10 +222,10 @@ impl<'a, 'b> LineWriter<'a, 'b> {
             (keyed (going_of self.old) line.now ++ line_feed ∷ [])) }
         ensures err { OnErr result (W.failed writer.new ≡ true) }
     {
-        match self.write_plain(first, line, writer) {
-            Some(end) => end,
-            None => self.write_any(first, line, writer),
-        }
+        let Some(date) = self.dates.plain_date(&self.given, line, first) else {
+            return self.write_any(first, line, writer);
+        };
+        self.write_dated(&date, line, writer)
     }
 
     /// Writes a line after its key and a tab, and a line feed.
