@@ -174,6 +174,33 @@ impl<'a, 'b> LineWriter<'a, 'b> {
         write_keyed(writer, &key, &self.label, line)
     }
 
+    // Writes a line after the key of its date, where none begins before a place and the date there is found at once: `None` where
+    // it is not, with nothing written. A call of its own, which makes no room for what is found otherwise.
+    #[inline(never)]
+    fn write_plain<W: ByteWriter>(
+        &mut self,
+        first: usize,
+        line: &[u8],
+        writer: &mut W,
+    ) -> Option<Result<(), DeviceFailed>>
+        requires works { W.failed writer.old ≡ false }
+        requires within { first < length line.now }
+        requires passed { HasNoDate (going_of self.old).search.setting.sources line.now 0 first }
+        ensures written { IfSome result (λ end. OnOk end (Appends (W.held writer.old) (W.held writer.new)
+            (keyed (going_of self.old) line.now ++ line_feed ∷ []))) }
+        ensures next { IfSome result (λ end. OnOk end (going_of self.new ≡ below (going_of self.old) line.now)) }
+        ensures ok { IfSome result (λ end. OnOk end (W.failed writer.new ≡ W.failed writer.old)) }
+        ensures prefix { IfSome result (λ end. OnErr end (AppendsPrefix (W.held writer.old) (W.held writer.new)
+            (keyed (going_of self.old) line.now ++ line_feed ∷ []))) }
+        ensures err { IfSome result (λ end. OnErr end (W.failed writer.new ≡ true)) }
+        ensures same { IfNone result ((self.new ≡ self.old) × (writer.new ≡ writer.old)) }
+    {
+        let Some(date) = self.dates.plain_date(&self.given, line, first) else {
+            return None;
+        };
+        Some(self.write_dated(&date, line, writer))
+    }
+
     // Writes a line after its key and a tab, where no date begins before a place, by whatever is found in it. A call of its own,
     // so that other lines make no room for that.
     #[inline(never)]
@@ -203,31 +230,6 @@ impl<'a, 'b> LineWriter<'a, 'b> {
         }
     }
 
-    // Writes a line after its key and a tab, where no date begins before a place.
-    #[inline(always)]
-    fn write_from<W: ByteWriter>(
-        &mut self,
-        first: usize,
-        line: &[u8],
-        writer: &mut W,
-    ) -> Result<(), DeviceFailed>
-        requires works { W.failed writer.old ≡ false }
-        requires within { first < length line.now }
-        requires passed { HasNoDate (going_of self.old).search.setting.sources line.now 0 first }
-        ensures written { OnOk result (Appends (W.held writer.old) (W.held writer.new)
-            (keyed (going_of self.old) line.now ++ line_feed ∷ [])) }
-        ensures next { OnOk result (going_of self.new ≡ below (going_of self.old) line.now) }
-        ensures ok { OnOk result (W.failed writer.new ≡ W.failed writer.old) }
-        ensures prefix { OnErr result (AppendsPrefix (W.held writer.old) (W.held writer.new)
-            (keyed (going_of self.old) line.now ++ line_feed ∷ [])) }
-        ensures err { OnErr result (W.failed writer.new ≡ true) }
-    {
-        let Some(date) = self.dates.plain_date(&self.given, line, first) else {
-            return self.write_any(first, line, writer);
-        };
-        self.write_dated(&date, line, writer)
-    }
-
     /// Writes a line after its key and a tab, and a line feed.
     #[inline(always)]
     #[tactic(auto, using(crate::proofs::Keyed::undated, crate::proofs::Keyed::below_undated))]
@@ -248,7 +250,10 @@ impl<'a, 'b> LineWriter<'a, 'b> {
         let Some(first) = self.dates.undated_len(line) else {
             return self.write_undated(line, writer);
         };
-        self.write_from(first, line, writer)
+        match self.write_plain(first, line, writer) {
+            Some(end) => end,
+            None => self.write_any(first, line, writer),
+        }
     }
 
     /// The same of the first bytes of a longer line, without a line feed.
