@@ -128,7 +128,7 @@ impl<'a, 'b> LineWriter<'a, 'b> {
     }
 
     // Writes a line after the key of its date. The key is made where it is written from, with the tab after it.
-    #[inline(always)]
+    #[inline]
     fn write_dated<W: ByteWriter>(
         &mut self,
         date: &Found,
@@ -150,28 +150,6 @@ impl<'a, 'b> LineWriter<'a, 'b> {
         self.keep();
         self.storage.push(b'\t');
         write_keyed(writer, &self.storage, &self.label, line)
-    }
-
-    // Writes a line whose date is in doubt after the key that says so.
-    #[cold]
-    #[inline(never)]
-    fn write_doubtful<W: ByteWriter>(
-        &mut self,
-        line: &[u8],
-        writer: &mut W,
-    ) -> Result<(), DeviceFailed>
-        requires works { W.failed writer.old ≡ false }
-        requires found { date_in (going_of self.old).search line.now ≡ Some Doubtful }
-        ensures written { OnOk result (Appends (W.held writer.old) (W.held writer.new)
-            (keyed (going_of self.old) line.now ++ line_feed ∷ [])) }
-        ensures next { OnOk result (going_of self.new ≡ below (going_of self.old) line.now) }
-        ensures ok { OnOk result (W.failed writer.new ≡ W.failed writer.old) }
-        ensures prefix { OnErr result (AppendsPrefix (W.held writer.old) (W.held writer.new)
-            (keyed (going_of self.old) line.now ++ line_feed ∷ [])) }
-        ensures err { OnErr result (W.failed writer.new ≡ true) }
-    {
-        let key = tabbed(self.take_key(line, Some(Finding::Doubtful)));
-        write_keyed(writer, &key, &self.label, line)
     }
 
     // Writes a line after the key of its date, where none begins before a place and the date there is found at once: `None` where
@@ -223,11 +201,8 @@ impl<'a, 'b> LineWriter<'a, 'b> {
         ensures err { OnErr result (W.failed writer.new ≡ true) }
     {
         let finding = self.dates.date_from(&self.given, line, first);
-        match &finding {
-            Some(Finding::There(date)) => self.write_dated(date, line, writer),
-            Some(Finding::Doubtful) => self.write_doubtful(line, writer),
-            None => self.write_undated(line, writer),
-        }
+        let key = tabbed(self.take_key(line, finding));
+        write_keyed(writer, &key, &self.label, line)
     }
 
     /// Writes a line after its key and a tab, and a line feed.
