@@ -9,8 +9,6 @@ use instants_answers::Answer;
 use instants_stream::{ByteWriter, DeviceFailed};
 
 // One byte, in the storage of a prefix, which is written in fewer instructions than a slice.
-static TAB: [u8; 64] = *b"\t                                                               ";
-
 static LINE_FEED: [u8; 64] = *b"\n                                                               ";
 
 /// Writes two parts.
@@ -113,68 +111,26 @@ pub(crate) fn write_labelled<W: ByteWriter>(
     }
 }
 
-// The same, and a line feed.
+// The same, and a line feed. The label is looked at where it is written, so that it takes no register before.
 #[inline(always)]
 #[tactic(auto, using(std::proofs::lemmas::List::append_assoc))]
 fn write_labelled_line<W: ByteWriter>(
     writer: &mut W,
-    label: Option<&str>,
+    label: &Option<&str>,
     line: &[u8],
 ) -> Result<(), DeviceFailed>
     requires { W.failed writer.old ≡ false }
     ensures written { OnOk result (Appends (W.held writer.old) (W.held writer.new)
-        (label_prefix (option_map (λ text. text.now) label.entry) ++ (line.now ++ line_feed ∷ []))) }
+        (label_prefix (option_map (λ text. text.now) label.now) ++ (line.now ++ line_feed ∷ []))) }
     ensures ok { OnOk result (W.failed writer.new ≡ W.failed writer.old) }
     ensures prefix { OnErr result (AppendsPrefix (W.held writer.old) (W.held writer.new)
-        (label_prefix (option_map (λ text. text.now) label.entry) ++ (line.now ++ line_feed ∷ []))) }
+        (label_prefix (option_map (λ text. text.now) label.now) ++ (line.now ++ line_feed ∷ []))) }
     ensures err { OnErr result (W.failed writer.new ≡ true) }
 {
     match label {
         Some(text) => write_parts(writer, text.as_bytes(), b"\t", line),
         None => write_fed(writer, line),
     }
-}
-
-// Writes a tab, a line after its label, and a line feed.
-#[inline(always)]
-#[tactic(auto, using(crate::proofs::Turns::in_turn))]
-fn write_tabbed<W: ByteWriter>(
-    writer: &mut W,
-    label: Option<&str>,
-    line: &[u8],
-) -> Result<(), DeviceFailed>
-    requires { W.failed writer.old ≡ false }
-    ensures written { OnOk result (Appends (W.held writer.old) (W.held writer.new)
-        (tab ∷ (label_prefix (option_map (λ text. text.now) label.entry) ++ (line.now ++ line_feed ∷ [])))) }
-    ensures ok { OnOk result (W.failed writer.new ≡ W.failed writer.old) }
-    ensures prefix { OnErr result (AppendsPrefix (W.held writer.old) (W.held writer.new)
-        (tab ∷ (label_prefix (option_map (λ text. text.now) label.entry) ++ (line.now ++ line_feed ∷ [])))) }
-    ensures err { OnErr result (W.failed writer.new ≡ true) }
-{
-    writer.write_prefix(&TAB, 1)?;
-    write_labelled_line(writer, label, line)
-}
-
-/// Writes an answer, a tab, a line after its label, and a line feed.
-#[inline(always)]
-pub(crate) fn write_keyed_by_tab<W: ByteWriter>(
-    writer: &mut W,
-    answer: &Answer,
-    label: Option<&str>,
-    line: &[u8],
-) -> Result<(), DeviceFailed>
-    requires works { W.failed writer.old ≡ false }
-    requires room { length answer.now ≤ 64 }
-    ensures written { OnOk result (Appends (W.held writer.old) (W.held writer.new)
-        ((answer.now ++ tab ∷ (label_prefix (option_map (λ text. text.now) label.entry) ++ line.now)) ++ line_feed ∷ [])) }
-    ensures ok { OnOk result (W.failed writer.new ≡ W.failed writer.old) }
-    ensures prefix { OnErr result (AppendsPrefix (W.held writer.old) (W.held writer.new)
-        ((answer.now ++ tab ∷ (label_prefix (option_map (λ text. text.now) label.entry) ++ line.now)) ++ line_feed ∷ [])) }
-    ensures err { OnErr result (W.failed writer.new ≡ true) }
-{
-    let (bytes, len) = answer.padded();
-    writer.write_prefix(bytes, len)?;
-    write_tabbed(writer, label, line)
 }
 
 /// An answer and a tab.
@@ -193,16 +149,16 @@ pub(crate) fn tabbed(answer: Answer) -> Answer
 pub(crate) fn write_keyed<W: ByteWriter>(
     writer: &mut W,
     answer: &Answer,
-    label: Option<&str>,
+    label: &Option<&str>,
     line: &[u8],
 ) -> Result<(), DeviceFailed>
     requires works { W.failed writer.old ≡ false }
     requires room { length answer.now ≤ 64 }
     ensures written { OnOk result (Appends (W.held writer.old) (W.held writer.new)
-        (answer.now ++ (label_prefix (option_map (λ text. text.now) label.entry) ++ (line.now ++ line_feed ∷ [])))) }
+        (answer.now ++ (label_prefix (option_map (λ text. text.now) label.now) ++ (line.now ++ line_feed ∷ [])))) }
     ensures ok { OnOk result (W.failed writer.new ≡ W.failed writer.old) }
     ensures prefix { OnErr result (AppendsPrefix (W.held writer.old) (W.held writer.new)
-        (answer.now ++ (label_prefix (option_map (λ text. text.now) label.entry) ++ (line.now ++ line_feed ∷ [])))) }
+        (answer.now ++ (label_prefix (option_map (λ text. text.now) label.now) ++ (line.now ++ line_feed ∷ [])))) }
     ensures err { OnErr result (W.failed writer.new ≡ true) }
 {
     let (bytes, len) = answer.padded();

@@ -73,10 +73,10 @@ impl<'a> DateSource<'a> {
         }
     }
 
-    /// The same where a plan reads a description's items, and texts alone stand around what they say: `None` says nothing of
-    /// the bytes. The fields that were read stay where they are, since the caller gets no memory for a prefix that it asks for.
-    #[inline(always)]
-    pub fn read_planned(&self, bytes: &[u8], given: &Given) -> Option<Prefix>
+    // The same where a plan reads a description's items, and texts alone stand around what they say: `None` says nothing of the
+    // bytes. The compiler inlines a large function where it is called once alone, so each caller has one of its own.
+    #[inline]
+    fn planned<const AT_ONCE: bool>(&self, bytes: &[u8], given: &Given) -> Option<Prefix>
         ensures prefix { IfSome result
             (λ prefix. Some prefix ≡ prefix_at given.now (grammar_in self.now) bytes.now) }
         ensures within { IfSome result (IsWithin bytes.now) }
@@ -98,6 +98,17 @@ impl<'a> DateSource<'a> {
         Some(prefix)
     }
 
+    /// The same where a plan reads a description's items, and texts alone stand around what they say: `None` says nothing of
+    /// the bytes. The fields that were read stay where they are, since the caller gets no memory for a prefix that it asks for.
+    #[inline(always)]
+    pub fn read_planned(&self, bytes: &[u8], given: &Given) -> Option<Prefix>
+        ensures prefix { IfSome result
+            (λ prefix. Some prefix ≡ prefix_at given.now (grammar_in self.now) bytes.now) }
+        ensures within { IfSome result (IsWithin bytes.now) }
+    {
+        self.planned::<true>(bytes, given)
+    }
+
     /// The prefix of bytes that the source reads as a date, with what is given where the date lacks it. It lies within the
     /// first 256 bytes.
     #[inline(never)]
@@ -105,7 +116,7 @@ impl<'a> DateSource<'a> {
         ensures prefix { result ≡ prefix_at given.now (grammar_in self.now) bytes.now }
         ensures within { IfSome result (IsWithin bytes.now) }
     {
-        if let Some(prefix) = self.read_planned(bytes, given) {
+        if let Some(prefix) = self.planned::<false>(bytes, given) {
             return Some(prefix);
         }
         if rules_out(&self.source, bytes) {

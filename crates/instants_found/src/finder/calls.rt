@@ -179,8 +179,37 @@ impl<'a> Finder<'a> {
         None
     }
 
-    // The first place from one on at which a date can begin, looked for by marks. The last sixteen places begin before the end of
-    // those before them.
+    // The same where less than sixteen places are left that have room for keys: the last sixteen of these are looked at, and the
+    // place after them.
+    #[inline(always)]
+    fn by_rest(
+        &self,
+        marks: &Marks,
+        keyed: &KeyedLine<'_>,
+        line: &[u8],
+        from: usize,
+    ) -> Option<usize>
+        requires keyed { IsKeyedBy marks.now.keys line.now keyed.now }
+        requires some { REACH ≤ length line.now }
+        requires few { length line.now < from + REACH }
+        requires within { from ≤ length line.now }
+        requires marks { AreMarks (sources_of self.now) self.now.starts marks.now }
+        ensures none { IfNone result
+            (HasNoDate (sources_of self.now) line.now from (length line.now)) }
+        ensures within { IfSome result (λ start. (from ≤ start) × (start < length line.now)) }
+        ensures passed { IfSome result
+            (HasNoDate (sources_of self.now) line.now from) }
+    {
+        let last = line.len() - (REACH - LANES);
+        if from < last {
+            if let Some(place) = self.in_block(marks, keyed, line, last - LANES, from) {
+                return Some(place);
+            }
+        }
+        self.by_last_four(line, from.max(last))
+    }
+
+    // The first place from one on at which a date can begin, looked for by marks, sixteen places at a time.
     #[inline(always)]
     fn by_blocks(&self, marks: &Marks, line: &[u8], from: usize) -> Option<usize>
         requires some { REACH ≤ length line.now }
@@ -194,20 +223,18 @@ impl<'a> Finder<'a> {
         // (a copy, which is known to stay the same in the loop)
         let marks = *marks;
         let keyed = marks.keys.over(line);
-        let last = line.len() - (REACH - LANES);
-        let end = last.min(self.limit);
+        let stop = (line.len() - (REACH - 1)).min(self.limit);
         let mut at = from;
-        while at < end {
-            let block = at.min(last - LANES);
-            if let Some(place) = self.in_block(&marks, &keyed, line, block, at) {
+        while at < stop {
+            if let Some(place) = self.in_block(&marks, &keyed, line, at, at) {
                 return Some(place);
             }
-            at = block + LANES;
+            at += LANES;
         }
-        if at < last {
+        if at >= self.limit {
             return None;
         }
-        self.by_last_four(line, at)
+        self.by_rest(&marks, &keyed, line, at)
     }
 
     // The first place from one on at which a date can begin.

@@ -15,9 +15,7 @@ ghost use Rattle.instants_lines_words.specs.declared.mode.Mode.{Mode};
 use crate::date_sources::DateSources;
 use crate::line_writer::LineWriter;
 use crate::located::write_finding;
-use crate::parts::{
-    tabbed, write_both, write_keyed, write_keyed_by_tab, write_labelled, write_three,
-};
+use crate::parts::{tabbed, write_both, write_keyed, write_labelled, write_three};
 use instants_answers::{Answer, rfc3339_line};
 use instants_found::{Finding, Found};
 use instants_lines_words::Mode;
@@ -101,7 +99,7 @@ impl<'a, 'b> LineWriter<'a, 'b> {
             (((going_of self.now).key ++ tab ∷ (label_prefix (going_of self.now).label ++ line.now)) ++ line_feed ∷ [])) }
         ensures err { OnErr result (W.failed writer.new ≡ true) }
     {
-        write_keyed(writer, &self.tabbed, self.label, line)
+        write_keyed(writer, &self.tabbed, &self.label, line)
     }
 
     // The key of a line by what is found in it, which is kept for the lines below.
@@ -130,7 +128,7 @@ impl<'a, 'b> LineWriter<'a, 'b> {
     }
 
     // Writes a line after the key of its date. The key is made where it is written from, with the tab after it.
-    #[inline(always)]
+    #[inline]
     fn write_dated<W: ByteWriter>(
         &mut self,
         date: &Found,
@@ -147,35 +145,11 @@ impl<'a, 'b> LineWriter<'a, 'b> {
             (keyed (going_of self.old) line.now ++ line_feed ∷ [])) }
         ensures err { OnErr result (W.failed writer.new ≡ true) }
     {
-        let label = self.label;
         self.dates.write_named(&date.moment, &mut self.storage);
         self.keep_year(date);
         self.keep();
         self.storage.push(b'\t');
-        write_keyed(writer, &self.storage, label, line)
-    }
-
-    // Writes a line whose date is in doubt after the key that says so.
-    #[cold]
-    #[inline(never)]
-    fn write_doubtful<W: ByteWriter>(
-        &mut self,
-        line: &[u8],
-        writer: &mut W,
-    ) -> Result<(), DeviceFailed>
-        requires works { W.failed writer.old ≡ false }
-        requires found { date_in (going_of self.old).search line.now ≡ Some Doubtful }
-        ensures written { OnOk result (Appends (W.held writer.old) (W.held writer.new)
-            (keyed (going_of self.old) line.now ++ line_feed ∷ [])) }
-        ensures next { OnOk result (going_of self.new ≡ below (going_of self.old) line.now) }
-        ensures ok { OnOk result (W.failed writer.new ≡ W.failed writer.old) }
-        ensures prefix { OnErr result (AppendsPrefix (W.held writer.old) (W.held writer.new)
-            (keyed (going_of self.old) line.now ++ line_feed ∷ [])) }
-        ensures err { OnErr result (W.failed writer.new ≡ true) }
-    {
-        let label = self.label;
-        let key = self.take_key(line, Some(Finding::Doubtful));
-        write_keyed_by_tab(writer, &key, label, line)
+        write_keyed(writer, &self.storage, &self.label, line)
     }
 
     // Writes a line after the key of its date, where none begins before a place and the date there is found at once: `None` where
@@ -227,36 +201,8 @@ impl<'a, 'b> LineWriter<'a, 'b> {
         ensures err { OnErr result (W.failed writer.new ≡ true) }
     {
         let finding = self.dates.date_from(&self.given, line, first);
-        match &finding {
-            Some(Finding::There(date)) => self.write_dated(date, line, writer),
-            Some(Finding::Doubtful) => self.write_doubtful(line, writer),
-            None => self.write_undated(line, writer),
-        }
-    }
-
-    // Writes a line after its key and a tab, where no date begins before a place.
-    #[inline(always)]
-    fn write_from<W: ByteWriter>(
-        &mut self,
-        first: usize,
-        line: &[u8],
-        writer: &mut W,
-    ) -> Result<(), DeviceFailed>
-        requires works { W.failed writer.old ≡ false }
-        requires within { first < length line.now }
-        requires passed { HasNoDate (going_of self.old).search.setting.sources line.now 0 first }
-        ensures written { OnOk result (Appends (W.held writer.old) (W.held writer.new)
-            (keyed (going_of self.old) line.now ++ line_feed ∷ [])) }
-        ensures next { OnOk result (going_of self.new ≡ below (going_of self.old) line.now) }
-        ensures ok { OnOk result (W.failed writer.new ≡ W.failed writer.old) }
-        ensures prefix { OnErr result (AppendsPrefix (W.held writer.old) (W.held writer.new)
-            (keyed (going_of self.old) line.now ++ line_feed ∷ [])) }
-        ensures err { OnErr result (W.failed writer.new ≡ true) }
-    {
-        match self.write_plain(first, line, writer) {
-            Some(end) => end,
-            None => self.write_any(first, line, writer),
-        }
+        let key = tabbed(self.take_key(line, finding));
+        write_keyed(writer, &key, &self.label, line)
     }
 
     /// Writes a line after its key and a tab, and a line feed.
@@ -279,7 +225,10 @@ impl<'a, 'b> LineWriter<'a, 'b> {
         let Some(first) = self.dates.undated_len(line) else {
             return self.write_undated(line, writer);
         };
-        self.write_from(first, line, writer)
+        match self.write_plain(first, line, writer) {
+            Some(end) => end,
+            None => self.write_any(first, line, writer),
+        }
     }
 
     /// The same of the first bytes of a longer line, without a line feed.

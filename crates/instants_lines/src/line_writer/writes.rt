@@ -1,9 +1,41 @@
 //! The lines of a stream, written one after another.
+ghost use Rattle.std.specs.Prelude.{◌≡◌, true, false, OnOk, OnErr};
+ghost use Rattle.std.specs.Io.KnownBytes.{Appends};
+ghost use Rattle.instants_stream.specs.Known.{AppendsPrefix};
+ghost use Rattle.instants_lines.specs.Going.{lines_steps};
+ghost use Rattle.instants_lines.specs.Writing.{going_of};
 
 use crate::explained::write_explained;
 use crate::line_writer::LineWriter;
 use instants_lines_words::Mode;
 use instants_stream::{ByteWriter, DeviceFailed, WritesLines};
+
+impl LineWriter<'_, '_> {
+    // Writes a line in any mode: a call beside the loop over lines, which has the modes with keys alone.
+    #[cold]
+    #[inline(never)]
+    fn write_in_mode<W: ByteWriter>(
+        &mut self,
+        line: &[u8],
+        writer: &mut W,
+    ) -> Result<(), DeviceFailed>
+        requires { W.failed writer.old ≡ false }
+        ensures written { OnOk result (Appends (W.held writer.old) (W.held writer.new)
+            (lines_steps.said (going_of self.old) line.now)) }
+        ensures next { OnOk result (going_of self.new ≡ lines_steps.next (going_of self.old) line.now) }
+        ensures ok { OnOk result (W.failed writer.new ≡ W.failed writer.old) }
+        ensures prefix { OnErr result (AppendsPrefix (W.held writer.old) (W.held writer.new)
+            (lines_steps.said (going_of self.old) line.now)) }
+        ensures err { OnErr result (W.failed writer.new ≡ true) }
+    {
+        match self.mode {
+            Mode::Key | Mode::Carry => self.write_keyed(line, writer),
+            Mode::Replace => self.write_replaced_line(line, writer),
+            Mode::Explain => write_explained(self.dates, line, writer),
+            Mode::Locate => self.write_located_line(line, writer),
+        }
+    }
+}
 
 impl WritesLines for LineWriter<'_, '_> {
     ghost use Rattle.instants_lines.specs.Going.{Going, lines_steps};
@@ -23,9 +55,7 @@ impl WritesLines for LineWriter<'_, '_> {
     ) -> Result<(), DeviceFailed> {
         match self.mode {
             Mode::Key | Mode::Carry => self.write_keyed(line, writer),
-            Mode::Replace => self.write_replaced_line(line, writer),
-            Mode::Explain => write_explained(self.dates, line, writer),
-            Mode::Locate => self.write_located_line(line, writer),
+            _ => self.write_in_mode(line, writer),
         }
     }
 
@@ -37,10 +67,8 @@ impl WritesLines for LineWriter<'_, '_> {
         writer: &mut W,
     ) -> Result<(), DeviceFailed> {
         match self.mode {
-            Mode::Key | Mode::Carry => self.write_keyed(line, writer),
             Mode::Replace => self.write_replaced(line, writer),
-            Mode::Explain => write_explained(self.dates, line, writer),
-            Mode::Locate => self.write_located_line(line, writer),
+            _ => self.write_in_mode(line, writer),
         }
     }
 

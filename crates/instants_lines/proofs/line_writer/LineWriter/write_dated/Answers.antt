@@ -13,7 +13,8 @@ returns-clause-written g c =
     let line = c.args.line.now in
     let key : c.write_named.new.answer ≡ key_of_line old line = dated old line c.args.date.now c.write_named.new.answer (sym c.requires.found) c.write_named.ensures.bytes in
     let tabbed : c.push.new.self ≡ key_of_line old line ++ tab ∷ [] = c.push.ensures ∙ ap (λ (k : List ℕ). k ++ tab ∷ []) (c.keep.ensures.storage ∙ c.keep_year.ensures.storage ∙ key) in
-    rw (key_and_tab (key_of_line old line) c.push.new.self (label_prefix old.label) line tabbed) c.write_keyed.ensures.written
+    let label = ap (λ (g : Going). label_prefix g.label) c.keep.ensures.kept ∙ ap (λ (g : Going). label_prefix g.label) c.keep_year.ensures.kept in
+    rw (key_and_tab (key_of_line old line) c.push.new.self (label_prefix old.label) line tabbed, sym label) c.write_keyed.ensures.written
 
 pub returns-clause-prefix : goal.returns-clause-prefix
 returns-clause-prefix g c =
@@ -21,7 +22,8 @@ returns-clause-prefix g c =
     let line = c.args.line.now in
     let key : c.write_named.new.answer ≡ key_of_line old line = dated old line c.args.date.now c.write_named.new.answer (sym c.requires.found) c.write_named.ensures.bytes in
     let tabbed : c.push.new.self ≡ key_of_line old line ++ tab ∷ [] = c.push.ensures ∙ ap (λ (k : List ℕ). k ++ tab ∷ []) (c.keep.ensures.storage ∙ c.keep_year.ensures.storage ∙ key) in
-    rw (key_and_tab (key_of_line old line) c.push.new.self (label_prefix old.label) line tabbed) c.write_keyed.ensures.prefix
+    let label = ap (λ (g : Going). label_prefix g.label) c.keep.ensures.kept ∙ ap (λ (g : Going). label_prefix g.label) c.keep_year.ensures.kept in
+    rw (key_and_tab (key_of_line old line) c.push.new.self (label_prefix old.label) line tabbed, sym label) c.write_keyed.ensures.prefix
 
 pub returns-clause-next : goal.returns-clause-next
 returns-clause-next g c =

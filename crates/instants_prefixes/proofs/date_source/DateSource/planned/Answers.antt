@@ -12,10 +12,10 @@ use Rattle.instants_prefixes.specs.Prefix.{prefix_at, with_lengths}
 use Rattle.instants_prefixes.specs.Lengths.{lengths_by}
 use Rattle.instants_prefixes.specs.declared.prefix.Prefix.{Prefix}
 use Rattle.instants_prefixes.proofs.Planned.{planned_named, planned_leaves, planned_at, planned_within}
-use Rattle.instants_prefixes.proofs.date_source.DateSource.read_planned.Goals as goal
+use Rattle.instants_prefixes.proofs.date_source.DateSource.planned.Goals as goal
 
 pub prefix_by_texts-requires-clause-read : goal.prefix_by_texts-requires-clause-read
-prefix_by_texts-requires-clause-read c =
+prefix_by_texts-requires-clause-read g c =
     let given = c.args.given.now in
     let contents = c.args.self.now.contents in
     let text = c.near-text.result.now in
@@ -28,7 +28,7 @@ prefix_by_texts-requires-clause-read c =
     subst Q (sym c.items.ensures) (planned_leaves given items c.args.bytes.now text c.near-text.ensures c.in-Some.rest.now (moment_of c.in-Some.fields) named)
 
 pub returns-clause-prefix : goal.returns-clause-prefix
-returns-clause-prefix c =
+returns-clause-prefix g c =
     let given = c.args.given.now in
     let contents = c.args.self.now.contents in
     let text = c.near-text.result.now in
@@ -44,7 +44,7 @@ returns-clause-prefix c =
     subst At (sym is) (made ∙ planned_at given items c.args.bytes.now text c.near-text.ensures rest (moment_of c.in-Some.fields) named)
 
 pub returns-clause-within : goal.returns-clause-within
-returns-clause-within c =
+returns-clause-within g c =
     let text = c.near-text.result.now in
     let P : Prefix → Type 0 = λ prefix. IsWithin c.args.bytes.now prefix in
     subst P (sym c.in-Some-prefix_by_texts.ensures) (planned_within c.args.given.now (trees c.items.result.now) c.args.bytes.now text c.near-text.ensures c.in-Some.rest.now c.of_fields-moment.result)
