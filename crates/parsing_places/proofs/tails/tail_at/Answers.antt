@@ -1,7 +1,7 @@
-use Rattle.std.proofs.Common.{◌≡◌, ◌≤◌, ◌+◌, ◌∙◌, ℕ, true, false, ap, refl, arith}
+use Rattle.std.proofs.Common.{◌≡◌, ◌≤◌, ◌+◌, ◌∙◌, ℕ, true, ap, refl, arith}
 use Rattle.parsing_places.specs.declared.ending.Ending.{Ending}
 use Rattle.parsing_places.specs.declared.tails.Row.{Row}
-use Rattle.parsing_places.proofs.TailLemmas.{width, left, wrapped, raw, digits_right, offset_right, first_free, last_free, rest_free, takes_zulu, takes_colon, takes_plain, lets_point, takes_fraction, never, row_is, row_of_left, width_is, of_wrapped, not_of_wrapped, some_bytes, fraction_few, ends}
+use Rattle.parsing_places.proofs.TailLemmas.{width, left, wrapped, digits_right, offset_right, first_free, last_free, rest_free, takes_zulu, takes_colon, takes_plain, lets_point, takes_fraction, never, row_is, row_of_left, width_is, of_wrapped, not_of_wrapped, some_bytes, fraction_few, ends}
 use Rattle.parsing_places.specs.Tail.{is_fraction, offset_at, tail_row}
 use Rattle.parsing_places.proofs.tails.tail_at.Goals as goal
 
