@@ -70,78 +70,50 @@ const LOWEST_STAMP: [u8; STAMP_LENGTH] = *b"0000-00-00\x0000:00:00";
 
 const HIGHEST_STAMP: [u8; STAMP_LENGTH] = *b"9999-19-39\xff29:59:59";
 
+// Parts that follow others, after their bytes.
+const MONTH: Step = Step {
+    before: Before::Byte(b'-', false),
+    part: Part::Month,
+};
+
+const DAY: Step = Step {
+    before: Before::Byte(b'-', false),
+    part: Part::Day,
+};
+
+const HOUR: Step = Step {
+    before: Before::Byte(b'T', false),
+    part: Part::Hour,
+};
+
+const SPACED_HOUR: Step = Step {
+    before: Before::Byte(b' ', false),
+    part: Part::Hour,
+};
+
+const MINUTE: Step = Step {
+    before: Before::Byte(b':', false),
+    part: Part::Minute,
+};
+
+const SECOND: Step = Step {
+    before: Before::Byte(b':', false),
+    part: Part::Second,
+};
+
+const PERIOD: Step = Step {
+    before: Before::Byte(b' ', false),
+    part: Part::Period,
+};
+
 // What follows the first part of each joined one.
-static CLOCK: [Step; 2] = [
-    Step {
-        before: Before::Byte(b':', false),
-        part: Part::Minute,
-    },
-    Step {
-        before: Before::Byte(b':', false),
-        part: Part::Second,
-    },
-];
+static CLOCK: [Step; 2] = [MINUTE, SECOND];
 
-static HALF_CLOCK: [Step; 3] = [
-    Step {
-        before: Before::Byte(b':', false),
-        part: Part::Minute,
-    },
-    Step {
-        before: Before::Byte(b':', false),
-        part: Part::Second,
-    },
-    Step {
-        before: Before::Byte(b' ', false),
-        part: Part::Period,
-    },
-];
+static HALF_CLOCK: [Step; 3] = [MINUTE, SECOND, PERIOD];
 
-static STAMP: [Step; 5] = [
-    Step {
-        before: Before::Byte(b'-', false),
-        part: Part::Month,
-    },
-    Step {
-        before: Before::Byte(b'-', false),
-        part: Part::Day,
-    },
-    Step {
-        before: Before::Byte(b'T', false),
-        part: Part::Hour,
-    },
-    Step {
-        before: Before::Byte(b':', false),
-        part: Part::Minute,
-    },
-    Step {
-        before: Before::Byte(b':', false),
-        part: Part::Second,
-    },
-];
+static STAMP: [Step; 5] = [MONTH, DAY, HOUR, MINUTE, SECOND];
 
-static SPACED_STAMP: [Step; 5] = [
-    Step {
-        before: Before::Byte(b'-', false),
-        part: Part::Month,
-    },
-    Step {
-        before: Before::Byte(b'-', false),
-        part: Part::Day,
-    },
-    Step {
-        before: Before::Byte(b' ', false),
-        part: Part::Hour,
-    },
-    Step {
-        before: Before::Byte(b':', false),
-        part: Part::Minute,
-    },
-    Step {
-        before: Before::Byte(b':', false),
-        part: Part::Second,
-    },
-];
+static SPACED_STAMP: [Step; 5] = [MONTH, DAY, SPACED_HOUR, MINUTE, SECOND];
 
 // Whether a time of day stands at the start, whose minute and second are below 60.
 #[inline(always)]

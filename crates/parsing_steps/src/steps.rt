@@ -15,12 +15,14 @@ pub struct Steps {
     ghost few: { count ≤ 24 },
 }
 
+// Whether two steps are the same.
 fn is_same_step(step: Step, other: Step) -> bool
     ensures { result ≡ true → step ≡ other }
 {
     step == other
 }
 
+// Whether two parts are the same.
 fn is_same_part(part: Part, other: Part) -> bool
     ensures { result ≡ true → part ≡ other }
 {
