@@ -68,7 +68,9 @@ impl WritesLines for LineWriter<'_, '_> {
     ) -> Result<(), DeviceFailed> {
         match self.mode {
             Mode::Replace => self.write_replaced(line, writer),
-            _ => self.write_in_mode(line, writer),
+            Mode::Key | Mode::Carry | Mode::Explain | Mode::Locate => {
+                self.write_in_mode(line, writer)
+            }
         }
     }
 
