@@ -144,6 +144,19 @@ pub fn read_by_places(places: &Places, line: &[u8], assumed: Option<UtcOffset>) 
     places.read(line, assumed)
 }
 
+/// The same where the plan is plain: `None` for each line of a plan that is not.
+#[inline(always)]
+pub fn read_by_plain_places(
+    places: &Places,
+    line: &[u8],
+    assumed: Option<UtcOffset>,
+) -> Option<Fields>
+    ensures { (grammar : Grammar) → IsPlanned grammar (plan.Places places.now) → IfSome result
+        (λ fields. named assumed grammar line.now ≡ Ok (moment_of fields)) }
+{
+    places.read_plain(line, assumed)
+}
+
 /// The fields of the moment of a line of Unix time, where a plan finds them, whatever offset is assumed: `None` says nothing of the
 /// line.
 #[inline(always)]

@@ -8,8 +8,8 @@ ghost use Rattle.instants_timeline.specs.Place.{answer_to};
 ghost use Rattle.instants_timeline.specs.Settings.{setting_of};
 
 use crate::timeline::{
-    AnswerWay, ExactWay, Iso8601Way, Led, PlacesWay, PlannedWay, Rfc2822Way, Rfc3339Way, Timeline,
-    UnixWay,
+    AnswerWay, ExactWay, Iso8601Way, Led, PlacesWay, PlainWay, PlannedWay, Rfc2822Way, Rfc3339Way,
+    Timeline, UnixWay,
 };
 use instants_sources::Source;
 use instants_stream::{ByteReader, ByteWriter, RunFault, TooLittleRoom, lines_over, run_lines};
@@ -88,6 +88,10 @@ fn run_planned<R: ByteReader, W: ByteWriter>(
         → Keeps (W.held writer.new) (W.handed_on writer.new) }
 {
     match plan {
+        Plan::Places(places) if places.is_plain() => {
+            let way = PlainWay::new(places);
+            run_by(way, timeline, limit, buffer, reader, writer)
+        }
         Plan::Places(places) => {
             let way = PlacesWay::new(places);
             run_by(way, timeline, limit, buffer, reader, writer)
@@ -153,6 +157,9 @@ pub fn run_over(
         Source::Rfc2822 => run_over_by(Rfc2822Way, timeline, limit, input, room),
         Source::Iso8601 => run_over_by(Iso8601Way, timeline, limit, input, room),
         described => match described.plan() {
+            Some(Plan::Places(places)) if places.is_plain() => {
+                run_over_by(PlainWay::new(places), timeline, limit, input, room)
+            }
             Some(Plan::Places(places)) => {
                 run_over_by(PlacesWay::new(places), timeline, limit, input, room)
             }

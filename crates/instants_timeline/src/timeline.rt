@@ -12,7 +12,8 @@ mod parts;
 
 use calendar::UtcOffset;
 pub(crate) use fast_ways::{
-    AnswerWay, ExactWay, Iso8601Way, Led, PlacesWay, PlannedWay, Rfc2822Way, Rfc3339Way, UnixWay,
+    AnswerWay, ExactWay, Iso8601Way, Led, PlacesWay, PlainWay, PlannedWay, Rfc2822Way, Rfc3339Way,
+    UnixWay,
 };
 use instants_answers::Target;
 use instants_sources::Source;

@@ -78,6 +78,9 @@ pub(crate) struct Prefix {
         (λ place. HasRoom layout.length place layout.subsecond_digits) },
 }
 
+/// As many bytes as no line has.
+pub(crate) const NEVER: usize = usize::MAX;
+
 /// Where each component of a line stands, for a description whose items all have fixed widths, but for a fraction of a
 /// second.
 #[derive(Clone, Copy)]

@@ -6,13 +6,13 @@ ghost use Rattle.parsing_fields.specs.Moment.{moment_of};
 ghost use Rattle.parsing_record.specs.Meaning.{Meaning};
 ghost use Rattle.parsing_record.specs.Record.{Record};
 ghost use Rattle.parsing_record.specs.Whole.{whole, names, moment_named, starting};
-ghost use Rattle.parsing_plan.specs.Layout.{IsPrefix};
+ghost use Rattle.parsing_plan.specs.Layout.{IsPrefix, is_plain};
 ghost use Rattle.parsing_plan.specs.Windows.{SpareOffset};
 ghost use Rattle.parsing_plan.specs.Beginning.{beginning};
 ghost use Rattle.parsing_plan.specs.Plan.{ArePlacesOf, IsPlanOf, IsSplitOf, NamesPrefix};
 
 use crate::plain::{plain_date, plain_fraction, plain_offset};
-use crate::plan::{Back, Places, Plan, Prefix};
+use crate::plan::{Back, NEVER, Places, Plan, Prefix};
 use crate::read::{clock, date, fraction, layout_fields, offset, split_fields};
 use crate::sums::sums_of;
 use calendar::UtcOffset;
@@ -108,9 +108,10 @@ fn read_split_prefix<'l>(
 }
 
 impl Places {
-    // The same of any line.
+    /// The fields of a line, with an offset assumed or none, which counts only where the line has none: `None` says nothing of
+    /// the line.
     #[inline(always)]
-    fn read_other(&self, line: &[u8], assumed: Option<UtcOffset>) -> Option<Fields>
+    pub fn read(&self, line: &[u8], assumed: Option<UtcOffset>) -> Option<Fields>
         ensures { (m : Meaning) (defaults : Option Record) → ArePlacesOf m self.now
             → starting defaults ≡ beginning assumed
             → IfSome result
@@ -131,18 +132,28 @@ impl Places {
         Some(Fields::of_numbers(year, month, day, minute, second, fraction, offset))
     }
 
-    /// The fields of a line, with an offset assumed or none, which counts only where the line has none: `None` says nothing of
-    /// the line.
+    /// Whether `read_plain` reads its lines: each has the name of a month, an offset, and no other parts but numbers.
     #[inline(always)]
-    pub fn read(&self, line: &[u8], assumed: Option<UtcOffset>) -> Option<Fields>
+    pub fn is_plain(&self) -> bool
+        ensures { result ≡ true → is_plain self.now.prefix.layout ≡ true }
+    {
+        self.plain_length != NEVER
+    }
+
+    /// The fields of a line, as `read` finds them, where the plan is plain, without a test for what such a plan can't have. Of a
+    /// plan that is not plain `None` is said for each line.
+    #[inline(always)]
+    pub fn read_plain(&self, line: &[u8], assumed: Option<UtcOffset>) -> Option<Fields>
         ensures { (m : Meaning) (defaults : Option Record) → ArePlacesOf m self.now
             → starting defaults ≡ beginning assumed
             → IfSome result
             (λ f. names moment_named (whole m defaults line.now) ≡ Ok (moment_of f)) }
     {
         if line.len() != self.plain_length {
-            return self.read_other(line, assumed);
+            return None;
         }
+        // (the offset is written)
+        let _ = assumed;
         let prefix = &self.prefix;
         if line.len() < LANES {
             unreachable!();

@@ -7,8 +7,8 @@ ghost use Rattle.instants_timeline.specs.Settings.{setting_of};
 use crate::timeline::Timeline;
 use instants_answers::Answer;
 use instants_sources::{
-    is_no_rfc3339, read_by_places, read_by_plan, read_by_unix, usual_iso8601, usual_rfc2822,
-    usual_rfc3339,
+    is_no_rfc3339, read_by_places, read_by_plain_places, read_by_plan, read_by_unix, usual_iso8601,
+    usual_rfc2822, usual_rfc3339,
 };
 use instants_stream::AnswersLines;
 use parsing_plan::{Places, Plan, UnixTime};
@@ -111,6 +111,36 @@ impl AnswerWay for PlacesWay<'_> {
     #[inline(always)]
     fn fill_answer(&self, timeline: &Timeline, line: &[u8], room: &mut [u8]) -> usize {
         let planned = read_by_places(self.places, line, timeline.assumed);
+        match timeline.fill_found(planned, room) {
+            Some(len) => len,
+            None => timeline.fill_rest(line, room),
+        }
+    }
+}
+
+/// Where a description is that has such a plan, with the name of a month, an offset and numbers alone, as a web server's.
+#[derive(Drop)]
+pub(crate) struct PlainWay<'p> {
+    places: &'p Places,
+}
+
+impl<'p> PlainWay<'p> {
+    pub(crate) fn new(places: &'p Places) -> PlainWay<'p>
+        ensures { result.places.now ≡ places.now }
+    {
+        PlainWay { places }
+    }
+}
+
+impl AnswerWay for PlainWay<'_> {
+    ghost use Rattle.parsing_plan.specs.declared.plan.Plan.TheVariants as plan;
+    ghost use Rattle.instants_timeline.specs.FirstNamed.{IsLedByPlan};
+
+    ghost leads = { λ way setting. IsLedByPlan setting (plan.Places way.places.now) };
+
+    #[inline(always)]
+    fn fill_answer(&self, timeline: &Timeline, line: &[u8], room: &mut [u8]) -> usize {
+        let planned = read_by_plain_places(self.places, line, timeline.assumed);
         match timeline.fill_found(planned, room) {
             Some(len) => len,
             None => timeline.fill_rest(line, room),

@@ -12,7 +12,7 @@ ghost use Rattle.parsing_plan.specs.Plan.{ArePlacesOf, IsPlanOf};
 
 use crate::items::{is_fraction, lead, unix_of};
 use crate::layout::{LENGTH, Layout};
-use crate::plan::{Back, OffsetPlaces, Places, Plan, Prefix};
+use crate::plan::{Back, NEVER, OffsetPlaces, Places, Plan, Prefix};
 use crate::windows::{last_window_of, windows_of};
 use description_items::BorrowedFormatItem;
 use description_tree::FormatDescriptionV3;
@@ -357,9 +357,6 @@ impl Plan {
         }
     }
 }
-
-// As many bytes as no line has.
-const NEVER: usize = usize::MAX;
 
 // The bytes of a line that is plain and has an offset, or as many as no line has.
 fn plain_length_of(prefix: &Prefix) -> usize
