@@ -5,7 +5,7 @@ use Rattle.std.proofs.lemmas.List.{length-take}
 use Rattle.datetime_wall.specs.Wall.{Shown}
 use Rattle.description_items.specs.Tree.{Tree, listed}
 use Rattle.parsing_components.specs.Component.{reads_component}
-use Rattle.parsing_plan.specs.Plan.{NamesPrefix}
+use Rattle.parsing_record.specs.Prefix.{NamesPrefix}
 use Rattle.parsing_record.specs.Reads.{reading_of_all}
 use Rattle.instants_sources.specs.Grammar.{Items}
 use Rattle.instants_sources.specs.Tried.{beginning}

@@ -11,7 +11,7 @@ use Rattle.parsing_combinator.specs.Pieces.{digits}
 use Rattle.parsing_components.specs.Component.{reads_component, reads_component_v3}
 use Rattle.parsing_parsable.specs.Staged.{reads_rfc3339}
 use Rattle.parsing_rfc3339.specs.Reading as rfc3339
-use Rattle.parsing_plan.specs.Plan.{NamesPrefix}
+use Rattle.parsing_record.specs.Prefix.{NamesPrefix}
 use Rattle.parsing_record.specs.Meaning.{Answer, Meaning}
 use Rattle.parsing_record.specs.Record.{Record, empty}
 use Rattle.parsing_record.specs.Reads.{Language, reads, reading, reading_of_all}

@@ -2,7 +2,7 @@
 ghost use Rattle.std.specs.Prelude.{◌≡◌, ◌≤◌, length, IfSome};
 ghost use Rattle.parsing_fields.specs.Moment.{moment_of};
 ghost use Rattle.parsing_parsable.specs.Staged.{reads_rfc3339};
-ghost use Rattle.parsing_plan.specs.Plan.{NamesPrefix};
+ghost use Rattle.parsing_record.specs.Prefix.{NamesPrefix};
 ghost use Rattle.parsing_record.specs.Record.{empty};
 
 use instants_edges::byte_at;

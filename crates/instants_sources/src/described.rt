@@ -9,7 +9,8 @@ ghost use Rattle.parsing_first_bytes.specs.FirstBounds.{AreBoundsOf, ReadsNoneWh
 ghost use Rattle.parsing_first_bytes.specs.FirstBytes.{AreOf, IsRefusedAt};
 ghost use Rattle.parsing_combinator.specs.Tame.{EndsWith};
 ghost use Rattle.parsing_fields.specs.Moment.{moment_of};
-ghost use Rattle.parsing_plan.specs.Plan.{IsPlanOf, NamesPrefix};
+ghost use Rattle.parsing_plan.specs.Plan.{IsPlanOf};
+ghost use Rattle.parsing_record.specs.Prefix.{NamesPrefix};
 ghost use Rattle.parsing_record.specs.Reads.{reading, reading_of_all};
 ghost use Rattle.parsing_record.specs.Record.{Record};
 

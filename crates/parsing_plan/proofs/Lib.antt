@@ -1,10 +1,1 @@
-mod ItemReads
-mod SumLemmas
-mod Steps
 mod Walk
-mod Numbers
-mod Parts
-mod Moments
-mod Timestamps
-mod MonthNames
-mod WeekdayNames

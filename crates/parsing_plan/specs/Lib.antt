@@ -1,8 +1,1 @@
-pub mod Layout
-pub mod Windows
-pub mod Sums
-pub mod Beginning
-pub mod UnixTime
-pub mod Steps
-pub mod Parts
 pub mod Plan

@@ -1,15 +1,7 @@
-//! Plans that read a line by places, where all items of a description have fixed widths.
+//! Plans, by which lines of a description are read at once.
 #![tactic(auto)]
 
-mod items;
-mod layout;
-mod plain;
 mod plan;
-mod read;
-mod readings;
-mod sums;
-mod unix;
-mod windows;
 
-pub use plan::{Places, Plan};
-pub use unix::UnixTime;
+pub use parsing_layouts::{Places, UnixTime};
+pub use plan::Plan;

@@ -1,103 +1,26 @@
 //! Plans of descriptions.
-ghost use Rattle.std.specs.Prelude.{◌≡◌, ◌≤◌, ◌<◌, ◌+◌, true, false, None, Some, IsSome};
-ghost use Rattle.std.specs.Option.{ForSome, ForNone};
-ghost use Rattle.parsing_places.specs.Windows.{LetsAt, TakeTwo, TakeOne, SpareTwo, SpareOne};
-ghost use Rattle.parsing_plan.specs.Layout.{HasNoOffset, HasNoClock, IsPrefix, IsPlain, HasRoom};
-ghost use Rattle.parsing_plan.specs.Windows.{LetText, LetYear, TakesOffset, SpareOffset, LetLastText, BeginsApart, SparesClock, SparesSign, TakesLastOffset};
+ghost use Rattle.std.specs.Prelude.{◌≡◌, Ok, map, IfSome, Option};
+ghost use Rattle.description_items.specs.Tree.{listed, trees};
+ghost use Rattle.description_tree.specs.Description.{v3_tree};
+ghost use Rattle.parsing_combinator.specs.Tame.{EndsWith};
+ghost use Rattle.parsing_components.specs.Component.{reads_component, reads_component_v3};
+ghost use Rattle.parsing_fields.specs.Moment.{moment_of};
+ghost use Rattle.parsing_record.specs.Meaning.{Meaning};
+ghost use Rattle.parsing_record.specs.Prefix.{NamesPrefix, beginning};
+ghost use Rattle.parsing_record.specs.Reads.{reading, reading_of_all};
+ghost use Rattle.parsing_record.specs.Record.{Record};
+ghost use Rattle.parsing_record.specs.Whole.{whole, names, moment_named, starting};
+ghost use Rattle.parsing_plan.specs.Plan.{IsPlanOf};
 
-mod calls;
-
-use crate::layout::Layout;
-use crate::unix::UnixTime;
-use parsing_places::{LastBytes, Windows};
+use calendar::UtcOffset;
+use description_items::BorrowedFormatItem;
+use description_tree::FormatDescriptionV3;
+use parsing_fields::Fields;
+use parsing_layouts::{Places, UnixTime};
+use parsing_record::{Node, NodeStep};
 use parsing_steps::Steps;
 
-/// The places of an offset's hours, after which its sign stands, and of its minutes.
-#[derive(Clone, Copy)]
-pub(crate) struct OffsetPlaces {
-    pub(crate) hour: usize,
-    pub(crate) minute: usize,
-}
-
-/// What follows a fraction of a second: literals, and maybe an offset.
-#[derive(Clone, Copy)]
-pub(crate) struct Back {
-    pub(crate) layout: Layout,
-    /// The bytes at its places, and the lanes that take its offset.
-    pub(crate) last: LastBytes,
-    pub(crate) offset: Option<OffsetPlaces>,
-    ghost same_length: { last.length ≡ layout.length },
-    ghost text: { LetLastText last.window layout },
-    ghost alone: { HasNoClock layout },
-    ghost apart: { BeginsApart last.window layout.length },
-    ghost no_clock: { SparesClock last.window },
-    ghost no_offset: { ForNone offset (HasNoOffset layout) },
-    ghost no_sign: { ForNone offset (SparesSign last.window) },
-    ghost offset_is: { ForSome offset
-        (λ places. TakesLastOffset last.window layout places.hour places.minute) },
-}
-
-/// Where each component stands at the start of a line, for items that all have fixed widths.
-#[derive(Clone, Copy)]
-pub(crate) struct Prefix {
-    pub(crate) layout: Layout,
-    /// The bytes at its places, and the lanes that take its numbers.
-    pub(crate) windows: Windows,
-    pub(crate) year: usize,
-    pub(crate) month: usize,
-    pub(crate) day: usize,
-    pub(crate) hour: usize,
-    pub(crate) minute: usize,
-    pub(crate) second: usize,
-    pub(crate) offset: Option<OffsetPlaces>,
-    ghost long: { 8 ≤ layout.length },
-    ghost near: { 0 < windows.back_at → windows.back_at + 16 ≤ layout.length },
-    ghost text: { LetText windows layout },
-    ghost year_is: { layout.year ≡ Some year },
-    ghost month_is: { layout.month ≡ Some month },
-    ghost day_is: { layout.day ≡ Some day },
-    ghost hour_is: { layout.hour ≡ Some hour },
-    ghost minute_is: { layout.minute ≡ Some minute },
-    ghost second_is: { layout.second ≡ Some second },
-    ghost year_digits: { LetYear windows layout.length year },
-    ghost month_room: { layout.month_is_named ≡ true → month + 4 ≤ layout.length },
-    ghost no_month: { layout.month_is_named ≡ true → SpareTwo windows 0 },
-    ghost month_digits: { layout.month_is_named ≡ false → TakeTwo windows 0 month 5 },
-    ghost weekday_room: { ForSome layout.weekday (λ place. place + 4 ≤ layout.length) },
-    ghost day_digits: { layout.day_is_spaced ≡ false → TakeTwo windows 2 day 9 },
-    ghost no_tens: { layout.day_is_spaced ≡ true → SpareOne windows 2 },
-    ghost day_tens: { layout.day_is_spaced ≡ true → LetsAt windows day 32 25 },
-    ghost day_ones: { layout.day_is_spaced ≡ true → TakeOne windows 3 (day + 1) },
-    ghost hour_digits: { TakeTwo windows 4 hour 9 },
-    ghost minute_digits: { TakeTwo windows 6 minute 5 },
-    ghost second_digits: { TakeTwo windows 14 second 5 },
-    ghost no_offset: { ForNone offset (HasNoOffset layout) },
-    ghost no_sign: { ForNone offset (SpareTwo windows 12) },
-    ghost offset_is: { ForSome offset (λ places. TakesOffset windows layout places.hour places.minute) },
-    ghost subsecond_room: { ForSome layout.subsecond
-        (λ place. HasRoom layout.length place layout.subsecond_digits) },
-}
-
-/// As many bytes as no line has.
-pub(crate) const NEVER: usize = usize::MAX;
-
-/// Where each component of a line stands, for a description whose items all have fixed widths, but for a fraction of a
-/// second.
-#[derive(Clone, Copy)]
-pub struct Places {
-    pub(crate) prefix: Prefix,
-    /// What follows a fraction of a second after the prefix, where there is one.
-    pub(crate) back: Option<Back>,
-    /// The bytes of a line, where they are sixteen or more, its layout is plain and an offset is written, and else as many as no
-    /// line has.
-    pub(crate) plain_length: usize,
-    ghost plain: { plain_length < 18_446_744_073_709_551_615
-        → IsPlain prefix.layout plain_length × IsSome prefix.offset × (back ≡ None) },
-    ghost one_fraction: { ForSome back (λ _. IsPrefix prefix.layout) },
-    ghost one_offset: { ForSome back (λ _. SpareOffset prefix.windows) },
-}
-
-/// How lines of a description are read by places.
+/// How lines of a description are read at once.
 #[derive(Clone, Copy)]
 pub enum Plan {
     /// Each component where it stands.
@@ -106,4 +29,75 @@ pub enum Plan {
     Unix(UnixTime),
     /// A byte and a component at a time.
     Steps(Steps),
+}
+
+// The plan of items that are read one after the other.
+fn plan_of<N: Node>(items: &[N]) -> Option<Plan>
+    ensures { IfSome result
+        (IsPlanOf (reading_of_all N.language (listed (map N.tree items.now)))) }
+{
+    if let Some(places) = Places::of_nodes(items) {
+        return Some(Plan::Places(places));
+    }
+    if let Some(unix) = UnixTime::of_nodes(items) {
+        return Some(Plan::Unix(unix));
+    }
+    let steps = Steps::of_nodes(items)?;
+    Some(Plan::Steps(steps))
+}
+
+impl Plan {
+    /// The plan of items that are read one after the other, as in versions 1 and 2 and in strftime.
+    pub fn of_items(items: &[BorrowedFormatItem<'_>]) -> Option<Plan>
+        ensures { IfSome result
+            (IsPlanOf (reading_of_all reads_component (listed (trees items.now)))) }
+    {
+        plan_of(items)
+    }
+
+    /// The plan of a description of version 3.
+    pub fn of_description(description: &FormatDescriptionV3<'_>) -> Option<Plan>
+        ensures { IfSome result (IsPlanOf (reading reads_component_v3 (v3_tree description.now))) }
+    {
+        match description.inner().step() {
+            NodeStep::Compound(nodes) => plan_of(nodes),
+            _ => None,
+        }
+    }
+
+    /// The fields of a line that the plan finds, with an offset assumed or none, which counts only where the line has
+    /// none: what the items of the plan read of the whole line names their moment. `None` says nothing of the line.
+    #[inline(always)]
+    pub fn read(&self, line: &[u8], assumed: Option<UtcOffset>) -> Option<Fields>
+        ensures { (m : Meaning) (defaults : Option Record) → IsPlanOf m self.now
+            → starting defaults ≡ beginning assumed
+            → IfSome result
+            (λ f. names moment_named (whole m defaults line.now) ≡ Ok (moment_of f)) }
+    {
+        match self {
+            Plan::Places(places) => places.read(line, assumed),
+            Plan::Unix(unix) => unix.read(line),
+            Plan::Steps(steps) => steps.read(line, assumed),
+        }
+    }
+
+    /// The fields of a prefix of a line that the plan finds, with an offset assumed or none, and what stands after that
+    /// prefix: the items of the plan read it, and what they set names the moment of the fields. `None` says nothing of the
+    /// line.
+    #[inline(always)]
+    pub fn read_prefix<'l>(
+        &self,
+        line: &'l [u8],
+        assumed: Option<UtcOffset>,
+    ) -> Option<(Fields, &'l [u8])>
+        ensures prefix { (m : Meaning) → IsPlanOf m self.now → IfSome result
+            (λ x. NamesPrefix m (beginning assumed) line.now x.1.now (moment_of x.0)) }
+        ensures end { IfSome result (λ x. EndsWith line.now x.1.now) }
+    {
+        match self {
+            Plan::Places(places) => places.read_prefix(line, assumed),
+            Plan::Unix(_) => None,
+            Plan::Steps(steps) => steps.read_prefix(line, assumed),
+        }
+    }
 }

@@ -5,3 +5,4 @@ pub mod Reads
 pub mod Tally
 pub mod Whole
 pub mod Node
+pub mod Prefix

@@ -1,6 +1,7 @@
 //! The record of components that a description or a format reads into, and reading by items and trees.
 #![tactic(auto)]
 
+mod assumed;
 mod clock;
 mod conversions;
 mod days;
@@ -14,6 +15,7 @@ mod tree;
 mod usual;
 mod years;
 
+pub use assumed::assumed_minutes;
 pub use node::{Node, NodeStep};
 pub use parsed::Parsed;
 pub use tally::{ItemTally, NoTally, Tally};

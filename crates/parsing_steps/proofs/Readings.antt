@@ -9,9 +9,9 @@ use Rattle.parsing_fields.specs.Moment.{moment_of}
 use Rattle.parsing_record.specs.Meaning.{Meaning}
 use Rattle.parsing_record.specs.Record.{Record}
 use Rattle.parsing_record.specs.Whole.{whole, names, moment_named, starting}
-use Rattle.parsing_steps.specs.Beginning.{beginning}
+use Rattle.parsing_record.specs.Prefix.{NamesPrefix, beginning}
 use Rattle.parsing_steps.specs.Found.{record_of}
-use Rattle.parsing_steps.specs.Steps.{AreStepsOf, NamesPrefix, Taken, steps_of, steps_read, step_reads}
+use Rattle.parsing_steps.specs.Steps.{AreStepsOf, Taken, steps_of, steps_read, step_reads}
 use Rattle.parsing_steps.specs.declared.found.Found.{Found}
 use Rattle.parsing_steps.specs.declared.step.Step.{Step}
 use Rattle.parsing_steps.specs.declared.steps.Steps.{Steps}

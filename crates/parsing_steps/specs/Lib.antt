@@ -1,4 +1,3 @@
-pub mod Beginning
 pub mod Found
 pub mod Parts
 pub mod Joined

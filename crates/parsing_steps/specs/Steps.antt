@@ -1,12 +1,10 @@
 -- Steps: a byte and a part after it, one after the other.
 use Rattle.std.specs.Prelude.{◌≡◌, ℕ, List, [], ◌∷◌, Option, Some, None, Ok, if◌then◌else◌}
 use Rattle.std.specs.Option.{option_and_then}
-use Rattle.datetime_wall.specs.Wall.{Shown}
 use Rattle.parsing_combinator.specs.Pieces.{byte}
 use Rattle.parsing_components.specs.Put.{set_by}
 use Rattle.parsing_record.specs.Meaning.{Meaning}
 use Rattle.parsing_record.specs.Record.{Record}
-use Rattle.parsing_record.specs.Whole.{moment_named}
 use Rattle.parsing_steps.specs.Joined.{parts_of}
 pub use Rattle.parsing_steps.specs.Joined.{steps_of}
 use Rattle.parsing_steps.specs.Parts.{part_piece}
@@ -54,9 +52,3 @@ all_read p r bytes = part_reads p r bytes
 -- the items read what the steps read, where these read
 abbrev pub AreStepsOf : Meaning → Steps → Type 0
 AreStepsOf m steps = (r : Record) (line : List ℕ) (new : Record) (rest : List ℕ) → steps_read (steps_of steps) r line ≡ Some (new, rest) → m r line ≡ Ok (new, rest)
-
--- the items read a prefix of the line from a record, leave this rest, and the record that they set names this moment
-pub record NamesPrefix (m : Meaning) (r : Record) (line rest : List ℕ) (moment : Shown) : Type 0 where
-  pub set : Record
-  pub reads : m r line ≡ Ok (set, rest)
-  pub names : moment_named set ≡ Ok moment

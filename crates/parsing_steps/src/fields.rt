@@ -3,7 +3,6 @@ ghost use Rattle.std.specs.Option.{unwrap_or};
 ghost use Rattle.std.specs.Prelude.{◌≡◌, ◌<◌, ◌≤◌, ◌*ℤ◌, Option, Some, None, Ok, ℤ, pos, unsigned_abs, IfSome};
 ghost use Rattle.parsing_fields.specs.Moment.{moment_of};
 ghost use Rattle.parsing_record.specs.Whole.{moment_named, offset_named};
-ghost use Rattle.parsing_steps.specs.Beginning.{beginning};
 ghost use Rattle.parsing_steps.specs.Found.{record_of};
 ghost use Rattle.parsing_record.specs.Parts.{time_parts};
 ghost use Rattle.parsing_values.specs.NamedTime.{hour_of};
@@ -11,15 +10,7 @@ ghost use Rattle.parsing_values.specs.NamedTime.{hour_of};
 use crate::found::{Found, UNREAD};
 use calendar::UtcOffset;
 use parsing_fields::{Fields, Fraction, has_day, offset_minutes};
-
-// The minutes of an assumed offset, of which the seconds don't count.
-#[inline(always)]
-fn assumed_minutes(offset: UtcOffset) -> i16
-    ensures named { offset_named (beginning (Some offset)) ≡ Ok (pos 60 *ℤ result) }
-    ensures bound { unsigned_abs result ≤ 1559 }
-{
-    offset.whole_minutes()
-}
+use parsing_record::assumed_minutes;
 
 // The fraction of a second, which is none where none is written.
 #[inline(always)]

@@ -5,9 +5,9 @@ ghost use Rattle.parsing_fields.specs.Moment.{moment_of};
 ghost use Rattle.parsing_record.specs.Meaning.{Meaning};
 ghost use Rattle.parsing_record.specs.Record.{Record};
 ghost use Rattle.parsing_record.specs.Whole.{whole, names, moment_named, starting};
-ghost use Rattle.parsing_steps.specs.Beginning.{beginning};
+ghost use Rattle.parsing_record.specs.Prefix.{NamesPrefix, beginning};
 ghost use Rattle.parsing_steps.specs.Found.{record_of};
-ghost use Rattle.parsing_steps.specs.Steps.{AreStepsOf, NamesPrefix, steps_of, steps_read};
+ghost use Rattle.parsing_steps.specs.Steps.{AreStepsOf, steps_of, steps_read};
 
 use crate::found::Found;
 use crate::steps::Steps;

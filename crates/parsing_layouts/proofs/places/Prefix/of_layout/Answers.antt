@@ -1,0 +1,30 @@
+use Rattle.parsing_layouts.proofs.places.Prefix.of_layout.Goals as goal
+
+pub invariant_of-result : goal.invariant_of-result
+invariant_of-result c = record {
+  long = c.if-length-lt8.false;
+  near = c.in_ok-windows.ensures;
+  text = c.let_text.ensures c.if-not-let_text.false;
+  year_is = c.in_ok-year.was;
+  month_is = c.in_ok-month.was;
+  day_is = c.in_ok-day.was;
+  hour_is = c.in_ok-hour.was;
+  minute_is = c.in_ok-minute.was;
+  second_is = c.in_ok-second.was;
+  year_digits = c.is_year.ensures c.if-not-is_year.false;
+  month_room = c.is_month.ensures.room c.if-not-is_month.false;
+  no_month = c.is_month.ensures.none c.if-not-is_month.false;
+  month_digits = c.is_month.ensures.digits c.if-not-is_month.false;
+  weekday_room = c.has_weekday_room.ensures c.if-not-has_weekday_room.false;
+  day_digits = c.is_day.ensures.digits c.if-not-is_day.false;
+  no_tens = c.is_day.ensures.none c.if-not-is_day.false;
+  day_tens = c.is_day.ensures.tens c.if-not-is_day.false;
+  day_ones = c.is_day.ensures.ones c.if-not-is_day.false;
+  hour_digits = c.is_clock.ensures.hour c.if-not-is_clock.false;
+  minute_digits = c.is_clock.ensures.minute c.if-not-is_clock.false;
+  second_digits = c.is_clock.ensures.second c.if-not-is_clock.false;
+  no_offset = c.in_ok-offset.ensures.none;
+  no_sign = c.in_ok-offset.ensures.no_sign;
+  offset_is = c.in_ok-offset.ensures.some;
+  subsecond_room = c.has_subsecond_room.ensures c.if-not-has_subsecond_room.false;
+}

@@ -1,0 +1,13 @@
+use Rattle.std.proofs.Common.{◌≡◌, ◌≤◌, arith, to_z, of_z, w16}
+use Rattle.std.specs.Prelude.{unsigned_abs}
+use Rattle.std.proofs.lemmas.Int.{ints}
+use Rattle.parsing_layouts.proofs.Moments.{line_read}
+use Rattle.parsing_layouts.proofs.read.layout_fields.Goals as goal
+
+pub returns : goal.returns
+returns c = λ m is_layout.
+    let prefix = c.args.prefix.now in
+    let few : unsigned_abs c.in_ok-offset.offset ≤ 1559 = c.in_ok-offset.ensures.bound in
+    let back : to_z w16 (of_z w16 c.in_ok-offset.offset) ≡ c.in_ok-offset.offset = omega (arith, ints) in
+    let offset = c.in_ok-offset.ensures.says prefix.layout c.args.line.now prefix.no_offset c.in_ok-sums.ensures.offset in
+    line_read prefix.layout c.args.line.now c.args.assumed c.in_ok-year.year c.in_ok-year.month c.in_ok-year.day c.in_ok-minute.minute c.in_ok-minute.second c.in_ok-fraction.fraction c.in_ok-offset.offset c.in_ok-sums.ensures.sums.text c.requires c.in_ok-year.ensures.says c.in_ok-minute.ensures.says c.in_ok-fraction.ensures.says offset c.of_numbers.result c.in_ok-fraction.ensures.bound (rw back at c.of_numbers.ensures) m is_layout

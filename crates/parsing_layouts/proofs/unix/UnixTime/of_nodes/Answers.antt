@@ -1,0 +1,16 @@
+use Rattle.std.proofs.Common.{◌≡◌, ◌+◌, ◌∷◌, ◌∙◌, [], drop, get_or, map, ap, arith}
+use Rattle.std.proofs.lemmas.List.{drop_all, drop_more}
+use Rattle.description_items.specs.Tree.{listed}
+use Rattle.parsing_record.specs.Reads.{reading_of_all}
+use Rattle.parsing_layouts.proofs.Walk.{of_unix}
+use Rattle.parsing_layouts.proofs.unix.UnixTime.of_nodes.Goals as goal
+
+pub returns : goal.returns
+returns g c =
+    let items = c.args.items.now in
+    let item = c.index-items-0.result in
+    let there : drop 0 items ≡ get_or items 0 item ∷ drop (0 + 1) items = drop_more items 0 item (omega (arith, c.if-items-ne1.false)) in
+    let one : items ≡ item ∷ drop (0 + 1) items = rw (← c.index-items-0.is) at there in
+    let nothing : drop (0 + 1) items ≡ [] = drop_all (0 + 1) items (omega (arith, c.if-items-ne1.false)) in
+    let single : map g.N.Node.tree items ≡ g.N.Node.tree item ∷ [] = ap (map g.N.Node.tree) one ∙ ap (λ xs. g.N.Node.tree item ∷ map g.N.Node.tree xs) nothing in
+    rw single (of_unix g.N.Node.language (g.N.Node.tree item) c.unix_of.result c.unix_of.ensures)

@@ -1,2 +1,0 @@
--- What a reading begins with.
-pub use Rattle.parsing_steps.specs.Beginning.{beginning}
