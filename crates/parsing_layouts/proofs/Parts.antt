@@ -1,6 +1,7 @@
 -- What the parts of a line say of a date, a time of day and an offset.
 use Rattle.std.proofs.Common.{◌≡◌, ◌≤◌, ◌+◌, ◌*◌, ℕ, zero, suc, Bool, true, false, List, drop, Option, Some, None, Ok, refl, arith, pos, ℤ}
-use Rattle.std.specs.Prelude.{◌&&◌, not, is_none, IfSome, ◌*ℤ◌, ◌+ℤ◌, ◌<ℤ◌, ◌≤ℤ◌, negsuc, nat_lt, unsigned_abs, int_div, int_rem}
+use Rattle.std.specs.Option.{ForSome}
+use Rattle.std.specs.Prelude.{◌&&◌, not, is_none, IfSome, IsSome, ◌<◌, ◌*ℤ◌, ◌+ℤ◌, ◌<ℤ◌, ◌≤ℤ◌, negsuc, nat_lt, unsigned_abs, int_div, int_rem}
 use Rattle.std.proofs.lemmas.Bool.Decides.{nat_tests}
 use Rattle.std.proofs.lemmas.Int.{ints}
 use Rattle.calendar_count.specs.Calendar.{days_in_month}
@@ -15,6 +16,9 @@ use Rattle.parsing_record.proofs.Offsets.{sign_named, no_second}
 use Rattle.parsing_layouts.specs.declared.layout.Layout.{Layout}
 use Rattle.parsing_components.specs.Slot.{Values, slot_piece, width}
 use Rattle.parsing_layouts.specs.Layout.{day_slot, is_plain}
+use Rattle.parsing_layouts.specs.Sums.{HasOffsetSums}
+use Rattle.parsing_layouts.specs.declared.places.OffsetPlaces.{OffsetPlaces}
+use Rattle.parsing_layouts.specs.declared.sums.Sums.{Sums}
 use Rattle.parsing_combinator.specs.Shape.{taken, spaced_between}
 use Rattle.parsing_layouts.specs.Parts.{WritesAt, WritesDay, WritesOffset, SaysMonth, SaysWeekday, SaysDate, SaysClock, SaysOffset}
 use Rattle.parsing_record.specs.Prefix.{beginning}
@@ -85,6 +89,17 @@ assumed_says l line assumed offset minutes h m is w = record {
 }
 
 -- ---- the parts of a plain line
+
+pub few_there : (o : Option OffsetPlaces) (minutes : ℕ) → IsSome o → ForSome o (λ _. minutes < 1440) → minutes < 1440
+few_there None minutes there few = absurd cc
+few_there (Some places) minutes there few = few places refl
+
+-- an offset that has places is written there
+pub offset_there : (o : Option OffsetPlaces) (l : Layout) (text : List ℕ) (assumed : Option ℤ) (sums : Sums) (offset : ℤ) → IsSome o → ForSome o (λ p. HasOffsetSums l text p.hour p.minute sums) → ((hour minute : ℕ) → HasOffsetSums l text hour minute sums → WritesOffset text hour minute offset) → SaysOffset l text assumed offset
+offset_there None l text assumed sums offset there some writes = absurd cc
+offset_there (Some p) l text assumed sums offset there some writes =
+    let h = some p refl in
+    written_says l text assumed p.hour p.minute (Some offset) h.hour_there h.minute_there (writes p.hour p.minute h)
 
 pub record PlainParts (l : Layout) : Type 0 where
   pub named : l.month_is_named ≡ true

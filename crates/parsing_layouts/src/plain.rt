@@ -43,21 +43,16 @@ pub(crate) fn plain_offset(prefix: &Prefix, sums: Sums) -> i16
         → SaysOffset l text assumed result }
     ensures bound { unsigned_abs result ≤ 1559 }
 {
-    match prefix.offset {
-        Some(places) => written_offset(places, sums),
-        None => unreachable!(),
-    }
+    // (that it is there needs no test)
+    let _ = prefix;
+    written_offset(sums)
 }
 
 /// The fraction of a second, of which there is none.
 #[inline(always)]
-pub(crate) fn plain_fraction(prefix: &Prefix, line: &[u8]) -> Fraction
-    requires { is_plain prefix.now.layout ≡ true }
-    ensures says { SaysFraction prefix.now.layout line.now result }
+pub(crate) fn plain_fraction() -> Fraction
+    ensures says { (l : Layout) (line : List ℕ) → is_plain l ≡ true → SaysFraction l line result }
     ensures bound { result < 1_000_000_000 }
 {
-    match prefix.layout.subsecond {
-        None => Fraction::new(0),
-        Some(_) => unreachable!(),
-    }
+    Fraction::new(0)
 }

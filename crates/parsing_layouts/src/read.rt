@@ -224,14 +224,13 @@ pub(crate) fn clock(prefix: &Prefix, line: &[u8], sums: Sums) -> Option<(u16, u8
     Some((sums.minute as u16, (sums.second / 64) as u8))
 }
 
-// The minutes of the offset that stands at these places of a text.
+// The minutes of the offset of a text, wherever it stands.
 #[inline(always)]
-pub(crate) fn written_offset(places: OffsetPlaces, sums: Sums) -> i16
+pub(crate) fn written_offset(sums: Sums) -> i16
     requires few { sums.offset < 1440 }
     requires sign { sums.second % 2 ≡ 0 }
-    ensures writes { (l : Layout) (text : List ℕ)
-        → HasOffsetSums l text places.hour places.minute sums
-        → WritesOffset text places.hour places.minute result }
+    ensures writes { (l : Layout) (text : List ℕ) (hour minute : ℕ)
+        → HasOffsetSums l text hour minute sums → WritesOffset text hour minute result }
     ensures bound { unsigned_abs result ≤ 1559 }
 {
     signed(sums.offset, sums.second % 4 == 2)
@@ -252,7 +251,11 @@ pub(crate) fn offset(
     ensures bound { IfSome result (λ o. unsigned_abs o ≤ 1559) }
 {
     match places {
-        Some(at) => Some(written_offset(at, sums)),
+        Some(at) => {
+            // (the sums are of the places)
+            let _ = at;
+            Some(written_offset(sums))
+        }
         None => {
             let offset = assumed?;
             Some(assumed_minutes(offset))

@@ -163,7 +163,7 @@ impl Places {
         let (minute, second) = clock(prefix, line, sums)?;
         let (year, month, day) = plain_date(prefix, line, sums)?;
         let offset = plain_offset(prefix, sums);
-        let fraction = plain_fraction(prefix, line);
+        let fraction = plain_fraction();
         Some(Fields::of_numbers(year, month, day, minute, second, fraction, offset))
     }
 

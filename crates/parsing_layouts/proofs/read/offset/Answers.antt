@@ -10,7 +10,7 @@ returns-in-Some-clause-says c = λ l text none some.
     let h = some at c.in-Some.is in
     let few : unsigned_abs c.written_offset.result ≤ 1559 = c.written_offset.ensures.bound in
     let whole : to_z w16 (of_z w16 c.written_offset.result) ≡ c.written_offset.result = omega (arith, ints) in
-    rw whole (written_says l text c.args.assumed at.hour at.minute (Some c.written_offset.result) h.hour_there h.minute_there (c.written_offset.ensures.writes l text h))
+    rw whole (written_says l text c.args.assumed at.hour at.minute (Some c.written_offset.result) h.hour_there h.minute_there (c.written_offset.ensures.writes l text at.hour at.minute h))
 
 pub returns-in_ok-offset-in-None-clause-says : goal.returns-in_ok-offset-in-None-clause-says
 returns-in_ok-offset-in-None-clause-says c = λ l text none some.

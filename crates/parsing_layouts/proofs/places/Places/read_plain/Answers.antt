@@ -15,5 +15,5 @@ returns c = λ m defaults is_plan start.
     let few : unsigned_abs c.plain_offset-offset.result ≤ 1559 = c.plain_offset-offset.ensures.bound in
     let back : to_z w16 (of_z w16 c.plain_offset-offset.result) ≡ c.plain_offset-offset.result = omega (arith, ints) in
     let offset = c.plain_offset-offset.ensures.says plan.layout line c.args.assumed c.in_ok-sums.ensures.offset in
-    let prefix = line_read plan.layout line c.args.assumed c.in_ok-year.year c.in_ok-year.month c.in_ok-year.day c.in_ok-minute.minute c.in_ok-minute.second c.plain_fraction-fraction.result c.plain_offset-offset.result c.in_ok-sums.ensures.sums.text (omega arith) c.in_ok-year.ensures.says c.in_ok-minute.ensures.says c.plain_fraction-fraction.ensures.says offset c.of_numbers.result c.plain_fraction-fraction.ensures.bound (rw back at c.of_numbers.ensures) m (is_plan.0 plain.2) in
+    let prefix = line_read plan.layout line c.args.assumed c.in_ok-year.year c.in_ok-year.month c.in_ok-year.day c.in_ok-minute.minute c.in_ok-minute.second c.plain_fraction-fraction.result c.plain_offset-offset.result c.in_ok-sums.ensures.sums.text (omega arith) c.in_ok-year.ensures.says c.in_ok-minute.ensures.says (c.plain_fraction-fraction.ensures.says plan.layout line plain.0.plain) offset c.of_numbers.result c.plain_fraction-fraction.ensures.bound (rw back at c.of_numbers.ensures) m (is_plan.0 plain.2) in
     whole_named m defaults line (drop plan.layout.length line) c.args.assumed (moment_of c.of_numbers.result) (drop_all plan.layout.length line (omega arith)) start prefix
