@@ -12,7 +12,6 @@ use Rattle.instants_sources.specs.Grammar.{Grammar, grammar_of}
 use Rattle.instants_sources.specs.declared.source.Source.{Source}
 use Rattle.instants_sources.specs.Named.{named, IsNamedBy}
 use Rattle.instants_timeline.specs.Place.{Setting, or_named, first_named, place_of, place_text, shown_or_refused, answer_to}
-use Rattle.instants_timeline.specs.Refusal.{refusal_of, refusal_text}
 use Rattle.instants_timeline.specs.FirstNamed.{HoldsAnswer, IsLedBy, NamesFrom}
 
 here : (o : Result Shown Fault) (others : Option Shown) (moment : Shown) → result_ok o ≡ Some moment → result_ok (or_named o others) ≡ Some moment
@@ -45,25 +44,26 @@ pub ok_of : (r : Result Shown Fault) (m : Shown) → result_ok r ≡ Some m → 
 ok_of (Ok x) m e = ap (λ (o : Option Shown). Ok (unwrap_or o x)) e
 ok_of (Err f) m e = absurd cc
 
--- what is answered for the moment that is named first
-pub answer_is : (setting : Setting) (line : List ℕ) (moment : Shown) → result_ok (first_named setting.assumed setting.sources line) ≡ Some moment → place_text (shown_or_refused setting.target (Ok moment)) ≡ answer_to setting line
+-- what is answered for what the sources name
+pub answer_is : (setting : Setting) (line : List ℕ) (found : Result Shown Fault) → first_named setting.assumed setting.sources line ≡ found → place_text (shown_or_refused setting.target found) ≡ answer_to setting line
 unfolding answer_to place_of
-answer_is setting line moment is = rw (ok_of (first_named setting.assumed setting.sources line) moment is) refl
+answer_is setting line found e = rw e refl
 
 -- a place's source names a moment for a line, and those before it none
+pub first_is_at : (setting : Setting) (line : List ℕ) (place : ℕ) (grammar : Grammar) (others : List Grammar) (moment : Shown) → NamesFrom setting line place → drop place setting.sources ≡ grammar ∷ others
+    → named setting.assumed grammar line ≡ Ok moment → first_named setting.assumed setting.sources line ≡ Ok moment
+first_is_at setting line place grammar others moment from cut is =
+    let there : result_ok (first_named setting.assumed (drop place setting.sources) line) ≡ Some moment = rw cut (first_named-here setting.assumed grammar others line moment (ap result_ok is)) in
+    ok_of (first_named setting.assumed setting.sources line) moment (sym from ∙ there)
+
 pub answer_is_at : (setting : Setting) (line : List ℕ) (place : ℕ) (grammar : Grammar) (others : List Grammar) (moment : Shown) → NamesFrom setting line place → drop place setting.sources ≡ grammar ∷ others
-    → result_ok (named setting.assumed grammar line) ≡ Some moment → place_text (shown_or_refused setting.target (Ok moment)) ≡ answer_to setting line
-answer_is_at setting line place grammar others moment from cut is =
-    let there : result_ok (first_named setting.assumed (drop place setting.sources) line) ≡ Some moment = rw cut (first_named-here setting.assumed grammar others line moment is) in
-    answer_is setting line moment (sym from ∙ there)
+    → named setting.assumed grammar line ≡ Ok moment → place_text (shown_or_refused setting.target (Ok moment)) ≡ answer_to setting line
+answer_is_at setting line place grammar others moment from cut is = answer_is setting line (Ok moment) (first_is_at setting line place grammar others moment from cut is)
 
 -- a room that holds the line of the answer for it
-pub held : (setting : Setting) (line room : List ℕ) (len : ℕ) → HoldsAnswer setting (result_ok (first_named setting.assumed setting.sources line)) len room → HoldsLine (answer_to setting line) len room
-held setting line room len a = rw (← answer_is setting line a.moment a.is) a.line
-
 pub held_at : (setting : Setting) (line room : List ℕ) (len place : ℕ) (grammar : Grammar) (others : List Grammar) → NamesFrom setting line place → drop place setting.sources ≡ grammar ∷ others
     → HoldsAnswer setting (result_ok (named setting.assumed grammar line)) len room → HoldsLine (answer_to setting line) len room
-held_at setting line room len place grammar others from cut a = rw (← answer_is_at setting line place grammar others a.moment from cut a.is) a.line
+held_at setting line room len place grammar others from cut a = rw (← answer_is_at setting line place grammar others a.moment from cut (ok_of (named setting.assumed grammar line) a.moment a.is)) a.line
 
 -- a room that holds the line of the answer for the moment that fields name
 pub held_found : (setting : Setting) (found : Option Fields) (grammar : Grammar) (line room : List ℕ) (len : ℕ) → IfSome found (λ fields. named setting.assumed grammar line ≡ Ok (moment_of fields))
@@ -102,13 +102,11 @@ fault_of_first : (r : Result Shown Fault) (o : Option Shown) (fault : Fault) →
 fault_of_first r None fault none e = rw e refl
 fault_of_first r (Some m) fault none e = absurd (let found : Some m ≡ None = ap result_ok (ap (λ (x : Result Shown Fault). or_named x (Some m)) (sym e)) ∙ none in cc)
 
--- where none does the answer is the first one's fault
-pub answer_is_fault : (setting : Setting) (line : List ℕ) (grammar : Grammar) (others : List Grammar) (fault : Fault) → setting.sources ≡ grammar ∷ others
-    → result_ok (first_named setting.assumed setting.sources line) ≡ None → named setting.assumed grammar line ≡ Err fault → refusal_text (refusal_of fault) ≡ answer_to setting line
-unfolding answer_to place_of first_named
-answer_is_fault setting line grammar others fault e none refused =
-    let first : first_named setting.assumed setting.sources line ≡ Err fault = rw e (fault_of_first (named setting.assumed grammar line) (result_ok (first_named setting.assumed others line)) fault (rw e at none) refused) in
-    rw first refl
+-- where none does the first one's fault is what they name
+pub first_is_fault : (setting : Setting) (line : List ℕ) (grammar : Grammar) (others : List Grammar) (fault : Fault) → setting.sources ≡ grammar ∷ others
+    → result_ok (first_named setting.assumed setting.sources line) ≡ None → named setting.assumed grammar line ≡ Err fault → first_named setting.assumed setting.sources line ≡ Err fault
+unfolding first_named
+first_is_fault setting line grammar others fault e none refused = rw e (fault_of_first (named setting.assumed grammar line) (result_ok (first_named setting.assumed others line)) fault (rw e at none) refused)
 
 -- the source at a place, and those after it
 pub sources_from : (sources : List Source) (i : ℕ) (x : Source) → i < length sources → x ≡ get_or sources i x → map grammar_of (drop i sources) ≡ grammar_of x ∷ map grammar_of (drop (i + 1) sources)
@@ -117,25 +115,21 @@ sources_from sources i x lt e =
     let cut : drop i sources ≡ x ∷ drop (i + 1) sources = rw (← e) at there in
     ap (map grammar_of) cut
 
--- what is named from a place on
-module _ (assumed : Option ℤ) (sources : List Source) (line : List ℕ) (i : ℕ) (x : Source) (lt : i < length sources) (e : x ≡ get_or sources i x) where
-  cut : result_ok (first_named assumed (map grammar_of (drop i sources)) line) ≡ result_ok (first_named assumed (grammar_of x ∷ map grammar_of (drop (i + 1) sources)) line)
-  cut = ap (λ (grammars : List Grammar). result_ok (first_named assumed grammars line)) (sources_from sources i x lt e)
-
-  pub named_here : (moment : Shown) → result_ok (named assumed (grammar_of x) line) ≡ Some moment → result_ok (first_named assumed (map grammar_of (drop i sources)) line) ≡ Some moment
-  named_here moment is = cut ∙ first_named-here assumed (grammar_of x) (map grammar_of (drop (i + 1) sources)) line moment is
-
-  pub named_later : result_ok (named assumed (grammar_of x) line) ≡ None → result_ok (first_named assumed (map grammar_of (drop (i + 1) sources)) line) ≡ result_ok (first_named assumed (map grammar_of (drop i sources)) line)
-  named_later none = sym (cut ∙ first_named-later assumed (grammar_of x) (map grammar_of (drop (i + 1) sources)) line none)
-
 pub source_at : (sources : List Source) (place : ℕ) (source : Source) → place < length sources → source ≡ get_or sources place source
     → drop place (map grammar_of sources) ≡ grammar_of source ∷ drop (place + 1) (map grammar_of sources)
 source_at sources place source within is =
     drop-map grammar_of place sources ∙ sources_from sources place source within is ∙ ap (λ (rest : List Grammar). grammar_of source ∷ rest) (sym (drop-map grammar_of (place + 1) sources))
 
 -- after all places there is none
-pub none_at_end : (setting : Setting) (line : List ℕ) (place : ℕ) → length setting.sources ≤ place → NamesFrom setting line place → result_ok (first_named setting.assumed setting.sources line) ≡ None
+named_at_end : (setting : Setting) (line : List ℕ) (place : ℕ) → length setting.sources ≤ place → result_ok (first_named setting.assumed (drop place setting.sources) line) ≡ None
 unfolding first_named
-none_at_end setting line place end from =
+named_at_end setting line place end =
     let over : drop place setting.sources ≡ [] = drop_all place setting.sources end in
-    sym (rw over at from)
+    rw over refl
+
+pub none_at_end : (setting : Setting) (line : List ℕ) (place : ℕ) → length setting.sources ≤ place → NamesFrom setting line place → result_ok (first_named setting.assumed setting.sources line) ≡ None
+none_at_end setting line place end from = sym from ∙ named_at_end setting line place end
+
+-- where none names one, none after all places does
+pub names_from_end : (setting : Setting) (line : List ℕ) (place : ℕ) → length setting.sources ≤ place → result_ok (first_named setting.assumed setting.sources line) ≡ None → NamesFrom setting line place
+names_from_end setting line place end none = named_at_end setting line place end ∙ sym none

@@ -1,5 +1,5 @@
 -- The text of an answer, by the line that holds it.
-use Rattle.std.proofs.Common.{◌≡◌, ◌≢◌, ◌≤◌, ◌+◌, ◌-◌, ℕ, ℤ, Bool, true, false, List, [], ◌∷◌, ◌++◌, take, length, get_or, codes, Option, None, Some, Result, Ok, Err, ap, sym, ◌∙◌, arith, take-take, length-append}
+use Rattle.std.proofs.Common.{◌≡◌, ◌≢◌, ◌≤◌, ◌+◌, ◌-◌, ℕ, ℤ, Bool, true, false, List, [], ◌∷◌, take, length, get_or, codes, Option, None, Some, Result, Ok, Err, ap, sym, ◌∙◌, arith, take-take, length-append}
 use Rattle.std.specs.Prelude.{if◌then◌else◌, unsigned_abs}
 use Rattle.std.proofs.lemmas.List.{length-take-le, take_at}
 use Rattle.base.specs.Bytes.{line_feed}
@@ -7,7 +7,6 @@ use Rattle.calendar_count.specs.Calendar.{YearMonthDay, day_at}
 use Rattle.datetime_wall.specs.Wall.{Shown, day_of, instant, shown_at}
 use Rattle.parsing_combinator.specs.Fault.{Fault}
 use Rattle.parsing_combinator.specs.Fault as fault
-use Rattle.parsing_fields.specs.Decimal.{decimal}
 use Rattle.parsing_fields.proofs.lemmas.Decimals.{decimal_length}
 use Rattle.instants_answers.specs.Line.{HoldsLine}
 use Rattle.instants_answers.specs.Text.{date_text, moment_text, has_written_year}

@@ -1,5 +1,5 @@
 -- What is found of a line before all of its answer is known.
-use Rattle.std.specs.Prelude.{◌≡◌, ◌≢◌, ◌≤◌, ◌+◌, ℕ, List, ◌∷◌, codes, drop, length, Option, Some, Ok, Err}
+use Rattle.std.specs.Prelude.{◌≡◌, ℕ, List, ◌∷◌, drop, Option, Some, Ok, Err}
 use Rattle.std.specs.Result.{result_ok}
 use Rattle.datetime_wall.specs.Wall.{Shown}
 use Rattle.parsing_combinator.specs.Fault.{Fault}
@@ -25,15 +25,15 @@ pub record HoldsAnswer (setting : Setting) (named : Option Shown) (len : ℕ) (r
   pub is : named ≡ Some moment
   pub line : HoldsLine (place_text (shown_or_refused setting.target (Ok moment))) len room
 
--- the source at a place finds this fault in a line
-pub record IsFaultAt (setting : Setting) (line : List ℕ) (place : ℕ) (fault : Fault) : Type 0 where
-  pub grammar : Grammar
-  pub stands : drop place setting.sources ≡ grammar ∷ drop (place + 1) setting.sources
-  pub refused : named setting.assumed grammar line ≡ Err fault
-
 -- the first source reads by a grammar
 abbrev pub IsLedBy : Setting → Grammar → Type 0
 IsLedBy setting grammar = setting.sources ≡ grammar ∷ drop 1 setting.sources
+
+-- the first source finds this fault in a line
+pub record IsFirstFault (setting : Setting) (line : List ℕ) (fault : Fault) : Type 0 where
+  pub grammar : Grammar
+  pub first : IsLedBy setting grammar
+  pub refused : named setting.assumed grammar line ≡ Err fault
 
 -- the first source is a description that reads as a plan says
 pub record IsLedByPlan (setting : Setting) (plan : Plan) : Type 0 where

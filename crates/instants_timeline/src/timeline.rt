@@ -9,6 +9,7 @@ mod calls;
 mod fast_ways;
 mod nodes;
 mod parts;
+mod search;
 
 use calendar::UtcOffset;
 pub(crate) use fast_ways::{

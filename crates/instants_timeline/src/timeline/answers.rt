@@ -10,17 +10,18 @@ ghost use Rattle.instants_answers.specs.Line.{HoldsLine};
 ghost use Rattle.instants_sources.specs.Grammar.{grammar_of};
 ghost use Rattle.instants_sources.specs.Grammar as grammar;
 ghost use Rattle.instants_sources.specs.Named.{named};
-ghost use Rattle.instants_timeline.specs.FirstNamed.{HoldsAnswer, IsFaultAt, IsLedBy, NamesFrom};
+ghost use Rattle.instants_timeline.specs.FirstNamed.{HoldsAnswer, IsFirstFault, IsLedBy, NamesFrom};
 ghost use Rattle.instants_timeline.specs.Place.{answer_to, first_named, place_text, shown_or_refused};
 ghost use Rattle.instants_timeline.specs.Settings.{setting_of};
 
 use crate::line_fault::{LineFault, fill_no_year};
 use crate::shown::shown_at;
 use crate::timeline::Timeline;
+use crate::timeline::search::none_kept;
 use datetime_types::OffsetDateTime;
 use instants_answers::{Answer, fill_fields, write_line};
 use instants_sources::{
-    Source, fast_iso8601, iso8601_to_minute, other_rfc2822, rare_iso8601, rare_rfc3339,
+    Named, Source, fast_iso8601, iso8601_to_minute, other_rfc2822, rare_iso8601, rare_rfc3339,
     read_by_places, usual_iso8601, usual_rfc2822, usual_rfc3339,
 };
 use parsing_combinator::Parse;
@@ -124,142 +125,56 @@ impl Timeline<'_> {
         }
     }
 
-    // Writes the answer to a line by a source's fast ways: `None` says nothing of the line.
-    #[inline(never)]
-    fn fill_fast(&self, source: &Source, line: &[u8], room: &mut [u8]) -> Option<usize>
-        requires { 64 ≤ length room.old }
-        ensures line { IfSome result (λ len. HoldsAnswer (setting_of self.now) (result_ok
-            (named (setting_of self.now).assumed (grammar_of source.now) line.now)) len room.new) }
-        ensures size { length room.new ≡ length room.old }
-    {
-        self.fill_found(source.read_fast(line, self.assumed), room)
-    }
-
-    // Writes the answer to a line for which a source names a moment: `None` where it names none.
+    // Writes the moment that was kept.
     #[inline(always)]
-    fn fill_by(&self, source: &Source, line: &[u8], room: &mut [u8]) -> Option<usize>
+    fn fill_kept(&self, kept: &Named, room: &mut [u8]) -> usize
         requires { 64 ≤ length room.old }
-        ensures line { IfSome result (λ len. HoldsAnswer (setting_of self.now) (result_ok
-            (named (setting_of self.now).assumed (grammar_of source.now) line.now)) len room.new) }
-        ensures none { IfNone result (result_ok
-            (named (setting_of self.now).assumed (grammar_of source.now) line.now) ≡ None) }
+        ensures line { HoldsLine (place_text (shown_or_refused (setting_of self.now).target
+            (Ok kept.now))) result room.new }
         ensures size { length room.new ≡ length room.old }
     {
-        if source.cannot_match(line) {
-            return None;
-        }
-        if let Some(len) = self.fill_fast(source, line, room) {
-            return Some(len);
-        }
-        match source.read_exact(line, self.assumed) {
-            Ok(named) => Some(self.fill_shown(named, room)),
-            Err(_) => None,
+        match kept.fields() {
+            Some(fields) => self.fill_moved(*fields, room),
+            None => self.fill_shown(kept.moment(), room),
         }
     }
 
-    // Writes the answer to a line by the first of the sources that names a moment: `None` where none does.
-    #[inline(never)]
-    fn fill_by_any(&self, sources: &[Source], line: &[u8], room: &mut [u8]) -> Option<usize>
-        requires { 64 ≤ length room.old }
-        ensures line { IfSome result (λ len. HoldsAnswer (setting_of self.now) (result_ok
-            (first_named (setting_of self.now).assumed (map grammar_of sources.now) line.now))
-            len room.new) }
-        ensures none { IfNone result (result_ok
-            (first_named (setting_of self.now).assumed (map grammar_of sources.now) line.now)
-            ≡ None) }
-        ensures size { length room.new ≡ length room.old }
-    {
-        for source in sources {
-            if let Some(len) = self.fill_by(source, line, room) {
-                return Some(len);
-            }
-        }
-        None
-    }
-
-    // Writes the answer to a line by the sources from a place on, where those before it name no moment: `None` where none does.
-    // Mostly the first bytes rule all of them out.
-    #[inline(always)]
-    fn fill_from(&self, place: usize, line: &[u8], room: &mut [u8]) -> Option<usize>
-        requires room { 64 ≤ length room.old }
-        requires from { NamesFrom (setting_of self.now) line.now place }
-        ensures line { IfSome result (λ len. HoldsAnswer (setting_of self.now) (result_ok
-            (first_named (setting_of self.now).assumed (setting_of self.now).sources line.now))
-            len room.new) }
-        ensures none { IfNone result (result_ok (first_named (setting_of self.now).assumed
-            (setting_of self.now).sources line.now) ≡ None) }
-        ensures size { length room.new ≡ length room.old }
-    {
-        match self.likely(place, line) {
-            Some((likely, _)) => self.fill_by_any(self.sources_from(likely), line, room),
-            None => None,
-        }
-    }
-
-    // Writes the first source's fault, read the exact way, where no source names a moment.
+    // Writes the answer to a line by the sources from a place on, where those before it name no moment: the first source's
+    // fault where none does, as it is known or read the exact way.
     #[cold]
     #[inline(never)]
-    fn fill_by_first(&self, line: &[u8], room: &mut [u8]) -> usize
+    fn fill_later(
+        &self,
+        from: usize,
+        known: Option<Parse>,
+        line: &[u8],
+        room: &mut [u8],
+    ) -> usize
         requires room { 64 ≤ length room.old }
-        requires none { result_ok (first_named (setting_of self.now).assumed
-            (setting_of self.now).sources line.now) ≡ None }
+        requires from { NamesFrom (setting_of self.now) line.now from }
+        requires known { IfSome known
+            (λ fault. IsFirstFault (setting_of self.now) line.now (fault_of fault)) }
+        requires short { IfSome known (λ fault. HasShortName (fault_of fault)) }
+        ensures line { HoldsLine (answer_to (setting_of self.now) line.now) result room.new }
+        ensures size { length room.new ≡ length room.old }
+    {
+        let mut kept = none_kept();
+        match self.first_named(from, known, line, &mut kept) {
+            Ok(()) => self.fill_kept(&kept, room),
+            Err(fault) => LineFault::from(fault).fill(room),
+        }
+    }
+
+    // Writes the answer to a line by reading it the exact way by the first source.
+    #[inline(always)]
+    fn fill_exact(&self, line: &[u8], room: &mut [u8]) -> usize
+        requires { 64 ≤ length room.old }
         ensures line { HoldsLine (answer_to (setting_of self.now) line.now) result room.new }
         ensures size { length room.new ≡ length room.old }
     {
         match self.first().read_exact(line, self.assumed) {
             Ok(named) => self.fill_shown(named, room),
-            Err(fault) => LineFault::from(fault).fill(room),
-        }
-    }
-
-    // Writes the answer to a line for which no source names a moment: the first one's fault.
-    #[inline(always)]
-    fn fill_first_fault(&self, line: &[u8], room: &mut [u8]) -> usize
-        requires room { 64 ≤ length room.old }
-        requires none { result_ok (first_named (setting_of self.now).assumed
-            (setting_of self.now).sources line.now) ≡ None }
-        ensures line { HoldsLine (answer_to (setting_of self.now) line.now) result room.new }
-        ensures size { length room.new ≡ length room.old }
-    {
-        if self.first().has_no_year(line, self.assumed) {
-            return fill_no_year(room);
-        }
-        self.fill_by_first(line, room)
-    }
-
-    // Writes the answer to a line for which the sources before a place name no moment, and in which the one there finds this
-    // fault.
-    #[inline(always)]
-    fn fill_refused(&self, place: usize, fault: Parse, line: &[u8], room: &mut [u8]) -> usize
-        requires room { 64 ≤ length room.old }
-        requires from { NamesFrom (setting_of self.now) line.now place }
-        requires fault { IsFaultAt (setting_of self.now) line.now place (fault_of fault) }
-        requires short { HasShortName (fault_of fault) }
-        ensures line { HoldsLine (answer_to (setting_of self.now) line.now) result room.new }
-        ensures size { length room.new ≡ length room.old }
-    {
-        if let Some(len) = self.fill_from(place + 1, line, room) {
-            return len;
-        }
-        if place == 0 {
-            LineFault::from(fault).fill(room)
-        } else {
-            self.fill_first_fault(line, room)
-        }
-    }
-
-    // Writes the answer to a line for which the sources before a place name no moment, by reading it the exact way from there on.
-    #[inline(always)]
-    fn fill_exact(&self, place: usize, line: &[u8], room: &mut [u8]) -> usize
-        requires room { 64 ≤ length room.old }
-        requires place { place < length (setting_of self.now).sources }
-        requires from { NamesFrom (setting_of self.now) line.now place }
-        ensures line { HoldsLine (answer_to (setting_of self.now) line.now) result room.new }
-        ensures size { length room.new ≡ length room.old }
-    {
-        match self.source_at(place).read_exact(line, self.assumed) {
-            Ok(named) => self.fill_shown(named, room),
-            Err(fault) => self.fill_refused(place, fault, line, room),
+            Err(fault) => self.fill_later(1, Some(fault), line, room),
         }
     }
 
@@ -279,7 +194,25 @@ impl Timeline<'_> {
         if let Some(len) = self.fill_other(source, line, room) {
             return len;
         }
-        self.fill_exact(place, line, room)
+        match source.read_exact(line, self.assumed) {
+            Ok(named) => self.fill_shown(named, room),
+            Err(_) => self.fill_later(place + 1, None, line, room),
+        }
+    }
+
+    // Writes the answer to a line for which no source names a moment: the first one's fault.
+    #[inline(always)]
+    fn fill_unlikely(&self, line: &[u8], room: &mut [u8]) -> usize
+        requires room { 64 ≤ length room.old }
+        requires none { result_ok (first_named (setting_of self.now).assumed
+            (setting_of self.now).sources line.now) ≡ None }
+        ensures line { HoldsLine (answer_to (setting_of self.now) line.now) result room.new }
+        ensures size { length room.new ≡ length room.old }
+    {
+        if self.first().has_no_year(line, self.assumed) {
+            return fill_no_year(room);
+        }
+        self.fill_later(self.sources.len(), None, line, room)
     }
 
     // Writes the answer to a line that the first source's first bytes rule out: the likely source is the first after it that
@@ -292,7 +225,7 @@ impl Timeline<'_> {
         ensures size { length room.new ≡ length room.old }
     {
         let Some((place, source)) = self.likely(1, line) else {
-            return self.fill_first_fault(line, room);
+            return self.fill_unlikely(line, room);
         };
         match self.fill_usual(source, line, room) {
             Some(len) => len,
@@ -311,7 +244,7 @@ impl Timeline<'_> {
         if self.has_others() && self.first().cannot_match(line) {
             return self.fill_after(line, room);
         }
-        self.fill_exact(0, line, room)
+        self.fill_exact(line, room)
     }
 
     // Writes the answer to a line that has not the usual shape of RFC 3339, the first source.
@@ -323,15 +256,9 @@ impl Timeline<'_> {
         ensures line { HoldsLine (answer_to (setting_of self.now) line.now) result room.new }
         ensures size { length room.new ≡ length room.old }
     {
-        if let Some(len) = self.fill_found(rare_rfc3339(line), room) {
-            return len;
-        }
-        if self.assumed.is_some() {
-            return self.fill_exact(0, line, room);
-        }
-        match parsing_rfc3339::read_exact(line) {
-            Ok(named) => self.fill_shown(named, room),
-            Err(fault) => self.fill_refused(0, fault, line, room),
+        match self.fill_found(rare_rfc3339(line), room) {
+            Some(len) => len,
+            None => self.fill_exact(line, room),
         }
     }
 
@@ -387,7 +314,7 @@ impl Timeline<'_> {
         ensures line { HoldsLine (answer_to (setting_of self.now) line.now) result room.new }
         ensures size { length room.new ≡ length room.old }
     {
-        match self.fill_fast(self.first(), line, room) {
+        match self.fill_found(self.first().read_fast(line, self.assumed), room) {
             Some(len) => len,
             None => self.fill_rest(line, room),
         }

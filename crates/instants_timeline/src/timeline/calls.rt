@@ -19,13 +19,13 @@ use crate::line_fault::LineFault;
 use crate::new_fault::NewFault;
 use crate::shown::shown_at;
 use crate::timeline::Timeline;
+use crate::timeline::search::none_kept;
 use calendar::UtcOffset;
 use datetime_types::OffsetDateTime;
 use instants_answers::Target;
 use instants_sources::Source;
 use instants_words::SourceText;
 use parsing_combinator::Parse;
-use parsing_fields::Fields;
 use std::alloc::{AllocError, Global};
 
 impl<'a> Timeline<'a> {
@@ -71,88 +71,35 @@ impl<'a> Timeline<'a> {
         &self.sources.as_slice()[0]
     }
 
-    // The source at a place.
-    #[inline(always)]
-    pub(super) fn source_at(&self, place: usize) -> &Source<'a>
-        requires { place < length (setting_of self.now).sources }
-        ensures { drop place (setting_of self.now).sources
-            ≡ grammar_of result.now ∷ drop (place + 1) (setting_of self.now).sources }
-    {
-        &self.sources.as_slice()[place]
-    }
-
-    // The sources from a place on.
-    #[inline(always)]
-    pub(super) fn sources_from(&self, place: usize) -> &[Source<'a>]
-        requires { place ≤ length (setting_of self.now).sources }
-        ensures { map grammar_of result.now ≡ drop place (setting_of self.now).sources }
-    {
-        &self.sources.as_slice()[place..]
-    }
-
     // Whether there are sources after the first one.
     pub(crate) fn has_others(&self) -> bool {
         self.sources.len() > 1
     }
 
-    // The first source from a place on that the first bytes of a line do not rule out, and its place.
+    // What the first source that names a moment names, and else the first source's fault. Each source is read by its fast way
+    // before the exact one.
     #[inline(always)]
-    pub(super) fn likely(&self, from: usize, line: &[u8]) -> Option<(usize, &Source<'a>)>
-        requires { NamesFrom (setting_of self.now) line.now from }
-        ensures within { IfSome result (λ x. x.0 < length (setting_of self.now).sources) }
-        ensures from { IfSome result (λ x. NamesFrom (setting_of self.now) line.now x.0) }
-        ensures source { IfSome result (λ x. drop x.0 (setting_of self.now).sources
-            ≡ grammar_of x.1.now ∷ drop (x.0 + 1) (setting_of self.now).sources) }
-        ensures none { IfNone result (result_ok (first_named (setting_of self.now).assumed
-            (setting_of self.now).sources line.now) ≡ None) }
-    {
-        let sources = self.sources.as_slice();
-        let mut place = from;
-        while place < sources.len() {
-            let source = &sources[place];
-            if !source.cannot_match(line) {
-                return Some((place, source));
-            }
-            place += 1;
-        }
-        None
-    }
-
-    // What the first source that names a moment names, and else the first source's fault; the first source is read the
-    // exact way.
-    #[inline(always)]
-    #[tactic(auto, unfolding(crate::specs::Place::first_named))]
-    fn exact_moment(&self, line: &[u8]) -> Result<OffsetDateTime, Parse>
+    fn named_moment(&self, line: &[u8]) -> Result<OffsetDateTime, Parse>
         ensures gives { Gives (λ m. m) fault_of result
             (first_named (setting_of self.now).assumed (setting_of self.now).sources line.now) }
         ensures short { IfErr result (λ fault. HasShortName (fault_of fault)) }
     {
-        let sources = self.sources.as_slice();
-        let (first, others) = (&sources[0], &sources[1..]);
-        let mut refused = None;
-        // A source alone is read in any case, for its fault.
-        if others.is_empty() || !first.cannot_match(line) {
-            match first.read_exact(line, self.assumed) {
-                Ok(moment) => return Ok(moment),
-                Err(fault) => refused = Some(fault),
+        let first = self.first();
+        if let Some(fields) = first.read_fast(line, self.assumed) {
+            return Ok(fields.moment());
+        }
+        let mut kept = none_kept();
+        if self.has_others() && first.cannot_match(line) {
+            self.first_named(1, None, line, &mut kept)?;
+            return Ok(kept.moment());
+        }
+        match first.read_exact(line, self.assumed) {
+            Ok(moment) => Ok(moment),
+            Err(fault) => {
+                self.first_named(1, Some(fault), line, &mut kept)?;
+                Ok(kept.moment())
             }
         }
-        if let Some(moment) = moment_of_any(others, line, &self.assumed) {
-            return Ok(moment);
-        }
-        match refused {
-            Some(fault) => Err(fault),
-            None => first.read_exact(line, self.assumed),
-        }
-    }
-
-    // The fields that the first source's fast way finds.
-    #[tactic(auto, unfolding(crate::specs::Place::first_named))]
-    fn fast_fields(&self, line: &[u8]) -> Option<Fields>
-        ensures { IfSome result
-            (λ fields. IsFirstNamed (setting_of self.now) line.now (moment_of fields)) }
-    {
-        self.sources.as_slice()[0].read_fast(line, self.assumed)
     }
 
     /// The line's place: the moment that the first source with one names for the whole line, shown at the target.
@@ -167,29 +114,9 @@ impl<'a> Timeline<'a> {
         ensures short { IfErr result (λ fault. IsShort (refusal_said fault)) }
         ensures never_long { IfErr result (λ fault. refusal_said fault ≢ long) }
     {
-        let named = match self.fast_fields(line) {
-            Some(fields) => fields.moment(),
-            None => match self.exact_moment(line) {
-                Ok(named) => named,
-                Err(fault) => return Err(LineFault::from(fault)),
-            },
-        };
-        shown_at(self.target, named).ok_or(LineFault::Year)
-    }
-}
-
-// The moment that the first of the sources with one names.
-fn moment_of_any(
-    sources: &[Source],
-    line: &[u8],
-    assumed: &Option<UtcOffset>,
-) -> Option<OffsetDateTime>
-    ensures { result ≡ result_ok (first_named assumed.now (map grammar_of sources.now) line.now) }
-{
-    for source in sources {
-        if let Some(moment) = source.moment(line, assumed) {
-            return Some(moment);
+        match self.named_moment(line) {
+            Ok(named) => shown_at(self.target, named).ok_or(LineFault::Year),
+            Err(fault) => Err(LineFault::from(fault)),
         }
     }
-    None
 }

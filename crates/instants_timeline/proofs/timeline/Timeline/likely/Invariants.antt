@@ -1,11 +1,14 @@
-use Rattle.std.proofs.Common.{◌-◌, length}
+use Rattle.std.proofs.Common.{◌≤◌, ◌-◌, length}
 use Rattle.instants_timeline.specs.FirstNamed.{NamesFrom}
 use Rattle.instants_timeline.specs.Settings.{setting_of}
 use Rattle.instants_timeline.proofs.timeline.Timeline.likely.Given as goal
 
 -- the sources so far named none
 abbrev pub invariant-loop-place : goal.invariant-loop-place
-invariant-loop-place l = NamesFrom (setting_of l.self) l.line l.place
+invariant-loop-place l = record {
+  later : l.from ≤ l.place;
+  names : NamesFrom (setting_of l.self) l.line l.place;
+}
 
 abbrev pub decreases-loop-place : goal.decreases-loop-place
 decreases-loop-place l = length l.sources - l.place
