@@ -5,7 +5,8 @@ use Rattle.description_items.specs.Tree.{listed}
 use Rattle.parsing_components.specs.Component.{reads_component, reads_component_v3}
 use Rattle.parsing_fields.specs.Moment.{moment_of}
 use Rattle.parsing_fields.specs.declared.fields.Fields.{Fields}
-use Rattle.parsing_plan.specs.Plan.{beginning, IsPlanOf}
+use Rattle.parsing_plan.specs.Plan.{IsPlanOf}
+use Rattle.parsing_record.specs.Prefix.{beginning}
 use Rattle.parsing_plan.specs.declared.plan.Plan.{Plan}
 use Rattle.parsing_record.specs.Meaning.{Meaning}
 use Rattle.parsing_record.specs.Reads.{reading, reading_of_all}
